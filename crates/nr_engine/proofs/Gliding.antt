@@ -2,7 +2,7 @@
 use Rattle.std.proofs.Common.{◌≡◌, ℕ, ◌+◌, Bool, true, false, [], ◌∷◌, Option, None, refl, sym, ap, ◌∙◌, subst, arith}
 use Rattle.std.specs.Prelude.{if◌then◌else◌}
 use Rattle.nr_fill.specs.Piece.{is_nil}
-use Rattle.nr_fill.specs.Runs.{IsPlain}
+use Rattle.nr_fill.specs.Plain.{IsPlain}
 use Rattle.nr_reading.specs.declared.event.Event.TheVariants as events
 use Rattle.nr_reading.specs.Many.InText.{IsInText}
 use Rattle.nr_reading.proofs.InText.{in_text}

@@ -5,7 +5,7 @@ use Rattle.std.proofs.lemmas.Bool.{eq-eqb}
 use Rattle.std.proofs.lemmas.List.Sums.{sum_by-cons}
 use Rattle.nr_units.specs.Source.{Supply}
 use Rattle.nr_fill.specs.Piece.{line_cells}
-use Rattle.nr_fill.specs.Runs.{IsPlain}
+use Rattle.nr_fill.specs.Plain.{IsPlain}
 use Rattle.nr_store.specs.Store.{Level, Read, Mark, Reading, shown, level_charge}
 use Rattle.nr_store.specs.Windows.{rest_of, levels_behind, run_left}
 use Rattle.nr_store.specs.declared.element.Element.{Element}

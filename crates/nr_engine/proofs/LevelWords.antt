@@ -5,7 +5,7 @@ use Rattle.std.proofs.Math.Seq.{drop-cons, take-add}
 use Rattle.std.proofs.lemmas.List.{take_rest}
 use Rattle.nr_units.specs.Source.{Supply}
 use Rattle.nr_fill.specs.Piece.{line_cells}
-use Rattle.nr_fill.specs.Runs.{IsPlain}
+use Rattle.nr_fill.specs.Plain.{IsPlain}
 use Rattle.nr_store.specs.Store.{Level, Read, Reading, Stored}
 use Rattle.nr_store.specs.Windows.{levels_behind, rest_of}
 use Rattle.nr_store.specs.declared.element.Element.{Element}

@@ -4,7 +4,7 @@ use Rattle.std.specs.Prelude.{◌==◌, is_none, not, slice_index}
 use Rattle.std.proofs.lemmas.Bool.{ne_eqb}
 use Rattle.nr_units.specs.Source.{MayGive, Supply}
 use Rattle.nr_fill.specs.Piece.{begins_line}
-use Rattle.nr_fill.specs.Runs.{IsPlain}
+use Rattle.nr_fill.specs.Plain.{IsPlain}
 use Rattle.nr_reading.specs.declared.event.Event.TheVariants as events
 use Rattle.nr_reading.specs.Many.InText.{is_in_text}
 use Rattle.nr_reading.specs.Many.LineBeginnings.{IsBeforeLine, begins_control, text_begun as half_begun}

@@ -6,7 +6,7 @@ use Rattle.std.proofs.lemmas.Bool.{and_parts}
 use Rattle.std.proofs.lemmas.List.{get_or-drop}
 use Rattle.nr_units.specs.Source.{Supply, skipped}
 use Rattle.nr_fill.specs.Piece.{begins_line, text_cells}
-use Rattle.nr_fill.specs.Runs.{IsPlain}
+use Rattle.nr_fill.specs.Plain.{IsPlain}
 use Rattle.nr_reading.specs.Many.InText.{is_in_text}
 use Rattle.nr_reading.specs.Many.Interpolations.{interpolates}
 use Rattle.nr_reading.specs.Many.LineBeginnings.{IsBeforeLine, is_at_text as reads_text}

@@ -5,7 +5,7 @@ use Rattle.std.proofs.lemmas.Bool.{ne_eqb}
 use Rattle.std.proofs.lemmas.Nat.{mul-le}
 use Rattle.nr_units.specs.Source.{Faults, Never, After, Anytime, Supply, MayGive, MayGiveAll, one_later, later, skipped}
 use Rattle.nr_fill.specs.Piece.{line_cells}
-use Rattle.nr_fill.specs.Runs.{IsPlain, run_cell}
+use Rattle.nr_fill.specs.Plain.{IsPlain, run_cell}
 use Rattle.nr_reading.specs.declared.event.Event.TheVariants as events
 use Rattle.nr_reading.specs.Many.InText.{IsInText}
 use Rattle.nr_reading.proofs.InText.{in_text, meet-plain}

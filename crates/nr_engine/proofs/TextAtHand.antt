@@ -8,7 +8,8 @@ use Rattle.nr_units.specs.Source.{Faults, Never, After, Anytime, Supply, MayGive
 use Rattle.nr_settings.specs.declared.indents.Margins.{Margins}
 use Rattle.nr_settings.specs.Fonts.{is_under}
 use Rattle.nr_fill.specs.Piece.{Collected, Piece, Word, begins_line, is_nil, line_cells, word_pieces}
-use Rattle.nr_fill.specs.Runs.{add_run, run_cell}
+use Rattle.nr_fill.specs.Plain.{run_cell}
+use Rattle.nr_fill.specs.Runs.{add_run}
 use Rattle.nr_input.specs.Many.AtHand.{ComeNext, behind_last, is_unseen}
 use Rattle.nr_input.specs.Place.{Coming, HoldsComing, HoldsSupply, Reached}
 use Rattle.nr_input.specs.Many.Runs.{passed_run}

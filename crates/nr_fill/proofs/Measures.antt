@@ -14,7 +14,8 @@ use Rattle.nr_settings.specs.declared.stops.StopKind.{StopKind}
 use Rattle.std.specs.Option.{option_map}
 use Rattle.nr_fill.specs.Line.{Lined, afforded}
 use Rattle.nr_fill.specs.Piece.{Piece, Word, Collected, cells_in, word_or_new, with_word, in_word, word_length, word_cells, word_pieces, text_cells, line_cells, ended, ended_at, add_cell, add_blank, end_word}
-use Rattle.nr_fill.specs.Runs.{add_run, run_cell}
+use Rattle.nr_fill.specs.Plain.{run_cell}
+use Rattle.nr_fill.specs.Runs.{add_run}
 use Rattle.nr_fill.proofs.RunLemmas.{add_run-run}
 use Rattle.nr_fill.specs.Tabs.{with_field, field_fill, pending_fill, fill_count, filled_by, with_field_filled}
 

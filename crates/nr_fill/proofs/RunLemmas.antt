@@ -7,7 +7,8 @@ use Rattle.nr_fill.specs.declared.piece.Behind.TheVariants.{Letter}
 use Rattle.nr_fill.specs.declared.stops.Pending.{Pending}
 use Rattle.nr_fill.specs.declared.stops.Pending.TheVariants.{Nothing, AtPoint, ForStop}
 use Rattle.nr_fill.specs.Piece.{Collected, Word, add_cell, add_cell_behind, append, begins_line, end_word, ended, ended_at, ends_sentence, in_word, is_nil, one_blank_more, pending_behind, pending_without_point, with_word, word_length, word_or_new}
-use Rattle.nr_fill.specs.Runs.{add_run, add_word, run_behind, run_cell}
+use Rattle.nr_fill.specs.Plain.{run_cell}
+use Rattle.nr_fill.specs.Runs.{add_run, add_word, run_behind}
 use Rattle.nr_fill.specs.declared.piece.Join.TheVariants.{Gap}
 use Rattle.nr_fill.specs.declared.line.WordState.{WordState}
 use Rattle.nr_fill.specs.declared.title.TitleState.{TitleState}

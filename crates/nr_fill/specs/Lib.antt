@@ -5,6 +5,7 @@ pub mod Line
 pub mod PieceRow
 pub mod Piece
 pub mod CellRow
+pub mod Plain
 pub mod Runs
 pub mod Setting
 pub mod Slots

@@ -1,17 +1,10 @@
 -- Runs of bytes that stand for themselves.
 use Prim.Native.Char.{code}
-use Rattle.std.specs.Prelude.{◌≡◌, ℕ, ◌<◌, ◌≢◌, Bool, true, List, [], ◌∷◌, length, map, slice_index, None}
-use Rattle.nr_units.specs.declared.cell.Cell.{Cell}
+use Rattle.std.specs.Prelude.{◌≡◌, ℕ, ◌<◌, Bool, true, List, [], ◌∷◌, length, map, slice_index, None}
 use Rattle.nr_settings.specs.declared.indents.Margins.{Margins}
 use Rattle.nr_fill.specs.declared.piece.Behind.TheVariants.{Letter}
 use Rattle.nr_fill.specs.Piece.{Collected, Word, add_cell, append, end_word, one_blank_more, pending_without_point}
-
--- a byte that prints, but for the blank, `-` and `\`
-abbrev pub IsPlain : ℕ → Type 0
-IsPlain b = (32 < b) × (b ≢ code "-") × (b ≢ code "\\") × (b ≢ 127)
-
-abbrev pub run_cell : Bool → ℕ → Cell
-run_cell under b = record { byte = b; under = under }
+use Rattle.nr_fill.specs.Plain.{run_cell}
 
 -- the bytes one after another, each a cell after which no line may be cut
 abbrev pub add_run : Margins → Bool → List ℕ → Collected → Collected

@@ -2,7 +2,7 @@
 //! a row of cells, tab stops, and titles.
 //!
 //! It stands on nr_units and nr_settings. To read: `piece`, `margins`, `setting`, `stops`, `title`; `cells`,
-//! `measured`, `cell_row`, `out`; `queue`, `cutting`, `piece_row`; then `line`, and its calls in `words`, `runs`,
+//! `measured`, `cell_row`, `out`; `plain`, `queue`, `cutting`, `piece_row`; then `line`, and its calls in `words`, `runs`,
 //! `tabs`, `taking`, `titling`.
 #![tactic(auto)]
 
@@ -15,6 +15,7 @@ pub mod measured;
 pub mod out;
 pub mod piece;
 mod piece_row;
+mod plain;
 mod queue;
 mod runs;
 pub mod setting;

@@ -6,7 +6,7 @@ ghost use Rattle.nr_fill.specs.Cutting.{cut, hyphen_before, pieces_width};
 ghost use Rattle.nr_fill.specs.Extents.{IsExtent};
 ghost use Rattle.nr_fill.specs.Laid.{read_cells};
 ghost use Rattle.nr_fill.specs.Piece.{Piece, cells_in, join_before};
-ghost use Rattle.nr_fill.specs.Runs.{IsPlain, run_cell};
+ghost use Rattle.nr_fill.specs.Plain.{IsPlain, run_cell};
 ghost use Rattle.nr_fill.specs.Spreading.{cells_in_line, gaps};
 
 use crate::cells::CellSink;

@@ -1,8 +1,8 @@
 // Items that come in at the end and go out at the front, for which room is taken once.
 ghost use Rattle.std.specs.Prelude.{◌≡◌, ◌+◌, ◌-◌, ◌<◌, ◌≤◌, [], ◌∷◌, ◌++◌, length, map, take, drop, replicate, slice_index, All, IfOk};
-ghost use Rattle.nr_fill.specs.Runs.{IsPlain, run_cell};
+ghost use Rattle.nr_fill.specs.Plain.{IsPlain, run_cell};
 
-use crate::runs::set_plain;
+use crate::plain::set_plain;
 use nr_rooms::ReservedVec;
 use nr_units::cell::Cell;
 use std::alloc::{AllocError, Global};

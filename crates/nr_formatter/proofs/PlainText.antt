@@ -6,7 +6,8 @@ use Rattle.nr_units.specs.declared.cell.Cell.{Cell}
 use Rattle.nr_settings.specs.declared.indents.Margins.{Margins}
 use Rattle.nr_fill.specs.declared.piece.Behind.TheVariants.{Letter}
 use Rattle.nr_fill.specs.Piece.{Collected, Word, add_cell, begins_line, end_word, one_blank_more, is_nil, line_cells, may_hyphenate, text_cells}
-use Rattle.nr_fill.specs.Runs.{IsPlain, add_run, run_cell}
+use Rattle.nr_fill.specs.Plain.{IsPlain, run_cell}
+use Rattle.nr_fill.specs.Runs.{add_run}
 use Rattle.nr_fill.proofs.Measures.{line_cells-add_cell}
 use Rattle.nr_reading.specs.Many.InText.{is_in_text}
 use Rattle.nr_reading.specs.Many.Rereading.{is_rereading}

@@ -3,7 +3,8 @@ use Rattle.std.proofs.Common.{◌≡◌, ℕ, ◌≤◌, Bool, true, false, ◌&
 use Rattle.std.specs.Prelude.{is_none, nat_lt, not}
 use Rattle.nr_settings.specs.Fonts.{is_under}
 use Rattle.nr_fill.specs.Piece.{Collected, line_cells, reads_field}
-use Rattle.nr_fill.specs.Runs.{IsPlain, add_run, add_word}
+use Rattle.nr_fill.specs.Plain.{IsPlain}
+use Rattle.nr_fill.specs.Runs.{add_run, add_word}
 use Rattle.nr_fill.specs.Runs as runs
 use Rattle.nr_fill.proofs.Measures.{line_cells-end_word}
 use Rattle.nr_fill.proofs.RunLemmas.{add_run-none}

@@ -16,7 +16,7 @@ use Rattle.nr_input.specs.declared.many.gathering.Gathered.{Gathered}
 use Rattle.nr_input.specs.declared.reader.Reader.{Reader}
 use Rattle.nr_fill.specs.Piece.{line_cells, text_cells}
 use Rattle.nr_fill.specs.CellRow.{IsRow}
-use Rattle.nr_fill.specs.Runs.{IsPlain}
+use Rattle.nr_fill.specs.Plain.{IsPlain}
 use Rattle.nr_formatter.specs.Access.{collected}
 use Rattle.nr_formatter.specs.Limits.{FitsMemory, IsWithin}
 use Rattle.nr_formatter.specs.Many.LineBeginnings.{BeginsText, is_at_text}

@@ -1,7 +1,7 @@
 -- The beginning of a text line, where what is collected has begun.
 use Rattle.std.specs.Prelude.{◌≡◌, ◌≢◌, ◌<◌, ℕ, Bool, true, false, not, ◌&&◌, List, length, slice_index, is_none}
 use Rattle.nr_fill.specs.Piece.{begins_line, text_cells}
-use Rattle.nr_fill.specs.Runs.{IsPlain}
+use Rattle.nr_fill.specs.Plain.{IsPlain}
 use Rattle.nr_reading.specs.Many.LineBeginnings.{begins_control, is_at_text as reads_text, text_begun as half_begun}
 use Rattle.nr_input.specs.Acting.{on_half}
 use Rattle.nr_formatter.specs.Access.{collected}

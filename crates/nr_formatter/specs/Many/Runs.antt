@@ -2,7 +2,8 @@
 use Prim.Native.Char.{code}
 use Rattle.std.specs.Prelude.{◌≡◌, ◌≤◌, ◌<◌, ℕ, Bool, true, false, not, ◌&&◌, nat_lt, List, length, take, slice_index, All, is_none, None}
 use Rattle.nr_fill.specs.Piece.{Collected, begins_line, end_word, line_cells, one_blank_more, text_cells}
-use Rattle.nr_fill.specs.Runs.{IsPlain, add_run}
+use Rattle.nr_fill.specs.Plain.{IsPlain}
+use Rattle.nr_fill.specs.Runs.{add_run}
 use Rattle.nr_reading.specs.Many.InText.{is_in_text}
 use Rattle.nr_reading.specs.Many.Rereading.{is_rereading}
 use Rattle.nr_reading.specs.declared.event.Event.{Event}

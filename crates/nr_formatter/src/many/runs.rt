@@ -1,7 +1,7 @@
 //! Runs of bytes that stand for themselves, in a text line that has begun.
 ghost use Rattle.std.specs.Prelude.{◌≡◌, ◌<◌, ◌≤◌, false, length, take, slice_index};
 ghost use Rattle.nr_fill.specs.Piece.{begins_line, line_cells, text_cells};
-ghost use Rattle.nr_fill.specs.Runs.{IsPlain};
+ghost use Rattle.nr_fill.specs.Plain.{IsPlain};
 ghost use Rattle.nr_formatter.specs.Access.{collected};
 ghost use Rattle.nr_formatter.specs.declared.many.runs.Gap.TheVariants as gaps;
 ghost use Rattle.nr_formatter.specs.Many.LineBeginnings.{is_at_text, AfterBeginning};

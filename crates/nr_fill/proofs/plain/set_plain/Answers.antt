@@ -1,8 +1,8 @@
 use Rattle.std.proofs.Common.{◌≡◌, ◌+◌, ◌++◌, ◌∷◌, [], length, map, take, get_or, ap, sym, ◌∙◌, arith}
 use Rattle.std.proofs.lemmas.List.{map-append, take_more, take_more_set}
 use Rattle.std.proofs.lemmas.List.Elements.{All-push}
-use Rattle.nr_fill.specs.Runs.{IsPlain, run_cell}
-use Rattle.nr_fill.proofs.runs.set_plain.Goals as goal
+use Rattle.nr_fill.specs.Plain.{IsPlain, run_cell}
+use Rattle.nr_fill.proofs.plain.set_plain.Goals as goal
 
 pub loop-i-preserved : goal.loop-i-preserved
 loop-i-preserved c =

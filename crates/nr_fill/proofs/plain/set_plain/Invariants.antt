@@ -1,6 +1,6 @@
 use Rattle.std.proofs.Common.{◌≡◌, All, map, take}
-use Rattle.nr_fill.specs.Runs.{IsPlain, run_cell}
-use Rattle.nr_fill.proofs.runs.set_plain.Given as goal
+use Rattle.nr_fill.specs.Plain.{IsPlain, run_cell}
+use Rattle.nr_fill.proofs.plain.set_plain.Given as goal
 
 abbrev pub invariant-loop-i : goal.invariant-loop-i
 invariant-loop-i l = record {

@@ -3,7 +3,7 @@ use Rattle.std.proofs.lemmas.List.{length-map, length-take-le}
 use Rattle.nr_fill.specs.Line.{Lined}
 use Rattle.nr_fill.specs.declared.line.WordState.{WordState}
 use Rattle.nr_fill.specs.Piece.{text_cells}
-use Rattle.nr_fill.specs.Runs.{run_cell}
+use Rattle.nr_fill.specs.Plain.{run_cell}
 use Rattle.nr_fill.proofs.Lines.{the_word, is_line_last, text_cells-collected_of, no_title_cells}
 use Rattle.nr_fill.proofs.Pendings.{needed_none, needed_without_point}
 use Rattle.nr_fill.proofs.line.Line.push_plain.Goals as goal

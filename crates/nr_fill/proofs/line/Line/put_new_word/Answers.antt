@@ -4,7 +4,7 @@ use Rattle.nr_settings.specs.Indents.{margins_of}
 use Rattle.nr_fill.specs.Cutting.{pieces_width}
 use Rattle.nr_fill.specs.Line.{Lined}
 use Rattle.nr_fill.specs.Piece.{Collected, Piece, begins_line, ends_sentence, is_nil, text_cells}
-use Rattle.nr_fill.specs.Runs.{IsPlain, run_cell}
+use Rattle.nr_fill.specs.Plain.{IsPlain, run_cell}
 use Rattle.nr_fill.specs.declared.piece.Join.TheVariants.{Gap}
 use Rattle.nr_fill.specs.Laid.{read_cells}
 use Rattle.nr_fill.proofs.Lines.{no_title_of, none_from_word_of, text_cells-collected_of, widths_small}

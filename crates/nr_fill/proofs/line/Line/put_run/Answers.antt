@@ -3,7 +3,8 @@ use Rattle.std.proofs.lemmas.Bool.{cases_lt}
 use Rattle.std.proofs.lemmas.List.{get_or-take, length-take, length-take-le, take-take}
 use Rattle.nr_fill.specs.Line.{Lined}
 use Rattle.nr_fill.specs.Piece.{Collected, ended, ends_sentence, in_word, line_cells, text_cells, with_word}
-use Rattle.nr_fill.specs.Runs.{run_behind, run_cell}
+use Rattle.nr_fill.specs.Plain.{run_cell}
+use Rattle.nr_fill.specs.Runs.{run_behind}
 use Rattle.nr_fill.proofs.Measures.{measured_run}
 use Rattle.nr_fill.proofs.RunLemmas.{add_run-run}
 use Rattle.nr_fill.proofs.line.Line.put_run.Goals as goal

@@ -1,7 +1,7 @@
 use Rattle.std.proofs.Common.{◌≡◌, ◌+◌, ◌++◌, length, map, take, min, ap, sym, ◌∙◌, arith, length-append}
 use Rattle.std.proofs.lemmas.List.{length-map, length-take-le}
 use Rattle.nr_fill.specs.Laid.{laid_of}
-use Rattle.nr_fill.specs.Runs.{run_cell}
+use Rattle.nr_fill.specs.Plain.{run_cell}
 use Rattle.nr_fill.proofs.Laying.{room_left, is_laid_longer, laid_of_extended}
 use Rattle.nr_fill.proofs.piece_row.PieceRow.push_plain.Goals as goal
 
