@@ -6,22 +6,16 @@ ghost use Rattle.nr_store.specs.Windows.{rest_of};
 ghost use Rattle.nr_store.specs.declared.element.Element.TheVariants as variants;
 ghost use Rattle.nr_reading.specs.declared.event.Event.TheVariants as events;
 ghost use Rattle.nr_reading.specs.Many.InArgument.{ending_of, IsPlain};
-ghost use Rattle.nr_input.specs.declared.many.target.Target.TheVariants.{Argument};
-ghost use Rattle.nr_input.specs.Many.AtHand.{is_unseen};
-ghost use Rattle.nr_input.specs.Place.{Coming, Reached, HoldsComing, has_failed};
+ghost use Rattle.nr_input.specs.Place.{Coming, Reached, HoldsComing};
 ghost use Rattle.nr_input.specs.Limits.{limits_of};
 ghost use Rattle.nr_input.specs.Moving.{situation};
-ghost use Rattle.nr_input.specs.Many.Runs.{HasRead, PaysAll, IsLeft, IsLongest, IsLongestInLevel};
+ghost use Rattle.nr_input.specs.Many.Runs.{HasRead, PaysAll, IsLeft};
 ghost use Rattle.nr_input.specs.Many.Target.{is_read_for, with_more};
 
-use crate::many::at_hand::window;
-use crate::many::runs::{read_level, read_source};
 use crate::many::target::Target;
-use crate::place::Place;
 use crate::reader::Reader;
-use nr_reading::{Event, Half, Mode, Run};
+use nr_reading::{Half, Mode};
 use nr_store::{Element, Rest, Store};
-use nr_units::source::Source;
 
 /// The most bytes that are added in one run: each is two moves.
 const LONGEST: usize = 32_768;
@@ -164,58 +158,4 @@ pub(crate) fn add_level_front<K: Copy>(
     let taken = add_plain(target, store, &chunk[..near]);
     store.skip(taken as u32);
     taken
-}
-
-/// As `read_level`, in the midst of a macro's argument: the bytes in front that stand for themselves are added to it.
-#[inline]
-pub(crate) fn add_from_level<K: Copy>(reader: &mut Reader, store: &mut Store<K>) -> Run
-    requires { is_read_for Argument reader.old.half ≡ true }
-    ensures read { (c : Coming) (p : Reached) (supply : Option Supply) → HoldsComing c p supply → HasRead result.moves (situation store.old c reader.old) result.event store.new reader.new p supply }
-    ensures pays { (p : Reached) → PaysAll result.moves store.old p reader.old result.event store.new p reader.new }
-    ensures few { result.moves ≤ 65536 }
-    ensures limits { limits_of store.new reader.new ≡ limits_of store.old reader.old }
-    ensures longest { IsLongestInLevel result.moves store.old reader.old result.event store.new reader.new }
-{
-    let taken = add_level_front(Target::Argument, reader, store);
-    if taken == 0 {
-        return read_level(reader, store);
-    }
-    Run {
-        taken,
-        moves: 2 * taken,
-        event: Event::Nothing,
-    }
-}
-
-/// As `read_source`, where items are read for this target: the bytes in front that stand for themselves are added to it.
-#[inline]
-pub(crate) fn add_from_source<K: Copy, R: Source>(
-    target: Target,
-    place: &mut Place,
-    reader: &mut Reader,
-    store: &mut Store<K>,
-    source: &mut R,
-) -> Run
-    requires { is_read_for target reader.old.half ≡ true }
-    ensures read { (c : Coming) → HoldsComing c place.old (R.supply source.old) → HasRead result.moves (situation store.old c reader.old) result.event store.new reader.new place.new (R.supply source.new) }
-    ensures pays { PaysAll result.moves store.old place.old reader.old result.event store.new place.new reader.new }
-    ensures few { result.moves ≤ 65536 }
-    ensures limits { limits_of store.new reader.new ≡ limits_of store.old reader.old }
-    ensures longest { store.old.levels ≡ [] → is_unseen place.old.ahead ≡ true → IsLongest (R.at_hand source.old) result.moves place.old reader.old result.event store.new place.new reader.new }
-    ensures failures { R.failures source.new ≡ R.failures source.old }
-    ensures unfailed { has_failed place.old.ahead ≡ false → has_failed place.new.ahead ≡ false }
-{
-    let bytes = window(place, store, source);
-    let taken = add_front(target, &reader.half, store, bytes);
-    if taken == 0 {
-        return read_source(place, reader, store, source);
-    }
-    place.pass_run(bytes[taken - 1], taken);
-    source.skip(taken);
-    reader.burst = 0;
-    Run {
-        taken,
-        moves: 2 * taken,
-        event: Event::Nothing,
-    }
 }

@@ -1,24 +1,26 @@
 //! Many moves over items that lie in a row.
-ghost use Rattle.std.specs.Prelude.{◌≡◌, ℕ, ◌<◌, ◌≤◌, [], length, map, slice_get, nat_lt, true, false, Option, None, Some, IfSome};
+ghost use Rattle.std.specs.Prelude.{◌≡◌, ℕ, ◌<◌, ◌≤◌, [], length, map, slice_get, nat_lt, true, false, Option, None, Some};
 ghost use Rattle.nr_units.specs.Source.{Supply};
 ghost use Rattle.nr_reading.specs.declared.event.Event.TheVariants as events;
 ghost use Rattle.nr_reading.specs.declared.front.Front.TheVariants as variants;
 ghost use Rattle.nr_reading.specs.declared.mode.Due.TheVariants as dues;
 ghost use Rattle.nr_reading.specs.Many.Runs.{HasMet, spot};
 ghost use Rattle.nr_store.specs.Windows.{elements_in};
+ghost use Rattle.nr_input.specs.declared.many.target.Target.TheVariants.{Argument};
 ghost use Rattle.nr_input.specs.Many.AtHand.{is_unseen};
 ghost use Rattle.nr_input.specs.Place.{Coming, Reached, HoldsComing, element_front, has_failed};
 ghost use Rattle.nr_input.specs.Limits.{limits_of};
 ghost use Rattle.nr_input.specs.Moving.{situation};
 ghost use Rattle.nr_input.specs.Many.Rows.{byte_fronts, element_fronts};
 ghost use Rattle.nr_input.specs.Many.Runs.{HasRead, PaysAll, IsLongest, IsLongestInLevel};
+ghost use Rattle.nr_input.specs.Many.Target.{is_read_for};
 
-use crate::many::adding::{add_from_level, add_from_source};
+use crate::many::adding::{add_front, add_level_front};
 use crate::many::at_hand::window;
 use crate::many::target::Target;
 use crate::place::Place;
 use crate::reader::Reader;
-use nr_reading::{Half, Items, Run};
+use nr_reading::{Event, Half, Items, Run};
 use nr_store::{Element, Rest, Store};
 use nr_units::source::Source;
 
@@ -115,6 +117,60 @@ pub(crate) fn read_source<K: Copy, R: Source>(
     source.skip(run.taken);
     reader.burst = 0;
     run
+}
+
+// As `read_level`, in the midst of a macro's argument: the bytes in front that stand for themselves are added to it.
+#[inline]
+fn add_from_level<K: Copy>(reader: &mut Reader, store: &mut Store<K>) -> Run
+    requires { is_read_for Argument reader.old.half ≡ true }
+    ensures read { (c : Coming) (p : Reached) (supply : Option Supply) → HoldsComing c p supply → HasRead result.moves (situation store.old c reader.old) result.event store.new reader.new p supply }
+    ensures pays { (p : Reached) → PaysAll result.moves store.old p reader.old result.event store.new p reader.new }
+    ensures few { result.moves ≤ 65536 }
+    ensures limits { limits_of store.new reader.new ≡ limits_of store.old reader.old }
+    ensures longest { IsLongestInLevel result.moves store.old reader.old result.event store.new reader.new }
+{
+    let taken = add_level_front(Target::Argument, reader, store);
+    if taken == 0 {
+        return read_level(reader, store);
+    }
+    Run {
+        taken,
+        moves: 2 * taken,
+        event: Event::Nothing,
+    }
+}
+
+// As `read_source`, where items are read for this target: the bytes in front that stand for themselves are added to it.
+#[inline]
+fn add_from_source<K: Copy, R: Source>(
+    target: Target,
+    place: &mut Place,
+    reader: &mut Reader,
+    store: &mut Store<K>,
+    source: &mut R,
+) -> Run
+    requires { is_read_for target reader.old.half ≡ true }
+    ensures read { (c : Coming) → HoldsComing c place.old (R.supply source.old) → HasRead result.moves (situation store.old c reader.old) result.event store.new reader.new place.new (R.supply source.new) }
+    ensures pays { PaysAll result.moves store.old place.old reader.old result.event store.new place.new reader.new }
+    ensures few { result.moves ≤ 65536 }
+    ensures limits { limits_of store.new reader.new ≡ limits_of store.old reader.old }
+    ensures longest { store.old.levels ≡ [] → is_unseen place.old.ahead ≡ true → IsLongest (R.at_hand source.old) result.moves place.old reader.old result.event store.new place.new reader.new }
+    ensures failures { R.failures source.new ≡ R.failures source.old }
+    ensures unfailed { has_failed place.old.ahead ≡ false → has_failed place.new.ahead ≡ false }
+{
+    let bytes = window(place, store, source);
+    let taken = add_front(target, &reader.half, store, bytes);
+    if taken == 0 {
+        return read_source(place, reader, store, source);
+    }
+    place.pass_run(bytes[taken - 1], taken);
+    source.skip(taken);
+    reader.burst = 0;
+    Run {
+        taken,
+        moves: 2 * taken,
+        event: Event::Nothing,
+    }
 }
 
 /// As `read_run`, of the newest level.

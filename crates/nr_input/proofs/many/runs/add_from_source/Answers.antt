@@ -9,7 +9,7 @@ use Rattle.nr_input.proofs.Longest.{added_longest}
 use Rattle.nr_input.proofs.RowsRead.{holds_past}
 use Rattle.nr_input.proofs.PuttingRead.{source_added, source_added_pays}
 use Rattle.nr_input.proofs.Targets.{nothing_added}
-use Rattle.nr_input.proofs.many.adding.add_from_source.Goals as goal
+use Rattle.nr_input.proofs.many.runs.add_from_source.Goals as goal
 
 pub returns-then-taken-eq0-clause-read : goal.returns-then-taken-eq0-clause-read
 returns-then-taken-eq0-clause-read g c = λ k holds.

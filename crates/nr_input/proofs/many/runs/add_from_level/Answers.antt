@@ -3,7 +3,7 @@ use Rattle.nr_store.specs.Store.{Stored}
 use Rattle.nr_input.specs.Limits.{limits_of}
 use Rattle.nr_input.specs.Moving.{situation}
 use Rattle.nr_input.specs.Many.Runs.{HasRead, PaysAll, IsLongestInLevel}
-use Rattle.nr_input.proofs.many.adding.add_from_level.Goals as goal
+use Rattle.nr_input.proofs.many.runs.add_from_level.Goals as goal
 
 pub returns-then-taken-eq0-clause-read : goal.returns-then-taken-eq0-clause-read
 returns-then-taken-eq0-clause-read g c = λ k p supply holds.
