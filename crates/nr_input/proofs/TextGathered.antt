@@ -27,7 +27,8 @@ use Rattle.nr_input.specs.declared.reader.Reader.{Reader}
 use Rattle.nr_input.specs.declared.many.splices.Splice.{Splice}
 use Rattle.nr_input.specs.Acting.{expanded, register_text}
 use Rattle.nr_input.specs.Place.{element_front}
-use Rattle.nr_input.specs.Many.Gathering.{AreBytes, AreGathered, AreItems, EndsRun, IsGathering, IsSpliced, LeadsInText, Leaves, StopsGathering, bytes_before, last_asked, own_bytes, passed, spliced}
+use Rattle.nr_input.specs.Many.Rows.{AreBytes, EndsRun}
+use Rattle.nr_input.specs.Many.Gathering.{AreGathered, AreItems, IsGathering, IsSpliced, LeadsInText, Leaves, StopsGathering, bytes_before, last_asked, own_bytes, passed, spliced}
 use Rattle.nr_input.specs.Many.Interpolations.{HasRoom, MaySplice, OpensLevel, brings_text, opened, opened_due}
 use Rattle.nr_input.specs.Moving.{situation}
 use Rattle.nr_input.specs.Many.Runs.{PaysAll}

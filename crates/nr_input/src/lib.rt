@@ -3,9 +3,8 @@
 //!
 //! It stands on nr_units, nr_pool, nr_levels, nr_symbol_tables, nr_store and nr_reading. To read: `refusal`, `told`;
 //! `place`, `reader`; `acting`, `moving`; `splicing`, `setting`; then many moves at once: `at_hand`, `target`,
-//! `adding`, `runs`, `level_lines`, `level_rows`, `beginnings`, `interpolations`, `levels`, `splices`, `gathering`,
-//! `macro_lines`, `body_lines`, `dropped_lines`, `control_lines`,
-//! `fonts`.
+//! `adding`, `rows`, `runs`, `level_lines`, `level_rows`, `beginnings`, `interpolations`, `levels`, `splices`,
+//! `gathering`, `macro_lines`, `body_lines`, `dropped_lines`, `control_lines`, `fonts`.
 #![tactic(auto)]
 
 mod acting;
@@ -24,9 +23,8 @@ pub use many::control_lines::{read_control_line, read_next};
 pub use many::dropped_lines::read_dropped_line;
 pub use many::fonts::meet_font;
 pub use many::gathering::{Gathered, gather, leave};
-pub use many::interpolations::Moved;
 pub use many::levels::read_levels;
-pub use many::runs::read_run;
+pub use many::runs::{Moved, read_run};
 pub use moving::advance;
 pub use nr_reading::{Event, Question, Standing};
 pub use place::{Ahead, Place};

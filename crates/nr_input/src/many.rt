@@ -13,6 +13,7 @@ pub(crate) mod level_lines;
 pub(crate) mod level_rows;
 pub(crate) mod levels;
 pub(crate) mod macro_lines;
+pub(crate) mod rows;
 pub(crate) mod runs;
 pub(crate) mod splices;
 pub(crate) mod target;

@@ -10,8 +10,6 @@ use Rattle.nr_store.specs.declared.element.Element.{Element}
 use Rattle.nr_store.specs.declared.element.Element.TheVariants as elements
 use Rattle.nr_store.specs.declared.shown.Shown.TheVariants as shows
 use Rattle.nr_reading.specs.declared.event.Event.TheVariants as events
-use Rattle.nr_reading.specs.declared.front.Front.{Front}
-use Rattle.nr_reading.specs.declared.front.Front.TheVariants as fronts
 use Rattle.nr_input.specs.declared.many.gathering.Gathered.{Gathered}
 use Rattle.nr_input.specs.declared.reader.Reader.{Reader}
 use Rattle.nr_input.specs.declared.many.splices.Splice.{Splice}
@@ -136,14 +134,6 @@ with_splice items moves count asked named g = record g {
   moves = g.moves + moves + 2;
   splices = g.splices ++ record { behind = g.items + items; before = g.count; count = count; moves = g.moves + moves + 1; asked = asked; named = named } ∷ [];
 }
-
--- these bytes are items of a row, in front
-abbrev pub AreBytes : List ℕ → List Front → Type 0
-AreBytes bytes row = (n : ℕ) → n < length bytes → slice_get row n ≡ Some (fronts.Byte (slice_index bytes n))
-
--- no item that goes on so: none, no byte, a newline, or a `\`
-abbrev pub EndsRun : Option Front → Type 0
-EndsRun item = (b : ℕ) → item ≡ Some (fronts.Byte b) → (b ≡ code "\n" → ⊥) → (b ≡ code "\\" → ⊥) → ⊥
 
 -- As many were gathered as could be: after the items that were met the level shows no byte but a newline or a `\`, or 64 bytes were.
 abbrev pub StopsGathering : List Element → ℕ → ℕ → Type 0

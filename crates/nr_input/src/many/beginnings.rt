@@ -12,7 +12,7 @@ ghost use Rattle.nr_input.specs.Refusal.{called, acted};
 ghost use Rattle.nr_input.specs.Many.Runs.{HasRead, PaysAll};
 
 use crate::many::adding::add_front;
-use crate::many::runs::ByteRow;
+use crate::many::rows::ByteRow;
 use crate::many::target::Target;
 use crate::reader::Reader;
 use nr_reading::{Due, Event, Run};

@@ -13,7 +13,8 @@ ghost use Rattle.nr_input.specs.Many.Runs.{HasRead, PaysAll, ReadsSome, IsLonges
 use crate::many::at_hand::window;
 use crate::many::level_lines::read_level_line;
 use crate::many::macro_lines::read_macro_line;
-use crate::many::runs::{ByteRow, read_run, read_source};
+use crate::many::rows::ByteRow;
+use crate::many::runs::{read_run, read_source};
 use crate::place::Place;
 use crate::reader::Reader;
 use nr_reading::{Due, Event, Half, Mode, Run};

@@ -9,7 +9,7 @@ ghost use Rattle.nr_reading.specs.Many.LineBeginnings.{is_at_text};
 ghost use Rattle.nr_reading.specs.Many.Runs.{HasMet, spot};
 ghost use Rattle.nr_input.specs.Many.Fonts.{BeginsFont};
 
-use crate::many::runs::ByteRow;
+use crate::many::rows::ByteRow;
 use crate::reader::Reader;
 use nr_reading::Run;
 

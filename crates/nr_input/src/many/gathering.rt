@@ -13,12 +13,13 @@ ghost use Rattle.nr_reading.specs.Many.InText.{is_in_text};
 ghost use Rattle.nr_reading.specs.Many.Runs.{HasMet};
 ghost use Rattle.nr_input.specs.declared.reader.Reader.{Reader as ReaderValue};
 ghost use Rattle.nr_input.specs.Place.{element_front};
-ghost use Rattle.nr_input.specs.Many.Gathering.{AreBytes, AreGathered, EndsRun, GathersMost, IsGathered, IsGathering, Leaves, StopsGathering, brace_items, last_asked, nothing_gathered, own_bytes, passed, spliced, with_splice};
+ghost use Rattle.nr_input.specs.Many.Gathering.{AreGathered, GathersMost, IsGathered, IsGathering, Leaves, StopsGathering, brace_items, last_asked, nothing_gathered, own_bytes, passed, spliced, with_splice};
 ghost use Rattle.nr_input.specs.Many.Interpolations.{MaySplice, opened};
+ghost use Rattle.nr_input.specs.Many.Rows.{AreBytes, EndsRun};
 
 use crate::many::interpolations::LONGEST;
 use crate::many::level_rows::Tail;
-use crate::many::runs::{ByteRow, ElementRow};
+use crate::many::rows::{ByteRow, ElementRow, copy_run};
 use crate::many::splices::{MOST, Splice, Splices};
 use crate::reader::Reader;
 use nr_reading::{Due, Event, Items};
@@ -114,27 +115,6 @@ impl Gathered {
     {
         if self.closes { 2 } else { 0 }
     }
-}
-
-// The bytes in front of a row that begin no escape and are no newline are put into the chunk, as many as it holds. Answers how many.
-#[inline(always)]
-pub(super) fn copy_run<I: Items>(row: &I, chunk: &mut [u8]) -> usize
-    ensures holds { result ≤ length chunk.old }
-    ensures front { result ≤ length (I.fronts row.now) }
-    ensures bytes { AreBytes (take result chunk.new) (I.fronts row.now) }
-    ensures longest { result < length chunk.old → EndsRun (slice_get (I.fronts row.now) result) }
-{
-    let most = chunk.len().min(row.count());
-    for n in 0..most {
-        let Some(byte) = row.byte(n) else {
-            return n;
-        };
-        if byte == b'\\' || byte == b'\n' {
-            return n;
-        }
-        chunk[n] = byte;
-    }
-    most
 }
 
 // Whether a row has this byte after so many items.

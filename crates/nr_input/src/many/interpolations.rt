@@ -15,9 +15,8 @@ ghost use Rattle.nr_input.specs.Moving.{situation};
 ghost use Rattle.nr_input.specs.Many.Runs.{HasRead, PaysAll, PaysMany};
 
 use crate::many::adding::add_front;
-use crate::many::gathering::copy_run;
-use crate::many::levels::read_added;
-use crate::many::runs::ElementRow;
+use crate::many::rows::{ElementRow, copy_run};
+use crate::many::runs::{Moved, read_added};
 use crate::many::target::Target;
 use crate::reader::Reader;
 use nr_reading::{Due, Event, Half, Mode, Run, Sign};
@@ -26,15 +25,6 @@ use nr_units::{Format, format_number};
 
 /// The most bytes of an interpolation that is read at once.
 pub(crate) const LONGEST: usize = 64;
-
-/// Many moves.
-#[derive(Clone, Copy)]
-pub struct Moved {
-    /// How many.
-    pub moves: usize,
-    /// What the last of them told.
-    pub event: Event,
-}
 
 // Whether bytes are copied: else a level of them is read as text.
 #[inline(always)]

@@ -11,7 +11,8 @@ ghost use Rattle.nr_input.specs.Limits.{limits_of};
 ghost use Rattle.nr_input.specs.Moving.{situation};
 ghost use Rattle.nr_input.specs.Many.Runs.{HasRead, PaysAll, IsLongestInLevel};
 
-use crate::many::runs::{ByteRow, ElementRow, read_level};
+use crate::many::rows::{ByteRow, ElementRow};
+use crate::many::runs::read_level;
 use crate::reader::Reader;
 use nr_reading::{Due, Event, Half, MetName, Run};
 use nr_store::{Rest, Store};

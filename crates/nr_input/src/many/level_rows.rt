@@ -13,7 +13,7 @@ ghost use Rattle.nr_input.specs.Limits.{limits_of};
 ghost use Rattle.nr_input.specs.Moving.{situation};
 ghost use Rattle.nr_input.specs.Many.Runs.{HasRead, PaysAll, StopsInLevel};
 
-use crate::many::runs::{ByteRow, ElementRow};
+use crate::many::rows::{ByteRow, ElementRow};
 use crate::reader::Reader;
 use nr_reading::{Due, Event, Half, Items, Run};
 use nr_store::{Meaning, Rest, Store};

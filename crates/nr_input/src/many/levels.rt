@@ -10,13 +10,10 @@ ghost use Rattle.nr_input.specs.Place.{Coming, Reached, HoldsComing};
 ghost use Rattle.nr_input.specs.Many.Levels.{may_act};
 ghost use Rattle.nr_input.specs.Limits.{limits_of};
 ghost use Rattle.nr_input.specs.Moving.{situation};
-ghost use Rattle.nr_input.specs.Many.Runs.{HasRead, PaysAll, PaysMany, StopsInLevel, IsLongestInLevel, IsLongestUpToText};
+ghost use Rattle.nr_input.specs.Many.Runs.{HasRead, PaysMany, StopsInLevel, IsLongestUpToText};
 
-use crate::many::adding::add_level_front;
-use crate::many::interpolations::Moved;
 use crate::many::level_rows::read_rows;
-use crate::many::runs::read_level;
-use crate::many::target::Target;
+use crate::many::runs::{Moved, read_added, read_level};
 use crate::reader::Reader;
 use nr_reading::{Due, Event, Mode, Run};
 use nr_store::Store;
@@ -102,40 +99,6 @@ fn read_end<K: Copy>(store: &mut Store<K>) -> usize
         return 1;
     }
     0
-}
-
-// The bytes in front of the newest level that stand for themselves are added, where they are read for an argument of a macro or for a
-// text that is defined. Answers how many.
-#[inline(always)]
-fn add_front<K: Copy>(reader: &Reader, store: &mut Store<K>) -> usize
-    ensures read { (c : Coming) (p : Reached) (supply : Option Supply) → HoldsComing c p supply → HasRead (2 * result) (situation store.old c reader.now) events.Nothing store.new reader.now p supply }
-    ensures pays { (p : Reached) → PaysAll (2 * result) store.old p reader.now events.Nothing store.new p reader.now }
-    ensures few { result ≤ 256 }
-    ensures limits { limits_of store.new reader.now ≡ limits_of store.old reader.now }
-    ensures none { result ≡ 0 → store.new ≡ store.old }
-{
-    match Target::of(&reader.half) {
-        Some(target) => add_level_front(target, reader, store),
-        None => 0,
-    }
-}
-
-/// The items in front of the newest level are added, and then read.
-#[inline(always)]
-pub(crate) fn read_added<K: Copy>(reader: &mut Reader, store: &mut Store<K>) -> Run
-    ensures read { (c : Coming) (p : Reached) (supply : Option Supply) → HoldsComing c p supply → HasRead result.moves (situation store.old c reader.old) result.event store.new reader.new p supply }
-    ensures pays { (p : Reached) → PaysMany result.moves store.old p reader.old result.event store.new p reader.new }
-    ensures few { result.moves ≤ 66048 }
-    ensures limits { limits_of store.new reader.new ≡ limits_of store.old reader.old }
-    ensures longest { IsLongestInLevel result.moves store.old reader.old result.event store.new reader.new }
-{
-    let added = add_front(reader, store);
-    let run = read_level(reader, store);
-    Run {
-        taken: added + run.taken,
-        moves: 2 * added + run.moves,
-        event: run.event,
-    }
 }
 
 // Whether no move was made for the items in front, and an item is looked at next.

@@ -1,5 +1,5 @@
 //! Many moves over items that lie in a row.
-ghost use Rattle.std.specs.Prelude.{◌≡◌, ℕ, ◌<◌, ◌≤◌, [], length, map, slice_get, nat_lt, true, false, Option, None, Some};
+ghost use Rattle.std.specs.Prelude.{◌≡◌, ℕ, ◌*◌, ◌<◌, ◌≤◌, [], length, map, slice_get, nat_lt, true, false, Option, None, Some};
 ghost use Rattle.nr_units.specs.Source.{Supply};
 ghost use Rattle.nr_reading.specs.declared.event.Event.TheVariants as events;
 ghost use Rattle.nr_reading.specs.declared.front.Front.TheVariants as variants;
@@ -11,12 +11,12 @@ ghost use Rattle.nr_input.specs.Many.AtHand.{is_unseen};
 ghost use Rattle.nr_input.specs.Place.{Coming, Reached, HoldsComing, element_front, has_failed};
 ghost use Rattle.nr_input.specs.Limits.{limits_of};
 ghost use Rattle.nr_input.specs.Moving.{situation};
-ghost use Rattle.nr_input.specs.Many.Rows.{byte_fronts, element_fronts};
-ghost use Rattle.nr_input.specs.Many.Runs.{HasRead, PaysAll, IsLongest, IsLongestInLevel};
+ghost use Rattle.nr_input.specs.Many.Runs.{HasRead, PaysAll, PaysMany, IsLongest, IsLongestInLevel};
 ghost use Rattle.nr_input.specs.Many.Target.{is_read_for};
 
 use crate::many::adding::{add_front, add_level_front};
 use crate::many::at_hand::window;
+use crate::many::rows::{ByteRow, ElementRow};
 use crate::many::target::Target;
 use crate::place::Place;
 use crate::reader::Reader;
@@ -24,43 +24,13 @@ use nr_reading::{Event, Half, Items, Run};
 use nr_store::{Element, Rest, Store};
 use nr_units::source::Source;
 
-/// Bytes in a row.
+/// Many moves.
 #[derive(Clone, Copy)]
-pub(crate) struct ByteRow<'a>(pub(crate) &'a [u8]);
-
-/// Elements of a text in a row.
-#[derive(Clone, Copy)]
-pub(crate) struct ElementRow<'a>(pub(crate) &'a [Element]);
-
-impl<'a> Items for ByteRow<'a> {
-    ghost fronts = { byte_fronts };
-
-    #[inline(always)]
-    fn count(&self) -> usize {
-        self.0.len()
-    }
-
-    #[inline(always)]
-    fn byte(&self, n: usize) -> Option<u8> {
-        Some(self.0[n])
-    }
-}
-
-impl<'a> Items for ElementRow<'a> {
-    ghost fronts = { element_fronts };
-
-    #[inline(always)]
-    fn count(&self) -> usize {
-        self.0.len()
-    }
-
-    #[inline(always)]
-    fn byte(&self, n: usize) -> Option<u8> {
-        match self.0[n] {
-            Element::Byte(byte) => Some(byte),
-            _ => None,
-        }
-    }
+pub struct Moved {
+    /// How many.
+    pub moves: usize,
+    /// What the last of them told.
+    pub event: Event,
 }
 
 // What is left of a level is met, as `Half::meet_run` says.
@@ -117,6 +87,40 @@ pub(crate) fn read_source<K: Copy, R: Source>(
     source.skip(run.taken);
     reader.burst = 0;
     run
+}
+
+// The bytes in front of the newest level that stand for themselves are added, where they are read for an argument of a macro or for a
+// text that is defined. Answers how many.
+#[inline(always)]
+fn add_wanted<K: Copy>(reader: &Reader, store: &mut Store<K>) -> usize
+    ensures read { (c : Coming) (p : Reached) (supply : Option Supply) → HoldsComing c p supply → HasRead (2 * result) (situation store.old c reader.now) events.Nothing store.new reader.now p supply }
+    ensures pays { (p : Reached) → PaysAll (2 * result) store.old p reader.now events.Nothing store.new p reader.now }
+    ensures few { result ≤ 256 }
+    ensures limits { limits_of store.new reader.now ≡ limits_of store.old reader.now }
+    ensures none { result ≡ 0 → store.new ≡ store.old }
+{
+    match Target::of(&reader.half) {
+        Some(target) => add_level_front(target, reader, store),
+        None => 0,
+    }
+}
+
+/// The items in front of the newest level are added, and then read.
+#[inline(always)]
+pub(crate) fn read_added<K: Copy>(reader: &mut Reader, store: &mut Store<K>) -> Run
+    ensures read { (c : Coming) (p : Reached) (supply : Option Supply) → HoldsComing c p supply → HasRead result.moves (situation store.old c reader.old) result.event store.new reader.new p supply }
+    ensures pays { (p : Reached) → PaysMany result.moves store.old p reader.old result.event store.new p reader.new }
+    ensures few { result.moves ≤ 66048 }
+    ensures limits { limits_of store.new reader.new ≡ limits_of store.old reader.old }
+    ensures longest { IsLongestInLevel result.moves store.old reader.old result.event store.new reader.new }
+{
+    let added = add_wanted(reader, store);
+    let run = read_level(reader, store);
+    Run {
+        taken: added + run.taken,
+        moves: 2 * added + run.moves,
+        event: run.event,
+    }
 }
 
 // As `read_level`, in the midst of a macro's argument: the bytes in front that stand for themselves are added to it.

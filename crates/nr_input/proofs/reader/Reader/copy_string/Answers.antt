@@ -2,7 +2,7 @@ use Rattle.std.specs.Prelude.{map}
 use Rattle.std.proofs.Common.{◌≡◌, Some, length, take, ap, ◌∙◌, subst, arith}
 use Rattle.std.proofs.lemmas.List.{length-map, length-take-le}
 use Rattle.nr_input.specs.Place.{element_front}
-use Rattle.nr_input.specs.Many.Gathering.{AreBytes}
+use Rattle.nr_input.specs.Many.Rows.{AreBytes}
 use Rattle.nr_input.proofs.TextGathered.{all_bytes, string_may}
 use Rattle.nr_input.proofs.reader.Reader.copy_string.Goals as goal
 

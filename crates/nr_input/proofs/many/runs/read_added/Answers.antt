@@ -8,18 +8,18 @@ use Rattle.nr_input.specs.Many.Runs.{PaysMany}
 use Rattle.nr_input.proofs.ControlLines.{pays_then}
 use Rattle.nr_input.proofs.Interpolated.{read_then}
 use Rattle.nr_input.proofs.LevelParts.{many_of_all}
-use Rattle.nr_input.proofs.many.levels.read_added.Goals as goal
+use Rattle.nr_input.proofs.many.runs.read_added.Goals as goal
 
 pub returns : goal.returns
 returns g c =
     let v = c.args.store.now in
     let r = c.args.reader.now in
-    let added = c.add_front-added.result in
-    let w = c.add_front-added.new.store in
+    let added = c.add_wanted-added.result in
+    let w = c.add_wanted-added.new.store in
     let run = c.read_level-run.result in
     let x = c.read_level-run.new.store in
     let s = c.read_level-run.new.reader in
-    let add = c.add_front-added.ensures in
+    let add = c.add_wanted-added.ensures in
     let more = c.read_level-run.ensures in
     let count : run.moves + 2 * added ≡ 2 * added + run.moves = omega arith in
     record {
