@@ -18,7 +18,13 @@ pub record Row : Type 0 where
 
 -- what is kept of these cells
 abbrev pub row_of : ℕ → List Cell → Row
-row_of room cells = record { kept = take room cells; count = counted (length cells); written = counted (length (trimmed cells)); room = room }
+row_of room cells =
+    record {
+      kept = take room cells;
+      count = counted (length cells);
+      written = counted (length (trimmed cells));
+      room = room;
+    }
 
 -- the row holds these cells
 abbrev pub IsRow : List Cell → Row → Type 0
@@ -26,13 +32,19 @@ IsRow cells r = r ≡ row_of r.room cells
 
 -- these cells were added to a row
 abbrev pub AddsToRow : Row → List Cell → Row → Type 0
-AddsToRow old more new = (new.room ≡ old.room) × ((cells : List Cell) → IsRow cells old → IsRow (cells ++ more) new)
+AddsToRow old more new =
+    (new.room ≡ old.room) × ((cells : List Cell) → IsRow cells old → IsRow (cells ++ more) new)
 
 -- nothing was added
 pub AddsToRow-nothing : (row : Row) → AddsToRow row [] row
-AddsToRow-nothing row = (refl, λ cells is. subst (λ (zs : List Cell). IsRow zs row) (sym (append-nil cells)) is)
+AddsToRow-nothing row =
+    (refl, λ cells is. subst (λ (zs : List Cell). IsRow zs row) (sym (append-nil cells)) is)
 
 -- one after the other
-pub AddsToRow-both : (a b c : Row) (xs ys : List Cell) → AddsToRow a xs b → AddsToRow b ys c → AddsToRow a (xs ++ ys) c
-AddsToRow-both a b c xs ys first second =
-    (second.0 ∙ first.0, λ cells is. subst (λ (zs : List Cell). IsRow zs c) (append_assoc cells xs ys) (second.1 (cells ++ xs) (first.1 cells is)))
+pub AddsToRow-both : (a b c : Row) (xs ys : List Cell) → AddsToRow a xs b → AddsToRow b ys c
+    → AddsToRow a (xs ++ ys) c
+AddsToRow-both a b c xs ys first second = (
+  second.0 ∙ first.0,
+  λ cells is. subst (λ (zs : List Cell). IsRow zs c) (append_assoc cells xs ys)
+      (second.1 (cells ++ xs) (first.1 cells is)),
+)

@@ -19,15 +19,19 @@ IsExtent cells count written = (count ≡ counted (length cells)) × (written �
 
 -- these cells were added
 abbrev pub AddsToExtent : ℕ → ℕ → List Cell → ℕ → ℕ → Type 0
-AddsToExtent count written more count_now written_now = (cells : List Cell) → IsExtent cells count written → IsExtent (cells ++ more) count_now written_now
+AddsToExtent count written more count_now written_now = (cells : List Cell) → IsExtent cells count written
+    → IsExtent (cells ++ more) count_now written_now
 
 -- nothing was added
 pub AddsToExtent-nothing : (count written : ℕ) → AddsToExtent count written [] count written
-AddsToExtent-nothing count written = λ cells is. subst (λ (zs : List Cell). IsExtent zs count written) (sym (append-nil cells)) is
+AddsToExtent-nothing count written =
+    λ cells is. subst (λ (zs : List Cell). IsExtent zs count written) (sym (append-nil cells)) is
 
 -- one after the other
 pub AddsToExtent-both : (count written count_then written_then count_now written_now : ℕ) (xs ys : List Cell)
-    → AddsToExtent count written xs count_then written_then → AddsToExtent count_then written_then ys count_now written_now
+    → AddsToExtent count written xs count_then written_then
+    → AddsToExtent count_then written_then ys count_now written_now
     → AddsToExtent count written (xs ++ ys) count_now written_now
 AddsToExtent-both count written count_then written_then count_now written_now xs ys first second =
-    λ cells is. subst (λ (zs : List Cell). IsExtent zs count_now written_now) (append_assoc cells xs ys) (second (cells ++ xs) (first cells is))
+    λ cells is. subst (λ (zs : List Cell). IsExtent zs count_now written_now) (append_assoc cells xs ys)
+    (second (cells ++ xs) (first cells is))

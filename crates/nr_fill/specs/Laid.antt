@@ -26,7 +26,8 @@ laid_of slots cells pieced read room = record {
 }
 
 -- what is always true of the slices
-pub record IsLaid (slots : List PieceSlot) (cells : List Cell) (slot_room cell_room pieced read : ℕ) : Type 0 where
+pub record IsLaid (slots : List PieceSlot) (cells : List Cell)
+    (slot_room cell_room pieced read : ℕ) : Type 0 where
   pub pieced_is : cells_in_slots slots ≡ pieced
   pub pieced_within : pieced ≤ read
   pub read_within : read ≤ length cells

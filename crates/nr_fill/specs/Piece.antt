@@ -78,7 +78,8 @@ cells_in ps = sum_by (λ (p : Piece). length p.cells) ps
 
 -- a word without cells, after a gap
 abbrev pub new_word : ℕ → Word
-new_word gap = record { parts = []; last = record { join = Gap gap; cells = [] }; pending = Nothing; blanks = 0 }
+new_word gap =
+    record { parts = []; last = record { join = Gap gap; cells = [] }; pending = Nothing; blanks = 0 }
 
 -- the word that cells go to: a new one takes the gap that waits
 abbrev pub word_or_new : ℕ → Option Word → Word
@@ -118,7 +119,12 @@ join_at points.Hard = Hard
 
 -- a piece ends at a break point
 abbrev pub ended_at : Pending → Word → Word
-ended_at (AtPoint p) w = record w { parts = w.parts ++ w.last ∷ []; last = record { join = join_at p; cells = [] }; pending = Nothing }
+ended_at (AtPoint p) w =
+    record w {
+      parts = w.parts ++ w.last ∷ [];
+      last = record { join = join_at p; cells = [] };
+      pending = Nothing;
+    }
 ended_at pending w = w
 
 abbrev pub ended : Word → Word
@@ -188,15 +194,18 @@ append xs w = record w { last = record w.last { cells = w.last.cells ++ xs }; bl
 -- one cell more
 abbrev pub add_cell_behind : Behind → Cell → Word → Word
 add_cell_behind behind x w =
-    let longer = append (x ∷ []) w in record longer { pending = pending_behind behind (word_length longer) w.pending }
+    let longer = append (x ∷ []) w in
+    record longer { pending = pending_behind behind (word_length longer) w.pending }
 
 abbrev pub add_cell : Margins → Behind → Cell → Collected → Collected
 add_cell margins behind x c =
-    record (in_word (add_cell_behind behind x) (in_word ended (with_word margins c))) { sentence = ends_sentence x }
+    record (in_word (add_cell_behind behind x) (in_word ended (with_word margins c)))
+    { sentence = ends_sentence x }
 
 -- a blank of the text that is a cell, as others where a break point waits
 abbrev pub add_blank_to : Word → Word
-add_blank_to w = record w { last = record w.last { cells = w.last.cells ++ blank ∷ [] }; blanks = w.blanks + 1 }
+add_blank_to w =
+    record w { last = record w.last { cells = w.last.cells ++ blank ∷ [] }; blanks = w.blanks + 1 }
 
 abbrev pub add_blank : Margins → Collected → Collected
 add_blank margins c = record (in_word add_blank_to (in_word ended (with_word margins c))) { sentence = false }
@@ -209,7 +218,8 @@ with_blanks_kept w = record w { blanks = 0 }
 abbrev pub add_cells : Margins → Cell → ℕ → Collected → Collected
 add_cells margins x n c =
     if n == 0 then in_word with_blanks_kept (with_word margins c)
-    else record (in_word (append (replicate n x)) (in_word ended (with_word margins c))) { sentence = ends_sentence x }
+    else record (in_word (append (replicate n x)) (in_word ended (with_word margins c)))
+    { sentence = ends_sentence x }
 
 -- `\&` is no cell: no sentence ends before it
 abbrev pub marked : Margins → Collected → Collected
@@ -223,7 +233,12 @@ join_before (p ∷ ps) join = p.join
 -- All cells are one piece, which hangs on what is before it as the first piece did. The text for a right or centring stop stays in its piece.
 abbrev pub joined_at : Pending → Word → Word
 joined_at (ForStop f) w = w
-joined_at pending w = record w { parts = []; last = record { join = join_before w.parts w.last.join; cells = cells_of_word w }; pending = Nothing }
+joined_at pending w =
+    record w {
+      parts = [];
+      last = record { join = join_before w.parts w.last.join; cells = cells_of_word w };
+      pending = Nothing;
+    }
 
 -- the word is one piece: so it is where it ends in a line that is not filled
 abbrev pub joined : Collected → Collected
@@ -291,7 +306,8 @@ abbrev pub with_title_cell : Cell → Collected → Collected
 with_title_cell x c = record c { title = option_map (with_cell x) c.title }
 
 abbrev pub with_part_ended : Collected → Collected
-with_part_ended c = record c { title = option_map (λ (t : Title). record t { part = next_part t.part }) c.title }
+with_part_ended c =
+    record c { title = option_map (λ (t : Title). record t { part = next_part t.part }) c.title }
 
 abbrev pub without_title : Collected → Collected
 without_title c = record c { title = None }

@@ -15,10 +15,17 @@ use Rattle.nr_fill.specs.Titling.{title_of, parted_title}
 -- the word whose other pieces stand in the row, and after them the cells of the last
 abbrev pub word_of : Option WordState → List Piece → List Cell → Option Word
 word_of None ps cells = None
-word_of (Some w) ps cells = Some (record { parts = ps; last = record { join = w.join; cells = cells }; pending = w.pending; blanks = w.blanks })
+word_of (Some w) ps cells =
+    Some (record {
+      parts = ps;
+      last = record { join = w.join; cells = cells };
+      pending = w.pending;
+      blanks = w.blanks;
+    })
 
 -- what is collected
-abbrev pub collected_of : Laid → ℕ → Option WordState → ℕ → Bool → Bool → Margins → Turn → Option TitleState → Collected
+abbrev pub collected_of : Laid → ℕ → Option WordState → ℕ → Bool → Bool → Margins → Turn
+    → Option TitleState → Collected
 collected_of row pieces word gap barred sentence margins turn title = record {
   pieces = take pieces row.pieces;
   word = word_of word (drop pieces row.pieces) row.last;
@@ -46,7 +53,8 @@ pub record IsWord (w : WordState) (ps : List Piece) (cells : List Cell) : Type 0
   pub needed : cells_needed w.pending w.blanks w.parted ≤ length cells
 
 -- what is always true of a line's fields
-pub record IsLine (row : Laid) (limit pieces wide : ℕ) (word : Option WordState) (gap : ℕ) (title : Option TitleState) : Type 0 where
+pub record IsLine (row : Laid) (limit pieces wide : ℕ) (word : Option WordState) (gap : ℕ)
+    (title : Option TitleState) : Type 0 where
   pub room : row.room ≡ limit
   pub is_small : limit < 2 ^ 32
   pub within : pieces + read_cells row + length row.title ≤ limit

@@ -13,7 +13,8 @@ add_run margins under (b ∷ bs) c = add_run margins under bs (add_cell margins 
 
 -- the cells of a run after those of a word: no break point waits after them
 abbrev pub run_behind : Bool → List ℕ → Word → Word
-run_behind under bs w = record (append (map (run_cell under) bs) w) { pending = pending_without_point w.pending }
+run_behind under bs w =
+    record (append (map (run_cell under) bs) w) { pending = pending_without_point w.pending }
 
 -- the bytes as a word, and the blank after it
 abbrev pub add_word : Margins → Bool → List ℕ → Collected → Collected

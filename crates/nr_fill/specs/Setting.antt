@@ -41,15 +41,18 @@ abbrev pub spreads : Align → Collected → ℕ → Bool
 spreads align c n = is_spread align (left_over c n) (gaps (take n c.pieces))
 
 abbrev pub extra_of : Align → Collected → ℕ → Extra
-extra_of align c n = if spreads align c n then shared c.turn (left_over c n) (gaps (take n c.pieces)) else no_extra
+extra_of align c n =
+    if spreads align c n then shared c.turn (left_over c n) (gaps (take n c.pieces)) else no_extra
 
 -- the text of the first n pieces as a line
 abbrev pub text_of : Align → Collected → ℕ → List Cell
-text_of align c n = cells_in_line (extra_of align c n) (take n c.pieces) ++ hyphens (hyphen_before (drop n c.pieces))
+text_of align c n =
+    cells_in_line (extra_of align c n) (take n c.pieces) ++ hyphens (hyphen_before (drop n c.pieces))
 
 -- a line's row: blanks for the page offset, the indent and what a right or centred line stands from it, then the text
 abbrev pub line_row : Setting → Collected → ℕ → List Cell
-line_row s c n = replicate (s.offset + c.margins.indent + shift s.align (left_over c n)) blank ++ text_of s.align c n
+line_row s c n =
+    replicate (s.offset + c.margins.indent + shift s.align (left_over c n)) blank ++ text_of s.align c n
 
 -- the line as it is placed
 abbrev pub set_line : Setting → Collected → ℕ → List Cell

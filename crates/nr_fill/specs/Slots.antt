@@ -18,7 +18,8 @@ cells_in_slots slots = sum_by (λ (slot : PieceSlot). slot.len) slots
 -- the pieces that these slots cut off the cells, one after another
 abbrev pub pieces_of : List PieceSlot → List Cell → List Piece
 pieces_of [] cells = []
-pieces_of (slot ∷ slots) cells = record { join = slot.join; cells = take slot.len cells } ∷ pieces_of slots (drop slot.len cells)
+pieces_of (slot ∷ slots) cells =
+    record { join = slot.join; cells = take slot.len cells } ∷ pieces_of slots (drop slot.len cells)
 
 -- how wide these pieces are with their gaps
 abbrev pub slots_width : List PieceSlot → ℕ

@@ -52,7 +52,8 @@ next_gap i Hard = i
 -- pieces that are not the first, from gap i on
 abbrev pub cells_behind : Extra → ℕ → List Piece → List Cell
 cells_behind x i [] = []
-cells_behind x i (p ∷ ps) = replicate (blanks_before x i p.join) blank ++ p.cells ++ cells_behind x (next_gap i p.join) ps
+cells_behind x i (p ∷ ps) =
+    replicate (blanks_before x i p.join) blank ++ p.cells ++ cells_behind x (next_gap i p.join) ps
 
 -- the cells of these pieces as a line
 abbrev pub cells_in_line : Extra → List Piece → List Cell

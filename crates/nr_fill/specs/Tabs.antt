@@ -28,12 +28,21 @@ is_aligned aligned Centre = aligned
 -- the text for a stop begins here, so many cells before the stop
 abbrev pub with_field : ℕ → StopKind → Cell → Word → Word
 with_field width kind fill w =
-    record w { pending = ForStop (record { before = length w.last.cells; width = width; kind = kind; fill = fill }); blanks = 0 }
+    record w {
+      pending = ForStop (record {
+        before = length w.last.cells;
+        width = width;
+        kind = kind;
+        fill = fill;
+      });
+      blanks = 0;
+    }
 
 abbrev pub to_stop : Margins → Bool → Cell → Collected → Option Stop → Collected
 to_stop margins aligned fill c None = with_word margins c
 to_stop margins aligned fill c (Some s) =
-    if is_aligned aligned s.kind then in_word (with_field (s.column - column c) s.kind fill) (in_word ended (with_word margins c))
+    if is_aligned aligned s.kind then in_word (with_field (s.column - column c) s.kind fill)
+    (in_word ended (with_word margins c))
     else add_cells margins fill (s.column - column c) c
 
 -- A tab or leader is part of a word. It goes to the first stop beyond the column, or does nothing more.
@@ -54,7 +63,9 @@ abbrev pub filled_by : Pending → Word → Word
 filled_by (ForStop f) w =
     record w {
       last = record w.last {
-        cells = take f.before w.last.cells ++ replicate (fill_count f (length w.last.cells - f.before)) f.fill ++ drop f.before w.last.cells;
+        cells =
+            take f.before w.last.cells ++ replicate (fill_count f (length w.last.cells - f.before)) f.fill
+            ++ drop f.before w.last.cells;
       };
       pending = Nothing;
     }

@@ -56,12 +56,14 @@ cell_of centre right ls cs rs column =
     else slice_index_or ls column blank)
 
 abbrev pub cell_at : ℕ → Title → ℕ → Cell
-cell_at line t column = cell_of (centre_at line (length t.centre)) (right_at line (length t.right)) t.left t.centre t.right column
+cell_at line t column =
+    cell_of (centre_at line (length t.centre)) (right_at line (length t.right)) t.left t.centre t.right column
 
 -- how many columns the parts reach over
 abbrev pub reach : ℕ → Title → ℕ
 reach line t =
-    max (length t.left) (max (centre_at line (length t.centre) + length t.centre) (right_at line (length t.right) + length t.right))
+    max (length t.left) (max (centre_at line (length t.centre) + length t.centre)
+    (right_at line (length t.right) + length t.right))
 
 -- the title's cells
 abbrev pub title_row : ℕ → Title → List Cell

@@ -10,9 +10,15 @@ use Rattle.nr_fill.specs.Title.{Title}
 abbrev pub title_of : Option TitleState → List Cell → Option Title
 title_of None cells = None
 title_of (Some states.Left) cells = Some (record { left = cells; centre = []; right = []; part = parts.Left })
-title_of (Some (states.Centre left)) cells = Some (record { left = take left cells; centre = drop left cells; right = []; part = parts.Centre })
+title_of (Some (states.Centre left)) cells =
+    Some (record { left = take left cells; centre = drop left cells; right = []; part = parts.Centre })
 title_of (Some (states.Right left centre)) cells =
-    Some (record { left = take left cells; centre = take centre (drop left cells); right = drop centre (drop left cells); part = parts.Right })
+    Some (record {
+      left = take left cells;
+      centre = take centre (drop left cells);
+      right = drop centre (drop left cells);
+      part = parts.Right;
+    })
 
 -- how many cells of a title's state are its first parts'
 abbrev pub parted_title : TitleState → ℕ

@@ -28,7 +28,8 @@ pub trait CellRow {
     fn add_behind_copies(&mut self, cell: Cell, copies: usize, cells: &[Cell], n: usize)
         requires front { n ≤ length cells.now }
         requires room { length (Holds self.old).items + copies + n ≤ (Holds self.old).room }
-        ensures items { (Holds self.new).items ≡ (Holds self.old).items ++ replicate copies cell ++ take n cells.now }
+        ensures items { (Holds self.new).items ≡ (Holds self.old).items ++ replicate copies cell
+            ++ take n cells.now }
         ensures room { (Holds self.new).room ≡ (Holds self.old).room };
 }
 
@@ -67,8 +68,10 @@ pub fn lay_line<R: CellRow>(slots: &[PieceSlot], cells: &[Cell], extra: Extra, r
     requires cells { cells_in_slots slots.now ≤ length cells.now }
     requires each { extra.each < 2 ^ 62 }
     requires few { length slots.now < 2 ^ 32 }
-    requires room { length (R.Holds row.old).items + length (cells_in_line extra (pieces_of slots.now cells.now)) ≤ (R.Holds row.old).room }
-    ensures items { (R.Holds row.new).items ≡ (R.Holds row.old).items ++ cells_in_line extra (pieces_of slots.now cells.now) }
+    requires room { length (R.Holds row.old).items
+        + length (cells_in_line extra (pieces_of slots.now cells.now)) ≤ (R.Holds row.old).room }
+    ensures items { (R.Holds row.new).items ≡ (R.Holds row.old).items
+        ++ cells_in_line extra (pieces_of slots.now cells.now) }
     ensures room { (R.Holds row.new).room ≡ (R.Holds row.old).room }
 {
     let mut taken = slots[0].len as usize;

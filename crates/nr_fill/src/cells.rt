@@ -42,8 +42,11 @@ pub trait CellSink {
         requires each { _extra.each < 2 ^ 62 }
         requires few { length _slots.now < 2 ^ 32 }
         requires most { length (cells_in_line _extra (pieces_of _slots.now _cells.now)) ≤ _most }
-        ensures set { IfSome result (λ extent. Adds self.old (cells_in_line _extra (pieces_of _slots.now _cells.now)) self.new) }
-        ensures extent { IfSome result (λ extent. IsExtent (cells_in_line _extra (pieces_of _slots.now _cells.now)) extent.count extent.written) }
+        ensures set { IfSome result
+            (λ extent. Adds self.old (cells_in_line _extra (pieces_of _slots.now _cells.now)) self.new) }
+        ensures extent { IfSome result
+            (λ extent. IsExtent (cells_in_line _extra (pieces_of _slots.now _cells.now)) extent.count
+            extent.written) }
         ensures none { result ≡ None → self.new ≡ self.old }
     {
         None
@@ -53,5 +56,6 @@ pub trait CellSink {
     ghost adds_nothing: { (row : Self) → Adds row [] row };
 
     /// What was added first stands before what was added then.
-    ghost adds_both: { (a : Self) → (b : Self) → (c : Self) → (xs : List CellValue) → (ys : List CellValue) → Adds a xs b → Adds b ys c → Adds a (xs ++ ys) c };
+    ghost adds_both: { (a : Self) → (b : Self) → (c : Self) → (xs : List CellValue) → (ys : List CellValue)
+        → Adds a xs b → Adds b ys c → Adds a (xs ++ ys) c };
 }

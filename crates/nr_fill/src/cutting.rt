@@ -26,7 +26,8 @@ pub(crate) struct Sums {
 pub(crate) fn longest_front(slots: &[PieceSlot], line: usize) -> usize
     requires some { 0 < length slots.now }
     requires wide { slots_width slots.now < 2 ^ 63 }
-    ensures pieces { (cells : List CellValue) → cells_in_slots slots.now ≤ length cells → result ≡ cut line (pieces_of slots.now cells) }
+    ensures pieces { (cells : List CellValue) → cells_in_slots slots.now ≤ length cells
+        → result ≡ cut line (pieces_of slots.now cells) }
     ensures some { 0 < result }
     ensures within { result ≤ length slots.now }
 {
@@ -49,7 +50,8 @@ pub(crate) fn front_from_behind(slots: &[PieceSlot], wide: usize, line: usize) -
     requires some { 0 < length slots.now }
     requires wide { slots_width slots.now ≡ wide + join_width (get_or slots.now 0 blank_slot).join }
     requires small { wide < 2 ^ 63 }
-    ensures pieces { (cells : List CellValue) → cells_in_slots slots.now ≤ length cells → result ≡ cut line (pieces_of slots.now cells) }
+    ensures pieces { (cells : List CellValue) → cells_in_slots slots.now ≤ length cells
+        → result ≡ cut line (pieces_of slots.now cells) }
     ensures some { 0 < result }
     ensures within { result ≤ length slots.now }
 {
@@ -123,7 +125,8 @@ pub(crate) fn set_pieces<S: CellSink>(
     requires each { extra.each < 2 ^ 62 }
     requires few { length slots.now < 2 ^ 32 }
     ensures set { S.Adds out.old (cells_in_line extra (pieces_of slots.now cells.now)) out.new }
-    ensures extent { IsExtent (cells_in_line extra (pieces_of slots.now cells.now)) result.count result.written }
+    ensures extent { IsExtent (cells_in_line extra (pieces_of slots.now cells.now)) result.count
+        result.written }
 {
     let mut taken = slots[0].len as usize;
     out.extend(&cells[..taken]);

@@ -215,7 +215,8 @@ impl Line {
     /// Whether the pieces fit the line's length.
     #[inline]
     pub fn fits(&self) -> bool
-        ensures { result ≡ fits self.now.collected.margins.length (length self.now.collected.pieces) self.now.collected.pieces }
+        ensures { result ≡ fits self.now.collected.margins.length (length self.now.collected.pieces)
+            self.now.collected.pieces }
     {
         let length = self.margins.length as usize;
         if self.wide <= length {
@@ -240,7 +241,8 @@ impl Line {
 
     /// How wide the word is, or the gap that waits for one.
     fn word_wide(&self) -> usize
-        ensures value { result ≡ pieces_width (word_pieces (Some (word_or_new self.now.collected.gap self.now.collected.word))) }
+        ensures value { result
+            ≡ pieces_width (word_pieces (Some (word_or_new self.now.collected.gap self.now.collected.word))) }
         ensures small { result < 2 ^ 48 }
     {
         match self.word {

@@ -35,7 +35,12 @@ impl Model for Out {
 
     ghost Value = { Row };
 
-    ghost view = { λ o. record { kept = o.cells.items; count = o.count; written = o.written; room = o.cells.room } };
+    ghost view = { λ o. record {
+      kept = o.cells.items;
+      count = o.count;
+      written = o.written;
+      room = o.cells.room;
+    } };
 
     ghost invariant = { λ o. o.cells.room < 2 ^ 32 };
 }
@@ -139,10 +144,14 @@ impl CellSink for Out {
         requires each { extra.each < 2 ^ 62 }
         requires few { length slots.now < 2 ^ 32 }
         requires most { length (cells_in_line extra (pieces_of slots.now cells.now)) ≤ most }
-        ensures set { IfSome result (λ extent. AddsToRow self.old (cells_in_line extra (pieces_of slots.now cells.now)) self.new) }
-        ensures extent { IfSome result (λ extent. IsExtent (cells_in_line extra (pieces_of slots.now cells.now)) extent.count extent.written) }
+        ensures set { IfSome result
+            (λ extent. AddsToRow self.old (cells_in_line extra (pieces_of slots.now cells.now)) self.new) }
+        ensures extent { IfSome result
+            (λ extent. IsExtent (cells_in_line extra (pieces_of slots.now cells.now)) extent.count
+            extent.written) }
         ensures none { result ≡ None → self.new ≡ self.old }
-        ensures laid { (before : List CellValue) → IsRow before self.old → (IsSome result ↔ (length before + most ≤ self.old.room)) }
+        ensures laid { (before : List CellValue) → IsRow before self.old
+            → (IsSome result ↔ (length before + most ≤ self.old.room)) }
     {
         let start = self.cells.len();
         if self.count != start || most > self.cells.room() - start {

@@ -47,7 +47,12 @@ impl PieceRow {
     pub(crate) fn new(alloc: Global, cells: usize, pieces: usize) -> Result<PieceRow, AllocError>
         requires small { cells < 2 ^ 32 }
         requires same { pieces ≡ cells }
-        ensures { IfOk result (λ made. made ≡ record { pieces = []; last = []; title = []; room = min pieces cells }) }
+        ensures { IfOk result (λ made. made ≡ record {
+          pieces = [];
+          last = [];
+          title = [];
+          room = min pieces cells;
+        }) }
     {
         Ok(PieceRow {
             cells: Queue::new(alloc, cells)?,
@@ -141,7 +146,8 @@ impl PieceRow {
         ensures front { result ≤ length bytes.now }
         ensures plain { All IsPlain (take result bytes.now) }
         ensures stops { result < length bytes.now → ¬ IsPlain (slice_index bytes.now result) }
-        ensures cells { self.new ≡ record self.old { last = self.old.last ++ map (run_cell under) (take result bytes.now) } }
+        ensures cells { self.new ≡ record self.old
+            { last = self.old.last ++ map (run_cell under) (take result bytes.now) } }
     {
         let count = self.cells.push_plain(under, bytes);
         self.read += count;
@@ -153,7 +159,8 @@ impl PieceRow {
         requires within { place ≤ length self.old.last }
         requires room { read_cells self.old + n ≤ self.old.room }
         requires no_title { self.old.title ≡ [] }
-        ensures { self.new ≡ record self.old { last = take place self.old.last ++ replicate n cell ++ drop place self.old.last } }
+        ensures { self.new ≡ record self.old
+            { last = take place self.old.last ++ replicate n cell ++ drop place self.old.last } }
     {
         self.cells.insert_copies(self.pieced + place, cell, n);
         self.read += n;
@@ -174,7 +181,10 @@ impl PieceRow {
     pub(crate) fn close(&mut self, join: Join, n: usize)
         requires within { n ≤ length self.old.last }
         requires room { length self.old.pieces < self.old.room }
-        ensures { self.new ≡ record self.old { pieces = self.old.pieces ++ record { join = join; cells = take n self.old.last } ∷ []; last = drop n self.old.last } }
+        ensures { self.new ≡ record self.old {
+          pieces = self.old.pieces ++ record { join = join; cells = take n self.old.last } ∷ [];
+          last = drop n self.old.last;
+        } }
     {
         self.slots.push(PieceSlot {
             join,
@@ -199,7 +209,10 @@ impl PieceRow {
     pub(crate) fn open_behind(&mut self, n: usize, cells: usize)
         requires within { n ≤ length self.old.pieces }
         requires cells { cells ≡ cells_in (drop n self.old.pieces) }
-        ensures { self.new ≡ record self.old { pieces = take n self.old.pieces; last = flat_map (λ (p : Piece). p.cells) (drop n self.old.pieces) ++ self.old.last } }
+        ensures { self.new ≡ record self.old {
+          pieces = take n self.old.pieces;
+          last = flat_map (λ (p : Piece). p.cells) (drop n self.old.pieces) ++ self.old.last;
+        } }
     {
         self.slots.truncate(n);
         self.pieced -= cells;
@@ -231,7 +244,8 @@ impl PieceRow {
     /// The cells after the first pieces, but the title's. The other pieces have `parted` cells.
     pub(crate) fn cells_behind(&self, parted: usize) -> &[Cell]
         requires { parted ≤ cells_in self.now.pieces }
-        ensures { (n : ℕ) → cells_in (drop n self.now.pieces) ≡ parted → result.now ≡ flat_map (λ (p : Piece). p.cells) (drop n self.now.pieces) ++ self.now.last }
+        ensures { (n : ℕ) → cells_in (drop n self.now.pieces) ≡ parted
+            → result.now ≡ flat_map (λ (p : Piece). p.cells) (drop n self.now.pieces) ++ self.now.last }
     {
         &self.cells.as_slice()[self.pieced - parted..self.read]
     }

@@ -28,7 +28,8 @@ impl<T: Copy> Model for Queue<T> {
 
     ghost view = { λ q. record { items = drop q.start (take q.end q.slots.items); room = q.room } };
 
-    ghost invariant = { λ q. (q.start ≤ q.end) × ((q.end ≤ length q.slots.items) × ((length q.slots.items ≤ q.room) × (q.slots.room ≡ q.room))) };
+    ghost invariant = { λ q. (q.start ≤ q.end)
+        × ((q.end ≤ length q.slots.items) × ((length q.slots.items ≤ q.room) × (q.slots.room ≡ q.room))) };
 }
 
 /// Where items stand in a vector.
@@ -52,7 +53,8 @@ fn make_room<T: Copy>(
     requires held { length slots.old.items ≤ room }
     requires capacity { slots.old.room ≡ room }
     requires room { span.end - span.start + n ≤ room }
-    ensures items { drop result.start (take result.end slots.new.items) ≡ drop span.start (take span.end slots.old.items) }
+    ensures items { drop result.start (take result.end slots.new.items)
+        ≡ drop span.start (take span.end slots.old.items) }
     ensures ordered { result.start ≤ result.end }
     ensures free { result.end + n ≤ length slots.new.items }
     ensures held { length slots.new.items ≤ room }
@@ -79,7 +81,8 @@ fn move_to_front<T: Copy>(
     requires held { length slots.old.items ≤ room }
     requires capacity { slots.old.room ≡ room }
     requires room { span.end - span.start + n ≤ room }
-    ensures items { drop result.start (take result.end slots.new.items) ≡ drop span.start (take span.end slots.old.items) }
+    ensures items { drop result.start (take result.end slots.new.items)
+        ≡ drop span.start (take span.end slots.old.items) }
     ensures ordered { result.start ≤ result.end }
     ensures free { result.end + n ≤ length slots.new.items }
     ensures held { length slots.new.items ≤ room }
@@ -184,7 +187,8 @@ impl<T: Copy> Queue<T> {
     pub(crate) fn insert_copies(&mut self, place: usize, item: T, n: usize)
         requires within { place ≤ length self.old.items }
         requires room { length self.old.items + n ≤ self.old.room }
-        ensures items { self.new.items ≡ take place self.old.items ++ replicate n item ++ drop place self.old.items }
+        ensures items { self.new.items ≡ take place self.old.items ++ replicate n item
+            ++ drop place self.old.items }
         ensures room { self.new.room ≡ self.old.room }
     {
         let span = Span {

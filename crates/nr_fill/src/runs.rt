@@ -29,9 +29,11 @@ impl Line {
     pub fn put_run(&mut self, margins: Margins, under: bool, bytes: &[u8]) -> usize
         ensures front { result ≤ length bytes.now }
         ensures plain { All IsPlain (take result bytes.now) }
-        ensures cells { self.new ≡ record self.old { collected = add_run margins under (take result bytes.now) self.old.collected } }
+        ensures cells { self.new ≡ record self.old
+            { collected = add_run margins under (take result bytes.now) self.old.collected } }
         ensures within { 0 < result → line_cells self.new.collected ≤ self.new.limit }
-        ensures stops { result < length bytes.now → IsPlain (slice_index bytes.now result) → text_cells self.new.collected ≡ self.new.limit }
+        ensures stops { result < length bytes.now → IsPlain (slice_index bytes.now result)
+            → text_cells self.new.collected ≡ self.new.limit }
     {
         let room = self.limit - self.text_measure();
         let bytes = &bytes[..room.min(bytes.len())];
@@ -50,12 +52,21 @@ impl Line {
     pub fn put_word(&mut self, indents: &Indents, under: bool, ends: bool, bytes: &[u8]) -> WordRun
         ensures front { result.count ≤ length bytes.now }
         ensures plain { All IsPlain (take result.count bytes.now) }
-        ensures run { result.ended ≡ false → self.new ≡ record self.old { collected = add_run (margins_of indents.now) under (take result.count bytes.now) self.old.collected } }
-        ensures word { result.ended ≡ true → self.new ≡ record self.old { collected = add_word (margins_of indents.now) under (take result.count bytes.now) self.old.collected } }
+        ensures run { result.ended ≡ false → self.new ≡ record self.old {
+          collected = add_run (margins_of indents.now) under (take result.count bytes.now)
+              self.old.collected;
+        } }
+        ensures word { result.ended ≡ true → self.new ≡ record self.old {
+          collected = add_word (margins_of indents.now) under (take result.count bytes.now)
+              self.old.collected;
+        } }
         ensures ends { result.ended ≡ true → EndsWord ends result.count bytes.now self.old.collected }
         ensures within { 0 < result.count → line_cells self.new.collected ≤ self.new.limit }
-        ensures stops { result.ended ≡ false → result.count < length bytes.now → IsPlain (slice_index bytes.now result.count) → text_cells self.new.collected ≡ self.new.limit }
-        ensures longest { result.ended ≡ false → self.old.collected.title ≡ None → EndsWord ends result.count bytes.now self.old.collected → text_cells self.new.collected ≡ self.new.limit }
+        ensures stops { result.ended ≡ false → result.count < length bytes.now
+            → IsPlain (slice_index bytes.now result.count) → text_cells self.new.collected ≡ self.new.limit }
+        ensures longest { result.ended ≡ false → self.old.collected.title ≡ None
+            → EndsWord ends result.count bytes.now self.old.collected
+            → text_cells self.new.collected ≡ self.new.limit }
     {
         if ends && self.word.is_none() && self.title.is_none() {
             return self.put_new_word(indents, under, bytes);
@@ -74,12 +85,20 @@ impl Line {
         requires title { self.old.collected.title ≡ None }
         ensures front { result.count ≤ length bytes.now }
         ensures plain { All IsPlain (take result.count bytes.now) }
-        ensures run { result.ended ≡ false → self.new ≡ record self.old { collected = add_run (margins_of indents.now) under (take result.count bytes.now) self.old.collected } }
-        ensures word { result.ended ≡ true → self.new ≡ record self.old { collected = add_word (margins_of indents.now) under (take result.count bytes.now) self.old.collected } }
+        ensures run { result.ended ≡ false → self.new ≡ record self.old {
+          collected = add_run (margins_of indents.now) under (take result.count bytes.now)
+              self.old.collected;
+        } }
+        ensures word { result.ended ≡ true → self.new ≡ record self.old {
+          collected = add_word (margins_of indents.now) under (take result.count bytes.now)
+              self.old.collected;
+        } }
         ensures ends { result.ended ≡ true → EndsWord true result.count bytes.now self.old.collected }
         ensures within { 0 < result.count → line_cells self.new.collected ≤ self.new.limit }
-        ensures stops { result.ended ≡ false → result.count < length bytes.now → IsPlain (slice_index bytes.now result.count) → text_cells self.new.collected ≡ self.new.limit }
-        ensures longest { result.ended ≡ false → EndsWord true result.count bytes.now self.old.collected → text_cells self.new.collected ≡ self.new.limit }
+        ensures stops { result.ended ≡ false → result.count < length bytes.now
+            → IsPlain (slice_index bytes.now result.count) → text_cells self.new.collected ≡ self.new.limit }
+        ensures longest { result.ended ≡ false → EndsWord true result.count bytes.now self.old.collected
+            → text_cells self.new.collected ≡ self.new.limit }
     {
         let room = self.limit - self.text_measure();
         let near = &bytes[..room.min(bytes.len())];
@@ -136,7 +155,10 @@ impl Line {
         ensures front { result ≤ length bytes.now }
         ensures plain { All IsPlain (take result bytes.now) }
         ensures stops { result < length bytes.now → ¬ IsPlain (slice_index bytes.now result) }
-        ensures cells { self.new ≡ record self.old { collected = record (in_word (run_behind under (take result bytes.now)) self.old.collected) { sentence = ends_sentence (run_cell under (slice_index bytes.now (result - 1))) } } }
+        ensures cells { self.new ≡ record self.old {
+          collected = record (in_word (run_behind under (take result bytes.now)) self.old.collected)
+              { sentence = ends_sentence (run_cell under (slice_index bytes.now (result - 1))) };
+        } }
     {
         match &mut self.word {
             None => 0,

@@ -62,8 +62,11 @@ impl Line {
         aligned: bool,
         fill: Cell,
     ) -> Result<(), LineCells>
-        ensures result { result ≡ afforded (record self.old { collected = tabbed margins stops.now aligned fill self.old.collected }) }
-        ensures ok { OnOk result (self.new ≡ record self.old { collected = tabbed margins stops.now aligned fill self.old.collected }) }
+        ensures result { result
+            ≡ afforded
+            (record self.old { collected = tabbed margins stops.now aligned fill self.old.collected }) }
+        ensures ok { OnOk result (self.new ≡ record self.old
+            { collected = tabbed margins stops.now aligned fill self.old.collected }) }
         ensures err { OnErr result (self.new ≡ self.old) }
     {
         let column = self.column();
@@ -83,7 +86,8 @@ impl Line {
 
     /// The text for a stop begins.
     fn begin_field(&mut self, width: usize, kind: StopKind, fill: Cell)
-        ensures { self.new ≡ record self.old { collected = in_word (with_field width kind fill) self.old.collected } }
+        ensures { self.new ≡ record self.old
+            { collected = in_word (with_field width kind fill) self.old.collected } }
     {
         self.row.clear_title();
         self.title = None;
@@ -102,8 +106,10 @@ impl Line {
     /// The text for a right or centring stop, where one is being read, ends: as many cells as align it are filled in
     /// before it, as one addition. It fails where they would pass the limit.
     pub fn end_field(&mut self) -> Result<(), LineCells>
-        ensures result { result ≡ afforded (record self.old { collected = with_field_filled self.old.collected }) }
-        ensures ok { OnOk result (self.new ≡ record self.old { collected = with_field_filled self.old.collected }) }
+        ensures result { result
+            ≡ afforded (record self.old { collected = with_field_filled self.old.collected }) }
+        ensures ok { OnOk result (self.new ≡ record self.old
+            { collected = with_field_filled self.old.collected }) }
         ensures err { OnErr result (self.new ≡ self.old) }
     {
         let n = self.field_fill();

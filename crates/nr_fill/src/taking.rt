@@ -56,10 +56,12 @@ impl Line {
     /// text is, in cells, without the blanks at its end; the row keeps them. A word that is being read stays.
     pub fn take_line<S: CellSink>(&mut self, next: Margins, setting: Setting, out: &mut S) -> usize
         requires pieces { 0 < length self.old.collected.pieces }
-        ensures out { S.Adds out.old (line_row setting self.old.collected (cut_of self.old.collected)) out.new }
+        ensures out { S.Adds out.old (line_row setting self.old.collected (cut_of self.old.collected))
+            out.new }
         ensures width { result ≡ set_width setting self.old.collected (cut_of self.old.collected) }
         ensures small { result < 2 ^ 48 }
-        ensures rest { self.new ≡ record self.old { collected = behind next setting.align self.old.collected (cut_of self.old.collected) } }
+        ensures rest { self.new ≡ record self.old
+            { collected = behind next setting.align self.old.collected (cut_of self.old.collected) } }
     {
         let n = self
             .row
@@ -72,10 +74,12 @@ impl Line {
     /// blanks at its end; the row keeps them.
     pub fn take_all<S: CellSink>(&mut self, next: Margins, setting: Setting, out: &mut S) -> usize
         requires pieces { 0 < length self.old.collected.pieces }
-        ensures out { S.Adds out.old (line_row setting self.old.collected (length self.old.collected.pieces)) out.new }
+        ensures out { S.Adds out.old (line_row setting self.old.collected (length self.old.collected.pieces))
+            out.new }
         ensures width { result ≡ set_width setting self.old.collected (length self.old.collected.pieces) }
         ensures small { result < 2 ^ 48 }
-        ensures rest { self.new ≡ record self.old { collected = behind next setting.align self.old.collected (length self.old.collected.pieces) } }
+        ensures rest { self.new ≡ record self.old
+            { collected = behind next setting.align self.old.collected (length self.old.collected.pieces) } }
     {
         self.take_front(self.pieces, next, setting, out)
     }
@@ -93,7 +97,8 @@ impl Line {
         ensures out { S.Adds out.old (line_row setting self.old.collected n) out.new }
         ensures width { result ≡ set_width setting self.old.collected n }
         ensures small { result < 2 ^ 48 }
-        ensures rest { self.new ≡ record self.old { collected = behind next setting.align self.old.collected n } }
+        ensures rest { self.new ≡ record self.old
+            { collected = behind next setting.align self.old.collected n } }
     {
         let plan = self.plan(n, setting);
         let width = self.set(n, plan, out);
@@ -129,7 +134,8 @@ impl Line {
     fn plan(&self, n: usize, setting: Setting) -> Plan
         requires some { 0 < n }
         requires within { n ≤ length self.now.collected.pieces }
-        ensures start { result.start ≡ setting.offset + self.now.collected.margins.indent + shift setting.align (left_over self.now.collected n) }
+        ensures start { result.start ≡ setting.offset + self.now.collected.margins.indent
+            + shift setting.align (left_over self.now.collected n) }
         ensures start_small { result.start < 2 ^ 34 }
         ensures extra { result.extra ≡ extra_of setting.align self.now.collected n }
         ensures each { result.extra.each < 2 ^ 32 }
@@ -172,8 +178,12 @@ impl Line {
         requires most_small { plan.most < 2 ^ 47 }
         requires start { plan.start < 2 ^ 34 }
         requires hyphens { plan.hyphens ≤ 1 }
-        ensures out { S.Adds out.old (replicate plan.start blank ++ (cells_in_line plan.extra (take n self.now.collected.pieces) ++ hyphens plan.hyphens)) out.new }
-        ensures width { result ≡ length (trimmed (cells_in_line plan.extra (take n self.now.collected.pieces) ++ hyphens plan.hyphens)) }
+        ensures out { S.Adds out.old
+            (replicate plan.start blank ++ (cells_in_line plan.extra (take n self.now.collected.pieces)
+            ++ hyphens plan.hyphens)) out.new }
+        ensures width { result
+            ≡ length
+            (trimmed (cells_in_line plan.extra (take n self.now.collected.pieces) ++ hyphens plan.hyphens)) }
         ensures small { result < 2 ^ 48 }
     {
         out.blanks(plan.start);
@@ -191,7 +201,8 @@ impl Line {
         requires within { n ≤ length self.old.collected.pieces }
         requires cells { plan.cells ≡ cells_in (take n self.old.collected.pieces) }
         requires wide { plan.wide ≡ pieces_width (take n self.old.collected.pieces) }
-        ensures { self.new ≡ record self.old { collected = without_front n plan.spread next self.old.collected } }
+        ensures { self.new ≡ record self.old
+            { collected = without_front n plan.spread next self.old.collected } }
     {
         self.row.remove_front(n, plan.cells);
         self.pieces -= n;

@@ -100,7 +100,8 @@ impl<'t> TitleParts<'t> {
 
     /// The cell at a column of a title whose centre and right part begin so far on.
     fn cell_at(self, centre: usize, right: usize, column: usize) -> Cell
-        ensures { result ≡ cell_of centre right self.entry.left.now self.entry.centre.now self.entry.right.now column }
+        ensures { result ≡ cell_of centre right self.entry.left.now self.entry.centre.now self.entry.right.now
+            column }
     {
         if is_within(right, self.right.len(), column) {
             return self.right[column - right];
@@ -118,7 +119,9 @@ impl<'t> TitleParts<'t> {
     fn are_apart(self, centre: usize, right: usize) -> bool
         requires centre { centre < 2 ^ 32 }
         requires cells { length self.centre.now < 2 ^ 32 }
-        ensures { result ≡ (nat_le (length self.entry.left.now) centre && nat_le (centre + length self.entry.centre.now) right) }
+        ensures { result
+            ≡ (nat_le (length self.entry.left.now) centre
+            && nat_le (centre + length self.entry.centre.now) right) }
     {
         self.left.len() <= centre && centre + self.centre.len() <= right
     }
@@ -127,8 +130,12 @@ impl<'t> TitleParts<'t> {
     fn set_apart<S: CellSink>(self, centre: usize, right: usize, out: &mut S)
         requires left { length self.left.now ≤ centre }
         requires centre { centre + length self.centre.now ≤ right }
-        ensures { S.Adds out.old (map (cell_of centre right self.entry.left.now self.entry.centre.now self.entry.right.now)
-            (range_with_len 0 (max (length self.entry.left.now) (max (centre + length self.entry.centre.now) (right + length self.entry.right.now))))) out.new }
+        ensures { S.Adds out.old
+            (map (cell_of centre right self.entry.left.now self.entry.centre.now self.entry.right.now)
+            (range_with_len 0
+            (max (length self.entry.left.now)
+            (max (centre + length self.entry.centre.now) (right + length self.entry.right.now)))))
+            out.new }
     {
         out.extend(self.left);
         out.blanks(centre - self.left.len());
@@ -143,8 +150,12 @@ impl<'t> TitleParts<'t> {
         requires right { right < 2 ^ 32 }
         requires centre_cells { length self.centre.now < 2 ^ 32 }
         requires right_cells { length self.right.now < 2 ^ 32 }
-        ensures { S.Adds out.old (map (cell_of centre right self.entry.left.now self.entry.centre.now self.entry.right.now)
-            (range_with_len 0 (max (length self.entry.left.now) (max (centre + length self.entry.centre.now) (right + length self.entry.right.now))))) out.new }
+        ensures { S.Adds out.old
+            (map (cell_of centre right self.entry.left.now self.entry.centre.now self.entry.right.now)
+            (range_with_len 0
+            (max (length self.entry.left.now)
+            (max (centre + length self.entry.centre.now) (right + length self.entry.right.now)))))
+            out.new }
     {
         let reach = self
             .left
@@ -162,7 +173,8 @@ pub(crate) fn set_parts<S: CellSink>(parts: TitleParts<'_>, line: usize, out: &m
     requires left { length parts.left.now < 2 ^ 32 }
     requires centre { length parts.centre.now < 2 ^ 32 }
     requires right { length parts.right.now < 2 ^ 32 }
-    ensures { (t : Title) → t.left ≡ parts.entry.left.now → t.centre ≡ parts.entry.centre.now → t.right ≡ parts.entry.right.now
+    ensures { (t : Title) → t.left ≡ parts.entry.left.now → t.centre ≡ parts.entry.centre.now
+        → t.right ≡ parts.entry.right.now
         → S.Adds out.old (title_row line t) out.new }
 {
     let centre = line.saturating_sub(parts.centre.len()) / 2;

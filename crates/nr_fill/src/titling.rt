@@ -21,8 +21,10 @@ impl Line {
 
     /// Reads a cell of the title, where one is being read. It fails where the cell would pass the limit.
     pub fn put_title(&mut self, cell: Cell) -> Result<(), LineCells>
-        ensures result { result ≡ afforded (record self.old { collected = with_title_cell cell self.old.collected }) }
-        ensures ok { OnOk result (self.new ≡ record self.old { collected = with_title_cell cell self.old.collected }) }
+        ensures result { result
+            ≡ afforded (record self.old { collected = with_title_cell cell self.old.collected }) }
+        ensures ok { OnOk result (self.new ≡ record self.old
+            { collected = with_title_cell cell self.old.collected }) }
         ensures err { OnErr result (self.new ≡ self.old) }
     {
         let Some(_title) = self.title else {

@@ -21,7 +21,13 @@ impl WordState {
     /// A word without cells.
     #[inline]
     pub(crate) fn new(gap: u16) -> Self
-        ensures { result ≡ record { join = Join.Gap gap; pending = Pending.Nothing; blanks = 0; parted = 0; wide = 0 } }
+        ensures { result ≡ record {
+          join = Join.Gap gap;
+          pending = Pending.Nothing;
+          blanks = 0;
+          parted = 0;
+          wide = 0;
+        } }
     {
         WordState {
             join: Join::Gap(gap),
@@ -130,8 +136,10 @@ impl Line {
     /// pass the limit.
     #[inline(always)]
     pub fn put(&mut self, margins: Margins, cell: Cell, behind: Behind) -> Result<(), LineCells>
-        ensures result { result ≡ afforded (record self.old { collected = add_cell margins behind cell self.old.collected }) }
-        ensures ok { OnOk result (self.new ≡ record self.old { collected = add_cell margins behind cell self.old.collected }) }
+        ensures result { result
+            ≡ afforded (record self.old { collected = add_cell margins behind cell self.old.collected }) }
+        ensures ok { OnOk result (self.new ≡ record self.old
+            { collected = add_cell margins behind cell self.old.collected }) }
         ensures err { OnErr result (self.new ≡ self.old) }
     {
         if self.text_measure() == self.limit {
@@ -148,7 +156,10 @@ impl Line {
     fn push_cell(&mut self, cell: Cell, behind: Behind)
         requires room { text_cells self.old.collected < self.old.limit }
         requires no_title { self.old.collected.title ≡ None }
-        ensures { self.new ≡ record self.old { collected = record (in_word (add_cell_behind behind cell) self.old.collected) { sentence = ends_sentence cell } } }
+        ensures { self.new ≡ record self.old {
+          collected = record (in_word (add_cell_behind behind cell) self.old.collected)
+              { sentence = ends_sentence cell };
+        } }
     {
         self.sentence = ends_sentence(cell);
         if let Some(word) = &mut self.word {
@@ -163,8 +174,10 @@ impl Line {
     /// would pass the limit. Break points are kept, since the word may end in a line that is filled: `join_word` is to
     /// be called where it ends in one that is not.
     pub fn put_blank(&mut self, margins: Margins) -> Result<(), LineCells>
-        ensures result { result ≡ afforded (record self.old { collected = add_blank margins self.old.collected }) }
-        ensures ok { OnOk result (self.new ≡ record self.old { collected = add_blank margins self.old.collected }) }
+        ensures result { result
+            ≡ afforded (record self.old { collected = add_blank margins self.old.collected }) }
+        ensures ok { OnOk result (self.new ≡ record self.old
+            { collected = add_blank margins self.old.collected }) }
         ensures err { OnErr result (self.new ≡ self.old) }
     {
         if self.text_measure() == self.limit {
@@ -180,7 +193,10 @@ impl Line {
     fn push_blank(&mut self)
         requires room { text_cells self.old.collected < self.old.limit }
         requires no_title { self.old.collected.title ≡ None }
-        ensures { self.new ≡ record self.old { collected = record (in_word add_blank_to self.old.collected) { sentence = false } } }
+        ensures { self.new ≡ record self.old {
+          collected = record (in_word add_blank_to self.old.collected)
+              { sentence = false };
+        } }
     {
         self.sentence = false;
         if let Some(word) = &mut self.word {
@@ -192,8 +208,10 @@ impl Line {
     /// Reads n equal cells of a word, none or more, as one addition; where there are none, blanks before them are kept all
     /// the same. It fails where they would pass the limit.
     pub fn put_cells(&mut self, margins: Margins, cell: Cell, n: usize) -> Result<(), LineCells>
-        ensures result { result ≡ afforded (record self.old { collected = add_cells margins cell n self.old.collected }) }
-        ensures ok { OnOk result (self.new ≡ record self.old { collected = add_cells margins cell n self.old.collected }) }
+        ensures result { result
+            ≡ afforded (record self.old { collected = add_cells margins cell n self.old.collected }) }
+        ensures ok { OnOk result (self.new ≡ record self.old
+            { collected = add_cells margins cell n self.old.collected }) }
         ensures err { OnErr result (self.new ≡ self.old) }
     {
         if n > self.limit - self.text_measure() {
@@ -213,7 +231,10 @@ impl Line {
     fn push_cells(&mut self, cell: Cell, n: usize)
         requires room { text_cells self.old.collected + n ≤ self.old.limit }
         requires no_title { self.old.collected.title ≡ None }
-        ensures { self.new ≡ record self.old { collected = record (in_word (append (replicate n cell)) self.old.collected) { sentence = ends_sentence cell } } }
+        ensures { self.new ≡ record self.old {
+          collected = record (in_word (append (replicate n cell)) self.old.collected)
+              { sentence = ends_sentence cell };
+        } }
     {
         self.sentence = ends_sentence(cell);
         if let Some(word) = &mut self.word {

@@ -39,7 +39,8 @@ escape_name_len long (b ∷ bs) =
 
 -- what stands before a `]`; without one, nothing
 abbrev pub bracketed : List ℕ → List ℕ
-bracketed text = if len_before (code "]") text == length text then [] else take (len_before (code "]") text) text
+bracketed text =
+    if len_before (code "]") text == length text then [] else take (len_before (code "]") text) text
 
 -- a sign, if there is one
 abbrev pub is_sign : ℕ → Bool
@@ -68,4 +69,5 @@ digit_len (b ∷ bs) = if is_digit b then 1 else 0
 
 abbrev pub size_len : List ℕ → ℕ
 size_len [] = 0
-size_len (b ∷ bs) = if is_sign b || (nat_le (code "1") b && nat_le b (code "3")) then 1 + digit_len bs else digit_len (b ∷ bs)
+size_len (b ∷ bs) = if is_sign b || (nat_le (code "1") b && nat_le b (code "3")) then 1 + digit_len bs
+    else digit_len (b ∷ bs)

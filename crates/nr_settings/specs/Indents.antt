@@ -15,7 +15,8 @@ changed (Some width) k = record { value = width; previous = k.value }
 
 -- `±N` of a line: rounded, and at least so wide; its signs count from the old width
 abbrev pub new_width : ℕ → List ℕ → ℕ → ℕ → Option ℕ
-new_width least line v old = option_map (λ change. width_from least (applied change (pos old))) (first_change Em v (pos 0) line)
+new_width least line v old =
+    option_map (λ change. width_from least (applied change (pos old))) (first_change Em v (pos 0) line)
 
 -- `.in ±N`: the indent
 abbrev pub in_ : List ℕ → ℕ → Indents → Indents
@@ -57,4 +58,11 @@ abbrev pub steady : ℕ → Kept
 steady width = record { value = width; previous = width }
 
 abbrev pub first_indents : Indents
-first_indents = record { indent = steady 0; next_indent = None; page_offset = steady 0; line_length = steady 1560; title_length = steady 1560 }
+first_indents =
+    record {
+      indent = steady 0;
+      next_indent = None;
+      page_offset = steady 0;
+      line_length = steady 1560;
+      title_length = steady 1560;
+    }

@@ -13,7 +13,8 @@ use Rattle.nr_settings.specs.declared.motions.Repeated.{Repeated}
 -- N rounded to a multiple of 24, 32760 at most; none where it is absent, invalid or negative
 abbrev pub motion_by : Option ℤ → Option ℕ
 motion_by None = None
-motion_by (Some units) = if int_lt (nearest_multiple 24 units) (pos 0) then None else Some (width_from 0 units)
+motion_by (Some units) =
+    if int_lt (nearest_multiple 24 units) (pos 0) then None else Some (width_from 0 units)
 
 -- `\h'N'`: the width
 abbrev pub motion : ℕ → ℤ → List ℕ → Option ℕ
@@ -34,7 +35,8 @@ rule_byte [] = code "_"
 rule_byte (b ∷ bs) = if b == code "\\" then behind_ampersand bs else first_printing (b ∷ bs)
 
 abbrev pub rule_read : List ℕ → Read → Repeated
-rule_read argument read = record { cells = unwrap_or (motion_by read.value) 0 / 24; byte = rule_byte (drop read.used argument) }
+rule_read argument read =
+    record { cells = unwrap_or (motion_by read.value) 0 / 24; byte = rule_byte (drop read.used argument) }
 
 abbrev pub rule : ℕ → ℤ → List ℕ → Repeated
 rule v here argument = rule_read argument (read_of (context Em v here) argument)

@@ -16,7 +16,8 @@ new_length None old = 2640
 new_length (Some change) old = height_of (applied change (pos old))
 
 abbrev pub pl : List ℕ → ℤ → Pages → Pages
-pl line here s = record s { page_length = new_length (first_change VerticalSpace s.spacing here line) s.page_length }
+pl line here s =
+    record s { page_length = new_length (first_change VerticalSpace s.spacing here line) s.page_length }
 
 -- `.vs N`: the vertical space; without N the one before the last change
 abbrev pub with_spacing : Option ℤ → Pages → Pages
@@ -40,8 +41,17 @@ pc line s = record s { number_character = byte_in line }
 -- `.bp ±N`, `.pn ±N`: the number of a page, of which the signs count from the number at hand. One that is out of range
 -- counts as absent.
 abbrev pub page_number : List ℕ → ℕ → ℤ → Option ℤ
-page_number line v number = option_and_then (λ change. in_range (applied change number)) (first_change OneUnit v (pos 0) line)
+page_number line v number =
+    option_and_then (λ change. in_range (applied change number)) (first_change OneUnit v (pos 0) line)
 
 -- those at first: pages of 11 inches, lines of a sixth, `%` for the page number
 abbrev pub first_pages : Pages
-first_pages = record { page_length = 2640; spacing = 40; previous_spacing = 40; no_space = false; mark = 0; number_character = Some (code "%") }
+first_pages =
+    record {
+      page_length = 2640;
+      spacing = 40;
+      previous_spacing = 40;
+      no_space = false;
+      mark = 0;
+      number_character = Some (code "%");
+    }

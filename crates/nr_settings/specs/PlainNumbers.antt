@@ -24,10 +24,12 @@ behind_digits s (suc i) n = whole s n
 
 -- an operand may begin at s, with a digit
 pub record BeginsOperand (s : Scan) : Type 0 where
-  pub takes : (c : Ctx) (k : ℕ) (longest : Read) (b : ℕ) (bs : List ℕ) → 48 ≤ b → b ≤ 57 → read_on c s k longest (b ∷ bs) ≡ read_on c (whole s (b - 48)) (k + 1) longest bs
+  pub takes : (c : Ctx) (k : ℕ) (longest : Read) (b : ℕ) (bs : List ℕ) → 48 ≤ b → b ≤ 57
+      → read_on c s k longest (b ∷ bs) ≡ read_on c (whole s (b - 48)) (k + 1) longest bs
 
 -- Where an operand begins, the first i bytes of a text are read as digits that write n.
 pub record ReadsDigits (text : List ℕ) (i n : ℕ) : Type 0 where
   pub first : i ≡ 0 → n ≡ 0
   pub most : n ≤ 9999
-  pub known : (c : Ctx) (s : Scan) → BeginsOperand s → (k l : ℕ) (longest : Read) → l ≡ k + i → read_on c s k longest text ≡ read_on c (behind_digits s i n) l longest (drop i text)
+  pub known : (c : Ctx) (s : Scan) → BeginsOperand s → (k l : ℕ) (longest : Read) → l ≡ k + i
+      → read_on c s k longest text ≡ read_on c (behind_digits s i n) l longest (drop i text)

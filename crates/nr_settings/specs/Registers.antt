@@ -20,7 +20,8 @@ register_change name step (Some change) = Some (record { name = name; change = c
 abbrev pub nr_named : ℕ → List ℕ → Option (List ℕ) → Option RegisterChange
 nr_named v rest None = None
 nr_named v rest (Some name) =
-    register_change name (first_value OneUnit v (pos 0) (behind_number rest)) (first_change OneUnit v (pos 0) rest)
+    register_change name (first_value OneUnit v (pos 0) (behind_number rest))
+    (first_change OneUnit v (pos 0) rest)
 
 abbrev pub nr : List ℕ → Bool → ℕ → Option RegisterChange
 nr line long v = nr_named v (behind_name long line) (name_in long line)
@@ -42,7 +43,8 @@ format_of (b ∷ bs) =
 -- `.af R c`: R takes the format c. Without R or c nothing changes.
 abbrev pub af_named : List ℕ → Option (List ℕ) → Option FormatChange
 af_named rest None = None
-af_named rest (Some name) = option_map (λ format. record { name = name; format = format }) (format_of (word_in rest))
+af_named rest (Some name) =
+    option_map (λ format. record { name = name; format = format }) (format_of (word_in rest))
 
 abbrev pub af : List ℕ → Bool → Option FormatChange
 af line long = af_named (behind_name long line) (name_in long line)

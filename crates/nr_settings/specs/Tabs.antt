@@ -17,7 +17,8 @@ use Rattle.nr_settings.specs.declared.tabs.Tabs.{Tabs}
 -- the arguments of a line that are numbers, at most so many
 abbrev pub numbers_in : ℕ → List ℕ → List (List ℕ)
 numbers_in zero line = []
-numbers_in (suc n) line = if length (number_in line) == 0 then [] else number_in line ∷ numbers_in n (behind_number line)
+numbers_in (suc n) line =
+    if length (number_in line) == 0 then [] else number_in line ∷ numbers_in n (behind_number line)
 
 -- `+N` counts from the stop before.
 abbrev pub is_relative : List ℕ → Bool
@@ -40,7 +41,8 @@ column_of (negsuc n) = 0
 
 -- one stop more: there are 32 at most
 abbrev pub planted : StopKind → ℤ → Ruler → Ruler
-planted kind place r = record { stops = r.stops ++ record { column = column_of place; kind = kind } ∷ []; place = place }
+planted kind place r =
+    record { stops = r.stops ++ record { column = column_of place; kind = kind } ∷ []; place = place }
 
 abbrev pub with_place : Bool → StopKind → Option ℤ → Ruler → Ruler
 with_place relative kind None r = r
@@ -54,7 +56,8 @@ with_read relative number read r = with_place relative (kind_of (slice_get numbe
 
 abbrev pub with_stop : ℕ → List ℕ → Ruler → Ruler
 with_stop v argument r =
-    with_read (is_relative argument) (behind_plus argument) (read_of (context Em v (pos 0)) (behind_plus argument)) r
+    with_read (is_relative argument) (behind_plus argument)
+    (read_of (context Em v (pos 0)) (behind_plus argument)) r
 
 abbrev pub with_stops : ℕ → List (List ℕ) → Ruler → Ruler
 with_stops v [] r = r

@@ -31,8 +31,10 @@ escaped long v c text Argument = of_width 2 0
 escaped long v c text Named = of_width (1 + escape_name_len long text) 0
 escaped long v c text Register = of_width (1 + register_len long text) 0
 escaped long v c text Pair = of_width 3 (special_width (special_of (take 2 text)))
-escaped long v c text Bracket = of_width (2 + len_before (code "]") text) (special_width (special_of (bracketed text)))
-escaped long v c text Motion = of_width (1 + delimited_len text) (unwrap_or (motion v (pos 0) (delimited text)) 0)
+escaped long v c text Bracket =
+    of_width (2 + len_before (code "]") text) (special_width (special_of (bracketed text)))
+escaped long v c text Motion =
+    of_width (1 + delimited_len text) (unwrap_or (motion v (pos 0) (delimited text)) 0)
 escaped long v c text Delimited = of_width (1 + delimited_len text) 0
 escaped long v c text Size = of_width (1 + size_len text) 0
 escaped long v c text Plain = of_width 1 (byte_width c)
@@ -48,7 +50,8 @@ element_of long v b text = if b == code "\\" then behind_backslash long v text e
 -- the sum of the elements' widths, where so many bytes still belong to the element before
 abbrev pub widths : Bool → ℕ → ℕ → List ℕ → ℕ
 widths long v more [] = 0
-widths long v zero (b ∷ text) = (element_of long v b text).width + widths long v (element_of long v b text).more text
+widths long v zero (b ∷ text) =
+    (element_of long v b text).width + widths long v (element_of long v b text).more text
 widths long v (suc more) (b ∷ text) = widths long v more text
 
 abbrev pub width_of : Bool → ℕ → List ℕ → ℕ
