@@ -65,7 +65,8 @@ behind_held held n (Some b) = if nat_lt (n + 1) held then dues.Release held (n +
 behind_held held n None = if nat_lt (n + 1) held then dues.Release held (n + 1) None else dues.Look
 
 abbrev pub act_release : {K : Type 0} → ℕ → ℕ → Option ℕ → Stored K → Reader → Acted K
-act_release held n b v r = adding_byte (slice_index (last_line r.half.notes.defining) n) (behind_held held n b) v r
+act_release held n b v r =
+    adding_byte (slice_index (last_line r.half.notes.defining) n) (behind_held held n b) v r
 
 -- the text takes its name, where it is kept
 abbrev pub naming : {K : Type 0} → Reader → Stored K → Stored K
@@ -155,10 +156,13 @@ act dues.Define v r = done events.Nothing (naming r v) (idle r)
 act dues.DefineAndCall v r = done events.Nothing (naming r v) (then_due (behind_definition r) r)
 act dues.CallEnding v r = splicing_name r.half.notes.defining.ending v r
 act dues.Splice v r = splicing_name r.half.notes.asked v r
-act (dues.Register signs.None) v r = splicing_bytes (register_text (register_of (find r.half.notes.asked v.registers))) v r
+act (dues.Register signs.None) v r =
+    splicing_bytes (register_text (register_of (find r.half.notes.asked v.registers))) v r
 -- the step is added or taken away first
-act (dues.Register signs.Plus) v r = done events.Nothing (stepped r.half.notes.asked true v) (then_due (dues.Register signs.None) r)
-act (dues.Register signs.Minus) v r = done events.Nothing (stepped r.half.notes.asked false v) (then_due (dues.Register signs.None) r)
+act (dues.Register signs.Plus) v r =
+    done events.Nothing (stepped r.half.notes.asked true v) (then_due (dues.Register signs.None) r)
+act (dues.Register signs.Minus) v r =
+    done events.Nothing (stepped r.half.notes.asked false v) (then_due (dues.Register signs.None) r)
 -- a missing argument is empty
 act (dues.Argument n) v r = splicing_bytes (argument v.arguments n) v r
 act (dues.Put b) v r = done events.Nothing (gathering b v) (idle r)

@@ -60,7 +60,14 @@ weight_of_due-le d = omega arith
 weight_by-le : (d : Due) (m : Mode) (e : Escape) → weight_by d m e ≤ 272 + held_by_mode m + held_by_due d
 weight_by-le dues.Seek m e = omega (arith, weight_of_escape-le 156 e)
 weight_by-le (dues.Judge b) m e = omega (arith, weight_of_escape-le 156 e)
-weight_by-le d m e = omega (arith, weight_of_due-le d, weight_of_mode-le m, weight_of_backslash-le m, weight_of_escape-le (weight_of_backslash m) e)
+weight_by-le d m e =
+    omega (
+      arith,
+      weight_of_due-le d,
+      weight_of_mode-le m,
+      weight_of_backslash-le m,
+      weight_of_escape-le (weight_of_backslash m) e,
+    )
 
 weight_of_stage-le : (s : Stage) → weight_of_stage s ≤ 368
 weight_of_stage-le stages.Sign = omega arith
@@ -68,10 +75,12 @@ weight_of_stage-le s = omega arith
 
 weight_of_asks-le : (asks : List Ask) → sum_by weight_of_ask asks ≤ 368 * length asks
 weight_of_asks-le [] = omega arith
-weight_of_asks-le (a ∷ asks) = omega (arith, sum_by-cons weight_of_ask a asks, weight_of_stage-le a.stage, weight_of_asks-le asks)
+weight_of_asks-le (a ∷ asks) =
+    omega (arith, sum_by-cons weight_of_ask a asks, weight_of_stage-le a.stage, weight_of_asks-le asks)
 
 pub weight_of_half-le : (h : Half) → weight_of_half h ≤ 272 + 368 * length h.asks + held_back h
-weight_of_half-le h = omega (arith, weight_by-le h.reading.due h.reading.mode h.reading.escape, weight_of_asks-le h.asks)
+weight_of_half-le h =
+    omega (arith, weight_by-le h.reading.due h.reading.mode h.reading.escape, weight_of_asks-le h.asks)
 
 -- ---- failures
 
@@ -81,7 +90,8 @@ and_not true false going = refl
 and_not false failed going = refl
 
 -- where the source has not failed, a read fault is that of this very call
-pub fails_now-going : {X : Type 0} (ahead : Ahead) (r : Result X Refusal) → has_failed ahead ≡ false → fails_now ahead r ≡ is_read_fault r
+pub fails_now-going : {X : Type 0} (ahead : Ahead) (r : Result X Refusal) → has_failed ahead ≡ false
+    → fails_now ahead r ≡ is_read_fault r
 fails_now-going ahead r going = and_not (is_read_fault r) (has_failed ahead) going
 
 -- ---- the place that is told
@@ -91,7 +101,8 @@ storing_told : (x : Result (Unit {0}) StoredBytes) → storing_by x ≡ Err refu
 storing_told (Ok x) is = cc
 storing_told (Err e) is = cc
 
-nothing_uncounted : {K : Type 0} (d : Due) (e : Escape) (burst : ℕ) (s : Situation K) → s.reader.half.reading.due ≡ d → Refuses s refusals.ReadFault → uncounted_by d e burst ≡ 0
+nothing_uncounted : {K : Type 0} (d : Due) (e : Escape) (burst : ℕ) (s : Situation K)
+    → s.reader.half.reading.due ≡ d → Refuses s refusals.ReadFault → uncounted_by d e burst ≡ 0
 nothing_uncounted dues.Begin e burst s is h =
     let refused = subst (λ d. RefusesBy (is_look d) s refusals.ReadFault) is h in
     let answered = sym (ap (λ d. answer d s.stored s.reader) is) ∙ refused in
@@ -99,7 +110,10 @@ nothing_uncounted dues.Begin e burst s is h =
 nothing_uncounted d e burst s is h = refl
 
 -- where the source fails, all bytes that were there count
-pub all_counted : {K : Type 0} (s : Situation K) → Refuses s refusals.ReadFault → place_told s.coming.taken s.reader ≡ s.coming.taken
+pub all_counted : {K : Type 0} (s : Situation K) → Refuses s refusals.ReadFault
+    → place_told s.coming.taken s.reader ≡ s.coming.taken
 all_counted s h =
-    let none = nothing_uncounted s.reader.half.reading.due s.reader.half.reading.escape s.reader.burst s refl h in
+    let none =
+    nothing_uncounted s.reader.half.reading.due s.reader.half.reading.escape s.reader.burst
+    s refl h in
     omega (arith, none)

@@ -51,13 +51,18 @@ told_of s e = tells.Event e
 abbrev pub taken_at : {K : Type 0} → Met → Situation K → Move K
 taken_at m s = record {
   situation = situation (left s.stored.levels s.stored) (behind (shown s.stored.levels) s.coming)
-      (record s.reader { half = m.half; burst = burst_behind s.coming (behind (shown s.stored.levels) s.coming) s.reader.burst });
+      (record s.reader {
+        half = m.half;
+        burst = burst_behind s.coming (behind (shown s.stored.levels) s.coming)
+            s.reader.burst;
+      });
   told = told_of (shown s.stored.levels) m.event;
 }
 
 -- it stays
 abbrev pub stays_at : {K : Type 0} → Met → Situation K → Move K
-stays_at m s = record { situation = record s { reader = record s.reader { half = m.half } }; told = tells.Event m.event }
+stays_at m s =
+    record { situation = record s { reader = record s.reader { half = m.half } }; told = tells.Event m.event }
 
 abbrev pub met_at : {K : Type 0} → Met → Situation K → Move K
 met_at m s = if m.takes then taken_at m s else stays_at m s
@@ -72,7 +77,11 @@ acting s = act s.reader.half.reading.due s.stored s.reader
 
 -- it is done
 abbrev pub acted_at : {K : Type 0} → Situation K → Move K
-acted_at s = record { situation = situation (acting s).stored s.coming (acting s).reader; told = tells.Event (acting s).event }
+acted_at s =
+    record {
+      situation = situation (acting s).stored s.coming (acting s).reader;
+      told = tells.Event (acting s).event;
+    }
 
 -- ---- a move
 
@@ -105,15 +114,19 @@ Refuses s r = RefusesBy (looks s) s r
 
 -- where it stays once a move was refused so: the same is refused from then on
 abbrev pub stuck : {K : Type 0} → Refusal → Situation K → Situation K
-stuck r s = situation (stored_by (Err r) (acting s).stored s.stored) s.coming (reader_by (Err r) (acting s).reader s.reader)
+stuck r s =
+    situation (stored_by (Err r) (acting s).stored s.stored) s.coming
+    (reader_by (Err r) (acting s).reader s.reader)
 
 -- the program stands where the machine does
-pub record Stands {K : Type 0} (s : Situation K) (v : Stored K) (r : Reader) (p : Reached) (supply : Option Supply) : Type 0 where
+pub record Stands {K : Type 0} (s : Situation K) (v : Stored K) (r : Reader) (p : Reached)
+    (supply : Option Supply) : Type 0 where
   pub stored : v ≡ s.stored
   pub reader : r ≡ s.reader
   pub coming : HoldsComing s.coming p supply
 
 -- a move was made, or why not
-abbrev pub AfterMove : {K : Type 0} → Situation K → Result (Told K) Refusal → Stored K → Reader → Reached → Option Supply → Type 0
+abbrev pub AfterMove : {K : Type 0} → Situation K → Result (Told K) Refusal → Stored K → Reader → Reached
+    → Option Supply → Type 0
 AfterMove s (Ok t) v r p supply = (t ≡ (move s).told) × Stands (move s).situation v r p supply × Goes s
 AfterMove s (Err e) v r p supply = Refuses s e × Stands (stuck e s) v r p supply

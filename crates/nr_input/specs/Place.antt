@@ -50,7 +50,12 @@ front (shows.Item x) c = element_front x
 front (shows.Resume k) c = fronts.Resume
 
 abbrev pub behind_front_of : List ℕ → Coming → Coming
-behind_front_of (b ∷ bs) c = record { supply = record { bytes = bs; faults = one_later c.supply.faults }; taken = c.taken + 1; inside = not (b == code "\n") }
+behind_front_of (b ∷ bs) c =
+    record {
+      supply = record { bytes = bs; faults = one_later c.supply.faults };
+      taken = c.taken + 1;
+      inside = not (b == code "\n");
+    }
 behind_front_of [] c = record c { inside = false }
 
 -- what is to come of the source after the item in front of the list
@@ -99,7 +104,8 @@ abbrev pub HoldsSupply : Coming → Ahead → Option Supply → Type 0
 HoldsSupply c Unseen supply = supply ≡ Some c.supply
 HoldsSupply c End supply = (c.supply.bytes ≡ []) × MaySee c
 HoldsSupply c (Byte b) supply =
-    (bs : List ℕ) × (c.supply.bytes ≡ b ∷ bs) × MaySee c × (supply ≡ Some (record { bytes = bs; faults = one_later c.supply.faults }))
+    (bs : List ℕ) × (c.supply.bytes ≡ b ∷ bs) × MaySee c
+    × (supply ≡ Some (record { bytes = bs; faults = one_later c.supply.faults }))
 HoldsSupply c Failed supply = RefusesSight c refusals.ReadFault
 HoldsSupply c TooMany supply = RefusesSight c refusals.TooLong
 
@@ -124,7 +130,8 @@ RefusesLook shows.Nothing c r = RefusesSight c r
 RefusesLook s c r = ⊥
 
 -- the front of the list was looked at, or not
-abbrev pub AfterLook : {K : Type 0} → Shown K → Coming → Result Front Refusal → Reached → Option Supply → Type 0
+abbrev pub AfterLook : {K : Type 0} → Shown K → Coming → Result Front Refusal → Reached
+    → Option Supply → Type 0
 AfterLook s c (Ok f) p supply = (f ≡ front s c) × HoldsComing c p supply × MayLook s c
 AfterLook s c (Err r) p supply = HoldsComing c p supply × RefusesLook s c r
 

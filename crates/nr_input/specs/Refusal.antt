@@ -111,10 +111,12 @@ answered (Ok x) a = Ok a
 answered (Err e) a = Err e
 
 -- what comes of a call that is allowed or not
-abbrev pub called_by : {K A : Type 0} → Result (Unit {0}) Refusal → Stored K → Reader → A → Stored K → Reader → Called K (Result A Refusal)
+abbrev pub called_by : {K A : Type 0} → Result (Unit {0}) Refusal → Stored K → Reader → A → Stored K → Reader
+    → Called K (Result A Refusal)
 called_by x new behind a v r = called (stored_by x new v) (reader_by x behind r) (answered x a)
 
-abbrev pub acted_by : {K : Type 0} → Result (Unit {0}) Refusal → Acted K → Stored K → Reader → Called K (Result Event Refusal)
+abbrev pub acted_by : {K : Type 0} → Result (Unit {0}) Refusal → Acted K → Stored K → Reader
+    → Called K (Result Event Refusal)
 acted_by x a v r = called_by x a.stored a.reader a.event v r
 
 -- what comes of what is due

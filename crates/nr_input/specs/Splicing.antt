@@ -15,7 +15,8 @@ use Rattle.nr_input.specs.Refusal.{Called, called, called_by, splicing_answer}
 
 -- They are spliced, the arguments staying in force.
 abbrev pub giving : {K : Type 0} → List ℕ → Stored K → Reader → Called K (Result (Unit {0}) Refusal)
-giving bytes v r = let new = reading_bytes bytes v in called_by (splicing_answer true new r) new (expanded r) tt v r
+giving bytes v r = let new = reading_bytes bytes v in
+    called_by (splicing_answer true new r) new (expanded r) tt v r
 
 -- ---- springing (CSTR 54, 7.5)
 
@@ -23,11 +24,14 @@ giving bytes v r = let new = reading_bytes bytes v in called_by (splicing_answer
 abbrev pub sprung_reader : Bool → Reader → Reader
 sprung_reader is_text r = if is_text then on_half sprung (expanded r) else r
 
-abbrev pub springing_text : {K : Type 0} → Bool → Stored K → Stored K → Reader → Called K (Result Bool Refusal)
-springing_text is_text new v r = called_by (splicing_answer is_text new r) new (sprung_reader is_text r) is_text v r
+abbrev pub springing_text : {K : Type 0} → Bool → Stored K → Stored K → Reader
+    → Called K (Result Bool Refusal)
+springing_text is_text new v r =
+    called_by (splicing_answer is_text new r) new (sprung_reader is_text r) is_text v r
 
 abbrev pub springing : {K : Type 0} → List ℕ → K → Stored K → Reader → Called K (Result Bool Refusal)
-springing name mode v r = springing_text (has_text name v) (entered name (words (find name v.names)) (Some mode) v) v r
+springing name mode v r =
+    springing_text (has_text name v) (entered name (words (find name v.names)) (Some mode) v) v r
 
 -- ---- definitions whose lines follow (CSTR 54, 7.1)
 
@@ -45,9 +49,12 @@ abbrev pub keeps : Definition → Bool
 keeps definitions.Ig = false
 keeps d = true
 
-abbrev pub beginning : {K : Type 0} → Result (Unit {0}) StoredBytes → Definition → List ℕ → List ℕ → Stored K → Reader → Called K (Result (Unit {0}) StoredBytes)
-beginning (Ok x) d name ending v r = called (base d name v) (on_half (defining name ending (keeps d)) r) (Ok x)
+abbrev pub beginning : {K : Type 0} → Result (Unit {0}) StoredBytes → Definition → List ℕ → List ℕ → Stored K
+    → Reader → Called K (Result (Unit {0}) StoredBytes)
+beginning (Ok x) d name ending v r =
+    called (base d name v) (on_half (defining name ending (keeps d)) r) (Ok x)
 beginning (Err e) d name ending v r = called v r (Err e)
 
-abbrev pub defining_lines : {K : Type 0} → Definition → List ℕ → List ℕ → Stored K → Reader → Called K (Result (Unit {0}) StoredBytes)
+abbrev pub defining_lines : {K : Type 0} → Definition → List ℕ → List ℕ → Stored K → Reader
+    → Called K (Result (Unit {0}) StoredBytes)
 defining_lines d name ending v r = beginning (base_answer d name v) d name ending v r

@@ -43,7 +43,8 @@ expansions_worth most burst stored = (most - burst) * expansion_worth stored
 
 abbrev pub weight_before_byte : {K : Type 0} → Stored K → Reached → Reader → ℕ
 weight_before_byte v p r =
-    256 * (items_left v.levels + newline_left p.inside) + expansions_worth r.most r.burst v.limit + weight_of_half r.half
+    256 * (items_left v.levels + newline_left p.inside) + expansions_worth r.most r.burst v.limit
+    + weight_of_half r.half
 
 -- what a byte of the source pays at least
 abbrev pub byte_worth : ℕ → ℕ → ℕ
@@ -65,14 +66,17 @@ risen old new = blanks_owed new - blanks_owed old
 
 -- A move was made: it is paid out of what may still come, and a byte that it takes pays this much or more. Of the blanks that
 -- are owed each that is told takes one off.
-pub record Pays {K : Type 0} (v : Stored K) (p : Reached) (r : Reader) (t : Told K) (v' : Stored K) (p' : Reached) (r' : Reader) : Type 0 where
+pub record Pays {K : Type 0} (v : Stored K) (p : Reached) (r : Reader) (t : Told K) (v' : Stored K)
+    (p' : Reached) (r' : Reader) : Type 0 where
   pub limit : v'.limit ≡ v.limit
   pub most : r'.most ≡ r.most
   pub pays : (worth : ℕ) → byte_worth r.most v.limit ≤ worth →
-      weight_before_byte v' p' r' + cost_of_told t + 178 * risen r.half r'.half + worth * p.taken ≤ weight_before_byte v p r + worth * p'.taken
+      weight_before_byte v' p' r' + cost_of_told t + 178 * risen r.half r'.half + worth * p.taken
+      ≤ weight_before_byte v p r + worth * p'.taken
   pub lead : IfLead t (blanks_owed r'.half + 1 ≡ blanks_owed r.half)
 
-abbrev pub PaysIfMade : {K : Type 0} → Stored K → Reached → Reader → Result (Told K) Refusal → Stored K → Reached → Reader → Type 0
+abbrev pub PaysIfMade : {K : Type 0} → Stored K → Reached → Reader → Result (Told K) Refusal → Stored K
+    → Reached → Reader → Type 0
 PaysIfMade v p r (Ok t) v' p' r' = Pays v p r t v' p' r'
 PaysIfMade v p r (Err e) v' p' r' = Unit {0}
 
@@ -82,7 +86,8 @@ PaysIfMade v p r (Err e) v' p' r' = Unit {0}
 pub record Splices {K : Type 0} (v : Stored K) (r : Reader) (v' : Stored K) (r' : Reader) : Type 0 where
   pub limit : v'.limit ≡ v.limit
   pub most : r'.most ≡ r.most
-  pub pays : (p : Reached) → weight_before_byte v' p r' + 3584 + 178 * risen r.half r'.half ≤ weight_before_byte v p r
+  pub pays : (p : Reached) → weight_before_byte v' p r' + 3584 + 178 * risen r.half r'.half
+      ≤ weight_before_byte v p r
 
 -- where no text is sprung nothing changes
 abbrev pub Springs : {K : Type 0} → Stored K → Reader → Result Bool Refusal → Stored K → Reader → Type 0

@@ -168,7 +168,9 @@ impl Reader {
     // The text of a name is spliced, with no arguments in force.
     fn splice<K: Copy>(&mut self, name: Name, store: &mut Store<K>) -> Result<Event, Refusal>
         ensures { let a = splicing_name name store.old self.old in
-            called store.new self.new result ≡ acted_by (splicing_answer (has_text name store.old) a.stored self.old) a store.old self.old }
+            called store.new self.new result
+            ≡ acted_by (splicing_answer (has_text name store.old) a.stored self.old) a
+            store.old self.old }
     {
         match store.enter(name) {
             Err(refusal) => Err(Refusal::from(refusal)),
@@ -205,7 +207,8 @@ impl Reader {
         store: &mut Store<K>,
     ) -> Result<Event, Refusal>
         ensures { let a = splicing_bytes bytes.now store.old self.old in
-            called store.new self.new result ≡ acted_by (splicing_answer true a.stored self.old) a store.old self.old }
+            called store.new self.new result ≡ acted_by (splicing_answer true a.stored self.old) a
+            store.old self.old }
     {
         match store.enter_bytes(bytes) {
             Err(refusal) => Err(Refusal::from(refusal)),
@@ -235,7 +238,8 @@ impl Reader {
     /// A register's step is added or taken away; it is spliced next.
     pub(crate) fn step<K: Copy>(&mut self, up: bool, store: &mut Store<K>) -> Result<Event, Refusal>
         ensures { called store.new self.new result
-            ≡ called (stepped self.old.half.notes.asked up store.old) (then_due (Due.Register Sign.None) self.old) (Ok Event.Nothing) }
+            ≡ called (stepped self.old.half.notes.asked up store.old)
+            (then_due (Due.Register Sign.None) self.old) (Ok Event.Nothing) }
     {
         store.step_register(self.half.notes.asked, up);
         self.half.reading.due = Due::Register(Sign::None);

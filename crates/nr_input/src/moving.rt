@@ -49,9 +49,12 @@ fn look<K: Copy, R: Source>(
 ) -> Result<Heard, Refusal>
     requires { is_look reader.old.half.reading.due ≡ true }
     ensures moved { (c : Coming) → HoldsComing c place.old (R.supply source.old) →
-        AfterMove (situation store.old c reader.old) (told_with mode.new result) store.new reader.new place.new (R.supply source.new) }
-    ensures failures { R.failures source.new ≡ counted_if (fails_now place.old.ahead result) (R.failures source.old) }
-    ensures pays { PaysIfMade store.old place.old reader.old (told_with mode.new result) store.new place.new reader.new }
+        AfterMove (situation store.old c reader.old) (told_with mode.new result) store.new reader.new
+        place.new (R.supply source.new) }
+    ensures failures { R.failures source.new ≡ counted_if (fails_now place.old.ahead result)
+        (R.failures source.old) }
+    ensures pays { PaysIfMade store.old place.old reader.old (told_with mode.new result) store.new
+        place.new reader.new }
     ensures diversions { diversions_in store.new.building ≤ diversions_in store.old.building }
     ensures limits { limits_of store.new reader.new ≡ limits_of store.old reader.old }
     ensures unfailed { OnOk result (has_failed place.new.ahead ≡ has_failed place.old.ahead) }
@@ -79,15 +82,19 @@ pub fn advance<K: Copy, R: Source>(
     mode: &mut K,
 ) -> Result<Heard, Refusal>
     ensures moved { (c : Coming) → HoldsComing c place.old (R.supply source.old) →
-        AfterMove (situation store.old c reader.old) (told_with mode.new result) store.new reader.new place.new (R.supply source.new) }
-    ensures failures { R.failures source.new ≡ counted_if (fails_now place.old.ahead result) (R.failures source.old) }
-    ensures pays { PaysIfMade store.old place.old reader.old (told_with mode.new result) store.new place.new reader.new }
+        AfterMove (situation store.old c reader.old) (told_with mode.new result) store.new reader.new
+        place.new (R.supply source.new) }
+    ensures failures { R.failures source.new ≡ counted_if (fails_now place.old.ahead result)
+        (R.failures source.old) }
+    ensures pays { PaysIfMade store.old place.old reader.old (told_with mode.new result) store.new
+        place.new reader.new }
     ensures diversions { diversions_in store.new.building ≤ diversions_in store.old.building }
     ensures limits { limits_of store.new reader.new ≡ limits_of store.old reader.old }
     ensures unfailed { OnOk result (has_failed place.new.ahead ≡ has_failed place.old.ahead) }
     // What the source refused is refused from then on.
     ensures keeps { KeepsRefusal result place.new.ahead }
-    ensures again { is_look reader.old.half.reading.due ≡ true → shown store.old.levels ≡ shows.Nothing → RefusesAgain place.old.ahead result }
+    ensures again { is_look reader.old.half.reading.due ≡ true → shown store.old.levels ≡ shows.Nothing
+        → RefusesAgain place.old.ahead result }
 {
     if reader.looks() {
         return look(place, reader, store, source, mode);

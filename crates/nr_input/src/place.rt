@@ -104,10 +104,12 @@ impl Place {
 
     // The byte in front of the source is read ahead, or its end is seen.
     fn see<R: Source>(&mut self, source: &mut R) -> Result<(), Refusal>
-        ensures sees { (c : Coming) → HoldsComing c self.old (R.supply source.old) → AfterSee c result self.new (R.supply source.new) }
+        ensures sees { (c : Coming) → HoldsComing c self.old (R.supply source.old)
+            → AfterSee c result self.new (R.supply source.new) }
         ensures seen { OnOk result (is_seen self.new.ahead ≡ true) }
         ensures stays { StaysThere self.old self.new }
-        ensures failures { R.failures source.new ≡ counted_if (fails_now self.old.ahead result) (R.failures source.old) }
+        ensures failures { R.failures source.new ≡ counted_if (fails_now self.old.ahead result)
+            (R.failures source.old) }
         ensures unfailed { OnOk result (has_failed self.new.ahead ≡ has_failed self.old.ahead) }
         ensures keeps { KeepsRefusal result self.new.ahead }
         ensures again { RefusesAgain self.old.ahead result }
@@ -175,11 +177,13 @@ impl Place {
         store: &Store<K>,
         source: &mut R,
     ) -> Result<Front, Refusal>
-        ensures looks { (c : Coming) → HoldsComing c self.old (R.supply source.old) → AfterLook (shown store.now.levels) c result self.new (R.supply source.new) }
+        ensures looks { (c : Coming) → HoldsComing c self.old (R.supply source.old)
+            → AfterLook (shown store.now.levels) c result self.new (R.supply source.new) }
         ensures ready { OnOk result (is_ready (shown store.now.levels) self.new.ahead ≡ true) }
         ensures front { IfOk result (λ f. f ≡ front_seen (shown store.now.levels) self.new) }
         ensures stays { StaysThere self.old self.new }
-        ensures failures { R.failures source.new ≡ counted_if (fails_now self.old.ahead result) (R.failures source.old) }
+        ensures failures { R.failures source.new ≡ counted_if (fails_now self.old.ahead result)
+            (R.failures source.old) }
         ensures unfailed { OnOk result (has_failed self.new.ahead ≡ has_failed self.old.ahead) }
         ensures keeps { KeepsRefusal result self.new.ahead }
         ensures again { shown store.now.levels ≡ shows.Nothing → RefusesAgain self.old.ahead result }
@@ -206,7 +210,8 @@ impl Place {
         ensures was { shown_with result mode.new ≡ shown store.old.levels }
         ensures store { store.new ≡ left store.old.levels store.old }
         ensures place { self.new ≡ passed_in (shown store.old.levels) self.old }
-        ensures takes { (c : Coming) → (supply : Option Supply) → HoldsComing c self.old supply → HoldsComing (behind (shown store.old.levels) c) self.new supply }
+        ensures takes { (c : Coming) → (supply : Option Supply) → HoldsComing c self.old supply
+            → HoldsComing (behind (shown store.old.levels) c) self.new supply }
     {
         let sight = store.take(mode);
         match sight {
@@ -219,7 +224,8 @@ impl Place {
     /// What is unread of the source is to come no more: the source is not asked again. Levels are the store's (CSTR 54, `.ex`).
     pub fn empty(&mut self)
         ensures place { self.new ≡ ended self.old }
-        ensures coming { (c : Coming) → (supply : Option Supply) → HoldsComing c self.old supply → HoldsComing (emptied c) self.new supply }
+        ensures coming { (c : Coming) → (supply : Option Supply) → HoldsComing c self.old supply
+            → HoldsComing (emptied c) self.new supply }
     {
         self.ahead = Ahead::End;
         self.inside = false;

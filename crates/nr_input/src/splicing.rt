@@ -98,7 +98,8 @@ impl Reader {
         name: Name,
         ending: Name,
     ) -> Result<(), StoredBytes>
-        ensures defines { called store.new self.new result ≡ defining_lines definition name ending store.old self.old }
+        ensures defines { called store.new self.new result ≡ defining_lines definition name ending
+            store.old self.old }
         ensures costs { OnOk result (Defines store.old self.old store.new self.new) }
         ensures limits { limits_of store.new self.new ≡ limits_of store.old self.old }
     {

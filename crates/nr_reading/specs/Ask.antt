@@ -87,7 +87,8 @@ spoiled a = record a { name = record a.name { bad = true } }
 
 -- the number of an argument is 1 to 9; another byte gives nothing
 abbrev pub argument_asked : ℕ → Ask → Answer
-argument_asked b a = if nat_le (code "1") b && nat_le b (code "9") then answers.Argument (b - 49) else answers.Ends a
+argument_asked b a =
+    if nat_le (code "1") b && nat_le b (code "9") then answers.Argument (b - 49) else answers.Ends a
 
 -- a name is one byte, or `(` and two, or in brackets where names may be long; a register's may have a sign before it
 abbrev pub answer_first : ℕ → Bool → Ask → Answer
@@ -110,7 +111,8 @@ answer_bracket b a =
 abbrev pub answer_digit : ℕ → Bool → Ask → Answer
 answer_digit b signed a =
     if not (is_digit b) then answers.Stops a
-    else (if not signed && nat_le (code "1") b && nat_le b (code "3") then answers.Goes (at_stage stages.Second a) else answers.Ends a)
+    else (if not signed && nat_le (code "1") b && nat_le b (code "3")
+    then answers.Goes (at_stage stages.Second a) else answers.Ends a)
 
 -- a byte that is no newline
 abbrev pub answer_byte : ℕ → Bool → Stage → Ask → Answer
@@ -120,7 +122,8 @@ answer_byte b long stages.Bracket a = answer_bracket b a
 answer_byte b long stages.Delimiter a = answers.Goes (at_stage (stages.Inside b) a)
 answer_byte b long (stages.Inside d) a = if b == d then answers.Ends a else answers.Keeps b
 answer_byte b long stages.Sign a =
-    if (b == code "+") || (b == code "-") then answers.Goes (at_stage (stages.Digit true) a) else answers.Turns (at_stage (stages.Digit false) a)
+    if (b == code "+") || (b == code "-") then answers.Goes (at_stage (stages.Digit true) a)
+    else answers.Turns (at_stage (stages.Digit false) a)
 answer_byte b long (stages.Digit signed) a = answer_digit b signed a
 answer_byte b long stages.Second a = if is_digit b then answers.Ends a else answers.Stops a
 
@@ -137,5 +140,7 @@ answer b long a = if b == code "\n" then answers.Stops (cut a.stage a) else answ
 abbrev pub is_given : List ℕ → Bool
 is_given [] = false
 is_given (b ∷ []) = (b == code ".") || (b == code "%")
-is_given (b ∷ c ∷ []) = (b == code ".") || ((b == code "n") && (c == code "l")) || ((b == code "d") && ((c == code "n") || (c == code "l")))
+is_given (b ∷ c ∷ []) =
+    (b == code ".") || ((b == code "n") && (c == code "l"))
+    || ((b == code "d") && ((c == code "n") || (c == code "l")))
 is_given (b ∷ c ∷ d ∷ bs) = b == code "."

@@ -21,7 +21,11 @@ answer_of found n = if n.condition.negated then not found else found
 -- The answers of `.ie` are remembered.
 abbrev pub remembering : Bool → Half → Half
 remembering found h = record h {
-  notes = record h.notes { answers = if h.notes.condition.remembers then remembered (answer_of found h.notes) h.notes.answers else h.notes.answers };
+  notes =
+      record h.notes {
+        answers = if h.notes.condition.remembers
+            then remembered (answer_of found h.notes) h.notes.answers else h.notes.answers;
+      };
 }
 
 abbrev pub judged : Bool → Half → Half
@@ -30,7 +34,8 @@ judged found h = in_mode (part_mode (answer_of found h.notes)) (remembering foun
 -- a condition begins
 abbrev pub conditional : Bool → Half → Half
 conditional remembers h =
-    in_mode modes.Condition (record h { notes = record h.notes { condition = record no_condition { remembers = remembers } } })
+    in_mode modes.Condition
+    (record h { notes = record h.notes { condition = record no_condition { remembers = remembers } } })
 
 -- `.el` takes the newest answer, and accepts where it was false; without one it rejects.
 abbrev pub else_mode : Option Bool → Mode
@@ -39,4 +44,5 @@ else_mode (Some answer) = part_mode (not answer)
 
 abbrev pub otherwise : Half → Half
 otherwise h =
-    in_mode (else_mode (slice_get h.notes.answers 0)) (record h { notes = record h.notes { answers = drop 1 h.notes.answers } })
+    in_mode (else_mode (slice_get h.notes.answers 0))
+    (record h { notes = record h.notes { answers = drop 1 h.notes.answers } })

@@ -16,7 +16,8 @@ use Rattle.nr_reading.specs.Step.{to, due, go, leave, tell, noting, leave_tellin
 
 -- A digit, or one of `( + - . |`, begins a number.
 abbrev pub begins_number : ℕ → Bool
-begins_number b = is_digit b || (b == code "(") || (b == code "+") || (b == code "-") || (b == code ".") || (b == code "|")
+begins_number b =
+    is_digit b || (b == code "(") || (b == code "+") || (b == code "-") || (b == code ".") || (b == code "|")
 
 -- `o`, `e`, `t`, `n`; a number; any other byte delimits two strings
 abbrev pub read_condition_byte : ℕ → Reading → Step
@@ -43,7 +44,8 @@ parentheses b depth = if b == code "(" then one_more depth else (if b == code ")
 -- A number ends before a blank or a `\` outside parentheses, and before the newline.
 abbrev pub read_number : ℕ → ℕ → Reading → Step
 read_number b depth r =
-    if (b == code "\n") || ((depth == 0) && (is_blank b || (b == code "\\"))) then leave_telling (events.Judge questions.Number) (to (modes.Skip 0) r)
+    if (b == code "\n") || ((depth == 0) && (is_blank b || (b == code "\\")))
+    then leave_telling (events.Judge questions.Number) (to (modes.Skip 0) r)
     else noting (notes.Line b) (to (modes.Number (parentheses b depth)) r)
 
 -- The newline ends the strings as far as they were read.

@@ -36,7 +36,8 @@ read_request_blanks b r = if is_blank b then go r else leave_noting notes.NewLin
 
 -- All arguments and the newline are read first.
 abbrev pub read_request_line : ℕ → Reading → Step
-read_request_line b r = if b == code "\n" then tell events.Request (to modes.Start r) else noting (notes.Line b) r
+read_request_line b r =
+    if b == code "\n" then tell events.Request (to modes.Start r) else noting (notes.Line b) r
 
 -- ---- macros
 
@@ -65,4 +66,5 @@ read_quoted b r =
 -- Two quotes are one; a single one ends the argument.
 abbrev pub read_quote : ℕ → Reading → Step
 read_quote b r =
-    if b == code "\"" then go (due (dues.Put (code "\"")) (to modes.Quoted r)) else leave (due dues.EndArgument (to modes.MacroGap r))
+    if b == code "\"" then go (due (dues.Put (code "\"")) (to modes.Quoted r))
+    else leave (due dues.EndArgument (to modes.MacroGap r))

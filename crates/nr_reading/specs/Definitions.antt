@@ -33,11 +33,13 @@ in_body b = if b == code "\n" then modes.BodyStart 0 else modes.Body
 -- the line is not the last: the bytes that were held back belong to the text
 abbrev pub not_last : ℕ → Defining → ℕ → Reading → Step
 not_last b d held r =
-    if held == 0 then go (due (kept_byte d b) (to (in_body b) r)) else go (due (released d held (Some b)) (to (in_body b) r))
+    if held == 0 then go (due (kept_byte d b) (to (in_body b) r))
+    else go (due (released d held (Some b)) (to (in_body b) r))
 
 -- one more byte of the last line came
 abbrev pub nearer_last : Defining → ℕ → Mode
-nearer_last d held = if (held + 1 == length (last_line d)) && not (ends_whole d) then modes.BodyEnd else modes.BodyStart (held + 1)
+nearer_last d held = if (held + 1 == length (last_line d)) && not (ends_whole d) then modes.BodyEnd
+    else modes.BodyStart (held + 1)
 
 -- The bytes that may begin the last line are held back.
 abbrev pub read_body_start : ℕ → Defining → ℕ → Reading → Step
@@ -57,4 +59,5 @@ read_body_end b r = if b == code "\n" then go (due dues.DefineAndCall (to modes.
 abbrev pub over_body_start : Defining → ℕ → Reading → Step
 over_body_start d held r =
     if held == 0 then leave (due dues.Define (to modes.Start r))
-    else (if nat_lt held (length (last_line d)) then leave (due (released d held None) (to modes.Body r)) else leave (to modes.BodyEnd r))
+    else (if nat_lt held (length (last_line d)) then leave (due (released d held None) (to modes.Body r))
+    else leave (to modes.BodyEnd r))

@@ -31,7 +31,8 @@ escaped b argument =
 abbrev pub offer_byte : ℕ → Escape → Bool → Offer
 offer_byte b escapes.Plain argument = if b == code "\\" then offers.Skip escapes.Begun else offers.Byte b
 offer_byte b escapes.Begun argument = escaped b argument
-offer_byte b escapes.Comment argument = if b == code "\n" then offers.Byte (code "\n") else offers.Skip escapes.Comment
+offer_byte b escapes.Comment argument =
+    if b == code "\n" then offers.Byte (code "\n") else offers.Skip escapes.Comment
 
 -- A cell of a diversion is read as its byte, which never begins an escape.
 abbrev pub offer_cell : Cell → Escape → Offer

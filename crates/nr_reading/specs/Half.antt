@@ -43,7 +43,8 @@ met h seen = record { half = h; event = seen.event; takes = seen.takes }
 
 -- nothing is half read
 abbrev pub nothing_half : Half
-nothing_half = record { reading = at_a_line; signs = first_signs; asks = []; delimited = no_texts; notes = no_notes }
+nothing_half =
+    record { reading = at_a_line; signs = first_signs; asks = []; delimited = no_texts; notes = no_notes }
 
 -- ---- an escape whose argument is still to be read begins
 

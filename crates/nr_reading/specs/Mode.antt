@@ -41,7 +41,14 @@ reads_name m = false
 
 -- at the beginning of a line, with nothing half read
 abbrev pub at_a_line : Reading
-at_a_line = record { mode = modes.Start; escape = escapes.Plain; due = dues.Look; continued = false; no_break = false }
+at_a_line =
+    record {
+      mode = modes.Start;
+      escape = escapes.Plain;
+      due = dues.Look;
+      continued = false;
+      no_break = false;
+    }
 
 -- `.` and `'`, and names of two bytes (CSTR 54, 10.4; the groff manual, `.cp`)
 abbrev pub first_signs : Signs

@@ -37,7 +37,15 @@ no_definition = record { ending = []; long = false; keeps = false; appends = fal
 
 -- nothing was read
 abbrev pub no_notes : Notes
-no_notes = record { name = nothing_spelled; asked = []; line = []; condition = no_condition; defining = no_definition; answers = [] }
+no_notes =
+    record {
+      name = nothing_spelled;
+      asked = [];
+      line = [];
+      condition = no_condition;
+      defining = no_definition;
+      answers = [];
+    }
 
 -- ---- what an element adds to them
 
@@ -48,7 +56,9 @@ noted (notes.Name b) n = record n { name = spelled b n.name }
 noted notes.NewLine n = record n { line = [] }
 noted (notes.Line b) n = record n { line = kept b n.line }
 noted notes.Negated n = record n { condition = record n.condition { negated = true } }
-noted notes.Strings n = record n { line = []; condition = record n.condition { first = 0; second = 0; same = true } }
-noted (notes.First b) n = record n { line = kept b n.line; condition = record n.condition { first = one_more n.condition.first } }
+noted notes.Strings n =
+    record n { line = []; condition = record n.condition { first = 0; second = 0; same = true } }
+noted (notes.First b) n =
+    record n { line = kept b n.line; condition = record n.condition { first = one_more n.condition.first } }
 noted (notes.Second b) n = record n { condition = compared b n.line n.condition }
 noted (notes.Begin a) n = n

@@ -11,7 +11,11 @@ use Rattle.nr_reading.specs.Conditionals.{in_mode, conditional, otherwise}
 -- a string is defined, or added to
 abbrev pub defining_string : Bool → Half → Half
 defining_string appends h =
-    in_mode modes.StringBefore (record h { notes = record h.notes { defining = record h.notes.defining { keeps = true; appends = appends } } })
+    in_mode modes.StringBefore
+    (record h {
+      notes = record h.notes
+          { defining = record h.notes.defining { keeps = true; appends = appends } };
+    })
 
 abbrev pub sought : Calls → Half → Half
 sought calls.Nothing h = in_mode modes.Drop h

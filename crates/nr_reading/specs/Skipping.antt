@@ -42,7 +42,8 @@ abbrev pub behind_newline : ℕ → Reading → Step
 behind_newline n r = if n == 0 then go (to modes.Start r) else go r
 
 abbrev pub skip_byte : ℕ → ℕ → Reading → Step
-skip_byte b n r = if b == code "\n" then behind_newline n r else (if b == code "\\" then begin_escape r else go r)
+skip_byte b n r =
+    if b == code "\n" then behind_newline n r else (if b == code "\\" then begin_escape r else go r)
 
 abbrev pub skip : Front → ℕ → Reading → Step
 skip (fronts.Byte b) n r = skip_byte b n r

@@ -22,17 +22,21 @@ behind_string_name name r = if is_empty (name_of name) then to modes.Drop r else
 abbrev pub read_string_name : ℕ → Bool → Spelled → Reading → Step
 read_string_name b long name r =
     if ends_name b then leave (behind_string_name name r)
-    else (if completes long name then noting (notes.Name b) (to modes.StringBlanks r) else noting (notes.Name b) r)
+    else (if completes long name then noting (notes.Name b) (to modes.StringBlanks r)
+    else noting (notes.Name b) r)
 
 -- The text is the rest of the line after blanks; one leading quote is dropped.
 abbrev pub read_string_blanks : ℕ → Reading → Step
 read_string_blanks b r =
     if is_blank b then go r
-    else (if b == code "\"" then go (due dues.Begin (to modes.StringText r)) else leave (due dues.Begin (to modes.StringText r)))
+    else (if b == code "\"" then go (due dues.Begin (to modes.StringText r))
+    else leave (due dues.Begin (to modes.StringText r)))
 
 abbrev pub read_string_text : ℕ → Reading → Step
-read_string_text b r = if b == code "\n" then go (due dues.Define (to modes.Start r)) else go (due (dues.Add b) r)
+read_string_text b r =
+    if b == code "\n" then go (due dues.Define (to modes.Start r)) else go (due (dues.Add b) r)
 
 -- The line and its newline pass into the diversion.
 abbrev pub read_transparent : ℕ → Reading → Step
-read_transparent b r = if b == code "\n" then go (due (dues.Add 10) (to modes.Start r)) else go (due (dues.Add b) r)
+read_transparent b r =
+    if b == code "\n" then go (due (dues.Add 10) (to modes.Start r)) else go (due (dues.Add b) r)

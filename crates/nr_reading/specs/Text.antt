@@ -34,7 +34,8 @@ in_text e r = tell e (continuing false (to modes.Text r))
 -- Blanks at the beginning of a line: the first causes a break, unless the line continues a word. The line has begun then.
 abbrev pub start_blank : Reading → Step
 start_blank r =
-    if r.continued then tell (events.Byte (code " ")) (continuing false (to modes.Continued r)) else tell events.Leading (to (modes.Leading 1) r)
+    if r.continued then tell (events.Byte (code " ")) (continuing false (to modes.Continued r))
+    else tell events.Leading (to (modes.Leading 1) r)
 
 -- An empty text line; after `\c` it only ends the word.
 abbrev pub start_newline : Reading → Step

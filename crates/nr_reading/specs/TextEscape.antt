@@ -44,13 +44,15 @@ asked_in_text b long =
     else (if b == code "k" then Some (begun_ask kinds.Mark)
     else (if b == code "h" then Some (begun_ask kinds.Horizontal)
     else (if b == code "l" then Some (begun_ask kinds.Rule)
-    else (if (b == code "v") || (b == code "x") || (b == code "b") || (b == code "o") || (b == code "L") || (b == code "D") then Some (begun_ask kinds.Ignored)
+    else (if (b == code "v") || (b == code "x") || (b == code "b") || (b == code "o") || (b == code "L")
+    || (b == code "D") then Some (begun_ask kinds.Ignored)
     else (if b == code "s" then Some (begun_ask kinds.Size) else None)))))))
 
 -- `| ^ ! d u r z { } c`: nothing
 abbrev pub is_nothing : ℕ → Bool
 is_nothing b =
-    (b == code "|") || (b == code "^") || (b == code "!") || (b == code "d") || (b == code "u") || (b == code "r") || (b == code "z") || (b == code "{") || (b == code "}") || (b == code "c")
+    (b == code "|") || (b == code "^") || (b == code "!") || (b == code "d") || (b == code "u")
+    || (b == code "r") || (b == code "z") || (b == code "{") || (b == code "}") || (b == code "c")
 
 -- `- . ' ` and the grave accent: cells of their own
 abbrev pub is_plain : ℕ → Bool

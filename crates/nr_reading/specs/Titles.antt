@@ -32,7 +32,9 @@ before_title fronts.Over r = leave_telling events.TitleEnd (ended_title r)
 
 -- after the right part the rest of the line is dropped
 abbrev pub next_part : ℕ → ℕ → Reading → Reading
-next_part d n r = if n == 0 then to (modes.Title d 1) r else (if n == 1 then to (modes.Title d 2) r else to modes.TitleRest r)
+next_part d n r =
+    if n == 0 then to (modes.Title d 1) r
+    else (if n == 1 then to (modes.Title d 2) r else to modes.TitleRest r)
 
 -- In a part a delimiter is judged first.
 abbrev pub title_byte : ℕ → ℕ → ℕ → Reading → Step

@@ -171,5 +171,6 @@ is_lead e = false
 
 -- What it leads to and tells weighs no more than what was half read, and what is taken of it; a blank more that is owed costs 178.
 pub record PaysFor (f : Front) (old new : Half) (seen : Seen) : Type 0 where
-  pub pays : weight_of_half new + cost_of_event seen.event + 178 * (blanks_owed new - blanks_owed old) ≤ weight_of_half old + paid_by seen.takes (worth_of_front f)
+  pub pays : weight_of_half new + cost_of_event seen.event + 178 * (blanks_owed new - blanks_owed old)
+      ≤ weight_of_half old + paid_by seen.takes (worth_of_front f)
   pub tells : is_lead seen.event ≡ false

@@ -22,7 +22,10 @@ impl Model for Delimited {
 
     ghost Value = { Texts };
 
-    ghost view = { λ d. record { begun = reverse (take d.count d.texts); last = slice_index_or d.texts d.count [] } };
+    ghost view = { λ d. record {
+      begun = reverse (take d.count d.texts);
+      last = slice_index_or d.texts d.count [];
+    } };
 
     ghost invariant = { λ d. (d.count ≤ 10) × (length d.texts ≡ 10) };
 }

@@ -32,4 +32,5 @@ pub record IsOther (bs : List ℕ) (d : Defining) : Type 0 where
 -- Such bytes, which at the beginning of a line don't begin like the line that ends the definition: after a dot the second shows so.
 pub record IsOwn (n : ℕ) (bs : List ℕ) (m : Mode) (d : Defining) : Type 0 where
   pub text : IsLine n bs
-  pub begins : m ≡ modes.BodyStart 0 → 0 < length (take n bs) → slice_index (take n bs) 0 ≡ code "." → IsOther (take n bs) d
+  pub begins : m ≡ modes.BodyStart 0 → 0 < length (take n bs) → slice_index (take n bs) 0 ≡ code "."
+      → IsOther (take n bs) d

@@ -49,7 +49,8 @@ pub record OpensLevel {K : Type 0} (bytes : List ℕ) (v : Stored K) (r : Reader
   pub waits : is_look r.half.reading.due ≡ false
   pub acts : act r.half.reading.due v r ≡ splicing true (opened_due bytes v r) r
   pub answers : answer r.half.reading.due v r ≡ splicing_answer true (opened_due bytes v r) r
-  pub text : brings_text r.half.reading.due ≡ true → words (find r.half.notes.asked v.names) ≡ Some (map elements.Byte bytes)
+  pub text : brings_text r.half.reading.due ≡ true → words (find r.half.notes.asked v.names)
+      ≡ Some (map elements.Byte bytes)
 
 -- these bytes are to be spliced, and a level of them may be opened
 pub record MaySplice {K : Type 0} (bytes : List ℕ) (v : Stored K) (r : Reader) : Type 0 where

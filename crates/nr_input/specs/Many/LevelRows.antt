@@ -10,7 +10,8 @@ use Rattle.nr_input.specs.Acting.{calls_of, next, request_of}
 
 -- what is half read after a name that means this
 abbrev pub behind_name : Meaning → Reader → Reader
-behind_name m r = record r { half = sought (calls_of m) (next dues.Look r.half); request = request_of m r.request }
+behind_name m r =
+    record r { half = sought (calls_of m) (next dues.Look r.half); request = request_of m r.request }
 
 -- a text has the name
 abbrev pub is_text : Meaning → Bool

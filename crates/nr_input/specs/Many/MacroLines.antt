@@ -48,11 +48,13 @@ reached_behind n bs p = record { ahead = Unseen; taken = p.taken + n; inside = i
 
 -- With no level open and nothing spliced since the last byte n moves that tell nothing take so many of these bytes, where they come
 -- next of the source, and lead from the one to the other.
-pub record ReadsOn {K : Type 0} (n taken : ℕ) (bs : List ℕ) (v : Stored K) (r : Reader) (w : Stored K) (s : Reader) : Type 0 where
+pub record ReadsOn {K : Type 0} (n taken : ℕ) (bs : List ℕ) (v : Stored K) (r : Reader) (w : Stored K)
+    (s : Reader) : Type 0 where
   pub within : taken ≤ length bs
   pub levels : w.levels ≡ v.levels
   pub burst : s.burst ≡ r.burst
   pub limits : limits_of w s ≡ limits_of v r
-  pub reads : v.levels ≡ [] → r.burst ≡ 0 → (c : Coming) (p : Reached) (supply : Option Supply) → ComeNext bs c → HoldsComing (behind_run taken c) p supply
+  pub reads : v.levels ≡ [] → r.burst ≡ 0 → (c : Coming) (p : Reached) (supply : Option Supply)
+      → ComeNext bs c → HoldsComing (behind_run taken c) p supply
       → HasRead n (situation v c r) events.Nothing w s p supply
   pub pays : r.burst ≡ 0 → (p : Reached) → PaysAll n v p r events.Nothing w (reached_behind taken bs p) s

@@ -29,7 +29,8 @@ fn add_plain<K: Copy>(target: Target, store: &mut Store<K>, bytes: &[u8]) -> usi
     ensures front { result ≤ length bytes.now }
     ensures added { store.new ≡ with_more target (take result bytes.now) store.old }
     ensures afforded { charge_of store.new ≤ store.new.limit }
-    ensures longest { result < length bytes.now → store.new.limit < charge_of (with_more target (slice_index bytes.now result ∷ []) store.new) }
+    ensures longest { result < length bytes.now
+        → store.new.limit < charge_of (with_more target (slice_index bytes.now result ∷ []) store.new) }
 {
     match target {
         Target::Argument => store.add_argument_bytes(bytes),
@@ -50,7 +51,8 @@ pub(crate) fn add_front<K: Copy>(
     ensures plain { All (IsPlain (ending_of half.now.reading.mode)) (take result bytes.now) }
     ensures added { store.new ≡ with_more target (take result bytes.now) store.old }
     ensures afforded { charge_of store.new ≤ store.new.limit }
-    ensures longest { result < 32768 → result < length bytes.now → IsPlain (ending_of half.now.reading.mode) (slice_index bytes.now result) →
+    ensures longest { result < 32768 → result < length bytes.now
+        → IsPlain (ending_of half.now.reading.mode) (slice_index bytes.now result) →
         store.new.limit < charge_of (with_more target (slice_index bytes.now result ∷ []) store.new) }
 {
     let near = &bytes[..bytes.len().min(LONGEST)];
@@ -86,7 +88,8 @@ fn copy_plain(elements: &[Element], ending: u8, chunk: &mut [u8]) -> usize
     ensures front { result ≤ length elements.now }
     ensures bytes { map variants.Byte (take result chunk.new) ≡ take result elements.now }
     ensures plain { All (IsPlain ending) (take result chunk.new) }
-    ensures longest { result < length chunk.old → result < length elements.now → (byte : ℕ) → slice_get elements.now result ≡ Some (variants.Byte byte) → ¬ IsPlain ending byte }
+    ensures longest { result < length chunk.old → result < length elements.now → (byte : ℕ)
+        → slice_get elements.now result ≡ Some (variants.Byte byte) → ¬ IsPlain ending byte }
 {
     let most = chunk.len().min(elements.len());
     for place in 0..most {
@@ -108,7 +111,8 @@ fn copy_plain_bytes(bytes: &[u8], ending: u8, chunk: &mut [u8]) -> usize
     ensures front { result ≤ length bytes.now }
     ensures bytes { take result chunk.new ≡ take result bytes.now }
     ensures plain { All (IsPlain ending) (take result chunk.new) }
-    ensures longest { result < length chunk.old → result < length bytes.now → ¬ IsPlain ending (slice_index bytes.now result) }
+    ensures longest { result < length chunk.old → result < length bytes.now
+        → ¬ IsPlain ending (slice_index bytes.now result) }
 {
     let most = chunk.len().min(bytes.len());
     for place in 0..most {
@@ -129,7 +133,8 @@ fn copy_level<K: Copy>(half: &Half, store: &Store<K>, chunk: &mut [u8]) -> usize
     ensures front { result ≤ length (rest_of store.now.levels) }
     ensures bytes { map variants.Byte (take result chunk.new) ≡ take result (rest_of store.now.levels) }
     ensures plain { All (IsPlain (ending_of half.now.reading.mode)) (take result chunk.new) }
-    ensures longest { result < length chunk.old → (byte : ℕ) → slice_get (rest_of store.now.levels) result ≡ Some (variants.Byte byte) → ¬ IsPlain (ending_of half.now.reading.mode) byte }
+    ensures longest { result < length chunk.old → (byte : ℕ) → slice_get (rest_of store.now.levels) result
+        ≡ Some (variants.Byte byte) → ¬ IsPlain (ending_of half.now.reading.mode) byte }
 {
     let ending = ending_of(half.reading.mode);
     match store.rest() {
@@ -146,12 +151,16 @@ pub(crate) fn add_level_front<K: Copy>(
     store: &mut Store<K>,
 ) -> usize
     requires { is_read_for target reader.now.half ≡ true }
-    ensures read { (c : Coming) (p : Reached) (supply : Option Supply) → HoldsComing c p supply → HasRead (2 * result) (situation store.old c reader.now) events.Nothing store.new reader.now p supply }
-    ensures pays { (p : Reached) → PaysAll (2 * result) store.old p reader.now events.Nothing store.new p reader.now }
+    ensures read { (c : Coming) (p : Reached) (supply : Option Supply) → HoldsComing c p supply
+        → HasRead (2 * result) (situation store.old c reader.now) events.Nothing store.new
+        reader.now p supply }
+    ensures pays { (p : Reached)
+        → PaysAll (2 * result) store.old p reader.now events.Nothing store.new p reader.now }
     ensures few { result ≤ 256 }
     ensures limits { limits_of store.new reader.now ≡ limits_of store.old reader.now }
     ensures none { result ≡ 0 → store.new ≡ store.old }
-    ensures stops { result < 256 → (byte : ℕ) → slice_get (rest_of store.new.levels) 0 ≡ Some (variants.Byte byte) → IsLeft byte reader.now.half store.new }
+    ensures stops { result < 256 → (byte : ℕ) → slice_get (rest_of store.new.levels) 0
+        ≡ Some (variants.Byte byte) → IsLeft byte reader.now.half store.new }
 {
     let mut chunk = [0; CHUNK];
     let near = copy_level(&reader.half, store, &mut chunk);

@@ -14,13 +14,16 @@ use nr_units::source::Source;
 /// was read ahead.
 #[inline]
 pub fn window<'s, K: Copy, R: Source>(place: &Place, store: &Store<K>, source: &'s R) -> &'s [u8]
-    ensures all { is_unseen place.now.ahead ≡ true → store.now.levels ≡ [] → result.now ≡ take (2 ^ 40 - 1 - place.now.taken) (R.at_hand source.now) }
+    ensures all { is_unseen place.now.ahead ≡ true → store.now.levels ≡ []
+        → result.now ≡ take (2 ^ 40 - 1 - place.now.taken) (R.at_hand source.now) }
     ensures room { place.now.taken + length result.now < 2 ^ 40 }
     ensures front { take (length result.now) (R.at_hand source.now) ≡ result.now }
-    ensures next { 0 < length result.now → (c : Coming) → HoldsComing c place.now (R.supply source.now) → ComeNext result.now c }
+    ensures next { 0 < length result.now → (c : Coming) → HoldsComing c place.now (R.supply source.now)
+        → ComeNext result.now c }
     ensures unseen { 0 < length result.now → is_unseen place.now.ahead ≡ true }
     ensures levels { 0 < length result.now → store.now.levels ≡ [] }
-    ensures whole { is_unseen place.now.ahead ≡ true → store.now.levels ≡ [] → place.now.taken + length (R.at_hand source.now) < 2 ^ 40 → result.now ≡ R.at_hand source.now }
+    ensures whole { is_unseen place.now.ahead ≡ true → store.now.levels ≡ []
+        → place.now.taken + length (R.at_hand source.now) < 2 ^ 40 → result.now ≡ R.at_hand source.now }
 {
     let room = place.room();
     if !place.is_unseen() || store.is_reading() {
@@ -47,7 +50,8 @@ pub fn take_window<R: Source>(
     requires at_hand { n ≤ length (R.at_hand source.old) }
     ensures place { place.new ≡ passed_run last n place.old }
     ensures reader { reader.new ≡ record reader.old { burst = 0 } }
-    ensures coming { (c : Coming) → HoldsComing c place.old (R.supply source.old) → HoldsComing (behind_last last n c) place.new (R.supply source.new) }
+    ensures coming { (c : Coming) → HoldsComing c place.old (R.supply source.old)
+        → HoldsComing (behind_last last n c) place.new (R.supply source.new) }
     ensures failures { R.failures source.new ≡ R.failures source.old }
 {
     source.skip(n);

@@ -24,7 +24,8 @@ impl Reader {
     #[inline(always)]
     fn begin_target<K: Copy>(&mut self, len: usize, store: &mut Store<K>) -> bool
         requires few { len ≤ 64 }
-        ensures done { result ≡ true → called store.new self.new (Ok events.Nothing) ≡ acted self.old.half.reading.due store.old self.old }
+        ensures done { result ≡ true → called store.new self.new (Ok events.Nothing)
+            ≡ acted self.old.half.reading.due store.old self.old }
         ensures begins { result ≡ true → begins_target self.old.half.reading.due ≡ true }
         ensures empty { result ≡ true → self.old.half.notes.defining.appends ≡ false }
         ensures room { result ≡ true → charge_of store.old + (80 + 2 * len) ≤ store.old.limit }
@@ -49,8 +50,11 @@ impl Reader {
         requires few { length bytes.now ≤ 64 }
         requires room { charge_of store.old + (32 + 2 * length bytes.now) ≤ store.old.limit }
         ensures read { (c : Coming) (p : Reached) (supply : Option Supply) → HoldsComing c p supply →
-            HasRead result.moves (situation (reading_bytes bytes.now store.old) c self.old) result.event (left_times result.taken (reading_bytes bytes.now store.new)) self.new p supply }
-        ensures pays { (p : Reached) → PaysAll result.moves (reading_bytes bytes.now store.old) p self.old result.event (left_times result.taken (reading_bytes bytes.now store.new)) p self.new }
+            HasRead result.moves (situation (reading_bytes bytes.now store.old) c self.old) result.event
+            (left_times result.taken (reading_bytes bytes.now store.new)) self.new p supply }
+        ensures pays { (p : Reached)
+            → PaysAll result.moves (reading_bytes bytes.now store.old) p self.old result.event
+            (left_times result.taken (reading_bytes bytes.now store.new)) p self.new }
         ensures within { result.taken ≤ length bytes.now }
         ensures few { result.moves ≤ 131074 }
         ensures levels { store.new.levels ≡ store.old.levels }

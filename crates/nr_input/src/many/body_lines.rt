@@ -80,7 +80,8 @@ fn line_bytes(bytes: &[u8]) -> usize
 // Whether these bytes begin like the line that ends the definition.
 #[inline(always)]
 fn is_like_last(defining: &Defining, bytes: &[u8]) -> bool
-    ensures { result ≡ false → 0 < length bytes.now → slice_index bytes.now 0 ≡ 46 → IsOther bytes.now defining.now }
+    ensures { result ≡ false → 0 < length bytes.now → slice_index bytes.now 0 ≡ 46
+        → IsOther bytes.now defining.now }
 {
     if bytes.is_empty() || bytes[0] != b'.' {
         return false;
@@ -94,7 +95,8 @@ fn is_like_last(defining: &Defining, bytes: &[u8]) -> bool
 // Whether a line that begins with these bytes, if one does, may be the one that ends the definition.
 #[inline(always)]
 fn may_end(half: &Half, bytes: &[u8]) -> bool
-    ensures { result ≡ false → half.now.reading.mode ≡ modes.BodyStart 0 → 0 < length bytes.now → slice_index bytes.now 0 ≡ 46
+    ensures { result ≡ false → half.now.reading.mode ≡ modes.BodyStart 0 → 0 < length bytes.now
+        → slice_index bytes.now 0 ≡ 46
         → IsOther bytes.now half.now.notes.defining }
 {
     match half.reading.mode {
@@ -210,8 +212,11 @@ pub fn read_body_lines<K: Copy, R: Source>(
     store: &mut Store<K>,
     source: &mut R,
 ) -> Run
-    ensures read { (c : Coming) → HoldsComing c place.old (R.supply source.old) → HasRead result.moves (situation store.old c reader.old) result.event store.new reader.new place.new (R.supply source.new) }
-    ensures pays { PaysAll result.moves store.old place.old reader.old result.event store.new place.new reader.new }
+    ensures read { (c : Coming) → HoldsComing c place.old (R.supply source.old)
+        → HasRead result.moves (situation store.old c reader.old) result.event store.new reader.new place.new
+        (R.supply source.new) }
+    ensures pays { PaysAll result.moves store.old place.old reader.old result.event store.new
+        place.new reader.new }
     ensures few { result.moves ≤ 32000 }
     ensures limits { limits_of store.new reader.new ≡ limits_of store.old reader.old }
     ensures failures { R.failures source.new ≡ R.failures source.old }

@@ -24,7 +24,8 @@ use nr_units::source::Source;
 // What comes after the name of a control line, where nothing was told of it: the line of a request, or nothing.
 #[inline(always)]
 fn meet_behind_name(half: &mut Half, told: Event, bytes: &[u8]) -> Run
-    ensures met { told ≡ events.Nothing → HasMet result.moves (map variants.Byte bytes.now) half.old (spot result half.new) }
+    ensures met { told ≡ events.Nothing
+        → HasMet result.moves (map variants.Byte bytes.now) half.old (spot result half.new) }
     ensures few { result.moves ≤ 32769 }
     ensures within { result.taken ≤ length bytes.now }
     ensures left { told ≢ events.Nothing → half.new ≡ half.old }
@@ -49,8 +50,11 @@ fn read_named_line<K: Copy, R: Source>(
     store: &mut Store<K>,
     source: &mut R,
 ) -> Option<Run>
-    ensures read { IfSome result (λ run. (c : Coming) → HoldsComing c place.old (R.supply source.old) → HasRead run.moves (situation store.old c reader.old) run.event store.new reader.new place.new (R.supply source.new)) }
-    ensures pays { IfSome result (λ run. PaysAll run.moves store.old place.old reader.old run.event store.new place.new reader.new) }
+    ensures read { IfSome result (λ run. (c : Coming) → HoldsComing c place.old (R.supply source.old)
+        → HasRead run.moves (situation store.old c reader.old) run.event store.new reader.new place.new
+        (R.supply source.new)) }
+    ensures pays { IfSome result (λ run. PaysAll run.moves store.old place.old reader.old run.event store.new
+        place.new reader.new) }
     ensures some { IfSome result (λ run. 0 < run.moves) }
     ensures few { IfSome result (λ run. run.moves ≤ 32775) }
     ensures within { IfSome result (λ run. run.taken < 2 ^ 40) }
@@ -93,8 +97,11 @@ pub fn read_control_line<K: Copy, R: Source>(
     store: &mut Store<K>,
     source: &mut R,
 ) -> Option<Run>
-    ensures read { IfSome result (λ run. (c : Coming) → HoldsComing c place.old (R.supply source.old) → HasRead run.moves (situation store.old c reader.old) run.event store.new reader.new place.new (R.supply source.new)) }
-    ensures pays { IfSome result (λ run. PaysAll run.moves store.old place.old reader.old run.event store.new place.new reader.new) }
+    ensures read { IfSome result (λ run. (c : Coming) → HoldsComing c place.old (R.supply source.old)
+        → HasRead run.moves (situation store.old c reader.old) run.event store.new reader.new place.new
+        (R.supply source.new)) }
+    ensures pays { IfSome result (λ run. PaysAll run.moves store.old place.old reader.old run.event store.new
+        place.new reader.new) }
     ensures some { IfSome result (λ run. 0 < run.moves) }
     ensures few { IfSome result (λ run. run.moves ≤ 65536) }
     ensures limits { limits_of store.new reader.new ≡ limits_of store.old reader.old }
@@ -130,11 +137,15 @@ fn read_beginning<K: Copy, R: Source>(
     store: &mut Store<K>,
     source: &mut R,
 ) -> Run
-    ensures read { (c : Coming) → HoldsComing c place.old (R.supply source.old) → HasRead result.moves (situation store.old c reader.old) result.event store.new reader.new place.new (R.supply source.new) }
-    ensures pays { PaysAll result.moves store.old place.old reader.old result.event store.new place.new reader.new }
+    ensures read { (c : Coming) → HoldsComing c place.old (R.supply source.old)
+        → HasRead result.moves (situation store.old c reader.old) result.event store.new reader.new place.new
+        (R.supply source.new) }
+    ensures pays { PaysAll result.moves store.old place.old reader.old result.event store.new
+        place.new reader.new }
     ensures few { result.moves ≤ 65536 }
     ensures limits { limits_of store.new reader.new ≡ limits_of store.old reader.old }
-    ensures some { store.old.levels ≡ [] → is_unseen place.old.ahead ≡ true → ReadsSome (R.at_hand source.old) result.moves place.old reader.old }
+    ensures some { store.old.levels ≡ [] → is_unseen place.old.ahead ≡ true
+        → ReadsSome (R.at_hand source.old) result.moves place.old reader.old }
     ensures failures { R.failures source.new ≡ R.failures source.old }
     ensures unfailed { has_failed place.old.ahead ≡ false → has_failed place.new.ahead ≡ false }
 {
@@ -153,13 +164,21 @@ pub fn read_next<K: Copy, R: Source>(
     store: &mut Store<K>,
     source: &mut R,
 ) -> Run
-    ensures read { (c : Coming) → HoldsComing c place.old (R.supply source.old) → HasRead result.moves (situation store.old c reader.old) result.event store.new reader.new place.new (R.supply source.new) }
-    ensures pays { PaysAll result.moves store.old place.old reader.old result.event store.new place.new reader.new }
+    ensures read { (c : Coming) → HoldsComing c place.old (R.supply source.old)
+        → HasRead result.moves (situation store.old c reader.old) result.event store.new reader.new place.new
+        (R.supply source.new) }
+    ensures pays { PaysAll result.moves store.old place.old reader.old result.event store.new
+        place.new reader.new }
     ensures few { result.moves ≤ 65542 }
     ensures limits { limits_of store.new reader.new ≡ limits_of store.old reader.old }
-    ensures some { store.old.levels ≡ [] → is_unseen place.old.ahead ≡ true → ReadsSome (R.at_hand source.old) result.moves place.old reader.old }
-    ensures longest { store.old.levels ≡ [] → is_unseen place.old.ahead ≡ true → reader.old.half.reading.mode ≢ modes.Start → IsLongest (R.at_hand source.old) result.moves place.old reader.old result.event store.new place.new reader.new }
-    ensures longest_in_level { nat_lt 0 (length store.old.levels) ≡ true → IsLongestInLevel result.moves store.old reader.old result.event store.new reader.new }
+    ensures some { store.old.levels ≡ [] → is_unseen place.old.ahead ≡ true
+        → ReadsSome (R.at_hand source.old) result.moves place.old reader.old }
+    ensures longest { store.old.levels ≡ [] → is_unseen place.old.ahead ≡ true
+        → reader.old.half.reading.mode ≢ modes.Start
+        → IsLongest (R.at_hand source.old) result.moves place.old reader.old result.event store.new
+        place.new reader.new }
+    ensures longest_in_level { nat_lt 0 (length store.old.levels) ≡ true
+        → IsLongestInLevel result.moves store.old reader.old result.event store.new reader.new }
     ensures failures { R.failures source.new ≡ R.failures source.old }
     ensures unfailed { has_failed place.old.ahead ≡ false → has_failed place.new.ahead ≡ false }
 {

@@ -37,8 +37,11 @@ pub fn read_dropped_line<K: Copy, R: Source>(
     store: &Store<K>,
     source: &mut R,
 ) -> Run
-    ensures read { (c : Coming) → HoldsComing c place.old (R.supply source.old) → HasRead result.moves (situation store.now c reader.old) result.event store.now reader.new place.new (R.supply source.new) }
-    ensures pays { PaysAll result.moves store.now place.old reader.old result.event store.now place.new reader.new }
+    ensures read { (c : Coming) → HoldsComing c place.old (R.supply source.old)
+        → HasRead result.moves (situation store.now c reader.old) result.event store.now reader.new place.new
+        (R.supply source.new) }
+    ensures pays { PaysAll result.moves store.now place.old reader.old result.event store.now
+        place.new reader.new }
     ensures few { result.moves ≤ 16000 }
     ensures limits { limits_of store.now reader.new ≡ limits_of store.now reader.old }
     ensures failures { R.failures source.new ≡ R.failures source.old }

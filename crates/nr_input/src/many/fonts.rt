@@ -17,16 +17,20 @@ use nr_reading::Run;
 /// at the beginning of a line. None where the bytes have not all of it, or begin otherwise. The bytes are not taken yet.
 #[inline(always)]
 pub fn meet_font(reader: &mut Reader, bytes: &[u8]) -> Option<Run>
-    ensures met { IfSome result (λ run. HasMet run.moves (map variants.Byte bytes.now) reader.old.half (spot run reader.new.half)) }
+    ensures met { IfSome result (λ run. HasMet run.moves (map variants.Byte bytes.now) reader.old.half
+        (spot run reader.new.half)) }
     ensures font { IfSome result (λ run. run.event ≡ events.Font) }
     ensures least { IfSome result (λ run. 3 ≤ run.taken) }
     ensures few { IfSome result (λ run. run.moves ≤ 6) }
-    ensures in_line { reader.old.half.reading.mode ≡ modes.Text → IfSome result (λ run. run.moves ≡ run.taken) }
-    ensures at_start { reader.old.half.reading.mode ≡ modes.Start → IfSome result (λ run. run.moves ≡ run.taken + 1) }
+    ensures in_line { reader.old.half.reading.mode ≡ modes.Text
+        → IfSome result (λ run. run.moves ≡ run.taken) }
+    ensures at_start { reader.old.half.reading.mode ≡ modes.Start
+        → IfSome result (λ run. run.moves ≡ run.taken + 1) }
     ensures behind { IfSome result (λ run. is_in_text reader.new.half ≡ true) }
     ensures reader { reader.new ≡ record reader.old { half = reader.new.half } }
     ensures left { result ≡ None → reader.new ≡ reader.old }
-    ensures longest { result ≡ None → is_at_text reader.old.half ≡ true → interpolates reader.old.half ≡ true → BeginsFont (is_in_text reader.old.half) bytes.now → ⊥ }
+    ensures longest { result ≡ None → is_at_text reader.old.half ≡ true → interpolates reader.old.half ≡ true
+        → BeginsFont (is_in_text reader.old.half) bytes.now → ⊥ }
 {
     reader.half.meet_front_font(&ByteRow(bytes))
 }

@@ -151,7 +151,8 @@ impl Reader {
     #[inline(always)]
     fn pass_all(&mut self, splices: &Splices)
         requires burst { 0 < length splices.now → self.old.burst + length splices.now ≤ self.old.most }
-        ensures { self.new ≡ spliced (length splices.now) (last_asked splices.now self.old.half.notes.asked) self.old }
+        ensures { self.new ≡ spliced (length splices.now) (last_asked splices.now self.old.half.notes.asked)
+            self.old }
     {
         if let Some(splice) = splices.last() {
             self.pass_splices(splices.len(), splice.asked);
@@ -181,11 +182,13 @@ fn meet_splice<K: Copy, I: Items>(
 ) -> Option<Met>
     requires text { is_in_text reader.old.half ≡ true }
     requires holds { 64 ≤ length chunk.old }
-    ensures met { IfSome result (λ met. HasMet met.moves (I.fronts row.now) reader.old.half (record { taken = met.taken; half = reader.new.half; event = events.Nothing })) }
+    ensures met { IfSome result (λ met. HasMet met.moves (I.fronts row.now) reader.old.half
+        (record { taken = met.taken; half = reader.new.half; event = events.Nothing })) }
     ensures few { IfSome result (λ met. met.moves ≤ 6) }
     ensures asks { IfSome result (λ met. AsksOnly reader.old.half reader.new.half) }
     ensures reader { IfSome result (λ met. reader.new ≡ record reader.old { half = reader.new.half }) }
-    ensures may { IfSome result (λ met. (n : ℕ) → n ≤ length (rest_of store.now.levels) → MaySplice (take met.count chunk.new) (left_times n store.now) reader.new) }
+    ensures may { IfSome result (λ met. (n : ℕ) → n ≤ length (rest_of store.now.levels)
+        → MaySplice (take met.count chunk.new) (left_times n store.now) reader.new) }
     ensures within { IfSome result (λ met. met.count ≤ length chunk.new) }
     ensures left { result ≡ None → reader.new ≡ reader.old }
 {
@@ -223,7 +226,9 @@ fn gather_escape<K: Copy, I: Items>(
     requires holds { length chunk.old ≤ 4096 }
     requires items { gathered.old.items ≤ 8192 }
     requires moves { gathered.old.moves ≤ 64 }
-    ensures gathered { (r : ReaderValue) → IsGathering (take gathered.old.count chunk.old) store.now r reader.old gathered.old → IsGathering (take gathered.new.count chunk.new) store.now r reader.new gathered.new }
+    ensures gathered { (r : ReaderValue)
+        → IsGathering (take gathered.old.count chunk.old) store.now r reader.old gathered.old
+        → IsGathering (take gathered.new.count chunk.new) store.now r reader.new gathered.new }
     ensures text { is_in_text reader.new.half ≡ true }
     ensures items { gathered.new.items ≡ gathered.old.items + result }
     ensures within { result ≤ length (I.fronts row.now) }
@@ -262,7 +267,8 @@ fn gather_run<I: Items>(row: &I, chunk: &mut [u8], gathered: &mut Gathered) -> u
     ensures holds { length chunk.new ≡ length chunk.old }
     ensures kept { take gathered.old.count chunk.new ≡ take gathered.old.count chunk.old }
     ensures bytes { AreBytes (take result (drop gathered.old.count chunk.new)) (I.fronts row.now) }
-    ensures longest { gathered.old.count + result < length chunk.old → EndsRun (slice_get (I.fronts row.now) result) }
+    ensures longest { gathered.old.count + result < length chunk.old
+        → EndsRun (slice_get (I.fronts row.now) result) }
 {
     let count = copy_run(row, &mut chunk[gathered.count..]);
     gathered.pass(count);
@@ -283,13 +289,15 @@ fn gather_more<K: Copy, I: Tail>(
     requires count { gathered.old.count ≤ length chunk.old }
     requires holds { length chunk.old ≤ 4096 }
     requires room { 64 ≤ length chunk.old }
-    requires gathered { IsGathering (take gathered.old.count chunk.old) store.now reader.old reader.old gathered.old }
+    requires gathered { IsGathering (take gathered.old.count chunk.old) store.now reader.old reader.old
+        gathered.old }
     requires stops { StopsGathering (rest_of store.now.levels) gathered.old.items gathered.old.count }
     ensures row { I.fronts result ≡ drop gathered.new.items (map element_front (rest_of store.now.levels)) }
     ensures count { gathered.new.count ≤ length chunk.new }
     ensures holds { length chunk.new ≡ length chunk.old }
     ensures ends { gathered.new.ends ≡ gathered.old.ends }
-    ensures gathered { IsGathering (take gathered.new.count chunk.new) store.now reader.old reader.new gathered.new }
+    ensures gathered { IsGathering (take gathered.new.count chunk.new) store.now reader.old reader.new
+        gathered.new }
     ensures stops { StopsGathering (rest_of store.now.levels) gathered.new.items gathered.new.count }
 {
     let mut rest = row;
@@ -319,13 +327,15 @@ fn gather_escapes<K: Copy, I: Tail>(
     requires count { gathered.old.count ≤ length chunk.old }
     requires holds { length chunk.old ≤ 4096 }
     requires room { 64 ≤ length chunk.old }
-    requires gathered { IsGathering (take gathered.old.count chunk.old) store.now reader.old reader.old gathered.old }
+    requires gathered { IsGathering (take gathered.old.count chunk.old) store.now reader.old reader.old
+        gathered.old }
     requires stops { StopsGathering (rest_of store.now.levels) gathered.old.items gathered.old.count }
     ensures row { I.fronts result ≡ drop gathered.new.items (map element_front (rest_of store.now.levels)) }
     ensures count { gathered.new.count ≤ length chunk.new }
     ensures holds { length chunk.new ≡ length chunk.old }
     ensures ends { gathered.new.ends ≡ gathered.old.ends }
-    ensures gathered { AreGathered (take gathered.new.count chunk.new) gathered.new.items gathered.new.moves gathered.new.splices store.now reader.old }
+    ensures gathered { AreGathered (take gathered.new.count chunk.new) gathered.new.items gathered.new.moves
+        gathered.new.splices store.now reader.old }
     ensures stops { StopsGathering (rest_of store.now.levels) gathered.new.items gathered.new.count }
     ensures left { reader.new ≡ reader.old }
 {
@@ -397,8 +407,10 @@ fn open_splice<K: Copy>(store: &mut Store<K>, bytes: &[u8], splice: &Splice)
     requires within { splice.now.before + splice.now.count ≤ length bytes.now }
     requires charge { charge_of store.old + (32 + splice.now.count) ≤ store.old.limit }
     requires depth { length store.old.levels < store.old.deepest }
-    requires text { splice.now.named ≡ true → words (find splice.now.asked store.old.names) ≡ Some (map elements.Byte (own_bytes splice.now bytes.now)) }
-    ensures { store.new ≡ opened splice.now.named (own_bytes splice.now bytes.now) splice.now.asked store.old }
+    requires text { splice.now.named ≡ true → words (find splice.now.asked store.old.names)
+        ≡ Some (map elements.Byte (own_bytes splice.now bytes.now)) }
+    ensures { store.new ≡ opened splice.now.named (own_bytes splice.now bytes.now)
+        splice.now.asked store.old }
 {
     if splice.named {
         let _ = store.enter(splice.asked);
@@ -417,8 +429,10 @@ fn enter_splice<K: Copy>(store: &mut Store<K>, bytes: &[u8], splice: &Splice, ta
     requires part { taken ≤ splice.now.before + splice.now.count }
     requires charge { charge_of store.old + (32 + splice.now.count) ≤ store.old.limit }
     requires depth { length store.old.levels < store.old.deepest }
-    requires text { splice.now.named ≡ true → words (find splice.now.asked store.old.names) ≡ Some (map elements.Byte (own_bytes splice.now bytes.now)) }
-    ensures { store.new ≡ left_times (taken - splice.now.before) (opened splice.now.named (own_bytes splice.now bytes.now) splice.now.asked store.old) }
+    requires text { splice.now.named ≡ true → words (find splice.now.asked store.old.names)
+        ≡ Some (map elements.Byte (own_bytes splice.now bytes.now)) }
+    ensures { store.new ≡ left_times (taken - splice.now.before)
+        (opened splice.now.named (own_bytes splice.now bytes.now) splice.now.asked store.old) }
 {
     open_splice(store, bytes, splice);
     store.skip((taken - splice.before) as u32);
@@ -471,7 +485,8 @@ pub fn leave<K: Copy>(
     requires gathered { IsGathered bytes.now store.old reader.old gathered.now }
     requires within { taken ≤ length bytes.now }
     ensures leaves { Leaves goes result (take taken bytes.now) store.old reader.old store.new reader.new }
-    ensures next { goes ≡ true → gathered.now.ends ≡ true → taken ≡ length bytes.now → shown store.new.levels ≡ shows.Item (elements.Byte 10) }
+    ensures next { goes ≡ true → gathered.now.ends ≡ true → taken ≡ length bytes.now
+        → shown store.new.levels ≡ shows.Item (elements.Byte 10) }
     ensures few { result ≤ 66 }
 {
     if !goes || taken < gathered.count {

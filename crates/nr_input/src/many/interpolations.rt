@@ -65,8 +65,11 @@ impl Reader {
         requires few { length bytes.now ≤ 64 }
         requires room { charge_of store.old + (32 + 2 * length bytes.now) ≤ store.old.limit }
         ensures read { (c : Coming) (p : Reached) (supply : Option Supply) → HoldsComing c p supply →
-            HasRead result.moves (situation (reading_bytes bytes.now store.old) c self.old) result.event (left_times result.taken (reading_bytes bytes.now store.new)) self.new p supply }
-        ensures pays { (p : Reached) → PaysAll result.moves (reading_bytes bytes.now store.old) p self.old result.event (left_times result.taken (reading_bytes bytes.now store.new)) p self.new }
+            HasRead result.moves (situation (reading_bytes bytes.now store.old) c self.old) result.event
+            (left_times result.taken (reading_bytes bytes.now store.new)) self.new p supply }
+        ensures pays { (p : Reached)
+            → PaysAll result.moves (reading_bytes bytes.now store.old) p self.old result.event
+            (left_times result.taken (reading_bytes bytes.now store.new)) p self.new }
         ensures within { result.taken ≤ length bytes.now }
         ensures few { result.moves ≤ 131074 }
         ensures levels { store.new.levels ≡ store.old.levels }
@@ -90,8 +93,10 @@ impl Reader {
     #[inline(always)]
     fn splice_read<K: Copy>(&mut self, bytes: &[u8], store: &mut Store<K>) -> Moved
         requires due { IsSplice bytes.now store.old self.old }
-        ensures read { (c : Coming) (p : Reached) (supply : Option Supply) → HoldsComing c p supply → HasRead result.moves (situation store.old c self.old) result.event store.new self.new p supply }
-        ensures pays { (p : Reached) → PaysMany result.moves store.old p self.old result.event store.new p self.new }
+        ensures read { (c : Coming) (p : Reached) (supply : Option Supply) → HoldsComing c p supply
+            → HasRead result.moves (situation store.old c self.old) result.event store.new self.new p supply }
+        ensures pays { (p : Reached)
+            → PaysMany result.moves store.old p self.old result.event store.new p self.new }
         ensures few { result.moves ≤ 131076 }
         ensures limits { limits_of store.new self.new ≡ limits_of store.old self.old }
         ensures reader { result.moves ≡ 0 → self.new ≡ self.old }
@@ -124,8 +129,10 @@ impl Reader {
     #[inline(always)]
     fn splice_on<K: Copy>(&mut self, bytes: &[u8], store: &mut Store<K>) -> Moved
         requires due { IsSplice bytes.now store.old self.old }
-        ensures read { (c : Coming) (p : Reached) (supply : Option Supply) → HoldsComing c p supply → HasRead result.moves (situation store.old c self.old) result.event store.new self.new p supply }
-        ensures pays { (p : Reached) → PaysMany result.moves store.old p self.old result.event store.new p self.new }
+        ensures read { (c : Coming) (p : Reached) (supply : Option Supply) → HoldsComing c p supply
+            → HasRead result.moves (situation store.old c self.old) result.event store.new self.new p supply }
+        ensures pays { (p : Reached)
+            → PaysMany result.moves store.old p self.old result.event store.new p self.new }
         ensures few { result.moves ≤ 197124 }
         ensures limits { limits_of store.new self.new ≡ limits_of store.old self.old }
         ensures reader { result.moves ≡ 0 → self.new ≡ self.old }
@@ -146,8 +153,10 @@ impl Reader {
     #[inline(never)]
     fn read_argument<K: Copy>(&mut self, n: u8, store: &mut Store<K>) -> Moved
         requires due { self.old.half.reading.due ≡ dues.Argument n }
-        ensures read { (c : Coming) (p : Reached) (supply : Option Supply) → HoldsComing c p supply → HasRead result.moves (situation store.old c self.old) result.event store.new self.new p supply }
-        ensures pays { (p : Reached) → PaysMany result.moves store.old p self.old result.event store.new p self.new }
+        ensures read { (c : Coming) (p : Reached) (supply : Option Supply) → HoldsComing c p supply
+            → HasRead result.moves (situation store.old c self.old) result.event store.new self.new p supply }
+        ensures pays { (p : Reached)
+            → PaysMany result.moves store.old p self.old result.event store.new p self.new }
         ensures few { result.moves ≤ 197124 }
         ensures limits { limits_of store.new self.new ≡ limits_of store.old self.old }
         ensures reader { result.moves ≡ 0 → self.new ≡ self.old }
@@ -170,8 +179,10 @@ impl Reader {
     #[inline(never)]
     fn read_register<K: Copy>(&mut self, store: &mut Store<K>) -> Moved
         requires due { self.old.half.reading.due ≡ dues.Register signs.None }
-        ensures read { (c : Coming) (p : Reached) (supply : Option Supply) → HoldsComing c p supply → HasRead result.moves (situation store.old c self.old) result.event store.new self.new p supply }
-        ensures pays { (p : Reached) → PaysMany result.moves store.old p self.old result.event store.new p self.new }
+        ensures read { (c : Coming) (p : Reached) (supply : Option Supply) → HoldsComing c p supply
+            → HasRead result.moves (situation store.old c self.old) result.event store.new self.new p supply }
+        ensures pays { (p : Reached)
+            → PaysMany result.moves store.old p self.old result.event store.new p self.new }
         ensures few { result.moves ≤ 197124 }
         ensures limits { limits_of store.new self.new ≡ limits_of store.old self.old }
         ensures reader { result.moves ≡ 0 → self.new ≡ self.old }
@@ -189,8 +200,10 @@ impl Reader {
     #[inline(never)]
     fn read_stepped<K: Copy>(&mut self, up: bool, store: &mut Store<K>) -> Moved
         requires due { self.old.half.reading.due ≡ dues.Register (stepping up) }
-        ensures read { (c : Coming) (p : Reached) (supply : Option Supply) → HoldsComing c p supply → HasRead result.moves (situation store.old c self.old) result.event store.new self.new p supply }
-        ensures pays { (p : Reached) → PaysMany result.moves store.old p self.old result.event store.new p self.new }
+        ensures read { (c : Coming) (p : Reached) (supply : Option Supply) → HoldsComing c p supply
+            → HasRead result.moves (situation store.old c self.old) result.event store.new self.new p supply }
+        ensures pays { (p : Reached)
+            → PaysMany result.moves store.old p self.old result.event store.new p self.new }
         ensures few { result.moves ≤ 197125 }
         ensures some { 0 < result.moves }
         ensures limits { limits_of store.new self.new ≡ limits_of store.old self.old }
@@ -207,8 +220,10 @@ impl Reader {
     /// is near.
     #[inline(always)]
     pub(crate) fn interpolate_at_once<K: Copy>(&mut self, store: &mut Store<K>) -> Moved
-        ensures read { (c : Coming) (p : Reached) (supply : Option Supply) → HoldsComing c p supply → HasRead result.moves (situation store.old c self.old) result.event store.new self.new p supply }
-        ensures pays { (p : Reached) → PaysMany result.moves store.old p self.old result.event store.new p self.new }
+        ensures read { (c : Coming) (p : Reached) (supply : Option Supply) → HoldsComing c p supply
+            → HasRead result.moves (situation store.old c self.old) result.event store.new self.new p supply }
+        ensures pays { (p : Reached)
+            → PaysMany result.moves store.old p self.old result.event store.new p self.new }
         ensures few { result.moves ≤ 197125 }
         ensures limits { limits_of store.new self.new ≡ limits_of store.old self.old }
         ensures reader { result.moves ≡ 0 → self.new ≡ self.old }
@@ -232,7 +247,8 @@ impl Reader {
     fn copy_argument<K: Copy>(&self, n: u8, store: &Store<K>, chunk: &mut [u8]) -> Option<usize>
         requires due { self.now.half.reading.due ≡ dues.Argument n }
         requires holds { 64 ≤ length chunk.old }
-        ensures may { IfSome result (λ count. (n : ℕ) → n ≤ length (rest_of store.now.levels) → MaySplice (take count chunk.new) (left_times n store.now) self.now) }
+        ensures may { IfSome result (λ count. (n : ℕ) → n ≤ length (rest_of store.now.levels)
+            → MaySplice (take count chunk.new) (left_times n store.now) self.now) }
         ensures within { IfSome result (λ count. count ≤ length chunk.new) }
     {
         let bytes = store.argument(usize::from(n));
@@ -248,9 +264,11 @@ impl Reader {
     #[inline(always)]
     fn copy_text<K: Copy>(&self, text: &[u8], store: &Store<K>, chunk: &mut [u8]) -> Option<usize>
         requires due { self.now.half.reading.due ≡ dues.Register signs.None }
-        requires text { text.now ≡ register_text (register_of (find self.now.half.notes.asked store.now.registers)) }
+        requires text { text.now
+            ≡ register_text (register_of (find self.now.half.notes.asked store.now.registers)) }
         requires holds { 64 ≤ length chunk.old }
-        ensures may { IfSome result (λ count. (n : ℕ) → n ≤ length (rest_of store.now.levels) → MaySplice (take count chunk.new) (left_times n store.now) self.now) }
+        ensures may { IfSome result (λ count. (n : ℕ) → n ≤ length (rest_of store.now.levels)
+            → MaySplice (take count chunk.new) (left_times n store.now) self.now) }
         ensures within { IfSome result (λ count. count ≤ length chunk.new) }
     {
         let len = text.len();
@@ -266,7 +284,8 @@ impl Reader {
     fn copy_register<K: Copy>(&self, store: &Store<K>, chunk: &mut [u8]) -> Option<usize>
         requires due { self.now.half.reading.due ≡ dues.Register signs.None }
         requires holds { 64 ≤ length chunk.old }
-        ensures may { IfSome result (λ count. (n : ℕ) → n ≤ length (rest_of store.now.levels) → MaySplice (take count chunk.new) (left_times n store.now) self.now) }
+        ensures may { IfSome result (λ count. (n : ℕ) → n ≤ length (rest_of store.now.levels)
+            → MaySplice (take count chunk.new) (left_times n store.now) self.now) }
         ensures within { IfSome result (λ count. count ≤ length chunk.new) }
     {
         let register = store.register(self.half.notes.asked);
@@ -282,7 +301,8 @@ impl Reader {
     fn copy_string<K: Copy>(&self, store: &Store<K>, chunk: &mut [u8]) -> Option<usize>
         requires due { self.now.half.reading.due ≡ dues.Splice }
         requires holds { 64 ≤ length chunk.old }
-        ensures may { IfSome result (λ count. (n : ℕ) → n ≤ length (rest_of store.now.levels) → MaySplice (take count chunk.new) (left_times n store.now) self.now) }
+        ensures may { IfSome result (λ count. (n : ℕ) → n ≤ length (rest_of store.now.levels)
+            → MaySplice (take count chunk.new) (left_times n store.now) self.now) }
         ensures within { IfSome result (λ count. count ≤ length chunk.new) }
     {
         let Some(text) = store.text(self.half.notes.asked) else {
@@ -300,7 +320,8 @@ impl Reader {
     #[inline(always)]
     pub(crate) fn copy_splice<K: Copy>(&self, store: &Store<K>, chunk: &mut [u8]) -> Option<usize>
         requires holds { 64 ≤ length chunk.old }
-        ensures may { IfSome result (λ count. (n : ℕ) → n ≤ length (rest_of store.now.levels) → MaySplice (take count chunk.new) (left_times n store.now) self.now) }
+        ensures may { IfSome result (λ count. (n : ℕ) → n ≤ length (rest_of store.now.levels)
+            → MaySplice (take count chunk.new) (left_times n store.now) self.now) }
         ensures within { IfSome result (λ count. count ≤ length chunk.new) }
     {
         match self.half.reading.due {

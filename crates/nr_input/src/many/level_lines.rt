@@ -21,7 +21,8 @@ use nr_store::{Rest, Store};
 #[inline(always)]
 fn meet_name(half: &mut Half, rest: Rest<'_>) -> Option<MetName>
     requires due { half.old.reading.due ≡ dues.Look }
-    ensures met { IfSome result (λ name. HasMet name.moves (map element_front (elements_in rest.entry)) half.old (quiet name.taken half.new)) }
+    ensures met { IfSome result (λ name. HasMet name.moves (map element_front (elements_in rest.entry))
+        half.old (quiet name.taken half.new)) }
     ensures due { IfSome result (λ name. half.new.reading.due ≡ dues.Seek) }
     ensures some { IfSome result (λ name. 0 < name.taken) }
     ensures short { IfSome result (λ name. name.taken ≤ 3) }
@@ -37,8 +38,11 @@ fn meet_name(half: &mut Half, rest: Rest<'_>) -> Option<MetName>
 // The name of a control line that the newest level begins with is met and taken, if nothing is due. None where none was there.
 #[inline(always)]
 fn read_name<K: Copy>(reader: &mut Reader, store: &mut Store<K>) -> Option<MetName>
-    ensures read { IfSome result (λ name. (c : Coming) (p : Reached) (supply : Option Supply) → HoldsComing c p supply → HasRead name.moves (situation store.old c reader.old) events.Nothing store.new reader.new p supply) }
-    ensures pays { IfSome result (λ name. (p : Reached) → PaysAll name.moves store.old p reader.old events.Nothing store.new p reader.new) }
+    ensures read { IfSome result (λ name. (c : Coming) (p : Reached) (supply : Option Supply)
+        → HoldsComing c p supply → HasRead name.moves (situation store.old c reader.old) events.Nothing
+        store.new reader.new p supply) }
+    ensures pays { IfSome result (λ name. (p : Reached)
+        → PaysAll name.moves store.old p reader.old events.Nothing store.new p reader.new) }
     ensures due { IfSome result (λ name. reader.new.half.reading.due ≡ dues.Seek) }
     ensures few { IfSome result (λ name. name.moves ≤ 5) }
     ensures short { IfSome result (λ name. name.taken ≤ 3) }
@@ -59,8 +63,10 @@ fn read_name<K: Copy>(reader: &mut Reader, store: &mut Store<K>) -> Option<MetNa
 /// As `read_level`; but the name of a control line that comes next is looked up at once, and what is after it is read.
 #[inline(never)]
 pub(crate) fn read_level_line<K: Copy>(reader: &mut Reader, store: &mut Store<K>) -> Run
-    ensures read { (c : Coming) (p : Reached) (supply : Option Supply) → HoldsComing c p supply → HasRead result.moves (situation store.old c reader.old) result.event store.new reader.new p supply }
-    ensures pays { (p : Reached) → PaysAll result.moves store.old p reader.old result.event store.new p reader.new }
+    ensures read { (c : Coming) (p : Reached) (supply : Option Supply) → HoldsComing c p supply
+        → HasRead result.moves (situation store.old c reader.old) result.event store.new reader.new p supply }
+    ensures pays { (p : Reached)
+        → PaysAll result.moves store.old p reader.old result.event store.new p reader.new }
     ensures few { result.moves ≤ 65542 }
     ensures limits { limits_of store.new reader.new ≡ limits_of store.old reader.old }
     ensures longest { IsLongestInLevel result.moves store.old reader.old result.event store.new reader.new }

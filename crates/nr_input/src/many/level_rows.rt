@@ -88,8 +88,11 @@ fn meet_named<K: Copy, I: Tail>(reader: &mut Reader, store: &Store<K>, row: I, f
     requires within { from ≤ length (rest_of store.now.levels) }
     requires due { reader.old.half.reading.due ≡ dues.Seek }
     ensures read { (c : Coming) (p : Reached) (supply : Option Supply) → HoldsComing c p supply →
-        HasRead result.run.moves (situation (left_times from store.now) c reader.old) result.run.event (begun_by result.calls (left_times (from + result.run.taken) store.now)) reader.new p supply }
-    ensures pays { (p : Reached) → PaysAll result.run.moves (left_times from store.now) p reader.old result.run.event (begun_by result.calls (left_times (from + result.run.taken) store.now)) p reader.new }
+        HasRead result.run.moves (situation (left_times from store.now) c reader.old) result.run.event
+        (begun_by result.calls (left_times (from + result.run.taken) store.now)) reader.new p supply }
+    ensures pays { (p : Reached)
+        → PaysAll result.run.moves (left_times from store.now) p reader.old result.run.event
+        (begun_by result.calls (left_times (from + result.run.taken) store.now)) p reader.new }
     ensures few { result.run.moves ≤ 65537 }
     ensures some { 0 < result.run.moves }
     ensures within { from + result.run.taken ≤ length (rest_of store.now.levels) }
@@ -121,14 +124,19 @@ fn meet_named<K: Copy, I: Tail>(reader: &mut Reader, store: &Store<K>, row: I, f
 fn meet_rows<K: Copy, I: Tail>(reader: &mut Reader, store: &Store<K>, row: I) -> Met
     requires row { I.fronts row ≡ map element_front (rest_of store.now.levels) }
     ensures read { (c : Coming) (p : Reached) (supply : Option Supply) → HoldsComing c p supply →
-        HasRead result.run.moves (situation store.now c reader.old) result.run.event (begun_by result.calls (left_times result.run.taken store.now)) reader.new p supply }
-    ensures pays { (p : Reached) → PaysAll result.run.moves store.now p reader.old result.run.event (begun_by result.calls (left_times result.run.taken store.now)) p reader.new }
+        HasRead result.run.moves (situation store.now c reader.old) result.run.event
+        (begun_by result.calls (left_times result.run.taken store.now)) reader.new p supply }
+    ensures pays { (p : Reached) → PaysAll result.run.moves store.now p reader.old result.run.event
+        (begun_by result.calls (left_times result.run.taken store.now)) p reader.new }
     ensures few { result.run.moves ≤ 65536 + 65537 * 4 }
     ensures within { result.run.taken ≤ length (rest_of store.now.levels) }
     ensures short { result.run.taken ≤ result.run.moves }
     ensures limits { limits_of store.now reader.new ≡ limits_of store.now reader.old }
-    ensures some { (b : ℕ) → slice_get (rest_of store.now.levels) 0 ≡ Some (elements.Byte b) → reader.old.half.reading.due ≡ dues.Look → 0 < result.run.moves }
-    ensures stops { result.run.moves ≡ 0 → StopsInLevel 0 result.run.event (begun_by result.calls (left_times result.run.taken store.now)) reader.new }
+    ensures some { (b : ℕ) → slice_get (rest_of store.now.levels) 0 ≡ Some (elements.Byte b)
+        → reader.old.half.reading.due ≡ dues.Look → 0 < result.run.moves }
+    ensures stops { result.run.moves ≡ 0
+        → StopsInLevel 0 result.run.event (begun_by result.calls (left_times result.run.taken store.now))
+        reader.new }
 {
     let mut met = Met {
         run: meet_first(&mut reader.half, &row),
@@ -159,16 +167,23 @@ fn meet_rows<K: Copy, I: Tail>(reader: &mut Reader, store: &Store<K>, row: I) ->
 // none in front.
 #[inline(always)]
 fn meet_front<K: Copy>(reader: &mut Reader, store: &Store<K>) -> Option<Met>
-    ensures read { IfSome result (λ met. (c : Coming) (p : Reached) (supply : Option Supply) → HoldsComing c p supply →
-        HasRead met.run.moves (situation store.now c reader.old) met.run.event (begun_by met.calls (left_times met.run.taken store.now)) reader.new p supply) }
-    ensures pays { IfSome result (λ met. (p : Reached) → PaysAll met.run.moves store.now p reader.old met.run.event (begun_by met.calls (left_times met.run.taken store.now)) p reader.new) }
+    ensures read { IfSome result (λ met. (c : Coming) (p : Reached) (supply : Option Supply)
+        → HoldsComing c p supply →
+        HasRead met.run.moves (situation store.now c reader.old) met.run.event
+        (begun_by met.calls (left_times met.run.taken store.now)) reader.new p supply) }
+    ensures pays { IfSome result (λ met. (p : Reached)
+        → PaysAll met.run.moves store.now p reader.old met.run.event
+        (begun_by met.calls (left_times met.run.taken store.now)) p reader.new) }
     ensures few { IfSome result (λ met. met.run.moves ≤ 65536 + 65537 * 4) }
     ensures within { IfSome result (λ met. met.run.taken ≤ length (rest_of store.now.levels)) }
     ensures short { IfSome result (λ met. met.run.taken ≤ met.run.moves) }
     ensures limits { IfSome result (λ met. limits_of store.now reader.new ≡ limits_of store.now reader.old) }
-    ensures some { IfSome result (λ met. (b : ℕ) → slice_get (rest_of store.now.levels) 0 ≡ Some (elements.Byte b) → reader.old.half.reading.due ≡ dues.Look → 0 < met.run.moves) }
-    ensures stops { IfSome result (λ met. met.run.moves ≡ 0 → StopsInLevel 0 met.run.event (begun_by met.calls (left_times met.run.taken store.now)) reader.new) }
-    ensures none { result ≡ None → (b : ℕ) → slice_get (rest_of store.now.levels) 0 ≡ Some (elements.Byte b) → ⊥ }
+    ensures some { IfSome result (λ met. (b : ℕ) → slice_get (rest_of store.now.levels) 0
+        ≡ Some (elements.Byte b) → reader.old.half.reading.due ≡ dues.Look → 0 < met.run.moves) }
+    ensures stops { IfSome result (λ met. met.run.moves ≡ 0
+        → StopsInLevel 0 met.run.event (begun_by met.calls (left_times met.run.taken store.now)) reader.new) }
+    ensures none { result ≡ None → (b : ℕ) → slice_get (rest_of store.now.levels) 0 ≡ Some (elements.Byte b)
+        → ⊥ }
     ensures reader { result ≡ None → reader.new ≡ reader.old }
 {
     match store.rest() {
@@ -203,13 +218,18 @@ fn leave_row<K: Copy>(met: Met, store: &mut Store<K>)
 /// The items in front of the newest level are read, and the names of control lines are looked up. None where it has none in front.
 #[inline(always)]
 pub(crate) fn read_rows<K: Copy>(reader: &mut Reader, store: &mut Store<K>) -> Option<Run>
-    ensures read { IfSome result (λ run. (c : Coming) (p : Reached) (supply : Option Supply) → HoldsComing c p supply → HasRead run.moves (situation store.old c reader.old) run.event store.new reader.new p supply) }
-    ensures pays { IfSome result (λ run. (p : Reached) → PaysAll run.moves store.old p reader.old run.event store.new p reader.new) }
+    ensures read { IfSome result (λ run. (c : Coming) (p : Reached) (supply : Option Supply)
+        → HoldsComing c p supply → HasRead run.moves (situation store.old c reader.old) run.event store.new
+        reader.new p supply) }
+    ensures pays { IfSome result (λ run. (p : Reached)
+        → PaysAll run.moves store.old p reader.old run.event store.new p reader.new) }
     ensures few { IfSome result (λ run. run.moves ≤ 327684) }
     ensures limits { IfSome result (λ run. limits_of store.new reader.new ≡ limits_of store.old reader.old) }
-    ensures some { IfSome result (λ run. (b : ℕ) → slice_get (rest_of store.old.levels) 0 ≡ Some (elements.Byte b) → reader.old.half.reading.due ≡ dues.Look → 0 < run.moves) }
+    ensures some { IfSome result (λ run. (b : ℕ) → slice_get (rest_of store.old.levels) 0
+        ≡ Some (elements.Byte b) → reader.old.half.reading.due ≡ dues.Look → 0 < run.moves) }
     ensures stops { IfSome result (λ run. run.moves ≡ 0 → StopsInLevel 0 run.event store.new reader.new) }
-    ensures none { result ≡ None → (b : ℕ) → slice_get (rest_of store.old.levels) 0 ≡ Some (elements.Byte b) → ⊥ }
+    ensures none { result ≡ None → (b : ℕ) → slice_get (rest_of store.old.levels) 0 ≡ Some (elements.Byte b)
+        → ⊥ }
     ensures reader { result ≡ None → reader.new ≡ reader.old }
     ensures store { result ≡ None → store.new ≡ store.old }
 {

@@ -37,8 +37,10 @@ impl Reader {
 // What is due is done, where it may be done at once and is not refused.
 #[inline(always)]
 fn do_due<K: Copy>(reader: &mut Reader, store: &mut Store<K>) -> Moved
-    ensures read { (c : Coming) (p : Reached) (supply : Option Supply) → HoldsComing c p supply → HasRead result.moves (situation store.old c reader.old) result.event store.new reader.new p supply }
-    ensures pays { (p : Reached) → PaysMany result.moves store.old p reader.old result.event store.new p reader.new }
+    ensures read { (c : Coming) (p : Reached) (supply : Option Supply) → HoldsComing c p supply
+        → HasRead result.moves (situation store.old c reader.old) result.event store.new reader.new p supply }
+    ensures pays { (p : Reached)
+        → PaysMany result.moves store.old p reader.old result.event store.new p reader.new }
     ensures few { result.moves ≤ 1 }
     ensures limits { limits_of store.new reader.new ≡ limits_of store.old reader.old }
     ensures left { result.moves ≡ 0 → reader.new ≡ reader.old }
@@ -62,8 +64,10 @@ fn do_due<K: Copy>(reader: &mut Reader, store: &mut Store<K>) -> Moved
 // copied is read with no level opened for it.
 #[inline(always)]
 fn act<K: Copy>(reader: &mut Reader, store: &mut Store<K>) -> Moved
-    ensures read { (c : Coming) (p : Reached) (supply : Option Supply) → HoldsComing c p supply → HasRead result.moves (situation store.old c reader.old) result.event store.new reader.new p supply }
-    ensures pays { (p : Reached) → PaysMany result.moves store.old p reader.old result.event store.new p reader.new }
+    ensures read { (c : Coming) (p : Reached) (supply : Option Supply) → HoldsComing c p supply
+        → HasRead result.moves (situation store.old c reader.old) result.event store.new reader.new p supply }
+    ensures pays { (p : Reached)
+        → PaysMany result.moves store.old p reader.old result.event store.new p reader.new }
     ensures few { result.moves ≤ 197125 }
     ensures limits { limits_of store.new reader.new ≡ limits_of store.old reader.old }
     ensures left { result.moves ≡ 0 → reader.new ≡ reader.old }
@@ -78,8 +82,11 @@ fn act<K: Copy>(reader: &mut Reader, store: &mut Store<K>) -> Moved
 // The end of the newest level is taken, if it comes next: it does nothing to what is half read. Tells whether it was.
 #[inline(always)]
 fn end_level<K: Copy>(store: &mut Store<K>) -> bool
-    ensures read { result ≡ true → (c : Coming) (p : Reached) (r : ReaderValue) (supply : Option Supply) → r.half.reading.due ≡ dues.Look → HoldsComing c p supply → HasRead 1 (situation store.old c r) events.Nothing store.new r p supply }
-    ensures pays { result ≡ true → (p : Reached) (r : ReaderValue) → r.half.reading.due ≡ dues.Look → PaysMany 1 store.old p r events.Nothing store.new p r }
+    ensures read { result ≡ true → (c : Coming) (p : Reached) (r : ReaderValue) (supply : Option Supply)
+        → r.half.reading.due ≡ dues.Look → HoldsComing c p supply
+        → HasRead 1 (situation store.old c r) events.Nothing store.new r p supply }
+    ensures pays { result ≡ true → (p : Reached) (r : ReaderValue) → r.half.reading.due ≡ dues.Look
+        → PaysMany 1 store.old p r events.Nothing store.new p r }
     ensures limits { (r : ReaderValue) → limits_of store.new r ≡ limits_of store.old r }
     ensures left { result ≡ false → store.new ≡ store.old }
 {
@@ -89,8 +96,11 @@ fn end_level<K: Copy>(store: &mut Store<K>) -> bool
 // The same. Answers how many moves that was.
 #[inline(always)]
 fn read_end<K: Copy>(store: &mut Store<K>) -> usize
-    ensures read { (c : Coming) (p : Reached) (r : ReaderValue) (supply : Option Supply) → r.half.reading.due ≡ dues.Look → HoldsComing c p supply → HasRead result (situation store.old c r) events.Nothing store.new r p supply }
-    ensures pays { (p : Reached) (r : ReaderValue) → r.half.reading.due ≡ dues.Look → PaysMany result store.old p r events.Nothing store.new p r }
+    ensures read { (c : Coming) (p : Reached) (r : ReaderValue) (supply : Option Supply)
+        → r.half.reading.due ≡ dues.Look → HoldsComing c p supply
+        → HasRead result (situation store.old c r) events.Nothing store.new r p supply }
+    ensures pays { (p : Reached) (r : ReaderValue) → r.half.reading.due ≡ dues.Look
+        → PaysMany result store.old p r events.Nothing store.new p r }
     ensures few { result ≤ 1 }
     ensures limits { (r : ReaderValue) → limits_of store.new r ≡ limits_of store.old r }
     ensures left { result ≡ 0 → store.new ≡ store.old }
@@ -114,11 +124,14 @@ fn made_none(run: Run, reader: &Reader) -> bool
 // The same, or the end of the level.
 #[inline(always)]
 fn read_copied<K: Copy>(reader: &mut Reader, store: &mut Store<K>) -> Moved
-    ensures read { (c : Coming) (p : Reached) (supply : Option Supply) → HoldsComing c p supply → HasRead result.moves (situation store.old c reader.old) result.event store.new reader.new p supply }
-    ensures pays { (p : Reached) → PaysMany result.moves store.old p reader.old result.event store.new p reader.new }
+    ensures read { (c : Coming) (p : Reached) (supply : Option Supply) → HoldsComing c p supply
+        → HasRead result.moves (situation store.old c reader.old) result.event store.new reader.new p supply }
+    ensures pays { (p : Reached)
+        → PaysMany result.moves store.old p reader.old result.event store.new p reader.new }
     ensures few { result.moves ≤ 66048 }
     ensures limits { limits_of store.new reader.new ≡ limits_of store.old reader.old }
-    ensures some { (b : ℕ) → slice_get (rest_of store.old.levels) 0 ≡ Some (elements.Byte b) → reader.old.half.reading.due ≡ dues.Look → 0 < result.moves }
+    ensures some { (b : ℕ) → slice_get (rest_of store.old.levels) 0 ≡ Some (elements.Byte b)
+        → reader.old.half.reading.due ≡ dues.Look → 0 < result.moves }
     ensures stops { result.moves ≡ 0 → StopsInLevel 0 result.event store.new reader.new }
 {
     let run = read_added(reader, store);
@@ -138,11 +151,14 @@ fn read_copied<K: Copy>(reader: &mut Reader, store: &mut Store<K>) -> Moved
 #[inline(always)]
 fn read_row<K: Copy>(reader: &mut Reader, store: &mut Store<K>) -> Moved
     requires due { reader.old.half.reading.due ≡ dues.Look }
-    ensures read { (c : Coming) (p : Reached) (supply : Option Supply) → HoldsComing c p supply → HasRead result.moves (situation store.old c reader.old) result.event store.new reader.new p supply }
-    ensures pays { (p : Reached) → PaysMany result.moves store.old p reader.old result.event store.new p reader.new }
+    ensures read { (c : Coming) (p : Reached) (supply : Option Supply) → HoldsComing c p supply
+        → HasRead result.moves (situation store.old c reader.old) result.event store.new reader.new p supply }
+    ensures pays { (p : Reached)
+        → PaysMany result.moves store.old p reader.old result.event store.new p reader.new }
     ensures few { result.moves ≤ 327684 }
     ensures limits { limits_of store.new reader.new ≡ limits_of store.old reader.old }
-    ensures some { (b : ℕ) → slice_get (rest_of store.old.levels) 0 ≡ Some (elements.Byte b) → reader.old.half.reading.due ≡ dues.Look → 0 < result.moves }
+    ensures some { (b : ℕ) → slice_get (rest_of store.old.levels) 0 ≡ Some (elements.Byte b)
+        → reader.old.half.reading.due ≡ dues.Look → 0 < result.moves }
     ensures stops { result.moves ≡ 0 → StopsInLevel 0 result.event store.new reader.new }
 {
     let Some(front) = read_rows(reader, store) else {
@@ -160,11 +176,14 @@ fn read_row<K: Copy>(reader: &mut Reader, store: &mut Store<K>) -> Moved
 // What comes next of the levels: what is due, items that lie in a row, or the end of a level.
 #[inline(always)]
 fn read_part<K: Copy>(reader: &mut Reader, store: &mut Store<K>) -> Moved
-    ensures read { (c : Coming) (p : Reached) (supply : Option Supply) → HoldsComing c p supply → HasRead result.moves (situation store.old c reader.old) result.event store.new reader.new p supply }
-    ensures pays { (p : Reached) → PaysMany result.moves store.old p reader.old result.event store.new p reader.new }
+    ensures read { (c : Coming) (p : Reached) (supply : Option Supply) → HoldsComing c p supply
+        → HasRead result.moves (situation store.old c reader.old) result.event store.new reader.new p supply }
+    ensures pays { (p : Reached)
+        → PaysMany result.moves store.old p reader.old result.event store.new p reader.new }
     ensures few { result.moves ≤ 327684 }
     ensures limits { limits_of store.new reader.new ≡ limits_of store.old reader.old }
-    ensures some { (b : ℕ) → slice_get (rest_of store.old.levels) 0 ≡ Some (elements.Byte b) → reader.old.half.reading.due ≡ dues.Look → 0 < result.moves }
+    ensures some { (b : ℕ) → slice_get (rest_of store.old.levels) 0 ≡ Some (elements.Byte b)
+        → reader.old.half.reading.due ≡ dues.Look → 0 < result.moves }
     ensures stops { result.moves ≡ 0 → StopsInLevel 0 result.event store.new reader.new }
 {
     if !matches!(reader.half.reading.due, Due::Look) {
@@ -179,8 +198,10 @@ fn read_part<K: Copy>(reader: &mut Reader, store: &mut Store<K>) -> Moved
 // What levels bring is read, up to what tells something and to a text line.
 #[inline(never)]
 fn read_lines<K: Copy>(reader: &mut Reader, store: &mut Store<K>) -> Moved
-    ensures read { (c : Coming) (p : Reached) (supply : Option Supply) → HoldsComing c p supply → HasRead result.moves (situation store.old c reader.old) result.event store.new reader.new p supply }
-    ensures pays { (p : Reached) → PaysMany result.moves store.old p reader.old result.event store.new p reader.new }
+    ensures read { (c : Coming) (p : Reached) (supply : Option Supply) → HoldsComing c p supply
+        → HasRead result.moves (situation store.old c reader.old) result.event store.new reader.new p supply }
+    ensures pays { (p : Reached)
+        → PaysMany result.moves store.old p reader.old result.event store.new p reader.new }
     ensures few { result.moves ≤ 327684 * 800 }
     ensures limits { limits_of store.new reader.new ≡ limits_of store.old reader.old }
     ensures longest { IsLongestUpToText result.moves store.old reader.old result.event store.new reader.new }
@@ -211,11 +232,14 @@ fn read_lines<K: Copy>(reader: &mut Reader, store: &mut Store<K>) -> Moved
 // What comes next of the newest level in a text line is read: its items, and what is due after them.
 #[inline(never)]
 fn read_text<K: Copy>(reader: &mut Reader, store: &mut Store<K>) -> Moved
-    ensures read { (c : Coming) (p : Reached) (supply : Option Supply) → HoldsComing c p supply → HasRead result.moves (situation store.old c reader.old) result.event store.new reader.new p supply }
-    ensures pays { (p : Reached) → PaysMany result.moves store.old p reader.old result.event store.new p reader.new }
+    ensures read { (c : Coming) (p : Reached) (supply : Option Supply) → HoldsComing c p supply
+        → HasRead result.moves (situation store.old c reader.old) result.event store.new reader.new p supply }
+    ensures pays { (p : Reached)
+        → PaysMany result.moves store.old p reader.old result.event store.new p reader.new }
     ensures few { result.moves ≤ 65537 }
     ensures limits { limits_of store.new reader.new ≡ limits_of store.old reader.old }
-    ensures some { (b : ℕ) → slice_get (rest_of store.old.levels) 0 ≡ Some (elements.Byte b) → reader.old.half.reading.due ≡ dues.Look → 0 < result.moves }
+    ensures some { (b : ℕ) → slice_get (rest_of store.old.levels) 0 ≡ Some (elements.Byte b)
+        → reader.old.half.reading.due ≡ dues.Look → 0 < result.moves }
     ensures stops { result.moves ≡ 0 → StopsInLevel 0 result.event store.new reader.new }
 {
     let run = read_level(reader, store);
@@ -235,8 +259,10 @@ fn read_text<K: Copy>(reader: &mut Reader, store: &mut Store<K>) -> Moved
 // The same, and what comes after the text line.
 #[inline(always)]
 fn read_text_on<K: Copy>(reader: &mut Reader, store: &mut Store<K>) -> Moved
-    ensures read { (c : Coming) (p : Reached) (supply : Option Supply) → HoldsComing c p supply → HasRead result.moves (situation store.old c reader.old) result.event store.new reader.new p supply }
-    ensures pays { (p : Reached) → PaysMany result.moves store.old p reader.old result.event store.new p reader.new }
+    ensures read { (c : Coming) (p : Reached) (supply : Option Supply) → HoldsComing c p supply
+        → HasRead result.moves (situation store.old c reader.old) result.event store.new reader.new p supply }
+    ensures pays { (p : Reached)
+        → PaysMany result.moves store.old p reader.old result.event store.new p reader.new }
     ensures few { result.moves ≤ 65541 * 4096 }
     ensures limits { limits_of store.new reader.new ≡ limits_of store.old reader.old }
     ensures longest { IsLongestUpToText result.moves store.old reader.old result.event store.new reader.new }
@@ -257,8 +283,10 @@ fn read_text_on<K: Copy>(reader: &mut Reader, store: &mut Store<K>) -> Moved
 /// due are read, or the end of its level. The mode after a sprung text is left; `_mode` is of no account.
 #[inline(always)]
 pub fn read_levels<K: Copy>(reader: &mut Reader, store: &mut Store<K>, _mode: &mut K) -> Moved
-    ensures read { (c : Coming) (p : Reached) (supply : Option Supply) → HoldsComing c p supply → HasRead result.moves (situation store.old c reader.old) result.event store.new reader.new p supply }
-    ensures pays { (p : Reached) → PaysMany result.moves store.old p reader.old result.event store.new p reader.new }
+    ensures read { (c : Coming) (p : Reached) (supply : Option Supply) → HoldsComing c p supply
+        → HasRead result.moves (situation store.old c reader.old) result.event store.new reader.new p supply }
+    ensures pays { (p : Reached)
+        → PaysMany result.moves store.old p reader.old result.event store.new p reader.new }
     ensures few { result.moves ≤ 65541 * 4096 }
     ensures limits { limits_of store.new reader.new ≡ limits_of store.old reader.old }
     ensures longest { IsLongestUpToText result.moves store.old reader.old result.event store.new reader.new }

@@ -247,8 +247,11 @@ pub(crate) fn read_macro_line<K: Copy, R: Source>(
     store: &mut Store<K>,
     source: &mut R,
 ) -> Run
-    ensures read { (c : Coming) → HoldsComing c place.old (R.supply source.old) → HasRead result.moves (situation store.old c reader.old) result.event store.new reader.new place.new (R.supply source.new) }
-    ensures pays { PaysAll result.moves store.old place.old reader.old result.event store.new place.new reader.new }
+    ensures read { (c : Coming) → HoldsComing c place.old (R.supply source.old)
+        → HasRead result.moves (situation store.old c reader.old) result.event store.new reader.new place.new
+        (R.supply source.new) }
+    ensures pays { PaysAll result.moves store.old place.old reader.old result.event store.new
+        place.new reader.new }
     ensures few { result.moves ≤ 32256 }
     ensures within { result.taken < 2 ^ 40 }
     ensures limits { limits_of store.new reader.new ≡ limits_of store.old reader.old }

@@ -36,10 +36,12 @@ pub struct Moved {
 // What is left of a level is met, as `Half::meet_run` says.
 #[inline(always)]
 fn meet_level(half: &mut Half, rest: Rest<'_>) -> Run
-    ensures met { HasMet result.moves (map element_front (elements_in rest.entry)) half.old (spot result half.new) }
+    ensures met { HasMet result.moves (map element_front (elements_in rest.entry)) half.old
+        (spot result half.new) }
     ensures few { result.moves ≤ 65536 }
     ensures longest { result.event ≡ events.Nothing → half.new.reading.due ≡ dues.Look → result.moves < 65536
-        → (byte : ℕ) → slice_get (map element_front (elements_in rest.entry)) result.taken ≡ Some (variants.Byte byte) → ⊥ }
+        → (byte : ℕ) → slice_get (map element_front (elements_in rest.entry)) result.taken
+        ≡ Some (variants.Byte byte) → ⊥ }
 {
     match rest {
         Rest::Text(elements) => half.meet_run(&ElementRow(elements)),
@@ -50,8 +52,10 @@ fn meet_level(half: &mut Half, rest: Rest<'_>) -> Run
 /// The items of the newest level are read.
 #[inline(always)]
 pub(crate) fn read_level<K: Copy>(reader: &mut Reader, store: &mut Store<K>) -> Run
-    ensures read { (c : Coming) (p : Reached) (supply : Option Supply) → HoldsComing c p supply → HasRead result.moves (situation store.old c reader.old) result.event store.new reader.new p supply }
-    ensures pays { (p : Reached) → PaysAll result.moves store.old p reader.old result.event store.new p reader.new }
+    ensures read { (c : Coming) (p : Reached) (supply : Option Supply) → HoldsComing c p supply
+        → HasRead result.moves (situation store.old c reader.old) result.event store.new reader.new p supply }
+    ensures pays { (p : Reached)
+        → PaysAll result.moves store.old p reader.old result.event store.new p reader.new }
     ensures few { result.moves ≤ 65536 }
     ensures within { result.taken ≤ 65536 }
     ensures limits { limits_of store.new reader.new ≡ limits_of store.old reader.old }
@@ -70,11 +74,16 @@ pub(crate) fn read_source<K: Copy, R: Source>(
     store: &Store<K>,
     source: &mut R,
 ) -> Run
-    ensures read { (c : Coming) → HoldsComing c place.old (R.supply source.old) → HasRead result.moves (situation store.now c reader.old) result.event store.now reader.new place.new (R.supply source.new) }
-    ensures pays { PaysAll result.moves store.now place.old reader.old result.event store.now place.new reader.new }
+    ensures read { (c : Coming) → HoldsComing c place.old (R.supply source.old)
+        → HasRead result.moves (situation store.now c reader.old) result.event store.now reader.new place.new
+        (R.supply source.new) }
+    ensures pays { PaysAll result.moves store.now place.old reader.old result.event store.now
+        place.new reader.new }
     ensures few { result.moves ≤ 65536 }
     ensures limits { limits_of store.now reader.new ≡ limits_of store.now reader.old }
-    ensures longest { store.now.levels ≡ [] → is_unseen place.old.ahead ≡ true → IsLongest (R.at_hand source.old) result.moves place.old reader.old result.event store.now place.new reader.new }
+    ensures longest { store.now.levels ≡ [] → is_unseen place.old.ahead ≡ true
+        → IsLongest (R.at_hand source.old) result.moves place.old reader.old result.event store.now
+        place.new reader.new }
     ensures failures { R.failures source.new ≡ R.failures source.old }
     ensures unfailed { has_failed place.old.ahead ≡ false → has_failed place.new.ahead ≡ false }
 {
@@ -93,8 +102,11 @@ pub(crate) fn read_source<K: Copy, R: Source>(
 // text that is defined. Answers how many.
 #[inline(always)]
 fn add_wanted<K: Copy>(reader: &Reader, store: &mut Store<K>) -> usize
-    ensures read { (c : Coming) (p : Reached) (supply : Option Supply) → HoldsComing c p supply → HasRead (2 * result) (situation store.old c reader.now) events.Nothing store.new reader.now p supply }
-    ensures pays { (p : Reached) → PaysAll (2 * result) store.old p reader.now events.Nothing store.new p reader.now }
+    ensures read { (c : Coming) (p : Reached) (supply : Option Supply) → HoldsComing c p supply
+        → HasRead (2 * result) (situation store.old c reader.now) events.Nothing store.new
+        reader.now p supply }
+    ensures pays { (p : Reached)
+        → PaysAll (2 * result) store.old p reader.now events.Nothing store.new p reader.now }
     ensures few { result ≤ 256 }
     ensures limits { limits_of store.new reader.now ≡ limits_of store.old reader.now }
     ensures none { result ≡ 0 → store.new ≡ store.old }
@@ -108,8 +120,10 @@ fn add_wanted<K: Copy>(reader: &Reader, store: &mut Store<K>) -> usize
 /// The items in front of the newest level are added, and then read.
 #[inline(always)]
 pub(crate) fn read_added<K: Copy>(reader: &mut Reader, store: &mut Store<K>) -> Run
-    ensures read { (c : Coming) (p : Reached) (supply : Option Supply) → HoldsComing c p supply → HasRead result.moves (situation store.old c reader.old) result.event store.new reader.new p supply }
-    ensures pays { (p : Reached) → PaysMany result.moves store.old p reader.old result.event store.new p reader.new }
+    ensures read { (c : Coming) (p : Reached) (supply : Option Supply) → HoldsComing c p supply
+        → HasRead result.moves (situation store.old c reader.old) result.event store.new reader.new p supply }
+    ensures pays { (p : Reached)
+        → PaysMany result.moves store.old p reader.old result.event store.new p reader.new }
     ensures few { result.moves ≤ 66048 }
     ensures limits { limits_of store.new reader.new ≡ limits_of store.old reader.old }
     ensures longest { IsLongestInLevel result.moves store.old reader.old result.event store.new reader.new }
@@ -127,8 +141,10 @@ pub(crate) fn read_added<K: Copy>(reader: &mut Reader, store: &mut Store<K>) -> 
 #[inline]
 fn add_from_level<K: Copy>(reader: &mut Reader, store: &mut Store<K>) -> Run
     requires { is_read_for Argument reader.old.half ≡ true }
-    ensures read { (c : Coming) (p : Reached) (supply : Option Supply) → HoldsComing c p supply → HasRead result.moves (situation store.old c reader.old) result.event store.new reader.new p supply }
-    ensures pays { (p : Reached) → PaysAll result.moves store.old p reader.old result.event store.new p reader.new }
+    ensures read { (c : Coming) (p : Reached) (supply : Option Supply) → HoldsComing c p supply
+        → HasRead result.moves (situation store.old c reader.old) result.event store.new reader.new p supply }
+    ensures pays { (p : Reached)
+        → PaysAll result.moves store.old p reader.old result.event store.new p reader.new }
     ensures few { result.moves ≤ 65536 }
     ensures limits { limits_of store.new reader.new ≡ limits_of store.old reader.old }
     ensures longest { IsLongestInLevel result.moves store.old reader.old result.event store.new reader.new }
@@ -154,11 +170,16 @@ fn add_from_source<K: Copy, R: Source>(
     source: &mut R,
 ) -> Run
     requires { is_read_for target reader.old.half ≡ true }
-    ensures read { (c : Coming) → HoldsComing c place.old (R.supply source.old) → HasRead result.moves (situation store.old c reader.old) result.event store.new reader.new place.new (R.supply source.new) }
-    ensures pays { PaysAll result.moves store.old place.old reader.old result.event store.new place.new reader.new }
+    ensures read { (c : Coming) → HoldsComing c place.old (R.supply source.old)
+        → HasRead result.moves (situation store.old c reader.old) result.event store.new reader.new place.new
+        (R.supply source.new) }
+    ensures pays { PaysAll result.moves store.old place.old reader.old result.event store.new
+        place.new reader.new }
     ensures few { result.moves ≤ 65536 }
     ensures limits { limits_of store.new reader.new ≡ limits_of store.old reader.old }
-    ensures longest { store.old.levels ≡ [] → is_unseen place.old.ahead ≡ true → IsLongest (R.at_hand source.old) result.moves place.old reader.old result.event store.new place.new reader.new }
+    ensures longest { store.old.levels ≡ [] → is_unseen place.old.ahead ≡ true
+        → IsLongest (R.at_hand source.old) result.moves place.old reader.old result.event store.new
+        place.new reader.new }
     ensures failures { R.failures source.new ≡ R.failures source.old }
     ensures unfailed { has_failed place.old.ahead ≡ false → has_failed place.new.ahead ≡ false }
 {
@@ -180,8 +201,10 @@ fn add_from_source<K: Copy, R: Source>(
 /// As `read_run`, of the newest level.
 #[inline(always)]
 pub(crate) fn read_run_of_level<K: Copy>(reader: &mut Reader, store: &mut Store<K>) -> Run
-    ensures read { (c : Coming) (p : Reached) (supply : Option Supply) → HoldsComing c p supply → HasRead result.moves (situation store.old c reader.old) result.event store.new reader.new p supply }
-    ensures pays { (p : Reached) → PaysAll result.moves store.old p reader.old result.event store.new p reader.new }
+    ensures read { (c : Coming) (p : Reached) (supply : Option Supply) → HoldsComing c p supply
+        → HasRead result.moves (situation store.old c reader.old) result.event store.new reader.new p supply }
+    ensures pays { (p : Reached)
+        → PaysAll result.moves store.old p reader.old result.event store.new p reader.new }
     ensures few { result.moves ≤ 65536 }
     ensures limits { limits_of store.new reader.new ≡ limits_of store.old reader.old }
     ensures longest { IsLongestInLevel result.moves store.old reader.old result.event store.new reader.new }
@@ -201,12 +224,18 @@ pub fn read_run<K: Copy, R: Source>(
     store: &mut Store<K>,
     source: &mut R,
 ) -> Run
-    ensures read { (c : Coming) → HoldsComing c place.old (R.supply source.old) → HasRead result.moves (situation store.old c reader.old) result.event store.new reader.new place.new (R.supply source.new) }
-    ensures pays { PaysAll result.moves store.old place.old reader.old result.event store.new place.new reader.new }
+    ensures read { (c : Coming) → HoldsComing c place.old (R.supply source.old)
+        → HasRead result.moves (situation store.old c reader.old) result.event store.new reader.new place.new
+        (R.supply source.new) }
+    ensures pays { PaysAll result.moves store.old place.old reader.old result.event store.new
+        place.new reader.new }
     ensures few { result.moves ≤ 65536 }
     ensures limits { limits_of store.new reader.new ≡ limits_of store.old reader.old }
-    ensures longest { store.old.levels ≡ [] → is_unseen place.old.ahead ≡ true → IsLongest (R.at_hand source.old) result.moves place.old reader.old result.event store.new place.new reader.new }
-    ensures longest_in_level { nat_lt 0 (length store.old.levels) ≡ true → IsLongestInLevel result.moves store.old reader.old result.event store.new reader.new }
+    ensures longest { store.old.levels ≡ [] → is_unseen place.old.ahead ≡ true
+        → IsLongest (R.at_hand source.old) result.moves place.old reader.old result.event store.new
+        place.new reader.new }
+    ensures longest_in_level { nat_lt 0 (length store.old.levels) ≡ true
+        → IsLongestInLevel result.moves store.old reader.old result.event store.new reader.new }
     ensures failures { R.failures source.new ≡ R.failures source.old }
     ensures unfailed { has_failed place.old.ahead ≡ false → has_failed place.new.ahead ≡ false }
 {

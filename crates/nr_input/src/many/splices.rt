@@ -116,7 +116,8 @@ impl Splices {
     pub(crate) fn begun(&self, bytes: usize) -> usize
         ensures within { result ≤ length self.now }
         ensures most { result ≤ 8 }
-        ensures begun { (n : ℕ) → n < result → IfSome (slice_get self.now n) (λ splice. splice.before < bytes) }
+        ensures begun { (n : ℕ) → n < result
+            → IfSome (slice_get self.now n) (λ splice. splice.before < bytes) }
         ensures next { IfSome (slice_get self.now result) (λ splice. bytes ≤ splice.before) }
     {
         for n in 0..self.len {

@@ -6,7 +6,9 @@ use Rattle.nr_reading.specs.Spelled.{is_blank}
 
 -- the byte comes first in a condition, begins no number, and delimits two strings
 abbrev pub delimits : ℕ → Bool
-delimits b = is_plain b && not (is_blank b || (b == code "!") || (b == code "o") || (b == code "e") || (b == code "t") || (b == code "n"))
+delimits b =
+    is_plain b && not (is_blank b || (b == code "!") || (b == code "o") || (b == code "e") || (b == code "t")
+    || (b == code "n"))
 
 -- a number ends before the byte, where so many parentheses are open
 abbrev pub ends_number : ℕ → ℕ → Bool

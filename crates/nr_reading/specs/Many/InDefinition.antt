@@ -18,4 +18,5 @@ is_in_definition_at keeps m e d asks = false
 
 -- the next item is read in the midst of a string's text, or of a line of a definition that is kept, after no part of an escape
 abbrev pub is_in_definition : Half → Bool
-is_in_definition h = is_in_definition_at h.notes.defining.keeps h.reading.mode h.reading.escape h.reading.due h.asks
+is_in_definition h =
+    is_in_definition_at h.notes.defining.keeps h.reading.mode h.reading.escape h.reading.due h.asks

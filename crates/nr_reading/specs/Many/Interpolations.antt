@@ -26,7 +26,9 @@ interpolates h = reads_plainly h && interpolates_in h.reading.mode h.signs
 
 -- the byte is a name of its own, where it comes first
 abbrev pub is_lone_name : ℕ → Bool
-is_lone_name b = not ((b == code "\\") || (b == code "\n") || (b == code "(") || (b == code "[") || (b == code "+") || (b == code "-"))
+is_lone_name b =
+    not ((b == code "\\") || (b == code "\n") || (b == code "(") || (b == code "[") || (b == code "+")
+    || (b == code "-"))
 
 -- the escape asks for a name, of a string, a register or a font
 abbrev pub is_named : Kind → Bool
@@ -48,12 +50,18 @@ named k name h = record h {
 
 -- what is due is another, and the name that was asked for last; nothing else of what is half read
 abbrev pub AsksOnly : Half → Half → Type 0
-AsksOnly h g = g ≡ record h { reading = record h.reading { due = g.reading.due }; notes = record h.notes { asked = g.notes.asked } }
+AsksOnly h g =
+    g ≡ record h {
+      reading = record h.reading { due = g.reading.due };
+      notes = record h.notes { asked = g.notes.asked };
+    }
 
 -- A name stands there in the row: one byte, or in the midst of a line two after `(`, where an escape begins at neither.
 pub data IsName (in_line : Bool) (fs : List Front) (place : ℕ) : Type 0 where
-  Lone : (byte : ℕ) → slice_get fs place ≡ Some (fronts.Byte byte) → is_lone_name byte ≡ true → IsName in_line fs place
-  Pair : (one two : ℕ) → in_line ≡ true → slice_get fs place ≡ Some (fronts.Byte (code "(")) → slice_get fs (place + 1) ≡ Some (fronts.Byte one) → slice_get fs (place + 2) ≡ Some (fronts.Byte two)
+  Lone : (byte : ℕ) → slice_get fs place ≡ Some (fronts.Byte byte) → is_lone_name byte ≡ true
+      → IsName in_line fs place
+  Pair : (one two : ℕ) → in_line ≡ true → slice_get fs place ≡ Some (fronts.Byte (code "("))
+      → slice_get fs (place + 1) ≡ Some (fronts.Byte one) → slice_get fs (place + 2) ≡ Some (fronts.Byte two)
       → is_plain one ≡ true → is_plain two ≡ true → IsName in_line fs place
 
 -- A font escape stands in front of the row, with its name.

@@ -21,7 +21,8 @@ pub record LeadsOn (fs : List Front) (from made : ℕ) (old : Half) (to moves : 
 pub record MeetsRest (fs : List Front) (from made : ℕ) (old : Half) (run : Run) (new : Half) : Type 0 where
   pub met : (h : Half) → HasMet made fs h (quiet from old) → HasMet run.moves fs h (spot run new)
   pub few : run.moves ≤ 65536
-  pub longest : run.event ≡ events.Nothing → new.reading.due ≡ dues.Look → run.moves < 65536 → (byte : ℕ) → slice_get fs run.taken ≡ Some (fronts.Byte byte) → ⊥
+  pub longest : run.event ≡ events.Nothing → new.reading.due ≡ dues.Look → run.moves < 65536 → (byte : ℕ)
+      → slice_get fs run.taken ≡ Some (fronts.Byte byte) → ⊥
 
 -- In these modes a blank does nothing; before a condition it does nothing where no `!` came.
 abbrev pub drops_blank : Mode → Condition → Bool

@@ -47,5 +47,6 @@ pub record HasMet (n : ℕ) (fs : List Front) (h : Half) (p : Spot) : Type 0 whe
   pub leads : spot_after n fs h ≡ p
   pub goes : (k : ℕ) → k < n → MayGoOn fs (spot_after k fs h)
   pub within : p.taken ≤ length fs
-  pub pays : weight_of_half p.half + cost_of_event p.event + n + 178 * (blanks_owed p.half - blanks_owed h) ≤ weight_of_half h + 256 * p.taken + 1
+  pub pays : weight_of_half p.half + cost_of_event p.event + n + 178 * (blanks_owed p.half - blanks_owed h)
+      ≤ weight_of_half h + 256 * p.taken + 1
   pub tells : is_lead p.event ≡ false

@@ -44,7 +44,8 @@ impl Half {
     pub fn plain_bytes(&self, bytes: &[u8]) -> usize
         ensures front { result ≤ length bytes.now }
         ensures plain { All (IsPlain (ending_of self.now.reading.mode)) (take result bytes.now) }
-        ensures stops { result < length bytes.now → ¬ IsPlain (ending_of self.now.reading.mode) (slice_index bytes.now result) }
+        ensures stops { result < length bytes.now
+            → ¬ IsPlain (ending_of self.now.reading.mode) (slice_index bytes.now result) }
     {
         let ending = match self.reading.mode {
             Mode::Quoted => b'"',

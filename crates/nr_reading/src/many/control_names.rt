@@ -76,7 +76,8 @@ impl Half {
     pub(crate) fn meet_name_at<I: Items>(&mut self, items: &I, place: usize) -> Option<MetName>
         requires mode { self.old.reading.mode ≡ modes.Start }
         requires next { reads_next self.old ≡ true }
-        ensures met { IfSome result (λ name. (n : ℕ) → LeadsOn (I.fronts items.now) place n self.old (place + name.taken) (n + name.moves) self.new) }
+        ensures met { IfSome result (λ name. (n : ℕ)
+            → LeadsOn (I.fronts items.now) place n self.old (place + name.taken) (n + name.moves) self.new) }
         ensures due { IfSome result (λ name. self.new.reading.due ≡ dues.Seek) }
         ensures some { IfSome result (λ name. 0 < name.taken) }
         ensures short { IfSome result (λ name. name.taken ≤ 3) }
@@ -123,7 +124,8 @@ impl Half {
     #[inline(always)]
     pub fn meet_name<I: Items>(&mut self, items: &I) -> Option<MetName>
         requires due { self.old.reading.due ≡ dues.Look }
-        ensures met { IfSome result (λ name. HasMet name.moves (I.fronts items.now) self.old (quiet name.taken self.new)) }
+        ensures met { IfSome result (λ name. HasMet name.moves (I.fronts items.now) self.old
+            (quiet name.taken self.new)) }
         ensures due { IfSome result (λ name. self.new.reading.due ≡ dues.Seek) }
         ensures some { IfSome result (λ name. 0 < name.taken) }
         ensures short { IfSome result (λ name. name.taken ≤ 3) }

@@ -39,9 +39,11 @@ fn is_lone_name(byte: u8) -> bool
 #[inline(always)]
 fn byte_at<I: Items>(items: &I, place: usize, behind: usize) -> Option<u8>
     requires { place < length (I.fronts items.now) }
-    ensures value { IfSome result (λ byte. slice_get (I.fronts items.now) (place + behind) ≡ Some (variants.Byte byte)) }
+    ensures value { IfSome result (λ byte. slice_get (I.fronts items.now) (place + behind)
+        ≡ Some (variants.Byte byte)) }
     ensures within { IfSome result (λ byte. place + behind < length (I.fronts items.now)) }
-    ensures other { result ≡ None → (byte : ℕ) → slice_get (I.fronts items.now) (place + behind) ≡ Some (variants.Byte byte) → ⊥ }
+    ensures other { result ≡ None → (byte : ℕ) → slice_get (I.fronts items.now) (place + behind)
+        ≡ Some (variants.Byte byte) → ⊥ }
 {
     if behind < items.count() - place {
         return items.byte(place + behind);
@@ -66,7 +68,8 @@ impl Half {
     // What is due after the name of a register. Answers what is told.
     #[inline(always)]
     fn end_register(&mut self, sign: Sign, name: Name) -> Event
-        ensures half { self.new ≡ record self.old { reading = record self.old.reading { due = due_of (kinds.Register sign) name } } }
+        ensures half { self.new ≡ record self.old
+            { reading = record self.old.reading { due = due_of (kinds.Register sign) name } } }
         ensures event { result ≡ event_of (kinds.Register sign) name }
     {
         if is_given(name.as_bytes()) {
@@ -128,20 +131,28 @@ impl Half {
         requires kind { is_named kind ≡ true }
         requires few { before ≤ 3 }
         requires within { place < length (I.fronts items.now) }
-        ensures met { IfSome result (λ run. (h : HalfRead) (n : ℕ) → HasMet (n + before) (I.fronts items.now) h (quiet (place + before) (begun kind self.old)) →
-            HasMet (n + run.moves) (I.fronts items.now) h (record { taken = place + run.taken; half = self.new; event = run.event })) }
+        ensures met { IfSome result (λ run. (h : HalfRead) (n : ℕ)
+            → HasMet (n + before) (I.fronts items.now) h (quiet (place + before) (begun kind self.old)) →
+            HasMet (n + run.moves) (I.fronts items.now) h
+            (record { taken = place + run.taken; half = self.new; event = run.event })) }
         ensures least { IfSome result (λ run. before < run.taken) }
         ensures few { IfSome result (λ run. run.moves ≤ 6) }
         ensures taken { IfSome result (λ run. run.taken ≡ run.moves) }
         ensures within { IfSome result (λ run. place + run.taken ≤ length (I.fronts items.now)) }
-        ensures due { IfSome result (λ run. run.event ≡ events.Nothing → self.new.reading.due ≡ dues.Look → ⊥) }
+        ensures due { IfSome result (λ run. run.event ≡ events.Nothing → self.new.reading.due ≡ dues.Look
+            → ⊥) }
         ensures font { IfSome result (λ run. kind ≡ kinds.Font → run.event ≡ events.Font) }
         ensures text { self.old.reading.mode ≡ modes.Text → AsksOnly self.old self.new }
-        ensures behind { IfSome result (λ run. kind ≡ kinds.Font → self.old.reading.mode ≡ modes.Text → is_in_text self.new ≡ true) }
+        ensures behind { IfSome result (λ run. kind ≡ kinds.Font → self.old.reading.mode ≡ modes.Text
+            → is_in_text self.new ≡ true) }
         ensures left { result ≡ None → self.new ≡ self.old }
-        ensures lone { result ≡ None → (name : ℕ) → slice_get (I.fronts items.now) (place + before) ≡ Some (variants.Byte name) → is_lone_name name ≡ true → ⊥ }
-        ensures pair { result ≡ None → (one two : ℕ) → slice_get (I.fronts items.now) (place + before) ≡ Some (variants.Byte 40) → slice_get (I.fronts items.now) (place + (before + 1)) ≡ Some (variants.Byte one) →
-            slice_get (I.fronts items.now) (place + (before + 2)) ≡ Some (variants.Byte two) → is_plain one ≡ true → is_plain two ≡ true → ⊥ }
+        ensures lone { result ≡ None → (name : ℕ) → slice_get (I.fronts items.now) (place + before)
+            ≡ Some (variants.Byte name) → is_lone_name name ≡ true → ⊥ }
+        ensures pair { result ≡ None → (one two : ℕ) → slice_get (I.fronts items.now) (place + before)
+            ≡ Some (variants.Byte 40) → slice_get (I.fronts items.now) (place + (before + 1))
+            ≡ Some (variants.Byte one) →
+            slice_get (I.fronts items.now) (place + (before + 2)) ≡ Some (variants.Byte two)
+            → is_plain one ≡ true → is_plain two ≡ true → ⊥ }
     {
         let Some(first) = byte_at(items, place, before) else {
             return None;
@@ -170,12 +181,15 @@ impl Half {
         requires plain { interpolates self.old ≡ true }
         requires due { self.old.reading.due ≡ dues.Look }
         requires within { place < length (I.fronts items.now) }
-        ensures met { IfSome result (λ run. (h : HalfRead) (n : ℕ) → HasMet (n + 2) (I.fronts items.now) h (quiet (place + 2) (begun kinds.Argument self.old)) →
-            HasMet (n + run.moves) (I.fronts items.now) h (record { taken = place + run.taken; half = self.new; event = run.event })) }
+        ensures met { IfSome result (λ run. (h : HalfRead) (n : ℕ)
+            → HasMet (n + 2) (I.fronts items.now) h (quiet (place + 2) (begun kinds.Argument self.old)) →
+            HasMet (n + run.moves) (I.fronts items.now) h
+            (record { taken = place + run.taken; half = self.new; event = run.event })) }
         ensures few { IfSome result (λ run. run.moves ≤ 6) }
         ensures taken { IfSome result (λ run. run.taken ≡ run.moves) }
         ensures within { IfSome result (λ run. place + run.taken ≤ length (I.fronts items.now)) }
-        ensures due { IfSome result (λ run. run.event ≡ events.Nothing → self.new.reading.due ≡ dues.Look → ⊥) }
+        ensures due { IfSome result (λ run. run.event ≡ events.Nothing → self.new.reading.due ≡ dues.Look
+            → ⊥) }
         ensures text { self.old.reading.mode ≡ modes.Text → AsksOnly self.old self.new }
         ensures left { result ≡ None → self.new ≡ self.old }
     {
@@ -199,12 +213,16 @@ impl Half {
         requires plain { interpolates self.old ≡ true }
         requires due { self.old.reading.due ≡ dues.Look }
         requires within { place < length (I.fronts items.now) }
-        ensures met { IfSome result (λ run. (h : HalfRead) (n : ℕ) → HasMet (n + 2) (I.fronts items.now) h (quiet (place + 2) (begun (kinds.Register signs.None) self.old)) →
-            HasMet (n + run.moves) (I.fronts items.now) h (record { taken = place + run.taken; half = self.new; event = run.event })) }
+        ensures met { IfSome result (λ run. (h : HalfRead) (n : ℕ)
+            → HasMet (n + 2) (I.fronts items.now) h
+            (quiet (place + 2) (begun (kinds.Register signs.None) self.old)) →
+            HasMet (n + run.moves) (I.fronts items.now) h
+            (record { taken = place + run.taken; half = self.new; event = run.event })) }
         ensures few { IfSome result (λ run. run.moves ≤ 6) }
         ensures taken { IfSome result (λ run. run.taken ≡ run.moves) }
         ensures within { IfSome result (λ run. place + run.taken ≤ length (I.fronts items.now)) }
-        ensures due { IfSome result (λ run. run.event ≡ events.Nothing → self.new.reading.due ≡ dues.Look → ⊥) }
+        ensures due { IfSome result (λ run. run.event ≡ events.Nothing → self.new.reading.due ≡ dues.Look
+            → ⊥) }
         ensures text { self.old.reading.mode ≡ modes.Text → AsksOnly self.old self.new }
         ensures left { result ≡ None → self.new ≡ self.old }
     {
@@ -224,18 +242,22 @@ impl Half {
         requires within { place + 1 < length (I.fronts items.now) }
         requires backslash { slice_get (I.fronts items.now) place ≡ Some (variants.Byte 92) }
         requires font { slice_get (I.fronts items.now) (place + 1) ≡ Some (variants.Byte 102) }
-        ensures met { IfSome result (λ run. (h : HalfRead) (n : ℕ) → HasMet n (I.fronts items.now) h (quiet place self.old) →
-            HasMet (n + run.moves) (I.fronts items.now) h (record { taken = place + run.taken; half = self.new; event = run.event })) }
+        ensures met { IfSome result (λ run. (h : HalfRead) (n : ℕ)
+            → HasMet n (I.fronts items.now) h (quiet place self.old) →
+            HasMet (n + run.moves) (I.fronts items.now) h
+            (record { taken = place + run.taken; half = self.new; event = run.event })) }
         ensures least { IfSome result (λ run. 3 ≤ run.taken) }
         ensures few { IfSome result (λ run. run.moves ≤ 6) }
         ensures taken { IfSome result (λ run. run.moves ≡ run.taken + 1) }
         ensures within { IfSome result (λ run. place + run.taken ≤ length (I.fronts items.now)) }
-        ensures due { IfSome result (λ run. run.event ≡ events.Nothing → self.new.reading.due ≡ dues.Look → ⊥) }
+        ensures due { IfSome result (λ run. run.event ≡ events.Nothing → self.new.reading.due ≡ dues.Look
+            → ⊥) }
         ensures font { IfSome result (λ run. run.event ≡ events.Font) }
         ensures text { self.old.reading.mode ≡ modes.Text → AsksOnly self.old self.new }
         ensures behind { IfSome result (λ run. is_in_text self.new ≡ true) }
         ensures left { result ≡ None → self.new ≡ self.old }
-        ensures lone { result ≡ None → (name : ℕ) → slice_get (I.fronts items.now) (place + 2) ≡ Some (variants.Byte name) → is_lone_name name ≡ true → ⊥ }
+        ensures lone { result ≡ None → (name : ℕ) → slice_get (I.fronts items.now) (place + 2)
+            ≡ Some (variants.Byte name) → is_lone_name name ≡ true → ⊥ }
     {
         let Some(name) = byte_at(items, place, 2) else {
             return None;
@@ -260,20 +282,25 @@ impl Half {
         requires within { place + 1 < length (I.fronts items.now) }
         requires backslash { slice_get (I.fronts items.now) place ≡ Some (variants.Byte 92) }
         requires font { slice_get (I.fronts items.now) (place + 1) ≡ Some (variants.Byte 102) }
-        ensures met { IfSome result (λ run. (h : HalfRead) (n : ℕ) → HasMet n (I.fronts items.now) h (quiet place self.old) →
-            HasMet (n + run.moves) (I.fronts items.now) h (record { taken = place + run.taken; half = self.new; event = run.event })) }
+        ensures met { IfSome result (λ run. (h : HalfRead) (n : ℕ)
+            → HasMet n (I.fronts items.now) h (quiet place self.old) →
+            HasMet (n + run.moves) (I.fronts items.now) h
+            (record { taken = place + run.taken; half = self.new; event = run.event })) }
         ensures least { IfSome result (λ run. 3 ≤ run.taken) }
         ensures few { IfSome result (λ run. run.moves ≤ 6) }
         ensures taken { IfSome result (λ run. run.taken ≤ run.moves) }
         ensures within { IfSome result (λ run. place + run.taken ≤ length (I.fronts items.now)) }
-        ensures due { IfSome result (λ run. run.event ≡ events.Nothing → self.new.reading.due ≡ dues.Look → ⊥) }
+        ensures due { IfSome result (λ run. run.event ≡ events.Nothing → self.new.reading.due ≡ dues.Look
+            → ⊥) }
         ensures font { IfSome result (λ run. run.event ≡ events.Font) }
         ensures in_line { self.old.reading.mode ≡ modes.Text → IfSome result (λ run. run.moves ≡ run.taken) }
-        ensures at_start { self.old.reading.mode ≡ modes.Start → IfSome result (λ run. run.moves ≡ run.taken + 1) }
+        ensures at_start { self.old.reading.mode ≡ modes.Start
+            → IfSome result (λ run. run.moves ≡ run.taken + 1) }
         ensures text { self.old.reading.mode ≡ modes.Text → AsksOnly self.old self.new }
         ensures behind { IfSome result (λ run. is_in_text self.new ≡ true) }
         ensures left { result ≡ None → self.new ≡ self.old }
-        ensures longest { result ≡ None → is_at_text self.old ≡ true → IsName (is_in_text self.old) (I.fronts items.now) (place + 2) → ⊥ }
+        ensures longest { result ≡ None → is_at_text self.old ≡ true
+            → IsName (is_in_text self.old) (I.fronts items.now) (place + 2) → ⊥ }
     {
         match self.reading.mode {
             Mode::Text => self.meet_named(items, place, 2, Kind::Font),
@@ -289,12 +316,15 @@ impl Half {
         requires due { self.old.reading.due ≡ dues.Look }
         requires within { place < length (I.fronts items.now) }
         requires backslash { slice_get (I.fronts items.now) place ≡ Some (variants.Byte 92) }
-        ensures met { IfSome result (λ run. (h : HalfRead) (n : ℕ) → HasMet n (I.fronts items.now) h (quiet place self.old) →
-            HasMet (n + run.moves) (I.fronts items.now) h (record { taken = place + run.taken; half = self.new; event = run.event })) }
+        ensures met { IfSome result (λ run. (h : HalfRead) (n : ℕ)
+            → HasMet n (I.fronts items.now) h (quiet place self.old) →
+            HasMet (n + run.moves) (I.fronts items.now) h
+            (record { taken = place + run.taken; half = self.new; event = run.event })) }
         ensures few { IfSome result (λ run. run.moves ≤ 6) }
         ensures taken { IfSome result (λ run. run.taken ≤ run.moves) }
         ensures within { IfSome result (λ run. place + run.taken ≤ length (I.fronts items.now)) }
-        ensures due { IfSome result (λ run. run.event ≡ events.Nothing → self.new.reading.due ≡ dues.Look → ⊥) }
+        ensures due { IfSome result (λ run. run.event ≡ events.Nothing → self.new.reading.due ≡ dues.Look
+            → ⊥) }
         ensures text { self.old.reading.mode ≡ modes.Text → AsksOnly self.old self.new }
         ensures left { result ≡ None → self.new ≡ self.old }
     {
@@ -314,15 +344,18 @@ impl Half {
     /// beginning of a line. None where the row has not all of it, or it begins otherwise.
     #[inline(always)]
     pub fn meet_front_font<I: Items>(&mut self, items: &I) -> Option<Run>
-        ensures met { IfSome result (λ run. HasMet run.moves (I.fronts items.now) self.old (spot run self.new)) }
+        ensures met { IfSome result
+            (λ run. HasMet run.moves (I.fronts items.now) self.old (spot run self.new)) }
         ensures font { IfSome result (λ run. run.event ≡ events.Font) }
         ensures least { IfSome result (λ run. 3 ≤ run.taken) }
         ensures few { IfSome result (λ run. run.moves ≤ 6) }
         ensures in_line { self.old.reading.mode ≡ modes.Text → IfSome result (λ run. run.moves ≡ run.taken) }
-        ensures at_start { self.old.reading.mode ≡ modes.Start → IfSome result (λ run. run.moves ≡ run.taken + 1) }
+        ensures at_start { self.old.reading.mode ≡ modes.Start
+            → IfSome result (λ run. run.moves ≡ run.taken + 1) }
         ensures behind { IfSome result (λ run. is_in_text self.new ≡ true) }
         ensures left { result ≡ None → self.new ≡ self.old }
-        ensures longest { result ≡ None → is_at_text self.old ≡ true → interpolates self.old ≡ true → IsFont (is_in_text self.old) (I.fronts items.now) → ⊥ }
+        ensures longest { result ≡ None → is_at_text self.old ≡ true → interpolates self.old ≡ true
+            → IsFont (is_in_text self.old) (I.fronts items.now) → ⊥ }
     {
         if !matches!(self.reading.due, Due::Look) || items.count() < 2 || !self.interpolates() {
             return None;
@@ -336,7 +369,8 @@ impl Half {
     /// The interpolation or font escape that a row begins with is met, as `meet_interpolation` says, where an item is looked at next.
     #[inline(always)]
     pub fn meet_front<I: Items>(&mut self, items: &I) -> Option<Run>
-        ensures met { IfSome result (λ run. HasMet run.moves (I.fronts items.now) self.old (spot run self.new)) }
+        ensures met { IfSome result
+            (λ run. HasMet run.moves (I.fronts items.now) self.old (spot run self.new)) }
         ensures few { IfSome result (λ run. run.moves ≤ 6) }
         ensures text { self.old.reading.mode ≡ modes.Text → AsksOnly self.old self.new }
         ensures left { result ≡ None → self.new ≡ self.old }

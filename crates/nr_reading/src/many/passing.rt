@@ -82,7 +82,8 @@ impl Half {
         requires due { self.now.reading.due ≡ dues.Look }
         requires front { from ≤ to }
         requires within { to ≤ length (I.fronts items.now) }
-        ensures leads { (n : ℕ) → LeadsOn (I.fronts items.now) from n self.now result (n + (result - from)) self.now }
+        ensures leads { (n : ℕ)
+            → LeadsOn (I.fronts items.now) from n self.now result (n + (result - from)) self.now }
         ensures front { from ≤ result }
         ensures within { result ≤ to }
     {
@@ -101,7 +102,8 @@ impl Half {
     pub(crate) fn pass_comment<I: Items>(&self, items: &I, from: usize, most: usize) -> usize
         requires due { self.now.reading.due ≡ dues.Look }
         requires within { from ≤ length (I.fronts items.now) }
-        ensures leads { (n : ℕ) → LeadsOn (I.fronts items.now) from n self.now result (n + (result - from)) self.now }
+        ensures leads { (n : ℕ)
+            → LeadsOn (I.fronts items.now) from n self.now result (n + (result - from)) self.now }
         ensures front { from ≤ result }
         ensures most { result ≤ from + most }
     {

@@ -30,7 +30,8 @@ pub(crate) fn byte_of<I: Items>(items: &I, place: usize) -> Option<u8>
     ensures value { IfSome result (λ byte. slice_get (I.fronts items.now) place ≡ Some (variants.Byte byte)) }
     ensures within { IfSome result (λ byte. place < length (I.fronts items.now)) }
     ensures fits { IfSome result (λ byte. place < 2 ^ 64 - 1) }
-    ensures other { result ≡ None → (byte : ℕ) → slice_get (I.fronts items.now) place ≡ Some (variants.Byte byte) → ⊥ }
+    ensures other { result ≡ None → (byte : ℕ)
+        → slice_get (I.fronts items.now) place ≡ Some (variants.Byte byte) → ⊥ }
 {
     if place < items.count() {
         return items.byte(place);
@@ -46,7 +47,8 @@ impl Half {
         requires drops { drops_blank self.now.reading.mode self.now.notes.condition ≡ true }
         requires front { from ≤ to }
         requires within { to ≤ length (I.fronts items.now) }
-        ensures leads { (n : ℕ) → LeadsOn (I.fronts items.now) from n self.now result (n + (result - from)) self.now }
+        ensures leads { (n : ℕ)
+            → LeadsOn (I.fronts items.now) from n self.now result (n + (result - from)) self.now }
         ensures front { from ≤ result }
         ensures within { result ≤ to }
     {

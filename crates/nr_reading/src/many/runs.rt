@@ -28,7 +28,8 @@ pub trait Items {
     fn byte(&self, n: usize) -> Option<u8>
         requires { n < length (fronts self.now) }
         ensures value { IfSome result (λ byte. slice_get (fronts self.now) n ≡ Some (variants.Byte byte)) }
-        ensures other { result ≡ None → (byte : ℕ) → slice_get (fronts self.now) n ≡ Some (variants.Byte byte) → ⊥ };
+        ensures other { result ≡ None → (byte : ℕ) → slice_get (fronts self.now) n ≡ Some (variants.Byte byte)
+            → ⊥ };
 }
 
 /// What came of a row of items.
@@ -49,7 +50,8 @@ impl Half {
     pub fn meet_run<I: Items>(&mut self, items: &I) -> Run
         ensures met { HasMet result.moves (I.fronts items.now) self.old (spot result self.new) }
         ensures few { result.moves ≤ 65536 }
-        ensures longest { result.event ≡ events.Nothing → self.new.reading.due ≡ dues.Look → result.moves < 65536
+        ensures longest { result.event ≡ events.Nothing → self.new.reading.due ≡ dues.Look
+            → result.moves < 65536
             → (byte : ℕ) → slice_get (I.fronts items.now) result.taken ≡ Some (variants.Byte byte) → ⊥ }
     {
         let mut run = Run {
@@ -75,7 +77,8 @@ impl Half {
         requires due { self.old.reading.due ≡ dues.Look }
         requires within { taken < length (I.fronts items.now) }
         requires byte { slice_get (I.fronts items.now) taken ≡ Some (variants.Byte byte) }
-        ensures rest { IfSome result (λ run. MeetsRest (I.fronts items.now) taken moves self.old run self.new) }
+        ensures rest { IfSome result
+            (λ run. MeetsRest (I.fronts items.now) taken moves self.old run self.new) }
         ensures left { result ≡ None → self.new ≡ self.old }
     {
         if byte != b'\\' || items.count() - taken < 3 || moves > LONGEST - 6 {
@@ -173,7 +176,8 @@ impl Half {
     fn meet_items<I: Items>(&mut self, items: &I, run: &mut Run)
         ensures met { HasMet run.new.moves (I.fronts items.now) self.old (spot run.new self.new) }
         ensures few { run.new.moves ≤ 65536 }
-        ensures longest { run.new.event ≡ events.Nothing → self.new.reading.due ≡ dues.Look → run.new.moves < 65536
+        ensures longest { run.new.event ≡ events.Nothing → self.new.reading.due ≡ dues.Look
+            → run.new.moves < 65536
             → (byte : ℕ) → slice_get (I.fronts items.now) run.new.taken ≡ Some (variants.Byte byte) → ⊥ }
     {
         if !matches!(self.reading.due, Due::Look) {
