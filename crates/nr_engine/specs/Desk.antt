@@ -32,4 +32,5 @@ sizes_of b = record {
 abbrev pub sum_of : Sizes → ℕ
 sum_of s =
     s.elements + s.slots + s.names + s.drafts + s.frames + s.modes + s.bytes + s.places + s.gathering
-    + s.registers + s.traps + s.trap_order + s.words + s.kinds + s.cells + s.pieces + s.row + s.page_cells + s.page_texts + s.page_rows
+    + s.registers + s.traps + s.trap_order + s.words + s.kinds + s.cells + s.pieces + s.row + s.page_cells
+    + s.page_texts + s.page_rows

@@ -129,7 +129,8 @@ pub record WroteFront (s t : State) (old new : Option (List ℕ)) : Type 0 where
   pub front : AppendsFront old new (bytes_of page)
 
 -- from s the machine comes to t: the engine holds t, or a limit or a write stops it
-abbrev pub AfterWork : Option Supply → State → State → Shape → Option (List ℕ) → Option (List ℕ) → Result (Unit {0}) Stop → Type 0
+abbrev pub AfterWork : Option Supply → State → State → Shape → Option (List ℕ) → Option (List ℕ)
+    → Result (Unit {0}) Stop → Type 0
 AfterWork supply s t e old new (Ok x) = Holds [] supply t e × Wrote s t old new
 AfterWork supply s t e old new (Err (stops.Limit which)) = (passed t ≡ Some which) × Keeps old new
 AfterWork supply s t e old new (Err stops.WriteFault) = IsWithin t × WroteFront s t old new
@@ -140,18 +141,24 @@ AfterQuietWork supply s t e (Ok x) = Holds [] supply t e × (t.pages ≡ s.pages
 AfterQuietWork supply s t e (Err which) = passed t ≡ Some which
 
 -- Whatever state the engine stood at, it comes to f of that state.
-abbrev pub Comes : (State → State) → Shape → Shape → Option (List ℕ) → Option (List ℕ) → Result (Unit {0}) Stop → Type 0
-Comes f e e' old new r = (supply : Option Supply) (s : State) → Stands [] supply s e → AfterWork supply (at e s) (f (at e s)) e' old new r
+abbrev pub Comes : (State → State) → Shape → Shape → Option (List ℕ) → Option (List ℕ)
+    → Result (Unit {0}) Stop → Type 0
+Comes f e e' old new r =
+    (supply : Option Supply) (s : State) → Stands [] supply s e
+    → AfterWork supply (at e s) (f (at e s)) e' old new r
 
 abbrev pub ComesQuietly : (State → State) → Shape → Shape → Result (Unit {0}) Measure → Type 0
-ComesQuietly f e e' r = (supply : Option Supply) (s : State) → Stands [] supply s e → AfterQuietWork supply (at e s) (f (at e s)) e' r
+ComesQuietly f e e' r =
+    (supply : Option Supply) (s : State) → Stands [] supply s e
+    → AfterQuietWork supply (at e s) (f (at e s)) e' r
 
 -- less may still come before the next byte, and none was taken
 abbrev pub IsLighter : Shape → Shape → Type 0
 IsLighter e f = formatter.Falls 1 0 e.formatter f.formatter × (f.place ≡ e.place)
 
 -- It comes to f of that state, and less may still come.
-pub record Works (f : State → State) (e e' : Shape) (old new : Option (List ℕ)) (r : Result (Unit {0}) Stop) : Type 0 where
+pub record Works (f : State → State) (e e' : Shape) (old new : Option (List ℕ))
+    (r : Result (Unit {0}) Stop) : Type 0 where
   pub comes : Comes f e e' old new r
   pub lightens : OnOk r (IsLighter e e')
 
@@ -160,7 +167,8 @@ pub record WorksQuietly (f : State → State) (e e' : Shape) (r : Result (Unit {
   pub lightens : OnOk r (IsLighter e e')
 
 -- It comes to f of that state, the move is paid, and a source that had not failed has not failed now.
-pub record Acts (f : State → State) (e e' : Shape) (old new : Option (List ℕ)) (r : Result (Unit {0}) Stop) : Type 0 where
+pub record Acts (f : State → State) (e e' : Shape) (old new : Option (List ℕ))
+    (r : Result (Unit {0}) Stop) : Type 0 where
   pub comes : Comes f e e' old new r
   pub unfailed : has_failed e.place.ahead ≡ false → OnOk r (has_failed e'.place.ahead ≡ false)
   pub spends : OnOk r (Spends e e')
@@ -178,9 +186,14 @@ pub record Exits (e e' : Shape) : Type 0 where
 
 -- the cells go on the page as a line of this height, or the page's limit stops it; the formatter is that of the engine
 abbrev pub Places : List Cell → ℕ → Shape → Shape → Result (Unit {0}) Measure → Type 0
-Places cells height e e' (Ok x) = (e'.formatter ≡ line_placed height e.formatter) × (e'.place ≡ e.place) × (e'.select ≡ e.select) × IsRow [] e'.row × (e'.page.limit ≡ e.page.limit)
-    × ((lines : List Placed) → HoldsPage lines e.page → HoldsPage (lines ++ placed cells height e.formatter ∷ []) e'.page × (page_charge (lines ++ placed cells height e.formatter ∷ []) ≤ e.page.limit))
-Places cells height e e' (Err PageCells) = (lines : List Placed) → HoldsPage lines e.page → e.page.limit < page_charge (lines ++ placed cells height e.formatter ∷ [])
+Places cells height e e' (Ok x) = (e'.formatter ≡ line_placed height e.formatter) × (e'.place ≡ e.place)
+    × (e'.select ≡ e.select) × IsRow [] e'.row × (e'.page.limit ≡ e.page.limit)
+    × ((lines : List Placed) → HoldsPage lines e.page
+    → HoldsPage (lines ++ placed cells height e.formatter ∷ []) e'.page
+    × (page_charge (lines ++ placed cells height e.formatter ∷ []) ≤ e.page.limit))
+Places cells height e e' (Err PageCells) =
+    (lines : List Placed) → HoldsPage lines e.page
+    → e.page.limit < page_charge (lines ++ placed cells height e.formatter ∷ [])
 Places cells height e e' (Err which) = ⊥
 
 -- ---- one move
@@ -199,16 +212,20 @@ Left s (ReadFault at) old new = Keeps old new
 Left s TooLong old new = Keeps old new
 Left s WriteFault old new = WroteFront s (step s) old new
 
-abbrev pub AfterMove : State → Shape → Option Supply → Option (List ℕ) → Option (List ℕ) → Result (Unit {0}) Outcome → Type 0
+abbrev pub AfterMove : State → Shape → Option Supply → Option (List ℕ) → Option (List ℕ)
+    → Result (Unit {0}) Outcome → Type 0
 AfterMove s e supply old new (Ok x) = Moved s e supply old new
 AfterMove s e supply old new (Err outcome) = Stops s outcome × Left s outcome old new
 
 -- At whatever state the engine stood, one move was made, or the run stops there.
-abbrev pub Advances : Shape → Shape → Option Supply → Option Supply → Option (List ℕ) → Option (List ℕ) → Result (Unit {0}) Outcome → Type 0
-Advances e f supply supply' old new r = (s : State) → Stands [] supply s e → AfterMove (at e s) f supply' old new r
+abbrev pub Advances : Shape → Shape → Option Supply → Option Supply → Option (List ℕ) → Option (List ℕ)
+    → Result (Unit {0}) Outcome → Type 0
+Advances e f supply supply' old new r =
+    (s : State) → Stands [] supply s e → AfterMove (at e s) f supply' old new r
 
 -- and where it was made it was paid
-pub record Moves (e f : Shape) (supply supply' : Option Supply) (old new : Option (List ℕ)) (r : Result (Unit {0}) Outcome) : Type 0 where
+pub record Moves (e f : Shape) (supply supply' : Option Supply) (old new : Option (List ℕ))
+    (r : Result (Unit {0}) Outcome) : Type 0 where
   pub advances : Advances e f supply supply' old new r
   pub spends : OnOk r (Spends e f)
 
@@ -229,7 +246,8 @@ pub record TellsSource (e f : Shape) (r : Result (Unit {0}) Outcome) (old new : 
 -- ---- many moves
 
 -- n moves were made from s, and the engine holds the state after them
-pub record Made (chosen : List Choice) (s : State) (n : ℕ) (e : Shape) (supply : Option Supply) (old new : Option (List ℕ)) : Type 0 where
+pub record Made (chosen : List Choice) (s : State) (n : ℕ) (e : Shape) (supply : Option Supply)
+    (old new : Option (List ℕ)) : Type 0 where
   pub runs : Runs n s
   pub holds : Holds chosen supply (state_after n s) e
   pub wrote : Wrote s (state_after n s) old new
@@ -240,7 +258,8 @@ WritesFrom s t Done old new = Wrote s t old new
 WritesFrom s t (Limit which at) old new = Wrote s t old new
 WritesFrom s t (ReadFault at) old new = Wrote s t old new
 WritesFrom s t TooLong old new = Wrote s t old new
-WritesFrom s t WriteFault old new = (between : Option (List ℕ)) × Wrote s t old between × WroteFront t (step t) between new
+WritesFrom s t WriteFault old new =
+    (between : Option (List ℕ)) × Wrote s t old between × WroteFront t (step t) between new
 
 -- n moves were made from s, and the run stops there
 pub record Halts (s : State) (n : ℕ) (outcome : Outcome) (old new : Option (List ℕ)) : Type 0 where

@@ -77,7 +77,12 @@ begin_page s = record s { formatter = page_begun s.formatter; lines = [] }
 
 -- as many rows as the page length holds now
 abbrev pub page_of : State → Ended
-page_of s = record { printed = selects s.select s.formatter.paper.number; rows = s.formatter.settings.pages.page_length / 40; lines = s.lines }
+page_of s =
+    record {
+      printed = selects s.select s.formatter.paper.number;
+      rows = s.formatter.settings.pages.page_length / 40;
+      lines = s.lines;
+    }
 
 abbrev pub end_page : State → State
 end_page s = record s { formatter = page_ended s.formatter; lines = []; pages = s.pages ++ page_of s ∷ [] }
@@ -97,7 +102,8 @@ placed cells height f = record { row = row_at (place_behind height f); cells = t
 
 -- a row goes on the page as a line of this height, and the formatter is this one then
 abbrev pub place : List Cell → ℕ → Formatter → State → State
-place cells height f s = record s { formatter = line_placed height f; row = []; lines = s.lines ++ placed cells height f ∷ [] }
+place cells height f s =
+    record s { formatter = line_placed height f; row = []; lines = s.lines ++ placed cells height f ∷ [] }
 
 -- the page offset, in cells
 abbrev pub offset : Formatter → ℕ
@@ -107,7 +113,8 @@ offset f = f.settings.indents.page_offset.value / 24
 
 abbrev pub put_line_to : Outlet → Going → State → State
 put_line_to outlets.Diversion g s = plainly (divert_line g) s
-put_line_to outlets.Room g s = place (row_going g (offset s.formatter) s.formatter) (spacing s.formatter) (behind_line g s.formatter) s
+put_line_to outlets.Room g s =
+    place (row_going g (offset s.formatter) s.formatter) (spacing s.formatter) (behind_line g s.formatter) s
 put_line_to o g s = turn_page o s
 
 -- the line that goes out is diverted, or finds room and is placed
@@ -147,7 +154,8 @@ room_in o r s = turn_page o s
 
 abbrev pub title_to : Outlet → State → State
 title_to outlets.Diversion s = plainly divert_title s
-title_to outlets.Room s = place (title_row (offset s.formatter) s.formatter) (spacing s.formatter) (title_set s.formatter) s
+title_to outlets.Room s =
+    place (title_row (offset s.formatter) s.formatter) (spacing s.formatter) (title_set s.formatter) s
 title_to o s = turn_page o s
 
 -- the indent of a diverted line that is read again, and on a page the page offset, in cells
@@ -176,7 +184,8 @@ abbrev pub width : List Cell → ℕ
 width row = min (length (trimmed row)) (2 ^ 32 - 1)
 
 abbrev pub line_to : Outlet → ℕ → State → State
-line_to outlets.Diversion height s = record s { formatter = with_diverted_end (width s.row) height s.formatter; row = [] }
+line_to outlets.Diversion height s =
+    record s { formatter = with_diverted_end (width s.row) height s.formatter; row = [] }
 line_to outlets.Room height s = place s.row height (to_read s.formatter) s
 line_to o height s = turn_page o s
 

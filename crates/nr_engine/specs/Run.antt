@@ -96,7 +96,8 @@ abbrev pub Stops : State → Outcome → Type 0
 Stops s Done = kind s ≡ Over
 Stops s (Limit which at) = Passes s which × (at ≡ place_by (kind s) s)
 -- the next byte is needed, and the source may fail
-Stops s (ReadFault at) = (kind s ≡ Reads) × input.Refuses (situation_of s) refusals.ReadFault × (at ≡ s.coming.taken)
+Stops s (ReadFault at) =
+    (kind s ≡ Reads) × input.Refuses (situation_of s) refusals.ReadFault × (at ≡ s.coming.taken)
 -- it is there, and is the 2^40th
 Stops s TooLong = (kind s ≡ Reads) × input.Refuses (situation_of s) refusals.TooLong
 -- the next move is made and ends a page, but not all of it is written
@@ -129,7 +130,8 @@ abbrev pub moves_a_byte : Bounds → ℕ
 moves_a_byte b = 256 * (b.expansions + 1) * (b.stored + b.cells + b.depth + 4)
 
 -- The machine makes n moves from s, and the run stops there as the outcome says.
-pub record Answers (b : Bounds) (s : State) (n : ℕ) (outcome : Outcome) (old new : Option (List ℕ)) : Type 0 where
+pub record Answers (b : Bounds) (s : State) (n : ℕ) (outcome : Outcome)
+    (old new : Option (List ℕ)) : Type 0 where
   pub runs : Runs n s
   pub stops : Stops (state_after n s) outcome
   pub writes : Writes (state_after n s) outcome old new

@@ -50,7 +50,9 @@ choices options = First options.first ∷ map (λ r. Register r.0 r.1) options.r
 
 -- with nothing read
 abbrev pub formatter_at_first : Bounds → Formatter
-formatter_at_first b = first_formatter (nothing request_names b.stored b.depth) (record { collected = nothing_collected; limit = b.cells }) b.expansions
+formatter_at_first b =
+    first_formatter (nothing request_names b.stored b.depth)
+    (record { collected = nothing_collected; limit = b.cells }) b.expansions
 
 -- with the whole input before it
 abbrev pub start : Bounds → Options → Supply → State

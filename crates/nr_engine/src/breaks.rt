@@ -31,9 +31,11 @@ impl Engine {
     /// The word ends, the first page begins, and all that is collected goes out.
     fn break_part<W: Sink>(&mut self, then: Then, output: &mut W) -> Result<(), Stop>
         requires { IsUnderWay (tasks.Break then) self.old.formatter }
-        ensures works { Works (break_part then) (shape self.old) (shape self.new) (W.held output.old) (W.held output.new) result }
+        ensures works { Works (break_part then) (shape self.old) (shape self.new) (W.held output.old)
+            (W.held output.new) result }
         ensures limits { limits_of (shape self.new) ≡ limits_of (shape self.old) }
-        ensures failures { W.failures output.new ≡ put_counted_if (fails_writing result) (W.failures output.old) }
+        ensures failures { W.failures output.new ≡ put_counted_if (fails_writing result)
+            (W.failures output.old) }
     {
         if self.formatter.line.has_word() {
             return Stop::of_limit(self.end_word());
@@ -54,9 +56,11 @@ impl Engine {
     /// What `\c` continues ends, and the break goes on.
     pub(crate) fn break_out<W: Sink>(&mut self, then: Then, output: &mut W) -> Result<(), Stop>
         requires { IsUnderWay (tasks.Break then) self.old.formatter }
-        ensures works { Works (break_out then) (shape self.old) (shape self.new) (W.held output.old) (W.held output.new) result }
+        ensures works { Works (break_out then) (shape self.old) (shape self.new) (W.held output.old)
+            (W.held output.new) result }
         ensures limits { limits_of (shape self.new) ≡ limits_of (shape self.old) }
-        ensures failures { W.failures output.new ≡ put_counted_if (fails_writing result) (W.failures output.old) }
+        ensures failures { W.failures output.new ≡ put_counted_if (fails_writing result)
+            (W.failures output.old) }
     {
         self.formatter.reader.end_continuing();
         self.break_part(then, output)

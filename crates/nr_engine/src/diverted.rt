@@ -42,7 +42,8 @@ impl Engine {
     /// The cell goes into the row and into the innermost diversion.
     fn divert_cell(&mut self, cell: Cell) -> Result<(), Measure>
         requires { self.old.formatter.event ≡ events.DivertedCell cell }
-        ensures works { WorksQuietly (cell_to outlets.Diversion cell) (shape self.old) (shape self.new) result }
+        ensures works { WorksQuietly (cell_to outlets.Diversion cell) (shape self.old)
+            (shape self.new) result }
         ensures limits { limits_of (shape self.new) ≡ limits_of (shape self.old) }
     {
         let indent = self.formatter.settings.indents.indent.value.cells();
@@ -73,7 +74,8 @@ impl Engine {
     /// A cell of a diverted line that is read again goes into its row, and where that is diverted also there.
     pub(crate) fn put_diverted_cell(&mut self, cell: Cell) -> Result<(), Measure>
         requires { self.old.formatter.event ≡ events.DivertedCell cell }
-        ensures works { WorksQuietly (λ s. cell_to (outlet s.formatter) cell s) (shape self.old) (shape self.new) result }
+        ensures works { WorksQuietly (λ s. cell_to (outlet s.formatter) cell s) (shape self.old)
+            (shape self.new) result }
         ensures limits { limits_of (shape self.new) ≡ limits_of (shape self.old) }
     {
         match self.formatter.outlet() {
@@ -88,7 +90,8 @@ impl Engine {
     /// The diverted line ends in the innermost diversion.
     fn end_line(&mut self, height: u32) -> Result<(), Measure>
         requires { IsUnderWay (tasks.Line height) self.old.formatter }
-        ensures works { WorksQuietly (line_to outlets.Diversion height) (shape self.old) (shape self.new) result }
+        ensures works { WorksQuietly (line_to outlets.Diversion height) (shape self.old)
+            (shape self.new) result }
         ensures limits { limits_of (shape self.new) ≡ limits_of (shape self.old) }
     {
         let cells = self.row.written().min(u32::MAX as usize) as u32;
@@ -118,9 +121,11 @@ impl Engine {
         output: &mut W,
     ) -> Result<(), Stop>
         requires { IsUnderWay (tasks.Line height) self.old.formatter }
-        ensures works { Works (λ s. line_to (outlet s.formatter) height s) (shape self.old) (shape self.new) (W.held output.old) (W.held output.new) result }
+        ensures works { Works (λ s. line_to (outlet s.formatter) height s) (shape self.old) (shape self.new)
+            (W.held output.old) (W.held output.new) result }
         ensures limits { limits_of (shape self.new) ≡ limits_of (shape self.old) }
-        ensures failures { W.failures output.new ≡ put_counted_if (fails_writing result) (W.failures output.old) }
+        ensures failures { W.failures output.new ≡ put_counted_if (fails_writing result)
+            (W.failures output.old) }
     {
         match self.formatter.outlet() {
             Outlet::Diversion => Stop::of_limit(self.end_line(height)),

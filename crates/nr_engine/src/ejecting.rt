@@ -30,9 +30,11 @@ impl Engine {
     /// The page that is being ejected goes to the next trap, and with none left it ends.
     pub(crate) fn eject<W: Sink>(&mut self, ejected: Ejected, output: &mut W) -> Result<(), Stop>
         requires { IsUnderWay (tasks.Eject ejected) self.old.formatter }
-        ensures works { Works (eject ejected) (shape self.old) (shape self.new) (W.held output.old) (W.held output.new) result }
+        ensures works { Works (eject ejected) (shape self.old) (shape self.new) (W.held output.old)
+            (W.held output.new) result }
         ensures limits { limits_of (shape self.new) ≡ limits_of (shape self.old) }
-        ensures failures { W.failures output.new ≡ put_counted_if (fails_writing result) (W.failures output.old) }
+        ensures failures { W.failures output.new ≡ put_counted_if (fails_writing result)
+            (W.failures output.old) }
     {
         if !self.formatter.is_ejecting() {
             self.formatter.task = ejected.task();

@@ -99,9 +99,12 @@ impl Engine {
     /// What was told is acted on then; what a sprung macro interrupted is gone on with.
     #[inline(always)]
     fn tell(&mut self, heard: Heard)
-        ensures is { shape self.new ≡ record (shape self.old) { formatter = told_formatter (told_as self.old.resumed heard) self.old.formatter } }
+        ensures is { shape self.new ≡ record (shape self.old)
+            { formatter = told_formatter (told_as self.old.resumed heard) self.old.formatter } }
         ensures limits { limits_of (shape self.new) ≡ limits_of (shape self.old) }
-        ensures falls { (resume : ResumeValue) → told_as self.old.resumed heard ≡ tells.Resume resume → self.old.formatter.event ≡ events.Nothing → self.old.formatter.task ≡ tasks.Read → Falls 0 510 self.old.formatter self.new.formatter }
+        ensures falls { (resume : ResumeValue) → told_as self.old.resumed heard ≡ tells.Resume resume
+            → self.old.formatter.event ≡ events.Nothing → self.old.formatter.task ≡ tasks.Read
+            → Falls 0 510 self.old.formatter self.new.formatter }
     {
         match heard {
             Heard::Event(event) => self.formatter.event = event,
@@ -113,9 +116,12 @@ impl Engine {
     #[inline(always)]
     fn read<R: Source>(&mut self, input: &mut R) -> Result<(), Refusal>
         requires { ReadsNext self.old.formatter }
-        ensures moves { (held : Option (List ℕ)) → Moves (shape self.old) (shape self.new) (R.supply input.old) (R.supply input.new) held held (refused (place_told self.old.place.taken self.old.formatter.reader) result) }
+        ensures moves { (held : Option (List ℕ))
+            → Moves (shape self.old) (shape self.new) (R.supply input.old) (R.supply input.new) held held
+            (refused (place_told self.old.place.taken self.old.formatter.reader) result) }
         ensures limits { limits_of (shape self.new) ≡ limits_of (shape self.old) }
-        ensures tells { TellsRead (shape self.old) (shape self.new) result (R.failures input.old) (R.failures input.new) }
+        ensures tells { TellsRead (shape self.old) (shape self.new) result (R.failures input.old)
+            (R.failures input.new) }
     {
         let formatter = &mut self.formatter;
         match nr_input::advance(
@@ -172,9 +178,11 @@ impl Engine {
     /// What is under way goes on, where nothing is read.
     fn work<W: Sink>(&mut self, task: Task, output: &mut W) -> Result<(), Stop>
         requires { IsAtWork task self.old.formatter }
-        ensures acts { Acts (work_state task) (shape self.old) (shape self.new) (W.held output.old) (W.held output.new) result }
+        ensures acts { Acts (work_state task) (shape self.old) (shape self.new) (W.held output.old)
+            (W.held output.new) result }
         ensures limits { limits_of (shape self.new) ≡ limits_of (shape self.old) }
-        ensures failures { W.failures output.new ≡ put_counted_if (fails_writing result) (W.failures output.old) }
+        ensures failures { W.failures output.new ≡ put_counted_if (fails_writing result)
+            (W.failures output.old) }
     {
         match task {
             Task::Flow(after, breaks) => self.flow(after, breaks, output),
@@ -222,10 +230,13 @@ impl Engine {
         input: &mut R,
         output: &mut W,
     ) -> Result<(), Outcome>
-        ensures moves { Moves (shape self.old) (shape self.new) (R.supply input.old) (R.supply input.new) (W.held output.old) (W.held output.new) result }
+        ensures moves { Moves (shape self.old) (shape self.new) (R.supply input.old) (R.supply input.new)
+            (W.held output.old) (W.held output.new) result }
         ensures limits { limits_of (shape self.new) ≡ limits_of (shape self.old) }
-        ensures tells { TellsSource (shape self.old) (shape self.new) result (R.failures input.old) (R.failures input.new) }
-        ensures write_failures { W.failures output.new ≡ put_counted_if (stops_writing result) (W.failures output.old) }
+        ensures tells { TellsSource (shape self.old) (shape self.new) result (R.failures input.old)
+            (R.failures input.new) }
+        ensures write_failures { W.failures output.new ≡ put_counted_if (stops_writing result)
+            (W.failures output.old) }
     {
         let at = self.place.taken();
         if let Some(name) = self.formatter.springs {

@@ -46,7 +46,8 @@ impl Engine {
     /// The line goes on the open page.
     fn place_line(&mut self, going: Going) -> Result<(), Measure>
         requires { 0 < length (collected self.old.formatter).pieces }
-        ensures works { WorksQuietly (put_line_to outlets.Room going) (shape self.old) (shape self.new) result }
+        ensures works { WorksQuietly (put_line_to outlets.Room going) (shape self.old)
+            (shape self.new) result }
         ensures limits { limits_of (shape self.new) ≡ limits_of (shape self.old) }
     {
         let offset = self.offset();
@@ -60,9 +61,11 @@ impl Engine {
     /// The line that goes out is diverted, or finds room and is placed.
     pub(crate) fn put_line<W: Sink>(&mut self, going: Going, output: &mut W) -> Result<(), Stop>
         requires { 0 < length (collected self.old.formatter).pieces }
-        ensures works { Works (put_line going) (shape self.old) (shape self.new) (W.held output.old) (W.held output.new) result }
+        ensures works { Works (put_line going) (shape self.old) (shape self.new) (W.held output.old)
+            (W.held output.new) result }
         ensures limits { limits_of (shape self.new) ≡ limits_of (shape self.old) }
-        ensures failures { W.failures output.new ≡ put_counted_if (fails_writing result) (W.failures output.old) }
+        ensures failures { W.failures output.new ≡ put_counted_if (fails_writing result)
+            (W.failures output.old) }
     {
         match self.formatter.outlet() {
             Outlet::Diversion => Stop::of_limit(self.divert_line(going)),
@@ -79,9 +82,11 @@ impl Engine {
         output: &mut W,
     ) -> Result<(), Stop>
         requires { IsUnderWay (tasks.Flow after breaks) self.old.formatter }
-        ensures works { Works (flow after breaks) (shape self.old) (shape self.new) (W.held output.old) (W.held output.new) result }
+        ensures works { Works (flow after breaks) (shape self.old) (shape self.new) (W.held output.old)
+            (W.held output.new) result }
         ensures limits { limits_of (shape self.new) ≡ limits_of (shape self.old) }
-        ensures failures { W.failures output.new ≡ put_counted_if (fails_writing result) (W.failures output.old) }
+        ensures failures { W.failures output.new ≡ put_counted_if (fails_writing result)
+            (W.failures output.old) }
     {
         match self.formatter.flow_line(after, breaks) {
             Some(going) => self.put_line(going, output),

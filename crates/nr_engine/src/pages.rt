@@ -37,8 +37,10 @@ impl Engine {
     pub(crate) fn begin_page(&mut self)
         ensures comes { ComesQuietly begin_page (shape self.old) (shape self.new) (Ok tt) }
         ensures limits { limits_of (shape self.new) ≡ limits_of (shape self.old) }
-        ensures opened { is_open self.old.formatter.paper.state ≡ false → IsLighter (shape self.old) (shape self.new) }
-        ensures begun { (given : Option Bool) → IsUnderWay (tasks.Begin given) self.old.formatter → IsLighter (shape self.old) (shape self.new) }
+        ensures opened { is_open self.old.formatter.paper.state ≡ false
+            → IsLighter (shape self.old) (shape self.new) }
+        ensures begun { (given : Option Bool) → IsUnderWay (tasks.Begin given) self.old.formatter
+            → IsLighter (shape self.old) (shape self.new) }
     {
         let _length = self.formatter.settings.pages.page_length.units();
         self.page.clear();
@@ -47,8 +49,12 @@ impl Engine {
 
     /// The bytes of the open page go out, if its number is one to print.
     fn print<W: Sink>(&self, output: &mut W) -> Result<(), WriteFault>
-        ensures ok { OnOk result ((s : State) → HoldsPage s.lines self.now.page → s.select ≡ self.now.select → s.formatter ≡ self.now.formatter → Appends (W.held output.old) (W.held output.new) (bytes_of (page_of s))) }
-        ensures err { OnErr result ((s : State) → HoldsPage s.lines self.now.page → s.select ≡ self.now.select → s.formatter ≡ self.now.formatter → AppendsFront (W.held output.old) (W.held output.new) (bytes_of (page_of s))) }
+        ensures ok { OnOk result ((s : State) → HoldsPage s.lines self.now.page → s.select ≡ self.now.select
+            → s.formatter ≡ self.now.formatter
+            → Appends (W.held output.old) (W.held output.new) (bytes_of (page_of s))) }
+        ensures err { OnErr result ((s : State) → HoldsPage s.lines self.now.page → s.select ≡ self.now.select
+            → s.formatter ≡ self.now.formatter
+            → AppendsFront (W.held output.old) (W.held output.new) (bytes_of (page_of s))) }
         ensures failures { W.failures output.new ≡ put_counted (W.failures output.old) result }
     {
         if !self.select.has(i64::from(self.formatter.paper.number)) {
@@ -60,10 +66,13 @@ impl Engine {
 
     /// The open page ends: its bytes go out.
     pub(crate) fn end_page<W: Sink>(&mut self, output: &mut W) -> Result<(), Stop>
-        ensures comes { Comes end_page (shape self.old) (shape self.new) (W.held output.old) (W.held output.new) result }
+        ensures comes { Comes end_page (shape self.old) (shape self.new) (W.held output.old)
+            (W.held output.new) result }
         ensures limits { limits_of (shape self.new) ≡ limits_of (shape self.old) }
-        ensures lightens { IsEnding self.old.formatter → OnOk result (IsLighter (shape self.old) (shape self.new)) }
-        ensures failures { W.failures output.new ≡ put_counted_if (fails_writing result) (W.failures output.old) }
+        ensures lightens { IsEnding self.old.formatter
+            → OnOk result (IsLighter (shape self.old) (shape self.new)) }
+        ensures failures { W.failures output.new ≡ put_counted_if (fails_writing result)
+            (W.failures output.old) }
     {
         match self.print(output) {
             Err(_) => Err(Stop::WriteFault),
@@ -78,9 +87,11 @@ impl Engine {
     /// A full page ends, and where none is open one begins.
     pub(crate) fn turn_page<W: Sink>(&mut self, outlet: Outlet, output: &mut W) -> Result<(), Stop>
         requires { NeedsPage outlet self.old.formatter }
-        ensures works { Works (turn_page outlet) (shape self.old) (shape self.new) (W.held output.old) (W.held output.new) result }
+        ensures works { Works (turn_page outlet) (shape self.old) (shape self.new) (W.held output.old)
+            (W.held output.new) result }
         ensures limits { limits_of (shape self.new) ≡ limits_of (shape self.old) }
-        ensures failures { W.failures output.new ≡ put_counted_if (fails_writing result) (W.failures output.old) }
+        ensures failures { W.failures output.new ≡ put_counted_if (fails_writing result)
+            (W.failures output.old) }
     {
         if matches!(outlet, Outlet::Full) {
             return self.end_page(output);
@@ -91,9 +102,11 @@ impl Engine {
 
     /// The row goes on the page as a line of this height, in u.
     pub(crate) fn place_row(&mut self, height: u32) -> Result<(), Measure>
-        ensures places { (cells : List CellValue) → IsRow cells self.old.row → Places cells height (shape self.old) (shape self.new) result }
+        ensures places { (cells : List CellValue) → IsRow cells self.old.row
+            → Places cells height (shape self.old) (shape self.new) result }
         ensures limits { limits_of (shape self.new) ≡ limits_of (shape self.old) }
-        ensures falls { OnOk result (Falls 0 4 self.old.formatter self.new.formatter × (self.new.place ≡ self.old.place)) }
+        ensures falls { OnOk result (Falls 0 4 self.old.formatter self.new.formatter
+            × (self.new.place ≡ self.old.place)) }
     {
         let row = row_at(self.formatter.place_behind(height));
         let Some(cells) = self.row.row() else {

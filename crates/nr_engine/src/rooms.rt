@@ -18,9 +18,11 @@ impl Engine {
     /// A title or a diverted line makes room, and is read then.
     pub(crate) fn make_room<W: Sink>(&mut self, room: Room, output: &mut W) -> Result<(), Stop>
         requires { IsUnderWay (tasks.Room room) self.old.formatter }
-        ensures works { Works (λ s. room_in (outlet s.formatter) room s) (shape self.old) (shape self.new) (W.held output.old) (W.held output.new) result }
+        ensures works { Works (λ s. room_in (outlet s.formatter) room s) (shape self.old) (shape self.new)
+            (W.held output.old) (W.held output.new) result }
         ensures limits { limits_of (shape self.new) ≡ limits_of (shape self.old) }
-        ensures failures { W.failures output.new ≡ put_counted_if (fails_writing result) (W.failures output.old) }
+        ensures failures { W.failures output.new ≡ put_counted_if (fails_writing result)
+            (W.failures output.old) }
     {
         match self.formatter.outlet() {
             Outlet::Diversion | Outlet::Room => {

@@ -76,7 +76,8 @@ impl Engine {
 
     /// The number of the first page, if a register holds it.
     fn set_first(&mut self, number: i64)
-        ensures { shape self.new ≡ record (shape self.old) { formatter = first_set number self.old.formatter } }
+        ensures { shape self.new ≡ record (shape self.old)
+            { formatter = first_set number self.old.formatter } }
     {
         if number.unsigned_abs() <= GREATEST {
             self.formatter.set_first(number as i32);
@@ -122,10 +123,13 @@ impl Engine {
     ) -> Outcome
         requires unfailed { has_failed self.old.place.ahead ≡ false }
         requires small { worth (shape self.old) < 2 ^ 80 }
-        requires bound { moves.old + weight (shape self.old) ≤ worth (shape self.old) * (self.old.place.taken + 1) }
-        ensures travels { Travels (shape self.old) (R.supply input.old) (W.held output.old) (W.held output.new) moves.old moves.new result }
+        requires bound { moves.old + weight (shape self.old) ≤ worth (shape self.old)
+            * (self.old.place.taken + 1) }
+        ensures travels { Travels (shape self.old) (R.supply input.old) (W.held output.old)
+            (W.held output.new) moves.old moves.new result }
         ensures limits { limits_of (shape self.new) ≡ limits_of (shape self.old) }
-        ensures faults { ToldFaults result (R.failures input.old) (R.failures input.new) (W.failures output.old) (W.failures output.new) }
+        ensures faults { ToldFaults result (R.failures input.old) (R.failures input.new)
+            (W.failures output.old) (W.failures output.new) }
     {
         loop {
             let many = self.put_at_hand(input);
@@ -156,8 +160,10 @@ fn run_in<R: Source, W: Sink>(
 ) -> Outcome
     requires limits { limits_of (shape engine.old) ≡ limits_under limits }
     ensures answers { (supply : Supply) → R.supply input.old ≡ Some supply →
-        Answers limits (start limits options.now supply) moves.new result (W.held output.old) (W.held output.new) }
-    ensures faults { ToldFaults result (R.failures input.old) (R.failures input.new) (W.failures output.old) (W.failures output.new) }
+        Answers limits (start limits options.now supply) moves.new result (W.held output.old)
+        (W.held output.new) }
+    ensures faults { ToldFaults result (R.failures input.old) (R.failures input.new) (W.failures output.old)
+        (W.failures output.new) }
     ensures stay { limits_of (shape engine.new) ≡ limits_of (shape engine.old) }
 {
     engine.clear(limits, &options.select);
@@ -179,9 +185,11 @@ pub fn format<R: Source, W: Sink>(
 ) -> Outcome
     // The pages are those of the machine, which knows no limit, up to where the run stops.
     ensures answers { (supply : Supply) → R.supply input.old ≡ Some supply →
-        Answers work.entry.desk.now (start work.entry.desk.now options.now supply) moves.new result (W.held output.old) (W.held output.new) }
+        Answers work.entry.desk.now (start work.entry.desk.now options.now supply) moves.new result
+        (W.held output.old) (W.held output.new) }
     // A fault is told where a call failed, and nowhere else.
-    ensures faults { ToldFaults result (R.failures input.old) (R.failures input.new) (W.failures output.old) (W.failures output.new) }
+    ensures faults { ToldFaults result (R.failures input.old) (R.failures input.new) (W.failures output.old)
+        (W.failures output.new) }
     ensures limits { work.exit.0.now ≡ work.entry.desk.now }
 {
     let desk = work.desk;

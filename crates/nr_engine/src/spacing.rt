@@ -19,7 +19,8 @@ impl Engine {
     /// Space of so many u goes into the innermost diversion.
     fn divert_space(&mut self, distance: u32) -> Result<(), Measure>
         requires { IsUnderWay (tasks.Space distance) self.old.formatter }
-        ensures works { WorksQuietly (plainly (with_diverted_space distance)) (shape self.old) (shape self.new) result }
+        ensures works { WorksQuietly (plainly (with_diverted_space distance)) (shape self.old)
+            (shape self.new) result }
         ensures limits { limits_of (shape self.new) ≡ limits_of (shape self.old) }
     {
         match self.formatter.divert_space(distance) {
@@ -31,9 +32,11 @@ impl Engine {
     /// Space of so many u is diverted, or finds room and is placed; in no-space mode there is none.
     pub(crate) fn put_space<W: Sink>(&mut self, distance: u32, output: &mut W) -> Result<(), Stop>
         requires { IsUnderWay (tasks.Space distance) self.old.formatter }
-        ensures works { Works (put_space distance) (shape self.old) (shape self.new) (W.held output.old) (W.held output.new) result }
+        ensures works { Works (put_space distance) (shape self.old) (shape self.new) (W.held output.old)
+            (W.held output.new) result }
         ensures limits { limits_of (shape self.new) ≡ limits_of (shape self.old) }
-        ensures failures { W.failures output.new ≡ put_counted_if (fails_writing result) (W.failures output.old) }
+        ensures failures { W.failures output.new ≡ put_counted_if (fails_writing result)
+            (W.failures output.old) }
     {
         if self.formatter.is_spaceless(distance) {
             self.formatter.task = Task::Read;

@@ -46,9 +46,11 @@ impl Engine {
     /// The title that was read is diverted, or finds room and is placed.
     pub(crate) fn put_title<W: Sink>(&mut self, output: &mut W) -> Result<(), Stop>
         requires { IsUnderWay tasks.Title self.old.formatter }
-        ensures works { Works (λ s. title_to (outlet s.formatter) s) (shape self.old) (shape self.new) (W.held output.old) (W.held output.new) result }
+        ensures works { Works (λ s. title_to (outlet s.formatter) s) (shape self.old) (shape self.new)
+            (W.held output.old) (W.held output.new) result }
         ensures limits { limits_of (shape self.new) ≡ limits_of (shape self.old) }
-        ensures failures { W.failures output.new ≡ put_counted_if (fails_writing result) (W.failures output.old) }
+        ensures failures { W.failures output.new ≡ put_counted_if (fails_writing result)
+            (W.failures output.old) }
     {
         match self.formatter.outlet() {
             Outlet::Diversion => Stop::of_limit(self.divert_title()),

@@ -31,7 +31,8 @@ pub record EndsRow (cells : List Cell) : Type 0 where
   pub all_written : (xs : List Cell) → trimmed (xs ++ cells) ≡ xs ++ cells
 
 -- Of a row of these cells what stands before some blanks was added to what was stored, while that could be afforded, and the blanks wait.
-pub record HoldsRow (before : Stored Resume) (row : List Cell) (store : Stored Resume) (blanks : ℕ) (refused : Bool) : Type 0 where
+pub record HoldsRow (before : Stored Resume) (row : List Cell) (store : Stored Resume) (blanks : ℕ)
+    (refused : Bool) : Type 0 where
   pub done : List Cell
   pub waiting : ℕ
   pub row_is : map plain row ≡ done ++ replicate waiting blank
@@ -44,16 +45,24 @@ pub record HoldsRow (before : Stored Resume) (row : List Cell) (store : Stored R
 -- these cells were added to a row
 abbrev pub AddsToDiversion : Stored Resume → ℕ → Bool → List Cell → Stored Resume → ℕ → Bool → Type 0
 AddsToDiversion store blanks refused cells store_now blanks_now refused_now =
-    (before : Stored Resume) → (row : List Cell) → HoldsRow before row store blanks refused → HoldsRow before (row ++ cells) store_now blanks_now refused_now
+    (before : Stored Resume) → (row : List Cell) → HoldsRow before row store blanks refused
+    → HoldsRow before (row ++ cells) store_now blanks_now refused_now
 
 -- nothing was added
-pub AddsToDiversion-nothing : (store : Stored Resume) (blanks : ℕ) (refused : Bool) → AddsToDiversion store blanks refused [] store blanks refused
+pub AddsToDiversion-nothing : (store : Stored Resume) (blanks : ℕ) (refused : Bool)
+    → AddsToDiversion store blanks refused [] store blanks refused
 AddsToDiversion-nothing store blanks refused =
-    λ before row holds. subst (λ (zs : List Cell). HoldsRow before zs store blanks refused) (sym (append-nil row)) holds
+    λ before row holds. subst (λ (zs : List Cell). HoldsRow before zs store blanks refused)
+    (sym (append-nil row)) holds
 
 -- one after the other
-pub AddsToDiversion-both : (store : Stored Resume) (blanks : ℕ) (refused : Bool) (store_then : Stored Resume) (blanks_then : ℕ) (refused_then : Bool)
-    (store_now : Stored Resume) (blanks_now : ℕ) (refused_now : Bool) (xs ys : List Cell) → AddsToDiversion store blanks refused xs store_then blanks_then refused_then
-    → AddsToDiversion store_then blanks_then refused_then ys store_now blanks_now refused_now → AddsToDiversion store blanks refused (xs ++ ys) store_now blanks_now refused_now
-AddsToDiversion-both store blanks refused store_then blanks_then refused_then store_now blanks_now refused_now xs ys first second =
-    λ before row holds. subst (λ (zs : List Cell). HoldsRow before zs store_now blanks_now refused_now) (append_assoc row xs ys) (second before (row ++ xs) (first before row holds))
+pub AddsToDiversion-both : (store : Stored Resume) (blanks : ℕ) (refused : Bool) (store_then : Stored Resume)
+    (blanks_then : ℕ) (refused_then : Bool)
+    (store_now : Stored Resume) (blanks_now : ℕ) (refused_now : Bool) (xs ys : List Cell)
+    → AddsToDiversion store blanks refused xs store_then blanks_then refused_then
+    → AddsToDiversion store_then blanks_then refused_then ys store_now blanks_now refused_now
+    → AddsToDiversion store blanks refused (xs ++ ys) store_now blanks_now refused_now
+AddsToDiversion-both store blanks refused store_then blanks_then refused_then store_now blanks_now refused_now
+    xs ys first second =
+    λ before row holds. subst (λ (zs : List Cell). HoldsRow before zs store_now blanks_now refused_now)
+    (append_assoc row xs ys) (second before (row ++ xs) (first before row holds))

@@ -24,7 +24,8 @@ use Rattle.nr_formatter.specs.Titles.{title_row, title_set}
 -- the macro of a trap that lies below one place and not below another
 abbrev pub trap_between : ℕ → ℕ → Option Trap → Option (List ℕ)
 trap_between from to None = None
-trap_between from to (Some t) = if int_lt (pos from) t.place && int_le t.place (pos to) then Some t.name else None
+trap_between from to (Some t) =
+    if int_lt (pos from) t.place && int_le t.place (pos to) then Some t.name else None
 
 -- the diversion's trap, where a line of this height reaches it
 abbrev pub trap_reached : ℕ → Option Diversion → Option (List ℕ)
@@ -54,7 +55,8 @@ with_diverted_space n f = record (with_diverted 0 [] (min n (diversion_room f)) 
 
 -- a diverted line that is read again goes in cell by cell, the first after its indent
 abbrev pub with_diverted_cell : ℕ → Cell → Formatter → Formatter
-with_diverted_cell indent cell f = record f { store = added (replicate indent blank_cell ++ elements.Cell cell ∷ []) f.store }
+with_diverted_cell indent cell f =
+    record f { store = added (replicate indent blank_cell ++ elements.Cell cell ∷ []) f.store }
 
 -- and ends, so many cells wide and so high
 abbrev pub with_diverted_end : ℕ → ℕ → Formatter → Formatter
@@ -69,7 +71,9 @@ with_diverted_end cells height f = record (without_no_space f) {
 -- `dn` and `dl` tell the height and the greatest width of the diversion that ends
 abbrev pub measured : Option Diversion → Formatter → Formatter
 measured None f = f
-measured (Some d) f = record f { given = record f.given { height = pos (min d.height lowest); width = pos (min d.width lowest) } }
+measured (Some d) f =
+    record f
+    { given = record f.given { height = pos (min d.height lowest); width = pos (min d.width lowest) } }
 
 abbrev pub end_diversion : Formatter → Formatter
 end_diversion f = measured (newest_diversion f.store.building) (record f { store = diversion_ended f.store })
@@ -92,9 +96,11 @@ da f = record (append_to (name_in (long f) (line f)) f) { task = tasks.Read }
 
 -- `.dt N xx`: the diversion's trap; without arguments none
 abbrev pub with_diversion_trap : DiversionTrap → Formatter → Formatter
-with_diversion_trap (SetTrap place name) f = record f { store = trapped (Some (record { place = place; name = name })) f.store }
+with_diversion_trap (SetTrap place name) f =
+    record f { store = trapped (Some (record { place = place; name = name })) f.store }
 with_diversion_trap Remove f = record f { store = trapped None f.store }
 with_diversion_trap Nothing f = f
 
 abbrev pub dt : Formatter → Formatter
-dt f = record (with_diversion_trap (traps.dt (line f) (long f) (spacing f) (present_place f)) f) { task = tasks.Read }
+dt f = record (with_diversion_trap (traps.dt (line f) (long f) (spacing f) (present_place f)) f)
+    { task = tasks.Read }

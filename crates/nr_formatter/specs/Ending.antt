@@ -23,7 +23,8 @@ eject_last f = record f {
 
 -- open diversions end, from the innermost outwards, and then the open page is ejected
 abbrev pub end_last_diversion : Formatter → Formatter
-end_last_diversion f = if is_diverting (newest_diversion f.store.building) then end_diversion f else eject_last f
+end_last_diversion f =
+    if is_diverting (newest_diversion f.store.building) then end_diversion f else eject_last f
 
 -- The next step: all goes out; the macro of `.em` springs; all goes out; open diversions end; the open page is ejected.
 -- Where `.ex` empties the input in the midst of a break, the break goes on; after the step of `.em` the next one comes;

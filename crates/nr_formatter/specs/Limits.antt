@@ -27,7 +27,13 @@ stored_limits v = record { stored = v.limit; depth = v.deepest }
 
 -- the limits that stand in a formatter
 abbrev pub limits_of : Formatter → Limits
-limits_of f = record { stored = f.store.limit; depth = f.store.deepest; cells = f.line.limit; expansions = f.reader.most }
+limits_of f =
+    record {
+      stored = f.store.limit;
+      depth = f.store.deepest;
+      cells = f.line.limit;
+      expansions = f.reader.most;
+    }
 
 -- the first measure that is above its limit, lines on the page aside
 abbrev pub passes : Formatter → Option Passed

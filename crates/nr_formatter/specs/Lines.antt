@@ -41,13 +41,15 @@ most_points places = take 31 places
 
 -- the places that `.hw` gave for the word that is being read
 abbrev pub given_points : Formatter → List ℕ
-given_points f = most_points (points_of (bytes_of (cells_of_word (word_or_new 0 (collected f).word))) f.store.words)
+given_points f =
+    most_points (points_of (bytes_of (cells_of_word (word_or_new 0 (collected f).word))) f.store.words)
 
 -- what is collected where the word ends: the word takes the points of `.hw`, or is one piece in a line that is not filled
 unfoldable pub pointed : Formatter → Collected
 pointed f =
     if not (is_filling f) then joined (collected f)
-    else (if f.settings.hyphenation.on && may_hyphenate (collected f) then with_points (given_points f) (collected f) else collected f)
+    else (if f.settings.hyphenation.on && may_hyphenate (collected f)
+    then with_points (given_points f) (collected f) else collected f)
 
 -- `\p` asks for a break at the end of the word that is being read
 abbrev pub breaks_behind : Formatter → Bool
@@ -82,7 +84,8 @@ goes_out afters.Continued = true
 
 -- all that is collected, as in no-fill mode and where lines are centred
 abbrev pub whole_line : Formatter → Going
-whole_line f = record { whole = true; align = if f.settings.filling.centred == 0 then aligns.Left else aligns.Centre }
+whole_line f =
+    record { whole = true; align = if f.settings.filling.centred == 0 then aligns.Left else aligns.Centre }
 
 -- as much as fits; full where it is to be adjusted
 abbrev pub front_line : Bool → Formatter → Going
@@ -99,7 +102,8 @@ flow_line after breaks f =
 abbrev pub break_line : Formatter → Option Going
 break_line f =
     if is_nil (collected f).pieces then None
-    else (if not (is_filling f) then Some (whole_line f) else Some (front_line (not (fits_line (collected f))) f))
+    else (if not (is_filling f) then Some (whole_line f)
+    else Some (front_line (not (fits_line (collected f))) f))
 
 -- how many pieces go out
 abbrev pub pieces_going : Going → Collected → ℕ
@@ -135,7 +139,9 @@ settings_behind going c s = record s {
 }
 
 abbrev pub behind_line : Going → Formatter → Formatter
-behind_line going f = record (with_collected (rest_behind going f) f) { settings = settings_behind going (collected f) f.settings }
+behind_line going f =
+    record (with_collected (rest_behind going f) f)
+    { settings = settings_behind going (collected f) f.settings }
 
 -- ---- where nothing more goes out
 
@@ -198,4 +204,9 @@ input_macro None waiting = waiting
 input_macro (Some t) waiting = if nat_le t.lines 1 then Some t.name else waiting
 
 abbrev pub count_input : Formatter → Formatter
-count_input f = record f { input_trap = input_trap_behind f.input_trap; springs = input_macro f.input_trap f.springs; task = tasks.Read }
+count_input f =
+    record f {
+      input_trap = input_trap_behind f.input_trap;
+      springs = input_macro f.input_trap f.springs;
+      task = tasks.Read;
+    }

@@ -56,7 +56,8 @@ heard_for t f = record f { event = events.Nothing; task = t }
 -- a request takes effect, after a break where it breaks and its line did not begin with the no-break character
 abbrev pub task_requested : Formatter → Task
 task_requested f =
-    if breaks f.reader.request && not f.reader.half.reading.no_break then tasks.Break (thens.Act f.reader.request)
+    if breaks f.reader.request && not f.reader.half.reading.no_break
+    then tasks.Break (thens.Act f.reader.request)
     else tasks.Act f.reader.request
 
 -- `\f`
@@ -68,7 +69,8 @@ font_set f = record f {
 
 -- `\w`: the width's digits are spliced, in u
 abbrev pub width_given : Formatter → Formatter
-width_given f = record (spliced (decimal (width_of (long f) (spacing f) (argument f))) f) { event = events.Nothing }
+width_given f =
+    record (spliced (decimal (width_of (long f) (spacing f) (argument f))) f) { event = events.Nothing }
 
 -- what was read beside text; anything else means nothing
 abbrev pub control : Event → Formatter → Formatter

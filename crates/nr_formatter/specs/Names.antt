@@ -84,7 +84,8 @@ cp f = to_read (record f { reader = on_half (with_long_names (characters.cp (lin
 -- the words of a line are stored, at most so many
 abbrev pub with_words : {K : Type 0} → ℕ → List ℕ → Stored K → Stored K
 with_words zero line v = v
-with_words (suc most) line v = if length (word_in line) == 0 then v else with_words most (behind_word line) (worded (word_in line) v)
+with_words (suc most) line v =
+    if length (word_in line) == 0 then v else with_words most (behind_word line) (worded (word_in line) v)
 
 -- `.hw w ..`: all words of its line
 abbrev pub hw : Formatter → Formatter

@@ -21,7 +21,11 @@ number_next (Some n) f = record f { paper = record f.paper { next = Some n } }
 -- `.pn ±N`: the number of the next page; while none is open that is `%`
 abbrev pub numbered : Option ℤ → Formatter → Formatter
 numbered None f = f
-numbered (Some n) f = record f { paper = if is_open f.paper.state then record f.paper { next = Some n } else record f.paper { number = n } }
+numbered (Some n) f =
+    record f {
+      paper = if is_open f.paper.state then record f.paper { next = Some n }
+          else record f.paper { number = n };
+    }
 
 abbrev pub pn : Formatter → Formatter
 pn f = record (numbered (given_number f) f) { task = tasks.Read }
@@ -29,9 +33,11 @@ pn f = record (numbered (given_number f) f) { task = tasks.Read }
 -- `.bp ±N`: begins the first page, which has the number N, and nothing more; else begins a page where none is open, and
 -- ejects it, and N is the number of the page after. In a diversion it does nothing.
 abbrev pub bp_at : PageState → Option ℤ → Formatter → Formatter
-bp_at Unbegun n f = record f { paper = record f.paper { number = unwrap_or n f.paper.number }; task = tasks.Begin None }
+bp_at Unbegun n f =
+    record f { paper = record f.paper { number = unwrap_or n f.paper.number }; task = tasks.Begin None }
 bp_at Open n f = record (number_next n f) { task = tasks.Turn (is_some n) }
 bp_at Closed n f = record (number_next n f) { task = tasks.Begin (Some (is_some n)) }
 
 abbrev pub bp : Formatter → Formatter
-bp f = if is_diverting (diversion f) then record f { task = tasks.Read } else bp_at f.paper.state (given_number f) f
+bp f = if is_diverting (diversion f) then record f { task = tasks.Read }
+    else bp_at f.paper.state (given_number f) f

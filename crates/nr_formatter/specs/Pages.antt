@@ -49,10 +49,15 @@ reached place (Some t) = if int_le t.place (pos place) then Some t.name else Non
 
 -- A move down the page springs the nearest trap that it passes or reaches, and only that.
 abbrev pub moved_to : ℕ → Formatter → Formatter
-moved_to place f = record f { paper = record f.paper { place = place }; springs = reached place (trap_below f.paper.place f) }
+moved_to place f =
+    record f {
+      paper = record f.paper { place = place };
+      springs = reached place (trap_below f.paper.place f);
+    }
 
 abbrev pub without_no_space : Formatter → Formatter
-without_no_space f = record f { settings = record f.settings { pages = record f.settings.pages { no_space = false } } }
+without_no_space f =
+    record f { settings = record f.settings { pages = record f.settings.pages { no_space = false } } }
 
 -- a line of this height was placed; it ends no-space mode
 abbrev pub line_placed : ℕ → Formatter → Formatter
@@ -113,7 +118,8 @@ is_ejecting f = is_open f.paper.state && f.paper.ejecting
 -- The page goes from trap to trap, as far as their names have texts; of the traps at a place the first planted counts.
 abbrev pub macro_at : ℤ → ℤ → List Trap → Option (List ℕ)
 macro_at length place [] = None
-macro_at length place (t ∷ ts) = if int_eq (on_page t.place length) place then Some t.name else macro_at length place ts
+macro_at length place (t ∷ ts) =
+    if int_eq (on_page t.place length) place then Some t.name else macro_at length place ts
 
 abbrev pub names_text : List ℕ → Formatter → Bool
 names_text name f = is_some (words (find name f.store.names))
@@ -127,7 +133,8 @@ abbrev pub springs_at : Formatter → ℤ → Bool
 springs_at f place = is_text (macro_at (pos f.settings.pages.page_length) place f.store.traps) f
 
 abbrev pub springing_traps : Formatter → List Trap
-springing_traps f = filter (λ t. springs_at f (on_page t.place (pos f.settings.pages.page_length))) f.store.traps
+springing_traps f =
+    filter (λ t. springs_at f (on_page t.place (pos f.settings.pages.page_length))) f.store.traps
 
 -- the next trap below whose macro springs
 abbrev pub next_springing : Formatter → Option Trap

@@ -120,7 +120,8 @@ abbrev pub register_set : List ℕ → ℤ → Option ℤ → Formatter → Form
 register_set name n step f = register_set_by (given_named name) name n step f
 
 -- what setting it answers: a built-in register is never refused, and any other where it would be stored above the limit
-abbrev pub set_checked_by : Option GivenRegister → List ℕ → ℤ → Option ℤ → Formatter → Result (Unit {0}) StoredBytes
+abbrev pub set_checked_by : Option GivenRegister → List ℕ → ℤ → Option ℤ → Formatter
+    → Result (Unit {0}) StoredBytes
 set_checked_by None name n step f = afforded (registered name n step f.store) tt
 set_checked_by (Some r) name n step f = Ok tt
 
@@ -175,14 +176,17 @@ af f = format_changed (lines.af (line f) (long f)) (to_read f)
 -- `.rr R`; a built-in register stays
 abbrev pub register_removed : Option (List ℕ) → Formatter → Formatter
 register_removed None f = f
-register_removed (Some name) f = if is_none (given_named name) then record f { store = unregistered name f.store } else f
+register_removed (Some name) f =
+    if is_none (given_named name) then record f { store = unregistered name f.store } else f
 
 abbrev pub rr : Formatter → Formatter
 rr f = register_removed (name_in (long f) (line f)) (to_read f)
 
 -- `.mk R`: the present place into a register, or without R into the inner mark
 abbrev pub place_marked : Option (List ℕ) → Formatter → Formatter
-place_marked None f = record f { settings = record f.settings { pages = record f.settings.pages { mark = place_in (diversion f) f } } }
+place_marked None f =
+    record f
+    { settings = record f.settings { pages = record f.settings.pages { mark = place_in (diversion f) f } } }
 place_marked (Some name) f = register_set name (present_place f) None f
 
 abbrev pub mk : Formatter → Formatter

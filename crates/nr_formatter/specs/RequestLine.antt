@@ -13,9 +13,11 @@ pub record IsFilled (bytes : List ℕ) (len : ℕ) : Type 0 where
   pub zeros : drop len bytes ≡ replicate (256 - len) 0
 
 pub length-take_filled : (bytes : List ℕ) (len : ℕ) → IsFilled bytes len → length (take len bytes) ≡ len
-length-take_filled bytes len is = let within = is.within in let whole = is.whole in length-take-le len bytes (omega arith)
+length-take_filled bytes len is = let within = is.within in let whole = is.whole in
+    length-take-le len bytes (omega arith)
 
 pub filled-take : (bytes : List ℕ) (len : ℕ) → IsFilled bytes len → filled (take len bytes) ≡ bytes
 filled-take bytes len is =
-    ap (λ n. take len bytes ++ replicate (256 - n) 0) (length-take_filled bytes len is) ∙ ap (λ zeros. take len bytes ++ zeros) (sym is.zeros)
+    ap (λ n. take len bytes ++ replicate (256 - n) 0) (length-take_filled bytes len is)
+    ∙ ap (λ zeros. take len bytes ++ zeros) (sym is.zeros)
     ∙ take-append-drop len bytes

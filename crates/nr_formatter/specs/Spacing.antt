@@ -17,7 +17,8 @@ is_spaceless n f = f.settings.pages.no_space || n == 0
 
 -- Space goes down to the next trap or the bottom at most; what is left of it is lost.
 abbrev pub spaced : ℕ → Formatter → Formatter
-spaced n f = record (moved_to (f.paper.place + min n (distance_below f.paper.place f)) f) { task = tasks.Read }
+spaced n f =
+    record (moved_to (f.paper.place + min n (distance_below f.paper.place f)) f) { task = tasks.Read }
 
 -- ---- requests
 
@@ -31,7 +32,8 @@ is_on_page outlets.Room = true
 -- upward on the open page, to its top at most; not in no-space mode
 abbrev pub spaced_up : ℕ → Formatter → Formatter
 spaced_up n f =
-    if is_on_page (outlet f) && not f.settings.pages.no_space then record f { paper = record f.paper { place = f.paper.place - n } } else f
+    if is_on_page (outlet f) && not f.settings.pages.no_space
+    then record f { paper = record f.paper { place = f.paper.place - n } } else f
 
 abbrev pub sp_by : ℤ → Formatter → Formatter
 sp_by (pos n) f = record f { task = tasks.Space n }
@@ -49,16 +51,21 @@ has_room outlets.Full = false
 
 -- `.ne N`: on an open page with room, to the next trap or the bottom where that is nearer than N
 abbrev pub needed : ℕ → ℤ → Formatter → Formatter
-needed below n f = if has_room (outlet f) && int_lt (pos below) n then moved_to (f.paper.place + below) f else f
+needed below n f =
+    if has_room (outlet f) && int_lt (pos below) n then moved_to (f.paper.place + below) f else f
 
 abbrev pub ne : Formatter → Formatter
 ne f =
-    record (needed (distance_below f.paper.place f) (spaces.ne (line f) (spacing f) (present_place f)) f) { task = tasks.Read }
+    record (needed (distance_below f.paper.place f) (spaces.ne (line f) (spacing f) (present_place f)) f)
+    { task = tasks.Read }
 
 -- `.rt ±N`: upward alone, to a place that is not above the top; not in a diversion
 abbrev pub returned : ℤ → Formatter → Formatter
-returned (pos n) f = if not (is_diverting (diversion f)) && nat_lt n (page_place f.paper) then record f { paper = record f.paper { place = n } } else f
+returned (pos n) f =
+    if not (is_diverting (diversion f)) && nat_lt n (page_place f.paper)
+    then record f { paper = record f.paper { place = n } } else f
 returned (negsuc n) f = f
 
 abbrev pub rt : Formatter → Formatter
-rt f = record (returned (spaces.rt (line f) (spacing f) (page_place f.paper) f.settings.pages.mark) f) { task = tasks.Read }
+rt f = record (returned (spaces.rt (line f) (spacing f) (page_place f.paper) f.settings.pages.mark) f)
+    { task = tasks.Read }

@@ -14,7 +14,12 @@ use Rattle.nr_formatter.specs.declared.tasks.Task.TheVariants as tasks
 
 -- what is gone on with
 abbrev pub interrupted : Formatter → Resume
-interrupted f = record { task = f.task; standing = standing_of f.reader.half.reading.mode; line = f.reader.half.notes.line }
+interrupted f =
+    record {
+      task = f.task;
+      standing = standing_of f.reader.half.reading.mode;
+      line = f.reader.half.notes.line;
+    }
 
 -- The macro of this name springs: its text is spliced, without arguments, and read from a line's beginning on. A name
 -- without text springs nothing.

@@ -28,7 +28,11 @@ use Rattle.nr_formatter.specs.Titles.{reads_title, title_dash_end}
 -- the first word of a line takes the margins, and with them a `.ti`
 abbrev pub line_begun : Formatter → Formatter
 line_begun f = record f {
-  settings = record f.settings { indents = if begins_line (collected f) then behind_line_begun f.settings.indents else f.settings.indents };
+  settings =
+      record f.settings {
+        indents = if begins_line (collected f) then behind_line_begun f.settings.indents
+            else f.settings.indents;
+      };
 }
 
 -- something goes to the word
@@ -69,13 +73,15 @@ gap_blank f =
 
 -- In no-fill mode and where lines are centred a blank is a cell. Text for a stop ends first.
 unfoldable pub blank : Formatter → Formatter
-blank f = if not (is_filling f) then blank_cell f else (if reads_a_field f then field_ended f else gap_blank f)
+blank f =
+    if not (is_filling f) then blank_cell f else (if reads_a_field f then field_ended f else gap_blank f)
 
 -- A tab or leader goes to the next stop. Right and centring stops align text in no-fill mode alone. Text for a stop ends first.
 unfoldable pub tab : Option ℕ → Formatter → Formatter
 tab filler f =
     if reads_a_field f then field_ended f
-    else to_word (λ m. tabbed m f.settings.tabs.stops (not f.settings.filling.fill) (cell (unwrap_or filler (code " ")) f)) f
+    else to_word (λ m. tabbed m f.settings.tabs.stops (not f.settings.filling.fill)
+    (cell (unwrap_or filler (code " ")) f)) f
 
 unfoldable pub text_byte : ℕ → Formatter → Formatter
 text_byte b f =

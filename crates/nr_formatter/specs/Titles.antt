@@ -57,7 +57,8 @@ printed b f = if prints b then cell b f ∷ [] else []
 
 -- the page number character stands for the number of the page
 abbrev pub title_byte : ℕ → Formatter → List Cell
-title_byte b f = if is_number_character b f.settings.pages.number_character then page_number f else printed b f
+title_byte b f =
+    if is_number_character b f.settings.pages.number_character then page_number f else printed b f
 
 -- `\(hy`, `\(em` and their kin; any other name prints nothing. The second cell of a dash follows.
 abbrev pub title_special : Option Special → Formatter → Formatter

@@ -20,7 +20,8 @@ with_page_trap (Remove place) f = record f { store = trap_removed place f.store 
 with_page_trap Nothing f = f
 
 abbrev pub wh : Formatter → Formatter
-wh f = record (with_page_trap (traps.wh (line f) (long f) (spacing f) (present_place f)) f) { task = tasks.Read }
+wh f = record (with_page_trap (traps.wh (line f) (long f) (spacing f) (present_place f)) f)
+    { task = tasks.Read }
 
 -- `.ch xx N`
 abbrev pub with_trap_moved : Option TrapMove → Formatter → Formatter
@@ -28,7 +29,8 @@ with_trap_moved None f = f
 with_trap_moved (Some m) f = record f { store = trap_changed m.name m.place f.store }
 
 abbrev pub ch : Formatter → Formatter
-ch f = record (with_trap_moved (traps.ch (line f) (long f) (spacing f) (present_place f)) f) { task = tasks.Read }
+ch f = record (with_trap_moved (traps.ch (line f) (long f) (spacing f) (present_place f)) f)
+    { task = tasks.Read }
 
 -- `.it N xx`
 abbrev pub line_trap_in : LineTrap → Option InputTrap → Option InputTrap
@@ -37,4 +39,7 @@ line_trap_in counts.Off old = None
 line_trap_in counts.Nothing old = old
 
 abbrev pub it : Formatter → Formatter
-it f = record f { input_trap = line_trap_in (traps.it (line f) (long f) (spacing f)) f.input_trap; task = tasks.Read }
+it f = record f {
+  input_trap = line_trap_in (traps.it (line f) (long f) (spacing f)) f.input_trap;
+  task = tasks.Read;
+}

@@ -64,9 +64,11 @@ fn ends_row(cells: &[Cell]) -> bool
 
 /// Adds so many blanks and cells after them, and tells what the store is charged then.
 fn add_behind(store: &mut Store<Resume>, blanks: usize, cells: &[Cell]) -> Result<u32, StoredBytes>
-    ensures result { result ≡ afforded (with_cells (replicate blanks blank ++ cells.now) store.old) (charge_of (with_cells (replicate blanks blank ++ cells.now) store.old)) }
+    ensures result { result ≡ afforded (with_cells (replicate blanks blank ++ cells.now) store.old)
+        (charge_of (with_cells (replicate blanks blank ++ cells.now) store.old)) }
     ensures ok { OnOk result (store.new ≡ with_cells (replicate blanks blank ++ cells.now) store.old) }
-    ensures small { OnOk result (charge_of (with_cells (replicate blanks blank ++ cells.now) store.old) < 2 ^ 32) }
+    ensures small { OnOk result (charge_of (with_cells (replicate blanks blank ++ cells.now) store.old)
+        < 2 ^ 32) }
     ensures limits { stored_limits store.new ≡ stored_limits store.old }
 {
     for _blank in 0..blanks {
@@ -80,7 +82,8 @@ fn add_behind(store: &mut Store<Resume>, blanks: usize, cells: &[Cell]) -> Resul
 fn push_each(row: &mut DiversionRow<'_>, cells: &[Cell])
     ensures same_reference { row.new.store.ghost_name ≡ row.old.store.ghost_name }
     ensures charge { row.new.charge ≡ row.old.charge }
-    ensures adds { AddsToDiversion row.old.store.now row.old.blanks row.old.refused cells.now row.new.store.now row.new.blanks row.new.refused }
+    ensures adds { AddsToDiversion row.old.store.now row.old.blanks row.old.refused cells.now
+        row.new.store.now row.new.blanks row.new.refused }
 {
     for cell in cells {
         row.push(*cell);
@@ -93,7 +96,8 @@ impl<'b> DiversionRow<'b> {
         requires { EndsRow cells.now }
         ensures same_reference { self.new.store.ghost_name ≡ self.old.store.ghost_name }
         ensures charge { self.new.charge ≡ self.old.charge }
-        ensures adds { AddsToDiversion self.old.store.now self.old.blanks self.old.refused cells.now self.new.store.now self.new.blanks self.new.refused }
+        ensures adds { AddsToDiversion self.old.store.now self.old.blanks self.old.refused cells.now
+            self.new.store.now self.new.blanks self.new.refused }
     {
         if self.refused {
             return;
@@ -107,10 +111,14 @@ impl<'b> DiversionRow<'b> {
     /// The row ends as a line of this height, in u.
     pub(crate) fn end(&mut self, height: u32) -> Result<(), StoredBytes>
         ensures same_reference { self.new.store.ghost_name ≡ self.old.store.ghost_name }
-        ensures result { (before : Stored ResumeValue) → (row : List CellValue) → HoldsRow before row self.old.store.now self.old.blanks self.old.refused
-            → self.old.charge ≡ charge_of before → result ≡ afforded (diverted 0 (diverted_cells row) height before) tt }
-        ensures ok { (before : Stored ResumeValue) → (row : List CellValue) → HoldsRow before row self.old.store.now self.old.blanks self.old.refused
-            → self.old.charge ≡ charge_of before → OnOk result (self.new.store.now ≡ diverted 0 (diverted_cells row) height before) }
+        ensures result { (before : Stored ResumeValue) → (row : List CellValue)
+            → HoldsRow before row self.old.store.now self.old.blanks self.old.refused
+            → self.old.charge ≡ charge_of before
+            → result ≡ afforded (diverted 0 (diverted_cells row) height before) tt }
+        ensures ok { (before : Stored ResumeValue) → (row : List CellValue)
+            → HoldsRow before row self.old.store.now self.old.blanks self.old.refused
+            → self.old.charge ≡ charge_of before
+            → OnOk result (self.new.store.now ≡ diverted 0 (diverted_cells row) height before) }
         ensures limits { stored_limits self.new.store.now ≡ stored_limits self.old.store.now }
     {
         if self.refused {
@@ -166,12 +174,17 @@ impl CellSink for DiversionRow<'_> {
         Some(extent)
     }
 
-    ghost adds_nothing = { λ row. (refl, refl, AddsToDiversion-nothing row.store.now row.blanks row.refused) };
+    ghost adds_nothing = { λ row. (
+      refl,
+      refl,
+      AddsToDiversion-nothing row.store.now row.blanks row.refused,
+    ) };
 
     ghost adds_both = { λ a b c xs ys first second. (
       second.0 ∙ first.0,
       second.1 ∙ first.1,
-      AddsToDiversion-both a.store.now a.blanks a.refused b.store.now b.blanks b.refused c.store.now c.blanks c.refused xs ys first.2 second.2,
+      AddsToDiversion-both a.store.now a.blanks a.refused b.store.now b.blanks b.refused
+          c.store.now c.blanks c.refused xs ys first.2 second.2,
     ) };
 }
 
@@ -184,10 +197,13 @@ pub(crate) fn divert_going(
     height: u32,
 ) -> Result<(), StoredBytes>
     requires { 0 < length line.old.collected.pieces }
-    ensures result { result ≡ afforded (diverted 0 (diverted_cells (row_of going 0 line.old.collected)) height store.old) tt }
-    ensures ok { OnOk result (store.new ≡ diverted 0 (diverted_cells (row_of going 0 line.old.collected)) height store.old) }
+    ensures result { result
+        ≡ afforded (diverted 0 (diverted_cells (row_of going 0 line.old.collected)) height store.old) tt }
+    ensures ok { OnOk result (store.new ≡ diverted 0 (diverted_cells (row_of going 0 line.old.collected))
+        height store.old) }
     ensures limits { stored_limits store.new ≡ stored_limits store.old }
-    ensures line { line.new ≡ record line.old { collected = rest_of going settings.old.indents line.old.collected } }
+    ensures line { line.new ≡ record line.old
+        { collected = rest_of going settings.old.indents line.old.collected } }
     ensures settings { settings.new ≡ settings_behind going line.old.collected settings.old }
 {
     let charge = store.charge();
@@ -208,8 +224,12 @@ pub(crate) fn divert_titled(
     length: u32,
     height: u32,
 ) -> Result<(), StoredBytes>
-    ensures result { result ≡ afforded (diverted 0 (diverted_cells (titled_row 0 length line.old.collected.title)) height store.old) tt }
-    ensures ok { OnOk result (store.new ≡ diverted 0 (diverted_cells (titled_row 0 length line.old.collected.title)) height store.old) }
+    ensures result { result
+        ≡ afforded (diverted 0 (diverted_cells (titled_row 0 length line.old.collected.title)) height
+        store.old) tt }
+    ensures ok { OnOk result
+        (store.new ≡ diverted 0 (diverted_cells (titled_row 0 length line.old.collected.title))
+        height store.old) }
     ensures limits { stored_limits store.new ≡ stored_limits store.old }
     ensures line { line.new ≡ record line.old { collected = without_title line.old.collected } }
 {

@@ -58,7 +58,8 @@ fn trap_reached(height: u32, diversion: Option<Diversion>) -> Option<Name>
 
 /// So many blanks go into the text that is being built.
 fn add_blanks(store: &mut Store<Resume>, count: u32) -> Result<(), StoredBytes>
-    ensures answer { charge_of store.old ≤ store.old.limit → result ≡ afforded (added (replicate count blank_cell) store.old) tt }
+    ensures answer { charge_of store.old ≤ store.old.limit
+        → result ≡ afforded (added (replicate count blank_cell) store.old) tt }
     ensures ok { OnOk result (store.new ≡ added (replicate count blank_cell) store.old) }
     ensures limits { stored_limits store.new ≡ stored_limits store.old }
 {
@@ -127,7 +128,8 @@ impl Formatter {
         ensures result { result ≡ afforded (divert_title self.old).store tt }
         ensures ok { OnOk result (self.new ≡ divert_title self.old) }
         ensures limits { limits_of self.new ≡ limits_of self.old }
-        ensures falls { self.old.event ≡ events.Nothing → self.old.task ≡ Task.Title → OnOk result (Falls 1 0 self.old self.new) }
+        ensures falls { self.old.event ≡ events.Nothing → self.old.task ≡ Task.Title
+            → OnOk result (Falls 1 0 self.old self.new) }
     {
         let height = self.settings.pages.spacing.units();
         let length = self.settings.indents.title_length.value.cells();
@@ -144,7 +146,8 @@ impl Formatter {
         ensures result { result ≡ afforded (with_diverted_space distance self.old).store tt }
         ensures ok { OnOk result (self.new ≡ with_diverted_space distance self.old) }
         ensures limits { limits_of self.new ≡ limits_of self.old }
-        ensures falls { self.old.event ≡ events.Nothing → self.old.task ≡ Task.Space distance → OnOk result (Falls 1 0 self.old self.new) }
+        ensures falls { self.old.event ≡ events.Nothing → self.old.task ≡ Task.Space distance
+            → OnOk result (Falls 1 0 self.old self.new) }
     {
         let height = distance.min(self.diversion_room());
         self.task = Task::Read;
@@ -153,7 +156,8 @@ impl Formatter {
 
     /// A cell of a diverted line that is read again goes into the diversion, after so many blanks.
     pub fn divert_cell(&mut self, indent: u32, cell: Cell) -> Result<(), StoredBytes>
-        ensures result { IsWithin self.old → result ≡ afforded (with_diverted_cell indent cell self.old).store tt }
+        ensures result { IsWithin self.old
+            → result ≡ afforded (with_diverted_cell indent cell self.old).store tt }
         ensures ok { OnOk result (self.new ≡ with_diverted_cell indent cell self.old) }
         ensures limits { limits_of self.new ≡ limits_of self.old }
         ensures falls { OnOk result (Falls 0 0 self.old self.new) }
@@ -169,7 +173,8 @@ impl Formatter {
         ensures result { result ≡ afforded (with_diverted_end cells height self.old).store tt }
         ensures ok { OnOk result (self.new ≡ with_diverted_end cells height self.old) }
         ensures limits { limits_of self.new ≡ limits_of self.old }
-        ensures falls { self.old.event ≡ events.Nothing → self.old.task ≡ Task.Line height → OnOk result (Falls 1 0 self.old self.new) }
+        ensures falls { self.old.event ≡ events.Nothing → self.old.task ≡ Task.Line height
+            → OnOk result (Falls 1 0 self.old self.new) }
     {
         let springs = trap_reached(height, self.store.diversion());
         match self.store.end_line(cells, height) {

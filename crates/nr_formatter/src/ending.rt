@@ -55,7 +55,8 @@ impl Formatter {
     /// `.ex`, once nothing is to come of the source: the levels are empty, and the end of the input is read.
     pub fn ex(&mut self)
         ensures is { self.new ≡ ex self.old }
-        ensures falls { self.old.event ≡ events.Nothing → self.old.task ≡ tasks.Act requests.Ex → Falls 1 0 self.old self.new }
+        ensures falls { self.old.event ≡ events.Nothing → self.old.task ≡ tasks.Act requests.Ex
+            → Falls 1 0 self.old self.new }
     {
         self.store.clear_levels();
         self.event = Event::Nothing;

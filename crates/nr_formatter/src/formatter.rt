@@ -61,7 +61,8 @@ impl Formatter {
         most: u64,
     ) -> Result<Formatter, AllocError>
         requires { cells < 2 ^ 32 }
-        ensures { IfOk result (λ made. made ≡ first_formatter (nothing request_names stored deepest) (record { collected = nothing_collected; limit = cells }) most) }
+        ensures { IfOk result (λ made. made ≡ first_formatter (nothing request_names stored deepest)
+            (record { collected = nothing_collected; limit = cells }) most) }
     {
         Ok(Formatter {
             reader: Reader::new(most),
@@ -82,7 +83,9 @@ impl Formatter {
 
     /// Nothing is read yet, under the same limits.
     pub fn clear(&mut self)
-        ensures { self.new ≡ first_formatter (nothing request_names self.old.store.limit self.old.store.deepest) (record { collected = nothing_collected; limit = self.old.line.limit }) self.old.reader.most }
+        ensures { self.new
+            ≡ first_formatter (nothing request_names self.old.store.limit self.old.store.deepest)
+            (record { collected = nothing_collected; limit = self.old.line.limit }) self.old.reader.most }
     {
         self.reader = Reader::new(self.reader.most);
         self.store.clear();

@@ -54,7 +54,8 @@ pub(crate) fn set_going<S: CellSink>(
 )
     requires { 0 < length line.old.collected.pieces }
     ensures out { S.Adds out.old (row_of going offset line.old.collected) out.new }
-    ensures line { line.new ≡ record line.old { collected = rest_of going settings.old.indents line.old.collected } }
+    ensures line { line.new ≡ record line.old
+        { collected = rest_of going settings.old.indents line.old.collected } }
     ensures settings { settings.new ≡ settings_behind going line.old.collected settings.old }
 {
     let setting = Setting {
@@ -146,7 +147,8 @@ impl Formatter {
         ensures result { result ≡ afforded (break_word_end self.old).line }
         ensures ok { OnOk result (self.new ≡ break_word_end self.old) }
         ensures limits { limits_of self.new ≡ limits_of self.old }
-        ensures falls { is_none (collected self.old).word ≡ false → OnOk result (Falls 1 0 self.old self.new) }
+        ensures falls { is_none (collected self.old).word ≡ false
+            → OnOk result (Falls 1 0 self.old self.new) }
     {
         if self.line.has_field() {
             return self.line.end_field();
@@ -222,7 +224,8 @@ impl Formatter {
     /// Nothing more goes out where a word or a text line ended.
     pub fn flow_done(&mut self, after: After)
         ensures done { self.new ≡ flow_done after self.old }
-        ensures falls { (breaks : Bool) → self.old.event ≡ events.Nothing → self.old.task ≡ Task.Flow after breaks → Falls 1 0 self.old self.new }
+        ensures falls { (breaks : Bool) → self.old.event ≡ events.Nothing
+            → self.old.task ≡ Task.Flow after breaks → Falls 1 0 self.old self.new }
     {
         self.task = after.task();
     }
@@ -243,7 +246,8 @@ impl Formatter {
     /// Nothing more goes out at a break. A `\p` that waits for a word is dropped, and what `\c` continues ends.
     pub fn break_done(&mut self, then: Then)
         ensures done { self.new ≡ break_done then self.old }
-        ensures falls { self.old.event ≡ events.Nothing → self.old.task ≡ Task.Break then → Falls 1 0 self.old self.new }
+        ensures falls { self.old.event ≡ events.Nothing → self.old.task ≡ Task.Break then
+            → Falls 1 0 self.old self.new }
     {
         self.breaks = false;
         self.reader.end_continuing();

@@ -125,7 +125,8 @@ impl Formatter {
         ensures result { IsWithin self.old → result ≡ afforded (text_heard event self.old).line }
         ensures ok { OnOk result (self.new ≡ text_heard event self.old) }
         ensures limits { limits_of self.new ≡ limits_of self.old }
-        ensures falls { self.old.event ≡ event → is_text event ≡ true → OnOk result (Falls 1 0 self.old self.new) }
+        ensures falls { self.old.event ≡ event → is_text event ≡ true
+            → OnOk result (Falls 1 0 self.old self.new) }
     {
         if self.reads_title() {
             return self.title(event);
@@ -138,7 +139,8 @@ impl Formatter {
         ensures result { IsWithin self.old → result ≡ judged (heard_beside event self.old) }
         ensures ok { OnOk result (self.new ≡ heard_beside event self.old) }
         ensures limits { limits_of self.new ≡ limits_of self.old }
-        ensures falls { self.old.event ≡ event → event ≢ events.Nothing → OnOk result (Falls 1 0 self.old self.new) }
+        ensures falls { self.old.event ≡ event → event ≢ events.Nothing
+            → OnOk result (Falls 1 0 self.old self.new) }
     {
         match event {
             Event::Given => Passed::of_splice(self.give_register()),
@@ -157,7 +159,8 @@ impl Formatter {
         ensures result { IsWithin self.old → result ≡ judged (heard event self.old) }
         ensures ok { OnOk result (self.new ≡ heard event self.old) }
         ensures limits { limits_of self.new ≡ limits_of self.old }
-        ensures falls { self.old.event ≡ event → event ≢ events.Nothing → OnOk result (Falls 1 0 self.old self.new) }
+        ensures falls { self.old.event ≡ event → event ≢ events.Nothing
+            → OnOk result (Falls 1 0 self.old self.new) }
     {
         if is_text(event) {
             return Passed::of_line(self.hear_text(event));
@@ -168,7 +171,8 @@ impl Formatter {
     /// There is room for what is read then.
     pub fn read_in_room(&mut self, room: Room)
         ensures is { self.new ≡ read_in room self.old }
-        ensures falls { self.old.event ≡ events.Nothing → self.old.task ≡ tasks.Room room → Falls 1 0 self.old self.new }
+        ensures falls { self.old.event ≡ events.Nothing → self.old.task ≡ tasks.Room room
+            → Falls 1 0 self.old self.new }
     {
         match room {
             Room::Title => self.reader.begin_title(),
@@ -210,7 +214,8 @@ impl Formatter {
         ensures result { IsWithin self.old → result ≡ judged (worked task self.old) }
         ensures ok { OnOk result (self.new ≡ worked task self.old) }
         ensures limits { limits_of self.new ≡ limits_of self.old }
-        ensures falls { self.old.event ≡ events.Nothing → self.old.task ≡ task → works task ≡ true → OnOk result (Falls 1 0 self.old self.new) }
+        ensures falls { self.old.event ≡ events.Nothing → self.old.task ≡ task → works task ≡ true
+            → OnOk result (Falls 1 0 self.old self.new) }
     {
         match task {
             Task::Dash => Passed::of_line(self.finish_dash()),

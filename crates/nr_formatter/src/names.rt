@@ -14,7 +14,8 @@ use nr_units::Name;
 
 /// The words of a line are stored.
 fn add_words(store: &mut Store<Resume>, line: &[u8]) -> Result<(), StoredBytes>
-    ensures answer { charge_of store.old ≤ store.old.limit → result ≡ afforded (with_words (length line.now) line.now store.old) tt }
+    ensures answer { charge_of store.old ≤ store.old.limit
+        → result ≡ afforded (with_words (length line.now) line.now store.old) tt }
     ensures ok { OnOk result (store.new ≡ with_words (length line.now) line.now store.old) }
     ensures limits { stored_limits store.new ≡ stored_limits store.old }
 {
@@ -40,7 +41,8 @@ impl Formatter {
         name: Name,
         ending: Option<Name>,
     ) -> Result<(), StoredBytes>
-        ensures result { IsWithin self.old → result ≡ afforded (with_lines definition name ending self.old).store tt }
+        ensures result { IsWithin self.old
+            → result ≡ afforded (with_lines definition name ending self.old).store tt }
         ensures ok { OnOk result (self.new ≡ with_lines definition name ending self.old) }
         ensures limits { limits_of self.new ≡ limits_of self.old }
     {
@@ -51,7 +53,8 @@ impl Formatter {
 
     /// A definition of the name that the request's line has, if it has one.
     fn define(&mut self, definition: Definition) -> Result<(), StoredBytes>
-        ensures result { IsWithin self.old → result ≡ afforded (named_definition definition self.old).store tt }
+        ensures result { IsWithin self.old
+            → result ≡ afforded (named_definition definition self.old).store tt }
         ensures ok { OnOk result (self.new ≡ named_definition definition self.old) }
         ensures limits { limits_of self.new ≡ limits_of self.old }
     {

@@ -127,8 +127,11 @@ impl Formatter {
     /// A page begins at its top, and the trap there springs.
     pub fn begin_page(&mut self)
         ensures is { self.new ≡ page_begun self.old }
-        ensures opened { 0 < self.old.settings.pages.page_length → is_open self.old.paper.state ≡ false → Falls 1 0 self.old self.new }
-        ensures begun { (given : Option Bool) → 0 < self.old.settings.pages.page_length → self.old.event ≡ events.Nothing → self.old.task ≡ tasks.Begin given → Falls 1 0 self.old self.new }
+        ensures opened { 0 < self.old.settings.pages.page_length → is_open self.old.paper.state ≡ false
+            → Falls 1 0 self.old self.new }
+        ensures begun { (given : Option Bool) → 0 < self.old.settings.pages.page_length
+            → self.old.event ≡ events.Nothing → self.old.task ≡ tasks.Begin given
+            → Falls 1 0 self.old self.new }
     {
         let length = self.settings.pages.page_length.units();
         self.springs = reached(self.store.next_trap(-1, length as i32), 0);
@@ -141,8 +144,10 @@ impl Formatter {
     /// The open page has ended.
     pub fn page_ended(&mut self)
         ensures is { self.new ≡ page_ended self.old }
-        ensures full { page_outlet self.old.paper.state self.old.paper.place self.old.settings.pages.page_length ≡ outlets.Full → Falls 1 0 self.old self.new }
-        ensures ejected { (e : Ejected) → self.old.event ≡ events.Nothing → self.old.task ≡ tasks.Eject e → Falls 1 0 self.old self.new }
+        ensures full { page_outlet self.old.paper.state self.old.paper.place
+            self.old.settings.pages.page_length ≡ outlets.Full → Falls 1 0 self.old self.new }
+        ensures ejected { (e : Ejected) → self.old.event ≡ events.Nothing → self.old.task ≡ tasks.Eject e
+            → Falls 1 0 self.old self.new }
     {
         self.paper = Paper {
             state: PageState::Closed,

@@ -184,7 +184,8 @@ impl Formatter {
         step: Option<i32>,
     ) -> Result<(), StoredBytes>
         ensures answer { result ≡ set_checked name value step self.old }
-        ensures result { IsWithin self.old → result ≡ afforded (register_set name value step self.old).store tt }
+        ensures result { IsWithin self.old
+            → result ≡ afforded (register_set name value step self.old).store tt }
         ensures ok { OnOk result (self.new ≡ register_set name value step self.old) }
         ensures err { OnErr result (self.new ≡ self.old) }
         ensures limits { limits_of self.new ≡ limits_of self.old }
@@ -220,7 +221,8 @@ impl Formatter {
 
     /// Sets the format of a register.
     fn set_format(&mut self, name: Name, format: Format) -> Result<(), StoredBytes>
-        ensures result { IsWithin self.old → result ≡ afforded (formatted_by (given_named name) name format self.old).store tt }
+        ensures result { IsWithin self.old
+            → result ≡ afforded (formatted_by (given_named name) name format self.old).store tt }
         ensures ok { OnOk result (self.new ≡ formatted_by (given_named name) name format self.old) }
         ensures limits { limits_of self.new ≡ limits_of self.old }
     {

@@ -34,7 +34,8 @@ impl Formatter {
     /// Space of so many u goes down on the open page, to the next trap or the bottom at most.
     pub fn space_down(&mut self, distance: u32)
         ensures is { self.new ≡ spaced distance self.old }
-        ensures falls { self.old.event ≡ events.Nothing → self.old.task ≡ tasks.Space distance → Falls 1 0 self.old self.new }
+        ensures falls { self.old.event ≡ events.Nothing → self.old.task ≡ tasks.Space distance
+            → Falls 1 0 self.old self.new }
     {
         let down = distance.min(self.distance_below(self.paper.place));
         self.move_to(self.paper.place + down);

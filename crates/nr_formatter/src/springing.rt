@@ -51,7 +51,8 @@ impl Formatter {
     /// What was under way is gone on with, after the text of a sprung macro.
     pub fn resume(&mut self, resume: &Resume)
         ensures is { self.new ≡ resumed resume.now self.old }
-        ensures falls { self.old.event ≡ events.Nothing → self.old.task ≡ tasks.Read → Falls 0 510 self.old self.new }
+        ensures falls { self.old.event ≡ events.Nothing → self.old.task ≡ tasks.Read
+            → Falls 0 510 self.old self.new }
     {
         self.reader.stand(resume.standing);
         self.reader.set_line(resume.line.as_slice());

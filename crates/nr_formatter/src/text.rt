@@ -321,7 +321,8 @@ impl Formatter {
         ensures result { result ≡ afforded (finish_dash self.old).line }
         ensures ok { OnOk result (self.new ≡ finish_dash self.old) }
         ensures limits { limits_of self.new ≡ limits_of self.old }
-        ensures falls { self.old.event ≡ Event.Nothing → self.old.task ≡ Task.Dash → OnOk result (Falls 1 0 self.old self.new) }
+        ensures falls { self.old.event ≡ Event.Nothing → self.old.task ≡ Task.Dash
+            → OnOk result (Falls 1 0 self.old self.new) }
     {
         if self.reads_title() {
             return self.title_dash_end();

@@ -22,8 +22,11 @@ use nr_units::format_number;
 
 /// So many equal cells more of the title that is being read.
 fn put_copies(line: &mut Line, cell: Cell, n: u32) -> Result<(), LineCells>
-    ensures result { line_cells line.old.collected ≤ line.old.limit → result ≡ afforded (record line.old { collected = with_title_cells (replicate n cell) line.old.collected }) }
-    ensures ok { OnOk result (line.new ≡ record line.old { collected = with_title_cells (replicate n cell) line.old.collected }) }
+    ensures result { line_cells line.old.collected ≤ line.old.limit
+        → result
+        ≡ afforded (record line.old { collected = with_title_cells (replicate n cell) line.old.collected }) }
+    ensures ok { OnOk result (line.new ≡ record line.old
+        { collected = with_title_cells (replicate n cell) line.old.collected }) }
     ensures limit { line.new.limit ≡ line.old.limit }
 {
     for _copy in 0..n {
@@ -34,8 +37,13 @@ fn put_copies(line: &mut Line, cell: Cell, n: u32) -> Result<(), LineCells>
 
 /// The cells of these bytes more of the title that is being read.
 fn put_bytes(line: &mut Line, fonts: &Fonts, bytes: &[u8]) -> Result<(), LineCells>
-    ensures result { line_cells line.old.collected ≤ line.old.limit → result ≡ afforded (record line.old { collected = with_title_cells (map (λ b. cell_of b fonts.now) bytes.now) line.old.collected }) }
-    ensures ok { OnOk result (line.new ≡ record line.old { collected = with_title_cells (map (λ b. cell_of b fonts.now) bytes.now) line.old.collected }) }
+    ensures result { line_cells line.old.collected ≤ line.old.limit
+        → result
+        ≡ afforded
+        (record line.old
+        { collected = with_title_cells (map (λ b. cell_of b fonts.now) bytes.now) line.old.collected }) }
+    ensures ok { OnOk result (line.new ≡ record line.old
+        { collected = with_title_cells (map (λ b. cell_of b fonts.now) bytes.now) line.old.collected }) }
     ensures limit { line.new.limit ≡ line.old.limit }
 {
     for byte in bytes {
@@ -89,7 +97,8 @@ impl Formatter {
 
     /// So many equal cells of the title.
     fn title_cells(&mut self, byte: u8, n: u32) -> Result<(), LineCells>
-        ensures result { IsWithin self.old → result ≡ afforded (titled (replicate n (cell_in byte self.old)) self.old).line }
+        ensures result { IsWithin self.old
+            → result ≡ afforded (titled (replicate n (cell_in byte self.old)) self.old).line }
         ensures ok { OnOk result (self.new ≡ titled (replicate n (cell_in byte self.old)) self.old) }
         ensures limits { limits_of self.new ≡ limits_of self.old }
     {
@@ -111,7 +120,8 @@ impl Formatter {
 
     /// A byte that is a cell, if it prints.
     fn title_plain(&mut self, byte: u8) -> Result<(), LineCells>
-        ensures result { IsWithin self.old → result ≡ afforded (titled (printed byte self.old) self.old).line }
+        ensures result { IsWithin self.old
+            → result ≡ afforded (titled (printed byte self.old) self.old).line }
         ensures ok { OnOk result (self.new ≡ titled (printed byte self.old) self.old) }
         ensures limits { limits_of self.new ≡ limits_of self.old }
     {
@@ -124,7 +134,8 @@ impl Formatter {
 
     /// A byte of a title.
     fn title_byte(&mut self, byte: u8) -> Result<(), LineCells>
-        ensures result { IsWithin self.old → result ≡ afforded (titled (title_byte byte self.old) self.old).line }
+        ensures result { IsWithin self.old
+            → result ≡ afforded (titled (title_byte byte self.old) self.old).line }
         ensures ok { OnOk result (self.new ≡ titled (title_byte byte self.old) self.old) }
         ensures limits { limits_of self.new ≡ limits_of self.old }
     {
@@ -136,7 +147,8 @@ impl Formatter {
 
     /// `\(hy`, `\(em` and their kin.
     fn title_special(&mut self) -> Result<(), LineCells>
-        ensures result { IsWithin self.old → result ≡ afforded (title_special (special_of (asked self.old)) self.old).line }
+        ensures result { IsWithin self.old
+            → result ≡ afforded (title_special (special_of (asked self.old)) self.old).line }
         ensures ok { OnOk result (self.new ≡ title_special (special_of (asked self.old)) self.old) }
         ensures limits { limits_of self.new ≡ limits_of self.old }
     {
@@ -210,7 +222,8 @@ impl Formatter {
     pub fn set_title<S: CellSink>(&mut self, offset: u32, out: &mut S)
         ensures out { S.Adds out.old (title_row offset self.old) out.new }
         ensures rest { self.new ≡ title_set self.old }
-        ensures falls { self.old.event ≡ Event.Nothing → self.old.task ≡ Task.Title → Falls 5 0 self.old self.new }
+        ensures falls { self.old.event ≡ Event.Nothing → self.old.task ≡ Task.Title
+            → Falls 5 0 self.old self.new }
     {
         let length = self.settings.indents.title_length.value.cells();
         self.line.set_title(length, offset, out);

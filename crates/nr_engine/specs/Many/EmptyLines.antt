@@ -23,4 +23,5 @@ pub record NewlinesAtHand (bs : List ℕ) (n : ℕ) (e : Shape) (supply : Option
 pub record WentDown (bs : List ℕ) (n made : ℕ) (f : Formatter) : Type 0 where
   pub left : lines_below f ≡ 0 → made ≡ 0
   pub moves : 0 < lines_below f → made ≡ 3 + 4 * n
-  pub longest : is_at_line f.reader.half ≡ true → n + 1 < lines_below f → n < length bs → slice_index bs n ≢ code "\n"
+  pub longest : is_at_line f.reader.half ≡ true → n + 1 < lines_below f → n < length bs
+      → slice_index bs n ≢ code "\n"

@@ -62,7 +62,8 @@ pub record StaysLight (e f : Shape) : Type 0 where
 
 -- n moves were made, at whatever state the engine stood, and nothing went out
 pub record Makes (n : ℕ) (e f : Shape) (supply supply' : Option Supply) : Type 0 where
-  pub makes : (held : Option (List ℕ)) (s : State) → Stands [] supply s e → Made [] (at e s) n f supply' held held
+  pub makes : (held : Option (List ℕ)) (s : State) → Stands [] supply s e
+      → Made [] (at e s) n f supply' held held
   pub limit : f.formatter.store.limit ≡ e.formatter.store.limit
   pub most : f.formatter.reader.most ≡ e.formatter.reader.most
   pub limits : limits_of f ≡ limits_of e
@@ -95,7 +96,8 @@ unburst f = record f { reader = record f.reader { burst = 0 } }
 
 -- the first n of these bytes were taken, and this is the formatter after them
 abbrev pub taken_shape : List ℕ → ℕ → Formatter → Shape → Shape
-taken_shape bs n g e = record e { formatter = unburst g; place = passed_run (slice_index bs (n - 1)) n e.place }
+taken_shape bs n g e =
+    record e { formatter = unburst g; place = passed_run (slice_index bs (n - 1)) n e.place }
 
 -- these bytes of the source are read next
 pub record HasNext (bs : List ℕ) (e : Shape) (supply : Option Supply) : Type 0 where
@@ -111,9 +113,11 @@ pub record PutsText (bs : List ℕ) (taken moves : ℕ) (f g : Formatter) : Type
   pub most : moves ≤ 5 * taken
   pub none : taken ≡ 0 → g ≡ f
   pub store : g.store ≡ f.store
-  pub makes : (e : Shape) (supply : Option Supply) → unburst e.formatter ≡ unburst f → HasNext bs e supply → 0 < taken
+  pub makes : (e : Shape) (supply : Option Supply) → unburst e.formatter ≡ unburst f
+      → HasNext bs e supply → 0 < taken
       → Makes moves e (taken_shape bs taken g e) supply (option_map (skipped taken) supply)
-  pub saves : (e : Shape) (supply : Option Supply) → unburst e.formatter ≡ unburst f → HasNext bs e supply → 0 < taken
+  pub saves : (e : Shape) (supply : Option Supply) → unburst e.formatter ≡ unburst f
+      → HasNext bs e supply → 0 < taken
       → Saves 20 moves e (taken_shape bs taken g e)
 
 -- ---- text of levels
@@ -126,13 +130,17 @@ with_read v r f = record f { store = v; reader = r }
 -- for last, and how often was spliced.
 pub record IsFurther (f : Formatter) (v : StoredOf Resume) (r : Reader) : Type 0 where
   pub stored : v ≡ record f.store { levels = v.levels; texts = v.texts; arguments = v.arguments }
-  pub reader : r ≡ record f.reader { half = record f.reader.half { notes = record f.reader.half.notes { asked = r.half.notes.asked } }; burst = r.burst }
+  pub reader : r ≡ record f.reader {
+    half = record f.reader.half { notes = record f.reader.half.notes { asked = r.half.notes.asked } };
+    burst = r.burst;
+  }
 
 -- Wherever these bytes come of levels, with moves that lead to each, they lead from one formatter to the other, in so many moves besides
 -- those.
 abbrev pub Flows : List ℕ → ℕ → Formatter → Formatter → Type 0
 Flows bs moves f g =
-    (n : ℕ) (v : StoredOf Resume) (r : Reader) (w : StoredOf Resume) (q : Reader) → IsFurther f v r → FitsMemory (with_read v r f) → Brings n bs v r w q
+    (n : ℕ) (v : StoredOf Resume) (r : Reader) (w : StoredOf Resume) (q : Reader) → IsFurther f v r
+    → FitsMemory (with_read v r f) → Brings n bs v r w q
     → MakesInText (moves + n) (with_read v r f) (with_read w q g)
 
 -- So many of these bytes were put, up to five moves each, wherever they come of levels.
@@ -149,7 +157,8 @@ pub record PutsOfFlow (bs : List ℕ) (taken moves : ℕ) (f g : Formatter) : Ty
 -- As many bytes of a line's words were put as could be: in the midst of a line that is not full, what comes next is neither a plain
 -- byte nor a blank that does nothing but end its word.
 pub record LongestWords (bs : List ℕ) (taken : ℕ) (f : Formatter) : Type 0 where
-  pub stops : taken < length bs → is_in_line f ≡ true → IsPlain (slice_index bs taken) → text_cells (collected f) ≡ f.line.limit
+  pub stops : taken < length bs → is_in_line f ≡ true → IsPlain (slice_index bs taken)
+      → text_cells (collected f) ≡ f.line.limit
   pub blank : taken < length bs → is_in_line f ≡ true → slice_index bs taken ≡ code " " → IsGap f → ⊥
 
 -- A newline that came next of the newest level was taken, or no other comes next that does nothing but end its line.
@@ -184,22 +193,26 @@ pub record Longest (bs : List ℕ) (taken moves : ℕ) (f : Formatter) : Type 0 
   pub words : LongestWords bs taken f
   pub newline : taken < length bs → slice_index bs taken ≡ code "\n" → IsNewline f → ⊥
   pub begins : is_at_text f ≡ true → is_in_line f ≡ false → BeginsText (drop taken bs) f → ⊥
-  pub font : is_at_text f ≡ true → interpolates f.reader.half ≡ true → BeginsFont (is_in_text f.reader.half) (drop taken bs) → ⊥
+  pub font : is_at_text f ≡ true → interpolates f.reader.half ≡ true
+      → BeginsFont (is_in_text f.reader.half) (drop taken bs) → ⊥
 
 -- all choices took effect, each as a move, or the run stops at one
-abbrev pub AfterChoices : Option Supply → State → ℕ → Shape → Option (List ℕ) → Result (Unit {0}) Outcome → Type 0
+abbrev pub AfterChoices : Option Supply → State → ℕ → Shape → Option (List ℕ)
+    → Result (Unit {0}) Outcome → Type 0
 AfterChoices supply s n f held (Ok x) = Made [] s n f supply held held
 AfterChoices supply s n f held (Err outcome) = Halts s n outcome held held
 
 -- At whatever state the engine held with these options to choose, they are chosen.
 pub record ChoosesAll (options : Options) (e f : Shape) (n : ℕ) (r : Result (Unit {0}) Outcome) : Type 0 where
-  pub chooses : (supply : Option Supply) (held : Option (List ℕ)) (s : State) → Holds (choices options) supply s e → AfterChoices supply s n f held r
+  pub chooses : (supply : Option Supply) (held : Option (List ℕ)) (s : State)
+      → Holds (choices options) supply s e → AfterChoices supply s n f held r
   pub stays : OnOk r (StaysLight e f)
   pub reads : stops_reading r ≡ false
   pub writes : stops_writing r ≡ false
 
 -- At whatever state the engine held, moves were made up to where the run stops as the outcome says.
-pub record Travelled (s : State) (before after : ℕ) (most : ℕ) (outcome : Outcome) (old new : Option (List ℕ)) : Type 0 where
+pub record Travelled (s : State) (before after : ℕ) (most : ℕ) (outcome : Outcome)
+    (old new : Option (List ℕ)) : Type 0 where
   pub count : ℕ
   pub counted : after ≡ before + count
   pub halts : Halts s count outcome old new

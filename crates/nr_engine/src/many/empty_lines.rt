@@ -33,8 +33,10 @@ impl Engine {
         ensures most { result ≤ most }
         ensures next { NewlinesAtHand (R.at_hand input.now) result (shape self.now) (R.supply input.now) }
         ensures longest { self.now.formatter.store.levels ≡ [] → is_unseen self.now.place.ahead ≡ true →
-            self.now.place.taken + length (R.at_hand input.now) < 2 ^ 40 → is_at_line self.now.formatter.reader.half ≡ true →
-            result < most → result < length (R.at_hand input.now) → slice_index (R.at_hand input.now) result ≢ 10 }
+            self.now.place.taken + length (R.at_hand input.now) < 2 ^ 40
+            → is_at_line self.now.formatter.reader.half ≡ true →
+            result < most → result < length (R.at_hand input.now)
+            → slice_index (R.at_hand input.now) result ≢ 10 }
     {
         if !self.formatter.is_at_line() {
             return 0;
@@ -48,11 +50,13 @@ impl Engine {
     #[inline(never)]
     fn put_empty_lines<R: Source>(&mut self, input: &mut R) -> u128
         requires empty { self.old.formatter.event ≡ events.Empty }
-        ensures reads { MakesReading result (shape self.old) (shape self.new) (R.supply input.old) (R.supply input.new) (R.failures input.old) (R.failures input.new) }
+        ensures reads { MakesReading result (shape self.old) (shape self.new) (R.supply input.old)
+            (R.supply input.new) (R.failures input.old) (R.failures input.new) }
         ensures few { result < 2 ^ 66 }
         ensures longest { self.old.formatter.store.levels ≡ [] → is_unseen self.old.place.ahead ≡ true →
             self.old.place.taken + length (R.at_hand input.old) < 2 ^ 40 →
-            WentDown (R.at_hand input.old) (self.new.place.taken - self.old.place.taken) result self.old.formatter }
+            WentDown (R.at_hand input.old) (self.new.place.taken - self.old.place.taken) result
+            self.old.formatter }
     {
         let lines = self.formatter.lines_below();
         if lines == 0 {
@@ -72,7 +76,8 @@ impl Engine {
     /// else, and where a request is told that only sets, it takes effect with those after it. Tells how many moves that was.
     #[inline(always)]
     pub(crate) fn read_lines<R: Source>(&mut self, input: &mut R) -> u128
-        ensures reads { MakesReading result (shape self.old) (shape self.new) (R.supply input.old) (R.supply input.new) (R.failures input.old) (R.failures input.new) }
+        ensures reads { MakesReading result (shape self.old) (shape self.new) (R.supply input.old)
+            (R.supply input.new) (R.failures input.old) (R.failures input.new) }
         ensures few { result < 2 ^ 67 }
     {
         if self.formatter.store.is_reading() {

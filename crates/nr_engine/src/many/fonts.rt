@@ -24,9 +24,12 @@ fn begins_font(bytes: &[u8]) -> bool
 #[inline(never)]
 fn change_font(formatter: &mut Formatter, bytes: &[u8]) -> usize
     requires text { is_at_text formatter.old ≡ true }
-    ensures in_line { is_in_line formatter.old ≡ true → PutsFont bytes.now result (result + 1) formatter.old formatter.new }
-    ensures at_start { IsBeforeLine formatter.old.reader.half → PutsFont bytes.now result (result + 2) formatter.old formatter.new }
-    ensures longest { result ≡ 0 → interpolates formatter.old.reader.half ≡ true → BeginsFont (is_in_text formatter.old.reader.half) bytes.now → ⊥ }
+    ensures in_line { is_in_line formatter.old ≡ true
+        → PutsFont bytes.now result (result + 1) formatter.old formatter.new }
+    ensures at_start { IsBeforeLine formatter.old.reader.half
+        → PutsFont bytes.now result (result + 2) formatter.old formatter.new }
+    ensures longest { result ≡ 0 → interpolates formatter.old.reader.half ≡ true
+        → BeginsFont (is_in_text formatter.old.reader.half) bytes.now → ⊥ }
 {
     match nr_input::meet_font(&mut formatter.reader, bytes) {
         Some(run) => {
@@ -41,7 +44,8 @@ fn change_font(formatter: &mut Formatter, bytes: &[u8]) -> usize
 #[inline(always)]
 pub(crate) fn put_font(formatter: &mut Formatter, bytes: &[u8]) -> usize
     ensures puts { PutsFont bytes.now result (result + 1) formatter.old formatter.new }
-    ensures longest { result ≡ 0 → is_in_line formatter.old ≡ true → BeginsFont (is_in_text formatter.old.reader.half) bytes.now → ⊥ }
+    ensures longest { result ≡ 0 → is_in_line formatter.old ≡ true
+        → BeginsFont (is_in_text formatter.old.reader.half) bytes.now → ⊥ }
 {
     if !begins_font(bytes) || !formatter.is_in_line() {
         return 0;
@@ -55,7 +59,8 @@ pub(crate) fn begin_font(formatter: &mut Formatter, bytes: &[u8]) -> usize
     requires text { is_at_text formatter.old ≡ true }
     requires start { IsBeforeLine formatter.old.reader.half }
     ensures puts { PutsFont bytes.now result (result + 2) formatter.old formatter.new }
-    ensures longest { result ≡ 0 → interpolates formatter.old.reader.half ≡ true → BeginsFont (is_in_text formatter.old.reader.half) bytes.now → ⊥ }
+    ensures longest { result ≡ 0 → interpolates formatter.old.reader.half ≡ true
+        → BeginsFont (is_in_text formatter.old.reader.half) bytes.now → ⊥ }
 {
     if !begins_font(bytes) {
         return 0;

@@ -85,7 +85,8 @@ impl Engine {
         requires line { is_in_line self.old.formatter ≡ true }
         ensures puts { MakesInPlace result (shape self.old) (shape self.new) }
         ensures few { result ≤ 711 }
-        ensures longest { LongestOfLevels self.old.formatter.store self.old.formatter.reader self.new.formatter }
+        ensures longest { LongestOfLevels self.old.formatter.store self.old.formatter.reader
+            self.new.formatter }
     {
         let mut bytes = [0; LONGEST_LINE];
         let formatter = &mut self.formatter;

@@ -20,7 +20,8 @@ impl Engine {
         requires request { self.old.formatter.event ≡ events.Request }
         ensures obeys { MakesInPlace result (shape self.old) (shape self.new) }
         ensures few { result ≤ 4 }
-        ensures next { is_spacing self.old.formatter.reader.request ≡ false → 0 < result → ReadsNext self.new.formatter }
+        ensures next { is_spacing self.old.formatter.reader.request ≡ false → 0 < result
+            → ReadsNext self.new.formatter }
     {
         u128::from(self.formatter.obey())
     }
@@ -29,7 +30,8 @@ impl Engine {
     #[inline(always)]
     fn read_control_line<R: Source>(&mut self, input: &mut R) -> u128
         requires next { ReadsNext self.old.formatter }
-        ensures reads { MakesReading result (shape self.old) (shape self.new) (R.supply input.old) (R.supply input.new) (R.failures input.old) (R.failures input.new) }
+        ensures reads { MakesReading result (shape self.old) (shape self.new) (R.supply input.old)
+            (R.supply input.new) (R.failures input.old) (R.failures input.new) }
         ensures few { result ≤ 65536 }
     {
         let formatter = &mut self.formatter;
@@ -52,7 +54,8 @@ impl Engine {
     #[inline(never)]
     pub(crate) fn obey_lines<R: Source>(&mut self, input: &mut R) -> u128
         requires request { self.old.formatter.event ≡ events.Request }
-        ensures reads { MakesReading result (shape self.old) (shape self.new) (R.supply input.old) (R.supply input.new) (R.failures input.old) (R.failures input.new) }
+        ensures reads { MakesReading result (shape self.old) (shape self.new) (R.supply input.old)
+            (R.supply input.new) (R.failures input.old) (R.failures input.new) }
         ensures few { result ≤ 4096 * 65540 }
     {
         let mut moves = 0u128;

@@ -119,7 +119,8 @@ impl Engine {
     #[inline(always)]
     fn put_source_text<R: Source>(&mut self, input: &mut R) -> u128
         requires line { is_in_line self.old.formatter ≡ true }
-        ensures reads { MakesReading result (shape self.old) (shape self.new) (R.supply input.old) (R.supply input.new) (R.failures input.old) (R.failures input.new) }
+        ensures reads { MakesReading result (shape self.old) (shape self.new) (R.supply input.old)
+            (R.supply input.new) (R.failures input.old) (R.failures input.new) }
         ensures few { result < 2 ^ 66 }
         ensures most { PutsMost (R.at_hand input.old) result (shape self.old) (shape self.new) }
     {
@@ -137,9 +138,12 @@ impl Engine {
     /// The text of a line begins with what the source has at hand, if the first byte of it is put. Tells whether it does.
     #[inline(always)]
     fn begin_text<R: Source>(&mut self, input: &R) -> bool
-        ensures begins { result ≡ true → Begins (may_take self.old.place (R.at_hand input.now)) (shape self.old) (shape self.new) (R.supply input.now) }
+        ensures begins { result ≡ true
+            → Begins (may_take self.old.place (R.at_hand input.now)) (shape self.old) (shape self.new)
+            (R.supply input.now) }
         ensures left { result ≡ false → shape self.new ≡ shape self.old }
-        ensures longest { result ≡ false → self.old.formatter.store.levels ≡ [] → is_unseen self.old.place.ahead ≡ true →
+        ensures longest { result ≡ false → self.old.formatter.store.levels ≡ []
+            → is_unseen self.old.place.ahead ≡ true →
             BeginsText (may_take self.old.place (R.at_hand input.now)) self.old.formatter → ⊥ }
     {
         let bytes = nr_input::window(&self.place, &self.formatter.store, input);
@@ -151,7 +155,8 @@ impl Engine {
     #[inline(always)]
     fn put_text<R: Source>(&mut self, input: &mut R) -> u128
         requires at_text { is_at_text self.old.formatter ≡ true }
-        ensures reads { MakesReading result (shape self.old) (shape self.new) (R.supply input.old) (R.supply input.new) (R.failures input.old) (R.failures input.new) }
+        ensures reads { MakesReading result (shape self.old) (shape self.new) (R.supply input.old)
+            (R.supply input.new) (R.failures input.old) (R.failures input.new) }
         ensures few { result < 2 ^ 66 }
     {
         let in_line = self.formatter.is_in_line();
@@ -171,7 +176,8 @@ impl Engine {
     /// there without anything being done, and empty lines after it. Tells how many moves that was.
     #[inline(always)]
     fn read_behind<R: Source>(&mut self, input: &mut R) -> u128
-        ensures reads { MakesReading result (shape self.old) (shape self.new) (R.supply input.old) (R.supply input.new) (R.failures input.old) (R.failures input.new) }
+        ensures reads { MakesReading result (shape self.old) (shape self.new) (R.supply input.old)
+            (R.supply input.new) (R.failures input.old) (R.failures input.new) }
         ensures few { result < 2 ^ 67 }
     {
         if self.formatter.store.is_reading() {
@@ -184,7 +190,8 @@ impl Engine {
     /// can be read without anything being done, and empty lines after it.
     #[inline(always)]
     pub(crate) fn put_at_hand<R: Source>(&mut self, input: &mut R) -> u128
-        ensures reads { MakesReading result (shape self.old) (shape self.new) (R.supply input.old) (R.supply input.new) (R.failures input.old) (R.failures input.new) }
+        ensures reads { MakesReading result (shape self.old) (shape self.new) (R.supply input.old)
+            (R.supply input.new) (R.failures input.old) (R.failures input.new) }
     {
         if !self.reads_next() {
             return 0;

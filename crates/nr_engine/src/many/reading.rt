@@ -42,7 +42,8 @@ impl Engine {
     /// moves that was.
     #[inline(always)]
     fn read_run<R: Source>(&mut self, input: &mut R) -> u128
-        ensures reads { MakesReading result (shape self.old) (shape self.new) (R.supply input.old) (R.supply input.new) (R.failures input.old) (R.failures input.new) }
+        ensures reads { MakesReading result (shape self.old) (shape self.new) (R.supply input.old)
+            (R.supply input.new) (R.failures input.old) (R.failures input.new) }
         ensures few { result ≤ 65542 }
     {
         if !self.reads_next() {
@@ -64,7 +65,8 @@ impl Engine {
     /// moves that was.
     #[inline(always)]
     fn read_body_lines<R: Source>(&mut self, input: &mut R) -> u128
-        ensures reads { MakesReading result (shape self.old) (shape self.new) (R.supply input.old) (R.supply input.new) (R.failures input.old) (R.failures input.new) }
+        ensures reads { MakesReading result (shape self.old) (shape self.new) (R.supply input.old)
+            (R.supply input.new) (R.failures input.old) (R.failures input.new) }
         ensures few { result ≤ 32000 }
     {
         if !self.reads_next() {
@@ -86,7 +88,8 @@ impl Engine {
     /// that was.
     #[inline(always)]
     fn read_dropped_line<R: Source>(&mut self, input: &mut R) -> u128
-        ensures reads { MakesReading result (shape self.old) (shape self.new) (R.supply input.old) (R.supply input.new) (R.failures input.old) (R.failures input.new) }
+        ensures reads { MakesReading result (shape self.old) (shape self.new) (R.supply input.old)
+            (R.supply input.new) (R.failures input.old) (R.failures input.new) }
         ensures few { result ≤ 16000 }
     {
         if !self.reads_next() {
@@ -108,7 +111,8 @@ impl Engine {
     /// many moves that was.
     #[inline(always)]
     fn read_quiet_lines<R: Source>(&mut self, input: &mut R) -> u128
-        ensures reads { MakesReading result (shape self.old) (shape self.new) (R.supply input.old) (R.supply input.new) (R.failures input.old) (R.failures input.new) }
+        ensures reads { MakesReading result (shape self.old) (shape self.new) (R.supply input.old)
+            (R.supply input.new) (R.failures input.old) (R.failures input.new) }
         ensures few { result ≤ 32000 }
     {
         match self.formatter.reader.half.reading.mode {
@@ -121,7 +125,8 @@ impl Engine {
     /// As `read_run`, but first the lines are read that do little. Tells how many moves that was.
     #[inline(always)]
     pub(crate) fn read_source<R: Source>(&mut self, input: &mut R) -> u128
-        ensures reads { MakesReading result (shape self.old) (shape self.new) (R.supply input.old) (R.supply input.new) (R.failures input.old) (R.failures input.new) }
+        ensures reads { MakesReading result (shape self.old) (shape self.new) (R.supply input.old)
+            (R.supply input.new) (R.failures input.old) (R.failures input.new) }
         ensures few { result ≤ 97542 }
     {
         let lines = self.read_quiet_lines(input);

@@ -12,13 +12,16 @@ use Rattle.nr_formatter.specs.declared.formatter.Formatter.{Formatter}
 
 -- such a byte
 abbrev pub goes_to_word : ℕ → Formatter → Bool
-goes_to_word b f = if b == code " " then not (is_filling f) else (if b == code "\t" then not (reads_a_field f) else b == code "-")
+goes_to_word b f =
+    if b == code " " then not (is_filling f)
+    else (if b == code "\t" then not (reads_a_field f) else b == code "-")
 
 -- what is collected after it
 abbrev pub byte_added : ℕ → Formatter → Collected
 byte_added b f =
     if b == code " " then add_blank (margins f) (collected f)
-    else (if b == code "\t" then tabbed (margins f) f.settings.tabs.stops (not f.settings.filling.fill) (cell (unwrap_or f.settings.tabs.tab (code " ")) f) (collected f)
+    else (if b == code "\t" then tabbed (margins f) f.settings.tabs.stops (not f.settings.filling.fill)
+    (cell (unwrap_or f.settings.tabs.tab (code " ")) f) (collected f)
     else add_cell (margins f) Hyphen (cell b f) (collected f))
 
 abbrev pub byte_put : ℕ → Formatter → Formatter

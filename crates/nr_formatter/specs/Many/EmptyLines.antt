@@ -23,7 +23,8 @@ use Rattle.nr_formatter.specs.declared.tasks.Task.TheVariants as tasks
 
 -- no macro springs, nothing is collected, and an open page with room takes space
 abbrev pub goes_down : Formatter → Bool
-goes_down f = (is_none f.springs && begins_line (collected f)) && (has_room (outlet f) && not f.settings.pages.no_space)
+goes_down f =
+    (is_none f.springs && begins_line (collected f)) && (has_room (outlet f) && not f.settings.pages.no_space)
 
 -- how many lines may go down so that they end above the next trap and the bottom
 abbrev pub lines_below : Formatter → ℕ

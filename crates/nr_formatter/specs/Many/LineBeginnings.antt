@@ -10,7 +10,9 @@ use Rattle.nr_formatter.specs.declared.formatter.Formatter.{Formatter}
 
 -- the next item is read in a text line or at the beginning of a line, and what is collected has begun
 abbrev pub is_at_text : Formatter → Bool
-is_at_text f = ((is_none f.springs && reads_next f.event f.task) && reads_text f.reader.half) && not (begins_line (collected f))
+is_at_text f =
+    ((is_none f.springs && reads_next f.event f.task) && reads_text f.reader.half)
+    && not (begins_line (collected f))
 
 -- A line's text begins with these bytes, and the first of them is put: it is plain and no control character, and the line that is
 -- collected is not full.

@@ -37,4 +37,5 @@ pub record IsNewline (f : Formatter) : Type 0 where
 abbrev pub AfterNewline : Formatter → Gap → Formatter → Type 0
 AfterNewline f gaps.Left g = g ≡ f
 AfterNewline f gaps.Flows g = IsNewline f × (g ≡ newline_flows f)
-AfterNewline f gaps.Reads g = IsNewline f × (fits_line (line_gapped (collected f)) ≡ true) × (g ≡ newline_put f)
+AfterNewline f gaps.Reads g =
+    IsNewline f × (fits_line (line_gapped (collected f)) ≡ true) × (g ≡ newline_put f)

@@ -78,7 +78,8 @@ breaks_idly f = begins_line (collected f) && not (begins_first_page (thens.Act f
 -- its line was heard, and the break is done if it has one
 abbrev pub behind_break : Formatter → Formatter
 behind_break f =
-    if breaks_first f then break_done (thens.Act f.reader.request) (heard_for (tasks.Break (thens.Act f.reader.request)) f)
+    if breaks_first f
+    then break_done (thens.Act f.reader.request) (heard_for (tasks.Break (thens.Act f.reader.request)) f)
     else heard_for (tasks.Act f.reader.request) f
 
 -- and it took effect; space that it asks for is still to be made
@@ -104,7 +105,9 @@ moves_spacing f = if may_space f.task f then 1 else 0
 
 -- no macro springs, and all that the request does is to set or to make space
 abbrev pub may_obey : Formatter → Bool
-may_obey f = is_none f.springs && (may_act f.reader.request (behind_break f) && (not (breaks_first f) || breaks_idly f))
+may_obey f =
+    is_none f.springs
+    && (may_act f.reader.request (behind_break f) && (not (breaks_first f) || breaks_idly f))
 
 -- after such a request; any other is not obeyed yet
 abbrev pub obeyed : Formatter → Formatter

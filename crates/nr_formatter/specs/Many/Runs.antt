@@ -28,7 +28,9 @@ reads_next e t = false
 
 -- the next item is read in a text line that has begun
 abbrev pub is_in_line : Formatter → Bool
-is_in_line f = ((is_none f.springs && reads_next f.event f.task) && is_in_text f.reader.half) && not (begins_line (collected f))
+is_in_line f =
+    ((is_none f.springs && reads_next f.event f.task) && is_in_text f.reader.half)
+    && not (begins_line (collected f))
 
 -- the same, part by part
 pub record IsInLine (f : Formatter) : Type 0 where
@@ -48,7 +50,8 @@ run_put bs f = with_collected (add_run (margins f) (is_under f.settings.fonts) b
 -- and there is no hyphenation word
 abbrev pub gaps_plainly : Formatter → Bool
 gaps_plainly f =
-    ((is_filling f && not (is_none (collected f).word)) && not (reads_a_field f)) && (not f.breaks && not (nat_lt 0 (length f.store.words)))
+    ((is_filling f && not (is_none (collected f).word)) && not (reads_a_field f))
+    && (not f.breaks && not (nat_lt 0 (length f.store.words)))
 
 -- the word and the gap after it
 abbrev pub gapped : Collected → Collected
@@ -101,14 +104,17 @@ pub record PutsWord (bs : List ℕ) (f : Formatter) (word : WordPut) (g : Format
   pub gap : AfterGap (run_put (take word.count bs) f) word.gap g
   pub below : is_read word.gap ≡ true → word.count < length bs
   pub blank : is_read word.gap ≡ true → slice_index bs word.count ≡ code " "
-  pub stops : is_read word.gap ≡ false → word.count < length bs → IsPlain (slice_index bs word.count) → text_cells (collected g) ≡ g.line.limit
-  pub left : is_read word.gap ≡ false → word.count < length bs → slice_index bs word.count ≡ code " " → IsGap g → ⊥
+  pub stops : is_read word.gap ≡ false → word.count < length bs → IsPlain (slice_index bs word.count)
+      → text_cells (collected g) ≡ g.line.limit
+  pub left : is_read word.gap ≡ false → word.count < length bs → slice_index bs word.count ≡ code " "
+      → IsGap g → ⊥
 
 -- ---- a diverted line that is read again
 
 -- the next item is read in the midst of a diverted line that goes on the page
 abbrev pub is_rereading_line : Formatter → Bool
-is_rereading_line f = ((is_none f.springs && reads_next f.event f.task) && is_rereading f.reader.half) && is_on_page (outlet f)
+is_rereading_line f =
+    ((is_none f.springs && reads_next f.event f.task) && is_rereading f.reader.half) && is_on_page (outlet f)
 
 -- the same, part by part
 pub record IsRereadingLine (f : Formatter) : Type 0 where
