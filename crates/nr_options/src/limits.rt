@@ -46,19 +46,40 @@ impl Model for Limits {
 
     ghost Value = { Bounds };
 
-    ghost view = { λ l. record { stored = l.stored; depth = l.depth; cells = l.cells; expansions = l.expansions } };
+    ghost view = { λ l. record {
+      stored = l.stored;
+      depth = l.depth;
+      cells = l.cells;
+      expansions = l.expansions;
+    } };
 
-    ghost inverse = { λ b. record { stored = b.stored; depth = b.depth; cells = b.cells; expansions = b.expansions } };
+    ghost inverse = { λ b. record {
+      stored = b.stored;
+      depth = b.depth;
+      cells = b.cells;
+      expansions = b.expansions;
+    } };
 
-    ghost invariant = { λ l. AreLimits (record { stored = l.stored; depth = l.depth; cells = l.cells; expansions = l.expansions }) };
+    ghost invariant = { λ l. AreLimits (record {
+      stored = l.stored;
+      depth = l.depth;
+      cells = l.cells;
+      expansions = l.expansions;
+    }) };
 }
 
 impl Limits {
     /// None outside the ranges: 64 to 2^24 stored bytes, a depth of 1 to 4096, 1 to 2^24 cells, 1 to
     /// 2^32 expansions.
     pub fn new(stored: u64, depth: u64, cells: u64, expansions: u64) -> Option<Limits>
-        ensures ranges { IsSome result ↔ AreLimits (record { stored = stored; depth = depth; cells = cells; expansions = expansions }) }
-        ensures value { IfSome result (λ limits. limits ≡ record { stored = stored; depth = depth; cells = cells; expansions = expansions }) }
+        ensures ranges { IsSome result
+            ↔ AreLimits (record { stored = stored; depth = depth; cells = cells; expansions = expansions }) }
+        ensures value { IfSome result (λ limits. limits ≡ record {
+          stored = stored;
+          depth = depth;
+          cells = cells;
+          expansions = expansions;
+        }) }
     {
         let good = Limit::Stored.admits(stored)
             && Limit::Depth.admits(depth)

@@ -10,6 +10,7 @@ pub record Gathers (old new : Option (List ℕ)) (pending left bs : List ℕ) : 
   pub all : pending ++ bs ≡ out ++ left
 
 -- the same after a call that answered r: with an error, no more than a prefix went out
-abbrev pub GathersOrFails : {E : Type 0} → Option (List ℕ) → Option (List ℕ) → List ℕ → List ℕ → List ℕ → Result (Unit {0}) E → Type 0
+abbrev pub GathersOrFails : {E : Type 0} → Option (List ℕ) → Option (List ℕ) → List ℕ → List ℕ → List ℕ
+    → Result (Unit {0}) E → Type 0
 GathersOrFails old new pending left bs (Ok x) = Gathers old new pending left bs
 GathersOrFails old new pending left bs (Err e) = AppendsFront old new (pending ++ bs)

@@ -9,7 +9,8 @@ use Rattle.nr_page.specs.Grid.{Placed, on_row, cell_at}
 
 -- an underlined letter or digit is written as `_`, a backspace and its byte, and any other cell as its byte
 abbrev pub cell_bytes : Cell → List ℕ
-cell_bytes cell = if cell.under && is_ascii_alphanumeric cell.byte then code "_" ∷ 8 ∷ cell.byte ∷ [] else cell.byte ∷ []
+cell_bytes cell = if cell.under && is_ascii_alphanumeric cell.byte then code "_" ∷ 8 ∷ cell.byte ∷ []
+    else cell.byte ∷ []
 
 -- how many columns the longest of the lines has
 abbrev pub column_count : List Placed → ℕ

@@ -21,7 +21,8 @@ pub record WritesNumber (n : ℕ) (text : List ℕ) : Type 0 where
 -- the text writes the item: `N`, `N-M` with N not above M, `-N`, or `N-`
 abbrev pub SpellsItem : PageRange → List ℕ → Type 0
 SpellsItem (One n) text = WritesNumber n text
-SpellsItem (Between n m) text = (first : List ℕ) × (last : List ℕ) × (text ≡ first ++ hyphen ∷ last) × WritesNumber n first × WritesNumber m last × (n ≤ m)
+SpellsItem (Between n m) text = (first : List ℕ) × (last : List ℕ) × (text ≡ first ++ hyphen ∷ last)
+    × WritesNumber n first × WritesNumber m last × (n ≤ m)
 SpellsItem (UpTo n) text = (last : List ℕ) × (text ≡ hyphen ∷ last) × WritesNumber n last
 SpellsItem (From n) text = (first : List ℕ) × (text ≡ first ++ hyphen ∷ []) × WritesNumber n first
 
@@ -29,7 +30,8 @@ SpellsItem (From n) text = (first : List ℕ) × (text ≡ first ++ hyphen ∷ [
 abbrev pub Spells : List PageRange → List ℕ → Type 0
 Spells [] text = ⊥
 Spells (item ∷ []) text = SpellsItem item text
-Spells (item ∷ next ∷ items) text = (front : List ℕ) × (rest : List ℕ) × (text ≡ front ++ comma ∷ rest) × SpellsItem item front × Spells (next ∷ items) rest
+Spells (item ∷ next ∷ items) text = (front : List ℕ) × (rest : List ℕ) × (text ≡ front ++ comma ∷ rest)
+    × SpellsItem item front × Spells (next ∷ items) rest
 
 -- the text is a page list of these items: 1 to 64 of them
 pub record IsPageList (items : List PageRange) (text : List ℕ) : Type 0 where

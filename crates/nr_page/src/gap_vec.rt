@@ -23,9 +23,13 @@ impl<T: Copy> Model for GapVec<T> {
 
     ghost Value = { Items T };
 
-    ghost view = { λ v. record { items = take v.front v.slots.items ++ drop (v.front + v.gap) v.slots.items; room = v.room } };
+    ghost view = { λ v. record {
+      items = take v.front v.slots.items ++ drop (v.front + v.gap) v.slots.items;
+      room = v.room;
+    } };
 
-    ghost invariant = { λ v. (v.front + v.gap ≤ length v.slots.items) × ((length v.slots.items ≤ v.room) × (v.slots.room ≡ v.room)) };
+    ghost invariant = { λ v. (v.front + v.gap ≤ length v.slots.items)
+        × ((length v.slots.items ≤ v.room) × (v.slots.room ≡ v.room)) };
 }
 
 impl<T: Copy> GapVec<T> {
@@ -113,7 +117,8 @@ fn make_gap<T: Copy>(
     requires held { length slots.old.items < room + gap }
     requires within { length slots.old.items ≤ room }
     requires capacity { slots.old.room ≡ room }
-    ensures items { take place slots.new.items ++ drop (place + result) slots.new.items ≡ take place slots.old.items ++ drop (place + gap) slots.old.items }
+    ensures items { take place slots.new.items ++ drop (place + result) slots.new.items
+        ≡ take place slots.old.items ++ drop (place + gap) slots.old.items }
     ensures some { 0 < result }
     ensures here { place + result ≤ length slots.new.items }
     ensures within { length slots.new.items ≤ room }
@@ -133,7 +138,8 @@ fn make_gap<T: Copy>(
 fn move_gap<T: Copy>(slots: &mut [T], front: usize, gap: usize, place: usize)
     requires here { front + gap ≤ length slots.old }
     requires there { place + gap ≤ length slots.old }
-    ensures { take place slots.new ++ drop (place + gap) slots.new ≡ take front slots.old ++ drop (front + gap) slots.old }
+    ensures { take place slots.new ++ drop (place + gap) slots.new ≡ take front slots.old
+        ++ drop (front + gap) slots.old }
 {
     if place < front {
         slots.copy_within(place..front, place + gap);

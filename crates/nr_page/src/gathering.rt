@@ -24,7 +24,8 @@ pub(crate) fn make_room<W: Sink>(
     output: &mut W,
 ) -> Result<(), Fault>
     requires { more ≤ pending.old.room }
-    ensures gathers { GathersOrFails (W.held output.old) (W.held output.new) pending.old.items pending.new.items [] result }
+    ensures gathers { GathersOrFails (W.held output.old) (W.held output.new) pending.old.items
+        pending.new.items [] result }
     ensures fits { OnOk result (length pending.new.items + more ≤ pending.new.room) }
     ensures failures { W.failures output.new ≡ put_counted (W.failures output.old) result }
     ensures room { pending.new.room ≡ pending.old.room }
@@ -83,7 +84,8 @@ pub(crate) fn write_cells<W: Sink>(
     output: &mut W,
 ) -> Result<(), Fault>
     requires { 3 * RUN ≤ pending.old.room }
-    ensures gathers { GathersOrFails (W.held output.old) (W.held output.new) pending.old.items pending.new.items (flat_map cell_bytes cells.now) result }
+    ensures gathers { GathersOrFails (W.held output.old) (W.held output.new) pending.old.items
+        pending.new.items (flat_map cell_bytes cells.now) result }
     ensures failures { W.failures output.new ≡ put_counted (W.failures output.old) result }
     ensures room { pending.new.room ≡ pending.old.room }
 {
@@ -104,7 +106,8 @@ pub(crate) fn write_newlines<W: Sink>(
     output: &mut W,
 ) -> Result<(), Fault>
     requires { 0 < pending.old.room }
-    ensures gathers { GathersOrFails (W.held output.old) (W.held output.new) pending.old.items pending.new.items (replicate count 10) result }
+    ensures gathers { GathersOrFails (W.held output.old) (W.held output.new) pending.old.items
+        pending.new.items (replicate count 10) result }
     ensures failures { W.failures output.new ≡ put_counted (W.failures output.old) result }
     ensures room { pending.new.room ≡ pending.old.room }
 {

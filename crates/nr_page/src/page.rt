@@ -124,7 +124,8 @@ impl Page {
 
     /// Whether a line of this many cells can be placed.
     pub fn has_room(&self, cells: usize) -> bool
-        ensures { (lines : List Placed) → Holds lines self.now → (IsTrue result ↔ (page_charge lines + 1 + cells ≤ self.now.limit)) }
+        ensures { (lines : List Placed) → Holds lines self.now
+            → (IsTrue result ↔ (page_charge lines + 1 + cells ≤ self.now.limit)) }
     {
         self.limit - self.charge > cells
     }
@@ -132,8 +133,10 @@ impl Page {
     /// Places a line on a row, counted from 0 at the top: its cells from column 0 on. `PageCells` where the limit would be
     /// passed; then nothing has changed.
     pub fn place(&mut self, row: u32, cells: &[Cell]) -> Result<(), PageCells>
-        ensures ok { OnOk result ((lines : List Placed) → Holds lines self.old → Holds (lines ++ (record { row = row; cells = cells.now }) ∷ []) self.new) }
-        ensures full { (lines : List Placed) → Holds lines self.old → (IsErr result ↔ (self.old.limit < page_charge lines + 1 + length cells.now)) }
+        ensures ok { OnOk result ((lines : List Placed) → Holds lines self.old
+            → Holds (lines ++ (record { row = row; cells = cells.now }) ∷ []) self.new) }
+        ensures full { (lines : List Placed) → Holds lines self.old
+            → (IsErr result ↔ (self.old.limit < page_charge lines + 1 + length cells.now)) }
         ensures err { OnErr result (self.new ≡ self.old) }
         ensures limit { self.new.limit ≡ self.old.limit }
     {
@@ -150,8 +153,10 @@ impl Page {
     /// trailing blanks and has a newline after it, and an underlined letter or digit is `_`, a backspace and the byte.
     /// `WriteFault` where the sink failed; a prefix of the bytes went out then.
     pub fn write_page<W: Sink>(&self, rows: u32, output: &mut W) -> Result<(), WriteFault>
-        ensures ok { OnOk result ((lines : List Placed) → Holds lines self.now → Appends (W.held output.old) (W.held output.new) (page_bytes rows lines)) }
-        ensures err { OnErr result ((lines : List Placed) → Holds lines self.now → AppendsFront (W.held output.old) (W.held output.new) (page_bytes rows lines)) }
+        ensures ok { OnOk result ((lines : List Placed) → Holds lines self.now
+            → Appends (W.held output.old) (W.held output.new) (page_bytes rows lines)) }
+        ensures err { OnErr result ((lines : List Placed) → Holds lines self.now
+            → AppendsFront (W.held output.old) (W.held output.new) (page_bytes rows lines)) }
         ensures failures { W.failures output.new ≡ put_counted (W.failures output.old) result }
     {
         let count = self.row_count.max(rows as usize);

@@ -137,7 +137,8 @@ impl Select {
 /// The items of the list, all of the text.
 fn read_list(text: &[u8]) -> Option<ArrayVec<PageRange, MOST_ITEMS>>
     ensures listed { IfSome result (λ list. IsPageList list.items text.now) }
-    ensures read { (items : List Item) → IsPageList items text.now → IsSomeAnd result (λ list. list.items ≡ items) }
+    ensures read { (items : List Item) → IsPageList items text.now
+        → IsSomeAnd result (λ list. list.items ≡ items) }
 {
     let mut list = ArrayVec::new();
     let mut rest = text;

@@ -36,7 +36,8 @@ fn write_row<W: Sink>(
     output: &mut W,
 ) -> Result<(), Fault>
     requires { 3 * RUN ≤ pending.old.room }
-    ensures gathers { GathersOrFails (W.held output.old) (W.held output.new) pending.old.items pending.new.items (replicate empty 10 ++ line_bytes cells.now) result }
+    ensures gathers { GathersOrFails (W.held output.old) (W.held output.new) pending.old.items
+        pending.new.items (replicate empty 10 ++ line_bytes cells.now) result }
     ensures failures { W.failures output.new ≡ put_counted (W.failures output.old) result }
     ensures room { pending.new.room ≡ pending.old.room }
 {
@@ -56,7 +57,8 @@ fn write_rows<W: Sink>(
     requires kept { AreKept texts.now rows.now.items }
     requires above { AreAbove count rows.now.items }
     requires room { 3 * RUN ≤ pending.old.room }
-    ensures gathers { GathersOrFails (W.held output.old) (W.held output.new) pending.old.items pending.new.items (rows_bytes (rows_of texts.now rows.now.items) 0 count) result }
+    ensures gathers { GathersOrFails (W.held output.old) (W.held output.new) pending.old.items
+        pending.new.items (rows_bytes (rows_of texts.now rows.now.items) 0 count) result }
     ensures failures { W.failures output.new ≡ put_counted (W.failures output.old) result }
     ensures room { pending.new.room ≡ pending.old.room }
 {
@@ -79,8 +81,12 @@ pub(crate) fn write_all<W: Sink>(
 ) -> Result<(), Fault>
     requires kept { AreKept texts.now rows.now.items }
     requires above { AreAbove count rows.now.items }
-    ensures ok { OnOk result (Appends (W.held output.old) (W.held output.new) (rows_bytes (rows_of texts.now rows.now.items) 0 count)) }
-    ensures err { OnErr result (AppendsFront (W.held output.old) (W.held output.new) (rows_bytes (rows_of texts.now rows.now.items) 0 count)) }
+    ensures ok { OnOk result
+        (Appends (W.held output.old) (W.held output.new)
+        (rows_bytes (rows_of texts.now rows.now.items) 0 count)) }
+    ensures err { OnErr result
+        (AppendsFront (W.held output.old) (W.held output.new)
+        (rows_bytes (rows_of texts.now rows.now.items) 0 count)) }
     ensures failures { W.failures output.new ≡ put_counted (W.failures output.old) result }
 {
     let mut bytes = [0; GATHERED];
