@@ -15,7 +15,7 @@ use Rattle.nr_formatter.specs.Limits as formatter
 use Rattle.nr_formatter.specs.Weights.{weight, owed, steps_left}
 use Rattle.nr_formatter.specs.Registers.{register_set_by}
 use Rattle.nr_formatter.specs.declared.formatter.Formatter.{Formatter}
-use Rattle.nr_formatter.specs.declared.given.GivenRegister.TheVariants as given
+use Rattle.nr_formatter.specs.declared.built_in.BuiltInRegister.TheVariants as given
 use Rattle.nr_engine.specs.State.{State, Choice, First, Register}
 use Rattle.nr_engine.specs.Machine.{step, state_after, choose, choose_or}
 use Rattle.nr_engine.specs.Measures.{IsWithin, passed}

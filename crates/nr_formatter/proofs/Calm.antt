@@ -20,14 +20,14 @@ use Rattle.nr_units.specs.declared.number_text.Format.{Format}
 use Rattle.nr_reading.specs.declared.event.Event.{Event}
 use Rattle.nr_reading.specs.declared.event.Event.TheVariants as events
 use Rattle.nr_formatter.specs.declared.formatter.Formatter.{Formatter}
-use Rattle.nr_formatter.specs.declared.given.GivenRegister.{GivenRegister}
-use Rattle.nr_formatter.specs.declared.given.GivenRegister.TheVariants as given
+use Rattle.nr_formatter.specs.declared.built_in.BuiltInRegister.{BuiltInRegister}
+use Rattle.nr_formatter.specs.declared.built_in.BuiltInRegister.TheVariants as given
 use Rattle.nr_formatter.specs.declared.paper.PageState.{PageState}
 use Rattle.nr_formatter.specs.declared.paper.PageState.TheVariants as states
 use Rattle.nr_formatter.specs.declared.tasks.Task.{Task}
 use Rattle.nr_formatter.specs.declared.tasks.Task.TheVariants as tasks
 use Rattle.nr_formatter.specs.Access.{line, long, spacing, diversion}
-use Rattle.nr_formatter.specs.Given.{given_named}
+use Rattle.nr_formatter.specs.BuiltIn.{given_named}
 use Rattle.nr_formatter.specs.Moves.{control, gone_on}
 use Rattle.nr_formatter.specs.Names as naming
 use Rattle.nr_formatter.specs.Numbering as numbering
@@ -56,13 +56,13 @@ calm-if false g h k l = l
 
 -- ---- registers
 
-calm-given_set : (r : GivenRegister) (n : ℤ) (f : Formatter) → IsCalm f → IsCalm (registers.given_set r n f)
+calm-given_set : (r : BuiltInRegister) (n : ℤ) (f : Formatter) → IsCalm f → IsCalm (registers.given_set r n f)
 calm-given_set given.Page n f h = h
 calm-given_set given.Height n f h = h
 calm-given_set given.Width n f h = h
 calm-given_set r n f h = h
 
-calm-register_set_by : (r : Option GivenRegister) (name : List ℕ) (n : ℤ) (step : Option ℤ) (f : Formatter) → IsCalm f → IsCalm (registers.register_set_by r name n step f)
+calm-register_set_by : (r : Option BuiltInRegister) (name : List ℕ) (n : ℤ) (step : Option ℤ) (f : Formatter) → IsCalm f → IsCalm (registers.register_set_by r name n step f)
 calm-register_set_by None name n step f h = h
 calm-register_set_by (Some r) name n step f h = calm-if (is_held n) _ _ (calm-given_set r n f h) h
 
@@ -70,7 +70,7 @@ calm-register_changed : (c : Option RegisterChange) (f : Formatter) → IsCalm f
 calm-register_changed None f h = h
 calm-register_changed (Some c) f h = calm-register_set_by (given_named c.name) c.name (applied c.change (registers.register_value c.name f)) c.step f h
 
-calm-formatted_by : (r : Option GivenRegister) (name : List ℕ) (x : Format) (f : Formatter) → IsCalm f → IsCalm (registers.formatted_by r name x f)
+calm-formatted_by : (r : Option BuiltInRegister) (name : List ℕ) (x : Format) (f : Formatter) → IsCalm f → IsCalm (registers.formatted_by r name x f)
 calm-formatted_by None name x f h = h
 calm-formatted_by (Some r) name x f h = h
 

@@ -1,9 +1,9 @@
 -- The registers that are given are those that the reader takes for given.
 use Rattle.std.specs.Prelude.{◌≡◌, ℕ, List, [], ◌∷◌, Bool, true, false, is_some, ◌==◌, ◌||◌, ◌&&◌, if◌then◌else◌, None, Some, refl}
 use Rattle.nr_reading.specs.Ask.{is_given}
-use Rattle.nr_formatter.specs.Given.{given_named, dotted}
-use Rattle.nr_formatter.specs.declared.given.GivenRegister.{GivenRegister}
-use Rattle.nr_formatter.specs.declared.given.GivenRegister.TheVariants.{Page, Place, Height, Width, Other}
+use Rattle.nr_formatter.specs.BuiltIn.{given_named, dotted}
+use Rattle.nr_formatter.specs.declared.built_in.BuiltInRegister.{BuiltInRegister}
+use Rattle.nr_formatter.specs.declared.built_in.BuiltInRegister.TheVariants.{Page, Place, Height, Width, Other}
 
 -- a chain of two tests is one of either
 of_one : (p q : Bool) → is_some (if q then Some Page else (if p then Some Other else None)) ≡ (p || q)
@@ -13,7 +13,7 @@ of_one false true = refl
 of_one false false = refl
 
 -- the same of four
-of_two : (x : GivenRegister) (p q s t u : Bool)
+of_two : (x : BuiltInRegister) (p q s t u : Bool)
     → is_some (if p then Some x else (if q then Some Place else (if s && t then Some Height else (if s && u then Some Width else None)))) ≡ (p || q || (s && (t || u)))
 of_two x true q s t u = refl
 of_two x false true s t u = refl

@@ -9,10 +9,10 @@ use Rattle.nr_store.specs.declared.request.Request.{Request}
 use Rattle.nr_input.specs.declared.refusal.Refusal.{Refusal}
 use Rattle.nr_reading.specs.declared.event.Event.{Event}
 use Rattle.nr_formatter.specs.declared.formatter.Formatter.{Formatter}
-use Rattle.nr_formatter.specs.declared.given.GivenRegister.{GivenRegister}
+use Rattle.nr_formatter.specs.declared.built_in.BuiltInRegister.{BuiltInRegister}
 use Rattle.nr_formatter.specs.declared.passed.Passed.{Passed}
 use Rattle.nr_formatter.specs.Access.{collected, asked}
-use Rattle.nr_formatter.specs.Given.{given_named}
+use Rattle.nr_formatter.specs.BuiltIn.{given_named}
 use Rattle.nr_formatter.specs.Limits.{IsWithin, FitsMemory, judged}
 use Rattle.nr_formatter.specs.Moves.{is_text, text_heard, heard_beside, heard}
 use Rattle.nr_formatter.specs.Passed.{line_answer, splice_answer}
@@ -46,7 +46,7 @@ judged-text_heard e f is within = sym (judged-keeps f (text_heard e f) (keeps-te
 
 -- ---- what is read beside text
 
-line-given_by : (r : Option GivenRegister) (f : Formatter) → line_cells (collected f) ≤ f.line.limit → line_cells (collected (given_by r f)) ≤ (given_by r f).line.limit
+line-given_by : (r : Option BuiltInRegister) (f : Formatter) → line_cells (collected f) ≤ f.line.limit → line_cells (collected (given_by r f)) ≤ (given_by r f).line.limit
 line-given_by None f h = h
 line-given_by (Some r) f h = h
 

@@ -16,7 +16,7 @@ use Rattle.nr_fill.specs.Piece.{Collected}
 use Rattle.nr_fill.specs.Title.{Title}
 use Rattle.nr_fill.specs.declared.line.LineCells.{LineCells}
 use Rattle.nr_formatter.specs.declared.formatter.Formatter.{Formatter}
-use Rattle.nr_formatter.specs.declared.given.GivenRegister.{GivenRegister}
+use Rattle.nr_formatter.specs.declared.built_in.BuiltInRegister.{BuiltInRegister}
 use Rattle.nr_formatter.specs.declared.passed.Passed.{Passed}
 use Rattle.nr_formatter.specs.declared.tasks.After.TheVariants as afters
 use Rattle.nr_formatter.specs.declared.tasks.Room.TheVariants as rooms
@@ -117,7 +117,7 @@ falls-text bytes f g same splices =
     let paid : Splices f.store f.reader (spliced bytes f).store (spliced bytes f).reader = subst (λ (h : Formatter). Splices f.store f.reader h.store h.reader) same splices in
     falls-is 1 0 f (done g) (done (spliced bytes f)) (ap done same) (falls-spliced_text bytes f paid)
 
-pub falls-given : (r : GivenRegister) (f g : Formatter) → g ≡ given_by (Some r) f → Splices f.store f.reader g.store g.reader → Falls 1 0 f (done g)
+pub falls-given : (r : BuiltInRegister) (f g : Formatter) → g ≡ given_by (Some r) f → Splices f.store f.reader g.store g.reader → Falls 1 0 f (done g)
 falls-given r f g same splices = falls-text (given_text r f) f g same splices
 
 -- ---- an answer of another type says of the same calls that they were made

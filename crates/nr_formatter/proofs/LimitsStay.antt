@@ -17,8 +17,8 @@ use Rattle.nr_settings.specs.declared.traps.TrapMove.{TrapMove}
 use Rattle.nr_reading.specs.declared.event.Event.{Event}
 use Rattle.nr_reading.specs.declared.event.Event.TheVariants as events
 use Rattle.nr_formatter.specs.declared.formatter.Formatter.{Formatter}
-use Rattle.nr_formatter.specs.declared.given.GivenRegister.{GivenRegister}
-use Rattle.nr_formatter.specs.declared.given.GivenRegister.TheVariants as given
+use Rattle.nr_formatter.specs.declared.built_in.BuiltInRegister.{BuiltInRegister}
+use Rattle.nr_formatter.specs.declared.built_in.BuiltInRegister.TheVariants as given
 use Rattle.nr_formatter.specs.declared.paper.PageState.{PageState}
 use Rattle.nr_formatter.specs.declared.paper.PageState.TheVariants as states
 use Rattle.nr_formatter.specs.declared.tasks.Ejected.TheVariants as ejecteds
@@ -32,7 +32,7 @@ use Rattle.nr_formatter.specs.declared.tasks.Task.TheVariants as tasks
 use Rattle.nr_formatter.specs.Access.{line, long, spacing, diversion}
 use Rattle.nr_formatter.specs.Diversions as diversions
 use Rattle.nr_formatter.specs.Ending as ending
-use Rattle.nr_formatter.specs.Given.{given_named}
+use Rattle.nr_formatter.specs.BuiltIn.{given_named}
 use Rattle.nr_formatter.specs.Limits.{StoredLimits, stored_limits, limits_of}
 use Rattle.nr_formatter.specs.Moves as moves
 use Rattle.nr_formatter.specs.Names as naming
@@ -179,13 +179,13 @@ register_removed-limits (Some name) f = either-limits (is_none (given_named name
 pub rr-limits : (f : Formatter) → limits_of (registers.rr f) ≡ limits_of f
 rr-limits f = register_removed-limits (name_in (long f) (line f)) (to_read f)
 
-given_set-limits : (r : GivenRegister) (n : ℤ) (f : Formatter) → limits_of (registers.given_set r n f) ≡ limits_of f
+given_set-limits : (r : BuiltInRegister) (n : ℤ) (f : Formatter) → limits_of (registers.given_set r n f) ≡ limits_of f
 given_set-limits given.Page n f = refl
 given_set-limits given.Height n f = refl
 given_set-limits given.Width n f = refl
 given_set-limits r n f = refl
 
-pub set_given-limits : (r : GivenRegister) (name : List ℕ) (n : ℤ) (step : Option ℤ) (f : Formatter) → limits_of (registers.register_set_by (Some r) name n step f) ≡ limits_of f
+pub set_given-limits : (r : BuiltInRegister) (name : List ℕ) (n : ℤ) (step : Option ℤ) (f : Formatter) → limits_of (registers.register_set_by (Some r) name n step f) ≡ limits_of f
 set_given-limits r name n step f = either-limits (is_held n) f (registers.given_set r n f) f (given_set-limits r n f) refl
 
 turned-limits : (given : Bool) (f : Formatter) → limits_of (pages.turned given f) ≡ limits_of f

@@ -12,11 +12,11 @@ use Rattle.nr_settings.specs.Registers as lines
 use Rattle.nr_settings.specs.Spacing as space_lines
 use Rattle.nr_settings.specs.declared.registers.RegisterChange.{RegisterChange}
 use Rattle.nr_symbol_tables.specs.Table.{find}
-use Rattle.nr_formatter.specs.declared.given.GivenRegister.{GivenRegister}
-use Rattle.nr_formatter.specs.declared.given.GivenRegister.TheVariants as given
+use Rattle.nr_formatter.specs.declared.built_in.BuiltInRegister.{BuiltInRegister}
+use Rattle.nr_formatter.specs.declared.built_in.BuiltInRegister.TheVariants as given
 use Rattle.nr_formatter.specs.declared.tasks.Resume.{Resume}
 use Rattle.nr_formatter.specs.Access.{line, long, spacing}
-use Rattle.nr_formatter.specs.Given.{given_named}
+use Rattle.nr_formatter.specs.BuiltIn.{given_named}
 use Rattle.nr_formatter.specs.Limits.{IsWithin, limits_of}
 use Rattle.nr_formatter.specs.Registers.{change_checked, given_set, nr_checked, register_changed, register_set_by, register_value, set_checked_by}
 use Rattle.nr_formatter.specs.Lines.{break_done}
@@ -88,7 +88,7 @@ within_kept : (f g : Formatter) → g.store ≡ f.store → g.line ≡ f.line �
 within_kept f g store line reader w =
     record { stored = rw store w.stored; depth = rw store w.depth; line = rw line w.line; burst = rw reader w.burst }
 
-stays-given_set : (r : GivenRegister) (n : ℤ) (f : Formatter) → Stays f (given_set r n f)
+stays-given_set : (r : BuiltInRegister) (n : ℤ) (f : Formatter) → Stays f (given_set r n f)
 stays-given_set given.Page n f = record { springs = refl; event = refl; task = refl; limits = refl; within = within_kept f _ refl refl refl }
 stays-given_set given.Height n f = record { springs = refl; event = refl; task = refl; limits = refl; within = within_kept f _ refl refl refl }
 stays-given_set given.Width n f = record { springs = refl; event = refl; task = refl; limits = refl; within = within_kept f _ refl refl refl }
@@ -102,7 +102,7 @@ written-depth : (x : Option Register) (name : List ℕ) (v : Stored Resume) → 
 written-depth None name v h = h
 written-depth (Some x) name v h = h
 
-stays-register_set_by : (o : Option GivenRegister) (name : List ℕ) (n : ℤ) (step : Option ℤ) (f : Formatter) → is_ok (set_checked_by o name n step f) ≡ true
+stays-register_set_by : (o : Option BuiltInRegister) (name : List ℕ) (n : ℤ) (step : Option ℤ) (f : Formatter) → is_ok (set_checked_by o name n step f) ≡ true
     → Stays f (register_set_by o name n step f)
 stays-register_set_by None name n step f ok =
     let x : Option Register = set_to n step (register_of (find name f.store.registers)) in

@@ -34,8 +34,8 @@ use Rattle.nr_reading.specs.declared.mode.Mode.TheVariants as modes
 use Rattle.nr_reading.specs.Setting.{defining}
 use Rattle.nr_reading.specs.Weights.{weight_by}
 use Rattle.nr_formatter.specs.declared.formatter.Formatter.{Formatter}
-use Rattle.nr_formatter.specs.declared.given.GivenRegister.{GivenRegister}
-use Rattle.nr_formatter.specs.declared.given.GivenRegister.TheVariants as given
+use Rattle.nr_formatter.specs.declared.built_in.BuiltInRegister.{BuiltInRegister}
+use Rattle.nr_formatter.specs.declared.built_in.BuiltInRegister.TheVariants as given
 use Rattle.nr_formatter.specs.declared.paper.PageState.{PageState}
 use Rattle.nr_formatter.specs.declared.paper.PageState.TheVariants as states
 use Rattle.nr_formatter.specs.declared.tasks.Task.{Task}
@@ -43,7 +43,7 @@ use Rattle.nr_formatter.specs.declared.tasks.Task.TheVariants as tasks
 use Rattle.nr_formatter.specs.Access.{collected, line, long, spacing, diversion}
 use Rattle.nr_formatter.specs.Diversions as diversions
 use Rattle.nr_formatter.specs.Ending as ending
-use Rattle.nr_formatter.specs.Given.{given_named}
+use Rattle.nr_formatter.specs.BuiltIn.{given_named}
 use Rattle.nr_formatter.specs.Names as naming
 use Rattle.nr_formatter.specs.Numbering as numbering
 use Rattle.nr_formatter.specs.Pages.{moved_to}
@@ -109,13 +109,13 @@ falls-if false f g h first second = second
 
 -- ---- registers
 
-view-given_set : (r : GivenRegister) (n : ℤ) (f : Formatter) → view (registers.given_set r n f) ≡ view f
+view-given_set : (r : BuiltInRegister) (n : ℤ) (f : Formatter) → view (registers.given_set r n f) ≡ view f
 view-given_set given.Page n f = refl
 view-given_set given.Height n f = refl
 view-given_set given.Width n f = refl
 view-given_set r n f = refl
 
-view-register_set_by : (r : Option GivenRegister) (name : List ℕ) (n : ℤ) (step : Option ℤ) (f : Formatter) → view (registers.register_set_by r name n step f) ≡ view f
+view-register_set_by : (r : Option BuiltInRegister) (name : List ℕ) (n : ℤ) (step : Option ℤ) (f : Formatter) → view (registers.register_set_by r name n step f) ≡ view f
 view-register_set_by None name n step f =
     let r = set_to n step (register_of (find name f.store.registers)) in view-stored (written r name f.store) f (seen-written r name f.store)
 view-register_set_by (Some r) name n step f = view-if (is_held n) f _ f (view-given_set r n f) refl
@@ -124,7 +124,7 @@ view-register_changed : (c : Option RegisterChange) (f : Formatter) → view (re
 view-register_changed None f = refl
 view-register_changed (Some c) f = view-register_set_by (given_named c.name) c.name (applied c.change (registers.register_value c.name f)) c.step f
 
-view-formatted_by : (r : Option GivenRegister) (name : List ℕ) (x : Format) (f : Formatter) → view (registers.formatted_by r name x f) ≡ view f
+view-formatted_by : (r : Option BuiltInRegister) (name : List ℕ) (x : Format) (f : Formatter) → view (registers.formatted_by r name x f) ≡ view f
 view-formatted_by None name x f = refl
 view-formatted_by (Some r) name x f = refl
 

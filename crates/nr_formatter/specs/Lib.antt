@@ -1,10 +1,10 @@
 pub mod Access
 pub mod Beginning
+pub mod BuiltIn
 pub mod Conditions
 pub mod DiversionRow
 pub mod Diversions
 pub mod Ending
-pub mod Given
 pub mod Limits
 pub mod Lines
 pub mod Motions

@@ -17,12 +17,12 @@ use Rattle.nr_input.specs.declared.reader.Reader.{Reader}
 use Rattle.nr_input.specs.declared.refusal.Refusal.{Refusal}
 use Rattle.nr_input.specs.declared.refusal.Refusal.TheVariants as refusals
 use Rattle.nr_input.specs.Acting.{idle}
-use Rattle.nr_formatter.specs.declared.given.GivenRegister.{GivenRegister}
-use Rattle.nr_formatter.specs.declared.given.GivenRegister.TheVariants as given
+use Rattle.nr_formatter.specs.declared.built_in.BuiltInRegister.{BuiltInRegister}
+use Rattle.nr_formatter.specs.declared.built_in.BuiltInRegister.TheVariants as given
 use Rattle.nr_formatter.specs.declared.paper.Given.{Given}
 use Rattle.nr_formatter.specs.declared.formatter.Formatter.{Formatter}
 use Rattle.nr_formatter.specs.Access.{line, long, asked, spacing, diversion}
-use Rattle.nr_formatter.specs.Given.{given_named}
+use Rattle.nr_formatter.specs.BuiltIn.{given_named}
 use Rattle.nr_formatter.specs.Places.{page_place, place_in, present_place, distance_below, diversion_room, to_read}
 
 -- ---- texts that are spliced
@@ -53,7 +53,7 @@ number_of false = pos 0
 number_of true = pos 1
 
 -- in u, where it is a length or a place
-abbrev pub given_value : GivenRegister → Formatter → ℤ
+abbrev pub given_value : BuiltInRegister → Formatter → ℤ
 given_value given.Page f = f.paper.number
 given_value given.Place f = pos (page_place f.paper)
 given_value given.Height f = f.given.height
@@ -74,7 +74,7 @@ given_value given.VerticalUnit f = pos 40
 given_value given.Other f = pos 0
 
 -- four of them have a format
-abbrev pub given_format : GivenRegister → Given → Format
+abbrev pub given_format : BuiltInRegister → Given → Format
 given_format given.Page g = g.page_format
 given_format given.Place g = g.place_format
 given_format given.Height g = g.height_format
@@ -89,11 +89,11 @@ name_of None = []
 name_of (Some d) = d.name
 
 -- `.z` is the name of the innermost diversion
-abbrev pub given_text : GivenRegister → Formatter → List ℕ
+abbrev pub given_text : BuiltInRegister → Formatter → List ℕ
 given_text given.Diversion f = name_of (diversion f)
 given_text r f = number_text (given_format r f.given) (given_value r f)
 
-abbrev pub given_by : Option GivenRegister → Formatter → Formatter
+abbrev pub given_by : Option BuiltInRegister → Formatter → Formatter
 given_by None f = f
 given_by (Some r) f = spliced (given_text r f) f
 
@@ -104,14 +104,14 @@ given_register f = record (given_by (given_named (asked f)) f) { event = events.
 -- ---- setting registers
 
 -- `%`, `dn` and `dl` can be set
-abbrev pub given_set : GivenRegister → ℤ → Formatter → Formatter
+abbrev pub given_set : BuiltInRegister → ℤ → Formatter → Formatter
 given_set given.Page n f = record f { paper = record f.paper { number = n } }
 given_set given.Height n f = record f { given = record f.given { height = n } }
 given_set given.Width n f = record f { given = record f.given { width = n } }
 given_set r n f = f
 
 -- A value that a register doesn't hold changes nothing.
-abbrev pub register_set_by : Option GivenRegister → List ℕ → ℤ → Option ℤ → Formatter → Formatter
+abbrev pub register_set_by : Option BuiltInRegister → List ℕ → ℤ → Option ℤ → Formatter → Formatter
 register_set_by None name n step f = record f { store = registered name n step f.store }
 register_set_by (Some r) name n step f = if is_held n then given_set r n f else f
 
@@ -120,7 +120,7 @@ abbrev pub register_set : List ℕ → ℤ → Option ℤ → Formatter → Form
 register_set name n step f = register_set_by (given_named name) name n step f
 
 -- what setting it answers: a built-in register is never refused, and any other where it would be stored above the limit
-abbrev pub set_checked_by : Option GivenRegister → List ℕ → ℤ → Option ℤ → Formatter
+abbrev pub set_checked_by : Option BuiltInRegister → List ℕ → ℤ → Option ℤ → Formatter
     → Result (Unit {0}) StoredBytes
 set_checked_by None name n step f = afforded (registered name n step f.store) tt
 set_checked_by (Some r) name n step f = Ok tt
@@ -128,7 +128,7 @@ set_checked_by (Some r) name n step f = Ok tt
 abbrev pub set_checked : List ℕ → ℤ → Option ℤ → Formatter → Result (Unit {0}) StoredBytes
 set_checked name n step f = set_checked_by (given_named name) name n step f
 
-abbrev pub register_value_by : Option GivenRegister → List ℕ → Formatter → ℤ
+abbrev pub register_value_by : Option BuiltInRegister → List ℕ → Formatter → ℤ
 register_value_by None name f = (register_of (find name f.store.registers)).value
 register_value_by (Some r) name f = given_value r f
 
@@ -155,14 +155,14 @@ abbrev pub nr_checked : Formatter → Result (Unit {0}) StoredBytes
 nr_checked f = change_checked (lines.nr (line f) (long f) (spacing f)) (to_read f)
 
 -- `.af R c`
-abbrev pub given_formatted : GivenRegister → Format → Given → Given
+abbrev pub given_formatted : BuiltInRegister → Format → Given → Given
 given_formatted given.Page x g = record g { page_format = x }
 given_formatted given.Place x g = record g { place_format = x }
 given_formatted given.Height x g = record g { height_format = x }
 given_formatted given.Width x g = record g { width_format = x }
 given_formatted r x g = g
 
-abbrev pub formatted_by : Option GivenRegister → List ℕ → Format → Formatter → Formatter
+abbrev pub formatted_by : Option BuiltInRegister → List ℕ → Format → Formatter → Formatter
 formatted_by None name x f = record f { store = formatted name x f.store }
 formatted_by (Some r) name x f = record f { given = given_formatted r x f.given }
 

@@ -3,17 +3,17 @@
 //! It stands on nr_units, nr_settings, nr_fill, nr_reading, nr_pool, nr_levels, nr_symbol_tables, nr_store and
 //! nr_input. To read: `request_line`, `tasks`, `paper`, `formatter`; `limits`, `passed`; then a file for each
 //! matter, in any order: `text`, `motions`, `lines`, `titles`, `pages`, `numbering`, `spacing`, `traps`,
-//! `springing`, `diversion_row`, `diversions`, `given`, `registers`, `names`, `conditions`, `settings`,
+//! `springing`, `diversion_row`, `diversions`, `built_in`, `registers`, `names`, `conditions`, `settings`,
 //! `ending`; `requests` and `moves`, the tables of them; `runs`, `cell_bytes`, `empty_lines` and `obeying`, many moves
 //! at once.
 #![tactic(auto)]
 
+pub mod built_in;
 mod conditions;
 mod diversion_row;
 mod diversions;
 mod ending;
 pub mod formatter;
-pub mod given;
 mod limits;
 pub mod lines;
 pub mod many;

@@ -6,12 +6,12 @@ ghost use Rattle.nr_input.specs.Weights.{Splices};
 ghost use Rattle.nr_formatter.specs.Access.{diversion};
 ghost use Rattle.nr_formatter.specs.Limits.{IsWithin, limits_of};
 ghost use Rattle.nr_formatter.specs.Places.{place_in, to_read};
-ghost use Rattle.nr_formatter.specs.Given.{given_named};
+ghost use Rattle.nr_formatter.specs.BuiltIn.{given_named};
 ghost use Rattle.nr_formatter.specs.Registers.{spliced, splice_checked, distance, given_value, given_format, given_formatted, name_of, given_by, given_register, register_set_by, register_set, set_checked, register_value, nr, nr_checked, formatted_by, af, rr, mk};
 ghost use Rattle.nr_formatter.specs.Weights.{Falls};
 
+use crate::built_in::BuiltInRegister;
 use crate::formatter::Formatter;
-use crate::given::GivenRegister;
 use crate::paper::Given;
 use crate::tasks::Task;
 use nr_input::{Event, Refusal};
@@ -25,27 +25,27 @@ const GREATEST: usize = 2_147_483_647;
 
 impl Given {
     /// The format of a built-in register.
-    fn format(&self, register: GivenRegister) -> Format
+    fn format(&self, register: BuiltInRegister) -> Format
         ensures { result ≡ given_format register self.now }
     {
         match register {
-            GivenRegister::Page => self.page_format,
-            GivenRegister::Place => self.place_format,
-            GivenRegister::Height => self.height_format,
-            GivenRegister::Width => self.width_format,
+            BuiltInRegister::Page => self.page_format,
+            BuiltInRegister::Place => self.place_format,
+            BuiltInRegister::Height => self.height_format,
+            BuiltInRegister::Width => self.width_format,
             _ => Format::Arabic { places: 1 },
         }
     }
 
     /// Sets the format of a built-in register: of `%`, `nl`, `dn` and `dl` alone.
-    fn set_format(&mut self, register: GivenRegister, format: Format)
+    fn set_format(&mut self, register: BuiltInRegister, format: Format)
         ensures { self.new ≡ given_formatted register format self.old }
     {
         match register {
-            GivenRegister::Page => self.page_format = format,
-            GivenRegister::Place => self.place_format = format,
-            GivenRegister::Height => self.height_format = format,
-            GivenRegister::Width => self.width_format = format,
+            BuiltInRegister::Page => self.page_format = format,
+            BuiltInRegister::Place => self.place_format = format,
+            BuiltInRegister::Height => self.height_format = format,
+            BuiltInRegister::Width => self.width_format = format,
             _ => {}
         }
     }
@@ -73,28 +73,30 @@ impl Formatter {
     }
 
     /// The value of a built-in register.
-    fn given_value(&self, register: GivenRegister) -> i64
+    fn given_value(&self, register: BuiltInRegister) -> i64
         ensures value { result ≡ given_value register self.now }
         ensures within { unsigned_abs result < 2 ^ 32 }
     {
         match register {
-            GivenRegister::Page => i64::from(self.paper.number),
-            GivenRegister::Place => i64::from(self.paper.page_place()),
-            GivenRegister::Height => i64::from(self.given.height),
-            GivenRegister::Width => i64::from(self.given.width),
-            GivenRegister::Arguments => self.store.argument_count().min(GREATEST) as i64,
-            GivenRegister::DiversionPlace => i64::from(self.place()),
-            GivenRegister::Indent => i64::from(self.settings.indents.indent.value.units()),
-            GivenRegister::LineLength => i64::from(self.settings.indents.line_length.value.units()),
-            GivenRegister::Offset => i64::from(self.settings.indents.page_offset.value.units()),
-            GivenRegister::PageLength => i64::from(self.settings.pages.page_length.units()),
-            GivenRegister::Spacing => i64::from(self.settings.pages.spacing.units()),
-            GivenRegister::TextWidth => i64::from(self.settings.text_width),
-            GivenRegister::Distance => i64::from(self.distance()),
-            GivenRegister::Fill => i64::from(self.settings.filling.fill),
-            GivenRegister::HorizontalUnit => 24,
-            GivenRegister::VerticalUnit => 40,
-            GivenRegister::Diversion | GivenRegister::Other => 0,
+            BuiltInRegister::Page => i64::from(self.paper.number),
+            BuiltInRegister::Place => i64::from(self.paper.page_place()),
+            BuiltInRegister::Height => i64::from(self.given.height),
+            BuiltInRegister::Width => i64::from(self.given.width),
+            BuiltInRegister::Arguments => self.store.argument_count().min(GREATEST) as i64,
+            BuiltInRegister::DiversionPlace => i64::from(self.place()),
+            BuiltInRegister::Indent => i64::from(self.settings.indents.indent.value.units()),
+            BuiltInRegister::LineLength => i64::from(
+                self.settings.indents.line_length.value.units(),
+            ),
+            BuiltInRegister::Offset => i64::from(self.settings.indents.page_offset.value.units()),
+            BuiltInRegister::PageLength => i64::from(self.settings.pages.page_length.units()),
+            BuiltInRegister::Spacing => i64::from(self.settings.pages.spacing.units()),
+            BuiltInRegister::TextWidth => i64::from(self.settings.text_width),
+            BuiltInRegister::Distance => i64::from(self.distance()),
+            BuiltInRegister::Fill => i64::from(self.settings.filling.fill),
+            BuiltInRegister::HorizontalUnit => 24,
+            BuiltInRegister::VerticalUnit => 40,
+            BuiltInRegister::Diversion | BuiltInRegister::Other => 0,
         }
     }
 
@@ -119,13 +121,13 @@ impl Formatter {
     }
 
     /// The text of a built-in register is spliced.
-    fn give_given(&mut self, register: GivenRegister) -> Result<(), Refusal>
+    fn give_given(&mut self, register: BuiltInRegister) -> Result<(), Refusal>
         ensures result { result ≡ splice_checked (given_by (Some register) self.old) }
         ensures ok { OnOk result (self.new ≡ given_by (Some register) self.old) }
         ensures limits { limits_of self.new ≡ limits_of self.old }
         ensures pays { OnOk result (Splices self.old.store self.old.reader self.new.store self.new.reader) }
     {
-        if matches!(register, GivenRegister::Diversion) {
+        if matches!(register, BuiltInRegister::Diversion) {
             let name = self.diversion_name();
             return self.splice(name.as_bytes());
         }
@@ -141,7 +143,7 @@ impl Formatter {
         ensures falls { self.old.event ≡ events.Given → OnOk result (Falls 1 0 self.old self.new) }
     {
         let name = self.reader.asked();
-        let Some(register) = GivenRegister::of(name.as_bytes()) else {
+        let Some(register) = BuiltInRegister::of(name.as_bytes()) else {
             self.event = Event::Nothing;
             return Ok(());
         };
@@ -155,23 +157,23 @@ impl Formatter {
         ensures value { result ≡ register_value name self.now }
         ensures within { unsigned_abs result < 2 ^ 32 }
     {
-        match GivenRegister::of(name.as_bytes()) {
+        match BuiltInRegister::of(name.as_bytes()) {
             Some(register) => self.given_value(register),
             None => i64::from(self.store.register(name).value),
         }
     }
 
     /// Sets a built-in register: `%`, `dn` and `dl` alone. A value out of range sets nothing.
-    fn set_given(&mut self, register: GivenRegister, value: i64)
+    fn set_given(&mut self, register: BuiltInRegister, value: i64)
         ensures { self.new ≡ register_set_by (Some register) [] value None self.old }
     {
         if value.unsigned_abs() > 2_147_483_647 {
             return;
         }
         match register {
-            GivenRegister::Page => self.paper.number = value as i32,
-            GivenRegister::Height => self.given.height = value as i32,
-            GivenRegister::Width => self.given.width = value as i32,
+            BuiltInRegister::Page => self.paper.number = value as i32,
+            BuiltInRegister::Height => self.given.height = value as i32,
+            BuiltInRegister::Width => self.given.width = value as i32,
             _ => {}
         }
     }
@@ -190,7 +192,7 @@ impl Formatter {
         ensures err { OnErr result (self.new ≡ self.old) }
         ensures limits { limits_of self.new ≡ limits_of self.old }
     {
-        match GivenRegister::of(name.as_bytes()) {
+        match BuiltInRegister::of(name.as_bytes()) {
             None => self.store.set_register(name, value, step),
             Some(register) => {
                 self.set_given(register, value);
@@ -226,7 +228,7 @@ impl Formatter {
         ensures ok { OnOk result (self.new ≡ formatted_by (given_named name) name format self.old) }
         ensures limits { limits_of self.new ≡ limits_of self.old }
     {
-        match GivenRegister::of(name.as_bytes()) {
+        match BuiltInRegister::of(name.as_bytes()) {
             None => self.store.set_format(name, format),
             Some(register) => {
                 self.given.set_format(register, format);
@@ -256,7 +258,7 @@ impl Formatter {
         let Some(name) = Arguments::of(self.reader.line()).name(self.reader.long_names()) else {
             return;
         };
-        if GivenRegister::of(name.as_bytes()).is_none() {
+        if BuiltInRegister::of(name.as_bytes()).is_none() {
             self.store.remove_register(name);
         }
     }

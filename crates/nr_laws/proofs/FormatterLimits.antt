@@ -37,8 +37,8 @@ use Rattle.nr_input.specs.declared.splicing.Definition.{Definition}
 use Rattle.nr_input.specs.declared.splicing.Definition.TheVariants as definitions
 use Rattle.nr_options.specs.Limits.{Bounds}
 use Rattle.nr_formatter.specs.declared.formatter.Formatter.{Formatter}
-use Rattle.nr_formatter.specs.declared.given.GivenRegister.{GivenRegister}
-use Rattle.nr_formatter.specs.declared.given.GivenRegister.TheVariants as given
+use Rattle.nr_formatter.specs.declared.built_in.BuiltInRegister.{BuiltInRegister}
+use Rattle.nr_formatter.specs.declared.built_in.BuiltInRegister.TheVariants as given
 use Rattle.nr_formatter.specs.declared.paper.PageState.{PageState}
 use Rattle.nr_formatter.specs.declared.paper.PageState.TheVariants as states
 use Rattle.nr_formatter.specs.declared.tasks.After.{After}
@@ -53,7 +53,7 @@ use Rattle.nr_formatter.specs.Access.{line, long, spacing, diversion, is_filling
 use Rattle.nr_formatter.specs.Conditions as conditions
 use Rattle.nr_formatter.specs.Diversions as diversions
 use Rattle.nr_formatter.specs.Ending as ending
-use Rattle.nr_formatter.specs.Given.{given_named}
+use Rattle.nr_formatter.specs.BuiltIn.{given_named}
 use Rattle.nr_formatter.specs.Lines as lines
 use Rattle.nr_formatter.specs.Moves as moves
 use Rattle.nr_formatter.specs.Names as naming
@@ -202,7 +202,7 @@ module _ (b : Bounds) where
   pub outlet-under : (f : Formatter) → outlet (under b f) ≡ outlet f
   outlet-under f = outlet_of-under (diversion f) f
 
-  value-under : (r : GivenRegister) (f : Formatter) → registers.given_value r (under b f) ≡ registers.given_value r f
+  value-under : (r : BuiltInRegister) (f : Formatter) → registers.given_value r (under b f) ≡ registers.given_value r f
   value-under given.DiversionPlace f = place-under f
   value-under r f = refl
 
@@ -215,7 +215,7 @@ module _ (b : Bounds) where
   answered-under q f =
       ap (λ h. record (under b f) { reader = on_half (judged h) (under b f).reader; event = events.Nothing }) (holds-under q f)
 
-  given_by-under : (r : Option GivenRegister) (f : Formatter) → registers.given_by r (under b f) ≡ under b (registers.given_by r f)
+  given_by-under : (r : Option BuiltInRegister) (f : Formatter) → registers.given_by r (under b f) ≡ under b (registers.given_by r f)
   given_by-under None f = refl
   given_by-under (Some given.Diversion) f = refl
   given_by-under (Some r) f = ap (λ n. registers.spliced (number_text (registers.given_format r f.given) n) (under b f)) (value-under r f)
@@ -396,13 +396,13 @@ module _ (b : Bounds) where
 
   -- ---- registers
 
-  given_set-under : (r : GivenRegister) (n : ℤ) (f : Formatter) → registers.given_set r n (under b f) ≡ under b (registers.given_set r n f)
+  given_set-under : (r : BuiltInRegister) (n : ℤ) (f : Formatter) → registers.given_set r n (under b f) ≡ under b (registers.given_set r n f)
   given_set-under given.Page n f = refl
   given_set-under given.Height n f = refl
   given_set-under given.Width n f = refl
   given_set-under r n f = refl
 
-  register_set_by-under : (r : Option GivenRegister) (name : List ℕ) (n : ℤ) (step : Option ℤ) (f : Formatter)
+  register_set_by-under : (r : Option BuiltInRegister) (name : List ℕ) (n : ℤ) (step : Option ℤ) (f : Formatter)
       → registers.register_set_by r name n step (under b f) ≡ under b (registers.register_set_by r name n step f)
   register_set_by-under None name n step f =
       let r = set_to n step (register_of (find name f.store.registers)) in
@@ -412,7 +412,7 @@ module _ (b : Bounds) where
   pub register_set-under : (name : List ℕ) (n : ℤ) (step : Option ℤ) (f : Formatter) → registers.register_set name n step (under b f) ≡ under b (registers.register_set name n step f)
   register_set-under name n step f = register_set_by-under (given_named name) name n step f
 
-  register_value_by-under : (r : Option GivenRegister) (name : List ℕ) (f : Formatter) → registers.register_value_by r name (under b f) ≡ registers.register_value_by r name f
+  register_value_by-under : (r : Option BuiltInRegister) (name : List ℕ) (f : Formatter) → registers.register_value_by r name (under b f) ≡ registers.register_value_by r name f
   register_value_by-under None name f = refl
   register_value_by-under (Some r) name f = value-under r f
 
@@ -422,7 +422,7 @@ module _ (b : Bounds) where
       ap (λ n. registers.register_set c.name (applied c.change n) c.step (under b f)) (register_value_by-under (given_named c.name) c.name f)
       ∙ register_set-under c.name (applied c.change (registers.register_value c.name f)) c.step f
 
-  formatted_by-under : (r : Option GivenRegister) (name : List ℕ) (x : Format) (f : Formatter) → registers.formatted_by r name x (under b f) ≡ under b (registers.formatted_by r name x f)
+  formatted_by-under : (r : Option BuiltInRegister) (name : List ℕ) (x : Format) (f : Formatter) → registers.formatted_by r name x (under b f) ≡ under b (registers.formatted_by r name x f)
   formatted_by-under None name x f = refl
   formatted_by-under (Some r) name x f = refl
 

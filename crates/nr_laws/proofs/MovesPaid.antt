@@ -25,8 +25,8 @@ use Rattle.nr_input.specs.Weights.{Splices}
 use Rattle.nr_input.proofs.Costs.{bytes_splice, springing_springs}
 use Rattle.nr_input.proofs.Interpolated.{splicing-fits}
 use Rattle.nr_formatter.specs.declared.formatter.Formatter.{Formatter}
-use Rattle.nr_formatter.specs.declared.given.GivenRegister.{GivenRegister}
-use Rattle.nr_formatter.specs.declared.given.GivenRegister.TheVariants as given
+use Rattle.nr_formatter.specs.declared.built_in.BuiltInRegister.{BuiltInRegister}
+use Rattle.nr_formatter.specs.declared.built_in.BuiltInRegister.TheVariants as given
 use Rattle.nr_formatter.specs.declared.lines.Going.{Going}
 use Rattle.nr_formatter.specs.declared.paper.Outlet.{Outlet}
 use Rattle.nr_formatter.specs.declared.paper.Outlet.TheVariants as outlets
@@ -40,7 +40,7 @@ use Rattle.nr_formatter.specs.declared.tasks.Task.TheVariants as tasks
 use Rattle.nr_formatter.specs.declared.tasks.Then.{Then}
 use Rattle.nr_formatter.specs.Access.{asked, collected, diversion, done, long, spacing, argument}
 use Rattle.nr_formatter.specs.Diversions.{with_diverted_cell}
-use Rattle.nr_formatter.specs.Given.{given_named}
+use Rattle.nr_formatter.specs.BuiltIn.{given_named}
 use Rattle.nr_formatter.specs.Lines.{behind_line, break_done, break_line, break_word_end, flow_done, flow_line}
 use Rattle.nr_formatter.specs.Moves as moves
 use Rattle.nr_formatter.specs.Pages.{begins_first_page, begins_page, is_ejecting, is_unbegun, line_placed, next_springing, task_ejected}
@@ -163,7 +163,7 @@ spring-falls name (Some text) f is springs fit =
 
 -- ---- what was read is acted on
 
-given-falls : (r : Option GivenRegister) (f : Formatter) → f.event ≡ events.Given → Fits (registers.given_by r f) → Falls 1 0 f (done (registers.given_by r f))
+given-falls : (r : Option BuiltInRegister) (f : Formatter) → f.event ≡ events.Given → Fits (registers.given_by r f) → Falls 1 0 f (done (registers.given_by r f))
 given-falls None f event fit = falls-heard events.Given f.task f event (omega arith) (omega arith)
 given-falls (Some r) f event fit = falls-given r f (registers.given_by (Some r) f) refl (spliced-pays (registers.given_text r f) f fit)
 

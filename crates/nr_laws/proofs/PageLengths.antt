@@ -41,8 +41,8 @@ use Rattle.nr_input.specs.declared.splicing.Definition.TheVariants as definition
 use Rattle.nr_input.specs.declared.told.Told.{Told}
 use Rattle.nr_input.specs.declared.told.Told.TheVariants as tells
 use Rattle.nr_formatter.specs.declared.formatter.Formatter.{Formatter}
-use Rattle.nr_formatter.specs.declared.given.GivenRegister.{GivenRegister}
-use Rattle.nr_formatter.specs.declared.given.GivenRegister.TheVariants as given
+use Rattle.nr_formatter.specs.declared.built_in.BuiltInRegister.{BuiltInRegister}
+use Rattle.nr_formatter.specs.declared.built_in.BuiltInRegister.TheVariants as given
 use Rattle.nr_formatter.specs.declared.lines.Going.{Going}
 use Rattle.nr_formatter.specs.declared.paper.Outlet.{Outlet}
 use Rattle.nr_formatter.specs.declared.paper.Outlet.TheVariants as outlets
@@ -63,7 +63,7 @@ use Rattle.nr_formatter.specs.declared.tasks.Then.{Then}
 use Rattle.nr_formatter.specs.Access.{line, long, spacing, diversion, is_filling, asked, collected}
 use Rattle.nr_formatter.specs.Diversions as diversions
 use Rattle.nr_formatter.specs.Ending as ending
-use Rattle.nr_formatter.specs.Given.{given_named}
+use Rattle.nr_formatter.specs.BuiltIn.{given_named}
 use Rattle.nr_formatter.specs.Lines as lines
 use Rattle.nr_formatter.specs.Moves as moves
 use Rattle.nr_formatter.specs.Names as naming
@@ -160,7 +160,7 @@ title e f h = h
 
 -- ---- what was read
 
-given_by : (r : Option GivenRegister) (f : Formatter) → HasHeight f → HasHeight (registers.given_by r f)
+given_by : (r : Option BuiltInRegister) (f : Formatter) → HasHeight f → HasHeight (registers.given_by r f)
 given_by None f h = h
 given_by (Some r) f h = h
 
@@ -186,13 +186,13 @@ sprung name f h = sprung_text name (words (find name f.store.names)) f h
 
 -- ---- registers
 
-given_set : (r : GivenRegister) (n : ℤ) (f : Formatter) → HasHeight f → HasHeight (registers.given_set r n f)
+given_set : (r : BuiltInRegister) (n : ℤ) (f : Formatter) → HasHeight f → HasHeight (registers.given_set r n f)
 given_set given.Page n f h = h
 given_set given.Height n f h = h
 given_set given.Width n f h = h
 given_set r n f h = h
 
-register_set_by : (r : Option GivenRegister) (name : List ℕ) (n : ℤ) (step : Option ℤ) (f : Formatter) → HasHeight f → HasHeight (registers.register_set_by r name n step f)
+register_set_by : (r : Option BuiltInRegister) (name : List ℕ) (n : ℤ) (step : Option ℤ) (f : Formatter) → HasHeight f → HasHeight (registers.register_set_by r name n step f)
 register_set_by None name n step f h = h
 register_set_by (Some r) name n step f h = either (is_held n) (registers.given_set r n f) f (given_set r n f h) h
 
@@ -203,7 +203,7 @@ register_changed : (c : Option RegisterChange) (f : Formatter) → HasHeight f �
 register_changed None f h = h
 register_changed (Some c) f h = register_set c.name (applied c.change (registers.register_value c.name f)) c.step f h
 
-formatted_by : (r : Option GivenRegister) (name : List ℕ) (x : Format) (f : Formatter) → HasHeight f → HasHeight (registers.formatted_by r name x f)
+formatted_by : (r : Option BuiltInRegister) (name : List ℕ) (x : Format) (f : Formatter) → HasHeight f → HasHeight (registers.formatted_by r name x f)
 formatted_by None name x f h = h
 formatted_by (Some r) name x f h = h
 

@@ -11,14 +11,14 @@ use Rattle.nr_reading.specs.declared.mode.Due.TheVariants as dues
 use Rattle.nr_reading.specs.declared.mode.Mode.{Mode}
 use Rattle.nr_reading.specs.declared.mode.Mode.TheVariants as modes
 use Rattle.nr_formatter.specs.declared.formatter.Formatter.{Formatter}
-use Rattle.nr_formatter.specs.declared.given.GivenRegister.{GivenRegister}
-use Rattle.nr_formatter.specs.declared.given.GivenRegister.TheVariants as given
+use Rattle.nr_formatter.specs.declared.built_in.BuiltInRegister.{BuiltInRegister}
+use Rattle.nr_formatter.specs.declared.built_in.BuiltInRegister.TheVariants as given
 use Rattle.nr_formatter.specs.declared.tasks.Step.{Step}
 use Rattle.nr_formatter.specs.declared.tasks.Step.TheVariants as steps
 use Rattle.nr_formatter.specs.declared.tasks.Task.{Task}
 use Rattle.nr_formatter.specs.declared.tasks.Task.TheVariants as tasks
 use Rattle.nr_formatter.specs.Access.{collected}
-use Rattle.nr_formatter.specs.Given.{given_named}
+use Rattle.nr_formatter.specs.BuiltIn.{given_named}
 use Rattle.nr_formatter.specs.Registers.{given_set, register_set_by}
 use Rattle.nr_options.specs.declared.options.Options.{Options}
 use Rattle.nr_engine.specs.State.{State, Choice, First, Register as SetsRegister, choices, start}
@@ -84,7 +84,7 @@ module _ (cs : List Choice) (bs : List ℕ) (i : Bool) (s : State) (plain : is_p
   numbered : (n : ℤ) → Leads at (next (record at.formatter { paper = record at.formatter.paper { number = n } }))
   numbered n = like (record s { formatter = record s.formatter { paper = record s.formatter.paper { number = n } } }) (next (record at.formatter { paper = record at.formatter.paper { number = n } })) refl o refl (λ r p. record { reads = r; prints = p; same = refl })
 
-  given_leads : (r : GivenRegister) (n : ℤ) → Leads at (next (given_set r n at.formatter))
+  given_leads : (r : BuiltInRegister) (n : ℤ) → Leads at (next (given_set r n at.formatter))
   given_leads given.Page n = numbered n
   given_leads given.Height n = like (record s { formatter = record s.formatter { given = record s.formatter.given { height = n } } }) (next (given_set given.Height n at.formatter)) refl o refl (λ r p. record { reads = r; prints = p; same = refl })
   given_leads given.Width n = like (record s { formatter = record s.formatter { given = record s.formatter.given { width = n } } }) (next (given_set given.Width n at.formatter)) refl o refl (λ r p. record { reads = r; prints = p; same = refl })
@@ -95,7 +95,7 @@ module _ (cs : List Choice) (bs : List ℕ) (i : Bool) (s : State) (plain : is_p
   written_leads (Some x) name =
       like (record s { formatter = record s.formatter { store = written (Some x) name s.formatter.store } }) (next (record at.formatter { store = written (Some x) name at.formatter.store })) refl o refl (λ r p. record { reads = r; prints = p; same = refl })
 
-  register_leads : (r : Option GivenRegister) (name : List ℕ) (n : ℤ) → Leads at (next (register_set_by r name n None at.formatter))
+  register_leads : (r : Option BuiltInRegister) (name : List ℕ) (n : ℤ) → Leads at (next (register_set_by r name n None at.formatter))
   register_leads None name n = written_leads (set_to n None (register_of (find name s.formatter.store.registers))) name
   register_leads (Some r) name n = leads_if (is_held n) (given_set r n at.formatter) at.formatter (given_leads r n) unchanged
 

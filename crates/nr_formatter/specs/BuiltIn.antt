@@ -1,11 +1,11 @@
--- Which registers are given: `%`, `nl`, `dn`, `dl`, and all whose names begin with `.`. (CSTR 54, its index of registers; groff manual, built-in registers.)
+-- Which registers are built in: `%`, `nl`, `dn`, `dl`, and all whose names begin with `.`. (CSTR 54, its index of registers; groff manual, built-in registers.)
 use Prim.Native.Char.{code}
 use Rattle.std.specs.Prelude.{ℕ, ◌&&◌, ◌==◌, if◌then◌else◌, List, [], ◌∷◌, Option, None, Some}
-use Rattle.nr_formatter.specs.declared.given.GivenRegister.{GivenRegister}
-use Rattle.nr_formatter.specs.declared.given.GivenRegister.TheVariants as given
+use Rattle.nr_formatter.specs.declared.built_in.BuiltInRegister.{BuiltInRegister}
+use Rattle.nr_formatter.specs.declared.built_in.BuiltInRegister.TheVariants as given
 
 -- `.$ .d .i .l .o .p .v .n .t .u .z .H .V`; another is undefined
-abbrev pub dotted : ℕ → GivenRegister
+abbrev pub dotted : ℕ → BuiltInRegister
 dotted b =
     if b == code "$" then given.Arguments
     else if b == code "d" then given.DiversionPlace
@@ -23,11 +23,11 @@ dotted b =
     else given.Other
 
 -- `%`
-abbrev pub given_by_byte : ℕ → Option GivenRegister
+abbrev pub given_by_byte : ℕ → Option BuiltInRegister
 given_by_byte a = if a == code "%" then Some given.Page else if a == code "." then Some given.Other else None
 
 -- `nl dn dl`
-abbrev pub given_by_bytes : ℕ → ℕ → Option GivenRegister
+abbrev pub given_by_bytes : ℕ → ℕ → Option BuiltInRegister
 given_by_bytes a b =
     if a == code "." then Some (dotted b)
     else if a == code "n" && b == code "l" then Some given.Place
@@ -35,8 +35,8 @@ given_by_bytes a b =
     else if a == code "d" && b == code "l" then Some given.Width
     else None
 
--- the register of a name, if it is given
-abbrev pub given_named : List ℕ → Option GivenRegister
+-- the built-in register of a name, if there is one
+abbrev pub given_named : List ℕ → Option BuiltInRegister
 given_named [] = None
 given_named (a ∷ []) = given_by_byte a
 given_named (a ∷ b ∷ []) = given_by_bytes a b
