@@ -24,7 +24,7 @@ number_len depth (b ∷ bs) = if is_blank b && depth == 0 then 0 else 1 + number
 
 -- A name has bytes that are no blanks and no control bytes: two at most, or with long names as many as there are.
 abbrev pub is_name_byte : ℕ → Bool
-is_name_byte b = nat_lt 32 b && not (b == 127)
+is_name_byte b = nat_lt (code " ") b && not (b == 127)
 
 abbrev pub name_len : Bool → List ℕ → ℕ
 name_len long text = if long then prefix_len is_name_byte text else min 2 (prefix_len is_name_byte text)

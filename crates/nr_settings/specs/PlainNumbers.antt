@@ -1,4 +1,5 @@
 -- Numbers of few digits, with the letter of a scale or none.
+use Prim.Native.Char.{code}
 use Rattle.std.specs.Prelude.{◌≡◌, ℕ, zero, suc, ◌+◌, ◌-◌, ◌≤◌, List, ◌∷◌, drop, pos}
 use Rattle.nr_units.specs.LongestFront.{read_on}
 use Rattle.nr_units.specs.Scan.{Scan, in_mode, more_whole, outermost}
@@ -24,8 +25,8 @@ behind_digits s (suc i) n = whole s n
 
 -- an operand may begin at s, with a digit
 pub record BeginsOperand (s : Scan) : Type 0 where
-  pub takes : (c : Ctx) (k : ℕ) (longest : Read) (b : ℕ) (bs : List ℕ) → 48 ≤ b → b ≤ 57
-      → read_on c s k longest (b ∷ bs) ≡ read_on c (whole s (b - 48)) (k + 1) longest bs
+  pub takes : (c : Ctx) (k : ℕ) (longest : Read) (b : ℕ) (bs : List ℕ) → code "0" ≤ b → b ≤ code "9"
+      → read_on c s k longest (b ∷ bs) ≡ read_on c (whole s (b - code "0")) (k + 1) longest bs
 
 -- Where an operand begins, the first i bytes of a text are read as digits that write n.
 pub record ReadsDigits (text : List ℕ) (i n : ℕ) : Type 0 where
