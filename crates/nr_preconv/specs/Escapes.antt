@@ -102,6 +102,10 @@ is_unnamed b =
 abbrev pub is_skipped : ℕ → Bool
 is_skipped b = (b == code "H") || (b == code "R") || (b == code "S") || (b == code "X") || (b == code "Z")
 
+-- in a table `\R` and a character is a field, the character repeated (tbl(1))
+abbrev pub repeats : ℕ → Half → Bool
+repeats b h = (b == code "R") && h.table
+
 -- what stands in \?..\? is for diversions that are read again
 abbrev pub embed : Half → Met
 embed h = taken says.Nothing (record h { kept = []; escape = escapes.Embedded false })
@@ -135,7 +139,7 @@ letter b h =
     if b == code "{" then brace h else
     if b == code "'" then acute h else
     if is_unnamed b then going_on b (escapes.Target kinds.Dropped) h else
-    if is_skipped b then skip h else
+    if is_skipped b && not (repeats b h) then skip h else
     if is_measured b then measured b h else ends_with b h
 
 -- the line goes on before the escape is read: a word begins, or a condition is a number

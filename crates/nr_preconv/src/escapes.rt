@@ -224,10 +224,17 @@ impl Half {
             b'{' => self.brace(),
             b'\'' => self.acute(),
             _ if is_unnamed(byte) => self.goes_on(byte, Escape::Target(Kind::Dropped)),
-            _ if is_skipped(byte) => self.skip(),
+            _ if is_skipped(byte) && !self.repeats(byte) => self.skip(),
             _ if is_measured(byte) => self.measured(byte),
             _ => self.ends_with(byte),
         }
+    }
+
+    /// In a table `\R` and a character is a field, the character repeated.
+    fn repeats(&self, byte: u8) -> bool
+        ensures { result ≡ specs.repeats byte self.now }
+    {
+        byte == b'R' && self.table
     }
 
     /// Such a letter. By `\h` at the beginning of a line it may hang.
