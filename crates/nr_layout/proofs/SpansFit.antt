@@ -116,7 +116,7 @@ all_enough width k first last count (suc j) d h inside small e =
 share_last : (rest left : ℕ) → rest ≤ most → left ≡ 1 → share rest left ≡ rest
 share_last rest left h e =
     let whole : sum rest 0 ≡ rest = omega (arith, h) in
-    ap (λ (n : ℕ). sum rest (n - 1) / n) e ∙ div-one (sum rest 0) ∙ whole
+    ap (λ (n : ℕ). sum rest ((n - 1) / 2) / n) e ∙ div-one (sum rest 0) ∙ whole
 
 last_enough : (width j first last count : ℕ) (d : Dealing) → first + j ≡ last → last < count → count < 2 ^ 64 → width ≤ most
     → Enough width (suc j) first last count d → width ≤ together (suc j) (dealt_at last (first + j) d).table first last

@@ -139,7 +139,7 @@ measured_cells t = in_turn (length t.cells.items) measured_cell t
 abbrev pub measured_fields : Table → Table
 measured_fields t = settled_columns (measured_cells t)
 
--- ---- a greater width is dealt out to columns: to each the rest through those that are left, rounded up
+-- ---- a greater width is dealt out to columns: to each the rest through those that are left, to the nearest, half a cell to those behind
 
 -- of the first of these columns, with the spaces after them, but for that after the last
 abbrev pub with_column : Bool → ℕ → Column → ℕ
@@ -160,7 +160,7 @@ abbrev pub dealing : Table → ℕ → Dealing
 dealing t rest = record { table = t; rest = rest }
 
 abbrev pub share : ℕ → ℕ → ℕ
-share rest left = sum rest (left - 1) / left
+share rest left = sum rest ((left - 1) / 2) / left
 
 abbrev pub wider : ℕ → Column → Column
 wider more c = record c { width = sum c.width more }

@@ -1,6 +1,6 @@
 -- What fields over several columns lack is dealt out to these (Lesk, "Usage"; tbl(1), "Column classifiers"), and columns of e are as wide as the
 -- widest of them (tbl(1), "Column modifiers"). `*S` is what is dealt out, and `*t` a share of it; `*w` with a number is the width of a column.
-use Rattle.std.specs.Prelude.{ℕ, ◌-◌, max, Bool, ◌&&◌, not, nat_lt, List, [], ◌∷◌, ◌++◌, length, codes, decimal, if◌then◌else◌}
+use Rattle.std.specs.Prelude.{ℕ, ◌-◌, ◌/◌, max, Bool, ◌&&◌, not, nat_lt, List, [], ◌∷◌, ◌++◌, length, codes, decimal, if◌then◌else◌}
 use Rattle.nr_layout.specs.declared.table.Cell.{Cell}
 use Rattle.nr_layout.specs.declared.table.Table.{Table}
 use Rattle.nr_layout.specs.Columns.{measures}
@@ -31,9 +31,9 @@ total_at t first last sign n = total_column t first last sign (sum first n)
 abbrev pub total_text : Table → ℕ → ℕ → List ℕ → List ℕ
 total_text t first last sign = joined (range first last) (total_at t first last sign)
 
--- what is left is dealt out among so many
+-- what is left is dealt out among so many, to the nearest
 abbrev pub share_of : ℕ → List ℕ
-share_of left = line (codes ".nr *t \\n(*S+" ∷ decimal (left - 1) ∷ codes "/" ∷ decimal left ∷ [])
+share_of left = line (codes ".nr *t \\n(*S+" ∷ decimal ((left - 1) / 2) ∷ codes "/" ∷ decimal left ∷ [])
 
 abbrev pub widened_column : ℕ → ℕ → List ℕ
 widened_column left c =

@@ -358,7 +358,7 @@ impl Table {
         ensures room { held.emptied self.new ≡ held.emptied self.old }
     {
         let left = last.saturating_add(1).saturating_sub(number).max(1);
-        let share = rest.saturating_add(left - 1) / left;
+        let share = rest.saturating_add((left - 1) / 2) / left;
         let column = self.column(number);
         let wider = Column {
             width: column.width.saturating_add(share),
@@ -368,7 +368,7 @@ impl Table {
         rest.saturating_sub(share)
     }
 
-    /// Columns are made so wide together: what they lack is dealt out, the most to the first.
+    /// Columns are made so wide together: what they lack is dealt out.
     #[tactic(auto, using(crate::proofs::Turns::one_further))]
     fn widen(&mut self, first: usize, last: usize, width: usize)
         ensures value { self.new ≡ specs.widened first last width self.old }

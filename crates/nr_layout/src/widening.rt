@@ -24,7 +24,7 @@ pub(crate) fn put_share<W: Sink>(left: usize, out: &mut Out<'_, W>)
 {
     out.line(&[
         T(b".nr *t \\n(*S+"),
-        N(left.saturating_sub(1)),
+        N(left.saturating_sub(1) / 2),
         T(b"/"),
         N(left),
     ])
