@@ -178,7 +178,7 @@ count_lines t =
     total (edge_lines t) (length t.items.items) (λ n. box_lines t (item t n)) - count (is_all t.looks.frame)
 
 abbrev pub added_height : Table → ℕ → List ℕ
-added_height t r = codes ".nr *H +(" ++ height_text t r ++ codes ")\n"
+added_height t r = codes ".nr *H +" ++ height_text t r ++ codes "\n"
 
 abbrev pub is_own_tall : Table → ℕ → Bool
 is_own_tall t r = (row t r).own && is_tall t r

@@ -1,6 +1,6 @@
 -- Fields of which only the formatter knows the widths, and blocks, have numbers (Lesk, "Data"; tbl(1), "Text blocks"): `*t` with a number is
 -- the string of a field that would read otherwise later, `*d` the diversion of a block.
-use Rattle.std.specs.Prelude.{ℕ, zero, suc, ◌-◌, Bool, true, false, ◌==◌, ◌&&◌, ◌||◌, List, [], ◌∷◌, length, Option, None, Some, codes, decimal, if◌then◌else◌}
+use Rattle.std.specs.Prelude.{ℕ, zero, suc, ◌+◌, ◌-◌, Bool, true, false, ◌==◌, ◌&&◌, ◌||◌, List, [], ◌∷◌, length, Option, None, Some, codes, decimal, if◌then◌else◌}
 use Prim.Native.Char.{code}
 use Rattle.nr_layout.specs.declared.table.Cell.{Cell}
 use Rattle.nr_layout.specs.declared.table.Item.{Item}
@@ -155,7 +155,7 @@ told_named t told = (all_named (has_definitions t) (naming t told)).told
 abbrev pub naming_text : Table → Told → List ℕ
 naming_text t told = items_text (has_definitions t) (naming t told)
 
--- ---- what fields kept is removed
+-- ---- what fields kept is removed, the last first: behind it lie the texts that were made after it
 
 abbrev pub string_removal : Cell → List ℕ
 string_removal f = if f.stored then line (codes ".rm *t" ∷ decimal f.name ∷ []) else []
@@ -165,7 +165,7 @@ removal f =
     if is_block f.field.form then line (codes ".rm *d" ∷ decimal f.name ∷ []) else string_removal f
 
 abbrev pub removal_at : Table → ℕ → List ℕ
-removal_at t n = removal (cell_of t n)
+removal_at t n = removal (cell_of t (length t.cells.items - (n + 1)))
 
 abbrev pub removals : Table → List ℕ
 removals t = joined (length t.cells.items) (removal_at t)

@@ -393,9 +393,9 @@ impl Table {
     fn put_added<W: Sink>(&self, row: usize, out: &mut Out<'_, W>)
         ensures { Draws out.old out.new (Bytes (specs.added_height self.now row) ∷ []) }
     {
-        out.add(b".nr *H +(");
+        out.add(b".nr *H +");
         self.put_height(row, out);
-        out.add(b")\n");
+        out.add(b"\n");
     }
 
     /// Whether a row takes room, and is higher than a line.

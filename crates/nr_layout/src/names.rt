@@ -245,12 +245,12 @@ impl Table {
         self.remove_string_of(cell, out)
     }
 
-    /// What fields kept is removed.
+    /// What fields kept is removed, the last first: where nothing lies behind a text, its removal moves nothing.
     pub(crate) fn remove_names<W: Sink>(&self, out: &mut Out<'_, W>)
         ensures { Draws out.old out.new (Bytes (specs.removals self.now) ∷ []) }
     {
         for number in 0..self.cells.len() {
-            self.remove_name(self.cell_of(number), out);
+            self.remove_name(self.cell_of(self.cells.len() - (number + 1)), out);
         }
     }
 }

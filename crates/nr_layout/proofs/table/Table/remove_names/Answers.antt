@@ -7,4 +7,4 @@ pub loop-number-init : goal.loop-number-init
 loop-number-init g c = draws_no_bytes _
 
 pub loop-number-preserved : goal.loop-number-preserved
-loop-number-preserved g c = bytes_more c.loop-number.number (removal_at c.args.self.now) c.loop-number.invariant (rw c.cell_of.ensures at c.remove_name.ensures)
+loop-number-preserved g c = bytes_more c.loop-number.number (removal_at c.args.self.now) c.loop-number.invariant (rw c.len.ensures.value at (rw c.cell_of.ensures at c.remove_name.ensures))
