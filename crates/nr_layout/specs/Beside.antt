@@ -113,7 +113,7 @@ begin_in begins.Told t f = begin_text t f
 
 abbrev pub block_lines : Table → Cell → List ℕ
 block_lines t f =
-    codes ".in \\n(*Ou+" ++ begin_in (begin_of t f) t f ++ line (codes "\n.*d" ∷ decimal f.name ∷ codes "\n.in \\n(*Ou" ∷ [])
+    codes ".in +" ++ begin_in (begin_of t f) t f ++ line (codes "\n.*d" ∷ decimal f.name ∷ codes "\n.in" ∷ [])
 
 -- ---- the blocks of a row that end in it: up by what the row took, the block, and down again
 
@@ -136,7 +136,7 @@ down_again t f r alone = if is_down t f r alone then [] else down_from t f r
 
 abbrev pub block_beside : Table → Cell → ℕ → Bool → List ℕ
 block_beside t f r alone =
-    parts (later ∷ codes ".sp -(" ∷ []) ++ taken t r alone ++ codes ")\n" ++ block_lines t f ++ down_again t f r alone
+    parts (later ∷ codes ".rt -" ∷ []) ++ taken t r alone ++ codes "\n" ++ block_lines t f ++ down_again t f r alone
 
 abbrev pub stands_beside : Cell → Bool
 stands_beside f = is_block f.field.form && not f.falls

@@ -121,10 +121,6 @@ are_columns_of (Some pair) f = (pair.0 == f.first) && (pair.1 == f.last)
 abbrev pub is_alike : Cell → Told → Bool
 is_alike f told = are_columns_of told.columns f && told.clean && not (spans f) && not (f.key.kind == code "a")
 
-abbrev pub grown_length : ℕ → List ℕ
-grown_length c =
-    parts (codes ".if \\n[*w" ∷ decimal c ∷ codes "]>\\n(*S .ll \\n[*w" ∷ []) ++ line (decimal c ∷ codes "]u" ∷ [])
-
 abbrev pub indented : Cell → List ℕ
 indented f = if f.key.kind == code "a" then codes ".nr *S -2n\n" else []
 
@@ -133,7 +129,7 @@ new_length t f =
     codes ".nr *S " ++ total_text t f.first f.last (codes "+") ++ codes "\n" ++ most_share t f ++ indented f ++ codes ".ll \\n(*Su\n"
 
 abbrev pub length_text : Table → Cell → Told → List ℕ
-length_text t f told = if is_alike f told then grown_length f.first else new_length t f
+length_text t f told = if is_alike f told then [] else new_length t f
 
 -- ---- its size
 
@@ -149,9 +145,15 @@ set_width kind = if kind == code "a" then codes "\\n(dlu+2n" else codes "\\n(dlu
 abbrev pub spread_width : Table → Cell → List ℕ
 spread_width t f = codes ".nr *S " ++ set_width f.key.kind ++ widening_text t f.first f.last
 
+-- its column is as wide as it, and the line as long
+abbrev pub grown_width : ℕ → List ℕ
+grown_width c =
+    parts (codes ".if \\n(dl>\\n[*w" ∷ decimal c ∷ codes "] \\{.nr *w" ∷ decimal c ∷ [])
+    ++ codes " \\n(dl\n.if \\n(dl>\\n(.l .ll \\n(dlu\\}\n"
+
 abbrev pub one_width : Cell → List ℕ
 one_width f =
-    if f.key.kind == code "a" then most_of f.first (parts (codes "\\n(dlu+2n" ∷ [])) else most_of f.first (parts (codes "\\n(dlu" ∷ []))
+    if f.key.kind == code "a" then most_of f.first (parts (codes "\\n(dlu+2n" ∷ [])) else grown_width f.first
 
 abbrev pub column_width : Table → Cell → List ℕ
 column_width t f = if spans f then spread_width t f else one_width f
@@ -182,16 +184,20 @@ lines_text t f = text_of t f.field.span
 
 abbrev pub diversion_text : Table → Cell → List ℕ
 diversion_text t f =
-    line (codes ".di *d" ∷ decimal f.name ∷ []) ++ font_before f.key.font ++ lines_text t f ++ font_after f.key.font
-    ++ codes ".di\n"
+    line (codes ".da *d" ∷ decimal f.name ∷ []) ++ font_before f.key.font ++ lines_text t f ++ font_after f.key.font
+    ++ codes ".da\n"
 
 abbrev pub block_text : Table → Cell → Told → List ℕ
 block_text t f told =
     adjust_before t f told ++ clean_before told ++ length_text t f told ++ diversion_text t f ++ size_text t f
 
+-- the columns for which the line's length stands then
+abbrev pub lined_columns : Cell → Option (ℕ × ℕ)
+lined_columns f = if f.key.kind == code "a" then None else Some (f.first, f.last)
+
 abbrev pub block_told : Table → Cell → Told → Told
 block_told t f told =
-    record told { changed = (lines_of t f).adjusts; clean = (lines_of t f).clean; columns = Some (f.first, f.last) }
+    record told { changed = (lines_of t f).adjusts; clean = (lines_of t f).clean; columns = lined_columns f }
 
 -- ---- those in columns that share the line, or the others
 

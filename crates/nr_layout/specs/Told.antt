@@ -36,7 +36,7 @@ nothing_told = record { names = 0; blocks = false; changed = false; clean = fals
 abbrev pub waits : List ℕ
 waits =
     codes ".de *m\n.br\n.if '\\\\n(.z'' \\\\$1 \\\\$2\n.if !'\\\\n(.z'' \\{\\\n\\!.*m \\\\$1 \\\\$2\n.\\}\n..\n"
-    ++ codes ".de *n\n\\!.*m \\\\$1 \\\\$2\n.if '\\\\$1'.sp' .nr *+ -(\\\\$2)\n..\n"
+    ++ codes ".de *n\n\\!.*m \\\\$1 \\\\$2\n.if !'\\\\$1'.ne' .nr *+ -(\\\\$2)\n..\n"
 
 abbrev pub waits_text : Table → List ℕ
 waits_text t = if t.waits_known then [] else waits

@@ -342,9 +342,9 @@ impl Table {
     fn put_block_lines<W: Sink>(&self, cell: Cell, out: &mut Out<'_, W>)
         ensures { Draws out.old out.new (Bytes (specs.block_lines self.now cell) ∷ []) }
     {
-        out.add(b".in \\n(*Ou+");
+        out.add(b".in +");
         self.put_begin_of(cell, out);
-        out.line(&[T(b"\n.*d"), N(cell.name), T(b"\n.in \\n(*Ou")]);
+        out.line(&[T(b"\n.*d"), N(cell.name), T(b"\n.in")]);
     }
 
     /// What a row took: a line where a block stands alone.
@@ -387,9 +387,9 @@ impl Table {
     fn put_block_beside<W: Sink>(&self, cell: Cell, row: usize, alone: bool, out: &mut Out<'_, W>)
         ensures { Draws out.old out.new (Bytes (specs.block_beside self.now cell row alone) ∷ []) }
     {
-        out.pieces(&[T(&LATER), T(b".sp -(")]);
+        out.pieces(&[T(&LATER), T(b".rt -")]);
         self.put_taken(row, alone, out);
-        out.add(b")\n");
+        out.add(b"\n");
         self.put_block_lines(cell, out);
         self.put_down_again(cell, row, alone, out);
     }

@@ -176,12 +176,17 @@ fn is_alike(cell: Cell, told: Told) -> bool
     are_columns_of(told.columns, cell) && told.clean && !cell.spans() && cell.key.kind != b'a'
 }
 
-/// The line's length grows with a column.
-fn put_grown_length<W: Sink>(column: usize, out: &mut Out<'_, W>)
-    ensures { Draws out.old out.new (Bytes (specs.grown_length column) ∷ []) }
+/// A column is as wide as the block that was set, and the line as long.
+fn put_grown_width<W: Sink>(column: usize, out: &mut Out<'_, W>)
+    ensures { Draws out.old out.new (Bytes (specs.grown_width column) ∷ []) }
 {
-    out.pieces(&[T(b".if \\n[*w"), N(column), T(b"]>\\n(*S .ll \\n[*w")]);
-    out.line(&[N(column), T(b"]u")]);
+    out.pieces(&[
+        T(b".if \\n(dl>\\n[*w"),
+        N(column),
+        T(b"] \\{.nr *w"),
+        N(column),
+    ]);
+    out.add(b" \\n(dl\n.if \\n(dl>\\n(.l .ll \\n(dlu\\}\n");
 }
 
 /// How wide a block is, where that says where it begins.
@@ -191,6 +196,16 @@ fn put_own_width<W: Sink>(cell: Cell, out: &mut Out<'_, W>)
     if is_moved(cell.key.kind) {
         out.line(&[T(b".nr *x"), N(cell.name), T(b" \\n(dl")]);
     }
+}
+
+/// The columns for which the line's length stands behind a block.
+fn lined_columns(cell: Cell) -> Option<(usize, usize)>
+    ensures { result ≡ specs.lined_columns cell }
+{
+    if cell.key.kind == b'a' {
+        return None;
+    }
+    Some((cell.first, cell.last))
 }
 
 impl Table {
@@ -348,7 +363,7 @@ impl Table {
         ensures { Draws out.old out.new (Bytes (specs.length_text self.now cell told) ∷ []) }
     {
         if is_alike(cell, told) {
-            return put_grown_length(cell.first, out);
+            return;
         }
         self.put_new_length(cell, out);
     }
@@ -361,7 +376,7 @@ impl Table {
         Told {
             changed: lines.adjusts,
             clean: lines.clean,
-            columns: Some((cell.first, cell.last)),
+            columns: lined_columns(cell),
             ..told
         }
     }
@@ -377,11 +392,11 @@ impl Table {
     fn put_diversion<W: Sink>(&self, cell: Cell, out: &mut Out<'_, W>)
         ensures { Draws out.old out.new (Bytes (specs.diversion_text self.now cell) ∷ []) }
     {
-        out.line(&[T(b".di *d"), N(cell.name)]);
+        out.line(&[T(b".da *d"), N(cell.name)]);
         put_font_before(cell.key.font, out);
         self.put_lines_of(cell, out);
         put_font_after(cell.key.font, out);
-        out.add(b".di\n");
+        out.add(b".da\n");
     }
 
     /// A block is set.
@@ -411,7 +426,7 @@ impl Table {
         if cell.key.kind == b'a' {
             return self.most_of(cell.first, &[T(b"\\n(dlu+2n")], out);
         }
-        self.most_of(cell.first, &[T(b"\\n(dlu")], out);
+        put_grown_width(cell.first, out);
     }
 
     /// The columns of a block are as wide as it.

@@ -22,9 +22,9 @@ pub(crate) static LATER: [u8; 5] = *b"\\*(*!";
 
 /// What waits in a diversion: a request is done where that is printed, or goes on into another. `*+` tells how much less
 /// room the table takes than its lines together.
-static WAITS: [u8; 133] =
+static WAITS: [u8; 134] =
     *b".de *m\n.br\n.if '\\\\n(.z'' \\\\$1 \\\\$2\n.if !'\\\\n(.z'' \\{\\\n\\!.*m \\\\$1 \\\\$2\n.\\}\n..\n\
-.de *n\n\\!.*m \\\\$1 \\\\$2\n.if '\\\\$1'.sp' .nr *+ -(\\\\$2)\n..\n";
+.de *n\n\\!.*m \\\\$1 \\\\$2\n.if !'\\\\$1'.ne' .nr *+ -(\\\\$2)\n..\n";
 
 /// Draws the string `*o` as often as `*t` says: 64 deep, not deeper.
 static BARS: [u8; 76] =

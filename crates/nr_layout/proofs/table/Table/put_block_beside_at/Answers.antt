@@ -1,8 +1,8 @@
 use Rattle.std.proofs.Common.{[], ap, sym, ◌∙◌, ◌∷◌}
 use Rattle.nr_layout.specs.Beside.{block_beside, stands_beside}
 use Rattle.nr_layout.specs.Pens.{Bytes}
-use Rattle.nr_layout.proofs.Chosen.{draws_chosen}
-use Rattle.nr_layout.proofs.Tapes.{draws_same}
+use Rattle.nr_layout.proofs.Chosen.{draws_chosen, draws_other}
+use Rattle.nr_layout.proofs.Tapes.{draws_no_bytes, draws_same}
 use Rattle.nr_layout.specs.declared.table.Cell.{Cell}
 use Rattle.std.specs.Prelude.{if◌then◌else◌}
 use Rattle.nr_layout.proofs.table.Table.put_block_beside_at.Goals as goal
@@ -10,4 +10,9 @@ use Rattle.nr_layout.proofs.table.Table.put_block_beside_at.Goals as goal
 pub returns-then-stands_beside : goal.returns-then-stands_beside
 returns-then-stands_beside g c =
     draws_same (draws_chosen (stands_beside c.own_cell-cell.result) [] c.put_block_beside.ensures (sym c.stands_beside.ensures ∙ c.if-stands_beside.true))
+    (ap (λ (f : Cell). Bytes (if stands_beside f then block_beside c.args.self.now f c.args.row c.args.alone else []) ∷ []) (sym c.own_cell-cell.ensures))
+
+pub returns-else-stands_beside : goal.returns-else-stands_beside
+returns-else-stands_beside g c =
+    draws_same (draws_other (stands_beside c.own_cell-cell.result) (block_beside c.args.self.now c.own_cell-cell.result c.args.row c.args.alone) (draws_no_bytes c.args.out.now) (sym c.stands_beside.ensures ∙ c.if-stands_beside.false))
     (ap (λ (f : Cell). Bytes (if stands_beside f then block_beside c.args.self.now f c.args.row c.args.alone else []) ∷ []) (sym c.own_cell-cell.ensures))
