@@ -30,39 +30,47 @@ abbrev pub set_so_far : Limits → ℕ → List ℕ → List ℕ
 set_so_far l cells bytes = set_bytes l (said_so_far l cells bytes)
 
 -- these bytes went out, and what is wrong with what was said was told
-pub record Puts (out : List ℕ) (said : List Piece) (held new : Option (List ℕ)) (kept : Items Complaint) (missed : Bool) : Type 0 where
+pub record Puts (out : List ℕ) (said : List Piece) (held new : Option (List ℕ)) (kept : Items Complaint)
+    (missed : Bool) : Type 0 where
   pub went_out : Appends held new out
   pub keeps : Keeps (wrongs said) kept missed
 
 -- all bytes came
-pub record IsDone (l : Limits) (cells : ℕ) (first last : Option Supply) (held new : Option (List ℕ)) (kept : Items Complaint) (missed : Bool) : Type 0 where
+pub record IsDone (l : Limits) (cells : ℕ) (first last : Option Supply) (held new : Option (List ℕ))
+    (kept : Items Complaint) (missed : Bool) : Type 0 where
   pub bytes : List ℕ
   pub came : Came first bytes last
   pub ends : Ends first last
   pub puts : Puts (set_page l cells bytes) (page_said l cells bytes) held new kept missed
 
 -- so many bytes came, and what is half read neither went out nor was told
-pub record IsCut (l : Limits) (cells : ℕ) (first last : Option Supply) (held new : Option (List ℕ)) (kept : Items Complaint) (missed : Bool) (at : ℕ) : Type 0 where
+pub record IsCut (l : Limits) (cells : ℕ) (first last : Option Supply) (held new : Option (List ℕ))
+    (kept : Items Complaint) (missed : Bool) (at : ℕ) : Type 0 where
   pub bytes : List ℕ
   pub came : Came first bytes last
   pub count : length bytes ≡ at
   pub puts : Puts (set_so_far l cells bytes) (said_so_far l cells bytes) held new kept missed
 
 -- a part of these bytes went out, and what is wrong with what was said was told
-pub record PutsFront (out : List ℕ) (said : List Piece) (held new : Option (List ℕ)) (kept : Items Complaint) (missed : Bool) : Type 0 where
+pub record PutsFront (out : List ℕ) (said : List Piece) (held new : Option (List ℕ)) (kept : Items Complaint)
+    (missed : Bool) : Type 0 where
   pub went_out : AppendsFront held new out
   pub keeps : Keeps (wrongs said) kept missed
 
 -- some bytes came, and a part of what they come to went out, without the end or with it
-pub record IsBroken (l : Limits) (cells : ℕ) (first last : Option Supply) (held new : Option (List ℕ)) (kept : Items Complaint) (missed : Bool) : Type 0 where
+pub record IsBroken (l : Limits) (cells : ℕ) (first last : Option Supply) (held new : Option (List ℕ))
+    (kept : Items Complaint) (missed : Bool) : Type 0 where
   pub bytes : List ℕ
   pub came : Came first bytes last
-  pub puts : PutsFront (set_so_far l cells bytes) (said_so_far l cells bytes) held new kept missed ⊎ PutsFront (set_page l cells bytes) (page_said l cells bytes) held new kept missed
+  pub puts : PutsFront (set_so_far l cells bytes) (said_so_far l cells bytes) held new kept missed ⊎ PutsFront
+      (set_page l cells bytes) (page_said l cells bytes) held new kept missed
 
-abbrev pub Ran : Limits → ℕ → Option Supply → Option Supply → Option (List ℕ) → Option (List ℕ) → Items Complaint → Bool → Outcome → Type 0
+abbrev pub Ran : Limits → ℕ → Option Supply → Option Supply → Option (List ℕ) → Option (List ℕ)
+    → Items Complaint → Bool → Outcome → Type 0
 Ran l cells first last held new kept missed Done = IsDone l cells first last held new kept missed
 Ran l cells first last held new kept missed (ReadFault at) = IsCut l cells first last held new kept missed at
-Ran l cells first last held new kept missed TooLong = IsCut l cells first last held new kept missed 1099511627776
+Ran l cells first last held new kept missed TooLong =
+    IsCut l cells first last held new kept missed 1099511627776
 Ran l cells first last held new kept missed WriteFault = IsBroken l cells first last held new kept missed
 
 abbrev pub is_read_fault : Outcome → Bool

@@ -144,10 +144,12 @@ pub record Keeps (all : List Complaint) (kept : Items Complaint) (missed : Bool)
 
 -- what was told with them stays, and these were told too
 abbrev pub KeepsMore : Items Complaint → Bool → Items Complaint → Bool → List Complaint → Type 0
-KeepsMore old before new missed more = (all : List Complaint) → Keeps all old before → Keeps (all ++ more) new missed
+KeepsMore old before new missed more =
+    (all : List Complaint) → Keeps all old before → Keeps (all ++ more) new missed
 
 -- the same complaints that were lent, with these among them
-pub record Notes (old new : MutBor (Items Complaint)) (before missed : Bool) (more : List Complaint) : Type 0 where
+pub record Notes (old new : MutBor (Items Complaint)) (before missed : Bool)
+    (more : List Complaint) : Type 0 where
   pub same : new.ghost_name ≡ old.ghost_name
   pub room : new.now.room ≡ old.now.room
   pub keeps : KeepsMore old.now before new.now missed more
@@ -165,7 +167,8 @@ pub record Becomes (old new : MutBor Table) (t : Table) : Type 0 where
   pub room : emptied new.now ≡ emptied old.now
 
 abbrev pub first_tape : Option (List ℕ) → SinkFailures → Tape
-first_tape held failures = record { held = held; failures = failures; pending = []; failed = false; pen = first }
+first_tape held failures =
+    record { held = held; failures = failures; pending = []; failed = false; pen = first }
 
 -- what its output held at first and how many of its calls had failed, the table that it had, and what it heard since; which table and
 -- which complaints it was lent, with room for so many
@@ -181,7 +184,8 @@ pub record Shown : Type 0 where
 abbrev pub hears : Piece → Shown → Shown
 hears p s = record s { said = s.said ++ p ∷ [] }
 
-pub record Shows (tape : Tape) (table : MutBor Table) (kept : MutBor (Items Complaint)) (missed : Bool) (s : Shown) : Type 0 where
+pub record Shows (tape : Tape) (table : MutBor Table) (kept : MutBor (Items Complaint)) (missed : Bool)
+    (s : Shown) : Type 0 where
   pub draws : Draws (first_tape s.held s.failures) tape (strokes s.said s.table)
   pub table_same : table.ghost_name ≡ s.table_name
   pub table_now : table.now ≡ set s.said s.table
@@ -193,4 +197,5 @@ pub record Shows (tape : Tape) (table : MutBor Table) (kept : MutBor (Items Comp
 -- all that waits went out, or the output failed
 abbrev pub EndsAs : Outcome → Outcome → Tape → Type 0
 EndsAs wanted outcome tape =
-    ((outcome ≡ wanted) × (tape.failed ≡ false) × (tape.pending ≡ [])) ⊎ ((outcome ≡ WriteFault) × (tape.failed ≡ true))
+    ((outcome ≡ wanted) × (tape.failed ≡ false) × (tape.pending ≡ [])) ⊎ ((outcome ≡ WriteFault)
+    × (tape.failed ≡ true))

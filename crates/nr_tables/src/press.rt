@@ -59,7 +59,8 @@ impl<'t, 'p, 'k, 'c, W: Sink> Press<'t, 'p, 'k, 'c, W> {
 
     /// The row ends with what was read of a block, and goes out; the block goes on below it.
     fn divide_block(&mut self)
-        ensures draws { Draws self.old.out self.new.out (table_strokes false (specs.cut_off self.old.table.now)) }
+        ensures draws { Draws self.old.out self.new.out
+            (table_strokes false (specs.cut_off self.old.table.now)) }
         ensures table { Becomes self.old.table self.new.table (specs.divided self.old.table.now) }
         ensures complaints { IsSame self.old.complaints self.old.missed self.new.complaints self.new.missed }
     {
@@ -74,7 +75,8 @@ impl<'t, 'p, 'k, 'c, W: Sink> Press<'t, 'p, 'k, 'c, W> {
     /// A part of a block.
     fn add_block(&mut self, text: &[u8])
         ensures draws { Draws self.old.out self.new.out (specs.block_strokes text.now self.old.table.now) }
-        ensures table { Becomes self.old.table self.new.table (specs.block_added text.now self.old.table.now) }
+        ensures table { Becomes self.old.table self.new.table
+            (specs.block_added text.now self.old.table.now) }
         ensures complaints { IsSame self.old.complaints self.old.missed self.new.complaints self.new.missed }
     {
         for byte in text {
@@ -95,7 +97,8 @@ impl<'t, 'p, 'k, 'c, W: Sink> Press<'t, 'p, 'k, 'c, W> {
 
     /// The table isn't set further.
     fn stands(&mut self)
-        ensures draws { Draws self.old.out self.new.out (specs.begun_strokes self.old.table.now ++ Bytes specs.plain_begin ∷ []) }
+        ensures draws { Draws self.old.out self.new.out (specs.begun_strokes self.old.table.now
+            ++ Bytes specs.plain_begin ∷ []) }
         ensures table { Becomes self.old.table self.new.table (specs.begun_ended self.old.table.now) }
         ensures complaints { IsSame self.old.complaints self.old.missed self.new.complaints self.new.missed }
     {
@@ -105,8 +108,10 @@ impl<'t, 'p, 'k, 'c, W: Sink> Press<'t, 'p, 'k, 'c, W> {
 
     /// A row has ended, a rule across the table, or a request.
     fn ends_line(&mut self, tell: Tell, text: &[u8])
-        ensures draws { Draws self.old.out self.new.out (specs.relief (line_heard tell text.now self.old.table.now)) }
-        ensures table { Becomes self.old.table self.new.table (specs.relieved (line_heard tell text.now self.old.table.now)) }
+        ensures draws { Draws self.old.out self.new.out
+            (specs.relief (line_heard tell text.now self.old.table.now)) }
+        ensures table { Becomes self.old.table self.new.table
+            (specs.relieved (line_heard tell text.now self.old.table.now)) }
         ensures complaints { IsSame self.old.complaints self.old.missed self.new.complaints self.new.missed }
     {
         end_line(tell, text, self.table);
@@ -117,7 +122,8 @@ impl<'t, 'p, 'k, 'c, W: Sink> Press<'t, 'p, 'k, 'c, W> {
     fn note(&mut self, complaint: Complaint)
         ensures out { self.new.out ≡ self.old.out }
         ensures table { self.new.table ≡ self.old.table }
-        ensures notes { Notes self.old.complaints self.new.complaints self.old.missed self.new.missed (complaint ∷ []) }
+        ensures notes { Notes self.old.complaints self.new.complaints self.old.missed self.new.missed
+            (complaint ∷ []) }
     {
         if self.complaints.is_full() {
             self.missed = true;
@@ -129,8 +135,10 @@ impl<'t, 'p, 'k, 'c, W: Sink> Press<'t, 'p, 'k, 'c, W> {
     /// What was read is set, or goes out.
     fn hear(&mut self, tell: Tell, text: &[u8])
         ensures draws { Draws self.old.out self.new.out (specs.strokes_in tell text.now self.old.table.now) }
-        ensures table { Becomes self.old.table self.new.table (specs.set_in tell text.now self.old.table.now) }
-        ensures notes { Notes self.old.complaints self.new.complaints self.old.missed self.new.missed (wrong_in tell) }
+        ensures table { Becomes self.old.table self.new.table
+            (specs.set_in tell text.now self.old.table.now) }
+        ensures notes { Notes self.old.complaints self.new.complaints self.old.missed self.new.missed
+            (wrong_in tell) }
     {
         match tell {
             Tell::Pass => {

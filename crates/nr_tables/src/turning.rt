@@ -81,13 +81,16 @@ fn run<R: Source, W: Sink>(
     requires tape { press.old.out ≡ first_tape press.old.out.held press.old.out.failures }
     requires empty { press.old.complaints.now.items ≡ [] }
     requires missed { press.old.missed ≡ false }
-    ensures ran { specs.Ran reader.old.limits reader.old.state.measure.line (R.supply input.old) (R.supply input.new) press.old.out.held press.new.out.held press.new.complaints.now press.new.missed result }
+    ensures ran { specs.Ran reader.old.limits reader.old.state.measure.line (R.supply input.old)
+        (R.supply input.new) press.old.out.held press.new.out.held press.new.complaints.now
+        press.new.missed result }
     ensures table_same { press.new.table.ghost_name ≡ press.old.table.ghost_name }
     ensures table_room { emptied press.new.table.now ≡ emptied press.old.table.now }
     ensures same { press.new.complaints.ghost_name ≡ press.old.complaints.ghost_name }
     ensures room { press.new.complaints.now.room ≡ press.old.complaints.now.room }
     ensures read_faults { TellsReads result (R.failures input.old) (R.failures input.new) }
-    ensures write_faults { press.new.out.failures ≡ put_counted_if (is_write_fault result) press.old.out.failures }
+    ensures write_faults { press.new.out.failures ≡ put_counted_if (is_write_fault result)
+        press.old.out.failures }
     ensures limits { reader.new.limits ≡ reader.old.limits }
     ensures line { reader.new.state.measure.line ≡ reader.old.state.measure.line }
 {
@@ -106,11 +109,14 @@ fn turn<R: Source, W: Sink>(
     requires table { table.old ≡ page_table reader.old.limits }
     requires tape { out ≡ first_tape out.held out.failures }
     requires empty { complaints.old.items ≡ [] }
-    ensures ran { specs.Ran reader.old.limits reader.old.state.measure.line (R.supply input.old) (R.supply input.new) out.entry.held (W.held result.1) complaints.new result.0.missed result.0.outcome }
+    ensures ran { specs.Ran reader.old.limits reader.old.state.measure.line (R.supply input.old)
+        (R.supply input.new) out.entry.held (W.held result.1) complaints.new result.0.missed
+        result.0.outcome }
     ensures table_room { emptied table.new ≡ emptied table.old }
     ensures room { complaints.new.room ≡ complaints.old.room }
     ensures read_faults { TellsReads result.0.outcome (R.failures input.old) (R.failures input.new) }
-    ensures write_faults { W.failures result.1 ≡ put_counted_if (is_write_fault result.0.outcome) out.entry.failures }
+    ensures write_faults { W.failures result.1 ≡ put_counted_if (is_write_fault result.0.outcome)
+        out.entry.failures }
     ensures limits { reader.new.limits ≡ reader.old.limits }
     ensures line { reader.new.state.measure.line ≡ reader.old.state.measure.line }
 {
@@ -142,11 +148,13 @@ pub fn convert<R: Source, W: Sink>(
     rooms: &mut Rooms,
     complaints: &mut SliceVec<'_, Complaint>,
 ) -> (Report, W)
-    ensures ran { specs.Ran rooms.old.limits rooms.old.cells (R.supply input.old) (R.supply input.new) (W.held output) (W.held result.1) complaints.new result.0.missed result.0.outcome }
+    ensures ran { specs.Ran rooms.old.limits rooms.old.cells (R.supply input.old) (R.supply input.new)
+        (W.held output) (W.held result.1) complaints.new result.0.missed result.0.outcome }
     // A read fault is told only where the source failed once, and then always, but where the output fails too.
     ensures read_faults { TellsReads result.0.outcome (R.failures input.old) (R.failures input.new) }
     // A write fault is told where a call of the sink failed, and else none did.
-    ensures write_faults { W.failures result.1 ≡ put_counted_if (is_write_fault result.0.outcome) (W.failures output) }
+    ensures write_faults { W.failures result.1 ≡ put_counted_if (is_write_fault result.0.outcome)
+        (W.failures output) }
     ensures room { complaints.new.room ≡ complaints.old.room }
     // The next page is turned by the same limits, for a line of as many cells.
     ensures same { rooms.new ≡ rooms.old }

@@ -27,12 +27,17 @@ goes_on p = nat_lt (rest_at p.kept) (length p.kept)
 
 -- behind what separates fields, or where the row goes on
 abbrev pub field_at : Page → ℕ
-field_at p = let rest = rest_at p.kept in if get_or p.kept rest 0 == p.state.options.tab then rest + 1 else rest
+field_at p = let rest = rest_at p.kept in
+    if get_or p.kept rest 0 == p.state.options.tab then rest + 1 else rest
 
 -- a text block has ended: the row goes on behind it, or ends
 abbrev pub block_left : Page → Effect
 block_left p =
-    effect (if goes_on p then record p { state = record (field_counted p.state) { mode = modes.Row }; from = field_at p; start = field_at p }
+    effect (if goes_on p then record p {
+      state = record (field_counted p.state) { mode = modes.Row };
+      from = field_at p;
+      start = field_at p;
+    }
     else with_state (field_counted p.state) p) (piece tells.BlockEnd [] ∷ [])
 
 -- a line that begins with `T}` ends

@@ -36,22 +36,27 @@ is_open_in modes.BlockLine p = true
 is_open_in mode p = nat_lt p.start (length p.kept)
 
 abbrev pub block_at_end : Page → Effect
-block_at_end p = effect p (wrong_at_end OpenBlock true p.state ∷ piece tells.BlockEnd [] ∷ piece tells.Row [] ∷ piece tells.TableEnd [] ∷ [])
+block_at_end p =
+    effect p (wrong_at_end OpenBlock true p.state ∷ piece tells.BlockEnd [] ∷ piece tells.Row []
+    ∷ piece tells.TableEnd [] ∷ [])
 
 abbrev pub head_at_end : Page → Effect
 head_at_end p =
-    effect p (wrong_at_end NoFormat true p.state ∷ piece tells.Plain [] ∷ each tells.Pass (rest_of p) ++ piece tells.PlainEnd [] ∷ [])
+    effect p (wrong_at_end NoFormat true p.state ∷ piece tells.Plain [] ∷ each tells.Pass (rest_of p)
+    ++ piece tells.PlainEnd [] ∷ [])
 
 -- the field that was read so far is the last
 abbrev pub row_at_end : Page → Effect
 row_at_end p =
     let e = last_field p in
-    effect e.page (wrong_at_end OpenTable true p.state ∷ e.pieces ++ piece tells.Row [] ∷ piece tells.TableEnd [] ∷ [])
+    effect e.page (wrong_at_end OpenTable true p.state ∷ e.pieces ++ piece tells.Row []
+    ∷ piece tells.TableEnd [] ∷ [])
 
 -- a table ends that has no end of its own
 abbrev pub closed_in : Mode → Page → Effect
 closed_in (modes.Passing start) p = effect p []
-closed_in (modes.Plain start) p = effect p (wrong_at_end OpenTable true p.state ∷ piece tells.PlainEnd [] ∷ [])
+closed_in (modes.Plain start) p =
+    effect p (wrong_at_end OpenTable true p.state ∷ piece tells.PlainEnd [] ∷ [])
 closed_in modes.Head p = head_at_end p
 closed_in modes.Rows p = effect p (wrong_at_end OpenTable true p.state ∷ piece tells.TableEnd [] ∷ [])
 closed_in modes.Row p = row_at_end p
@@ -72,12 +77,14 @@ line_closed p = if is_open_in p.state.mode p then read (code "\n") p else effect
 
 abbrev pub finished : Page → Effect
 finished p =
-    if is_begin p.state.mode then effect p (wrong_at_end OpenTable false p.state ∷ []) else and_then (line_closed p) closed
+    if is_begin p.state.mode then effect p (wrong_at_end OpenTable false p.state ∷ [])
+    else and_then (line_closed p) closed
 
 -- ---- the definition: what is said of all bytes of an input, where so many bytes are kept and the line has so many cells
 
 abbrev pub first_page : Limits → ℕ → Page
-first_page limits cells = record { state = first_state cells; limits = limits; kept = []; from = 0; start = 0 }
+first_page limits cells =
+    record { state = first_state cells; limits = limits; kept = []; from = 0; start = 0 }
 
 abbrev pub page_said : Limits → ℕ → List ℕ → List Piece
 page_said limits cells input = (and_then (fed input (first_page limits cells)) finished).pieces

@@ -41,7 +41,8 @@ first_formats columns lines numeric = record {
 -- the key letter of a column: - is _
 abbrev pub kind_of : ℕ → Option ℕ
 kind_of b =
-    if (b == code "l") || (b == code "r") || (b == code "c") || (b == code "n") || (b == code "a") || (b == code "s") || (b == code "^") || (b == code "_") || (b == code "=") then Some b else
+    if (b == code "l") || (b == code "r") || (b == code "c") || (b == code "n") || (b == code "a")
+    || (b == code "s") || (b == code "^") || (b == code "_") || (b == code "=") then Some b else
     if b == code "-" then Some (code "_") else None
 
 -- a line begins
@@ -66,17 +67,21 @@ with_cell kind f =
     }
 
 abbrev pub cell_added : ℕ → Bool → Formats → Told
-cell_added kind begins f = told (with_cell kind f) (record { ends = false; begins = begins; call = Cell kind f.bars })
+cell_added kind begins f =
+    told (with_cell kind f) (record { ends = false; begins = begins; call = Cell kind f.bars })
 
 -- one of l where it can't be of its kind
 abbrev pub kind_added : ℕ → Bool → Formats → Told
-kind_added kind begins f = if is_bad kind f then cell_added (code "l") begins (record f { bad = true }) else cell_added kind begins f
+kind_added kind begins f = if is_bad kind f then cell_added (code "l") begins (record f { bad = true })
+    else cell_added kind begins f
 
 abbrev pub cell : ℕ → Formats → Told
 cell kind f = if f.begun then kind_added kind false f else kind_added kind true (line_begun f)
 
 abbrev pub line_ends : Formats → Told
-line_ends f = if f.begun then told (record f { begun = false; bars = 0 }) (only (Bars f.bars)) else told f (only Nothing)
+line_ends f =
+    if f.begun then told (record f { begun = false; bars = 0 }) (only (Bars f.bars))
+    else told f (only Nothing)
 
 abbrev pub bar : Formats → Told
 bar f = told (record f { bars = one_more f.bars 2 }) (only Nothing)
@@ -133,7 +138,8 @@ cut_short ends b f = ended ends b (record f { bad = true })
 
 -- by the last letter of its name
 abbrev pub font_of : ℕ → ℕ
-font_of b = if (b == code "B") || (b == code "3") then code "B" else if (b == code "I") || (b == code "2") then code "I" else code "R"
+font_of b = if (b == code "B") || (b == code "3") then code "B" else if (b == code "I") || (b == code "2")
+    then code "I" else code "R"
 
 abbrev pub font : ℕ → Formats → Told
 font b f = going_on parts.Keys (Font (font_of b)) f
@@ -176,7 +182,8 @@ in_digits b f = if is_digit b then told f (only (Byte b)) else ended true b f
 abbrev pub in_size : ℕ → Formats → Told
 in_size b f =
     if b == code "(" then going_on parts.SizeIn Nothing f else
-    if (b == code "+") || (b == code "-") || is_digit b then going_on parts.SizeDigits Nothing f else ended false b f
+    if (b == code "+") || (b == code "-") || is_digit b then going_on parts.SizeDigits Nothing f
+    else ended false b f
 
 abbrev pub in_size_digits : ℕ → Formats → Told
 in_size_digits b f = if is_digit b then told f (only Nothing) else ended false b f

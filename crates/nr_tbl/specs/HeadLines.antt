@@ -26,12 +26,14 @@ use Rattle.nr_tbl.specs.declared.widths.Line.{Line}
 -- the table isn't set, and a line ends
 abbrev pub given_up_line : Kind → Page → Effect
 given_up_line kind p =
-    and_then (given_up kind p) (λ q. effect (at_mode (modes.Plain Nothing) q) (piece tells.Pass (code "\n" ∷ []) ∷ []))
+    and_then (given_up kind p)
+    (λ q. effect (at_mode (modes.Plain Nothing) q) (piece tells.Pass (code "\n" ∷ []) ∷ []))
 
 -- `.TE` comes before the formats end
 abbrev pub head_ended : Page → Effect
 head_ended p =
-    and_then (given_up_line NoFormat p) (λ q. effect (at_mode (modes.Passing Nothing) q) (piece tells.PlainEnd [] ∷ []))
+    and_then (given_up_line NoFormat p)
+    (λ q. effect (at_mode (modes.Passing Nothing) q) (piece tells.PlainEnd [] ∷ []))
 
 -- ---- options
 
@@ -103,4 +105,5 @@ formats_line p =
 
 -- a line of options or formats ends
 abbrev pub head_line : Page → Effect
-head_line p = if is_command (code "E") (line_of p) then head_ended p else and_then (options_line p) formats_line
+head_line p =
+    if is_command (code "E") (line_of p) then head_ended p else and_then (options_line p) formats_line

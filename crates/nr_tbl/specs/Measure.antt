@@ -28,11 +28,14 @@ is_printing b = nat_le (code " ") b && nat_le b (code "~")
 -- after a backslash a sign, or nothing: - ' ` . e 0 | ^ & % and a blank
 abbrev pub is_sign : ℕ → Bool
 is_sign b =
-    (b == code "-") || (b == code "'") || (b == code "`") || (b == code ".") || (b == code "e") || (b == code "0") || (b == code "|") || (b == code "^") || (b == code "&") || (b == code "%") || (b == code " ")
+    (b == code "-") || (b == code "'") || (b == code "`") || (b == code ".") || (b == code "e")
+    || (b == code "0") || (b == code "|") || (b == code "^") || (b == code "&") || (b == code "%")
+    || (b == code " ")
 
 -- fonts and characters by name; of a field with another escape nothing is sure
 abbrev pub escaped : ℕ → Place
-escaped b = if b == code "f" then Font else if b == code "(" then First else if is_sign b then Text else Unsure
+escaped b =
+    if b == code "f" then Font else if b == code "(" then First else if is_sign b then Text else Unsure
 
 abbrev pub font : ℕ → Place
 font b = if b == code "(" then First else if b == code "[" then Unsure else Text
@@ -79,7 +82,12 @@ hidden sure = sure
 
 -- Its formats were read. The space between columns isn't sure where a number gives one, or the table is made as wide as the line.
 abbrev pub with_formats : Bool → Widths → Measure → Measure
-with_formats expand w m = record m { gap = if expand || w.numbered then 0 else m.gap; sure = if w.hides then hidden m.sure else m.sure }
+with_formats expand w m =
+    record m {
+      gap = if expand || w.numbered then 0 else m.gap;
+      sure = if w.hides
+          then hidden m.sure else m.sure;
+    }
 
 -- a row begins
 abbrev pub with_row : Measure → Measure

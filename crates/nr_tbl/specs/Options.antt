@@ -20,7 +20,8 @@ is_letter b = (nat_le (code "A") b && nat_le b (code "Z")) || (nat_le (code "a")
 
 -- without effect here
 abbrev pub is_passed : List ℕ → Bool
-is_passed word = is_word word (codes "linesize") || is_word word (codes "delim") || is_word word (codes "nowarn")
+is_passed word =
+    is_word word (codes "linesize") || is_word word (codes "delim") || is_word word (codes "nowarn")
 
 abbrev pub frame_of : List ℕ → Choice
 frame_of word =
@@ -41,7 +42,17 @@ choice_of word =
 
 -- fields are separated by tabs, and the fraction of a number stands after a point
 abbrev pub no_options : Options
-no_options = record { center = false; expand = false; frame = Open; tab = code "\t"; point = code "."; nospaces = false; nokeep = false; unknown = false }
+no_options =
+    record {
+      center = false;
+      expand = false;
+      frame = Open;
+      tab = code "\t";
+      point = code ".";
+      nospaces = false;
+      nokeep = false;
+      unknown = false;
+    }
 
 abbrev pub unknown : Options → Options
 unknown o = record o { unknown = true }
@@ -71,7 +82,11 @@ first_options = record { options = no_options; word = []; spaced = false; inside
 
 -- the word has ended, if there is one
 abbrev pub word_ended : OptionsRead → OptionsRead
-word_ended r = record first_options { options = if length r.word == 0 then r.options else options_with (choice_of r.word) r.argument r.options }
+word_ended r =
+    record first_options {
+      options = if length r.word == 0 then r.options
+          else options_with (choice_of r.word) r.argument r.options;
+    }
 
 abbrev pub with_letter : ℕ → OptionsRead → OptionsRead
 with_letter b r = if is_full r.word then r else record r { word = r.word ++ small b ∷ [] }

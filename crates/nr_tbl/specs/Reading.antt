@@ -59,7 +59,8 @@ kept b p = if b == code "\n" then line_ended p else kept_more (with_kept (b ∷ 
 -- a byte of a line in a text block, of which a part was told
 abbrev pub block_goes_on : ℕ → Page → Effect
 block_goes_on b p =
-    effect (if b == code "\n" then with_state (record p.state { line = p.state.line + 1; mode = modes.Block }) p else p)
+    effect (if b == code "\n"
+    then with_state (record p.state { line = p.state.line + 1; mode = modes.Block }) p else p)
     (piece tells.BlockText (b ∷ []) ∷ [])
 
 -- a byte, by where it stands
@@ -90,7 +91,8 @@ is_kept modes.BlockLine = false
 is_kept mode = true
 
 -- so many of these bytes were taken, one of them at least, and read as if one by one
-pub record Took {A S : Type 0} (shows : A → S → Type 0) (hears : Piece → S → S) (bytes : List ℕ) (p q : Page) (old new : A) (n : ℕ) : Type 0 where
+pub record Took {A S : Type 0} (shows : A → S → Type 0) (hears : Piece → S → S) (bytes : List ℕ) (p q : Page)
+    (old new : A) (n : ℕ) : Type 0 where
   pub some : 0 < n
   pub within : n ≤ length bytes
   pub page : q ≡ (fed (take n bytes) p).page
@@ -107,4 +109,5 @@ lines_on n p = with_state (record p.state { line = p.state.line + n; mode = mode
 -- these lines pass
 abbrev pub AreFree : Lines → List ℕ → Type 0
 AreFree lines bytes =
-    (p : Page) → fed (take lines.len bytes) (at_mode (modes.Passing Nothing) p) ≡ effect (lines_on lines.count p) (each tells.Pass (take lines.len bytes))
+    (p : Page) → fed (take lines.len bytes) (at_mode (modes.Passing Nothing) p)
+    ≡ effect (lines_on lines.count p) (each tells.Pass (take lines.len bytes))

@@ -82,7 +82,8 @@ next_said len p = field_said p.state (drop p.from (take (p.start + len) p.kept))
 
 -- the page behind it
 abbrev pub behind_field : ℕ → Page → Page
-behind_field len p = record p { state = (next_said len p).state; from = p.start + len + 1; start = p.start + len + 1 }
+behind_field len p =
+    record p { state = (next_said len p).state; from = p.start + len + 1; start = p.start + len + 1 }
 
 abbrev pub ended_at : Option ℕ → (Page → Effect) → Page → Effect
 ended_at None more p = effect p []
@@ -130,7 +131,8 @@ comments p = is_beyond p.state && is_comment (trimmed p.state (rest_of p))
 abbrev pub line_continued : Bool → Page → Effect
 line_continued alone p =
     if alone && not (comments p)
-    then (let kept = take (length p.kept - 1) p.kept in effect (at_mode modes.Row (record p { kept = kept; start = length kept })) [])
+    then (let kept = take (length p.kept - 1) p.kept in
+    effect (at_mode modes.Row (record p { kept = kept; start = length kept })) [])
     else rest_told p
 
 -- two backslashes in it stand for one
@@ -152,14 +154,16 @@ table_ended p =
 abbrev pub line_between : Page → Effect
 line_between p =
     if is_command (code "E") p.kept then table_ended p else
-    if is_command (code "&") p.kept then effect (forgotten (with_state (formats_begun p.state) p)) (piece tells.Formats [] ∷ []) else
+    if is_command (code "&") p.kept then effect (forgotten (with_state (formats_begun p.state) p))
+    (piece tells.Formats [] ∷ []) else
     if is_request p.kept then effect (forgotten p) (piece tells.Request p.kept ∷ []) else row_line p
 
 -- ---- lines that are too long
 
 -- `.TE`, so far: the rest of the line passes
 abbrev pub long_end : Page → Effect
-long_end p = effect (forgotten (at_mode (modes.Passing Other) p)) (piece tells.TableEnd [] ∷ each tells.Pass p.kept)
+long_end p =
+    effect (forgotten (at_mode (modes.Passing Other) p)) (piece tells.TableEnd [] ∷ each tells.Pass p.kept)
 
 abbrev pub row_so_far : State → List Piece
 row_so_far s = if nat_lt 0 s.fields then piece tells.Row [] ∷ [] else []
@@ -168,4 +172,6 @@ row_so_far s = if nat_lt 0 s.fields then piece tells.Row [] ∷ [] else []
 abbrev pub row_overflown : Page → Effect
 row_overflown p =
     effect (forgotten (at_mode (modes.Plain Other) p))
-    (row_so_far p.state ++ (wrong RowLimit p.state ∷ piece tells.Plain [] ∷ each tells.Pass (code "\\" ∷ code "&" ∷ rest_of p)))
+    (row_so_far p.state
+    ++ (wrong RowLimit p.state ∷ piece tells.Plain [] ∷ each tells.Pass
+    (code "\\" ∷ code "&" ∷ rest_of p)))

@@ -25,7 +25,8 @@ Ends (Some q) None = ⊥
 Ends (Some q) (Some t) = t.bytes ≡ []
 
 -- so many bytes came, and were read
-pub record Took {A S : Type 0} (shows : A → S → Type 0) (hears : Piece → S → S) (a b : Option Supply) (p q : Page) (old new : A) (n : ℕ) : Type 0 where
+pub record Took {A S : Type 0} (shows : A → S → Type 0) (hears : Piece → S → S) (a b : Option Supply)
+    (p q : Page) (old new : A) (n : ℕ) : Type 0 where
   pub bytes : List ℕ
   pub came : Came a bytes b
   pub count : length bytes ≡ n
@@ -35,13 +36,15 @@ pub record Took {A S : Type 0} (shows : A → S → Type 0) (hears : Piece → S
   pub lines : q.state.line ≤ p.state.line + n
 
 -- the end came
-pub record Ended {A S : Type 0} (shows : A → S → Type 0) (hears : Piece → S → S) (a b : Option Supply) (p q : Page) (old new : A) : Type 0 where
+pub record Ended {A S : Type 0} (shows : A → S → Type 0) (hears : Piece → S → S) (a b : Option Supply)
+    (p q : Page) (old new : A) : Type 0 where
   pub came : Came a [] b
   pub ends : Ends a b
   pub page : q ≡ (finished p).page
   pub told : Tells shows hears (finished p).pieces old new
 
-abbrev pub Turns : {A S : Type 0} → (A → S → Type 0) → (Piece → S → S) → Option Supply → Option Supply → Page → Page → A → A → Turn → Type 0
+abbrev pub Turns : {A S : Type 0} → (A → S → Type 0) → (Piece → S → S) → Option Supply → Option Supply → Page
+    → Page → A → A → Turn → Type 0
 Turns shows hears a b p q old new (turns.Took n) = Took shows hears a b p q old new n
 Turns shows hears a b p q old new turns.End = Ended shows hears a b p q old new
 Turns shows hears a b p q old new turns.ReadFault = Took shows hears a b p q old new 0
@@ -58,7 +61,8 @@ is_fault turn = false
 -- ---- a run
 
 -- where a run stands that took these bytes
-pub record Stands {A S : Type 0} (shows : A → S → Type 0) (hears : Piece → S → S) (l : Limits) (cells : ℕ) (first supply : Option Supply) (p : Page) (old now : A) (taken : ℕ) : Type 0 where
+pub record Stands {A S : Type 0} (shows : A → S → Type 0) (hears : Piece → S → S) (l : Limits) (cells : ℕ)
+    (first supply : Option Supply) (p : Page) (old now : A) (taken : ℕ) : Type 0 where
   pub bytes : List ℕ
   pub came : Came first bytes supply
   pub count : length bytes ≡ taken
@@ -68,7 +72,8 @@ pub record Stands {A S : Type 0} (shows : A → S → Type 0) (hears : Piece →
   pub lines : p.state.line ≤ taken + 1
 
 -- all bytes came, and what they say was told: sixteen pieces for each at most, and as many more
-pub record IsDone {A S : Type 0} (shows : A → S → Type 0) (hears : Piece → S → S) (l : Limits) (cells : ℕ) (first last : Option Supply) (old new : A) : Type 0 where
+pub record IsDone {A S : Type 0} (shows : A → S → Type 0) (hears : Piece → S → S) (l : Limits) (cells : ℕ)
+    (first last : Option Supply) (old new : A) : Type 0 where
   pub bytes : List ℕ
   pub came : Came first bytes last
   pub ends : Ends first last
@@ -76,7 +81,8 @@ pub record IsDone {A S : Type 0} (shows : A → S → Type 0) (hears : Piece →
   pub few : length (page_said l cells bytes) ≤ 16 * (length bytes + 1)
 
 -- so many bytes came, and what they say was told, but of what is half read
-pub record IsCut {A S : Type 0} (shows : A → S → Type 0) (hears : Piece → S → S) (l : Limits) (cells : ℕ) (first last : Option Supply) (old new : A) (at : ℕ) : Type 0 where
+pub record IsCut {A S : Type 0} (shows : A → S → Type 0) (hears : Piece → S → S) (l : Limits) (cells : ℕ)
+    (first last : Option Supply) (old new : A) (at : ℕ) : Type 0 where
   pub bytes : List ℕ
   pub came : Came first bytes last
   pub count : length bytes ≡ at
@@ -84,16 +90,20 @@ pub record IsCut {A S : Type 0} (shows : A → S → Type 0) (hears : Piece → 
   pub few : length (fed bytes (first_page l cells)).pieces ≤ 16 * length bytes
 
 -- some bytes came, and what they say was told, without the end or with it, to one who could not put all of it out
-pub record IsBroken {A S : Type 0} (shows : A → S → Type 0) (hears : Piece → S → S) (l : Limits) (cells : ℕ) (first last : Option Supply) (old new : A) : Type 0 where
+pub record IsBroken {A S : Type 0} (shows : A → S → Type 0) (hears : Piece → S → S) (l : Limits) (cells : ℕ)
+    (first last : Option Supply) (old new : A) : Type 0 where
   pub bytes : List ℕ
   pub came : Came first bytes last
-  pub told : Tells shows hears (fed bytes (first_page l cells)).pieces old new ⊎ Tells shows hears (page_said l cells bytes) old new
+  pub told : Tells shows hears (fed bytes (first_page l cells)).pieces old new ⊎ Tells shows hears
+      (page_said l cells bytes) old new
   pub few : length (page_said l cells bytes) ≤ 16 * (length bytes + 1)
 
-abbrev pub Ran : {A S : Type 0} → (A → S → Type 0) → (Piece → S → S) → Limits → ℕ → Option Supply → Option Supply → A → A → Outcome → Type 0
+abbrev pub Ran : {A S : Type 0} → (A → S → Type 0) → (Piece → S → S) → Limits → ℕ → Option Supply
+    → Option Supply → A → A → Outcome → Type 0
 Ran shows hears l cells first last old new Done = IsDone shows hears l cells first last old new
 Ran shows hears l cells first last old new (ReadFault at) = IsCut shows hears l cells first last old new at
-Ran shows hears l cells first last old new TooLong = IsCut shows hears l cells first last old new 1099511627776
+Ran shows hears l cells first last old new TooLong =
+    IsCut shows hears l cells first last old new 1099511627776
 Ran shows hears l cells first last old new WriteFault = IsBroken shows hears l cells first last old new
 
 abbrev pub is_write_fault : Outcome → Bool

@@ -60,7 +60,11 @@ abbrev pub passes_line : ℕ → State → Bool
 passes_line cells s = overruns s.measure.sure cells s.measure.left
 
 abbrev pub cells_taken : ℕ → State → State
-cells_taken cells s = record s { measure = if passes_line cells s then told s.measure else taken s.measure.sure cells s.measure }
+cells_taken cells s =
+    record s {
+      measure = if passes_line cells s then told s.measure
+          else taken s.measure.sure cells s.measure;
+    }
 
 -- ---- formats that were read
 
@@ -77,4 +81,9 @@ is_too_wide (Some TooWide) = true
 is_too_wide wrong = false
 
 abbrev pub with_formats : Formats → Line → State → State
-with_formats f line s = record s { formats = f; measure = if is_too_wide (wrong_with f line s) then told s.measure else s.measure }
+with_formats f line s =
+    record s {
+      formats = f;
+      measure = if is_too_wide (wrong_with f line s)
+          then told s.measure else s.measure;
+    }

@@ -9,7 +9,8 @@ begins_table [] = false
 begins_table (a ∷ []) = false
 begins_table (a ∷ b ∷ []) = false
 begins_table (a ∷ b ∷ c ∷ []) = (a == code ".") && (b == code "T") && (c == code "S")
-begins_table (a ∷ b ∷ c ∷ d ∷ rest) = (a == code ".") && (b == code "T") && (c == code "S") && ((d == code "\n") || ends_name d)
+begins_table (a ∷ b ∷ c ∷ d ∷ rest) =
+    (a == code ".") && (b == code "T") && (c == code "S") && ((d == code "\n") || ends_name d)
 
 -- a line of the text is, from the beginning of a line or from the midst of one
 abbrev pub has_table_from : Bool → List ℕ → Bool

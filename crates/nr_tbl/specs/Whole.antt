@@ -21,10 +21,12 @@ abbrev pub LinesPass : Type 0
 LinesPass =
     (line : List ℕ) (p : Page) → is_line line ≡ true
     → fed (with_newline line) (at_mode (modes.Passing Nothing) p)
-    ≡ (let e = line_passed (is_command (code "S") line) p in effect e.page (each tells.Pass (with_newline line) ++ e.pieces))
+    ≡ (let e = line_passed (is_command (code "S") line) p in
+    effect e.page (each tells.Pass (with_newline line) ++ e.pieces))
 
 -- in a table a line that there is room for is read as a whole
 abbrev pub LinesAreRead : Type 0
 LinesAreRead =
-    (line : List ℕ) (p : Page) → is_kept p.state.mode ≡ true → is_line line ≡ true → length p.kept + length line ≤ limit_of p
+    (line : List ℕ) (p : Page) → is_kept p.state.mode ≡ true → is_line line ≡ true
+    → length p.kept + length line ≤ limit_of p
     → fed (with_newline line) p ≡ line_ended (with_kept line p)

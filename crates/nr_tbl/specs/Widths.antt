@@ -51,7 +51,8 @@ with_gap width line = record (with_column width line) { gaps = sum_of line.gaps 
 -- ---- what is called
 
 abbrev pub first_widths : Widths
-first_widths = record { number = Nothing; width = 0; line = no_line; last = no_line; numbered = false; hides = false }
+first_widths =
+    record { number = Nothing; width = 0; line = no_line; last = no_line; numbered = false; hides = false }
 
 -- a width ends: the last of a column counts
 abbrev pub ended : Widths → Widths
@@ -76,7 +77,8 @@ cell_called kind begins w = record (column_begun begins w) { hides = w.hides || 
 
 -- a line ends: the last with a width counts, since a column has the last that is given for it
 abbrev pub line_ended : Widths → Widths
-line_ended w = let line = with_column w.width w.line in record w { width = 0; line = line; last = if line.given then line else w.last }
+line_ended w = let line = with_column w.width w.line in
+    record w { width = 0; line = line; last = if line.given then line else w.last }
 
 -- x and z hide too
 abbrev pub hiding : Widths → Widths

@@ -13,7 +13,8 @@ use super::telling::{Setter, Tell};
 impl Reader {
     /// Something is wrong at the end: of a page that ends with a newline, on the line that this ends.
     fn complains_at_end<S: Setter>(&self, kind: Kind, starts: bool, setter: &mut S)
-        ensures { Tells S.shows S.hears (specs.wrong_at_end kind starts self.now.state ∷ []) setter.old setter.new }
+        ensures { Tells S.shows S.hears (specs.wrong_at_end kind starts self.now.state ∷ []) setter.old
+            setter.new }
     {
         let line = if starts && self.state.line > 1 {
             self.state.line - 1

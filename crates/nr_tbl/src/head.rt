@@ -44,7 +44,8 @@ fn is_dotted(line: &[u8]) -> bool
 /// Tells what formats say, and gives what was read of them with the newline behind them.
 fn tell_formats<S: Setter>(first: Formats, text: &[u8], setter: &mut S) -> Formats
     ensures formats { result ≡ lines.formats_behind first (lines.with_newline text.now) }
-    ensures told { Tells S.shows S.hears (lines.formats_said first (lines.with_newline text.now)) setter.old setter.new }
+    ensures told { Tells S.shows S.hears (lines.formats_said first (lines.with_newline text.now))
+        setter.old setter.new }
 {
     let mut formats = first;
     for byte in text {
@@ -88,7 +89,8 @@ impl Reader {
     fn options_end_at<S: Setter>(&mut self, end: usize, setter: &mut S)
         requires { end < length self.old.kept }
         ensures page { self.new ≡ (lines.options_split (Some end) self.old).page }
-        ensures told { Tells S.shows S.hears (lines.options_split (Some end) self.old).pieces setter.old setter.new }
+        ensures told { Tells S.shows S.hears (lines.options_split (Some end) self.old).pieces setter.old
+            setter.new }
     {
         let options = options_of(&self.kept.as_slice()[..end]);
         self.state.options = options;
@@ -142,7 +144,8 @@ impl Reader {
     /// This is wrong with the formats, or nothing: rows begin with the next line, or the table isn't set.
     fn judges_formats<S: Setter>(&mut self, wrong: Option<Kind>, setter: &mut S)
         ensures page { self.new ≡ (lines.formats_judged wrong self.old).page }
-        ensures told { Tells S.shows S.hears (lines.formats_judged wrong self.old).pieces setter.old setter.new }
+        ensures told { Tells S.shows S.hears (lines.formats_judged wrong self.old).pieces setter.old
+            setter.new }
     {
         match wrong {
             Some(Kind::NoFormat) => self.gives_up_line(Kind::NoFormat, setter),
@@ -158,7 +161,8 @@ impl Reader {
     /// The table isn't set, and a line ends that is kept.
     fn gives_up_line<S: Setter>(&mut self, kind: Kind, setter: &mut S)
         ensures page { self.new ≡ (lines.given_up_line kind self.old).page }
-        ensures told { Tells S.shows S.hears (lines.given_up_line kind self.old).pieces setter.old setter.new }
+        ensures told { Tells S.shows S.hears (lines.given_up_line kind self.old).pieces setter.old
+            setter.new }
     {
         self.gives_up(kind, setter);
         setter.tell(Tell::Pass, b"\n");

@@ -47,7 +47,13 @@ impl Model for Reader {
 
     ghost Value = { Page };
 
-    ghost view = { λ r. record { state = r.state; limits = r.limits; kept = r.kept.items; from = r.from; start = r.start } };
+    ghost view = { λ r. record {
+      state = r.state;
+      limits = r.limits;
+      kept = r.kept.items;
+      from = r.from;
+      start = r.start;
+    } };
 
     ghost invariant = { λ r. (r.limits.formats < r.kept.room) × (r.limits.row < r.kept.room) };
 }
@@ -55,7 +61,8 @@ impl Model for Reader {
 impl Reader {
     /// Takes the memory for what is kept, where the line has so many cells.
     pub fn new(alloc: Global, limits: Limits, cells: usize) -> Result<Reader, AllocError>
-        ensures formats { IfOk result (λ made. made.limits.formats ≡ min limits.formats 18446744073709551614) }
+        ensures formats { IfOk result
+            (λ made. made.limits.formats ≡ min limits.formats 18446744073709551614) }
         ensures row { IfOk result (λ made. made.limits.row ≡ min limits.row 18446744073709551614) }
         ensures line { IfOk result (λ made. made.state.measure.line ≡ cells) }
     {
@@ -190,7 +197,8 @@ impl Reader {
     fn passed_line<S: Setter>(&mut self, start: Start, setter: &mut S)
         requires { self.old.state.line + 1 < 2 ^ 64 }
         ensures page { self.new ≡ (specs.line_passed (begins_command start) self.old).page }
-        ensures told { Tells S.shows S.hears (specs.line_passed (begins_command start) self.old).pieces setter.old setter.new }
+        ensures told { Tells S.shows S.hears (specs.line_passed (begins_command start) self.old).pieces
+            setter.old setter.new }
     {
         self.state.line += 1;
         self.state.mode = Mode::Passing(Start::Nothing);
@@ -217,7 +225,8 @@ impl Reader {
     fn passes_plain_byte<S: Setter>(&mut self, start: Start, byte: u8, setter: &mut S)
         requires { self.old.state.line + 1 < 2 ^ 64 }
         ensures page { self.new ≡ (specs.plain_passed byte start self.old).page }
-        ensures told { Tells S.shows S.hears (specs.plain_passed byte start self.old).pieces setter.old setter.new }
+        ensures told { Tells S.shows S.hears (specs.plain_passed byte start self.old).pieces setter.old
+            setter.new }
     {
         setter.tell(Tell::Pass, &[byte]);
         if byte == b'\n' {
@@ -230,7 +239,8 @@ impl Reader {
     fn passed_plain_line<S: Setter>(&mut self, start: Start, setter: &mut S)
         requires { self.old.state.line + 1 < 2 ^ 64 }
         ensures page { self.new ≡ (specs.plain_line_passed (begins_command start) self.old).page }
-        ensures told { Tells S.shows S.hears (specs.plain_line_passed (begins_command start) self.old).pieces setter.old setter.new }
+        ensures told { Tells S.shows S.hears (specs.plain_line_passed (begins_command start) self.old).pieces
+            setter.old setter.new }
     {
         self.state.line += 1;
         self.state.mode = Mode::Plain(Start::Nothing);
@@ -317,7 +327,8 @@ impl Reader {
     /// A line that was kept ends.
     fn line_ends<S: Setter>(&mut self, setter: &mut S)
         ensures page { self.new ≡ (reading.line_ended_in self.old.state.mode self.old).page }
-        ensures told { Tells S.shows S.hears (reading.line_ended_in self.old.state.mode self.old).pieces setter.old setter.new }
+        ensures told { Tells S.shows S.hears (reading.line_ended_in self.old.state.mode self.old).pieces
+            setter.old setter.new }
     {
         match self.state.mode {
             Mode::Head => self.head_line(setter),

@@ -51,7 +51,8 @@ fn is_alone(alone: bool, byte: u8) -> bool
 
 /// Two backslashes become `\\e`, which stays itself where it is read twice. Tells whether the last one stands alone.
 fn pair_backslashes(kept: &mut FixedVec<u8>, start: usize) -> bool
-    ensures items { kept.new.items ≡ take start kept.old.items ++ specs.paired false (drop start kept.old.items) }
+    ensures items { kept.new.items ≡ take start kept.old.items
+        ++ specs.paired false (drop start kept.old.items) }
     ensures alone { result ≡ specs.open_behind false (drop start kept.old.items) }
     ensures room { kept.new.room ≡ kept.old.room }
 {
@@ -109,7 +110,8 @@ impl State {
     /// A field of text is told.
     fn tell_text<S: Setter>(&mut self, text: &[u8], setter: &mut S)
         ensures state { self.new ≡ (lines.text_said self.old text.now).state }
-        ensures told { Tells S.shows S.hears (lines.text_said self.old text.now).pieces setter.old setter.new }
+        ensures told { Tells S.shows S.hears (lines.text_said self.old text.now).pieces setter.old
+            setter.new }
     {
         let solid = self.solid(text);
         setter.tell(Tell::Field(self.front(text)), solid);
@@ -121,7 +123,8 @@ impl State {
     /// A field of this shape is told.
     fn tell_shape<S: Setter>(&mut self, shape: Shape, text: &[u8], setter: &mut S)
         ensures state { self.new ≡ (lines.shape_said shape self.old text.now).state }
-        ensures told { Tells S.shows S.hears (lines.shape_said shape self.old text.now).pieces setter.old setter.new }
+        ensures told { Tells S.shows S.hears (lines.shape_said shape self.old text.now).pieces setter.old
+            setter.new }
     {
         match shape {
             Shape::Empty => setter.tell(Tell::Mark(Mark::Nothing), b""),
@@ -133,7 +136,8 @@ impl State {
     /// A field in a column is told.
     fn tell_field<S: Setter>(&mut self, text: &[u8], setter: &mut S)
         ensures state { self.new ≡ (lines.field_said self.old text.now).state }
-        ensures told { Tells S.shows S.hears (lines.field_said self.old text.now).pieces setter.old setter.new }
+        ensures told { Tells S.shows S.hears (lines.field_said self.old text.now).pieces setter.old
+            setter.new }
     {
         let text = self.trimmed(text);
         self.tell_shape(shape_of(text), text, setter);
@@ -143,7 +147,8 @@ impl State {
     /// The last field of a row is told; one beyond the columns is text, or nothing.
     pub(crate) fn tell_last<S: Setter>(&mut self, text: &[u8], setter: &mut S)
         ensures state { self.new ≡ (lines.last_said self.old text.now).state }
-        ensures told { Tells S.shows S.hears (lines.last_said self.old text.now).pieces setter.old setter.new }
+        ensures told { Tells S.shows S.hears (lines.last_said self.old text.now).pieces setter.old
+            setter.new }
     {
         if !self.is_beyond() {
             self.tell_field(text, setter);
@@ -233,7 +238,8 @@ impl Reader {
     /// The row goes on in the next line, if the last backslash of this one stands alone, or ends.
     fn goes_on<S: Setter>(&mut self, alone: bool, setter: &mut S)
         ensures page { self.new ≡ (lines.line_continued alone self.old).page }
-        ensures told { Tells S.shows S.hears (lines.line_continued alone self.old).pieces setter.old setter.new }
+        ensures told { Tells S.shows S.hears (lines.line_continued alone self.old).pieces setter.old
+            setter.new }
     {
         if !alone || self.comments() {
             self.tell_rest(setter);

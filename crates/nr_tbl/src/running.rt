@@ -51,7 +51,8 @@ fn take_at_hand<R: Source, S: Setter>(
 ) -> u64
     requires lines { reader.old.state.line + most < 2 ^ 64 }
     requires fits { Fits reader.old }
-    ensures took { specs.Took S.shows S.hears (R.supply input.old) (R.supply input.new) reader.old reader.new setter.old setter.new result }
+    ensures took { specs.Took S.shows S.hears (R.supply input.old) (R.supply input.new) reader.old reader.new
+        setter.old setter.new result }
     ensures few { result ≤ most }
     ensures failures { R.failures input.new ≡ R.failures input.old }
 {
@@ -75,7 +76,8 @@ fn make_turn<R: Source, S: Setter>(
     requires some { 0 < most }
     requires lines { reader.old.state.line + most < 2 ^ 64 }
     requires fits { Fits reader.old }
-    ensures turns { specs.Turns S.shows S.hears (R.supply input.old) (R.supply input.new) reader.old reader.new setter.old setter.new result }
+    ensures turns { specs.Turns S.shows S.hears (R.supply input.old) (R.supply input.new) reader.old
+        reader.new setter.old setter.new result }
     ensures measured { specs.IsMeasured most result }
     ensures failures { R.failures input.new ≡ counted_if (specs.is_fault result) (R.failures input.old) }
 {
@@ -105,7 +107,8 @@ pub fn read_page<R: Source, S: Setter>(
     input: &mut R,
     setter: &mut S,
 ) -> Outcome
-    ensures ran { specs.Ran S.shows S.hears reader.old.limits reader.old.state.measure.line (R.supply input.old) (R.supply input.new) setter.old setter.new result }
+    ensures ran { specs.Ran S.shows S.hears reader.old.limits reader.old.state.measure.line
+        (R.supply input.old) (R.supply input.new) setter.old setter.new result }
     // A read fault is told only where the source failed once, and then always, but where the setter fails too.
     ensures read_faults { specs.TellsReads result (R.failures input.old) (R.failures input.new) }
     ensures write_faults { S.failed setter.new ≡ specs.is_write_fault result }

@@ -23,7 +23,8 @@ fn begins_table(bytes: &[u8]) -> bool
 /// said but that it passes, byte for byte.
 pub fn passes_unchanged(text: &[u8]) -> bool
     ensures value { result ≡ is_untouched text.now }
-    ensures law { IsTrue result → (limits : LimitsValue) (cells : ℕ) → page_said limits cells text.now ≡ each Pass text.now }
+    ensures law { IsTrue result → (limits : LimitsValue) (cells : ℕ)
+        → page_said limits cells text.now ≡ each Pass text.now }
 {
     let mut starts = true;
     for i in 0..text.len() {

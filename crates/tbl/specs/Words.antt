@@ -53,7 +53,9 @@ BeginsWith front word = (rest : List ℕ) × (word ≡ front ++ rest)
 -- the option is none, or it is one and sets nothing
 abbrev pub IsBad : Wrong → List ℕ → Type 0
 IsBad Unknown word = ¬ BeginsWith (codes "-L") word × ¬ BeginsWith (codes "-l") word
-IsBad BadValue word = (BeginsWith (codes "-L") word ⊎ BeginsWith (codes "-l") word) × ((setting : Setting) → Means setting word → ⊥)
+IsBad BadValue word =
+    (BeginsWith (codes "-L") word ⊎ BeginsWith (codes "-l") word)
+    × ((setting : Setting) → Means setting word → ⊥)
 
 -- a job with a number set
 abbrev pub with_number : Which → ℕ → Job → Job

@@ -117,7 +117,8 @@ fn split_option(word: &str) -> Option<(Which, &str)>
 
 /// The number that decimal digits write, if it lies between the two. A sign isn't allowed.
 fn read_limit(digits: &str, least: u64) -> Option<usize>
-    ensures { SomeIff result (IsNumeral 10 digits.now × (least ≤ digits_value 10 digits.now) × (digits_value 10 digits.now ≤ 1048576)) (digits_value 10 digits.now) }
+    ensures { SomeIff result (IsNumeral 10 digits.now × (least ≤ digits_value 10 digits.now)
+        × (digits_value 10 digits.now ≤ 1048576)) (digits_value 10 digits.now) }
 {
     if digits.starts_with('+') {
         return None;
