@@ -33,11 +33,14 @@ unit_bytes Little u = u % 256 ∷ u / 256 ∷ []
 abbrev pub utf16 : Order → ℕ → List ℕ
 utf16 order c =
     if nat_lt c 0x10000 then unit_bytes order c
-    else unit_bytes order (0xD800 + (c - 0x10000) / 0x400) ++ unit_bytes order (0xDC00 + (c - 0x10000) % 0x400)
+    else unit_bytes order (0xD800 + (c - 0x10000) / 0x400)
+    ++ unit_bytes order (0xDC00 + (c - 0x10000) % 0x400)
 
 abbrev pub utf16_all : Order → List ℕ → List ℕ
 utf16_all order [] = []
 utf16_all order (c ∷ cs) = utf16 order c ++ utf16_all order cs
 
 abbrev pub WideIsRead : Type 0
-WideIsRead = (order : Order) (cs : List ℕ) → all_scalars cs ≡ true → text_of (unit_bytes order 0xFEFF ++ utf16_all order cs) ≡ encode_utf8_all cs
+WideIsRead =
+    (order : Order) (cs : List ℕ) → all_scalars cs ≡ true
+    → text_of (unit_bytes order 0xFEFF ++ utf16_all order cs) ≡ encode_utf8_all cs

@@ -18,11 +18,13 @@ is_within first last b = nat_le first b && nat_le b last
 -- the names of Latin-1; any other is read as if none were named
 abbrev pub is_latin1 : List ℕ → Bool
 is_latin1 name =
-    bytes_eq name (codes "latin-1") || bytes_eq name (codes "latin1") || bytes_eq name (codes "iso-8859-1") || bytes_eq name (codes "iso-latin-1")
+    bytes_eq name (codes "latin-1") || bytes_eq name (codes "latin1") || bytes_eq name (codes "iso-8859-1")
+    || bytes_eq name (codes "iso-latin-1")
 
 abbrev pub goes_on : ℕ → Bool
 goes_on b =
-    is_within (code "A") (code "Z") b || is_within (code "a") (code "z") b || is_within (code "0") (code "9") b || (b == code "-")
+    is_within (code "A") (code "Z") b || is_within (code "a") (code "z") b
+    || is_within (code "0") (code "9") b || (b == code "-")
 
 abbrev pub lowered : ℕ → ℕ
 lowered b = if is_within (code "A") (code "Z") b then b + 32 else b

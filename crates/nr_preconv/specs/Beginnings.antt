@@ -41,7 +41,8 @@ definition_alone opens = Rest
 -- `de1` and `am1` are as `de` and `am`
 abbrev pub opened : List ℕ → Opens
 opened name =
-    if (length name == 3) && (slice_index name 2 == code "1") then definition_alone (opened_by (take 2 name)) else
+    if (length name == 3) && (slice_index name 2 == code "1")
+    then definition_alone (opened_by (take 2 name)) else
     if bytes_eq name (codes "nop") then Nop else opened_by name
 
 -- How a name goes out before this byte: that of a definition without its third byte, and that of a condition with a blank

@@ -25,7 +25,8 @@ abbrev pub before_condition : ℕ → Half → Met
 before_condition b h =
     if b == code "\n" then saying b lines.Start h else
     if is_gap b || (b == code "!") then saying b lines.Condition h else
-    if (b == code "n") || (b == code "t") || (b == code "o") || (b == code "e") then saying b lines.Part h else
+    if (b == code "n") || (b == code "t") || (b == code "o") || (b == code "e")
+    then saying b lines.Part h else
     if b == code "v" then saying (code "0") lines.Part h else
     if b == code "d" then asking Defined h else
     if (b == code "c") || (b == code "F") then asking Always h else
@@ -40,7 +41,8 @@ in_number b h =
 abbrev pub in_strings : ℕ → Bool → ℕ → Half → Met
 in_strings delimiter ended b h =
     if b == code "\n" then saying b lines.Start h else
-    if b == delimiter then (if ended then saying b lines.Part h else saying b (lines.Strings delimiter true) h)
+    if b == delimiter
+    then (if ended then saying b lines.Part h else saying b (lines.Strings delimiter true) h)
     else saying b (lines.Strings delimiter ended) h
 
 -- ---- names

@@ -81,22 +81,27 @@ skip h = taken says.Nothing (record h { kept = []; escape = escapes.Skip })
 -- an escape with a number or a text: \h at the beginning of a line may make it hang
 abbrev pub is_measured : ℕ → Bool
 is_measured b =
-    (b == code "h") || (b == code "v") || (b == code "w") || (b == code "l") || (b == code "L") || (b == code "D") || (b == code "b")
+    (b == code "h") || (b == code "v") || (b == code "w") || (b == code "l") || (b == code "L")
+    || (b == code "D") || (b == code "b")
     || (b == code "o") || (b == code "x")
 
 abbrev pub measured : ℕ → Half → Met
 measured b h =
-    if (b == code "h") && may_hang h then going_on b (escapes.Delimiter kinds.Hang) (leaving_hyphens h) else ends_with b (leaving_hyphens h)
+    if (b == code "h") && may_hang h then going_on b (escapes.Delimiter kinds.Hang) (leaving_hyphens h)
+    else ends_with b (leaving_hyphens h)
 
 -- so far to the left the line begins
 abbrev pub hang : Half → Met
 hang h =
-    if is_hang h.spelled then taken (says.Hang h.spelled) (record (without_escape h) { line = lines.Text; before = Character Other }) else ended_kept h
+    if is_hang h.spelled
+    then taken (says.Hang h.spelled) (record (without_escape h)
+    { line = lines.Text; before = Character Other }) else ended_kept h
 
 -- a name that is dropped: colours, families, devices
 abbrev pub is_unnamed : ℕ → Bool
 is_unnamed b =
-    (b == code "m") || (b == code "M") || (b == code "F") || (b == code "O") || (b == code "V") || (b == code "Y")
+    (b == code "m") || (b == code "M") || (b == code "F") || (b == code "O") || (b == code "V")
+    || (b == code "Y")
 
 -- a text that is dropped: the height and slant of letters, devices, new registers
 abbrev pub is_skipped : ℕ → Bool
@@ -174,7 +179,8 @@ behind_backslash b h =
     if b == code "\n" then newline_hidden h else
     if (b == code "\\") && (h.defining || is_stored h.line) then going_on b escapes.Begun h else
     if b == code "\"" then comment (says.Kept (with_byte b h.kept)) h else
-    if (b == code "#") && is_text_line h.line then taken says.Nothing (record h { escape = escapes.Note }) else
+    if (b == code "#") && is_text_line h.line then taken says.Nothing (record h { escape = escapes.Note })
+    else
     if b == code "#" then comment (says.Comment (is_start h.line)) h else
     if waits h.line then made_way h.line h else letter b h
 
@@ -221,9 +227,12 @@ quoted (Some quote) h = ended (says.Kept quote) (placed Other h)
 abbrev pub glyph : Half → Met
 glyph h =
     if is_native h.spelled && not (is_delimited h.escape) then native (glyph_code h.spelled) h else
-    if is_pair (code "*") (code "W") h.spelled && is_translation h.line then ended_kept (record h { dashes = true }) else
-    if is_pair (code "*") (code "W") h.spelled && h.dashes then ended (says.Escape (code "-")) (placed Other h) else
-    if is_pair (code "i") (code "s") h.spelled && is_translation h.line then ended_kept (record h { quotes = true }) else
+    if is_pair (code "*") (code "W") h.spelled && is_translation h.line
+    then ended_kept (record h { dashes = true }) else
+    if is_pair (code "*") (code "W") h.spelled && h.dashes
+    then ended (says.Escape (code "-")) (placed Other h) else
+    if is_pair (code "i") (code "s") h.spelled && is_translation h.line
+    then ended_kept (record h { quotes = true }) else
     if h.quotes && not (is_translation h.line) then quoted (quote_of h.spelled) h else sign h
 
 abbrev pub numbered : Half → Met
@@ -242,7 +251,9 @@ abbrev pub named : Kind → Half → Met
 named kinds.Glyph h = glyph h
 named kinds.Code h = numbered h
 named kinds.Font h = ended (says.Font (font_of h.spelled)) h
-named kinds.Register h = if is_pair (code ".") (code "g") h.spelled then ended (says.Byte (code "1")) (placed Other h) else ended_kept h
+named kinds.Register h =
+    if is_pair (code ".") (code "g") h.spelled then ended (says.Byte (code "1")) (placed Other h)
+    else ended_kept h
 named kinds.Size h = dropped h
 named kinds.Dropped h = dropped h
 named kinds.Identifier h = tested (not (length h.spelled == 0)) h
@@ -304,7 +315,8 @@ delimiter kind b h = if b == code "\n" then abandoned h else going_on b (escapes
 -- ---- names between brackets, in which others may be
 
 abbrev pub bracketed : Kind → ℕ → Half → Met
-bracketed kind b h = if b == code "[" then going_on b (escapes.Nested kind) h else spelled_up_to (code "]") kind b h
+bracketed kind b h =
+    if b == code "[" then going_on b (escapes.Nested kind) h else spelled_up_to (code "]") kind b h
 
 abbrev pub nested : Kind → ℕ → Half → Met
 nested kind b h =
@@ -317,12 +329,14 @@ abbrev pub skipped : ℕ → ℕ → Half → Met
 skipped end b h = if b == code "\n" then abandoned h else if b == end then dropped h else taken says.Nothing h
 
 abbrev pub skip_from : ℕ → Half → Met
-skip_from b h = if b == code "\n" then abandoned h else taken says.Nothing (record h { escape = escapes.Skipped b })
+skip_from b h =
+    if b == code "\n" then abandoned h else taken says.Nothing (record h { escape = escapes.Skipped b })
 
 abbrev pub embedded : Bool → ℕ → Half → Met
 embedded backslash b h =
     if b == code "\n" then abandoned h else
-    if backslash && (b == code "?") then dropped h else taken says.Nothing (record h { escape = escapes.Embedded (b == code "\\") })
+    if backslash && (b == code "?") then dropped h
+    else taken says.Nothing (record h { escape = escapes.Embedded (b == code "\\") })
 
 abbrev pub noted : ℕ → Half → Met
 noted b h = if b == code "\n" then newline_hidden h else taken says.Nothing h

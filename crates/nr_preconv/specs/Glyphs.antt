@@ -16,7 +16,8 @@ is_pair a b (x ∷ y ∷ z ∷ rest) = false
 -- what a table has after a name of two bytes
 abbrev pub looked_up : {T : Type 0} → List (ℕ × ℕ × T) → ℕ → ℕ → Option T
 looked_up [] a b = None
-looked_up (entry ∷ entries) a b = if (entry.0 == a) && (entry.1 == b) then Some entry.2 else looked_up entries a b
+looked_up (entry ∷ entries) a b =
+    if (entry.0 == a) && (entry.1 == b) then Some entry.2 else looked_up entries a b
 
 abbrev pub below_codes : Option ℕ → Option ℕ
 below_codes None = None
@@ -33,7 +34,8 @@ pair_code a b = looked_up PAIRS a b
 -- what a table has after a longer name
 abbrev pub named_in : List (List ℕ × ℕ) → List ℕ → Option ℕ
 named_in [] name = None
-named_in (entry ∷ entries) name = if bytes_eq (before_nul entry.0) name then Some entry.1 else named_in entries name
+named_in (entry ∷ entries) name =
+    if bytes_eq (before_nul entry.0) name then Some entry.1 else named_in entries name
 
 unfoldable pub long_code : List ℕ → Option ℕ
 long_code name = named_in NAMES name
@@ -42,10 +44,13 @@ long_code name = named_in NAMES name
 abbrev pub glyph_code : List ℕ → Option ℕ
 glyph_code name =
     if length name == 2 then pair_code (slice_index name 0) (slice_index name 1) else
-    if nat_lt 4 (length name) && (slice_index name 0 == code "u") then below_codes (number_from 16 0 (drop 1 name)) else
-    if nat_lt 4 (length name) && (slice_index name 0 == code "c") && (slice_index name 1 == code "h") && (slice_index name 2 == code "a") && (slice_index name 3 == code "r")
+    if nat_lt 4 (length name) && (slice_index name 0 == code "u")
+    then below_codes (number_from 16 0 (drop 1 name)) else
+    if nat_lt 4 (length name) && (slice_index name 0 == code "c") && (slice_index name 1 == code "h")
+    && (slice_index name 2 == code "a") && (slice_index name 3 == code "r")
     then code_of (drop 4 name) else
-    if nat_lt 2 (length name) && (slice_index name 1 == code " ") then Some (slice_index name 0) else long_code name
+    if nat_lt 2 (length name) && (slice_index name 1 == code " ") then Some (slice_index name 0)
+    else long_code name
 
 -- its last mark is a stroke through the letter, U+0338
 abbrev pub is_struck : List ℕ → Bool
@@ -54,8 +59,10 @@ is_struck name = nat_le 5 (length name) && bytes_eq (drop (length name - 5) name
 -- the language has it: `hy`, `em`, `bu`, `aq`, `dq`, `rs`
 abbrev pub is_native : List ℕ → Bool
 is_native name =
-    is_pair (code "h") (code "y") name || is_pair (code "e") (code "m") name || is_pair (code "b") (code "u") name
-    || is_pair (code "a") (code "q") name || is_pair (code "d") (code "q") name || is_pair (code "r") (code "s") name
+    is_pair (code "h") (code "y") name || is_pair (code "e") (code "m") name
+    || is_pair (code "b") (code "u") name
+    || is_pair (code "a") (code "q") name || is_pair (code "d") (code "q") name
+    || is_pair (code "r") (code "s") name
 
 -- ---- translations
 

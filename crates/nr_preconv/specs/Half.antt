@@ -31,7 +31,21 @@ left said h = record { half = h; said = said; takes = false }
 
 -- a page begins
 abbrev pub first_half : Half
-first_half = record { line = lines.Start; escape = escapes.Plain; kept = []; spelled = []; name = []; conditional = false; defining = false; dashes = false; quotes = false; manual = false; table = false; before = Character Other }
+first_half =
+    record {
+      line = lines.Start;
+      escape = escapes.Plain;
+      kept = [];
+      spelled = [];
+      name = [];
+      conditional = false;
+      defining = false;
+      dashes = false;
+      quotes = false;
+      manual = false;
+      table = false;
+      before = Character Other;
+    }
 
 -- ---- where a line is read
 

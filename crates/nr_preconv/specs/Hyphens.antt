@@ -72,7 +72,8 @@ turns_hyphens h = h.manual && not h.table
 
 -- after a letter what comes decides; else it goes out as `\-`, after which no line is broken
 abbrev pub hyphen_by : Before → Half → Met
-hyphen_by (Character Letter) h = taken says.Nothing (record h { before = Character Other; escape = escapes.Hyphen; kept = code "-" ∷ [] })
+hyphen_by (Character Letter) h =
+    taken says.Nothing (record h { before = Character Other; escape = escapes.Hyphen; kept = code "-" ∷ [] })
 hyphen_by (Character mark) h = taken (says.Escape (code "-")) (record h { before = Character Other })
 hyphen_by Argument h = taken (says.Byte (code "-")) h
 
@@ -82,7 +83,8 @@ hyphen line h = hyphen_by h.before (record h { line = line })
 -- between letters it stays, and so does one before an escape, which may be that of a font
 abbrev pub behind_hyphen : ℕ → Half → Met
 behind_hyphen b h =
-    if is_ascii_letter b || (b == code "\\") then abandoned h else left (says.Escape (code "-")) (without_escape h)
+    if is_ascii_letter b || (b == code "\\") then abandoned h
+    else left (says.Escape (code "-")) (without_escape h)
 
 -- ---- text lines
 

@@ -50,7 +50,9 @@ word_text c = text_in WORDS c
 
 -- a letter of Latin-1 beyond ASCII
 abbrev pub is_latin_letter : ℕ → Bool
-is_latin_letter c = (c == 170) || (c == 181) || (c == 186) || is_within 192 214 c || is_within 216 246 c || is_within 248 255 c
+is_latin_letter c =
+    (c == 170) || (c == 181) || (c == 186) || is_within 192 214 c || is_within 216 246 c
+    || is_within 248 255 c
 
 -- a mark on the character before it, or a sign without width: it shows nothing
 abbrev pub is_mark : ℕ → Bool
@@ -61,7 +63,8 @@ is_mark c =
 -- a blank beyond ASCII
 abbrev pub is_blank : ℕ → Bool
 is_blank c =
-    (c == 133) || is_within 8192 8202 c || (c == 8232) || (c == 8233) || (c == 8239) || (c == 8287) || (c == 12288)
+    (c == 133) || is_within 8192 8202 c || (c == 8232) || (c == 8233) || (c == 8239) || (c == 8287)
+    || (c == 12288)
 
 abbrev pub or_else : Option ℕ → Option ℕ → Option ℕ
 or_else (Some x) other = Some x
@@ -89,7 +92,8 @@ code_told c =
     codes "<U+"
     ++ (if nat_le 1048576 c then hex_digit (c / 1048576 % 16) ∷ [] else [])
     ++ (if nat_le 65536 c then hex_digit (c / 65536 % 16) ∷ [] else [])
-    ++ hex_digit (c / 4096 % 16) ∷ hex_digit (c / 256 % 16) ∷ hex_digit (c / 16 % 16) ∷ hex_digit (c % 16) ∷ code ">" ∷ []
+    ++ hex_digit (c / 4096 % 16) ∷ hex_digit (c / 256 % 16) ∷ hex_digit (c / 16 % 16)
+    ∷ hex_digit (c % 16) ∷ code ">" ∷ []
 
 -- ---- all together
 

@@ -102,7 +102,8 @@ opening o b h = record h {
 
 -- the name goes out before the byte that ended it
 abbrev pub named_line : ℕ → Half → Met
-named_line b h = left (said_name (opened h.name) h.name b) (record (opening (opened h.name) b h) { name = [] })
+named_line b h =
+    left (said_name (opened h.name) h.name b) (record (opening (opened h.name) b h) { name = [] })
 
 abbrev pub in_name : ℕ → Half → Met
 in_name b h =
@@ -115,7 +116,8 @@ abbrev pub in_rest : ℕ → Half → Met
 in_rest b h = saying b (if b == code "\n" then lines.Start else h.line) h
 
 abbrev pub as_met : Told → Half → Met
-as_met told h = record { half = record h { line = lines.Words told.words }; said = told.said; takes = told.takes }
+as_met told h =
+    record { half = record h { line = lines.Words told.words }; said = told.said; takes = told.takes }
 
 abbrev pub among_words : Words → Class → Said → Half → Met
 among_words words class said h = as_met (met_words class said words) h
@@ -125,7 +127,8 @@ abbrev pub in_words : Words → ℕ → Half → Met
 in_words words b h =
     if (b == code "-") && turns_hyphens h && not (begins_word words) then hyphen (lines.Words words) h else
     if not (b == code "\n") then among_words words (class_of b) (Byte b) (gone_by b h) else
-    if is_ninth words then left (Byte (code "\"")) (record h { line = lines.Request }) else saying b lines.Start h
+    if is_ninth words then left (Byte (code "\"")) (record h { line = lines.Request })
+    else saying b lines.Start h
 
 -- ---- comments and ignored lines: bytes pass as they are
 
@@ -186,7 +189,8 @@ wide_at lines.Braced c h = showing c lines.Text h
 wide_at lines.Condition c h = showing c lines.Text h
 wide_at lines.Control c h = blanks_said lines.Request h
 wide_at lines.Name c h = named_line (code " ") h
-wide_at (lines.Words words) c h = among_words words Other (character_said (lines.Words words) c) (placed (wide_mark c) h)
+wide_at (lines.Words words) c h =
+    among_words words Other (character_said (lines.Words words) c) (placed (wide_mark c) h)
 wide_at (lines.Asked asked) c h = in_asked asked (code "?") h
 wide_at line c h = showing c line h
 

@@ -47,7 +47,8 @@ abbrev pub is_as_is_at : Line → ℕ → Half → Bool
 is_as_is_at lines.Request b h = true
 is_as_is_at lines.Text b h = not (turns_hyphens h) || not (b == code "-")
 is_as_is_at lines.Start b h = not (is_control b) && (not (turns_hyphens h) || not (b == code "-"))
-is_as_is_at (lines.Words words) b h = not (b == code "\n") && not (b == code "-") && goes_on_with (class_of b) words
+is_as_is_at (lines.Words words) b h =
+    not (b == code "\n") && not (b == code "-") && goes_on_with (class_of b) words
 is_as_is_at line b h = false
 
 abbrev pub is_as_is : ℕ → Half → Bool

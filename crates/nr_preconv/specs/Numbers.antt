@@ -8,7 +8,8 @@ is_within first last b = nat_le first b && nat_le b last
 -- a digit, a sign, a dot, a parenthesis or a place begins a number
 abbrev pub begins_number : ℕ → Bool
 begins_number b =
-    is_within (code "0") (code "9") b || (b == code "(") || (b == code "+") || (b == code "-") || (b == code ".") || (b == code "|")
+    is_within (code "0") (code "9") b || (b == code "(") || (b == code "+") || (b == code "-")
+    || (b == code ".") || (b == code "|")
 
 abbrev pub is_number : List ℕ → Bool
 is_number [] = false

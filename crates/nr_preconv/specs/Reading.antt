@@ -45,7 +45,8 @@ abbrev pub heard_in : ℕ → Coming → Reader → Told
 heard_in zero coming r = told r [] 0
 heard_in (suc n) coming r =
     let m = meet coming r.half in
-    behind (bytes_of r.table m.said) 1 (if m.takes then told (with_half m.half r) [] 0 else heard_in n coming (with_half m.half r))
+    behind (bytes_of r.table m.said) 1 (if m.takes then told (with_half m.half r) [] 0
+    else heard_in n coming (with_half m.half r))
 
 -- six times are enough: an escape that is none, and words that end and begin
 unfoldable pub heard : Coming → Reader → Told
@@ -107,10 +108,12 @@ heard_behind (One a) b r =
     else apart b r
 heard_behind (Two a b) c r =
     if is_tail c
-    then (if nat_lt a 240 then whole ((a % 16) * 4096 + low_six b * 64 + low_six c) r else told (pending_with (Three a b c) r) [] 0)
+    then (if nat_lt a 240 then whole ((a % 16) * 4096 + low_six b * 64 + low_six c) r
+    else told (pending_with (Three a b c) r) [] 0)
     else apart c r
 heard_behind (Three a b c) d r =
-    if is_tail d then whole ((a % 8) * 262144 + low_six b * 4096 + low_six c * 64 + low_six d) r else apart d r
+    if is_tail d then whole ((a % 8) * 262144 + low_six b * 4096 + low_six c * 64 + low_six d) r
+    else apart d r
 
 abbrev pub heard_byte : ℕ → Reader → Told
 heard_byte b r = heard_behind r.pending b r
@@ -118,7 +121,8 @@ heard_byte b r = heard_behind r.pending b r
 -- ---- a byte, and the end
 
 abbrev pub read : ℕ → Reader → Told
-read b r = if is_raw r.half.line then told (with_half (passing b r.half) r) (sent r.table b ∷ []) 1 else heard_byte b r
+read b r = if is_raw r.half.line then told (with_half (passing b r.half) r) (sent r.table b ∷ []) 1
+    else heard_byte b r
 
 -- a name that is half read
 abbrev pub name_left : Line → List ℕ → List ℕ

@@ -56,7 +56,8 @@ Turns old new r s pending left turns.ReadFault = Comes old [] new × (left ≡ p
 
 -- At least one byte and not too many were taken. At most 1536 went out for each, in 24 steps at most, and as many at the end.
 abbrev pub IsMeasured : ℕ → ℕ → ℕ → Turn → Type 0
-IsMeasured most before after (turns.Took n steps) = (0 < n) × (n ≤ most) × (after ≤ before + 1536 * n) × (steps ≤ 24 * n)
+IsMeasured most before after (turns.Took n steps) =
+    (0 < n) × (n ≤ most) × (after ≤ before + 1536 * n) × (steps ≤ 24 * n)
 IsMeasured most before after (turns.End steps) = (after ≤ before + 1536) × (steps ≤ 24)
 IsMeasured most before after turns.ReadFault = after ≤ before
 
@@ -67,7 +68,8 @@ is_fault turn = false
 -- ---- a run
 
 -- where a run stands that took these bytes, in so many steps: what they come to went out, or is pending
-pub record Stands (table : Option Table) (first supply : Option Supply) (held new : Option (List ℕ)) (pending : List ℕ) (r : Reader) (taken steps : ℕ) : Type 0 where
+pub record Stands (table : Option Table) (first supply : Option Supply) (held new : Option (List ℕ))
+    (pending : List ℕ) (r : Reader) (taken steps : ℕ) : Type 0 where
   pub bytes : List ℕ
   pub came : Comes first bytes supply
   pub count : length bytes ≡ taken
@@ -80,7 +82,8 @@ pub record Stands (table : Option Table) (first supply : Option Supply) (held ne
 
 -- All bytes came, and what they come to went out, at most 1536 bytes for each and as many more, and none that may not go out. That took so many steps, at most
 -- six for each byte.
-pub record IsDone (table : Option Table) (first last : Option Supply) (held new : Option (List ℕ)) (steps : ℕ) : Type 0 where
+pub record IsDone (table : Option Table) (first last : Option Supply) (held new : Option (List ℕ))
+    (steps : ℕ) : Type 0 where
   pub bytes : List ℕ
   pub came : Comes first bytes last
   pub ends : Ends first last
@@ -91,7 +94,8 @@ pub record IsDone (table : Option Table) (first last : Option Supply) (held new 
   pub quick : steps ≤ 6 * length bytes
 
 -- so many bytes came, and what they come to went out but for what is half read; that took so many steps
-pub record IsCut (table : Option Table) (first last : Option Supply) (held new : Option (List ℕ)) (at steps : ℕ) : Type 0 where
+pub record IsCut (table : Option Table) (first last : Option Supply) (held new : Option (List ℕ))
+    (at steps : ℕ) : Type 0 where
   pub bytes : List ℕ
   pub came : Comes first bytes last
   pub count : length bytes ≡ at
@@ -101,14 +105,16 @@ pub record IsCut (table : Option Table) (first last : Option Supply) (held new :
   pub quick : steps ≤ 6 * length bytes
 
 -- some bytes came, and a prefix of what they come to went out; that took so many steps
-pub record IsBroken (table : Option Table) (first last : Option Supply) (held new : Option (List ℕ)) (steps : ℕ) : Type 0 where
+pub record IsBroken (table : Option Table) (first last : Option Supply) (held new : Option (List ℕ))
+    (steps : ℕ) : Type 0 where
   pub bytes : List ℕ
   pub came : Comes first bytes last
   pub went_out : AppendsFront held new (converted table bytes)
   pub shown : AllPass (may_go_out table) (converted table bytes)
   pub quick : steps ≤ 6 * length bytes
 
-abbrev pub Ran : Option Table → Option Supply → Option Supply → Option (List ℕ) → Option (List ℕ) → ℕ → Outcome → Type 0
+abbrev pub Ran : Option Table → Option Supply → Option Supply → Option (List ℕ) → Option (List ℕ)
+    → ℕ → Outcome → Type 0
 Ran table first last held new steps Done = IsDone table first last held new steps
 Ran table first last held new steps (ReadFault at) = IsCut table first last held new at steps
 Ran table first last held new steps TooLong = IsCut table first last held new 1099511627776 steps

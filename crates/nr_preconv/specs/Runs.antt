@@ -16,7 +16,9 @@ use Rattle.nr_preconv.specs.Words.{class_of, goes_on_with, begins_word}
 
 -- a printing byte that is neither a hyphen nor a backslash
 abbrev pub goes_on_text : ℕ → Bool
-goes_on_text b = is_within (code " ") (code ",") b || is_within (code ".") (code "[") b || is_within (code "]") (code "~") b
+goes_on_text b =
+    is_within (code " ") (code ",") b || is_within (code ".") (code "[") b
+    || is_within (code "]") (code "~") b
 
 abbrev pub goes_on_word : Words → ℕ → Bool
 goes_on_word words b = goes_on_text b && goes_on_with (class_of b) words
@@ -45,7 +47,8 @@ abbrev pub dotted_len : List ℕ → ℕ
 dotted_len [] = 0
 dotted_len (a ∷ []) = 0
 dotted_len (a ∷ first ∷ bs) =
-    if (a == code ".") && not (first == code ".") then min (prefix_len goes_on_name (first ∷ bs)) capacity else 0
+    if (a == code ".") && not (first == code ".") then min (prefix_len goes_on_name (first ∷ bs)) capacity
+    else 0
 
 abbrev pub is_start : Line → Bool
 is_start lines.Start = true

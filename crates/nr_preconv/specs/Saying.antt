@@ -11,8 +11,10 @@ use Rattle.nr_preconv.specs.Likeness.{byte_in_force, likeness, struck_like}
 abbrev pub arguments : Bool → Bool → List ℕ
 arguments false false = codes "\\$1 \\$2 \\$3 \\$4 \\$5 \\$6 \\$7 \\$8 \\$9"
 arguments true false = codes "\\\\$1 \\\\$2 \\\\$3 \\\\$4 \\\\$5 \\\\$6 \\\\$7 \\\\$8 \\\\$9"
-arguments false true = codes "\"\\$1\" \"\\$2\" \"\\$3\" \"\\$4\" \"\\$5\" \"\\$6\" \"\\$7\" \"\\$8\" \"\\$9\""
-arguments true true = codes "\"\\\\$1\" \"\\\\$2\" \"\\\\$3\" \"\\\\$4\" \"\\\\$5\" \"\\\\$6\" \"\\\\$7\" \"\\\\$8\" \"\\\\$9\""
+arguments false true =
+    codes "\"\\$1\" \"\\$2\" \"\\$3\" \"\\$4\" \"\\$5\" \"\\$6\" \"\\$7\" \"\\$8\" \"\\$9\""
+arguments true true =
+    codes "\"\\\\$1\" \"\\\\$2\" \"\\\\$3\" \"\\\\$4\" \"\\\\$5\" \"\\\\$6\" \"\\\\$7\" \"\\\\$8\" \"\\\\$9\""
 
 abbrev pub is_some : Option ℕ → Bool
 is_some None = false

@@ -23,5 +23,6 @@ CommentsAreUnread = (r : Reader) (text : List ℕ) → r.half.line ≡ lines.Com
 
 -- after an ignored line that does not begin with two dots stands what stood before it
 abbrev pub IgnoredLinesAreUnread : Type 0
-IgnoredLinesAreUnread = (r : Reader) (text : List ℕ) → r.half.line ≡ lines.Ignored dots.Start → is_in_line text ≡ true → begins_with_dots text ≡ false
+IgnoredLinesAreUnread = (r : Reader) (text : List ℕ) → r.half.line ≡ lines.Ignored dots.Start
+    → is_in_line text ≡ true → begins_with_dots text ≡ false
     → (fed r (text ++ code "\n" ∷ [])).reader ≡ r

@@ -63,7 +63,11 @@ font_said w = turned w.fonts w.second
 abbrev pub begun : Words → Told
 begun w =
     if nat_le 9 w.count
-    then record { words = record { fonts = w.fonts; count = 9; second = not w.second; place = Begun }; said = font_said w; takes = false }
+    then record {
+      words = record { fonts = w.fonts; count = 9; second = not w.second; place = Begun };
+      said = font_said w;
+      takes = false;
+    }
     else record {
       words = record { fonts = w.fonts; count = w.count + 1; second = not w.second; place = Begun };
       said = if w.count == 8 then Byte (code "\"") else Nothing;

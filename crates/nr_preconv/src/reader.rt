@@ -360,7 +360,8 @@ impl Reader {
         ensures few { result ≤ 32 }
         ensures within { 0 < result → result + 1 ≤ length bytes.now }
         ensures none { result ≡ 0 → self.new ≡ self.old }
-        ensures named { 0 < result → specs.fed self.old (take (result + 1) bytes.now) ≡ specs.told self.new dot (result + 1) }
+        ensures named { 0 < result → specs.fed self.old (take (result + 1) bytes.now)
+            ≡ specs.told self.new dot (result + 1) }
     {
         if !matches!(self.pending, Pending::Nothing) {
             return 0;
@@ -379,7 +380,8 @@ impl Reader {
         requires some { 0 < length bytes.now }
         requires few { length bytes.now ≤ 1536 }
         requires room { length out.old.items + 1536 ≤ out.old.room }
-        ensures taken { specs.Takes result.count bytes.now self.old self.new out.old.items out.new.items result.steps }
+        ensures taken { specs.Takes result.count bytes.now self.old self.new out.old.items out.new.items
+            result.steps }
         ensures within { result.count ≤ length bytes.now }
         ensures some { 0 < result.count }
         ensures few { length out.new.items ≤ length out.old.items + 1536 * result.count }
@@ -410,7 +412,8 @@ impl Reader {
     /// Tells how many, and in how many steps.
     pub(crate) fn take(&mut self, bytes: &[u8], out: &mut SliceVec<'_, u8>) -> Taken
         requires { length bytes.now ≤ 1536 }
-        ensures taken { specs.Takes result.count bytes.now self.old self.new out.old.items out.new.items result.steps }
+        ensures taken { specs.Takes result.count bytes.now self.old self.new out.old.items out.new.items
+            result.steps }
         ensures within { result.count ≤ length bytes.now }
         ensures few { length out.new.items ≤ length out.old.items + 1536 * result.count }
         ensures quick { result.steps ≤ 24 * result.count }

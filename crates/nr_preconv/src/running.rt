@@ -60,7 +60,8 @@ fn put_pending<W: Sink>(out: &mut SliceVec<'_, u8>, output: &mut W) -> Result<()
 /// Room is made for what one turn says: where there is none, all that is pending goes out.
 fn make_room<W: Sink>(out: &mut SliceVec<'_, u8>, output: &mut W) -> Result<(), Fault>
     requires { 1536 ≤ out.old.room }
-    ensures ok { OnOk result (specs.Flushes (W.held output.old) (W.held output.new) out.old.items out.new.items) }
+    ensures ok { OnOk result (specs.Flushes (W.held output.old) (W.held output.new) out.old.items
+        out.new.items) }
     ensures err { specs.FrontAtErr result (W.held output.old) (W.held output.new) out.old.items }
     ensures fits { OnOk result (length out.new.items + 1536 ≤ out.new.room) }
     ensures failures { W.failures output.new ≡ put_counted (W.failures output.old) result }
@@ -80,7 +81,8 @@ fn take_some<R: Source>(
     most: u64,
 ) -> Taken
     requires { length out.old.items + 1536 ≤ out.old.room }
-    ensures took { specs.Took (R.supply input.old) (R.supply input.new) reader.old reader.new out.old.items out.new.items result.count result.steps }
+    ensures took { specs.Took (R.supply input.old) (R.supply input.new) reader.old reader.new out.old.items
+        out.new.items result.count result.steps }
     ensures few { result.count ≤ most }
     ensures grown { length out.new.items ≤ length out.old.items + 1536 * result.count }
     ensures quick { result.steps ≤ 24 * result.count }
@@ -103,7 +105,8 @@ fn make_turn<R: Source>(
 ) -> Turn
     requires room { length out.old.items + 1536 ≤ out.old.room }
     requires some { 0 < most }
-    ensures turns { specs.Turns (R.supply input.old) (R.supply input.new) reader.old reader.new out.old.items out.new.items result }
+    ensures turns { specs.Turns (R.supply input.old) (R.supply input.new) reader.old reader.new out.old.items
+        out.new.items result }
     ensures measured { specs.IsMeasured most (length out.old.items) (length out.new.items) result }
     ensures failures { R.failures input.new ≡ counted_if (specs.is_fault result) (R.failures input.old) }
     ensures room { out.new.room ≡ out.old.room }
@@ -131,7 +134,8 @@ fn make_turn<R: Source>(
 /// The rest goes out, and the run has ended so.
 fn ended<W: Sink>(out: &mut SliceVec<'_, u8>, output: &mut W, outcome: Outcome) -> Outcome
     ensures ends { specs.EndsAs outcome result (W.held output.old) (W.held output.new) out.old.items }
-    ensures failures { specs.is_write_fault outcome ≡ false → W.failures output.new ≡ put_counted_if (specs.is_write_fault result) (W.failures output.old) }
+    ensures failures { specs.is_write_fault outcome ≡ false
+        → W.failures output.new ≡ put_counted_if (specs.is_write_fault result) (W.failures output.old) }
 {
     match put_pending(out, output) {
         Ok(()) => outcome,
@@ -150,9 +154,11 @@ fn run<R: Source, W: Sink>(
     requires first { reader.old ≡ first_reader reader.old.table }
     requires room { 1536 ≤ out.old.room }
     requires empty { out.old.items ≡ [] }
-    ensures ran { specs.Ran reader.old.table (R.supply input.old) (R.supply input.new) (W.held output.old) (W.held output.new) steps.new result }
+    ensures ran { specs.Ran reader.old.table (R.supply input.old) (R.supply input.new) (W.held output.old)
+        (W.held output.new) steps.new result }
     ensures read_faults { specs.TellsReads result (R.failures input.old) (R.failures input.new) }
-    ensures write_faults { W.failures output.new ≡ put_counted_if (specs.is_write_fault result) (W.failures output.old) }
+    ensures write_faults { W.failures output.new ≡ put_counted_if (specs.is_write_fault result)
+        (W.failures output.old) }
 {
     let mut taken = 0;
     *steps = 0;
@@ -194,15 +200,18 @@ pub fn convert<R: Source, W: Sink>(
     steps: &mut u64,
 ) -> Outcome
     requires { 1536 ≤ length buffer.old }
-    ensures ran { specs.Ran table (R.supply input.old) (R.supply input.new) (W.held output.old) (W.held output.new) steps.new result }
+    ensures ran { specs.Ran table (R.supply input.old) (R.supply input.new) (W.held output.old)
+        (W.held output.new) steps.new result }
     // A read fault is told only where the source failed once, and then always, but where the output fails too.
     ensures read_faults { specs.TellsReads result (R.failures input.old) (R.failures input.new) }
-    ensures write_faults { W.failures output.new ≡ put_counted_if (specs.is_write_fault result) (W.failures output.old) }
+    ensures write_faults { W.failures output.new ≡ put_counted_if (specs.is_write_fault result)
+        (W.failures output.old) }
     // What comments and ignored lines have changes nothing of the rest.
     ensures comments { CommentsAreUnread }
     ensures ignored { IgnoredLinesAreUnread }
     // A text in UTF-8 is read as its characters.
-    ensures characters { (cs : List ℕ) → all_scalars cs ≡ true → fed (first_reader table) (encode_utf8_all cs) ≡ read_characters (first_reader table) cs }
+    ensures characters { (cs : List ℕ) → all_scalars cs ≡ true → fed (first_reader table) (encode_utf8_all cs)
+        ≡ read_characters (first_reader table) cs }
 {
     let mut reader = Reader::new(table);
     let mut out = SliceVec::over(buffer);

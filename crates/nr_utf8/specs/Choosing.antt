@@ -23,7 +23,8 @@ if_long c = if nat_lt c 0x800 then 0 else c
 abbrev pub character_of_bytes : ℕ → ℕ → ℕ → ℕ
 character_of_bytes a b c =
     if is_within 0xC2 0xDF a && is_tail b then (a % 32) * 64 + b % 64 else
-    if is_within 0xE0 0xEF a && (is_tail b && is_tail c) then if_long ((a % 16) * 4096 + (b % 64) * 64 + c % 64) else 0
+    if is_within 0xE0 0xEF a && (is_tail b && is_tail c)
+    then if_long ((a % 16) * 4096 + (b % 64) * 64 + c % 64) else 0
 
 -- The character of a name of two bytes that only some tables have (the groff manual, "Using Symbols"), or 0.
 abbrev pub character_named : List (ℕ × ℕ × ℕ) → ℕ → ℕ → ℕ
@@ -34,8 +35,10 @@ character_named (n ∷ ns) a b = if (n.0 == a) && (n.1 == b) then n.2 else chara
 abbrev pub named_at : List (ℕ × ℕ × ℕ) → List ℕ → ℕ → ℕ
 named_at names page at =
     if get_or page at 0 == code "'" then 0xB4 else
-    if get_or page at 0 == code "(" then character_named names (get_or page (at + 1) 0) (get_or page (at + 2) 0) else
-    if (get_or page at 0 == code "[") && (get_or page (at + 3) 0 == code "]") then character_named names (get_or page (at + 1) 0) (get_or page (at + 2) 0) else 0
+    if get_or page at 0 == code "("
+    then character_named names (get_or page (at + 1) 0) (get_or page (at + 2) 0) else
+    if (get_or page at 0 == code "[") && (get_or page (at + 3) 0 == code "]")
+    then character_named names (get_or page (at + 1) 0) (get_or page (at + 2) 0) else 0
 
 -- the character that begins at a place of a page, or is named there, or 0
 abbrev pub character_at : List ℕ → ℕ → ℕ
@@ -91,7 +94,8 @@ looked_at = 65536
 -- what is told of a source with these bytes to come
 abbrev pub Chooses : {E : Type 0} → Option Supply → Result Table E → Type 0
 Chooses None result = ⊤
-Chooses (Some q) (Ok table) = (table ≡ chosen (take looked_at q.bytes)) × IsBest (take looked_at q.bytes) table
+Chooses (Some q) (Ok table) =
+    (table ≡ chosen (take looked_at q.bytes)) × IsBest (take looked_at q.bytes) table
 Chooses (Some q) (Err e) = Unit {0}
 
 -- ---- how it is counted
@@ -104,7 +108,8 @@ abbrev pub covered_by : List ℕ → Table → ℕ
 covered_by counts table = sum_by (λ (c : ℕ). get_or counts c 0) (characters table)
 
 abbrev pub better_by : List ℕ → Table → Table → Table
-better_by counts first second = if nat_lt (covered_by counts first) (covered_by counts second) then second else first
+better_by counts first second =
+    if nat_lt (covered_by counts first) (covered_by counts second) then second else first
 
 abbrev pub fullest_by : List ℕ → Table
 fullest_by counts = better_by counts (better_by counts (better_by counts Latin English) Cyrillic) Greek

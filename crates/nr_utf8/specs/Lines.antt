@@ -42,7 +42,8 @@ is_struck_over (b ∷ c ∷ bs) = (b == 8) && is_underlined c
 -- `_` takes no cell of its own where it underlines
 abbrev pub marks_in : Table → List ℕ → List Mark
 marks_in table [] = []
-marks_in table (b ∷ bs) = (if (b == code "_") && is_struck_over bs then [] else marks_of_byte table b) ++ marks_in table bs
+marks_in table (b ∷ bs) =
+    (if (b == code "_") && is_struck_over bs then [] else marks_of_byte table b) ++ marks_in table bs
 
 -- ---- what goes out
 

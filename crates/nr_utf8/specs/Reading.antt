@@ -29,7 +29,8 @@ then_told t next = behind t.bytes t.strays (next t.reader)
 
 -- nothing was read
 abbrev pub first_reader : Table → Bool → Reader
-first_reader table escapes = record { half = Nothing; underlining = if escapes then Closed else Backspaces; table = table }
+first_reader table escapes =
+    record { half = Nothing; underlining = if escapes then Closed else Backspaces; table = table }
 
 abbrev pub with_half : Half → Reader → Reader
 with_half h r = record r { half = h }
@@ -82,7 +83,9 @@ is_within first last b = nat_le first b && nat_le b last
 
 -- a letter or a digit: nroff underlines no other
 abbrev pub is_underlined : ℕ → Bool
-is_underlined b = is_within (code "0") (code "9") b || is_within (code "A") (code "Z") b || is_within (code "a") (code "z") b
+is_underlined b =
+    is_within (code "0") (code "9") b || is_within (code "A") (code "Z") b
+    || is_within (code "a") (code "z") b
 
 -- a character of ASCII that shows something, a blank, or a newline
 abbrev pub is_shown : ℕ → Bool
@@ -109,7 +112,8 @@ read_behind Nothing b r = fresh b r
 read_behind Underscore b r =
     if b == 8 then told (with_half Backspaced r) [] 0 else then_told (underscore 0 r) (λ s. fresh b s)
 read_behind Backspaced b r =
-    if is_underlined b then told (opened (with_half Nothing r)) (underlined r.underlining b) 0 else then_told (underscore 1 r) (λ s. fresh b s)
+    if is_underlined b then told (opened (with_half Nothing r)) (underlined r.underlining b) 0
+    else then_told (underscore 1 r) (λ s. fresh b s)
 
 abbrev pub read : ℕ → Reader → Told
 read b r = read_behind r.half b r

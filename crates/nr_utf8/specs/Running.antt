@@ -57,7 +57,8 @@ Turns old new r s pending left turns.ReadFault = Comes old [] new × (left ≡ p
 -- At least one byte and not too many were taken. At most 18 went out for each, and as many at the end; at most
 -- two were dropped for each.
 abbrev pub IsMeasured : ℕ → ℕ → ℕ → Turn → Type 0
-IsMeasured most before after (turns.Took n strays) = (0 < n) × (n ≤ most) × (after ≤ before + 18 * n) × (strays ≤ 2 * n)
+IsMeasured most before after (turns.Took n strays) =
+    (0 < n) × (n ≤ most) × (after ≤ before + 18 * n) × (strays ≤ 2 * n)
 IsMeasured most before after (turns.End strays) = (after ≤ before + 18) × (strays ≤ 2)
 IsMeasured most before after turns.ReadFault = after ≤ before
 
@@ -68,7 +69,8 @@ is_fault turn = false
 -- ---- a run
 
 -- where a run stands that took these bytes, of which so many were dropped: what they come to went out, or is pending
-pub record Stands (table : Table) (escapes : Bool) (first supply : Option Supply) (held new : Option (List ℕ)) (pending : List ℕ) (r : Reader) (taken strays : ℕ) : Type 0 where
+pub record Stands (table : Table) (escapes : Bool) (first supply : Option Supply) (held new : Option (List ℕ))
+    (pending : List ℕ) (r : Reader) (taken strays : ℕ) : Type 0 where
   pub bytes : List ℕ
   pub came : Comes first bytes supply
   pub count : length bytes ≡ taken
@@ -81,7 +83,8 @@ pub record Stands (table : Table) (escapes : Bool) (first supply : Option Supply
 
 -- All bytes came, and what they come to went out, at most 18 bytes for each and as many more: a text for a
 -- terminal, in lines of as many cells. So many were dropped.
-pub record IsDone (table : Table) (escapes : Bool) (first last : Option Supply) (held new : Option (List ℕ)) (strays : ℕ) : Type 0 where
+pub record IsDone (table : Table) (escapes : Bool) (first last : Option Supply) (held new : Option (List ℕ))
+    (strays : ℕ) : Type 0 where
   pub bytes : List ℕ
   pub came : Comes first bytes last
   pub ends : Ends first last
@@ -91,7 +94,8 @@ pub record IsDone (table : Table) (escapes : Bool) (first last : Option Supply) 
   pub made : strays ≡ strays_of table escapes bytes
 
 -- so many bytes came, and what they come to went out but for what is half read; so many were dropped
-pub record IsCut (table : Table) (escapes : Bool) (first last : Option Supply) (held new : Option (List ℕ)) (at strays : ℕ) : Type 0 where
+pub record IsCut (table : Table) (escapes : Bool) (first last : Option Supply) (held new : Option (List ℕ))
+    (at strays : ℕ) : Type 0 where
   pub bytes : List ℕ
   pub came : Comes first bytes last
   pub count : length bytes ≡ at
@@ -100,16 +104,20 @@ pub record IsCut (table : Table) (escapes : Bool) (first last : Option Supply) (
   pub made : strays ≡ (fed (first_reader table escapes) bytes).strays
 
 -- some bytes came, and a front of what they come to went out
-pub record IsBroken (table : Table) (escapes : Bool) (first last : Option Supply) (held new : Option (List ℕ)) (strays : ℕ) : Type 0 where
+pub record IsBroken (table : Table) (escapes : Bool) (first last : Option Supply) (held new : Option (List ℕ))
+    (strays : ℕ) : Type 0 where
   pub bytes : List ℕ
   pub came : Comes first bytes last
   pub went_out : AppendsFront held new (converted table escapes bytes)
   pub text : IsText escapes (converted table escapes bytes)
 
-abbrev pub Ran : Table → Bool → Option Supply → Option Supply → Option (List ℕ) → Option (List ℕ) → ℕ → Outcome → Type 0
+abbrev pub Ran : Table → Bool → Option Supply → Option Supply → Option (List ℕ) → Option (List ℕ)
+    → ℕ → Outcome → Type 0
 Ran table escapes first last held new strays Done = IsDone table escapes first last held new strays
-Ran table escapes first last held new strays (ReadFault at) = IsCut table escapes first last held new at strays
-Ran table escapes first last held new strays TooLong = IsCut table escapes first last held new 1099511627776 strays
+Ran table escapes first last held new strays (ReadFault at) =
+    IsCut table escapes first last held new at strays
+Ran table escapes first last held new strays TooLong =
+    IsCut table escapes first last held new 1099511627776 strays
 Ran table escapes first last held new strays WriteFault = IsBroken table escapes first last held new strays
 
 abbrev pub is_read_fault : Outcome → Bool

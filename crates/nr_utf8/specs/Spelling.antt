@@ -71,7 +71,8 @@ abbrev pub Puts : List ℕ → ℕ → List ℕ → ℕ → List ℕ → Type 0
 Puts old from new end bytes = take end new ≡ take from old ++ bytes
 
 -- So many of these bytes were taken, and what they come to was put there.
-pub record Goes (r : Reader) (bytes : List ℕ) (taken : ℕ) (old : List ℕ) (from : ℕ) (new : List ℕ) (end : ℕ) : Type 0 where
+pub record Goes (r : Reader) (bytes : List ℕ) (taken : ℕ) (old : List ℕ) (from : ℕ) (new : List ℕ)
+    (end : ℕ) : Type 0 where
   pub out : List ℕ
   pub comes : fed r (take taken bytes) ≡ told r out 0
   pub put : Puts old from new end out

@@ -21,4 +21,5 @@ bytes_for table (c ∷ text) = joined (byte_for table c) (bytes_for table text)
 
 -- the way through both tables is the text itself, in UTF-8
 abbrev pub TurnsBack : Table → Type 0
-TurnsBack table = (escapes : Bool) (text bytes : List ℕ) → bytes_for table text ≡ Some bytes → converted table escapes bytes ≡ encode_utf8_all text
+TurnsBack table = (escapes : Bool) (text bytes : List ℕ) → bytes_for table text ≡ Some bytes
+    → converted table escapes bytes ≡ encode_utf8_all text

@@ -64,7 +64,8 @@ fn put_pending<W: Sink>(out: &mut SliceVec<'_, u8>, output: &mut W) -> Result<()
 /// Room is made for what one turn says: where there is none, all that is pending goes out.
 fn make_room<W: Sink>(out: &mut SliceVec<'_, u8>, output: &mut W) -> Result<(), Fault>
     requires { 1536 ≤ out.old.room }
-    ensures ok { OnOk result (specs.Flushes (W.held output.old) (W.held output.new) out.old.items out.new.items) }
+    ensures ok { OnOk result (specs.Flushes (W.held output.old) (W.held output.new) out.old.items
+        out.new.items) }
     ensures err { specs.FrontAtErr result (W.held output.old) (W.held output.new) out.old.items }
     ensures fits { OnOk result (length out.new.items + 1536 ≤ out.new.room) }
     ensures failures { W.failures output.new ≡ put_counted (W.failures output.old) result }
@@ -88,7 +89,8 @@ fn take_cells<R: Source>(
     requires room { length out.old.items + 1536 ≤ out.old.room }
     requires spells { Spells reader.now.table 256 spelling.now.all spelling.now.whole }
     requires long { length room.old ≡ 1280 }
-    ensures took { specs.Took (R.supply input.old) (R.supply input.new) reader.now reader.now out.old.items out.new.items result 0 }
+    ensures took { specs.Took (R.supply input.old) (R.supply input.new) reader.now reader.now out.old.items
+        out.new.items result 0 }
     ensures few { (result ≤ 320) × (result ≤ most) }
     ensures grown { length out.new.items ≤ length out.old.items + 4 * result }
     ensures failures { R.failures input.new ≡ R.failures input.old }
@@ -114,7 +116,8 @@ fn take_next<R: Source>(
 ) -> Turn
     requires room { length out.old.items + 1536 ≤ out.old.room }
     requires some { 0 < most }
-    ensures turns { specs.Turns (R.supply input.old) (R.supply input.new) reader.old reader.new out.old.items out.new.items result }
+    ensures turns { specs.Turns (R.supply input.old) (R.supply input.new) reader.old reader.new out.old.items
+        out.new.items result }
     ensures measured { specs.IsMeasured most (length out.old.items) (length out.new.items) result }
     ensures failures { R.failures input.new ≡ counted_if (specs.is_fault result) (R.failures input.old) }
     ensures room { out.new.room ≡ out.old.room }
@@ -145,7 +148,8 @@ fn make_turn<R: Source>(
     requires some { 0 < most }
     requires spells { Spells reader.old.table 256 spelling.now.all spelling.now.whole }
     requires long { length room.old ≡ 1280 }
-    ensures turns { specs.Turns (R.supply input.old) (R.supply input.new) reader.old reader.new out.old.items out.new.items result }
+    ensures turns { specs.Turns (R.supply input.old) (R.supply input.new) reader.old reader.new out.old.items
+        out.new.items result }
     ensures measured { specs.IsMeasured most (length out.old.items) (length out.new.items) result }
     ensures failures { R.failures input.new ≡ counted_if (specs.is_fault result) (R.failures input.old) }
     ensures room { out.new.room ≡ out.old.room }
@@ -163,7 +167,8 @@ fn make_turn<R: Source>(
 /// The rest goes out, and the run has ended so.
 fn ended<W: Sink>(out: &mut SliceVec<'_, u8>, output: &mut W, outcome: Outcome) -> Outcome
     ensures ends { specs.EndsAs outcome result (W.held output.old) (W.held output.new) out.old.items }
-    ensures failures { specs.is_write_fault outcome ≡ false → W.failures output.new ≡ put_counted_if (specs.is_write_fault result) (W.failures output.old) }
+    ensures failures { specs.is_write_fault outcome ≡ false
+        → W.failures output.new ≡ put_counted_if (specs.is_write_fault result) (W.failures output.old) }
 {
     match put_pending(out, output) {
         Ok(()) => outcome,
@@ -182,9 +187,11 @@ fn run<R: Source, W: Sink>(
 ) -> Outcome
     requires room { 1536 ≤ out.old.room }
     requires empty { out.old.items ≡ [] }
-    ensures ran { specs.Ran table escapes (R.supply input.old) (R.supply input.new) (W.held output.old) (W.held output.new) strays.new result }
+    ensures ran { specs.Ran table escapes (R.supply input.old) (R.supply input.new) (W.held output.old)
+        (W.held output.new) strays.new result }
     ensures read_faults { specs.TellsReads result (R.failures input.old) (R.failures input.new) }
-    ensures write_faults { W.failures output.new ≡ put_counted_if (specs.is_write_fault result) (W.failures output.old) }
+    ensures write_faults { W.failures output.new ≡ put_counted_if (specs.is_write_fault result)
+        (W.failures output.old) }
 {
     let spelling = Spelling::new(table);
     let mut room = [0; 4 * CELLS];
@@ -239,10 +246,12 @@ pub fn convert<R: Source, W: Sink>(
     strays: &mut u64,
 ) -> Outcome
     requires { 1536 ≤ length buffer.old }
-    ensures ran { specs.Ran table escapes (R.supply input.old) (R.supply input.new) (W.held output.old) (W.held output.new) strays.new result }
+    ensures ran { specs.Ran table escapes (R.supply input.old) (R.supply input.new) (W.held output.old)
+        (W.held output.new) strays.new result }
     // A read fault is told only where the source failed once, and then always, but where the output fails too.
     ensures read_faults { specs.TellsReads result (R.failures input.old) (R.failures input.new) }
-    ensures write_faults { W.failures output.new ≡ put_counted_if (specs.is_write_fault result) (W.failures output.old) }
+    ensures write_faults { W.failures output.new ≡ put_counted_if (specs.is_write_fault result)
+        (W.failures output.old) }
 {
     let mut out = SliceVec::over(buffer);
     run(table, escapes, input, output, &mut out, strays)

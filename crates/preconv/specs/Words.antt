@@ -32,7 +32,8 @@ with_table place (Some table) next = next table
 abbrev pub asked_from : Bool → Option Table → ℕ → List (List ℕ) → Result Job Wrong
 asked_from true table place [] = Err NoTable
 asked_from false table place [] = job table place
-asked_from true table place (name ∷ words) = with_table place (table_named name) (λ t. asked_from false (Some t) (place + 1) words)
+asked_from true table place (name ∷ words) =
+    with_table place (table_named name) (λ t. asked_from false (Some t) (place + 1) words)
 asked_from false table place (word ∷ words) =
     if not (is_option word) then job table place else
     if bytes_eq word (codes "-8") then asked_from false (Some Latin1) (place + 1) words else

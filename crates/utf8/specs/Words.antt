@@ -45,7 +45,8 @@ asked [] = Err NoTable
 asked (word ∷ words) =
     if bytes_eq word (codes "--version") then Ok Version else
     if bytes_eq word (codes "--choose") then choice_asked (word ∷ words) else
-    if bytes_eq word (codes "-c") then table_asked true 1 (word ∷ words) else table_asked false 0 (word ∷ words)
+    if bytes_eq word (codes "-c") then table_asked true 1 (word ∷ words)
+    else table_asked false 0 (word ∷ words)
 
 -- no place lies behind that of the last of so many words, but that of the first file where there is none
 abbrev pub IsWithin : ℕ → Result Job Wrong → Type 0
