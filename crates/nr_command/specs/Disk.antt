@@ -7,7 +7,8 @@ use Rattle.nr_command.specs.declared.disk.Text.{Text}
 use Rattle.nr_command.specs.declared.disk.Text.TheVariants.{File, Standard}
 
 -- the bytes that are left of a text, where they are known
-abbrev pub left_of : {F I : Type 0} → (F → Option (List ℕ)) → (I → Option (List ℕ)) → Text F I → Option (List ℕ)
+abbrev pub left_of : {F I : Type 0} → (F → Option (List ℕ)) → (I → Option (List ℕ))
+    → Text F I → Option (List ℕ)
 left_of file standard (File f) = file f
 left_of file standard (Standard i) = standard i
 
@@ -29,7 +30,8 @@ paths_of (ReadsFile name) = name ∷ []
 paths_of ReadsStandard = []
 
 -- Its path was asked for, or it can't be opened and no path was.
-abbrev pub AsksPath : {F I E : Type 0} → Option (List (List ℕ)) → Option (List (List ℕ)) → Reading → Result (Text F I) E → Type 0
+abbrev pub AsksPath : {F I E : Type 0} → Option (List (List ℕ)) → Option (List (List ℕ)) → Reading
+    → Result (Text F I) E → Type 0
 AsksPath asked asked' reading (Ok text) = Asks asked asked' (paths_of reading)
 AsksPath asked asked' reading (Err error) = Asks asked asked' (paths_of reading) ⊎ Asks asked asked' []
 

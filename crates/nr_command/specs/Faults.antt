@@ -31,4 +31,5 @@ line_of WriteFault = codes "nroff: write fault\n"
 -- A line was written whole, or a prefix of it went out where a call failed. The counts are those of the failed calls before and after.
 abbrev pub Tells : Option (List ℕ) → Option (List ℕ) → SinkFailures → SinkFailures → List ℕ → Type 0
 Tells old new before after line =
-    ((after ≡ before) × Appends old new line) ⊎ ((after ≡ put_counted_if true before) × AppendsFront old new line)
+    ((after ≡ before) × Appends old new line) ⊎ ((after ≡ put_counted_if true before)
+    × AppendsFront old new line)

@@ -17,8 +17,10 @@ use Rattle.nr_command.specs.declared.opening.NotRun.TheVariants.{CannotOpen, Out
 
 -- The text that is told as not to be opened is the first that can't be. Where memory is wanting, no text was asked for or each
 -- was.
-abbrev pub IsRefused : (Reading → Opening → Type 0) → Option (List Reading) → Option (List Reading) → List Reading → NotRun → Type 0
-IsRefused may_come asked asked' readings (CannotOpen input) = IsFirstRefused may_come asked asked' readings (reading_of input)
+abbrev pub IsRefused : (Reading → Opening → Type 0) → Option (List Reading) → Option (List Reading)
+    → List Reading → NotRun → Type 0
+IsRefused may_come asked asked' readings (CannotOpen input) =
+    IsFirstRefused may_come asked asked' readings (reading_of input)
 IsRefused may_come asked asked' readings OutOfMemory = Asks asked asked' [] ⊎ Asks asked asked' readings
 
 -- want of memory is told
@@ -29,19 +31,25 @@ lacks_memory (Err OutOfMemory) = true
 
 -- The texts of a job were opened, each once and in order, and a run over them, one after the other, came to this outcome. The
 -- texts live no longer than the run.
-pub record RanOver {T : Type 0} (supply : T → Option Supply) (failures : T → ℕ) (may_come : Reading → Opening → Type 0) (asked asked' : Option (List Reading)) (job : Job) (old new : Option (List ℕ)) (writes writes' : SinkFailures) (passed_on : Bool) (outcome : Outcome) : Type 0 where
+pub record RanOver {T : Type 0} (supply : T → Option Supply) (failures : T → ℕ) (may_come : Reading → Opening
+    → Type 0) (asked asked' : Option (List Reading)) (job : Job) (old new : Option (List ℕ))
+    (writes writes' : SinkFailures) (passed_on : Bool) (outcome : Outcome) : Type 0 where
   -- as they were opened, and as the run left them
   pub texts : List T
   pub left : List T
   pub opened : AreOpen may_come (readings (asked_of job)) (map supply texts)
   pub each : Asks asked asked' (readings (asked_of job))
   -- a read fault is told where a call of one of them failed, and nowhere else
-  pub ran : Ran job.limits job.options (files_supply (map supply texts)) (failures_in failures texts) (failures_in failures left) old new writes writes' outcome
+  pub ran : Ran job.limits job.options (files_supply (map supply texts)) (failures_in failures texts)
+      (failures_in failures left) old new writes writes' outcome
   pub passed : outcome ≢ WriteFault → IsTrue passed_on
 
 -- a job came to this end; where it is not run, nothing was put out
-abbrev pub Ends : {T : Type 0} → (T → Option Supply) → (T → ℕ) → (Reading → Opening → Type 0) → Option (List Reading) → Option (List Reading) → Job → Option (List ℕ) → Option (List ℕ) → SinkFailures → SinkFailures → Bool → Result Outcome NotRun → Type 0
-Ends supply failures may_come asked asked' job old new writes writes' passed_on (Ok outcome) = RanOver supply failures may_come asked asked' job old new writes writes' passed_on outcome
+abbrev pub Ends : {T : Type 0} → (T → Option Supply) → (T → ℕ) → (Reading → Opening → Type 0)
+    → Option (List Reading) → Option (List Reading) → Job → Option (List ℕ) → Option (List ℕ) → SinkFailures
+    → SinkFailures → Bool → Result Outcome NotRun → Type 0
+Ends supply failures may_come asked asked' job old new writes writes' passed_on (Ok outcome) =
+    RanOver supply failures may_come asked asked' job old new writes writes' passed_on outcome
 Ends supply failures may_come asked asked' job old new writes writes' passed_on (Err why) =
     IsRefused may_come asked asked' (readings (asked_of job)) why × (new ≡ old) × (writes' ≡ writes)
 
@@ -58,7 +66,9 @@ line_of_end (Err (CannotOpen input)) = unopened_text (reading_of input)
 line_of_end (Err OutOfMemory) = memory_line
 
 -- The program ran a job: it came to an end, and the status and the line tell which.
-pub record Comes {T : Type 0} (supply : T → Option Supply) (failures : T → ℕ) (may_come : Reading → Opening → Type 0) (asked asked' : Option (List Reading)) (job : Job) (old new : Option (List ℕ)) (writes writes' : SinkFailures) (passed_on : Bool)
+pub record Comes {T : Type 0} (supply : T → Option Supply) (failures : T → ℕ) (may_come : Reading → Opening
+    → Type 0) (asked asked' : Option (List Reading)) (job : Job) (old new : Option (List ℕ))
+    (writes writes' : SinkFailures) (passed_on : Bool)
     (old_line new_line : Option (List ℕ)) (untold untold' : SinkFailures) (status : ℕ) : Type 0 where
   pub end : Result Outcome NotRun
   pub ended : Ends supply failures may_come asked asked' job old new writes writes' passed_on end

@@ -23,14 +23,17 @@ abbrev pub memory_line : List ℕ
 memory_line = codes "nroff: out of memory\n"
 
 -- A run came to this outcome: after so many moves formatting answered, with so much put out, and then the output was flushed.
-pub record Ran (b : Bounds) (options : Options) (supply : Option Supply) (reads reads' : ℕ) (old new : Option (List ℕ)) (writes writes' : SinkFailures) (outcome : Outcome) : Type 0 where
+pub record Ran (b : Bounds) (options : Options) (supply : Option Supply) (reads reads' : ℕ)
+    (old new : Option (List ℕ)) (writes writes' : SinkFailures) (outcome : Outcome) : Type 0 where
   pub formatted : Outcome
   pub moves : ℕ
   pub held : Option (List ℕ)
   pub flush_failed : Bool
-  pub answers : (known : Supply) → supply ≡ Some known → Answers b (start b options known) moves formatted old held
+  pub answers : (known : Supply) → supply ≡ Some known
+      → Answers b (start b options known) moves formatted old held
   pub flushed : Keeps held new
   pub outcome_is : outcome ≡ (if flush_failed then WriteFault else formatted)
   -- each failed call was counted
   pub read_failures : reads' ≡ counted_if (is_read_fault formatted) reads
-  pub write_failures : writes' ≡ flush_counted_if flush_failed (put_counted_if (is_write_fault formatted) writes)
+  pub write_failures : writes' ≡ flush_counted_if flush_failed
+      (put_counted_if (is_write_fault formatted) writes)

@@ -94,7 +94,8 @@ impl<P: Paths, I: Read + Copy + Drop> Disk<P, I> {
     /// The text of that name.
     fn text(&mut self, input: Input<'_>) -> io::Result<Text<P::File, I>>
         ensures text { IsText self.old.standard (reading_of input.entry) result }
-        ensures asked { AsksPath (P.asked self.old.paths) (P.asked self.new.paths) (reading_of input.entry) result }
+        ensures asked { AsksPath (P.asked self.old.paths) (P.asked self.new.paths)
+            (reading_of input.entry) result }
         ensures same { self.new.standard ≡ self.old.standard }
     {
         match input {

@@ -41,8 +41,10 @@ fn put_line<W: Sink>(outcome: &Outcome, errors: &mut W) -> Result<(), Fault>
 
 /// The line of a limit that the next move would pass.
 fn put_limit<W: Sink>(which: Measure, at: u64, errors: &mut W) -> Result<(), Fault>
-    ensures ok { OnOk result (Appends (W.held errors.old) (W.held errors.new) (line_of (Outcome.Limit which at))) }
-    ensures err { OnErr result (AppendsFront (W.held errors.old) (W.held errors.new) (line_of (Outcome.Limit which at))) }
+    ensures ok { OnOk result
+        (Appends (W.held errors.old) (W.held errors.new) (line_of (Outcome.Limit which at))) }
+    ensures err { OnErr result
+        (AppendsFront (W.held errors.old) (W.held errors.new) (line_of (Outcome.Limit which at))) }
     ensures failures { W.failures errors.new ≡ put_counted (W.failures errors.old) result }
 {
     errors.put(b"nroff: ")?;
@@ -53,8 +55,10 @@ fn put_limit<W: Sink>(which: Measure, at: u64, errors: &mut W) -> Result<(), Fau
 
 /// The line of an input that failed.
 fn put_read_fault<W: Sink>(at: u64, errors: &mut W) -> Result<(), Fault>
-    ensures ok { OnOk result (Appends (W.held errors.old) (W.held errors.new) (line_of (Outcome.ReadFault at))) }
-    ensures err { OnErr result (AppendsFront (W.held errors.old) (W.held errors.new) (line_of (Outcome.ReadFault at))) }
+    ensures ok { OnOk result
+        (Appends (W.held errors.old) (W.held errors.new) (line_of (Outcome.ReadFault at))) }
+    ensures err { OnErr result
+        (AppendsFront (W.held errors.old) (W.held errors.new) (line_of (Outcome.ReadFault at))) }
     ensures failures { W.failures errors.new ≡ put_counted (W.failures errors.old) result }
 {
     errors.put(b"nroff: read fault")?;

@@ -32,7 +32,8 @@ pub trait Opener<'b> {
     /// Opens a text. Nothing of it is read yet.
     fn open(&mut self, input: Input<'_>, buffer: &'b mut [u8]) -> io::Result<Self::Text>
         ensures comes { may_come self.old (reading_of input.entry) (opening_of Self.Text.supply result) }
-        ensures stays { (reading : Reading) → (opening : Opening) → may_come self.new reading opening → may_come self.old reading opening }
+        ensures stays { (reading : Reading) → (opening : Opening) → may_come self.new reading opening
+            → may_come self.old reading opening }
         ensures asked { Asks (asked self.old) (asked self.new) (reading_of input.entry ∷ []) };
 }
 
@@ -88,9 +89,12 @@ pub fn open_texts<'a, 'b, O: Opener<'b>, M: Memory>(
     job: &Job<'a>,
     buffers: &'b mut [u8],
 ) -> Result<Vec<O::Text>, NotRun<'a>>
-    ensures all { IfOk result (λ texts. AreOpen (O.may_come opener.old) (readings (asked_of job.now)) (map O.Text.supply texts.items)) }
-    ensures asked { OnOk result (Asks (O.asked opener.old) (O.asked opener.new) (readings (asked_of job.now))) }
-    ensures refused { IfErr result (λ why. IsRefused (O.may_come opener.old) (O.asked opener.old) (O.asked opener.new) (readings (asked_of job.now)) why) }
+    ensures all { IfOk result (λ texts. AreOpen (O.may_come opener.old) (readings (asked_of job.now))
+        (map O.Text.supply texts.items)) }
+    ensures asked { OnOk result
+        (Asks (O.asked opener.old) (O.asked opener.new) (readings (asked_of job.now))) }
+    ensures refused { IfErr result (λ why. IsRefused (O.may_come opener.old) (O.asked opener.old)
+        (O.asked opener.new) (readings (asked_of job.now)) why) }
     ensures memory { M.refusals memory.new ≡ counted_if (lacks_memory result) (M.refusals memory.old) }
 {
     let mut texts = memory.room(text_count(job))?;
@@ -111,8 +115,10 @@ pub fn open_texts<'a, 'b, O: Opener<'b>, M: Memory>(
 ///
 /// `WriteFault` where the sink failed; a prefix of the line went out then.
 pub fn unopened_line<W: Sink>(input: &Input<'_>, errors: &mut W) -> Result<(), WriteFault>
-    ensures ok { OnOk result (Appends (W.held errors.old) (W.held errors.new) (unopened_text (reading_of input.now))) }
-    ensures err { OnErr result (AppendsFront (W.held errors.old) (W.held errors.new) (unopened_text (reading_of input.now))) }
+    ensures ok { OnOk result
+        (Appends (W.held errors.old) (W.held errors.new) (unopened_text (reading_of input.now))) }
+    ensures err { OnErr result
+        (AppendsFront (W.held errors.old) (W.held errors.new) (unopened_text (reading_of input.now))) }
     ensures failures { W.failures errors.new ≡ put_counted (W.failures errors.old) result }
 {
     match put_unopened(input, errors) {
@@ -123,8 +129,10 @@ pub fn unopened_line<W: Sink>(input: &Input<'_>, errors: &mut W) -> Result<(), W
 
 /// The same, with the sink's own error.
 fn put_unopened<W: Sink>(input: &Input<'_>, errors: &mut W) -> Result<(), Fault>
-    ensures ok { OnOk result (Appends (W.held errors.old) (W.held errors.new) (unopened_text (reading_of input.now))) }
-    ensures err { OnErr result (AppendsFront (W.held errors.old) (W.held errors.new) (unopened_text (reading_of input.now))) }
+    ensures ok { OnOk result
+        (Appends (W.held errors.old) (W.held errors.new) (unopened_text (reading_of input.now))) }
+    ensures err { OnErr result
+        (AppendsFront (W.held errors.old) (W.held errors.new) (unopened_text (reading_of input.now))) }
     ensures failures { W.failures errors.new ≡ put_counted (W.failures errors.old) result }
 {
     errors.put(b"nroff: cannot open ")?;
@@ -134,8 +142,10 @@ fn put_unopened<W: Sink>(input: &Input<'_>, errors: &mut W) -> Result<(), Fault>
 
 /// What a text is called.
 fn put_name<W: Sink>(input: &Input<'_>, errors: &mut W) -> Result<(), Fault>
-    ensures ok { OnOk result (Appends (W.held errors.old) (W.held errors.new) (name_of (reading_of input.now))) }
-    ensures err { OnErr result (AppendsFront (W.held errors.old) (W.held errors.new) (name_of (reading_of input.now))) }
+    ensures ok { OnOk result
+        (Appends (W.held errors.old) (W.held errors.new) (name_of (reading_of input.now))) }
+    ensures err { OnErr result
+        (AppendsFront (W.held errors.old) (W.held errors.new) (name_of (reading_of input.now))) }
     ensures failures { W.failures errors.new ≡ put_counted (W.failures errors.old) result }
 {
     match *input {
@@ -147,8 +157,10 @@ fn put_name<W: Sink>(input: &Input<'_>, errors: &mut W) -> Result<(), Fault>
 
 /// The path of a macro file.
 fn put_path<W: Sink>(folder: &[u8], name: &[u8], errors: &mut W) -> Result<(), Fault>
-    ensures ok { OnOk result (Appends (W.held errors.old) (W.held errors.new) (macro_path folder.now name.now)) }
-    ensures err { OnErr result (AppendsFront (W.held errors.old) (W.held errors.new) (macro_path folder.now name.now)) }
+    ensures ok { OnOk result
+        (Appends (W.held errors.old) (W.held errors.new) (macro_path folder.now name.now)) }
+    ensures err { OnErr result
+        (AppendsFront (W.held errors.old) (W.held errors.new) (macro_path folder.now name.now)) }
     ensures failures { W.failures errors.new ≡ put_counted (W.failures errors.old) result }
 {
     errors.put(folder)?;

@@ -83,15 +83,18 @@ pub fn run_words<'b, M: Memory, O: Opener<'b>, W: Sink, E: Sink>(
     errors: &mut E,
 ) -> u8
     ensures bad_word { (complaint : Complaint) → IsAnswer (texts words.now) (Err complaint) → (result ≡ 2)
-        × Tells (E.held errors.old) (E.held errors.new) (E.failures errors.old) (E.failures errors.new) (usage_text complaint.case complaint.word) }
+        × Tells (E.held errors.old) (E.held errors.new) (E.failures errors.old) (E.failures errors.new)
+        (usage_text complaint.case complaint.word) }
     ensures usage { result ≡ 2 → (complaint : Complaint) × IsAnswer (texts words.now) (Err complaint) }
     ensures unwritten { result ≡ 2 → output.new ≡ output.old }
     ensures unopened { result ≡ 2 → opener.new ≡ opener.old }
 
     // Else the words ask for a job, and it comes to its end.
     ensures ran { result ≢ 2 → (job : Job) × IsAnswer (texts words.now) (Ok (asked_of job))
-        × Comes O.Text.supply O.Text.failures (O.may_come opener.old) (O.asked opener.old) (O.asked opener.new) job
-        (W.held output.old) (W.held output.new) (W.failures output.old) (W.failures output.new) (W.passed_on output.new)
+        × Comes O.Text.supply O.Text.failures (O.may_come opener.old) (O.asked opener.old)
+        (O.asked opener.new) job
+        (W.held output.old) (W.held output.new) (W.failures output.old) (W.failures output.new)
+        (W.passed_on output.new)
         (E.held errors.old) (E.held errors.new) (E.failures errors.old) (E.failures errors.new) result }
     ensures quiet { result ≡ 0 → errors.new ≡ errors.old }
 
@@ -107,7 +110,8 @@ pub fn run_words<'b, M: Memory, O: Opener<'b>, W: Sink, E: Sink>(
 /// Tells a bad word, as far as `errors` takes its line, and gives the status of the program.
 fn refuse_word<E: Sink>(usage: &Usage<'_>, errors: &mut E) -> u8
     ensures status { result ≡ 2 }
-    ensures told { Tells (E.held errors.old) (E.held errors.new) (E.failures errors.old) (E.failures errors.new) (usage_text usage.now.case usage.now.word.now) }
+    ensures told { Tells (E.held errors.old) (E.held errors.new) (E.failures errors.old)
+        (E.failures errors.new) (usage_text usage.now.case usage.now.word.now) }
 {
     let _ = usage_line(usage, errors);
     usage.status()
@@ -123,8 +127,10 @@ fn run_job<'b, M: Memory, O: Opener<'b>, W: Sink, E: Sink>(
     output: &mut W,
     errors: &mut E,
 ) -> u8
-    ensures ran { Comes O.Text.supply O.Text.failures (O.may_come opener.old) (O.asked opener.old) (O.asked opener.new) job.now
-        (W.held output.old) (W.held output.new) (W.failures output.old) (W.failures output.new) (W.passed_on output.new)
+    ensures ran { Comes O.Text.supply O.Text.failures (O.may_come opener.old) (O.asked opener.old)
+        (O.asked opener.new) job.now
+        (W.held output.old) (W.held output.new) (W.failures output.old) (W.failures output.new)
+        (W.passed_on output.new)
         (E.held errors.old) (E.held errors.new) (E.failures errors.old) (E.failures errors.new) result }
     ensures not_bad { result ≢ 2 }
     ensures quiet { result ≡ 0 → errors.new ≡ errors.old }
@@ -144,8 +150,10 @@ fn outcome_of<'a, 'b, M: Memory, O: Opener<'b>, W: Sink>(
     buffers: &'b mut Vec<u8>,
     output: &mut W,
 ) -> Result<Outcome, NotRun<'a>>
-    ensures ends { Ends O.Text.supply O.Text.failures (O.may_come opener.old) (O.asked opener.old) (O.asked opener.new) job.now
-        (W.held output.old) (W.held output.new) (W.failures output.old) (W.failures output.new) (W.passed_on output.new) result }
+    ensures ends { Ends O.Text.supply O.Text.failures (O.may_come opener.old) (O.asked opener.old)
+        (O.asked opener.new) job.now
+        (W.held output.old) (W.held output.new) (W.failures output.old) (W.failures output.new)
+        (W.passed_on output.new) result }
     ensures memory { M.refusals memory.new ≡ counted_if (lacks_memory result) (M.refusals memory.old) }
 {
     let len = text_count(job).saturating_mul(BUFFER_SIZE);
@@ -159,7 +167,8 @@ fn outcome_of<'a, 'b, M: Memory, O: Opener<'b>, W: Sink>(
 /// Tells why a job is not run, as far as `errors` takes the line, and gives the status of the program.
 fn tell_not_run<E: Sink>(why: &NotRun<'_>, errors: &mut E) -> u8
     ensures status { result ≡ status_of_end (Err why.now) }
-    ensures told { Tells (E.held errors.old) (E.held errors.new) (E.failures errors.old) (E.failures errors.new) (line_of_end (Err why.now)) }
+    ensures told { Tells (E.held errors.old) (E.held errors.new) (E.failures errors.old)
+        (E.failures errors.new) (line_of_end (Err why.now)) }
 {
     match why {
         NotRun::CannotOpen(input) => {

@@ -27,14 +27,16 @@ pub fn run_over<R: Source, W: Sink, E: Sink>(
         × Ran limits options.now (R.supply input.old) (R.failures input.old) (R.failures input.new)
         (W.held output.old) (W.held output.new) (W.failures output.old) (W.failures output.new) outcome
         × (result ≡ status_of outcome)
-        × Tells (E.held errors.old) (E.held errors.new) (E.failures errors.old) (E.failures errors.new) (line_of outcome)) }
+        × Tells (E.held errors.old) (E.held errors.new) (E.failures errors.old) (E.failures errors.new)
+        (line_of outcome)) }
     ensures quiet { result ≡ 0 → errors.new ≡ errors.old }
     // Whatever was printed went on to where the output leads.
     ensures passed_on { result ≢ 4 → result ≢ 5 → IsTrue (W.passed_on output.new) }
 
     ensures refused { (result ≡ 5) ↔ IsErr desk }
     ensures untouched { OnErr desk ((input.new ≡ input.old) × (output.new ≡ output.old)) }
-    ensures told { OnErr desk (Tells (E.held errors.old) (E.held errors.new) (E.failures errors.old) (E.failures errors.new) memory_line) }
+    ensures told { OnErr desk (Tells (E.held errors.old) (E.held errors.new) (E.failures errors.old)
+        (E.failures errors.new) memory_line) }
 {
     match desk {
         Ok(mut desk) => {
@@ -68,7 +70,8 @@ pub(crate) fn run_desk<R: Source, W: Sink>(
 /// Tells an outcome, as far as `errors` takes its line, and gives its status.
 pub(crate) fn tell<E: Sink>(outcome: Outcome, errors: &mut E) -> u8
     ensures status { result ≡ status_of outcome }
-    ensures told { Tells (E.held errors.old) (E.held errors.new) (E.failures errors.old) (E.failures errors.new) (line_of outcome) }
+    ensures told { Tells (E.held errors.old) (E.held errors.new) (E.failures errors.old)
+        (E.failures errors.new) (line_of outcome) }
     ensures quiet { outcome ≡ Outcome.Done → errors.new ≡ errors.old }
 {
     let _ = fault_line(&outcome, errors);
@@ -90,7 +93,8 @@ fn status(outcome: Outcome) -> u8
 /// Tells want of memory, as far as `errors` takes the line, and gives its status.
 pub fn out_of_memory<E: Sink>(errors: &mut E) -> u8
     ensures status { result ≡ 5 }
-    ensures told { Tells (E.held errors.old) (E.held errors.new) (E.failures errors.old) (E.failures errors.new) memory_line }
+    ensures told { Tells (E.held errors.old) (E.held errors.new) (E.failures errors.old)
+        (E.failures errors.new) memory_line }
 {
     let _ = errors.put(b"nroff: out of memory\n");
     5

@@ -31,7 +31,8 @@ faults_before Anytime n m others = Anytime
 abbrev pub chained_faults : Bool → List Supply → Faults
 chained_faults line_open [] = Never
 chained_faults line_open (file ∷ files) =
-    faults_before file.faults (length file.bytes) (length (ended file.bytes line_open)) (chained_faults false files)
+    faults_before file.faults (length file.bytes) (length (ended file.bytes line_open))
+    (chained_faults false files)
 
 abbrev pub is_anytime : Faults → Bool
 is_anytime Never = false

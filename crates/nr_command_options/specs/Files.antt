@@ -19,7 +19,8 @@ completed bytes = if lacks_newline bytes then bytes ++ code "\n" ∷ [] else byt
 -- When calls fail: a file that fails before its end was told stops all, once the files before it were given.
 abbrev pub faults_of_all : List Supply → Faults
 faults_of_all [] = Never
-faults_of_all (file ∷ files) = faults_before file.faults (length file.bytes) (length (completed file.bytes)) (faults_of_all files)
+faults_of_all (file ∷ files) =
+    faults_before file.faults (length file.bytes) (length (completed file.bytes)) (faults_of_all files)
 
 -- the files in order, each completed; where one of them may fail at any call, so may all
 abbrev pub one_after_the_other : List Supply → Supply

@@ -112,7 +112,8 @@ Refuses asked word BadValue = IsIllFormed BadValue word
 
 -- a word was taken, or it is bad
 abbrev pub Takes : Asked → List ℕ → Result (Unit {0}) Case → Asked → Type 0
-Takes old word (Ok done) new = (meaning : Meaning) × OnlyMeans meaning word × HasRoom old meaning × (new ≡ with_meaning meaning old)
+Takes old word (Ok done) new =
+    (meaning : Meaning) × OnlyMeans meaning word × HasRoom old meaning × (new ≡ with_meaning meaning old)
 Takes old word (Err case) new = Refuses old word case
 
 -- these words were taken, all good, and this is what they ask for

@@ -46,7 +46,8 @@ limit_letter Expansions = code "x"
 abbrev pub WritesInteger : ℤ → List ℕ → Type 0
 WritesInteger n text =
     ((size : ℕ) × WritesNumber size text × (n ≡ pos size))
-    ⊎ ((size : ℕ) × (digits : List ℕ) × (text ≡ hyphen ∷ digits) × WritesNumber size digits × (n ≡ neg_ℤ (pos size)))
+    ⊎ ((size : ℕ) × (digits : List ℕ) × (text ≡ hyphen ∷ digits) × WritesNumber size digits
+    × (n ≡ neg_ℤ (pos size)))
 
 -- the text writes the number of a limit: decimal digits, and in its range
 pub record WritesLimit (limit : Limit) (n : ℕ) (text : List ℕ) : Type 0 where
@@ -58,11 +59,13 @@ pub record WritesLimit (limit : Limit) (n : ℕ) (text : List ℕ) : Type 0 wher
 abbrev pub IsValue : Meaning → List ℕ → Type 0
 IsValue (PrintOnly pages) value = IsPageList pages value
 IsValue (BeginAt n) value = WritesNumber n value
-IsValue (SetRegister name n) value = (number : List ℕ) × (value ≡ name ∷ number) × (33 ≤ name) × (name ≤ 126) × WritesInteger n number
+IsValue (SetRegister name n) value = (number : List ℕ) × (value ≡ name ∷ number) × (33 ≤ name) × (name ≤ 126)
+    × WritesInteger n number
 IsValue (ReadMacros name) value = (value ≡ name) × (name ≢ [])
 IsValue (MacrosIn folder) value = (value ≡ folder) × (folder ≢ [])
 IsValue ReadInput value = value ≡ []
-IsValue (SetLimit limit n) value = (number : List ℕ) × (value ≡ limit_letter limit ∷ number) × WritesLimit limit n number
+IsValue (SetLimit limit n) value =
+    (number : List ℕ) × (value ≡ limit_letter limit ∷ number) × WritesLimit limit n number
 
 -- the word means this: it is `-`, the letter, and a value
 abbrev pub Means : Meaning → List ℕ → Type 0
@@ -80,7 +83,9 @@ is_among letters letter = list_any (λ known. known == letter) letters
 
 -- a word is bad by its own form: its letter is left out, or unknown, or known and its value is no good
 abbrev pub IsIllFormed : Case → List ℕ → Type 0
-IsIllFormed LeftOut word = (letter : ℕ) × (value : List ℕ) × (word ≡ hyphen ∷ letter ∷ value) × IsTrue (is_among left_out_letters letter)
+IsIllFormed LeftOut word =
+    (letter : ℕ) × (value : List ℕ) × (word ≡ hyphen ∷ letter ∷ value)
+    × IsTrue (is_among left_out_letters letter)
 IsIllFormed Unknown word = (letter : ℕ) × (value : List ℕ) × (word ≡ hyphen ∷ letter ∷ value)
     × ¬ IsTrue (is_among left_out_letters letter) × ¬ IsTrue (is_among known_letters letter)
 IsIllFormed BadValue word = (letter : ℕ) × (value : List ℕ) × (word ≡ hyphen ∷ letter ∷ value)

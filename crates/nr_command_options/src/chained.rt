@@ -29,8 +29,10 @@ impl<'a, F: Source> Chain<'a, F> {
 
     /// These files from where they stand, none of them begun.
     pub(crate) fn over(files: &'a mut [F]) -> Self
-        ensures supply { ⟦<Chain<'a, F> as Source>⟧.supply result ≡ chain_supply 0 false (map F.supply files.entry.now) }
-        ensures failures { ⟦<Chain<'a, F> as Source>⟧.failures result ≡ failures_in F.failures files.entry.now }
+        ensures supply { ⟦<Chain<'a, F> as Source>⟧.supply result ≡ chain_supply 0 false
+            (map F.supply files.entry.now) }
+        ensures failures { ⟦<Chain<'a, F> as Source>⟧.failures result
+            ≡ failures_in F.failures files.entry.now }
     {
         Chain {
             files,

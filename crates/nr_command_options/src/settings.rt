@@ -72,7 +72,8 @@ fn read_value(letter: u8, value: &str) -> Option<Setting<'_>>
 fn letter_and_value(word: &str) -> Option<(u8, &str)>
     requires { is_option word.now ≡ true }
     ensures found { IfSome result (λ parts. word.now ≡ hyphen ∷ parts.0 ∷ parts.1.now) }
-    ensures none { IfNone result ((letter : ℕ) (value : List ℕ) → letter < 128 → word.now ≢ hyphen ∷ letter ∷ value) }
+    ensures none { IfNone result ((letter : ℕ) (value : List ℕ) → letter < 128
+        → word.now ≢ hyphen ∷ letter ∷ value) }
 {
     let (_, option) = split_ascii(word)?;
     split_ascii(option)

@@ -24,7 +24,8 @@ pub(crate) fn split_ascii(text: &str) -> Option<(u8, &str)>
 /// The number that decimal digits write, if it is at most `most`. Leading zeros are allowed, a sign
 /// isn't.
 pub(crate) fn read_number(text: &str, most: u64) -> Option<u64>
-    ensures { SomeIff result (IsNumeral 10 text.now × (digits_value 10 text.now ≤ most)) (digits_value 10 text.now) }
+    ensures { SomeIff result (IsNumeral 10 text.now × (digits_value 10 text.now ≤ most))
+        (digits_value 10 text.now) }
 {
     if text.starts_with('+') {
         return None;

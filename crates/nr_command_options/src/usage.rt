@@ -44,8 +44,11 @@ impl Usage<'_> {
 ///
 /// `WriteFault` where the sink failed; a prefix of the line went out then.
 pub fn usage_line<W: Sink>(usage: &Usage<'_>, errors: &mut W) -> Result<(), WriteFault>
-    ensures ok { OnOk result (Appends (W.held errors.old) (W.held errors.new) (usage_text usage.now.case usage.now.word.now)) }
-    ensures err { OnErr result (AppendsFront (W.held errors.old) (W.held errors.new) (usage_text usage.now.case usage.now.word.now)) }
+    ensures ok { OnOk result
+        (Appends (W.held errors.old) (W.held errors.new) (usage_text usage.now.case usage.now.word.now)) }
+    ensures err { OnErr result
+        (AppendsFront (W.held errors.old) (W.held errors.new)
+        (usage_text usage.now.case usage.now.word.now)) }
     ensures failures { W.failures errors.new ≡ put_counted (W.failures errors.old) result }
 {
     match put_usage(usage.case, usage.word.as_bytes(), errors) {
@@ -57,7 +60,8 @@ pub fn usage_line<W: Sink>(usage: &Usage<'_>, errors: &mut W) -> Result<(), Writ
 /// The same, with the sink's own error.
 fn put_usage<W: Sink>(case: Case, word: &[u8], errors: &mut W) -> Result<(), Fault>
     ensures ok { OnOk result (Appends (W.held errors.old) (W.held errors.new) (usage_text case word.now)) }
-    ensures err { OnErr result (AppendsFront (W.held errors.old) (W.held errors.new) (usage_text case word.now)) }
+    ensures err { OnErr result
+        (AppendsFront (W.held errors.old) (W.held errors.new) (usage_text case word.now)) }
     ensures failures { W.failures errors.new ≡ put_counted (W.failures errors.old) result }
 {
     match case {
@@ -78,8 +82,10 @@ fn put_usage<W: Sink>(case: Case, word: &[u8], errors: &mut W) -> Result<(), Fau
 
 /// A line in three parts.
 fn put_parts<W: Sink>(front: &[u8], middle: &[u8], back: &[u8], errors: &mut W) -> Result<(), Fault>
-    ensures ok { OnOk result (Appends (W.held errors.old) (W.held errors.new) (front.now ++ middle.now ++ back.now)) }
-    ensures err { OnErr result (AppendsFront (W.held errors.old) (W.held errors.new) (front.now ++ middle.now ++ back.now)) }
+    ensures ok { OnOk result
+        (Appends (W.held errors.old) (W.held errors.new) (front.now ++ middle.now ++ back.now)) }
+    ensures err { OnErr result
+        (AppendsFront (W.held errors.old) (W.held errors.new) (front.now ++ middle.now ++ back.now)) }
     ensures failures { W.failures errors.new ≡ put_counted (W.failures errors.old) result }
 {
     errors.put(front)?;

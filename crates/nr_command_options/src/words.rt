@@ -14,7 +14,8 @@ pub fn read_words<'a>(words: &'a [&'a str]) -> Result<Job<'a>, Usage<'a>>
     ensures answer { IsAnswer (texts words.now) (answer_of result) }
 
     // There is no other answer.
-    ensures only { (answer : Result Asked Complaint) → IsAnswer (texts words.now) answer → answer ≡ answer_of result }
+    ensures only { (answer : Result Asked Complaint) → IsAnswer (texts words.now) answer
+        → answer ≡ answer_of result }
 {
     let (options, files) = words.split_at(options_len(words));
     let mut job = Job::plain(files);
