@@ -21,7 +21,8 @@ use Rattle.nr_laws.specs.PlainText.{is_plain, TakesAll}
 -- no line is empty or begins with a blank; whether the text begins at a line's beginning
 abbrev pub is_filled_from : Bool → List ℕ → Bool
 is_filled_from begins [] = true
-is_filled_from begins (b ∷ bs) = not (begins && (b == code "\n" || b == code " ")) && is_filled_from (b == code "\n") bs
+is_filled_from begins (b ∷ bs) =
+    not (begins && (b == code "\n" || b == code " ")) && is_filled_from (b == code "\n") bs
 
 -- no indent, and 65 cells
 abbrev pub first_margins : Margins
@@ -31,7 +32,8 @@ first_margins = record { indent = 0; length = 65 }
 abbrev pub with_byte : Collected → ℕ → Collected
 with_byte c b =
     if b == code "\n" then after_newline (end_word c)
-    else (if b == code " " then one_blank_more (end_word c) else add_cell first_margins (behind_of b) (record { byte = b; under = false }) c)
+    else (if b == code " " then one_blank_more (end_word c)
+    else add_cell first_margins (behind_of b) (record { byte = b; under = false }) c)
 
 -- the pieces of the whole text, from which no line was taken
 abbrev pub pieces_of : List ℕ → List Piece
@@ -46,7 +48,8 @@ abbrev pub rows_from : ℕ → Collected → List (List Cell)
 rows_from zero c = []
 rows_from (suc most) c =
     if is_nil c.pieces then []
-    else set_line (record { align = align_of c; offset = 0 }) c (cut_of c) ∷ rows_from most (behind first_margins (align_of c) c (cut_of c))
+    else set_line (record { align = align_of c; offset = 0 }) c (cut_of c)
+    ∷ rows_from most (behind first_margins (align_of c) c (cut_of c))
 
 -- all of them
 abbrev pub rows_of : List Piece → List (List Cell)
@@ -58,13 +61,16 @@ missing rows = (66 - rows % 66) % 66
 
 -- the bytes of the rows, on pages of 66
 abbrev pub text_of : List (List Cell) → List ℕ
-text_of rows = flat_map (λ (row : List Cell). flat_map cell_bytes row ++ 10 ∷ []) rows ++ replicate (missing (length rows)) 10
+text_of rows =
+    flat_map (λ (row : List Cell). flat_map cell_bytes row ++ 10 ∷ []) rows
+    ++ replicate (missing (length rows)) 10
 
 -- Such text is filled: its rows are cut from the pieces of all of it.
 abbrev pub FilledTextIsRows : Type 0
 FilledTextIsRows =
     (b : Bounds) (options : Options) (supply : Supply) (n : ℕ) (out : List ℕ)
-    → is_plain supply.bytes ≡ true → is_filled_from true supply.bytes ≡ true → TakesAll options.select → AnswersWith b options supply n Done out
+    → is_plain supply.bytes ≡ true → is_filled_from true supply.bytes ≡ true → TakesAll options.select
+    → AnswersWith b options supply n Done out
     → out ≡ text_of (rows_of (pieces_of supply.bytes))
 
 -- Each of these rows is cut as long as it may be: of the pieces that are left no longer prefix fits a line,

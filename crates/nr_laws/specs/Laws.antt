@@ -75,7 +75,8 @@ NoLimitAsked = (b : Bounds) (s : State) → step (state_under b s) ≡ state_und
 -- So the states of a run under limits, as far as it goes, are those of the run without.
 abbrev pub LimitsOnlyStop : Type 0
 LimitsOnlyStop =
-    (b : Bounds) (options : Options) (supply : Supply) (n : ℕ) → state_after n (start b options supply) ≡ state_under b (unlimited options supply n)
+    (b : Bounds) (options : Options) (supply : Supply) (n : ℕ) → state_after n (start b options supply)
+    ≡ state_under b (unlimited options supply n)
 
 -- ---- a prefix
 
@@ -83,7 +84,8 @@ LimitsOnlyStop =
 abbrev pub LimitsCut : Type 0
 LimitsCut =
     (b : Bounds) (options : Options) (supply : Supply) (n : ℕ) (outcome : Outcome) (out : List ℕ)
-    → AnswersWith b options supply n outcome out → (m : ℕ) → n + 1 ≤ m → IsFrontOf out (unlimited_text options supply m)
+    → AnswersWith b options supply n outcome out → (m : ℕ) → n + 1 ≤ m
+    → IsFrontOf out (unlimited_text options supply m)
 
 -- Where the run without limits ends, it is a prefix of all that goes out there.
 abbrev pub LimitsCutOutput : Type 0
@@ -99,29 +101,37 @@ DoneIsWhole =
 
 -- There is one output without limits.
 abbrev pub OneWhole : Type 0
-OneWhole = (options : Options) (supply : Supply) (a b : List ℕ) → UnlimitedOutput options supply a → UnlimitedOutput options supply b → a ≡ b
+OneWhole = (options : Options) (supply : Supply) (a b : List ℕ) → UnlimitedOutput options supply a
+    → UnlimitedOutput options supply b → a ≡ b
 
 -- ---- wider limits
 
 -- Under wider limits no less goes out, unless that run is ended by a fault of the sink, or of a source that may fail at any call.
 abbrev pub WiderLimits : Type 0
 WiderLimits =
-    (b b' : Bounds) (options : Options) (supply : Supply) (n n' : ℕ) (outcome outcome' : Outcome) (out out' : List ℕ)
-    → AtLeast b b' → AnswersWith b options supply n outcome out → AnswersWith b' options supply n' outcome' out'
+    (b b' : Bounds) (options : Options) (supply : Supply) (n n' : ℕ) (outcome outcome' : Outcome)
+    (out out' : List ℕ)
+    → AtLeast b b' → AnswersWith b options supply n outcome out
+    → AnswersWith b' options supply n' outcome' out'
     → is_settled supply.faults outcome' ≡ true → IsFrontOf out out'
 
 -- Where neither a limit nor such a fault stops a run, it is the same under wider limits.
 abbrev pub LimitsUnmet : Type 0
 LimitsUnmet =
-    (b b' : Bounds) (options : Options) (supply : Supply) (n n' : ℕ) (outcome outcome' : Outcome) (out out' : List ℕ)
-    → AtLeast b b' → AnswersWith b options supply n outcome out → AnswersWith b' options supply n' outcome' out' → is_limit outcome ≡ false
-    → is_settled supply.faults outcome ≡ true → is_settled supply.faults outcome' ≡ true → (n ≡ n') × (outcome ≡ outcome') × (out ≡ out')
+    (b b' : Bounds) (options : Options) (supply : Supply) (n n' : ℕ) (outcome outcome' : Outcome)
+    (out out' : List ℕ)
+    → AtLeast b b' → AnswersWith b options supply n outcome out
+    → AnswersWith b' options supply n' outcome' out' → is_limit outcome ≡ false
+    → is_settled supply.faults outcome ≡ true → is_settled supply.faults outcome' ≡ true → (n ≡ n')
+    × (outcome ≡ outcome') × (out ≡ out')
 
 -- ---- one answer
 
 -- Without such a fault there is one number of moves, one outcome and one output.
 abbrev pub OneAnswer : Type 0
 OneAnswer =
-    (b : Bounds) (options : Options) (supply : Supply) (n n' : ℕ) (outcome outcome' : Outcome) (out out' : List ℕ)
+    (b : Bounds) (options : Options) (supply : Supply) (n n' : ℕ) (outcome outcome' : Outcome)
+    (out out' : List ℕ)
     → AnswersWith b options supply n outcome out → AnswersWith b options supply n' outcome' out'
-    → is_settled supply.faults outcome ≡ true → is_settled supply.faults outcome' ≡ true → (n ≡ n') × (outcome ≡ outcome') × (out ≡ out')
+    → is_settled supply.faults outcome ≡ true → is_settled supply.faults outcome' ≡ true → (n ≡ n')
+    × (outcome ≡ outcome') × (out ≡ out')

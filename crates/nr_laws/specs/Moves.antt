@@ -27,7 +27,8 @@ use Rattle.nr_engine.specs.declared.outcome.Measure.{Measure}
 -- it: also a move that reads. It sets out from a state within all limits, in which no splice was refused.
 abbrev pub RefusedIsAbove : Type 0
 RefusedIsAbove =
-    (s : State) (which : Measure) → IsWithin s → s.formatter.reader.half.reading.due ≢ dues.Expanded → Passes s which → passed (step s) ≡ Some which
+    (s : State) (which : Measure) → IsWithin s → s.formatter.reader.half.reading.due ≢ dues.Expanded
+    → Passes s which → passed (step s) ≡ Some which
 
 -- what is due gives the text of a definition its name
 abbrev pub names_text : Due → Bool
@@ -53,7 +54,9 @@ IsChargedOnce name v = charge_behind name v.texts ≤ charge_under (find name v.
 abbrev pub AboveIsRefused : Type 0
 AboveIsRefused =
     (s : State) (which : Measure) → IsWithin s → s.formatter.reader.half.reading.due ≢ dues.Expanded
-    → (names_text s.formatter.reader.half.reading.due ≡ true → IsChargedOnce (name_in s.formatter.reader) s.formatter.store) → passed (step s) ≡ Some which → Passes s which
+    → (names_text s.formatter.reader.half.reading.due ≡ true
+    → IsChargedOnce (name_in s.formatter.reader) s.formatter.store) → passed (step s) ≡ Some which
+    → Passes s which
 
 -- ---- how many moves there are
 
@@ -87,25 +90,30 @@ NoneIsTaken m n s = (state_after (m + n) s).coming.taken ≡ (state_after m s).c
 -- first. At most 32 registers are given.
 abbrev pub MovesAreFew : Type 0
 MovesAreFew =
-    (b : Bounds) (options : Options) (supply : Supply) (n : ℕ) → length options.registers.items ≤ 32 → Runs n (start b options supply)
+    (b : Bounds) (options : Options) (supply : Supply) (n : ℕ) → length options.registers.items ≤ 32
+    → Runs n (start b options supply)
     → n ≤ moves_a_byte b * ((state_after n (start b options supply)).coming.taken + 1)
 
 -- From any state of a run so many moves are made at most before a byte is taken, one for each option that has still to take effect.
 abbrev pub MovesBeforeByte : Type 0
 MovesBeforeByte =
-    (b : Bounds) (options : Options) (supply : Supply) (m n : ℕ) → Runs (m + n) (start b options supply) → NoneIsTaken m n (start b options supply)
-    → let s = state_after m (start b options supply) in n ≤ length s.chosen + moves_of_texts s.formatter + moves_of_rest s.formatter
+    (b : Bounds) (options : Options) (supply : Supply) (m n : ℕ) → Runs (m + n) (start b options supply)
+    → NoneIsTaken m n (start b options supply)
+    → let s = state_after m (start b options supply) in
+    n ≤ length s.chosen + moves_of_texts s.formatter + moves_of_rest s.formatter
 
 -- what comes on top of the number of moves for a byte: blanks that the line begins with beyond those that a line may hold, bytes of a
 -- definition's line that are held back, parts of the word, escapes that are half read beyond ten
 abbrev pub moves_on_top : Bounds → Formatter → ℕ
 moves_on_top b f =
-    178 * (blanks_owed f.reader.half - b.cells) + held_back f.reader.half + 5 * parts_of (collected f).word + 368 * (length f.reader.half.asks - 10)
+    178 * (blanks_owed f.reader.half - b.cells) + held_back f.reader.half + 5 * parts_of (collected f).word
+    + 368 * (length f.reader.half.asks - 10)
 
 -- Between the takings of two bytes, before the first and after the last there are no more moves than the number for a byte and what comes on
 -- top behind the first of the two.
 abbrev pub MovesBetween : Type 0
 MovesBetween =
-    (b : Bounds) (options : Options) (supply : Supply) (m n : ℕ) → AreLimits b → length options.registers.items ≤ 32 → Runs (m + n) (start b options supply)
+    (b : Bounds) (options : Options) (supply : Supply) (m n : ℕ) → AreLimits b
+    → length options.registers.items ≤ 32 → Runs (m + n) (start b options supply)
     → IsBehindByte m (start b options supply) → NoneIsTaken m n (start b options supply)
     → n ≤ moves_a_byte b + moves_on_top b (state_after m (start b options supply)).formatter

@@ -29,7 +29,8 @@ is_sign b = b == code "." || b == code "'"
 -- only such bytes, and no line that begins with `.` or `'`; whether it begins at a line's beginning
 abbrev pub is_plain_from : Bool → List ℕ → Bool
 is_plain_from begins [] = true
-is_plain_from begins (b ∷ bs) = is_plain_byte b && (not (begins && is_sign b) && is_plain_from (b == code "\n") bs)
+is_plain_from begins (b ∷ bs) =
+    is_plain_byte b && (not (begins && is_sign b) && is_plain_from (b == code "\n") bs)
 
 -- of a whole input
 abbrev pub is_plain : List ℕ → Bool
