@@ -14,7 +14,13 @@ use Rattle.nulbiko.specs.declared.told.Report.{Report}
 
 -- what the limits bound
 abbrev pub bounds_of : TextLimits → Bounds
-bounds_of limits = record { stored = limits.stored; depth = limits.depth; cells = limits.cells; expansions = limits.expansions }
+bounds_of limits =
+    record {
+      stored = limits.stored;
+      depth = limits.depth;
+      cells = limits.cells;
+      expansions = limits.expansions;
+    }
 
 -- the number that tells an outcome
 abbrev pub code_of : Outcome → ℕ
@@ -50,7 +56,8 @@ pub record AreAsked (first : ℤ) (options : Options) : Type 0 where
   pub all_pages : options.select ≡ None
 
 -- The text was formatted under the bounds, and its pages were handed over.
-pub record FormatsText (b : Bounds) (first : ℤ) (text output : List ℕ) (report : Report) (code : ℕ) : Type 0 where
+pub record FormatsText (b : Bounds) (first : ℤ) (text output : List ℕ) (report : Report)
+    (code : ℕ) : Type 0 where
   pub options : Options
   pub asked : AreAsked first options
   pub moves : ℕ

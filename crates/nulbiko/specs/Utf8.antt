@@ -19,7 +19,8 @@ code_of TooLong = 6
 code_of (ReadFault at) = 9
 
 -- The bytes became characters of the table, and what came out was handed over; how many were dropped is told.
-pub record TurnsBytes (table : Table) (escapes : Bool) (text output : List ℕ) (report : Report) (code : ℕ) : Type 0 where
+pub record TurnsBytes (table : Table) (escapes : Bool) (text output : List ℕ) (report : Report)
+    (code : ℕ) : Type 0 where
   pub outcome : Outcome
   pub left : Option Supply
   pub bytes : List ℕ

@@ -148,7 +148,8 @@ pub extern "C" fn nulbiko_format_lent(
     told: &mut Report,
 ) -> u32
     ensures ranges { (result ≡ 2) ↔ (AreLimits (bounds_of limits.now) → ⊥) }
-    ensures formatted { result ≢ 2 → result ≢ 5 → FormatsText (bounds_of limits.now) options.now.first input.now output.new told.new result }
+    ensures formatted { result ≢ 2 → result ≢ 5
+        → FormatsText (bounds_of limits.now) options.now.first input.now output.new told.new result }
     ensures bad { result ≡ 2 → (output.new ≡ output.old) × (told.new ≡ nothing_told) }
     ensures no_memory { result ≡ 5 → (output.new ≡ output.old) × (told.new ≡ nothing_told) }
 {

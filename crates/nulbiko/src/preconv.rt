@@ -73,7 +73,8 @@ pub extern "C" fn nulbiko_preconv_lent(
     told: &mut Report,
 ) -> u32
     ensures ranges { (result ≡ 2) ↔ (5 < table) }
-    ensures turned { result ≢ 2 → result ≢ 5 → TurnsText (table_numbered table) input.now output.new told.new result }
+    ensures turned { result ≢ 2 → result ≢ 5
+        → TurnsText (table_numbered table) input.now output.new told.new result }
     ensures bad { result ≡ 2 → (output.new ≡ output.old) × (told.new ≡ nothing_told) }
     ensures no_memory { result ≡ 5 → (output.new ≡ output.old) × (told.new ≡ nothing_told) }
 {

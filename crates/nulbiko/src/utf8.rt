@@ -83,7 +83,8 @@ pub extern "C" fn nulbiko_utf8_lent(
     told: &mut Report,
 ) -> u32
     ensures ranges { (result ≡ 2) ↔ (table_numbered table ≡ None) }
-    ensures turned { (t : Table) → table_numbered table ≡ Some t → result ≢ 5 → TurnsBytes t escapes input.now output.new told.new result }
+    ensures turned { (t : Table) → table_numbered table ≡ Some t → result ≢ 5
+        → TurnsBytes t escapes input.now output.new told.new result }
     ensures bad { result ≡ 2 → (output.new ≡ output.old) × (told.new ≡ nothing_told) }
     ensures no_memory { result ≡ 5 → (output.new ≡ output.old) × (told.new ≡ nothing_told) }
 {
