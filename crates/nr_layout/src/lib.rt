@@ -1,10 +1,12 @@
 //! Tables as they are held, measured and laid out.
 //!
 //! It stands on nr_units and nr_rooms. To read: `lists`, `places`, `table`, `held`, `formats`, `rows`; `extent`, `cells`,
-//! `counted`, `columns`, `frames`; `requests`, `steps`; `pen`, `writing`, `fields`, `drawing`, `ruling`, `lines`; `told`,
-//! `names`, `registers`, `widening`, `standing`, `blocks`, `sharing`, `heights`, `kept`, `beside`, `measured`; `laws`.
+//! `counted`, `columns`, `frames`; `requests`, `steps`; `pen`, `writing`, `strokes`, `fields`, `drawing`, `ruling`,
+//! `lines`; `told`, `names`, `registers`, `widening`, `standing`, `blocks`, `sharing`, `heights`, `kept`, `beside`,
+//! `measured`, `as_requests`; `laws`.
 #![tactic(auto)]
 
+mod as_requests;
 mod beside;
 mod blocks;
 mod cells;
@@ -32,6 +34,7 @@ mod ruling;
 mod sharing;
 mod standing;
 mod steps;
+mod strokes;
 mod table;
 mod told;
 mod widening;
