@@ -45,7 +45,8 @@ last_below t r = last_in (own_cells t r) t r
 -- ---- room is asked for a row and what goes on below it, and one line more
 
 abbrev pub asked_height : Table → ℕ → List ℕ
-asked_height t r = if nat_lt r (last_below t r) then between_text t r (last_below t r) true else height_text t r
+asked_height t r =
+    if nat_lt r (last_below t r) then between_text t r (last_below t r) true else height_text t r
 
 abbrev pub more_room : Bool → List ℕ
 more_room ruled = line (codes "+" ∷ decimal (1 + count ruled) ∷ codes "v" ∷ [])
@@ -71,7 +72,8 @@ is_alone t r = is_as_block (row t r).tall && not (only_block t r).falls && not (
 
 abbrev pub more_space : Table → ℕ → List ℕ
 more_space t r =
-    codes ".if " ++ height_text t r ++ parts (codes ">1v " ∷ later ∷ codes ".sp " ∷ []) ++ height_text t r ++ codes "-1v\n"
+    codes ".if " ++ height_text t r ++ parts (codes ">1v " ∷ later ∷ codes ".sp " ∷ []) ++ height_text t r
+    ++ codes "-1v\n"
 
 -- `*o` has the bars of a row
 abbrev pub has_bars_of : Table → Option ℕ → ℕ → Bool
@@ -126,7 +128,8 @@ is_name tall other = false
 
 abbrev pub down_from : Table → Cell → ℕ → List ℕ
 down_from t f r =
-    parts (later ∷ codes ".sp " ∷ []) ++ height_text t r ++ line (codes "-(0)-\\n[*h" ∷ decimal f.name ∷ codes "]u" ∷ [])
+    parts (later ∷ codes ".sp " ∷ []) ++ height_text t r
+    ++ line (codes "-(0)-\\n[*h" ∷ decimal f.name ∷ codes "]u" ∷ [])
 
 abbrev pub is_down : Table → Cell → ℕ → Bool → Bool
 is_down t f r alone = alone || is_name (row t r).tall f.name
@@ -136,13 +139,15 @@ down_again t f r alone = if is_down t f r alone then [] else down_from t f r
 
 abbrev pub block_beside : Table → Cell → ℕ → Bool → List ℕ
 block_beside t f r alone =
-    parts (later ∷ codes ".rt -" ∷ []) ++ taken t r alone ++ codes "\n" ++ block_lines t f ++ down_again t f r alone
+    parts (later ∷ codes ".rt -" ∷ []) ++ taken t r alone ++ codes "\n" ++ block_lines t f
+    ++ down_again t f r alone
 
 abbrev pub stands_beside : Cell → Bool
 stands_beside f = is_block f.field.form && not f.falls
 
 abbrev pub block_beside_at : Table → ℕ → Bool → ℕ → List ℕ
-block_beside_at t r alone n = if stands_beside (own_cell t r n) then block_beside t (own_cell t r n) r alone else []
+block_beside_at t r alone n =
+    if stands_beside (own_cell t r n) then block_beside t (own_cell t r n) r alone else []
 
 abbrev pub each_beside : Table → ℕ → Bool → List ℕ
 each_beside t r alone = joined (own_cells t r) (block_beside_at t r alone)
@@ -186,14 +191,17 @@ is_drawn f = is_shown f.form f
 
 abbrev pub up_text : Table → Cell → ℕ → List ℕ
 up_text t f r =
-    parts (later ∷ codes ".sp " ∷ []) ++ down_text t f r ++ codes "-(" ++ between_text t f.top r true ++ codes ")\n"
+    parts (later ∷ codes ".sp " ∷ []) ++ down_text t f r ++ codes "-(" ++ between_text t f.top r true
+    ++ codes ")\n"
 
 abbrev pub fallen_strokes : Table → Cell → List Stroke
-fallen_strokes t f = if is_block f.field.form then Bytes (block_lines t f) ∷ [] else whole (field_strokes t f) true
+fallen_strokes t f =
+    if is_block f.field.form then Bytes (block_lines t f) ∷ [] else whole (field_strokes t f) true
 
 abbrev pub back_text : Table → Cell → ℕ → List ℕ
 back_text t f r =
-    parts (later ∷ codes ".sp " ∷ []) ++ between_text t f.top r true ++ codes "-(" ++ down_text t f r ++ codes ")-" ++ own_height f
+    parts (later ∷ codes ".sp " ∷ []) ++ between_text t f.top r true ++ codes "-(" ++ down_text t f r
+    ++ codes ")-" ++ own_height f
     ++ codes "\n"
 
 abbrev pub some_falling : Table → Cell → ℕ → List Stroke
@@ -215,4 +223,5 @@ all_falling t r = joined (columns t) (falling_at t r)
 
 abbrev pub told_row : Table → ℕ → Told → List Stroke
 told_row t r told =
-    whole (row_strokes t r None) true ++ row_more t r told ++ Bytes (blocks_beside t r) ∷ [] ++ all_falling t r
+    whole (row_strokes t r None) true ++ row_more t r told ++ Bytes (blocks_beside t r) ∷ []
+    ++ all_falling t r

@@ -26,7 +26,8 @@ is_same a b = if a then b else not b
 -- a backslash and an f stand in a text
 abbrev pub has_font_after : ℕ → List ℕ → Bool
 has_font_after before [] = false
-has_font_after before (b ∷ bs) = if (before == code "\\") && (b == code "f") then true else has_font_after b bs
+has_font_after before (b ∷ bs) =
+    if (before == code "\\") && (b == code "f") then true else has_font_after b bs
 
 abbrev pub has_font : List ℕ → Bool
 has_font text = has_font_after 0 text
@@ -70,7 +71,8 @@ has_adjusting t = some_below (length t.cells.items) (changes_adjusting t)
 
 abbrev pub adjusting_text : Table → List ℕ
 adjusting_text t =
-    if has_adjusting t then codes ".di *z\n.in 0\n.ll 5n\n.fi\na b ccc\n.br\n.di\n.nr *J \\n(dl\n.rm *z\n" else []
+    if has_adjusting t then codes ".di *z\n.in 0\n.ll 5n\n.fi\na b ccc\n.br\n.di\n.nr *J \\n(dl\n.rm *z\n"
+    else []
 
 -- lines are adjusted as they were
 abbrev pub adjust_text : List ℕ
@@ -102,7 +104,8 @@ is_given t f = all_below (columns_of f) (λ n. has_least t (sum f.first n))
 
 abbrev pub share_text : Table → Cell → List ℕ
 share_text t f =
-    parts (codes "\\n(*L*" ∷ decimal (columns_of f) ∷ codes "/" ∷ decimal (sum (columns t) 1) ∷ codes "+11/24*24" ∷ [])
+    parts (codes "\\n(*L*" ∷ decimal (columns_of f) ∷ codes "/" ∷ decimal (sum (columns t) 1)
+    ∷ codes "+11/24*24" ∷ [])
 
 abbrev pub some_share : Table → Cell → List ℕ
 some_share t f = codes ".if " ++ share_text t f ++ codes ">\\n[*S] .nr *S " ++ share_text t f ++ codes "\n"
@@ -126,7 +129,8 @@ indented f = if f.key.kind == code "a" then codes ".nr *S -2n\n" else []
 
 abbrev pub new_length : Table → Cell → List ℕ
 new_length t f =
-    codes ".nr *S " ++ total_text t f.first f.last (codes "+") ++ codes "\n" ++ most_share t f ++ indented f ++ codes ".ll \\n(*Su\n"
+    codes ".nr *S " ++ total_text t f.first f.last (codes "+") ++ codes "\n" ++ most_share t f ++ indented f
+    ++ codes ".ll \\n(*Su\n"
 
 abbrev pub length_text : Table → Cell → Told → List ℕ
 length_text t f told = if is_alike f told then [] else new_length t f
@@ -137,7 +141,8 @@ abbrev pub is_moved : ℕ → Bool
 is_moved kind = (kind == code "r") || (kind == code "c") || (kind == code "a")
 
 abbrev pub own_width : Cell → List ℕ
-own_width f = if is_moved f.key.kind then line (codes ".nr *x" ∷ decimal f.name ∷ codes " \\n(dl" ∷ []) else []
+own_width f =
+    if is_moved f.key.kind then line (codes ".nr *x" ∷ decimal f.name ∷ codes " \\n(dl" ∷ []) else []
 
 abbrev pub set_width : ℕ → List ℕ
 set_width kind = if kind == code "a" then codes "\\n(dlu+2n" else codes "\\n(dlu"
@@ -153,13 +158,15 @@ grown_width c =
 
 abbrev pub one_width : Cell → List ℕ
 one_width f =
-    if f.key.kind == code "a" then most_of f.first (parts (codes "\\n(dlu+2n" ∷ [])) else grown_width f.first
+    if f.key.kind == code "a" then most_of f.first (parts (codes "\\n(dlu+2n" ∷ []))
+    else grown_width f.first
 
 abbrev pub column_width : Table → Cell → List ℕ
 column_width t f = if spans f then spread_width t f else one_width f
 
 abbrev pub size_text : Table → Cell → List ℕ
-size_text t f = line (codes ".nr *h" ∷ decimal f.name ∷ codes " \\n(dn" ∷ []) ++ own_width f ++ column_width t f
+size_text t f =
+    line (codes ".nr *h" ∷ decimal f.name ∷ codes " \\n(dn" ∷ []) ++ own_width f ++ column_width t f
 
 -- ---- a block is set
 
@@ -184,7 +191,8 @@ lines_text t f = text_of t f.field.span
 
 abbrev pub diversion_text : Table → Cell → List ℕ
 diversion_text t f =
-    line (codes ".da *d" ∷ decimal f.name ∷ []) ++ font_before f.key.font ++ lines_text t f ++ font_after f.key.font
+    line (codes ".da *d" ∷ decimal f.name ∷ []) ++ font_before f.key.font ++ lines_text t f
+    ++ font_after f.key.font
     ++ codes ".da\n"
 
 abbrev pub block_text : Table → Cell → Told → List ℕ
@@ -197,7 +205,11 @@ lined_columns f = if f.key.kind == code "a" then None else Some (f.first, f.last
 
 abbrev pub block_told : Table → Cell → Told → Told
 block_told t f told =
-    record told { changed = (lines_of t f).adjusts; clean = (lines_of t f).clean; columns = lined_columns f }
+    record told {
+      changed = (lines_of t f).adjusts;
+      clean = (lines_of t f).clean;
+      columns = lined_columns f;
+    }
 
 -- ---- those in columns that share the line, or the others
 

@@ -67,7 +67,15 @@ placed_form k f = record f { form = if is_ruled k f then forms.Rule else f.form 
 
 abbrev pub new_cell : Table → ℕ → Key → Field → ℕ → ℕ → Cell
 new_cell t r k f first last =
-    record no_cell { field = placed_form k f; key = k; first = first; last = last; top = r; bottom = r; width = field_width t f }
+    record no_cell {
+      field = placed_form k f;
+      key = k;
+      first = first;
+      last = last;
+      top = r;
+      bottom = r;
+      width = field_width t f;
+    }
 
 abbrev pub placed_field : ℕ → Key → Field → ℕ → ℕ → Table → Table
 placed_field r k f first last t = record t {
@@ -81,7 +89,8 @@ field_given t r given = if nat_lt given r.«end» then field t given else no_fie
 
 -- in a column it stands, or the one above goes on
 abbrev pub placed_in : ℕ → Key → Field → ℕ → ℕ → Table → Table
-placed_in r k f first last t = if nat_lt 0 r && goes_on k f then gone_on r first last t else placed_field r k f first last t
+placed_in r k f first last t =
+    if nat_lt 0 r && goes_on k f then gone_on r first last t else placed_field r k f first last t
 
 abbrev pub last_of : Table → Row → ℕ → ℕ
 last_of t r c = last_column t (line t r.line) c

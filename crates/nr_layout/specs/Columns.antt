@@ -62,7 +62,8 @@ or_other None other = other
 or_other (Some x) other = Some x
 
 abbrev pub with_key : Column → Key → Column
-with_key c k = record c { least = or_other k.width c.least; equal = c.equal || k.equal; wide = c.wide || k.wide }
+with_key c k =
+    record c { least = or_other k.width c.least; equal = c.equal || k.equal; wide = c.wide || k.wide }
 
 -- what the first lines say
 abbrev pub keyed : ℕ → Table → ℕ → Column
@@ -125,7 +126,8 @@ abbrev pub measured : Cell → Table → Table
 measured f t = record t { columns = put f.first (with_field t f (column t f.first)) t.columns }
 
 abbrev pub measured_cell : ℕ → Table → Table
-measured_cell n t = if measures (cell_of t n) && not (spans (cell_of t n)) then measured (cell_of t n) t else t
+measured_cell n t =
+    if measures (cell_of t n) && not (spans (cell_of t n)) then measured (cell_of t n) t else t
 
 abbrev pub settled_column : ℕ → Table → Table
 settled_column c t = record t { columns = put c (as_wide (column t c)) t.columns }
@@ -147,7 +149,8 @@ with_column inner width c = if inner then sum (sum width c.width) c.gap else sum
 
 abbrev pub together : ℕ → Table → ℕ → ℕ → ℕ
 together zero t first last = 0
-together (suc n) t first last = with_column (nat_lt (first + n) last) (together n t first last) (column t (first + n))
+together (suc n) t first last =
+    with_column (nat_lt (first + n) last) (together n t first last) (column t (first + n))
 
 abbrev pub span_width : Table → ℕ → ℕ → ℕ
 span_width t first last = together (columns_over first last) t first last
@@ -166,7 +169,9 @@ abbrev pub wider : ℕ → Column → Column
 wider more c = record c { width = sum c.width more }
 
 abbrev pub dealt_to : ℕ → ℕ → Dealing → Dealing
-dealt_to c more d = dealing (record d.table { columns = put c (wider more (column d.table c)) d.table.columns }) (d.rest - more)
+dealt_to c more d =
+    dealing (record d.table { columns = put c (wider more (column d.table c)) d.table.columns })
+    (d.rest - more)
 
 abbrev pub dealt_at : ℕ → ℕ → Dealing → Dealing
 dealt_at last c d = dealt_to c (share d.rest (max (sum last 1 - c) 1)) d
@@ -202,7 +207,8 @@ abbrev pub with_width : ℕ → Column → Column
 with_width width c = record c { width = width }
 
 abbrev pub equal_column : ℕ → ℕ → Table → Table
-equal_column width c t = if (column t c).equal then record t { columns = put c (with_width width (column t c)) t.columns } else t
+equal_column width c t =
+    if (column t c).equal then record t { columns = put c (with_width width (column t c)) t.columns } else t
 
 abbrev pub made_equal : Table → Table
 made_equal t = in_turn (columns t) (equal_column (widest_equal t)) t

@@ -8,4 +8,5 @@ use Rattle.nr_layout.specs.Held.{is_rule}
 use Rattle.nr_layout.specs.Pens.{Stroke}
 
 abbrev pub own : Table → ℕ → ℕ → Option ℕ → Cell → List Stroke
-own t r c line f = if is_rule f.field.form then field_rule t r c else if f.falls then falling t r c line else field_strokes t f
+own t r c line f = if is_rule f.field.form then field_rule t r c else if f.falls then falling t r c line
+    else field_strokes t f

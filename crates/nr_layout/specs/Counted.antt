@@ -17,7 +17,8 @@ with_alpha width c = record c { alphas = true; alpha = max c.alpha width }
 abbrev pub with_number : Option ℕ → Option ℕ → Column → Column
 with_number None front c = record c { numbers = true }
 with_number (Some width) None c = record c { numbers = true }
-with_number (Some width) (Some front) c = record c { numbers = true; front = max c.front front; back = max c.back (width - front) }
+with_number (Some width) (Some front) c =
+    record c { numbers = true; front = max c.front front; back = max c.back (width - front) }
 
 -- ---- all of them together
 
@@ -26,4 +27,8 @@ alpha_width c = if c.alphas then sum c.alpha 2 else 0
 
 -- one cell at least
 abbrev pub as_wide : Column → Column
-as_wide c = record c { width = max (max (max (max c.width (sum c.front c.back)) (alpha_width c)) (or_nothing c.least_cells)) 1 }
+as_wide c =
+    record c {
+      width = max (max (max (max c.width (sum c.front c.back)) (alpha_width c))
+          (or_nothing c.least_cells)) 1;
+    }

@@ -35,7 +35,8 @@ abbrev pub is_number : Cell → Bool
 is_number f = (f.key.kind == code "n") && is_text f.field.form && is_given f.field.front
 
 abbrev pub front_span : Cell → Span
-front_span f = record f.field.span { «end» = min (sum f.field.span.start (or_nothing f.field.front)) f.field.span.«end» }
+front_span f =
+    record f.field.span { «end» = min (sum f.field.span.start (or_nothing f.field.front)) f.field.span.«end» }
 
 abbrev pub front_cells : Table → Cell → Option ℕ
 front_cells t f = cells_of (text_of t (front_span f))
@@ -47,7 +48,8 @@ number_in None room c = None
 number_in (Some front) room c = Some (sum ((room - sum c.front c.back) / 2) c.front - front)
 
 abbrev pub number_begin : Table → Cell → ℕ → Option ℕ
-number_begin t f room = if not (is_number f) || spans f then None else number_in (front_cells t f) room (column t f.first)
+number_begin t f room =
+    if not (is_number f) || spans f then None else number_in (front_cells t f) room (column t f.first)
 
 abbrev pub or_middle : Option ℕ → ℕ → ℕ → ℕ
 or_middle None room width = (room - width) / 2
@@ -59,7 +61,8 @@ begin_in t f room =
     let width = or_nothing f.width in
     if f.key.kind == code "r" then record left { cells = sum left.cells room - width } else
     if f.key.kind == code "a" then on (if spans f then 1 else (room - (column t f.first).alpha) / 2) left else
-    if (f.key.kind == code "c") || (f.key.kind == code "n") then on (or_middle (number_begin t f room) room width) left else left
+    if (f.key.kind == code "c") || (f.key.kind == code "n")
+    then on (or_middle (number_begin t f room) room width) left else left
 
 -- where its columns show their width, or only the formatter knows
 abbrev pub told_or : Option ℕ → Bool → Table → Cell → Begin
@@ -68,7 +71,8 @@ told_or (Some room) plain t f = if plain then begins.At (begin_in t f room) else
 
 abbrev pub stands_left : Cell → Bool
 stands_left f =
-    (f.key.kind == code "l") || (f.key.kind == code "^") || (f.key.kind == code "_") || (f.key.kind == code "=")
+    (f.key.kind == code "l") || (f.key.kind == code "^") || (f.key.kind == code "_")
+    || (f.key.kind == code "=")
     || ((f.key.kind == code "n") && not (is_text f.field.form))
 
 abbrev pub is_plain : Cell → Bool
@@ -131,7 +135,8 @@ right_begin t f = codes "(" ++ place_text (column t f.last).right ++ codes "-" +
 
 -- from where columns end back to where they begin, and half of what that leaves
 abbrev pub room_text : Table → Cell → List ℕ
-room_text t f = codes "(" ++ place_text (column t f.last).right ++ codes "-(" ++ place_text (column t f.first).left
+room_text t f =
+    codes "(" ++ place_text (column t f.last).right ++ codes "-(" ++ place_text (column t f.first).left
 
 abbrev pub half_text : Table → Cell → List ℕ
 half_text t f = codes "/48u*24u+" ++ place_text (column t f.first).left ++ codes ")"
@@ -173,7 +178,9 @@ abbrev pub shown_width : Cell → Option ℕ
 shown_width f = if nat_lt 0 f.name then None else f.width
 
 abbrev pub text_strokes : Table → Cell → List Stroke
-text_strokes t f = begin_at (begin_of t f) t f ++ pens.begin (first_of t f) ++ Text (field_text t f) ∷ Pass (shown_width f) ∷ []
+text_strokes t f =
+    begin_at (begin_of t f) t f ++ pens.begin (first_of t f) ++ Text (field_text t f)
+    ∷ Pass (shown_width f) ∷ []
 
 abbrev pub field_in : Form → Table → Cell → List Stroke
 field_in forms.Text t f = if has_text f.field then text_strokes t f else []
@@ -228,7 +235,8 @@ abbrev pub content : Table → ℕ → ℕ → Option ℕ → List Stroke
 content t r c line =
     let f = cell t r c in
     if (f.top == r) && (f.first == c) then
-    (if is_rule f.field.form then field_rule t r c else if f.falls then falling t r c line else field_strokes t f)
+    (if is_rule f.field.form then field_rule t r c else if f.falls then falling t r c line
+    else field_strokes t f)
     else falling t r c line
 
 abbrev pub row_cell : Table → ℕ → ℕ → Option ℕ → List Stroke
@@ -270,7 +278,8 @@ abbrev pub goes_through : Table → Option ℕ → Option ℕ → ℕ → Bool
 goes_through t above below c = was_covered t above below c && is_covered t above below c
 
 abbrev pub some_crossing : Table → Option ℕ → Option ℕ → ℕ → ℕ → List Stroke
-some_crossing t above below c n = crossing_begin t above below c ++ pens.bars (crossing_byte (goes_through t above below c)) n
+some_crossing t above below c n =
+    crossing_begin t above below c ++ pens.bars (crossing_byte (goes_through t above below c)) n
 
 abbrev pub crossing : Table → Option ℕ → Option ℕ → ℕ → List Stroke
 crossing t above below c =
@@ -282,7 +291,8 @@ going_on t above (Some r) c line = if is_covered t above (Some r) c then falling
 
 abbrev pub rule_cell : Table → Option ℕ → Option ℕ → ℕ → Option ℕ → List Stroke
 rule_cell t above below c line =
-    crossing t above below c ++ going_on t above below c line ++ go (not (is_covered t above below c)) (column t c).right
+    crossing t above below c ++ going_on t above below c line ++ go (not (is_covered t above below c))
+    (column t c).right
 
 abbrev pub rule_cells : ℕ → Table → Option ℕ → Option ℕ → Option ℕ → List Stroke
 rule_cells zero t above below line = []
@@ -290,12 +300,14 @@ rule_cells (suc c) t above below line = rule_cells c t above below line ++ rule_
 
 abbrev pub rule_end : Table → Option ℕ → Option ℕ → List Stroke
 rule_end t above below =
-    if meeting t above below (columns t) == 0 then [] else pens.bars (crossing_byte (was_covered t above below (columns t))) 1
+    if meeting t above below (columns t) == 0 then []
+    else pens.bars (crossing_byte (was_covered t above below (columns t))) 1
 
 abbrev pub rule_strokes : Table → Option ℕ → Option ℕ → Option ℕ → List Stroke
 rule_strokes t above below line =
     rule_cells (columns t) t above below line
-    ++ go (not (was_covered t above below (columns t) && nat_lt 0 (columns t))) (table_end t) ++ rule_end t above below
+    ++ go (not (was_covered t above below (columns t) && nat_lt 0 (columns t))) (table_end t)
+    ++ rule_end t above below
 
 -- the outer rule of a double box meets no bars
 abbrev pub edge_strokes : Table → List Stroke

@@ -28,13 +28,16 @@ width_end t = on 1 (table_end t)
 
 abbrev pub RowsEndTogether : Type 0
 RowsEndTogether =
-    (t : Table) (r : ℕ) (line : Option ℕ) → bars_of t r (columns t) ≡ 1 → StandsWithin t (row_cells (columns t) t r line)
+    (t : Table) (r : ℕ) (line : Option ℕ) → bars_of t r (columns t) ≡ 1
+    → StandsWithin t (row_cells (columns t) t r line)
     → end_of (row_strokes t r line) ≡ Some (width_end t)
 
 abbrev pub RulesEndTogether : Type 0
 RulesEndTogether =
-    (t : Table) (above below line : Option ℕ) → meeting t above below (columns t) ≡ 1 → StandsWithin t (rule_cells (columns t) t above below line)
+    (t : Table) (above below line : Option ℕ) → meeting t above below (columns t) ≡ 1
+    → StandsWithin t (rule_cells (columns t) t above below line)
     → end_of (rule_strokes t above below line) ≡ Some (width_end t)
 
 abbrev pub EdgesEndTogether : Type 0
-EdgesEndTogether = (t : Table) → (table_end t).mark ≡ marks.Edge → 1 ≤ (table_end t).cells → end_of (edge_strokes t) ≡ Some (width_end t)
+EdgesEndTogether = (t : Table) → (table_end t).mark ≡ marks.Edge → 1 ≤ (table_end t).cells
+    → end_of (edge_strokes t) ≡ Some (width_end t)

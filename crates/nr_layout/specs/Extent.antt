@@ -14,18 +14,21 @@ is_printing b = (nat_le 32 b && nat_le b 126) || nat_le 128 b
 abbrev pub named : ℕ → ℕ → ℕ
 named a b =
     if (a == code "e") && (b == code "m") then 2 else
-    if ((a == code "h") && (b == code "y")) || ((a == code "b") && (b == code "u")) || ((a == code "a") && (b == code "q"))
+    if ((a == code "h") && (b == code "y")) || ((a == code "b") && (b == code "u"))
+    || ((a == code "a") && (b == code "q"))
     || ((a == code "d") && (b == code "q")) || ((a == code "r") && (b == code "s")) then 1 else 0
 
 -- \& \% \| \^ \{ \}
 abbrev pub is_empty_escape : ℕ → Bool
 is_empty_escape b =
-    (b == code "&") || (b == code "%") || (b == code "|") || (b == code "^") || (b == code "{") || (b == code "}")
+    (b == code "&") || (b == code "%") || (b == code "|") || (b == code "^") || (b == code "{")
+    || (b == code "}")
 
 -- \- \0 \e \. \' \` \\ and a backslash and a blank
 abbrev pub is_sign : ℕ → Bool
 is_sign b =
-    (b == code "-") || (b == code " ") || (b == code "0") || (b == code "e") || (b == code ".") || (b == code "'") || (b == code "`")
+    (b == code "-") || (b == code " ") || (b == code "0") || (b == code "e") || (b == code ".")
+    || (b == code "'") || (b == code "`")
     || (b == code "\\")
 
 abbrev pub is_digit : ℕ → Bool
@@ -41,7 +44,8 @@ abbrev pub printed : ℕ → Extent → Extent
 printed cells e = record { reading = readings.Text; cells = e.cells + cells }
 
 abbrev pub in_text : ℕ → Extent → Extent
-in_text b e = if b == code "\\" then at readings.Escape e else if is_printing b then printed 1 e else at readings.Unknown e
+in_text b e = if b == code "\\" then at readings.Escape e else if is_printing b then printed 1 e
+    else at readings.Unknown e
 
 abbrev pub in_escape : ℕ → Extent → Extent
 in_escape b e =
@@ -54,7 +58,8 @@ in_escape b e =
 
 -- \fX, \f(XX or \f[name]
 abbrev pub in_font : ℕ → Extent → Extent
-in_font b e = if b == code "(" then at readings.FontName e else if b == code "[" then at readings.Brackets e else at readings.Text e
+in_font b e = if b == code "(" then at readings.FontName e else if b == code "[" then at readings.Brackets e
+    else at readings.Text e
 
 abbrev pub in_digit : ℕ → Extent → Extent
 in_digit b e = if is_digit b then at readings.Text e else at readings.Unknown e

@@ -10,7 +10,8 @@ use Rattle.nr_layout.specs.Held.{cell_of, column, columns}
 
 abbrev pub FieldsFit : Type 0
 FieldsFit =
-    (t : Table) (n width : ℕ) → n < length t.cells.items → measures (cell_of t n) ≡ true → spans (cell_of t n) ≡ false
+    (t : Table) (n width : ℕ) → n < length t.cells.items → measures (cell_of t n) ≡ true
+    → spans (cell_of t n) ≡ false
     → (cell_of t n).first < columns t → (cell_of t n).width ≡ Some width → width < 2 ^ 64
     → (is_number (cell_of t n) ≡ true → is_given (front_cells t (cell_of t n)) ≡ true)
     → width ≤ (column (measured_all t) (cell_of t n).first).width
@@ -18,7 +19,8 @@ FieldsFit =
 -- of several columns, with the spaces between them
 abbrev pub SpansFit : Type 0
 SpansFit =
-    (t : Table) (n : ℕ) → n < length t.cells.items → measures (cell_of t n) ≡ true → spans (cell_of t n) ≡ true
+    (t : Table) (n : ℕ) → n < length t.cells.items → measures (cell_of t n) ≡ true
+    → spans (cell_of t n) ≡ true
     → (cell_of t n).last < columns t → columns t < 2 ^ 64
     → width_wanted (cell_of t n) ≤ span_width (measured_all t) (cell_of t n).first (cell_of t n).last
 
@@ -33,5 +35,6 @@ LeastFits =
 -- those of e are of one width
 abbrev pub EqualColumns : Type 0
 EqualColumns =
-    (t : Table) (c d : ℕ) → c < columns t → d < columns t → (column t c).equal ≡ true → (column t d).equal ≡ true
+    (t : Table) (c d : ℕ) → c < columns t → d < columns t → (column t c).equal ≡ true
+    → (column t d).equal ≡ true
     → (column (measured_all t) c).width ≡ (column (measured_all t) d).width

@@ -13,7 +13,8 @@ use Rattle.nr_layout.specs.Places.{sum}
 
 -- one more, if there is room
 abbrev pub with_one : {A : Type 0} → A → Items A → Items A
-with_one a i = record { items = if nat_lt (length i.items) i.room then i.items ++ a ∷ [] else i.items; room = i.room }
+with_one a i =
+    record { items = if nat_lt (length i.items) i.room then i.items ++ a ∷ [] else i.items; room = i.room }
 
 -- the last of some is another, if there is one
 abbrev pub with_last : {A : Type 0} → A → Items A → Items A
@@ -37,7 +38,8 @@ abbrev pub with_last_line : Line → Table → Table
 with_last_line l t = record t { lines = with_last l t.lines }
 
 abbrev pub line_begun : Table → Table
-line_begun t = record t { lines = with_one (record { first = length t.keys.items; count = 0; bars = 0 }) t.lines }
+line_begun t =
+    record t { lines = with_one (record { first = length t.keys.items; count = 0; bars = 0 }) t.lines }
 
 abbrev pub line_ended : ℕ → Table → Table
 line_ended bars t = with_last_line (record (last_line t) { bars = bars }) t
@@ -82,7 +84,9 @@ abbrev pub closed_in : Open → Table → Table
 closed_in opens.Nothing t = t
 closed_in (opens.Width start) t =
     let end = length t.text.items in
-    if nat_lt start end then with_last_key (record (last_key t) { width = Some (record { start = start; «end» = end }) }) t else t
+    if nat_lt start end
+    then with_last_key (record (last_key t) { width = Some (record { start = start; «end» = end }) }) t
+    else t
 closed_in (opens.Gap gap) t = with_last_key (record (last_key t) { gap = Some gap }) t
 
 -- what is open ends, where it is empty without effect
@@ -105,12 +109,14 @@ formats_begun t = record t { next_line = length t.lines.items }
 -- one line of one letter, where there is none
 abbrev pub with_a_line : Table → Table
 with_a_line t =
-    if nat_le (length t.lines.items) t.next_line then key_added (code "l") 0 (line_begun (formats_begun t)) else t
+    if nat_le (length t.lines.items) t.next_line then key_added (code "l") 0 (line_begun (formats_begun t))
+    else t
 
 -- the text of rows begins, where none of them was read
 abbrev pub rows_begun : Table → Table
 rows_begun t = record t {
-  rows_from = if (length t.rows.items == 0) && (length t.items.items == 0) then length t.text.items else t.rows_from;
+  rows_from =
+      if (length t.rows.items == 0) && (length t.items.items == 0) then length t.text.items else t.rows_from;
   from = length t.text.items;
 }
 

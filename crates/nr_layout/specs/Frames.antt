@@ -9,7 +9,8 @@ use Rattle.nr_layout.specs.Places.{edge, on, sum}
 
 -- one field stands in both columns
 abbrev pub is_inside : Table → ℕ → ℕ → Bool
-is_inside t r c = ((key t (line t (row t r).line) c).kind == code "s") || (cell_number t r c == cell_number t r (c - 1))
+is_inside t r c =
+    ((key t (line t (row t r).line) c).kind == code "s") || (cell_number t r c == cell_number t r (c - 1))
 
 abbrev pub count : Bool → ℕ
 count true = 1

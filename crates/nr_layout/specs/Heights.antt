@@ -50,7 +50,8 @@ has_none t r = (count_blocks t r true == 0) && (count_blocks t r false == 0)
 
 -- one block alone, which surely prints something
 abbrev pub has_one : Table → ℕ → Bool
-has_one t r = (count_blocks t r true == 1) && (count_blocks t r false == 0) && (lines_of t (only_block t r)).prints
+has_one t r =
+    (count_blocks t r true == 1) && (count_blocks t r false == 0) && (lines_of t (only_block t r)).prints
 
 abbrev pub tall_of : Table → ℕ → Tall
 tall_of t r =
@@ -90,7 +91,8 @@ item_lines t top bottom whole (items.Request s) = 0
 
 abbrev pub lines_between : Table → ℕ → ℕ → Bool → ℕ
 lines_between t top bottom whole =
-    total 0 (sum (row t bottom).item 1 - (row t top).item) (λ n. item_lines t top bottom whole (item t (sum (row t top).item n)))
+    total 0 (sum (row t bottom).item 1 - (row t top).item)
+    (λ n. item_lines t top bottom whole (item t (sum (row t top).item n)))
 
 -- ---- how high they are
 
@@ -120,11 +122,14 @@ left_text t f r =
     parts (codes "\\n[*h" ∷ decimal f.name ∷ codes "]u-(" ∷ []) ++ between_text t f.top r false ++ codes ")"
 
 abbrev pub needed_text : Table → Cell → ℕ → List ℕ
-needed_text t f r = if f.top == r then parts (codes "\\n[*h" ∷ decimal f.name ∷ codes "]" ∷ []) else left_text t f r
+needed_text t f r =
+    if f.top == r then parts (codes "\\n[*h" ∷ decimal f.name ∷ codes "]" ∷ []) else left_text t f r
 
 -- where that is more than the row has, it has that
 abbrev pub compared : Table → ℕ → List ℕ
-compared t r = parts (codes ">\\n[*h_" ∷ decimal (row t r).item ∷ codes "] .nr *h_" ∷ decimal (row t r).item ∷ codes " " ∷ [])
+compared t r =
+    parts (codes ">\\n[*h_" ∷ decimal (row t r).item ∷ codes "] .nr *h_" ∷ decimal (row t r).item
+    ∷ codes " " ∷ [])
 
 abbrev pub most_height : Table → Cell → ℕ → List ℕ
 most_height t f r = codes ".if " ++ needed_text t f r ++ compared t r ++ needed_text t f r ++ codes "\n"

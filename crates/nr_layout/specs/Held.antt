@@ -28,7 +28,18 @@ use Rattle.nr_units.specs.Items.{Items}
 -- ---- what stands for what is not there
 
 abbrev pub usual : Key
-usual = record { kind = code "l"; bars = 0; font = 0; width = None; gap = None; equal = false; wide = false; zero = false; stand = stands.Middle }
+usual =
+    record {
+      kind = code "l";
+      bars = 0;
+      font = 0;
+      width = None;
+      gap = None;
+      equal = false;
+      wide = false;
+      zero = false;
+      stand = stands.Middle;
+    }
 
 abbrev pub no_line : Line
 no_line = record { first = 0; count = 0; bars = 0 }
@@ -40,16 +51,59 @@ abbrev pub no_field : Field
 no_field = record { form = forms.Text; span = no_span; front = None }
 
 abbrev pub no_row : Row
-no_row = record { first = 0; «end» = 0; beyond = 0; line = 0; cells = 0; cells_end = 0; own = true; last_own = 0; step = 0; item = 0; tall = talls.Line }
+no_row =
+    record {
+      first = 0;
+      «end» = 0;
+      beyond = 0;
+      line = 0;
+      cells = 0;
+      cells_end = 0;
+      own = true;
+      last_own = 0;
+      step = 0;
+      item = 0;
+      tall = talls.Line;
+    }
 
 abbrev pub no_cell : Cell
-no_cell = record { field = no_field; key = usual; first = 0; last = 0; top = 0; bottom = 0; falls = false; width = Some 0; name = 0; stored = false; line = 0 }
+no_cell =
+    record {
+      field = no_field;
+      key = usual;
+      first = 0;
+      last = 0;
+      top = 0;
+      bottom = 0;
+      falls = false;
+      width = Some 0;
+      name = 0;
+      stored = false;
+      line = 0;
+    }
 
 abbrev pub no_step : Step
 no_step = record { kind = steps.Bars 0 0; line = 0 }
 
 abbrev pub fresh : Column
-fresh = record { width = 0; least = None; least_cells = Some 0; alpha = 0; alphas = false; front = 0; back = 0; numbers = false; gap = 3; equal = false; wide = false; known = true; left = edge; right = edge; bar = edge }
+fresh =
+    record {
+      width = 0;
+      least = None;
+      least_cells = Some 0;
+      alpha = 0;
+      alphas = false;
+      front = 0;
+      back = 0;
+      numbers = false;
+      gap = 3;
+      equal = false;
+      wide = false;
+      known = true;
+      left = edge;
+      right = edge;
+      bar = edge;
+    }
 
 -- ---- by number
 
@@ -91,7 +145,9 @@ cell t r c = cell_of t (cell_number t r c)
 -- ---- text
 
 abbrev pub part : List ℕ → Span → List ℕ
-part text s = if nat_le s.start s.«end» && nat_le s.«end» (length text) then take (s.«end» - s.start) (drop s.start text) else []
+part text s =
+    if nat_le s.start s.«end» && nat_le s.«end» (length text)
+    then take (s.«end» - s.start) (drop s.start text) else []
 
 abbrev pub text_of : Table → Span → List ℕ
 text_of t s = part t.text.items s

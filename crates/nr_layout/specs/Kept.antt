@@ -110,7 +110,8 @@ is_known t = all_below (columns t) (is_column_known t)
 
 -- where all columns are known nothing is kept
 abbrev pub strings_chosen : Table → Told → Told
-strings_chosen t told = if is_known t then told else record told { rule = often_rule t; string = often_barred t }
+strings_chosen t told =
+    if is_known t then told else record told { rule = often_rule t; string = often_barred t }
 
 -- ---- strings
 
@@ -125,7 +126,8 @@ abbrev pub bars_line : Table → ℕ → List Stroke
 bars_line t r = whole (bars_strokes t r None) true
 
 abbrev pub rule_kept : Table → Between → List Stroke
-rule_kept t rule = Bytes (codes ".di *z\n") ∷ rule_line t rule ++ Bytes (codes ".di\n.ds *s0 \"\\*(*z.\n") ∷ []
+rule_kept t rule =
+    Bytes (codes ".di *z\n") ∷ rule_line t rule ++ Bytes (codes ".di\n.ds *s0 \"\\*(*z.\n") ∷ []
 
 abbrev pub bars_kept : Table → ℕ → List Stroke
 bars_kept t r = Bytes (codes ".di *z\n") ∷ bars_line t r ++ Bytes (codes ".di\n.ds *s1 \"\\*(*z.\n") ∷ []
@@ -154,7 +156,8 @@ is_like t None rule = false
 is_like t (Some kept) rule = is_same_rule t kept rule
 
 abbrev pub rule_or_string : Table → Between → Told → List Stroke
-rule_or_string t rule told = if is_like t told.rule rule then Bytes (codes "\\*[*s0]\n") ∷ [] else rule_line t rule
+rule_or_string t rule told =
+    if is_like t told.rule rule then Bytes (codes "\\*[*s0]\n") ∷ [] else rule_line t rule
 
 abbrev pub are_like : Table → Option ℕ → ℕ → Bool
 are_like t None r = false

@@ -74,11 +74,14 @@ abbrev pub next_of : Bool → ℕ → Column → Place → Place
 next_of told n c right = if told then after (marks.Begin (sum n 1)) else on c.gap right
 
 abbrev pub laid : Bool → ℕ → Place → Column → Column
-laid told n left c = record c { left = left; right = right_of n c left; bar = bar_of told n c (right_of n c left) }
+laid told n left c =
+    record c { left = left; right = right_of n c left; bar = bar_of told n c (right_of n c left) }
 
 abbrev pub laid_column : ℕ → Laying → Laying
 laid_column n l = record {
-  table = record l.table { columns = put n (laid l.table.looks.expand n l.place (column l.table n)) l.table.columns };
+  table =
+      record l.table
+      { columns = put n (laid l.table.looks.expand n l.place (column l.table n)) l.table.columns };
   place = next_of l.table.looks.expand n (column l.table n) (right_of n (column l.table n) l.place);
 }
 

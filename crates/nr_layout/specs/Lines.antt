@@ -23,7 +23,8 @@ use Rattle.nr_layout.specs.Writing.{line, text_if}
 -- ---- room for lines, in a diversion where it is printed
 
 abbrev pub need_here : ℕ → List ℕ
-need_here lines = line (codes ".if '\\n(.z'' .if " ∷ decimal lines ∷ codes "v<\\n(.p .ne " ∷ decimal lines ∷ codes "v" ∷ [])
+need_here lines =
+    line (codes ".if '\\n(.z'' .if " ∷ decimal lines ∷ codes "v<\\n(.p .ne " ∷ decimal lines ∷ codes "v" ∷ [])
 
 abbrev pub need_printed : ℕ → List ℕ
 need_printed lines = line (codes ".if !'\\n(.z'' \\{\\\n\\!.ne " ∷ decimal lines ∷ codes "v\n.\\}" ∷ [])
@@ -57,7 +58,8 @@ boxed t = text_if (is_boxed t) (codes ".nr *box 1\n")
 -- `*O` is the indent with which a table stands in the middle of the line
 abbrev pub middle : Table → List ℕ
 middle t =
-    line (codes ".nr *O \\n(.l-\\n(.i-" ∷ decimal (table_end t).cells ∷ codes "n/48*24" ∷ []) ++ codes ".if \\n(*O>0 .in +\\n(*Ou\n"
+    line (codes ".nr *O \\n(.l-\\n(.i-" ∷ decimal (table_end t).cells ∷ codes "n/48*24" ∷ [])
+    ++ codes ".if \\n(*O>0 .in +\\n(*Ou\n"
 
 abbrev pub centered : Table → List ℕ
 centered t = if t.looks.center then middle t else []
@@ -67,7 +69,8 @@ whole_room t lines ends = if is_kept t && ends then need lines else []
 
 -- `*u` and `*I` keep whether lines are filled, and the indent
 abbrev pub head : Table → ℕ → Bool → List ℕ
-head t lines ends = codes ".br\n.nr *u \\n(.u\n.nr *I \\n(.i\n.nf\n" ++ boxed t ++ centered t ++ whole_room t lines ends
+head t lines ends =
+    codes ".br\n.nr *u \\n(.u\n.nr *I \\n(.i\n.nf\n" ++ boxed t ++ centered t ++ whole_room t lines ends
 
 abbrev pub opening : Table → Bool → ℕ → Bool → List ℕ
 opening t opens lines ends = if opens then head t lines ends else []
@@ -113,7 +116,9 @@ abbrev pub all_outside : Table → ℕ → ℕ → List Stroke
 all_outside t first count = joined count (next_outside t first)
 
 abbrev pub beyond : Table → ℕ → List Stroke
-beyond t r = Bytes (codes "\\&") ∷ all_outside t (row t r).beyond ((row t r).«end» - (row t r).beyond) ++ Bytes (codes "\n") ∷ []
+beyond t r =
+    Bytes (codes "\\&") ∷ all_outside t (row t r).beyond ((row t r).«end» - (row t r).beyond)
+    ++ Bytes (codes "\n") ∷ []
 
 -- ---- lines
 

@@ -30,4 +30,6 @@ own_rows t (i ∷ is) = own_row t i ++ own_rows t is
 
 -- where there is room for four lines an item
 abbrev pub RowsGoOut : Type 0
-RowsGoOut = (t : Table) (ends : Bool) → 4 * length t.items.items + 4 ≤ t.steps.room → rows_of (steps_taken ends t).steps.items ≡ own_rows t t.items.items
+RowsGoOut =
+    (t : Table) (ends : Bool) → 4 * length t.items.items + 4 ≤ t.steps.room
+    → rows_of (steps_taken ends t).steps.items ≡ own_rows t t.items.items

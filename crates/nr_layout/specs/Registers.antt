@@ -33,7 +33,8 @@ most letter c need =
 -- the width of a column
 abbrev pub most_of : ℕ → List ℕ → List ℕ
 most_of c need =
-    codes ".if " ++ need ++ parts (codes ">\\n[*w" ∷ decimal c ∷ codes "] .nr *w" ∷ decimal c ∷ codes " " ∷ []) ++ need ++ codes "\n"
+    codes ".if " ++ need ++ parts (codes ">\\n[*w" ∷ decimal c ∷ codes "] .nr *w" ∷ decimal c ∷ codes " "
+    ∷ []) ++ need ++ codes "\n"
 
 -- ---- what shows of a column's widths
 
@@ -42,14 +43,17 @@ set name c cells = line (name ∷ decimal c ∷ codes " " ∷ decimal cells ∷ 
 
 -- what w says without a scale is in n
 abbrev pub is_scale : ℕ → Bool
-is_scale b = (nat_le (code "a") b && nat_le b (code "z")) || (nat_le (code "A") b && nat_le b (code "Z")) || (b == code ")")
+is_scale b =
+    (nat_le (code "a") b && nat_le b (code "z")) || (nat_le (code "A") b && nat_le b (code "Z"))
+    || (b == code ")")
 
 abbrev pub is_scaled : List ℕ → Bool
 is_scaled text = (length text == 0) || is_scale (get_or text (length text - 1) 0)
 
 abbrev pub least_text : ℕ → List ℕ → List ℕ
 least_text c text =
-    codes ".nr *t (" ++ text ++ text_if (not (is_scaled text)) (codes "n") ++ codes ")+12/24*24\n" ++ most_of c (parts (codes "\\n(*tu" ∷ []))
+    codes ".nr *t (" ++ text ++ text_if (not (is_scaled text)) (codes "n") ++ codes ")+12/24*24\n"
+    ++ most_of c (parts (codes "\\n(*tu" ∷ []))
 
 abbrev pub least_in : Option Span → Option ℕ → Table → ℕ → List ℕ
 least_in (Some s) None t c = least_text c (text_of t s)
@@ -88,7 +92,8 @@ number_need t c f = most (code "l") c (share t f true false) ++ most (code "q") 
 
 abbrev pub aligned_text : Table → ℕ → Cell → List ℕ
 aligned_text t c f =
-    if is_alpha f then most (code "a") c (share t f false false) else if is_number f then number_need t c f else []
+    if is_alpha f then most (code "a") c (share t f false false) else if is_number f
+    then number_need t c f else []
 
 abbrev pub aligned_in : Option Cell → Table → ℕ → List ℕ
 aligned_in None t c = []

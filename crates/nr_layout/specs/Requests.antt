@@ -8,7 +8,8 @@ is_blank b = (b == code " ") || (b == code "\t")
 
 abbrev pub is_letter : ℕ → Bool
 is_letter b =
-    (nat_le (code "a") b && nat_le b (code "z")) || (nat_le (code "A") b && nat_le b (code "Z")) || (nat_le (code "0") b && nat_le b (code "9"))
+    (nat_le (code "a") b && nat_le b (code "z")) || (nat_le (code "A") b && nat_le b (code "Z"))
+    || (nat_le (code "0") b && nat_le b (code "9"))
     || (b == code "_")
 
 abbrev pub after_blanks : List ℕ → List ℕ
@@ -55,8 +56,10 @@ is_one name first second = false
 -- .ds .as .nr .rr .rm .af .de
 abbrev pub is_definition : List ℕ → Bool
 is_definition name =
-    is_one name (code "d") (code "s") || is_one name (code "a") (code "s") || is_one name (code "n") (code "r")
-    || is_one name (code "r") (code "r") || is_one name (code "r") (code "m") || is_one name (code "a") (code "f")
+    is_one name (code "d") (code "s") || is_one name (code "a") (code "s")
+    || is_one name (code "n") (code "r")
+    || is_one name (code "r") (code "r") || is_one name (code "r") (code "m")
+    || is_one name (code "a") (code "f")
     || is_one name (code "d") (code "e")
 
 abbrev pub defines : List ℕ → Bool
@@ -72,9 +75,12 @@ adjusts line = is_asked line && is_adjusting (request line)
 -- .B .I .BR .RB .IR .RI .BI .IB .SM .SB
 abbrev pub is_font_macro : List ℕ → Bool
 is_font_macro name =
-    is_letter_of name (code "B") || is_letter_of name (code "I") || is_one name (code "B") (code "R") || is_one name (code "R") (code "B")
-    || is_one name (code "I") (code "R") || is_one name (code "R") (code "I") || is_one name (code "B") (code "I")
-    || is_one name (code "I") (code "B") || is_one name (code "S") (code "M") || is_one name (code "S") (code "B")
+    is_letter_of name (code "B") || is_letter_of name (code "I") || is_one name (code "B") (code "R")
+    || is_one name (code "R") (code "B")
+    || is_one name (code "I") (code "R") || is_one name (code "R") (code "I")
+    || is_one name (code "B") (code "I")
+    || is_one name (code "I") (code "B") || is_one name (code "S") (code "M")
+    || is_one name (code "S") (code "B")
 
 abbrev pub begins_blank : List ℕ → Bool
 begins_blank [] = false
@@ -91,8 +97,10 @@ sets line = is_asked line && is_font_macro (name_of (behind line)) && has_words 
 -- .na .ad .nh .hy .br .sp
 abbrev pub is_soft_name : List ℕ → Bool
 is_soft_name name =
-    is_one name (code "n") (code "a") || is_one name (code "a") (code "d") || is_one name (code "n") (code "h")
-    || is_one name (code "h") (code "y") || is_one name (code "b") (code "r") || is_one name (code "s") (code "p")
+    is_one name (code "n") (code "a") || is_one name (code "a") (code "d")
+    || is_one name (code "n") (code "h")
+    || is_one name (code "h") (code "y") || is_one name (code "b") (code "r")
+    || is_one name (code "s") (code "p")
 
 -- a line of a block that leaves indent, length, filling and font
 abbrev pub is_soft : List ℕ → Bool
@@ -101,10 +109,14 @@ is_soft line = sets line || (is_asked line && is_soft_name (name_of (behind line
 -- sp br ft ps vs ds nr as rr rm ne ns rs af
 abbrev pub is_harmless_pair : ℕ → ℕ → Bool
 is_harmless_pair a b =
-    ((a == code "s") && (b == code "p")) || ((a == code "b") && (b == code "r")) || ((a == code "f") && (b == code "t"))
-    || ((a == code "p") && (b == code "s")) || ((a == code "v") && (b == code "s")) || ((a == code "d") && (b == code "s"))
-    || ((a == code "n") && (b == code "r")) || ((a == code "a") && (b == code "s")) || ((a == code "r") && (b == code "r"))
-    || ((a == code "r") && (b == code "m")) || ((a == code "n") && (b == code "e")) || ((a == code "n") && (b == code "s"))
+    ((a == code "s") && (b == code "p")) || ((a == code "b") && (b == code "r"))
+    || ((a == code "f") && (b == code "t"))
+    || ((a == code "p") && (b == code "s")) || ((a == code "v") && (b == code "s"))
+    || ((a == code "d") && (b == code "s"))
+    || ((a == code "n") && (b == code "r")) || ((a == code "a") && (b == code "s"))
+    || ((a == code "r") && (b == code "r"))
+    || ((a == code "r") && (b == code "m")) || ((a == code "n") && (b == code "e"))
+    || ((a == code "n") && (b == code "s"))
     || ((a == code "r") && (b == code "s")) || ((a == code "a") && (b == code "f"))
 
 -- a comment where no name stands; a name that begins with such two letters

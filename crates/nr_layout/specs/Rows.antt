@@ -21,7 +21,14 @@ text_begun t = record t { from = length t.text.items }
 -- a field whose text ends there
 abbrev pub field_pushed : Form → ℕ → Option ℕ → Table → Table
 field_pushed form end front t =
-    text_begun (record t { fields = with_one (record { form = form; span = record { start = t.from; «end» = end }; front = front }) t.fields })
+    text_begun
+    (record t {
+      fields = with_one (record {
+        form = form;
+        span = record { start = t.from; «end» = end };
+        front = front;
+      }) t.fields;
+    })
 
 abbrev pub mark_added : Form → Table → Table
 mark_added form t = field_pushed form (length t.text.items) None (text_begun t)
@@ -32,7 +39,8 @@ block_ended t = field_pushed forms.Block (length t.text.items) None t
 -- a \c at its end would join rows
 abbrev pub joins : List ℕ → Bool
 joins text =
-    nat_le 2 (length text) && (get_or text (length text - 2) 0 == code "\\") && (get_or text (length text - 1) 0 == code "c")
+    nat_le 2 (length text) && (get_or text (length text - 2) 0 == code "\\")
+    && (get_or text (length text - 1) 0 == code "c")
 
 abbrev pub joined : List ℕ → ℕ
 joined text = if joins text then 2 else 0
@@ -41,7 +49,8 @@ joined text = if joins text then 2 else 0
 abbrev pub texts_added : List ℕ → Table → Table
 texts_added text t = record t {
   text = record {
-    items = if nat_le (length text) (t.text.room - length t.text.items) then t.text.items ++ text else t.text.items;
+    items = if nat_le (length text) (t.text.room - length t.text.items) then t.text.items ++ text
+        else t.text.items;
     room = t.text.room;
   };
 }
@@ -62,7 +71,8 @@ abbrev pub is_comment : List ℕ → Bool
 is_comment text = nat_le 3 (length text) && (get_or text 1 0 == code "\\") && (get_or text 2 0 == code "\"")
 
 abbrev pub request_read : Span → Table → Table
-request_read s t = if is_comment (text_of t s) then t else record t { items = with_one (items.Request s) t.items }
+request_read s t =
+    if is_comment (text_of t s) then t else record t { items = with_one (items.Request s) t.items }
 
 abbrev pub request_ended : Table → Table
 request_ended t = text_begun (request_read (record { start = t.from; «end» = length t.text.items }) t)

@@ -63,7 +63,8 @@ abbrev pub no_gaps : ℕ → List ℕ
 no_gaps gaps = joined gaps no_gap
 
 abbrev pub gap_share : ℕ → ℕ → List ℕ
-gap_share gaps c = share_of (gaps - c) ++ line (codes ".nr *s" ∷ decimal c ∷ codes " +(\\n(*tn)\n.nr *S -\\n(*t" ∷ [])
+gap_share gaps c =
+    share_of (gaps - c) ++ line (codes ".nr *s" ∷ decimal c ∷ codes " +(\\n(*tn)\n.nr *S -\\n(*t" ∷ [])
 
 abbrev pub gap_shares : ℕ → List ℕ
 gap_shares gaps = joined gaps (gap_share gaps)
@@ -110,7 +111,8 @@ unsettled told = record told { clean = false; columns = None }
 
 abbrev pub shared_text : Table → Told → List ℕ
 shared_text t told =
-    codes ".nr *S \\n(*L-\\n(*I-\\n(*W/24\n" ++ shares t ++ blocks_text t true (unsettled told) ++ places_text t
+    codes ".nr *S \\n(*L-\\n(*I-\\n(*W/24\n" ++ shares t ++ blocks_text t true (unsettled told)
+    ++ places_text t
 
 abbrev pub shared_text_if : Table → Told → List ℕ
 shared_text_if t told = if is_shared t then shared_text t told else []

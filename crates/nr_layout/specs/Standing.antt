@@ -12,7 +12,8 @@ use Rattle.nr_layout.specs.Writing.{line, parts}
 -- the space after one
 abbrev pub gap : Table → ℕ → List ℕ
 gap t c =
-    if t.looks.expand then parts (codes "\\n[*s" ∷ decimal c ∷ codes "]u" ∷ []) else parts (decimal (column t c).gap ∷ codes "n" ∷ [])
+    if t.looks.expand then parts (codes "\\n[*s" ∷ decimal c ∷ codes "]u" ∷ [])
+    else parts (decimal (column t c).gap ∷ codes "n" ∷ [])
 
 abbrev pub next_begin : Table → ℕ → List ℕ
 next_begin t before = parts (codes "\\n[*e" ∷ decimal before ∷ codes "]u+" ∷ []) ++ gap t before
@@ -27,14 +28,16 @@ middle t c =
     else line (decimal ((column t c).gap / 2) ∷ codes "n" ∷ [])
 
 abbrev pub bar_text : Table → ℕ → List ℕ
-bar_text t c = parts (codes ".nr *b" ∷ decimal (sum c 1) ∷ codes " \\n[*e" ∷ decimal c ∷ codes "]u+" ∷ []) ++ middle t c
+bar_text t c =
+    parts (codes ".nr *b" ∷ decimal (sum c 1) ∷ codes " \\n[*e" ∷ decimal c ∷ codes "]u+" ∷ []) ++ middle t c
 
 abbrev pub bar_place : Table → ℕ → List ℕ
 bar_place t c = if nat_le (columns t) (sum c 1) then [] else bar_text t c
 
 abbrev pub number_text : ℕ → List ℕ
 number_text c =
-    parts (codes ".nr *p" ∷ decimal c ∷ codes " \\n[*w" ∷ decimal c ∷ codes "]u-\\n[*l" ∷ decimal c ∷ codes "]u-\\n[*q" ∷ decimal c ∷ [])
+    parts (codes ".nr *p" ∷ decimal c ∷ codes " \\n[*w" ∷ decimal c ∷ codes "]u-\\n[*l" ∷ decimal c
+    ∷ codes "]u-\\n[*q" ∷ decimal c ∷ [])
     ++ line (codes "]u/48*24+\\n[*o" ∷ decimal c ∷ codes "]u+\\n[*l" ∷ decimal c ∷ codes "]u" ∷ [])
 
 abbrev pub number_place : Table → ℕ → List ℕ
@@ -43,7 +46,8 @@ number_place t c = if (column t c).numbers then number_text c else []
 abbrev pub place : Table → ℕ → List ℕ
 place t c =
     parts (codes ".nr *o" ∷ decimal c ∷ codes " " ∷ []) ++ column_begin t c ++ codes "\n"
-    ++ line (codes ".nr *e" ∷ decimal c ∷ codes " \\n[*o" ∷ decimal c ∷ codes "]u+\\n[*w" ∷ decimal c ∷ codes "]u" ∷ [])
+    ++ line (codes ".nr *e" ∷ decimal c ∷ codes " \\n[*o" ∷ decimal c ∷ codes "]u+\\n[*w" ∷ decimal c
+    ∷ codes "]u" ∷ [])
     ++ bar_place t c ++ number_place t c
 
 abbrev pub all_places : Table → List ℕ
@@ -51,7 +55,8 @@ all_places t = joined (columns t) (place t)
 
 abbrev pub table_width : Table → List ℕ
 table_width t =
-    line (codes ".nr *W \\n[*e" ∷ decimal (columns t - 1) ∷ codes "]u+" ∷ decimal (right_edge t) ∷ codes "n" ∷ [])
+    line (codes ".nr *W \\n[*e" ∷ decimal (columns t - 1) ∷ codes "]u+" ∷ decimal (right_edge t)
+    ∷ codes "n" ∷ [])
 
 abbrev pub places_text : Table → List ℕ
 places_text t = all_places t ++ table_width t

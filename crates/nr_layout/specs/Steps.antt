@@ -109,7 +109,8 @@ beyond_stepped n r w = if has_beyond w.table r then stepped (steps.Beyond n) 1 w
 -- a row that takes room, below a rule if one waits
 abbrev pub walked_own_row : ℕ → Row → Walking → Walking
 walked_own_row n r w =
-    beyond_stepped n r (row_stepped n (on_step n r (released (Some n) (stepped (steps.Before n w.walk.ruled) 0 w))))
+    beyond_stepped n r
+    (row_stepped n (on_step n r (released (Some n) (stepped (steps.Before n w.walk.ruled) 0 w))))
 
 abbrev pub walked_row_in : Row → ℕ → Walking → Walking
 walked_row_in r n w = if r.own then walked_own_row n r w else stepped (steps.Before n false) 0 w
@@ -143,7 +144,8 @@ abbrev pub walking_on : Table → Walking
 walking_on t = walking t (first_walk t)
 
 abbrev pub walk_begun : Table → Walking
-walk_begun t = if is_double t.looks.frame && not t.begun then stepped steps.Edge 1 (walking_on t) else walking_on t
+walk_begun t =
+    if is_double t.looks.frame && not t.begun then stepped steps.Edge 1 (walking_on t) else walking_on t
 
 abbrev pub is_rule_item : Item → Bool
 is_rule_item items.Rule = true
@@ -153,10 +155,12 @@ abbrev pub ends_with_rule : Table → Bool
 ends_with_rule t = nat_lt 0 (length t.items.items) && is_rule_item (item t (length t.items.items - 1))
 
 abbrev pub closed_rule : Bool → Walking → Walking
-closed_rule ends w = if ends_with_rule w.table && (is_boxed w.table || not ends) then released w.walk.last w else w
+closed_rule ends w =
+    if ends_with_rule w.table && (is_boxed w.table || not ends) then released w.walk.last w else w
 
 abbrev pub closed_box : Bool → Walking → Walking
-closed_box ends w = if ends && (w.walk.ruled || is_boxed w.table) then stepped (steps.Rule w.walk.last None) 1 w else w
+closed_box ends w =
+    if ends && (w.walk.ruled || is_boxed w.table) then stepped (steps.Rule w.walk.last None) 1 w else w
 
 abbrev pub closed_double : Bool → Walking → Walking
 closed_double ends w = if ends && is_double w.table.looks.frame then stepped steps.Edge 1 w else w
@@ -203,10 +207,12 @@ or_line (Some found) line = found
 abbrev pub line_among : ℕ → Table → ℕ → ℕ → ℕ → ℕ
 line_among zero t n wanted line = line
 line_among (suc k) t n wanted line =
-    if nat_lt wanted (step t n).line then line else line_among k t (n + 1) wanted (or_line (standing_line (step t n) wanted) line)
+    if nat_lt wanted (step t n).line then line
+    else line_among k t (n + 1) wanted (or_line (standing_line (step t n) wanted) line)
 
 abbrev pub line_up_to : Table → ℕ → ℕ → ℕ
-line_up_to t r wanted = line_among (length t.steps.items - (row t r).step) t (row t r).step wanted (row_line t r)
+line_up_to t r wanted =
+    line_among (length t.steps.items - (row t r).step) t (row t r).step wanted (row_line t r)
 
 abbrev pub line_wanted : Stand → ℕ → ℕ → ℕ
 line_wanted stands.Top top bottom = top

@@ -21,7 +21,8 @@ abbrev pub SendsIn : Bool → Bool → Option (List ℕ) → List ℕ → Option
 SendsIn true true held waits now left bytes = Keeps held now
 SendsIn true false held waits now left bytes = ⊥
 SendsIn false true held waits now left bytes = AppendsFront held now (waits ++ bytes)
-SendsIn false false held waits now left bytes = (out : List ℕ) × Appends held now out × (waits ++ bytes ≡ out ++ left)
+SendsIn false false held waits now left bytes =
+    (out : List ℕ) × Appends held now out × (waits ++ bytes ≡ out ++ left)
 
 -- where the sink failed meanwhile, one call of it did, and else none
 abbrev pub failed_since : Bool → Bool → Bool

@@ -22,7 +22,8 @@ texts (s ∷ ss) = text_in s ++ texts ss
 -- texts stand in bytes, one after the other
 abbrev pub StandIn : List (List ℕ) → List ℕ → Type 0
 StandIn [] bytes = Unit {0}
-StandIn (text ∷ more) bytes = (before : List ℕ) × (behind : List ℕ) × (bytes ≡ before ++ text ++ behind) × StandIn more behind
+StandIn (text ∷ more) bytes = (before : List ℕ) × (behind : List ℕ) × (bytes ≡ before ++ text ++ behind)
+    × StandIn more behind
 
 -- ---- the texts of the fields of a line
 
@@ -47,7 +48,8 @@ row_texts t r line = each (columns t) (text_at t r line)
 
 -- beside the bars of a row alone, and over a rule, stand only fields that go on
 abbrev pub falling_text : Table → ℕ → Option ℕ → ℕ → List (List ℕ)
-falling_text t r line c = text_if ((cell t r c).falls && ((cell t r c).first == c) && stands_on line (cell t r c)) t (cell t r c)
+falling_text t r line c =
+    text_if ((cell t r c).falls && ((cell t r c).first == c) && stands_on line (cell t r c)) t (cell t r c)
 
 abbrev pub bars_texts : Table → ℕ → Option ℕ → List (List ℕ)
 bars_texts t r line = each (columns t) (falling_text t r line)
@@ -62,14 +64,19 @@ rule_texts t above below line = each (columns t) (text_over t above below line)
 -- ---- the law
 
 abbrev pub RowsHaveTheirTexts : Type 0
-RowsHaveTheirTexts = (t : Table) (r : ℕ) (line : Option ℕ) (told : Bool) → texts (whole (row_strokes t r line) told) ≡ row_texts t r line
+RowsHaveTheirTexts =
+    (t : Table) (r : ℕ) (line : Option ℕ) (told : Bool) → texts (whole (row_strokes t r line) told)
+    ≡ row_texts t r line
 
 abbrev pub BarsHaveTheirTexts : Type 0
-BarsHaveTheirTexts = (t : Table) (r : ℕ) (line : Option ℕ) (told : Bool) → texts (whole (bars_strokes t r line) told) ≡ bars_texts t r line
+BarsHaveTheirTexts =
+    (t : Table) (r : ℕ) (line : Option ℕ) (told : Bool) → texts (whole (bars_strokes t r line) told)
+    ≡ bars_texts t r line
 
 abbrev pub RulesHaveTheirTexts : Type 0
 RulesHaveTheirTexts =
-    (t : Table) (above below line : Option ℕ) (told : Bool) → texts (whole (rule_strokes t above below line) told) ≡ rule_texts t above below line
+    (t : Table) (above below line : Option ℕ) (told : Bool)
+    → texts (whole (rule_strokes t above below line) told) ≡ rule_texts t above below line
 
 abbrev pub EdgesHaveNone : Type 0
 EdgesHaveNone = (t : Table) (told : Bool) → texts (whole (edge_strokes t) told) ≡ []

@@ -28,7 +28,17 @@ use Rattle.nr_layout.specs.Writing.{line}
 
 -- nothing went out
 abbrev pub nothing_told : Told
-nothing_told = record { names = 0; blocks = false; changed = false; clean = false; columns = None; bars = None; rule = None; string = None }
+nothing_told =
+    record {
+      names = 0;
+      blocks = false;
+      changed = false;
+      clean = false;
+      columns = None;
+      bars = None;
+      rule = None;
+      string = None;
+    }
 
 -- ---- what stands before a table
 
@@ -46,7 +56,8 @@ waits_told t = record t { waits_known = true }
 
 abbrev pub page_text : List ℕ
 page_text =
-    codes ".br\n.nr *C 0\n.if '\\*[*none]'' .nr *C 1\n.cp 0\n.ds *!\n" ++ codes ".if !'\\n(.z'' .ds *! \".*n \n"
+    codes ".br\n.nr *C 0\n.if '\\*[*none]'' .nr *C 1\n.cp 0\n.ds *!\n"
+    ++ codes ".if !'\\n(.z'' .ds *! \".*n \n"
     ++ codes ".nr *u \\n(.u\n.nr *I \\n(.i\n.nr *L \\n(.l\n"
 
 -- blocks are set in the formatter's own line length
@@ -66,7 +77,8 @@ adjusted_back told = if told.blocks && told.changed then adjust_text else []
 
 abbrev pub end_text : Table → Told → List ℕ
 end_text t told =
-    removals t ++ length_back told ++ adjusted_back told ++ codes ".in \\n(*Iu\n.ie \\n(*u .fi\n.el .nf\n.if !\\n(*C .cp 1\n"
+    removals t ++ length_back told ++ adjusted_back told
+    ++ codes ".in \\n(*Iu\n.ie \\n(*u .fi\n.el .nf\n.if !\\n(*C .cp 1\n"
 
 -- ---- the columns, the blocks, and where all stands
 
@@ -85,7 +97,8 @@ adjusting_if t told = if told.blocks then adjusting_text t else []
 
 abbrev pub widths_strokes : Table → Told → List Stroke
 widths_strokes t told =
-    Bytes (columns_text t) ∷ Bytes (spans_text t) ∷ Bytes (adjusting_if t told) ∷ Bytes (blocks_text t false told) ∷ Bytes (equal_text t) ∷ []
+    Bytes (columns_text t) ∷ Bytes (spans_text t) ∷ Bytes (adjusting_if t told)
+    ∷ Bytes (blocks_text t false told) ∷ Bytes (equal_text t) ∷ []
 
 abbrev pub places_told : Table → Table
 places_told t = laid_out (known_columns t)
@@ -95,7 +108,8 @@ middle_text t =
     if t.looks.center then codes ".if \\n(*L-\\n(*I>\\n(*W .nr *O \\n(*L-\\n(*I-\\n(*W/48*24+\\n(*I\n" else []
 
 abbrev pub places_strokes : Table → Told → List Stroke
-places_strokes t told = Bytes (placing_text t told) ∷ Bytes (codes ".nr *O \\n(*I\n") ∷ Bytes (middle_text t) ∷ []
+places_strokes t told =
+    Bytes (placing_text t told) ∷ Bytes (codes ".nr *O \\n(*I\n") ∷ Bytes (middle_text t) ∷ []
 
 -- the table as it is then, and what is kept
 abbrev pub measured_told : Table → Told → Table
@@ -110,13 +124,15 @@ abbrev pub measure_strokes : Table → Told → List Stroke
 measure_strokes t told =
     let named = widths_told t told in
     let after = told_named t told in
-    Bytes (naming_text t told) ∷ widths_strokes named after ++ places_strokes (places_told named) (blocks_told named false after)
+    Bytes (naming_text t told) ∷ widths_strokes named after ++ places_strokes (places_told named)
+    (blocks_told named false after)
 
 -- ---- what stands between the measures and the lines
 
 -- .*A draws `*o` as often as `*t` says: 64 deep, not deeper
 abbrev pub bars_macros : List ℕ
-bars_macros = codes ".de *B\n\\&\\\\*(*o\n.nr *t -1\n.if \\\\n(*t%64 .*B\n..\n.de *A\n.*B\n.if \\\\n(*t .*A\n..\n"
+bars_macros =
+    codes ".de *B\n\\&\\\\*(*o\n.nr *t -1\n.if \\\\n(*t%64 .*B\n..\n.de *A\n.*B\n.if \\\\n(*t .*A\n..\n"
 
 abbrev pub asks_bars : Table → Bool
 asks_bars t = not t.bars_known && needs_bars t
@@ -137,7 +153,8 @@ abbrev pub asks_room : Table → Bool → Bool
 asks_room t ends = is_boxed t && not t.looks.nokeep && ends && not t.begun
 
 abbrev pub room_text : Table → Bool → List ℕ
-room_text t ends = if asks_room t ends then line (codes ".if \\n[*H]u<\\n(.p " ∷ later ∷ codes ".ne \\n[*H]u" ∷ []) else []
+room_text t ends =
+    if asks_room t ends then line (codes ".if \\n[*H]u<\\n(.p " ∷ later ∷ codes ".ne \\n[*H]u" ∷ []) else []
 
 abbrev pub head_after : Bool → Table → Table
 head_after ends t = bars_told (with_heights ends t)
@@ -146,13 +163,15 @@ abbrev pub head_told : Bool → Table → Told → Told
 head_told ends t told = strings_chosen (head_after ends t) told
 
 abbrev pub lines_begin : Table → Bool → Told → List Stroke
-lines_begin t ends told = Bytes (font_text told) ∷ Bytes (codes ".in \\n(*Ou\n.nf\n") ∷ Bytes (room_text t ends) ∷ []
+lines_begin t ends told =
+    Bytes (font_text told) ∷ Bytes (codes ".in \\n(*Ou\n.nf\n") ∷ Bytes (room_text t ends) ∷ []
 
 abbrev pub head_strokes : Bool → Table → Told → List Stroke
 head_strokes ends t told =
     let after = head_after ends t in
     let chosen = head_told ends t told in
-    Bytes (heights_text ends t) ∷ Bytes (bars_text (with_heights ends t)) ∷ strings_strokes after chosen ++ lines_begin after ends chosen
+    Bytes (heights_text ends t) ∷ Bytes (bars_text (with_heights ends t)) ∷ strings_strokes after chosen
+    ++ lines_begin after ends chosen
 
 -- ---- lines, and requests that did not go out before
 
@@ -217,4 +236,5 @@ told_strokes ends t =
     Bytes (begin_text t (told_first t)) ∷ measure_strokes (part_begun t) (told_first t)
     ++ head_strokes ends (part_measured t) (part_told t)
     ++ steps_strokes (told_after ends t) (head_told ends (part_measured t) (part_told t))
-    ++ Bytes (strings_removed (told_last ends t)) ∷ Bytes (end_text (told_after ends t) (told_last ends t)) ∷ []
+    ++ Bytes (strings_removed (told_last ends t))
+    ∷ Bytes (end_text (told_after ends t) (told_last ends t)) ∷ []

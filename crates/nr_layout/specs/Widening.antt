@@ -22,7 +22,8 @@ gap_if counts t c sign = if counts then parts (sign ∷ decimal (column t c).gap
 
 abbrev pub total_column : Table → ℕ → ℕ → List ℕ → ℕ → List ℕ
 total_column t first last sign c =
-    text_if (nat_lt first c) sign ++ parts (codes "\\n[*w" ∷ decimal c ∷ codes "]u" ∷ []) ++ gap_if (nat_lt c last) t c sign
+    text_if (nat_lt first c) sign ++ parts (codes "\\n[*w" ∷ decimal c ∷ codes "]u" ∷ [])
+    ++ gap_if (nat_lt c last) t c sign
 
 abbrev pub total_at : Table → ℕ → ℕ → List ℕ → ℕ → List ℕ
 total_at t first last sign n = total_column t first last sign (sum first n)

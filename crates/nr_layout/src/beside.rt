@@ -330,7 +330,8 @@ impl Table {
 
     /// Where a block or a field begins, after the indent.
     fn put_begin_of<W: Sink>(&self, cell: Cell, out: &mut Out<'_, W>)
-        ensures { Draws out.old out.new (Bytes (specs.begin_in (drawing.begin_of self.now cell) self.now cell) ∷ []) }
+        ensures { Draws out.old out.new (Bytes (specs.begin_in (drawing.begin_of self.now cell) self.now cell)
+            ∷ []) }
     {
         match self.begin_of(cell) {
             Begin::At(place) => out.pieces(&[P(place)]),

@@ -130,8 +130,10 @@ impl Table {
         told: &mut Told,
         out: &mut Out<'_, W>,
     )
-        ensures draws { Draws out.old out.new (Bytes (specs.named_text cell stored (specs.naming self.old told.old)) ∷ []) }
-        ensures named { specs.naming self.new told.new ≡ specs.named number cell stored (specs.naming self.old told.old) }
+        ensures draws { Draws out.old out.new
+            (Bytes (specs.named_text cell stored (specs.naming self.old told.old)) ∷ []) }
+        ensures named { specs.naming self.new told.new ≡ specs.named number cell stored
+            (specs.naming self.old told.old) }
         ensures room { held.emptied self.new ≡ held.emptied self.old }
     {
         let kept = self.keeps(stored, cell);
@@ -148,8 +150,10 @@ impl Table {
         told: &mut Told,
         out: &mut Out<'_, W>,
     )
-        ensures draws { Draws out.old out.new (Bytes (specs.cell_text number stored (specs.naming self.old told.old)) ∷ []) }
-        ensures named { specs.naming self.new told.new ≡ specs.cell_named number stored (specs.naming self.old told.old) }
+        ensures draws { Draws out.old out.new
+            (Bytes (specs.cell_text number stored (specs.naming self.old told.old)) ∷ []) }
+        ensures named { specs.naming self.new told.new ≡ specs.cell_named number stored
+            (specs.naming self.old told.old) }
         ensures room { held.emptied self.new ≡ held.emptied self.old }
     {
         let cell = self.cell_of(number);
@@ -167,8 +171,10 @@ impl Table {
         told: &mut Told,
         out: &mut Out<'_, W>,
     )
-        ensures draws { Draws out.old out.new (Bytes (specs.row_text number stored (specs.naming self.old told.old)) ∷ []) }
-        ensures named { specs.naming self.new told.new ≡ specs.row_named number stored (specs.naming self.old told.old) }
+        ensures draws { Draws out.old out.new
+            (Bytes (specs.row_text number stored (specs.naming self.old told.old)) ∷ []) }
+        ensures named { specs.naming self.new told.new ≡ specs.row_named number stored
+            (specs.naming self.old told.old) }
         ensures room { held.emptied self.new ≡ held.emptied self.old }
     {
         let row = self.row(number);
@@ -192,8 +198,10 @@ impl Table {
         told: &mut Told,
         out: &mut Out<'_, W>,
     )
-        ensures draws { Draws out.old out.new (Bytes (specs.item_text item stored (specs.naming self.old told.old)) ∷ []) }
-        ensures named { specs.naming self.new told.new ≡ specs.item_named item stored (specs.naming self.old told.old) }
+        ensures draws { Draws out.old out.new
+            (Bytes (specs.item_text item stored (specs.naming self.old told.old)) ∷ []) }
+        ensures named { specs.naming self.new told.new ≡ specs.item_named item stored
+            (specs.naming self.old told.old) }
         ensures room { held.emptied self.new ≡ held.emptied self.old }
     {
         match item {
@@ -205,8 +213,10 @@ impl Table {
 
     /// All that stands in it.
     fn name_items<W: Sink>(&mut self, stored: bool, told: &mut Told, out: &mut Out<'_, W>)
-        ensures draws { Draws out.old out.new (Bytes (specs.items_text stored (specs.naming self.old told.old)) ∷ []) }
-        ensures named { specs.naming self.new told.new ≡ specs.all_named stored (specs.naming self.old told.old) }
+        ensures draws { Draws out.old out.new
+            (Bytes (specs.items_text stored (specs.naming self.old told.old)) ∷ []) }
+        ensures named { specs.naming self.new told.new ≡ specs.all_named stored
+            (specs.naming self.old told.old) }
         ensures room { held.emptied self.new ≡ held.emptied self.old }
     {
         for place in 0..self.items.len() {

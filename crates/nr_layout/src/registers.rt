@@ -64,7 +64,8 @@ impl Table {
         expression: &[Piece<'_>],
         out: &mut Out<'_, W>,
     )
-        ensures { Draws out.old out.new (Bytes (specs.most_of column (writing.texts_of expression.now)) ∷ []) }
+        ensures { Draws out.old out.new (Bytes (specs.most_of column (writing.texts_of expression.now))
+            ∷ []) }
     {
         out.ask(b".if ");
         out.pieces(expression);
@@ -123,7 +124,8 @@ impl Table {
         back: bool,
         out: &mut Out<'_, W>,
     )
-        ensures { Draws out.old out.new (Bytes (specs.most letter column (specs.share self.now cell front back)) ∷ []) }
+        ensures { Draws out.old out.new
+            (Bytes (specs.most letter column (specs.share self.now cell front back)) ∷ []) }
     {
         let name = [b'*', letter];
         out.ask(b".if ");

@@ -20,7 +20,8 @@ fn crossing_byte(on_both_sides: bool) -> u8
 impl Table {
     /// The bars of a box at an edge of the table.
     fn framing_bars_at(&self, column: usize) -> usize
-        ensures { result ≡ frames.count (((column == 0) || (column == held.columns self.now)) && held.is_boxed self.now) }
+        ensures { result ≡ frames.count (((column == 0) || (column == held.columns self.now))
+            && held.is_boxed self.now) }
     {
         let edge = column == 0 || column == self.columns.len();
         if edge && self.is_boxed() { 1 } else { 0 }
@@ -128,7 +129,8 @@ impl Table {
         column: usize,
         out: &mut Out<'_, W>,
     )
-        ensures { Draws out.old out.new (specs.go (not (frames.is_covered self.now above below column)) (held.column self.now column).right) }
+        ensures { Draws out.old out.new (specs.go (not (frames.is_covered self.now above below column))
+            (held.column self.now column).right) }
     {
         let covered = self.is_covered(above, below, column);
         go(!covered, self.column(column).right, out);
@@ -179,14 +181,18 @@ impl Table {
 
     /// Whether a field goes on over the last column.
     fn ends_covered(&self, above: Option<usize>, below: Option<usize>) -> bool
-        ensures { result ≡ (specs.was_covered self.now above below (held.columns self.now) && nat_lt 0 (held.columns self.now)) }
+        ensures { result ≡ (specs.was_covered self.now above below (held.columns self.now)
+            && nat_lt 0 (held.columns self.now)) }
     {
         self.was_covered(above, below, self.columns.len()) && self.columns.len() > 0
     }
 
     /// The rule goes on to where the table ends, but behind such a field.
     fn go_end<W: Sink>(&self, above: Option<usize>, below: Option<usize>, out: &mut Out<'_, W>)
-        ensures { Draws out.old out.new (specs.go (not (specs.was_covered self.now above below (held.columns self.now) && nat_lt 0 (held.columns self.now))) (frames.table_end self.now)) }
+        ensures { Draws out.old out.new
+            (specs.go
+            (not (specs.was_covered self.now above below (held.columns self.now)
+            && nat_lt 0 (held.columns self.now))) (frames.table_end self.now)) }
     {
         let covered = self.ends_covered(above, below);
         go(!covered, self.end(), out);

@@ -89,7 +89,8 @@ impl Table {
         sign: &[u8],
         out: &mut Out<'_, W>,
     )
-        ensures { Draws out.old out.new (Bytes (specs.total_column self.now first last sign.now number) ∷ []) }
+        ensures { Draws out.old out.new (Bytes (specs.total_column self.now first last sign.now number)
+            ∷ []) }
     {
         out.ask_if(number > first, sign);
         out.pieces(&[T(b"\\n[*w"), N(number), T(b"]u")]);

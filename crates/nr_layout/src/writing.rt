@@ -32,7 +32,13 @@ impl<'a, W: Sink> Model for Out<'a, W> {
 
     ghost Value = { Tape };
 
-    ghost view = { λ o. record { held = W.held o.sink; failures = W.failures o.sink; pending = o.pending.now.items; failed = o.failed; pen = o.pen } };
+    ghost view = { λ o. record {
+      held = W.held o.sink;
+      failures = W.failures o.sink;
+      pending = o.pending.now.items;
+      failed = o.failed;
+      pen = o.pen;
+    } };
 }
 
 /// A piece of a line.
@@ -49,7 +55,13 @@ pub(crate) enum Piece<'a> {
 impl<'a, W: Sink> Out<'a, W> {
     /// Nothing waits but what `pending` has, which is room for what is to.
     pub fn over(pending: &'a mut FixedVec<u8>, sink: W) -> Self
-        ensures { result ≡ record { held = W.held sink; failures = W.failures sink; pending = pending.entry.now.items; failed = false; pen = pens.first } }
+        ensures { result ≡ record {
+          held = W.held sink;
+          failures = W.failures sink;
+          pending = pending.entry.now.items;
+          failed = false;
+          pen = pens.first;
+        } }
     {
         Out {
             pending,
