@@ -1,8 +1,8 @@
 //! Tables as they are held, measured and laid out.
 //!
-//! It stands on nr_units and nr_rooms. To read: `lists`, `places`, `table`, `held`, `formats`, `rows`; `extent`, `cells`,
-//! `counted`, `columns`, `frames`; `requests`, `steps`; `pen`, `writing`, `strokes`, `fields`, `drawing`, `ruling`,
-//! `lines`; `told`, `names`, `registers`, `widening`, `standing`, `blocks`, `sharing`, `heights`, `kept`, `beside`,
+//! It stands on nr_units and nr_rooms. To read: `lists`, `places`, `table`, `held`, `formats`, `rows`; `extent`, `cells`;
+//! `pen`, `writing`, `strokes`, `fields`; `counted`, `columns`, `frames`; `requests`, `steps`; `drawing`, `ruling`,
+//! `lines`; `told`, `names`, `registers`, `widening`, `standing`, `heights`, `blocks`, `sharing`, `kept`, `beside`,
 //! `measured`, `as_requests`; `laws`.
 #![tactic(auto)]
 

@@ -1,8 +1,8 @@
 //! Pages of mdoc(7) become pages of man(7).
 //!
-//! It stands on nr_units. To read: `macros`, `page`, `acts`, `seen`; `texts`, `names`, `libraries`, `lookup`, `lay`, `own_lines`, `references`, `lay_out`; `options`,
-//! `calls`, `taking`, `words`, `blocks`, `lines`, `keeping`, `scan`, which puts them together; `pending`, `strings`, `reader`, `running`; `passing`,
-//! `word_laws`.
+//! It stands on nr_units. To read: `macros`, `page`, `acts`, `seen`; `texts`, `names`, `libraries`, `lookup`, `lay`,
+//! `own_lines`, `references`, `lay_out`; `options`, `calls`, `taking`, `words`, `blocks`, `lines`, `keeping`, `scan`,
+//! which puts them together; `pending`, `reader`, `strings`, `running`; `passing`, `word_laws`.
 #![tactic(auto)]
 
 mod acts;

@@ -1,7 +1,7 @@
 //! What manual pages use, turned into the language of the formatter.
 //!
 //! It stands on nr_units and nr_characters. To read: `numbers`, `pairs`, `glyphs`; `signs`, `likeness`, `said`; `words`, `half`;
-//! `beginnings`, `lines`, `conditions`, `escapes`; `meeting`, which puts them together; `runs`, `reader`, `running`;
+//! `beginnings`, `hyphens`, `lines`, `conditions`, `escapes`; `meeting`, which puts them together; `runs`, `reader`, `running`;
 //! `plain_text`.
 #![tactic(auto)]
 
