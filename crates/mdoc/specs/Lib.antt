@@ -3,4 +3,3 @@ pub mod Lines
 pub mod Names
 pub mod Telling
 pub mod Watching
-pub mod Words

@@ -2,30 +2,26 @@
 
 use super::telling::{Complaint, Kind, Told};
 use itoa::Buffer;
+use nr_filters::put_all;
 use nr_units::Name;
 use nr_units::sink::Sink;
 use nr_units::source::Fault;
 
 /// Writes what is wrong, and the name of a macro.
-fn put_about<E: Sink>(text: &[u8], name: Name, errors: &mut E) -> Result<(), Fault> {
-    errors.put(text)?;
-    errors.put(name.as_bytes())
-}
-
-/// Writes what is wrong, and the names of two macros, of which the first breaks the block of the second.
-fn put_breaks<E: Sink>(text: &[u8], by: Name, block: Name, errors: &mut E) -> Result<(), Fault> {
-    put_about(text, by, errors)?;
-    put_about(b" breaks ", block, errors)
+fn put_about<E: Sink>(what: &[u8], name: Name, errors: &mut E) -> Result<(), Fault> {
+    put_all(&[what, name.as_bytes()], errors)
 }
 
 /// Writes the name of a macro that is none; what was cut of it stands as dots.
 fn put_unknown<E: Sink>(name: Name, cut: bool, errors: &mut E) -> Result<(), Fault> {
     put_about(b"unknown macro: ", name, errors)?;
-    errors.put(if cut {
-        b"..".as_slice()
-    } else {
-        b"".as_slice()
-    })
+    if cut { errors.put(b"..") } else { Ok(()) }
+}
+
+/// Writes what is wrong, and the names of two macros, of which the first breaks the block of the second.
+fn put_breaks<E: Sink>(what: &[u8], by: Name, block: Name, errors: &mut E) -> Result<(), Fault> {
+    let parts = [what, by.as_bytes(), b" breaks ", block.as_bytes()];
+    put_all(&parts, errors)
 }
 
 /// Writes what is wrong.
@@ -42,12 +38,9 @@ fn put_kind<E: Sink>(kind: Kind, errors: &mut E) -> Result<(), Fault> {
 
 /// Writes the line of a complaint about the text of this name.
 fn put_complaint<E: Sink>(name: &str, complaint: Complaint, errors: &mut E) -> Result<(), Fault> {
-    errors.put(b"mdoc: ")?;
-    errors.put(name.as_bytes())?;
-    errors.put(b":")?;
     let mut digits = Buffer::new();
-    errors.put(digits.format(complaint.line).as_bytes())?;
-    errors.put(b": ")?;
+    let line = digits.format(complaint.line).as_bytes();
+    put_all(&[b"mdoc: ", name.as_bytes(), b":", line, b": "], errors)?;
     put_kind(complaint.kind, errors)?;
     errors.put(b"\n")
 }
@@ -64,18 +57,11 @@ fn put_complaints<E: Sink>(
     Ok(())
 }
 
-/// Writes that there was more to complain of in the text of this name.
-fn put_more<E: Sink>(name: &str, errors: &mut E) -> Result<(), Fault> {
-    errors.put(b"mdoc: ")?;
-    errors.put(name.as_bytes())?;
-    errors.put(b": and more\n")
-}
-
 /// Tells what is told of the text of this name, as far as `errors` takes it, and whether something is.
 pub fn tell_complaints<E: Sink>(name: &str, told: &Told<'_>, errors: &mut E) -> bool {
     let written = put_complaints(name, told.complaints(), errors);
     if told.has_missed() && written.is_ok() {
-        let _ = put_more(name, errors);
+        let _ = put_all(&[b"mdoc: ", name.as_bytes(), b": and more\n"], errors);
     }
     told.has_missed() || !told.complaints().is_empty()
 }

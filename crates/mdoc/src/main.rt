@@ -1,12 +1,11 @@
 //! The program mdoc: it turns manual pages of mdoc(7) into pages of man(7), to standard output.
 //!
-//! It stands on nr_mdoc, nr_units and nr_command_line. To read: `words`; `names`, `lines`, `blocks`,
-//! `telling`, `watching`, `watched`; `complaints`, `endings`, `rooms`, `program`.
+//! It stands on nr_filters, nr_mdoc and nr_units. To read: `names`, `lines`, `blocks`, `telling`, `watching`,
+//! `watched`; `complaints`, `rooms`, `program`.
 #![tactic(auto)]
 
 mod blocks;
 mod complaints;
-mod endings;
 mod lines;
 mod names;
 mod program;
@@ -14,13 +13,13 @@ mod rooms;
 mod telling;
 mod watched;
 mod watching;
-mod words;
 
-use program::run_program;
+use nr_filters::run_program;
+use program::Mdoc;
 use std::process::ExitCode;
 
 /// Turns the files that its words name, or standard input.
 fn main(rt: HostRuntime) -> ExitCode {
-    let status = run_program(&rt, rt.alloc(), rt.stdin(), rt.stdout(), rt.stderr());
+    let status = run_program(&Mdoc, &rt, rt.alloc(), rt.stdin(), rt.stdout(), rt.stderr());
     ExitCode::from(status)
 }

@@ -1,122 +1,33 @@
-// The program over its words, its files and given streams.
-use super::endings::{Ending, tell};
+// The program over its words and its texts.
 use super::rooms::Rooms;
-use super::words::is_option;
-use nr_command_line::{SystemWords, words_of};
-use nr_mdoc::Outcome;
-use nr_units::over_std::ToWriter;
+use nr_filters::{Disk, Ending, Filter, is_option, turn_all};
 use nr_units::sink::Sink;
-use std::alloc::{AllocError, Global};
-use std::fs;
-use std::io::{Read, Write};
-use std::rt::{Env, Files};
+use std::io::Read;
+use std::rt::Files;
 
-/// Runs the program in a system, and gives its status.
-pub fn run_program<R: Env + Files, I: Read + Copy + Drop, W: Write + Drop, E: Write + Drop>(
-    system: &R,
-    alloc: Global,
-    input: I,
-    output: W,
-    errors: E,
-) -> u8 {
-    let mut errors = ToWriter::over(errors);
-    let Ok(owned) = words_of(&SystemWords::new(system, alloc), alloc) else {
-        return tell(Ending::OutOfMemory, &mut errors);
-    };
-    let Ok(words) = borrowed(&owned, alloc) else {
-        return tell(Ending::OutOfMemory, &mut errors);
-    };
-    let mut output = ToWriter::over(output);
-    let ending = run_words(system, alloc, &words, input, &mut output, &mut errors);
-    tell(ending, &mut errors)
-}
+/// The program.
+pub struct Mdoc;
 
-/// The words as they are borrowed.
-fn borrowed(words: &[String], alloc: Global) -> Result<Vec<&str>, AllocError> {
-    let mut borrowed = Vec::new(alloc);
-    for word in words {
-        borrowed.push(word.as_str())?;
-    }
-    Ok(borrowed)
-}
+impl Filter for Mdoc {
+    const NAME: &'static str = "mdoc";
 
-/// Runs the program over the words after its name. All files are opened before the first is read, and
-/// nothing is opened where the first word is an option.
-fn run_words<'a, R: Files, I: Read + Copy + Drop, W: Sink, E: Sink>(
-    system: &R,
-    alloc: Global,
-    words: &[&'a str],
-    standard: I,
-    output: &mut W,
-    errors: &mut E,
-) -> Ending<'a> {
-    if !words.is_empty() && is_option(words[0]) {
-        return Ending::BadWord(words[0]);
-    }
-    let texts = match open_all(system, alloc, words) {
-        Ok(texts) => texts,
-        Err(ending) => return ending,
-    };
-    let Ok(mut rooms) = Rooms::new(alloc) else {
-        return Ending::OutOfMemory;
-    };
-    let ending = run_texts(texts, standard, output, errors, &mut rooms);
-    match output.flush() {
-        Ok(()) => ending,
-        Err(_) => Ending::Ran(Outcome::WriteFault),
-    }
-}
-
-/// The name of standard input.
-const STANDARD: &str = "-";
-
-/// The files of these names, and the names. Standard input stands as none: it is read where a name is `-`, and where
-/// there is no name.
-fn open_all<'a, R: Files>(
-    system: &R,
-    alloc: Global,
-    names: &[&'a str],
-) -> Result<Vec<(Option<R::File>, &'a str)>, Ending<'a>> {
-    let mut texts = Vec::new(alloc);
-    if names.is_empty() && texts.push((None, STANDARD)).is_err() {
-        return Err(Ending::OutOfMemory);
-    }
-    for name in names {
-        let text = if name.as_bytes() == b"-".as_slice() {
-            None
-        } else {
-            match fs::open(system, name) {
-                Ok(file) => Some(file),
-                Err(_) => return Err(Ending::CannotOpen(name)),
-            }
+    fn run<'a, R: Files, I: Read + Copy + Drop, W: Sink, E: Sink>(
+        &self,
+        words: &[&'a str],
+        disk: &Disk<'_, R, I>,
+        output: &mut W,
+        errors: &mut E,
+    ) -> Ending<'a> {
+        if !words.is_empty() && is_option(words[0]) {
+            return Ending::BadWord("unknown option ", words[0]);
+        }
+        let texts = match disk.open_all(words) {
+            Ok(texts) => texts,
+            Err(ending) => return ending,
         };
-        if texts.push((text, *name)).is_err() {
-            return Err(Ending::OutOfMemory);
-        }
-    }
-    Ok(texts)
-}
-
-/// Turns the texts one after the other, each by itself, up to the first fault, and tells what is wrong with each after it.
-fn run_texts<'a, F: Read + Drop, I: Read + Copy + Drop, W: Sink, E: Sink>(
-    texts: Vec<(Option<F>, &'a str)>,
-    standard: I,
-    output: &mut W,
-    errors: &mut E,
-    rooms: &mut Rooms,
-) -> Ending<'a> {
-    let mut ending = Ending::Ran(Outcome::Done);
-    for (text, name) in texts {
-        let (outcome, wrong) = match text {
-            Some(file) => rooms.turn(file, name, output, errors),
-            None => rooms.turn(standard, name, output, errors),
+        let Ok(mut rooms) = Rooms::new(disk.alloc) else {
+            return Ending::OutOfMemory;
         };
-        if wrong {
-            ending = Ending::Complained;
-        }
-        if !matches!(outcome, Outcome::Done) {
-            return Ending::Ran(outcome);
-        }
+        turn_all(&mut rooms, texts, output, errors)
     }
-    ending
 }

@@ -6,14 +6,12 @@ use super::complaints::tell_complaints;
 use super::telling::{Complaint, room_for};
 use super::watched::Watched;
 use super::watching::Watch;
+use nr_filters::{BUFFER_SIZE, Ending, Turns};
 use nr_mdoc::{Block, Outcome, convert};
 use nr_units::buffered::Buffered;
 use nr_units::sink::Sink;
 use std::alloc::{AllocError, Global};
 use std::io::Read;
-
-/// The bytes of the buffer for what comes.
-const BUFFER_SIZE: usize = 65_536;
 
 /// The bytes of the buffer for what goes out.
 const PENDING_SIZE: usize = 131_072;
@@ -55,15 +53,16 @@ impl Rooms {
             complaints: room_for(MOST_COMPLAINTS, alloc)?,
         })
     }
+}
 
-    /// Turns the text of this name, and tells what is wrong with it, and whether something is.
-    pub fn turn<T: Read + Drop, W: Sink, E: Sink>(
+impl Turns for Rooms {
+    fn turn<'a, T: Read + Drop, W: Sink, E: Sink>(
         &mut self,
+        name: &'a str,
         text: T,
-        name: &str,
         output: &mut W,
         errors: &mut E,
-    ) -> (Outcome, bool) {
+    ) -> Ending<'a> {
         let source = Buffered::over(text, &mut self.input);
         let page = Watch::over(&mut self.open, &mut self.complaints);
         let mut watched = Watched::over(source, page);
@@ -76,6 +75,12 @@ impl Rooms {
             &mut steps,
         );
         let wrong = tell_complaints(name, watched.told(), errors);
-        (outcome, wrong)
+        match outcome {
+            Outcome::Done if wrong => Ending::Complained,
+            Outcome::Done => Ending::Done,
+            Outcome::TooLong => Ending::TooLong(None),
+            Outcome::ReadFault { at } => Ending::ReadFault(None, at),
+            Outcome::WriteFault => Ending::WriteFault,
+        }
     }
 }

@@ -1,24 +1,13 @@
 -- What the words of the command line come to.
-use Prim.Native.Char.{code}
-use Rattle.std.specs.Prelude.{ℕ, ◌+◌, ◌<◌, ◌≤◌, List, [], ◌∷◌, map, Bool, true, false, not, ◌==◌, if◌then◌else◌, Option, None, Some, Result, Ok, Err, codes}
-use Rattle.std.specs.Borrow.{Bor}
+use Rattle.std.specs.Prelude.{ℕ, ◌+◌, ◌<◌, ◌≤◌, List, [], ◌∷◌, Bool, true, false, not, if◌then◌else◌, Option, None, Some, Result, Ok, Err, codes}
 use Rattle.std.specs.Str.{bytes_eq}
 use Rattle.nr_characters.specs.declared.table.Table.{Table}
 use Rattle.nr_characters.specs.declared.table.Table.TheVariants.{Latin1}
 use Rattle.nr_characters.specs.Tables.{table_named}
+use Rattle.nr_filters.specs.Words.{is_option}
 use Rattle.preconv.specs.declared.words.Job.{Job}
 use Rattle.preconv.specs.declared.words.Wrong.{Wrong}
 use Rattle.preconv.specs.declared.words.Wrong.TheVariants.{UnknownOption, UnknownTable, NoTable}
-
--- the texts that references point to
-abbrev pub texts : List (Bor (List ℕ)) → List (List ℕ)
-texts words = map (λ (word : Bor (List ℕ)). word.now) words
-
--- an option begins with `-` and is not `-`
-abbrev pub is_option : List ℕ → Bool
-is_option [] = false
-is_option (byte ∷ []) = false
-is_option (byte ∷ next ∷ rest) = byte == code "-"
 
 abbrev pub job : Option Table → ℕ → Result Job Wrong
 job table place = Ok (record { table = table; files = place })

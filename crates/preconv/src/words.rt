@@ -1,8 +1,10 @@
 // The words of the command line, and what they ask for.
 ghost use Rattle.std.specs.Prelude.{◌≡◌, length};
-ghost use Rattle.preconv.specs.Words.{IsWithin, asked, is_option, texts};
+ghost use Rattle.nr_filters.specs.Words.{texts};
+ghost use Rattle.preconv.specs.Words.{IsWithin, asked};
 
 use nr_characters::Table;
+use nr_filters::is_option;
 
 /// What the words ask for.
 #[derive(Clone, Copy)]
@@ -22,14 +24,6 @@ pub enum Wrong {
     UnknownTable(usize),
     /// No word stands after the last, which is `-u`.
     NoTable,
-}
-
-/// Whether a word is an option: it begins with `-` and isn't `-` alone.
-fn is_option(word: &str) -> bool
-    ensures { result ≡ is_option word.now }
-{
-    let bytes = word.as_bytes();
-    bytes.len() > 1 && bytes[0] == b'-'
 }
 
 /// Reads the words: options up to the first file, of which the last that names a table counts.

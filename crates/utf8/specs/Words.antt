@@ -1,7 +1,6 @@
 -- What the words of the command line come to.
 use Prim.Native.Char.{code}
-use Rattle.std.specs.Prelude.{ℕ, ◌+◌, ◌<◌, ◌≤◌, List, [], ◌∷◌, length, map, Bool, true, false, ◌==◌, ◌&&◌, nat_lt, if◌then◌else◌, Option, None, Some, Result, Ok, Err, codes, slice_get}
-use Rattle.std.specs.Borrow.{Bor}
+use Rattle.std.specs.Prelude.{ℕ, ◌+◌, ◌<◌, ◌≤◌, List, [], ◌∷◌, length, Bool, true, false, ◌==◌, ◌&&◌, nat_lt, if◌then◌else◌, Option, None, Some, Result, Ok, Err, codes, slice_get}
 use Rattle.std.specs.Str.{bytes_eq}
 use Rattle.nr_characters.specs.declared.table.Table.{Table}
 use Rattle.nr_characters.specs.Tables.{table_named}
@@ -9,10 +8,6 @@ use Rattle.utf8.specs.declared.words.Job.{Job}
 use Rattle.utf8.specs.declared.words.Job.TheVariants.{Turn, Choose, Version}
 use Rattle.utf8.specs.declared.words.Wrong.{Wrong}
 use Rattle.utf8.specs.declared.words.Wrong.TheVariants.{UnknownOption, UnknownTable, NoTable, SeveralFiles}
-
--- the texts that references point to
-abbrev pub texts : List (Bor (List ℕ)) → List (List ℕ)
-texts words = map (λ (word : Bor (List ℕ)). word.now) words
 
 -- an option begins with `-`
 abbrev pub is_option : List ℕ → Bool

@@ -1,6 +1,7 @@
 // The words of the command line, and what they ask for.
 ghost use Rattle.std.specs.Prelude.{◌≡◌, ◌<◌, ◌≤◌, IfOk, length};
-ghost use Rattle.utf8.specs.Words.{IsWithin, asked, choice_asked, is_option, table_asked, texts};
+ghost use Rattle.nr_filters.specs.Words.{texts};
+ghost use Rattle.utf8.specs.Words.{IsWithin, asked, choice_asked, is_option, table_asked};
 
 use nr_characters::Table;
 

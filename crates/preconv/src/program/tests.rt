@@ -1,6 +1,7 @@
 // Whole runs over words, and over texts in memory.
-use super::run_program;
+use super::Preconv;
 use nr_command_line::fakes::{Closing, Page, System, Typed};
+use nr_filters::run_program;
 use std::cell::Cell;
 
 /// A run: its words, what it writes, its status and its line. Standard input is `café` in UTF-8.
@@ -207,7 +208,7 @@ fn runs_in_a_system(rt: HostRuntime) {
         let input = Typed { left: &left };
         let mut output = Vec::new(rt.alloc());
         let mut line = Vec::new(rt.alloc());
-        let status = run_program(&system, rt.alloc(), input, &mut output, &mut line);
+        let status = run_program(&Preconv, &system, rt.alloc(), input, &mut output, &mut line);
         let words = row.words;
         assert!(rt; output.as_slice() == row.output, "{words:?}");
         assert!(rt; line.as_slice() == row.line, "{words:?}");
@@ -229,7 +230,14 @@ fn tells_an_output_that_fails(rt: HostRuntime) {
         };
         let mut line = Vec::new(rt.alloc());
         let input = b"".as_slice();
-        let status = run_program(&system, rt.alloc(), input, Closing { takes }, &mut line);
+        let status = run_program(
+            &Preconv,
+            &system,
+            rt.alloc(),
+            input,
+            Closing { takes },
+            &mut line,
+        );
         assert_eq!(rt; status, 4);
         assert!(rt; line.as_slice() == b"preconv: write fault\n".as_slice());
     }
@@ -251,7 +259,14 @@ fn turns_a_long_line(rt: HostRuntime) -> Result<(), std::alloc::AllocError> {
         words: &[b"preconv"],
         texts: &[],
     };
-    let status = run_program(&system, rt.alloc(), page.as_slice(), &mut output, &mut line);
+    let status = run_program(
+        &Preconv,
+        &system,
+        rt.alloc(),
+        page.as_slice(),
+        &mut output,
+        &mut line,
+    );
     assert_eq!(rt; status, 0);
     assert!(rt; output == turned);
     Ok(())

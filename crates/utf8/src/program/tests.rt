@@ -1,6 +1,7 @@
 // Whole runs over words, and over texts in memory.
-use super::run_program;
+use super::Utf8;
 use nr_command_line::fakes::{Closing, Page, System, Typed};
+use nr_filters::run_program;
 use std::cell::Cell;
 
 /// A run: its words, what it writes, its status and its line. Standard input is `caf`, a byte of the table and `_`.
@@ -193,7 +194,7 @@ fn runs_in_a_system(rt: HostRuntime) {
         let input = Typed { left: &left };
         let mut output = Vec::new(rt.alloc());
         let mut line = Vec::new(rt.alloc());
-        let status = run_program(&system, rt.alloc(), input, &mut output, &mut line);
+        let status = run_program(&Utf8, &system, rt.alloc(), input, &mut output, &mut line);
         let words = row.words;
         assert!(rt; output.as_slice() == row.output, "{words:?}");
         assert!(rt; line.as_slice() == row.line, "{words:?}");
@@ -215,7 +216,14 @@ fn tells_an_output_that_fails(rt: HostRuntime) {
         };
         let mut line = Vec::new(rt.alloc());
         let input = b"".as_slice();
-        let status = run_program(&system, rt.alloc(), input, Closing { takes }, &mut line);
+        let status = run_program(
+            &Utf8,
+            &system,
+            rt.alloc(),
+            input,
+            Closing { takes },
+            &mut line,
+        );
         assert_eq!(rt; status, 4);
         assert!(rt; line.as_slice() == b"utf8: write fault\n".as_slice());
     }

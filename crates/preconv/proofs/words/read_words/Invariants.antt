@@ -1,6 +1,7 @@
 -- The words before `place` are options, of which the last says what is in force.
 use Rattle.std.proofs.Common.{◌≡◌, drop}
-use Rattle.preconv.specs.Words.{asked, asked_from, texts}
+use Rattle.nr_filters.specs.Words.{texts}
+use Rattle.preconv.specs.Words.{asked, asked_from}
 use Rattle.preconv.proofs.words.read_words.Given as goal
 
 abbrev pub invariant-loop-place : goal.invariant-loop-place

@@ -1,0 +1,3 @@
+pub mod Joining
+pub mod Opening
+pub mod Telling
