@@ -1,6 +1,7 @@
 // The lines that tell what is wrong with tables.
 
 use itoa::Buffer;
+use nr_filters::put_all;
 use nr_tables::{Complaint, Kind, Report};
 use nr_units::sink::Sink;
 use nr_units::source::Fault;
@@ -23,12 +24,9 @@ fn words_of(kind: Kind) -> &'static [u8] {
 
 /// Writes the line of a complaint about the text of this name.
 fn put_complaint<E: Sink>(name: &str, complaint: Complaint, errors: &mut E) -> Result<(), Fault> {
-    errors.put(b"tbl: ")?;
-    errors.put(name.as_bytes())?;
-    errors.put(b":")?;
     let mut digits = Buffer::new();
-    errors.put(digits.format(complaint.line).as_bytes())?;
-    errors.put(b": ")?;
+    let line = digits.format(complaint.line).as_bytes();
+    put_all(&[b"tbl: ", name.as_bytes(), b":", line, b": "], errors)?;
     errors.put(words_of(complaint.kind))?;
     errors.put(b"\n")
 }
@@ -45,13 +43,6 @@ fn put_complaints<E: Sink>(
     Ok(())
 }
 
-/// Writes that there was more to complain of in the text of this name.
-fn put_more<E: Sink>(name: &str, errors: &mut E) -> Result<(), Fault> {
-    errors.put(b"tbl: ")?;
-    errors.put(name.as_bytes())?;
-    errors.put(b": and more\n")
-}
-
 /// Tells the complaints about the tables of the text of this name, as far as `errors` takes it, and whether something
 /// is wrong with them: that one is wider than the line is not.
 pub fn tell_complaints<E: Sink>(
@@ -62,7 +53,7 @@ pub fn tell_complaints<E: Sink>(
 ) -> bool {
     let written = put_complaints(name, complaints, errors);
     if report.missed && written.is_ok() {
-        let _ = put_more(name, errors);
+        let _ = put_all(&[b"tbl: ", name.as_bytes(), b": and more\n"], errors);
     }
     report.missed
         || complaints

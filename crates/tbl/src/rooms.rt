@@ -1,15 +1,17 @@
 // The memory that texts are turned in.
 
+use super::complaints::tell_complaints;
 use super::words::Job;
-use nr_tables::{Complaint, Report, convert};
+use nr_filters::{BUFFER_SIZE, Ending, Turns};
+use nr_tables::{Complaint, Outcome, convert};
 use nr_units::buffered::Buffered;
 use nr_units::sink::Sink;
 use nr_units::slice_vec::SliceVec;
 use std::alloc::{AllocError, Global};
 use std::io::Read;
 
-/// The bytes of the buffer of the input.
-const BUFFER_SIZE: usize = 65_536;
+/// How many complaints about the tables of a text are told.
+const MOST_COMPLAINTS: usize = 64;
 
 /// The memory that texts are turned in, taken once.
 #[derive(Drop)]
@@ -18,6 +20,8 @@ pub struct Rooms {
     input: Vec<u8>,
     /// What is held of a table, and what is to go out.
     held: nr_tables::Rooms,
+    /// What is wrong with its tables.
+    complaints: Vec<Complaint>,
 }
 
 impl Rooms {
@@ -26,18 +30,29 @@ impl Rooms {
         Ok(Rooms {
             input: vec![in alloc; 0u8; BUFFER_SIZE]?,
             held: nr_tables::Rooms::new(alloc, job.formats, job.row, job.line)?,
+            complaints: vec![in alloc; Complaint::NONE; MOST_COMPLAINTS]?,
         })
     }
+}
 
-    /// Turns one text, and puts what was wrong with its tables in place of what the complaints were.
-    pub fn turn<T: Read + Drop, W: Sink>(
+impl Turns for Rooms {
+    fn turn<'a, T: Read + Drop, W: Sink, E: Sink>(
         &mut self,
+        name: &'a str,
         text: T,
         output: &mut W,
-        complaints: &mut SliceVec<'_, Complaint>,
-    ) -> Report {
+        errors: &mut E,
+    ) -> Ending<'a> {
         let mut source = Buffered::over(text, &mut self.input);
-        let (report, _) = convert(&mut source, output, &mut self.held, complaints);
-        report
+        let mut complaints = SliceVec::over(&mut self.complaints);
+        let (report, _) = convert(&mut source, output, &mut self.held, &mut complaints);
+        let wrong = tell_complaints(name, report, complaints.as_slice(), errors);
+        match report.outcome {
+            Outcome::Done if wrong => Ending::Complained,
+            Outcome::Done => Ending::Done,
+            Outcome::TooLong => Ending::TooLong(None),
+            Outcome::ReadFault { at } => Ending::ReadFault(None, at),
+            Outcome::WriteFault => Ending::WriteFault,
+        }
     }
 }

@@ -1,6 +1,7 @@
 // Whole runs over words, and over texts in memory.
-use super::run_program;
+use super::Tbl;
 use nr_command_line::fakes::{Closing, Page, System, Typed};
+use nr_filters::run_program;
 use std::cell::Cell;
 
 /// A run: its words, what it writes, its status and its lines. Standard input is `a` and a line `.br`.
@@ -233,7 +234,7 @@ fn tells_of_tables(rt: HostRuntime) {
         let mut output = Vec::new(rt.alloc());
         let mut lines = Vec::new(rt.alloc());
         let input = b"".as_slice();
-        let status = run_program(&system, rt.alloc(), input, &mut output, &mut lines);
+        let status = run_program(&Tbl, &system, rt.alloc(), input, &mut output, &mut lines);
         let words = row.words;
         assert!(rt; lines.as_slice() == row.lines, "{words:?}");
         assert_eq!(rt; status, row.status, "{words:?}");
@@ -251,7 +252,7 @@ fn runs_in_a_system(rt: HostRuntime) {
         let input = Typed { left: &left };
         let mut output = Vec::new(rt.alloc());
         let mut lines = Vec::new(rt.alloc());
-        let status = run_program(&system, rt.alloc(), input, &mut output, &mut lines);
+        let status = run_program(&Tbl, &system, rt.alloc(), input, &mut output, &mut lines);
         let words = row.words;
         assert!(rt; output.as_slice() == row.output, "{words:?}");
         assert!(rt; lines.as_slice() == row.lines, "{words:?}");
@@ -273,7 +274,14 @@ fn tells_an_output_that_fails(rt: HostRuntime) {
         };
         let mut line = Vec::new(rt.alloc());
         let input = b"".as_slice();
-        let status = run_program(&system, rt.alloc(), input, Closing { takes }, &mut line);
+        let status = run_program(
+            &Tbl,
+            &system,
+            rt.alloc(),
+            input,
+            Closing { takes },
+            &mut line,
+        );
         assert_eq!(rt; status, 4);
         assert!(rt; line.as_slice() == b"tbl: write fault\n".as_slice());
     }
@@ -293,6 +301,7 @@ fn passes_a_long_line(rt: HostRuntime) -> Result<(), std::alloc::AllocError> {
         texts: &[],
     };
     let status = run_program(
+        &Tbl,
         &system,
         rt.alloc(),
         page.as_slice(),
