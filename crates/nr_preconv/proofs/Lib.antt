@@ -1,6 +1,7 @@
 pub mod AtOnce
 pub mod Characters
 pub mod Hearing
+pub mod InComments
 pub mod Names
 pub mod Plain
 pub mod PlainEscapes

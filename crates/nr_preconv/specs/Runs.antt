@@ -33,6 +33,19 @@ run_at line bs = 0
 abbrev pub run_len : List ℕ → Half → ℕ
 run_len bs h = if is_plain h.escape then run_at h.line bs else 0
 
+-- ---- comments
+
+abbrev pub goes_on_comment : ℕ → Bool
+goes_on_comment b = nat_lt b 127 && not (b == code "\n")
+
+abbrev pub comment_at : Line → List ℕ → ℕ
+comment_at lines.Comment bs = prefix_len goes_on_comment bs
+comment_at line bs = 0
+
+-- how many bytes come first that only go on a comment
+abbrev pub comment_len : List ℕ → Half → ℕ
+comment_len bs h = comment_at h.line bs
+
 -- ---- names of control lines
 
 abbrev pub goes_on_name : ℕ → Bool

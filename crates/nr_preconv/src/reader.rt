@@ -315,7 +315,7 @@ impl Reader {
     }
 
     /// Takes those of these bytes that come first and go out as they are, each in one step: a run of those that
-    /// only go on the line, or one byte. There may be none.
+    /// only go on the line or a comment, or one byte. There may be none.
     fn pass(&mut self, bytes: &[u8]) -> usize
         requires { 0 < length bytes.now }
         ensures within { result ≤ length bytes.now }
@@ -328,6 +328,10 @@ impl Reader {
         if run > 0 {
             self.half.takes(bytes[run - 1]);
             return run;
+        }
+        let comment = self.half.comment_len(bytes);
+        if comment > 0 {
+            return comment;
         }
         if bytes[0] == b'\\' {
             return self.pass_escape(bytes);

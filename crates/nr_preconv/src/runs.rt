@@ -40,6 +40,24 @@ fn word_run(words: Words, bytes: &[u8]) -> usize
         .count()
 }
 
+/// Whether a byte only goes on a comment.
+fn goes_on_comment(byte: u8) -> bool
+    ensures { result ≡ specs.goes_on_comment byte }
+{
+    byte < 127 && byte != b'\n'
+}
+
+/// How many of these bytes come first that only go on a comment.
+fn comment_run(bytes: &[u8]) -> usize
+    ensures len { result ≡ prefix_len specs.goes_on_comment bytes.now }
+    ensures within { result ≤ length bytes.now }
+{
+    bytes
+        .iter()
+        .take_while(|byte| goes_on_comment(**byte))
+        .count()
+}
+
 impl Half {
     /// How many of these bytes come first that only go on the line, in no escape.
     pub(crate) fn run_len(&self, bytes: &[u8]) -> usize
@@ -52,6 +70,17 @@ impl Half {
         match self.line {
             Line::Text | Line::Request => text_run(bytes),
             Line::Words(words) => word_run(words, bytes),
+            _ => 0,
+        }
+    }
+
+    /// How many of these bytes come first that only go on a comment.
+    pub(crate) fn comment_len(&self, bytes: &[u8]) -> usize
+        ensures len { result ≡ specs.comment_len bytes.now self.now }
+        ensures within { result ≤ length bytes.now }
+    {
+        match self.line {
+            Line::Comment => comment_run(bytes),
             _ => 0,
         }
     }
