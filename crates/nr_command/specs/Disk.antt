@@ -29,11 +29,17 @@ paths_of (ReadsMacros folder name) = macro_path folder name ∷ []
 paths_of (ReadsFile name) = name ∷ []
 paths_of ReadsStandard = []
 
--- Its path was asked for, or it can't be opened and no path was.
+-- its path is longer than any that Linux opens
+abbrev pub IsTooLong : Reading → Type 0
+IsTooLong (ReadsMacros folder name) = 4095 < length (macro_path folder name)
+IsTooLong (ReadsFile name) = ⊥
+IsTooLong ReadsStandard = ⊥
+
+-- Its path was asked for; or none was, since it is too long, and the text can't be opened.
 abbrev pub AsksPath : {F I E : Type 0} → Option (List (List ℕ)) → Option (List (List ℕ)) → Reading
     → Result (Text F I) E → Type 0
 AsksPath asked asked' reading (Ok text) = Asks asked asked' (paths_of reading)
-AsksPath asked asked' reading (Err error) = Asks asked asked' (paths_of reading) ⊎ Asks asked asked' []
+AsksPath asked asked' reading (Err error) = Asks asked asked' (paths_of reading) ⊎ (Asks asked asked' [] × IsTooLong reading)
 
 -- What may come of opening a text: standard input is always open, and of a file nothing is known.
 abbrev pub MayCome : Option (List ℕ) → Reading → Opening → Type 0

@@ -1,12 +1,12 @@
 // The files of the system, and its standard input.
-ghost use Rattle.std.specs.Prelude.{ℕ, List, [], ◌∷◌, Option};
+ghost use Rattle.std.specs.Prelude.{◌≡◌, ◌<◌, ℕ, List, [], ◌∷◌, length, Option, None, IfSome};
+ghost use Rattle.nr_command_options.specs.Inputs.{macro_path};
 ghost use Rattle.nr_command.specs.Opening.{Asks};
 
 use super::opening::Opener;
 use arrayvec::ArrayString;
-use nr_command_options::Input;
+use nr_command_options::{Input, MacroFile};
 use nr_engine::Buffered;
-use std::fmt::Write;
 use std::io::{ErrorKind, Read};
 use std::rt::Files;
 use std::{fs, io};
@@ -63,8 +63,6 @@ impl<'r, R: Files> Tree<'r, R> {
 }
 
 impl<R: Files> Paths for Tree<'_, R> {
-    ghost use Rattle.std.specs.Prelude.{None};
-
     type File = R::File;
 
     ghost asked = { λ tree. None };
@@ -72,6 +70,21 @@ impl<R: Files> Paths for Tree<'_, R> {
     fn open(&mut self, path: &str) -> io::Result<R::File> {
         fs::open(self.files, path)
     }
+}
+
+/// The path of a macro file, if Linux opens one so long.
+fn path_of(file: MacroFile<'_>) -> Option<ArrayString<LONGEST_PATH>>
+    ensures path { IfSome result (λ path. path.bytes ≡ macro_path file.entry.folder.now file.entry.name.now) }
+    ensures none { result ≡ None → 4095 < length (macro_path file.entry.folder.now file.entry.name.now) }
+{
+    let mut path = ArrayString::<LONGEST_PATH>::new();
+    if path.try_push_str(file.folder).is_err()
+        || path.try_push_str("/tmac.").is_err()
+        || path.try_push_str(file.name).is_err()
+    {
+        return None;
+    }
+    Some(path)
 }
 
 /// Files by their paths, and standard input.
@@ -82,7 +95,7 @@ pub struct Disk<P, I> {
 }
 
 impl<P: Paths, I: Read + Copy + Drop> Disk<P, I> {
-    ghost use Rattle.std.specs.Prelude.{◌≡◌, IfOk};
+    ghost use Rattle.std.specs.Prelude.{IfOk};
     ghost use Rattle.nr_command_options.specs.Inputs.{reading_of};
     ghost use Rattle.nr_command.specs.Disk.{AsksPath, IsFile, IsText};
 
@@ -99,13 +112,10 @@ impl<P: Paths, I: Read + Copy + Drop> Disk<P, I> {
         ensures same { self.new.standard ≡ self.old.standard }
     {
         match input {
-            Input::Macros(file) => {
-                let mut path = ArrayString::<LONGEST_PATH>::new();
-                if write!(path, "{file}").is_err() {
-                    return Err(io::Error::from(ErrorKind::InvalidFilename));
-                }
-                self.file(path.as_str())
-            }
+            Input::Macros(file) => match path_of(file) {
+                Some(path) => self.file(path.as_str()),
+                None => Err(io::Error::from(ErrorKind::InvalidFilename)),
+            },
             Input::File(name) => self.file(name),
             Input::Standard => Ok(Text::Standard(self.standard)),
         }
@@ -125,7 +135,6 @@ impl<P: Paths, I: Read + Copy + Drop> Disk<P, I> {
 }
 
 impl<'b, P: Paths + Drop, I: Read + Copy + Drop> Opener<'b> for Disk<P, I> {
-    ghost use Rattle.std.specs.Prelude.{None};
     ghost use Rattle.nr_command.specs.Disk.{MayCome};
 
     type Text = Buffered<'b, Text<P::File, I>>;

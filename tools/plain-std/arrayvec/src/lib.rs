@@ -143,6 +143,11 @@ impl<const N: usize> ArrayString<N> {
         ArrayString(ArrayVec::new())
     }
 
+    /// Adds a text where there is room for all of it.
+    pub fn try_push_str<'a>(&mut self, text: &'a str) -> Result<(), CapacityError<&'a str>> {
+        self.0.try_extend_from_slice(text.as_bytes()).map_err(|_| CapacityError(text))
+    }
+
     /// The text.
     pub fn as_str(&self) -> &str {
         std::str::from_utf8(&self.0).unwrap_or_default()
@@ -152,11 +157,5 @@ impl<const N: usize> ArrayString<N> {
 impl<const N: usize> Default for ArrayString<N> {
     fn default() -> Self {
         ArrayString::new()
-    }
-}
-
-impl<const N: usize> fmt::Write for ArrayString<N> {
-    fn write_str(&mut self, text: &str) -> fmt::Result {
-        self.0.try_extend_from_slice(text.as_bytes()).map_err(|_| fmt::Error)
     }
 }
