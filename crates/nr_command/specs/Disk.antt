@@ -39,7 +39,8 @@ IsTooLong ReadsStandard = ⊥
 abbrev pub AsksPath : {F I E : Type 0} → Option (List (List ℕ)) → Option (List (List ℕ)) → Reading
     → Result (Text F I) E → Type 0
 AsksPath asked asked' reading (Ok text) = Asks asked asked' (paths_of reading)
-AsksPath asked asked' reading (Err error) = Asks asked asked' (paths_of reading) ⊎ (Asks asked asked' [] × IsTooLong reading)
+AsksPath asked asked' reading (Err error) =
+    Asks asked asked' (paths_of reading) ⊎ (Asks asked asked' [] × IsTooLong reading)
 
 -- What may come of opening a text: standard input is always open, and of a file nothing is known.
 abbrev pub MayCome : Option (List ℕ) → Reading → Opening → Type 0

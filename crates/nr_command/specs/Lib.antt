@@ -1,5 +1,6 @@
 pub mod Disk
 pub mod Faults
+pub mod Memory
 pub mod Program
 pub mod Opening
 pub mod Running

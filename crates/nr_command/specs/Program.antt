@@ -10,6 +10,7 @@ use Rattle.nr_command_options.specs.Inputs.{Reading, readings, reading_of}
 use Rattle.nr_command_options.specs.Job.{asked_of}
 use Rattle.nr_command_options.specs.declared.job.Job.{Job}
 use Rattle.nr_command.specs.Faults.{Tells, line_of}
+use Rattle.nr_command.specs.Memory.{Taking, Takes}
 use Rattle.nr_command.specs.Opening.{Opening, AreOpen, Asks, IsFirstRefused, unopened_text}
 use Rattle.nr_command.specs.Running.{Ran, status_of, memory_line}
 use Rattle.nr_command.specs.declared.opening.NotRun.{NotRun}
@@ -41,7 +42,7 @@ pub record RanOver {T : Type 0} (supply : T → Option Supply) (failures : T →
   pub each : Asks asked asked' (readings (asked_of job))
   -- a read fault is told where a call of one of them failed, and nowhere else
   pub ran : Ran job.limits job.options (files_supply (map supply texts)) (failures_in failures texts)
-      (failures_in failures left) old new writes writes' outcome
+      (failures_in failures left) old new writes writes' passed_on outcome
   pub passed : outcome ≢ WriteFault → IsTrue passed_on
 
 -- a job came to this end; where it is not run, nothing was put out
@@ -65,12 +66,13 @@ line_of_end (Ok outcome) = line_of outcome
 line_of_end (Err (CannotOpen input)) = unopened_text (reading_of input)
 line_of_end (Err OutOfMemory) = memory_line
 
--- The program ran a job: it came to an end, and the status and the line tell which.
+-- The program ran a job: it came to an end, for which so much memory was asked for, and the status and the line tell which.
 pub record Comes {T : Type 0} (supply : T → Option Supply) (failures : T → ℕ) (may_come : Reading → Opening
-    → Type 0) (asked asked' : Option (List Reading)) (job : Job) (old new : Option (List ℕ))
-    (writes writes' : SinkFailures) (passed_on : Bool)
+    → Type 0) (asked asked' : Option (List Reading)) (taken taken' : Option (List Taking)) (job : Job)
+    (old new : Option (List ℕ)) (writes writes' : SinkFailures) (passed_on : Bool)
     (old_line new_line : Option (List ℕ)) (untold untold' : SinkFailures) (status : ℕ) : Type 0 where
   pub end : Result Outcome NotRun
   pub ended : Ends supply failures may_come asked asked' job old new writes writes' passed_on end
+  pub takes : Takes taken taken' asked asked' job end
   pub status_is : status ≡ status_of_end end
   pub told : Tells old_line new_line untold untold' (line_of_end end)

@@ -1,5 +1,5 @@
 -- What a run of the program comes to.
-use Rattle.std.specs.Prelude.{◌≡◌, ℕ, List, Bool, if◌then◌else◌, Option, Some, codes}
+use Rattle.std.specs.Prelude.{◌≡◌, ℕ, List, Bool, false, IsTrue, if◌then◌else◌, Option, Some, codes}
 use Rattle.std.specs.Io.KnownBytes.{Keeps}
 use Rattle.nr_units.specs.Failures.{SinkFailures, counted_if, put_counted_if, flush_counted_if}
 use Rattle.nr_units.specs.Source.{Supply}
@@ -22,9 +22,11 @@ status_of WriteFault = 4
 abbrev pub memory_line : List ℕ
 memory_line = codes "nroff: out of memory\n"
 
--- A run came to this outcome: after so many moves formatting answered, with so much put out, and then the output was flushed.
+-- A run came to this outcome: after so many moves formatting answered, with so much put out, and then the output was flushed, a
+-- write fault or not.
 pub record Ran (b : Bounds) (options : Options) (supply : Option Supply) (reads reads' : ℕ)
-    (old new : Option (List ℕ)) (writes writes' : SinkFailures) (outcome : Outcome) : Type 0 where
+    (old new : Option (List ℕ)) (writes writes' : SinkFailures) (passed_on : Bool) (outcome : Outcome)
+    : Type 0 where
   pub formatted : Outcome
   pub moves : ℕ
   pub held : Option (List ℕ)
@@ -32,6 +34,7 @@ pub record Ran (b : Bounds) (options : Options) (supply : Option Supply) (reads 
   pub answers : (known : Supply) → supply ≡ Some known
       → Answers b (start b options known) moves formatted old held
   pub flushed : Keeps held new
+  pub passed : flush_failed ≡ false → IsTrue passed_on
   pub outcome_is : outcome ≡ (if flush_failed then WriteFault else formatted)
   -- each failed call was counted
   pub read_failures : reads' ≡ counted_if (is_read_fault formatted) reads

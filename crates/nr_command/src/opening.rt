@@ -5,6 +5,7 @@ ghost use Rattle.nr_units.specs.Failures.{counted_if, put_counted};
 ghost use Rattle.nr_units.specs.Sink.{AppendsFront};
 ghost use Rattle.nr_command_options.specs.Inputs.{Reading, macro_path, readings, reading_of};
 ghost use Rattle.nr_command_options.specs.Job.{asked_of};
+ghost use Rattle.nr_command.specs.Memory.{list_of};
 ghost use Rattle.nr_command.specs.Opening.{AreOpen, Asks, Opening, name_of, opening_of, unopened_text};
 ghost use Rattle.nr_command.specs.Program.{IsRefused, lacks_memory};
 
@@ -95,6 +96,9 @@ pub fn open_texts<'a, 'b, O: Opener<'b>, M: Memory>(
         (Asks (O.asked opener.old) (O.asked opener.new) (readings (asked_of job.now))) }
     ensures refused { IfErr result (λ why. IsRefused (O.may_come opener.old) (O.asked opener.old)
         (O.asked opener.new) (readings (asked_of job.now)) why) }
+    ensures listed { Asks (M.asked memory.old) (M.asked memory.new) (list_of job.now ∷ []) }
+    ensures unopened { IfErr result (λ why. why ≡ NotRun.OutOfMemory
+        → Asks (O.asked opener.old) (O.asked opener.new) []) }
     ensures memory { M.refusals memory.new ≡ counted_if (lacks_memory result) (M.refusals memory.old) }
 {
     let mut texts = memory.room(text_count(job))?;

@@ -7,6 +7,7 @@ ghost use Rattle.nr_command_options.specs.Job.{asked_of, texts};
 ghost use Rattle.nr_command_options.specs.Usage.{usage_text};
 ghost use Rattle.nr_command_options.specs.Words.{Complaint, IsAnswer};
 ghost use Rattle.nr_command.specs.Faults.{Tells};
+ghost use Rattle.nr_command.specs.Memory.{Takes};
 ghost use Rattle.nr_command.specs.Program.{Comes, Ends, lacks_memory, line_of_end, status_of_end};
 
 use super::disk::{Disk, Tree};
@@ -71,9 +72,8 @@ fn borrowed(words: &[String], alloc: Global) -> Result<Vec<&str>, AllocError>
 /// can't be opened, the first of which is told; 5 where memory was refused, which is told; and else that
 /// of `run_over`.
 ///
-/// No clause says in which order memory is taken and texts are opened: first the buffers of the texts,
-/// which come to stand in `buffers`; then the texts are opened; then the desk is taken; and then the
-/// first byte is read.
+/// First memory is taken for the buffers of the texts, which come to stand in `buffers`, and for the list
+/// of the texts; then the texts are opened; then the desk is taken; and then the first byte is read.
 pub fn run_words<'b, M: Memory, O: Opener<'b>, W: Sink, E: Sink>(
     memory: &mut M,
     words: &[&str],
@@ -88,11 +88,12 @@ pub fn run_words<'b, M: Memory, O: Opener<'b>, W: Sink, E: Sink>(
     ensures usage { result ≡ 2 → (complaint : Complaint) × IsAnswer (texts words.now) (Err complaint) }
     ensures unwritten { result ≡ 2 → output.new ≡ output.old }
     ensures unopened { result ≡ 2 → opener.new ≡ opener.old }
+    ensures untaken { result ≡ 2 → memory.new ≡ memory.old }
 
     // Else the words ask for a job, and it comes to its end.
     ensures ran { result ≢ 2 → (job : Job) × IsAnswer (texts words.now) (Ok (asked_of job))
         × Comes O.Text.supply O.Text.failures (O.may_come opener.old) (O.asked opener.old)
-        (O.asked opener.new) job
+        (O.asked opener.new) (M.asked memory.old) (M.asked memory.new) job
         (W.held output.old) (W.held output.new) (W.failures output.old) (W.failures output.new)
         (W.passed_on output.new)
         (E.held errors.old) (E.held errors.new) (E.failures errors.old) (E.failures errors.new) result }
@@ -128,7 +129,7 @@ fn run_job<'b, M: Memory, O: Opener<'b>, W: Sink, E: Sink>(
     errors: &mut E,
 ) -> u8
     ensures ran { Comes O.Text.supply O.Text.failures (O.may_come opener.old) (O.asked opener.old)
-        (O.asked opener.new) job.now
+        (O.asked opener.new) (M.asked memory.old) (M.asked memory.new) job.now
         (W.held output.old) (W.held output.new) (W.failures output.old) (W.failures output.new)
         (W.passed_on output.new)
         (E.held errors.old) (E.held errors.new) (E.failures errors.old) (E.failures errors.new) result }
@@ -154,6 +155,8 @@ fn outcome_of<'a, 'b, M: Memory, O: Opener<'b>, W: Sink>(
         (O.asked opener.new) job.now
         (W.held output.old) (W.held output.new) (W.failures output.old) (W.failures output.new)
         (W.passed_on output.new) result }
+    ensures takes { Takes (M.asked memory.old) (M.asked memory.new) (O.asked opener.old)
+        (O.asked opener.new) job.now result }
     ensures memory { M.refusals memory.new ≡ counted_if (lacks_memory result) (M.refusals memory.old) }
 {
     let len = text_count(job).saturating_mul(BUFFER_SIZE);

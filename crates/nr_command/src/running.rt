@@ -25,7 +25,8 @@ pub fn run_over<R: Source, W: Sink, E: Sink>(
     // The status and the line tell the outcome of the run.
     ensures ran { IfOk desk (λ limits. (outcome : Outcome)
         × Ran limits options.now (R.supply input.old) (R.failures input.old) (R.failures input.new)
-        (W.held output.old) (W.held output.new) (W.failures output.old) (W.failures output.new) outcome
+        (W.held output.old) (W.held output.new) (W.failures output.old) (W.failures output.new)
+        (W.passed_on output.new) outcome
         × (result ≡ status_of outcome)
         × Tells (E.held errors.old) (E.held errors.new) (E.failures errors.old) (E.failures errors.new)
         (line_of outcome)) }
@@ -47,8 +48,7 @@ pub fn run_over<R: Source, W: Sink, E: Sink>(
     }
 }
 
-/// Formats the input within the desk, and flushes the output; that it does so after a write fault too no
-/// clause says.
+/// Formats the input within the desk, and flushes the output, after a write fault too.
 pub(crate) fn run_desk<R: Source, W: Sink>(
     desk: &mut Desk,
     options: &Options,
@@ -56,7 +56,8 @@ pub(crate) fn run_desk<R: Source, W: Sink>(
     output: &mut W,
 ) -> Outcome
     ensures ran { Ran desk.old options.now (R.supply input.old) (R.failures input.old) (R.failures input.new)
-        (W.held output.old) (W.held output.new) (W.failures output.old) (W.failures output.new) result }
+        (W.held output.old) (W.held output.new) (W.failures output.old) (W.failures output.new)
+        (W.passed_on output.new) result }
     ensures passed_on { result ≢ Outcome.WriteFault → IsTrue (W.passed_on output.new) }
 {
     let mut moves = 0;

@@ -89,7 +89,11 @@ fn counted<T>(refusals: &mut u64, taken: Result<T, AllocError>) -> Result<T, All
 }
 
 impl Memory for Scarce {
+    ghost use Rattle.std.specs.Prelude.{None};
+
     ghost refusals = { λ memory. memory.refusals };
+
+    ghost asked = { λ memory. None };
 
     fn bytes(&mut self, len: usize) -> Result<Vec<u8>, AllocError> {
         if self.refuses() {

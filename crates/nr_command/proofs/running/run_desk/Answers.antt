@@ -1,4 +1,4 @@
-use Rattle.std.proofs.Common.{true, false, refl}
+use Rattle.std.proofs.Common.{◌≡◌, true, false, refl}
 use Rattle.nr_command.proofs.running.run_desk.Goals as goal
 
 pub returns-in-Ok-clause-ran : goal.returns-in-Ok-clause-ran
@@ -10,6 +10,7 @@ returns-in-Ok-clause-ran g c =
       flush_failed = false;
       answers = λ known e. rw c.lend.ensures.limits at (c.format-outcome.ensures.answers known e);
       flushed = c.flush.ensures.held;
+      passed = λ sound. rw c.in-Ok.ensures.passed_on refl;
       outcome_is = refl;
       read_failures = c.format-outcome.ensures.faults.read_failures;
       write_failures = rw c.format-outcome.ensures.faults.write_failures at c.in-Ok.ensures.failures;
@@ -24,6 +25,7 @@ returns-in-Err-clause-ran g c =
       flush_failed = true;
       answers = λ known e. rw c.lend.ensures.limits at (c.format-outcome.ensures.answers known e);
       flushed = c.flush.ensures.held;
+      passed = λ failed. (let no : true ≡ false = failed in cc);
       outcome_is = refl;
       read_failures = c.format-outcome.ensures.faults.read_failures;
       write_failures = rw c.format-outcome.ensures.faults.write_failures at c.in-Err.ensures.failures;
