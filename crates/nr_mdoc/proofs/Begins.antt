@@ -1,5 +1,5 @@
 -- What a macro says where it begins a line: nothing of its words.
-use Rattle.std.proofs.Common.{◌≡◌, ℕ, ◌+◌, List, [], ◌++◌, Bool, true, false, not, ◌||◌, if◌then◌else◌, refl, ◌∙◌, ap}
+use Rattle.std.proofs.Common.{◌≡◌, ℕ, ◌+◌, List, [], ◌++◌, Bool, true, false, not, ◌||◌, if◌then◌else◌, refl, sym, ◌∙◌, ap}
 use Rattle.nr_mdoc.specs.declared.acts.Act.TheVariants as acts
 use Rattle.nr_mdoc.specs.declared.acts.Request.TheVariants as requests
 use Rattle.nr_mdoc.specs.declared.acts.Sized.TheVariants as sizes
@@ -17,7 +17,7 @@ use Rattle.nr_mdoc.specs.Blocks.{before_item, counted_item, counts, inner, is_di
 use Rattle.nr_mdoc.specs.Calls.{is_synopsis}
 use Rattle.nr_mdoc.specs.Lines.{after, begins, book, function_line, is_see_also, include_line, line_before, stands_behind, synopsis_line}
 use Rattle.nr_mdoc.specs.Options.{none}
-use Rattle.nr_mdoc.specs.WrittenLines.{heads_words}
+use Rattle.nr_mdoc.specs.WrittenLines.{heads_words, Usual, way_of}
 use Rattle.nr_mdoc.proofs.Outcomes.{is_quiet, of_word, never, takes_plain, Keeps, keeps_if, Out, out, out_if, out_act_if, same_page}
 use Rattle.nr_mdoc.proofs.Taken.{called_out}
 
@@ -38,7 +38,7 @@ silent_before : (kind : Last) (p : Page) (w : List ℕ) → of_word (line_before
 silent_before kind p w = silent_by (stands_behind p.place.last kind) w
 
 kept_after : (kind : Last) (q : Page) → takes_plain q.call.taker ≡ true → Keeps q (after kind q)
-kept_after kind q f = record { scan = refl; word = refl; marks = refl; few = λ l. l; going = refl; comment = refl; line = refl; fits = f }
+kept_after kind q f = record { scan = refl; word = refl; marks = refl; few = λ l. l; going = refl; comment = refl; line = refl; fits = f; way = refl }
 
 none_out : (q : Page) → takes_plain q.call.taker ≡ true → Out (none q) q []
 unfolding is_quiet of_word
@@ -66,9 +66,9 @@ include_out q f =
 
 -- ---- items, and lines that are indented
 
-kept_taking : (p q : Page) (font : Font) → Keeps q p → Keeps q (taking font p)
+kept_taking : (p q : Page) (font : Font) → way_of q.call.taker ≡ Usual → Keeps q p → Keeps q (taking font p)
 unfolding takes_plain
-kept_taking p q font i = record {
+kept_taking p q font u i = record {
   scan = i.scan;
   word = i.word;
   marks = i.marks;
@@ -77,12 +77,13 @@ kept_taking p q font i = record {
   comment = i.comment;
   line = i.line;
   fits = refl;
+  way = sym u;
 }
 
-kept_new : (q : Page) → takes_plain q.call.taker ≡ true → Keeps q (new_item q)
-kept_new q f =
-    kept_taking (record q { place = record q.place { depth = 0 } }) q Roman
-    (record { scan = refl; word = refl; marks = refl; few = λ l. l; going = refl; comment = refl; line = refl; fits = f })
+kept_new : (q : Page) → takes_plain q.call.taker ≡ true → way_of q.call.taker ≡ Usual → Keeps q (new_item q)
+kept_new q f u =
+    kept_taking (record q { place = record q.place { depth = 0 } }) q Roman u
+    (record { scan = refl; word = refl; marks = refl; few = λ l. l; going = refl; comment = refl; line = refl; fits = f; way = refl })
 
 kept_counts : (p q : Page) → Keeps q p → Keeps q (counts p)
 kept_counts p q i = record {
@@ -94,11 +95,12 @@ kept_counts p q i = record {
   comment = i.comment;
   line = i.line;
   fits = i.fits;
+  way = i.way;
 }
 
-kept_counted : (p q : Page) → Keeps q p → Keeps q (counted_item p)
-kept_counted p q i =
-    keeps_if (is_diagnosis p.block.kind) q (taking Bold (counts p)) (counts p) (kept_taking (counts p) q Bold (kept_counts p q i)) (kept_counts p q i)
+kept_counted : (p q : Page) → way_of q.call.taker ≡ Usual → Keeps q p → Keeps q (counted_item p)
+kept_counted p q u i =
+    keeps_if (is_diagnosis p.block.kind) q (taking Bold (counts p)) (counts p) (kept_taking (counts p) q Bold u (kept_counts p q i)) (kept_counts p q i)
 
 quiet_space : (t : Bool) → is_quiet (space t) ≡ true
 unfolding is_quiet
@@ -143,67 +145,67 @@ head_word kind p w = refl
 no_words : (xs ys : List ℕ) → xs ≡ [] → ys ≡ [] → xs ++ (ys ++ ([] ++ [])) ≡ []
 no_words xs ys e f = ap (λ (zs : List ℕ). zs ++ (ys ++ [])) e ∙ ap (λ (zs : List ℕ). zs ++ []) f
 
-item_out : (q : Page) → takes_plain q.call.taker ≡ true → Out (item q) q []
+item_out : (q : Page) → takes_plain q.call.taker ≡ true → way_of q.call.taker ≡ Usual → Out (item q) q []
 unfolding is_quiet of_word
-item_out q f =
+item_out q f u =
     let p = counted_item (new_item q) in
     let close = stands_close q.block || not q.block.begun in
     out_if (not (is_list q.block.kind)) _ _ q []
-    (out (new_item q) q acts.Nothing acts.Nothing acts.Nothing [] refl refl refl refl (kept_new q f))
+    (out (new_item q) q acts.Nothing acts.Nothing acts.Nothing [] refl refl refl refl (kept_new q f u))
     (out p q (before_item q) (item_head p) acts.Nothing []
     (quiet_item_by close (stands_close q.block)) (quiet_head p.block.kind p) refl
     (no_words (of_word (before_item q) q.word) (of_word (item_head p) q.word) (item_word_by close (stands_close q.block) q.word) (head_word p.block.kind p q.word))
-    (kept_counted (new_item q) q (kept_new q f)))
+    (kept_counted (new_item q) q u (kept_new q f u)))
 
-indented_out : (q : Page) → takes_plain q.call.taker ≡ true → Out (line_opens q) q []
+indented_out : (q : Page) → takes_plain q.call.taker ≡ true → way_of q.call.taker ≡ Usual → Out (line_opens q) q []
 unfolding is_quiet of_word
-indented_out q f =
-    out (taking Roman q) q (acts.Sized sizes.Indent (inner q.block + 6)) acts.Nothing acts.Nothing [] refl refl refl refl (kept_taking q q Roman (same_page q f))
+indented_out q f u =
+    out (taking Roman q) q (acts.Sized sizes.Indent (inner q.block + 6)) acts.Nothing acts.Nothing [] refl refl refl refl (kept_taking q q Roman u (same_page q f))
 
 book_out : (q : Page) → takes_plain q.call.taker ≡ true → Out (book q) q []
 unfolding is_quiet of_word
 book_out q f =
     let p = record q { place = record q.place { reference = true; authors = 0 }; parts = [] } in
     let keeps : Keeps q p =
-    record { scan = refl; word = refl; marks = refl; few = λ l. l; going = refl; comment = refl; line = refl; fits = f } in
+    record { scan = refl; word = refl; marks = refl; few = λ l. l; going = refl; comment = refl; line = refl; fits = f; way = refl } in
     out_act_if (is_see_also q.place.section) acts.Space acts.Nothing p q []
     (out p q acts.Space acts.Nothing acts.Nothing [] refl refl refl refl keeps)
     (out p q acts.Nothing acts.Nothing acts.Nothing [] refl refl refl refl keeps)
 
-pub begins_out : (m : Macro) (q : Page) → heads_words m ≡ true → takes_plain q.call.taker ≡ true → Out (begins m q) q []
+pub begins_out : (m : Macro) (q : Page) → heads_words m ≡ true → takes_plain q.call.taker ≡ true → way_of q.call.taker ≡ way_of m → Out (begins m q) q []
 unfolding begins is_quiet of_word
-begins_out macros.Title q h f = never h
-begins_out macros.System q h f = never h
-begins_out macros.Section q h f = never h
-begins_out macros.Subsection q h f =
-    out _ q acts.Subsection acts.Nothing acts.Nothing [] refl refl refl refl (kept_taking (after lasts.Heading q) q Roman (kept_after lasts.Heading q f))
-begins_out macros.Paragraph q h f = out _ q acts.Space acts.Nothing acts.Nothing [] refl refl refl refl (kept_after lasts.Heading q f)
-begins_out macros.Describes q h f = never h
-begins_out macros.Silent q h f = never h
-begins_out macros.Breaks q h f = out q q (acts.Request requests.Break) acts.Nothing acts.Nothing [] refl refl refl refl (same_page q f)
-begins_out macros.Spaces q h f = never h
-begins_out macros.Defines q h f = never h
-begins_out macros.Book q h f = book_out q f
-begins_out macros.BookEnds q h f = never h
-begins_out (macros.Part letter) q h f = never h
-begins_out macros.Keeps q h f = never h
-begins_out macros.KeepEnds q h f = never h
-begins_out macros.Table q h f = never h
-begins_out macros.TableEnds q h f = never h
-begins_out macros.FontEnds q h f = out q q (acts.Request (requests.Font Roman)) acts.Nothing acts.Nothing [] refl refl refl refl (same_page q f)
-begins_out macros.Exits q h f = never h
-begins_out macros.Returns q h f = never h
-begins_out macros.List q h f = never h
-begins_out macros.Display q h f = never h
-begins_out macros.Item q h f = item_out q f
-begins_out macros.ListEnds q h f = never h
-begins_out macros.DisplayEnds q h f = never h
-begins_out macros.Line q h f = indented_out q f
-begins_out macros.LiteralLine q h f = indented_out q f
-begins_out macros.ResultType q h f = synopsis_out lasts.ResultType q f
-begins_out macros.Function q h f = function_out q f
-begins_out macros.FunctionOpens q h f = function_out q f
-begins_out macros.Variable q h f = synopsis_out lasts.Variable q f
-begins_out macros.Declaration q h f = synopsis_out lasts.Declaration q f
-begins_out macros.Include q h f = include_out q f
-begins_out m q h f = called_out m q f
+begins_out macros.Title q h f u = never h
+begins_out macros.System q h f u = never h
+begins_out macros.Section q h f u = never h
+begins_out macros.Subsection q h f u =
+    out _ q acts.Subsection acts.Nothing acts.Nothing [] refl refl refl refl (kept_taking (after lasts.Heading q) q Roman u (kept_after lasts.Heading q f))
+begins_out macros.Paragraph q h f u = out _ q acts.Space acts.Nothing acts.Nothing [] refl refl refl refl (kept_after lasts.Heading q f)
+begins_out macros.Describes q h f u = out q q (acts.Text texts.Description) acts.Nothing acts.Nothing [] refl refl refl refl (same_page q f)
+begins_out macros.Silent q h f u = never h
+begins_out macros.Breaks q h f u = out q q (acts.Request requests.Break) acts.Nothing acts.Nothing [] refl refl refl refl (same_page q f)
+begins_out macros.Spaces q h f u = never h
+begins_out macros.Defines q h f u = never h
+begins_out macros.Book q h f u = book_out q f
+begins_out macros.BookEnds q h f u = never h
+begins_out (macros.Part letter) q h f u = never h
+begins_out macros.Keeps q h f u = never h
+begins_out macros.KeepEnds q h f u = never h
+begins_out macros.Table q h f u = never h
+begins_out macros.TableEnds q h f u = never h
+begins_out macros.FontEnds q h f u = out q q (acts.Request (requests.Font Roman)) acts.Nothing acts.Nothing [] refl refl refl refl (same_page q f)
+begins_out macros.Exits q h f u = never h
+begins_out macros.Returns q h f u = never h
+begins_out macros.List q h f u = never h
+begins_out macros.Display q h f u = never h
+begins_out macros.Item q h f u = item_out q f u
+begins_out macros.ListEnds q h f u = never h
+begins_out macros.DisplayEnds q h f u = never h
+begins_out macros.Line q h f u = indented_out q f u
+begins_out macros.LiteralLine q h f u = indented_out q f u
+begins_out macros.ResultType q h f u = synopsis_out lasts.ResultType q f
+begins_out macros.Function q h f u = function_out q f
+begins_out macros.FunctionOpens q h f u = function_out q f
+begins_out macros.Variable q h f u = synopsis_out lasts.Variable q f
+begins_out macros.Declaration q h f u = synopsis_out lasts.Declaration q f
+begins_out macros.Include q h f u = include_out q f
+begins_out m q h f u = called_out m q f

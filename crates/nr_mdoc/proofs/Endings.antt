@@ -30,12 +30,13 @@ use Rattle.nr_mdoc.specs.WrittenLines.{heads_words}
 use Rattle.nr_mdoc.proofs.After.{Fresh}
 use Rattle.nr_mdoc.proofs.Meeting.{with_page, Leads, Takes, then_takes, takes_by}
 use Rattle.nr_mdoc.proofs.Outcomes.{is_quiet, of_word, never, Lays, quiet-page, takes_plain, Keeps, Out, out, out_seen_if}
-use Rattle.nr_mdoc.proofs.Stepping.{At, Stepped, leaves_step, marks_step, out_step, out_next, step_at}
+use Rattle.nr_mdoc.proofs.Stepping.{At, Head, Stepped, leaves_step, marks_step, out_step, out_next, step_at}
+use Rattle.nr_mdoc.proofs.Ways.{due_usual}
 use Rattle.nr_mdoc.proofs.WholeWords.{is_none-nil}
 
 -- ---- the end is met
 
-ends_met : (head : Macro) (b : ℕ) (s : State) (word marks : List ℕ) → At head s scans.Ends word marks → meet b s.page ≡ ends s.page
+ends_met : (head : Head) (b : ℕ) (s : State) (word marks : List ℕ) → At head s scans.Ends word marks → meet b s.page ≡ ends s.page
 unfolding meet meet_whole
 ends_met head b s word marks at =
     ap (λ (sc : Scan). meet_at sc b s.page) at.scan_is ∙ ap (λ (sc : Scan). meet_whole_at sc b s.page) at.scan_is
@@ -48,7 +49,7 @@ ends_is : (p : Page) → ends p ≡ ends_by (is_due p) (is_none p.closers) (is_n
 unfolding ends_by
 ends_is p = refl
 
-met_by : (head : Macro) (b : ℕ) (s : State) (word marks : List ℕ) (due no_closers no_marks : Bool) → At head s scans.Ends word marks
+met_by : (head : Head) (b : ℕ) (s : State) (word marks : List ℕ) (due no_closers no_marks : Bool) → At head s scans.Ends word marks
     → is_due s.page ≡ due → is_none s.page.closers ≡ no_closers → is_none s.page.marks ≡ no_marks
     → meet b s.page ≡ ends_by due no_closers no_marks s.page
 met_by head b s word marks due no_closers no_marks at e f g =
@@ -212,12 +213,12 @@ over_fresh x y s p i j none =
     let l = three_laid x y (last_act p) (with_scan scans.Start p) i j (last_laid_by (p.lay.tag && (p.place.depth == 0)) p) in
     record { scan_is = ap (λ (r : Page). r.scan) l.1; marks_are = ap (λ (r : Page). r.marks) l.1 ∙ none }
 
-over_ended : (head : Macro) (b : ℕ) (s : State) (word marks : List ℕ) → At head s scans.Ends word marks → ends_quiet head ≡ true
+over_ended : (head : Head) (b : ℕ) (s : State) (word marks : List ℕ) → At head s scans.Ends word marks → ends_quiet head.line ≡ true
     → s.page.marks ≡ [] → meet b s.page ≡ line_ends s.page → Ended b s 1 []
 over_ended head b s word marks at h none e =
     let p = s.page in
     let q = with_scan scans.Start p in
-    let end = silent_end head p h in
+    let end = silent_end head.line p h in
     let seen = three end.x end.y (last_act p) in
     record {
       next = with_page (said seen q).page s;
@@ -232,7 +233,7 @@ over_ended head b s word marks at h none e =
 
 -- ---- marks
 
-marked_ended : (t : Bool) (head : Macro) (b : ℕ) (s : State) (word marks : List ℕ) → At head s scans.Ends word marks → ends_quiet head ≡ true
+marked_ended : (t : Bool) (head : Head) (b : ℕ) (s : State) (word marks : List ℕ) → At head s scans.Ends word marks → ends_quiet head.line ≡ true
     → is_due s.page ≡ false → is_none s.page.closers ≡ true → is_none s.page.marks ≡ t → Ended b s 2 marks
 unfolding ends_by marks_step
 marked_ended true head b s word marks at h due closers none =
@@ -261,17 +262,17 @@ closes_out p f =
     let close = acts.Close (texts.Closing (slice_index p.closers (length p.closers - 1))) in
     let q = record p { closers = take (length p.closers - 1) p.closers } in
     let keeps : Keeps p q =
-    record { scan = refl; word = refl; marks = refl; few = fewer p.closers (length p.closers - 1); going = refl; comment = refl; line = refl; fits = f } in
+    record { scan = refl; word = refl; marks = refl; few = fewer p.closers (length p.closers - 1); going = refl; comment = refl; line = refl; fits = f; way = refl } in
     out_seen_if (ends_joined p) (two close acts.Join) (left close) q p []
     (out q p close acts.Join acts.Nothing [] refl refl refl refl keeps)
     (out q p close acts.Nothing acts.Nothing [] refl refl refl refl keeps)
 
-record Closed (head : Macro) (b : ℕ) (s : State) (n : ℕ) (word marks : List ℕ) : Type 0 where
+record Closed (head : Head) (b : ℕ) (s : State) (n : ℕ) (word marks : List ℕ) : Type 0 where
   step : Stepped head b s 1 [] scans.Ends word marks
   not_due : is_due step.next.page ≡ false
   fewer_then : length step.next.page.closers ≤ n
 
-closed_step : (head : Macro) (b : ℕ) (s : State) (n : ℕ) (word marks : List ℕ) → At head s scans.Ends word marks
+closed_step : (head : Head) (b : ℕ) (s : State) (n : ℕ) (word marks : List ℕ) → At head s scans.Ends word marks
     → meet b s.page ≡ closes_last s.page → is_due s.page ≡ false → length s.page.closers ≤ suc n → Closed head b s n word marks
 unfolding closes_last out_next out_step step_at
 closed_step head b s n word marks at e due l =
@@ -279,12 +280,12 @@ closed_step head b s n word marks at e due l =
     record {
       step =
           step_at head b s 1 [] p.scan scans.Ends p.word word marks at.scan_is at.word_is
-          (out_step head b s (closes_last p) p [] marks e (closes_out p at.fits) at.marks_are at.few at.going at.comment at.line at.free);
+          (out_step head b s (closes_last p) p [] marks e (closes_out p at.fits) at.marks_are at.few at.going at.comment at.line at.way at.free);
       not_due = due;
       fewer_then = one_fewer p.closers n l;
     }
 
-closed_ended : (n : ℕ) (t : Bool) (head : Macro) (b : ℕ) (s : State) (word marks : List ℕ) → At head s scans.Ends word marks → ends_quiet head ≡ true
+closed_ended : (n : ℕ) (t : Bool) (head : Head) (b : ℕ) (s : State) (word marks : List ℕ) → At head s scans.Ends word marks → ends_quiet head.line ≡ true
     → is_due s.page ≡ false → length s.page.closers ≤ n → is_none s.page.closers ≡ t → Ended b s (n + 2) marks
 unfolding ends_by
 closed_ended n true head b s word marks at h due l none =
@@ -300,11 +301,11 @@ closed_ended (suc n) false head b s word marks at h due l none =
 
 -- ---- what is due comes first
 
-due_ended : (t : Bool) (head : Macro) (b : ℕ) (s : State) (word marks : List ℕ) → At head s scans.Ends word marks → ends_quiet head ≡ true
+due_ended : (t : Bool) (head : Head) (b : ℕ) (s : State) (word marks : List ℕ) → At head s scans.Ends word marks → ends_quiet head.line ≡ true
     → is_due s.page ≡ t → Ended b s 11 marks
 unfolding ends_by
 due_ended true head b s word marks at h due =
-    let first = leaves_step head b s scans.Ends word marks at
+    let first = leaves_step head b s scans.Ends word marks at (due_usual s.page due)
     (met_by head b s word marks true (is_none s.page.closers) (is_none s.page.marks) at due refl refl) in
     let t = first.step.next in
     ended_within b s (1 + 10) 11 marks marks (omega arith) refl
@@ -314,5 +315,5 @@ due_ended false head b s word marks at h due =
     ended_within b s 10 11 marks marks (omega arith) refl
     (closed_ended 8 (is_none s.page.closers) head b s word marks at h due at.few refl)
 
-pub line_ended : (head : Macro) (b : ℕ) (s : State) (word marks : List ℕ) → At head s scans.Ends word marks → ends_quiet head ≡ true → Ended b s 11 marks
+pub line_ended : (head : Head) (b : ℕ) (s : State) (word marks : List ℕ) → At head s scans.Ends word marks → ends_quiet head.line ≡ true → Ended b s 11 marks
 line_ended head b s word marks at h = due_ended (is_due s.page) head b s word marks at h refl

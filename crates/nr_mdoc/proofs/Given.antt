@@ -1,10 +1,8 @@
 -- A word is given: in so many meetings all of it was said, or is held back.
-use Rattle.std.proofs.Common.{◌≡◌, ℕ, ◌≤◌, ◌+◌, List, ◌++◌, Bool, true, false, not, if◌then◌else◌, refl, ◌∙◌, ap, append_assoc, arith}
+use Rattle.std.proofs.Common.{◌≡◌, ℕ, ◌≤◌, ◌+◌, List, ◌++◌, Bool, true, false, not, if◌then◌else◌, ◌∙◌, ap, append_assoc, arith}
 use Rattle.nr_mdoc.specs.declared.macros.Macro.{Macro}
-use Rattle.nr_mdoc.specs.declared.macros.Macro.TheVariants as macros
 use Rattle.nr_mdoc.specs.declared.page.Scan.{Scan}
 use Rattle.nr_mdoc.specs.declared.page.Scan.TheVariants as scans
-use Rattle.nr_mdoc.specs.Keeping.{looks_up}
 use Rattle.nr_mdoc.specs.Options.{option, reads_for}
 use Rattle.nr_mdoc.specs.Reading.{State}
 use Rattle.nr_mdoc.specs.Scanning.{meet, meet_at, meet_whole, meet_whole_at}
@@ -13,17 +11,17 @@ use Rattle.nr_mdoc.specs.Words.{ends_long, parsed}
 use Rattle.nr_mdoc.proofs.Escapes.{and_right, is_not}
 use Rattle.nr_mdoc.proofs.Meeting.{Leads, then_leads}
 use Rattle.nr_mdoc.proofs.Outcomes.{takes_plain}
-use Rattle.nr_mdoc.proofs.Stepping.{At, Stepped}
+use Rattle.nr_mdoc.proofs.Stepping.{At, Head, Stepped}
 
 -- ---- steps after one another
 
-pub then_stepped : (m : Macro) (b : ℕ) (s t : State) (j k : ℕ) (xs ys : List ℕ) (scan : Scan) (word marks : List ℕ)
+pub then_stepped : (m : Head) (b : ℕ) (s t : State) (j k : ℕ) (xs ys : List ℕ) (scan : Scan) (word marks : List ℕ)
     → Leads b s t j xs → Stepped m b t k ys scan word marks → Stepped m b s (j + k) (xs ++ ys) scan word marks
 then_stepped m b s t j k xs ys scan word marks p q =
     record { next = q.next; leads = then_leads b s t q.next j k xs ys p q.leads; at = q.at }
 
 -- a word is whole: between words again, all of these bytes were said or are held back
-pub record Whole (m : Macro) (b : ℕ) (s : State) (k : ℕ) (all : List ℕ) : Type 0 where
+pub record Whole (m : Head) (b : ℕ) (s : State) (k : ℕ) (all : List ℕ) : Type 0 where
   pub steps : ℕ
   pub few : steps ≤ k
   pub xs : List ℕ
@@ -32,7 +30,7 @@ pub record Whole (m : Macro) (b : ℕ) (s : State) (k : ℕ) (all : List ℕ) : 
   pub step : Stepped m b s steps xs scans.Between word marks
   pub total : xs ++ marks ≡ all
 
-pub whole_of : (m : Macro) (b : ℕ) (s : State) (j k : ℕ) (xs word marks all : List ℕ) → j ≤ k → Stepped m b s j xs scans.Between word marks
+pub whole_of : (m : Head) (b : ℕ) (s : State) (j k : ℕ) (xs word marks all : List ℕ) → j ≤ k → Stepped m b s j xs scans.Between word marks
     → xs ++ marks ≡ all → Whole m b s k all
 whole_of m b s j k xs word marks all few step total =
     record { steps = j; few = few; xs = xs; word = word; marks = marks; step = step; total = total }
@@ -41,7 +39,7 @@ pub one_more : (i k : ℕ) → i ≤ k → 1 + i ≤ 1 + k
 one_more i k l = omega arith
 
 -- one step before a word is whole
-pub whole_behind : (m : Macro) (b : ℕ) (s t : State) (k : ℕ) (xs ys all : List ℕ) → Leads b s t 1 xs → Whole m b t k ys → xs ++ ys ≡ all
+pub whole_behind : (m : Head) (b : ℕ) (s t : State) (k : ℕ) (xs ys all : List ℕ) → Leads b s t 1 xs → Whole m b t k ys → xs ++ ys ≡ all
     → Whole m b s (1 + k) all
 whole_behind m b s t k xs ys all p w e = record {
   steps = 1 + w.steps;
@@ -53,26 +51,17 @@ whole_behind m b s t k xs ys all p w e = record {
   total = append_assoc xs w.xs w.marks ∙ ap (λ (zs : List ℕ). xs ++ zs) w.total ∙ e;
 }
 
-pub whole_within : (m : Macro) (b : ℕ) (s : State) (j k : ℕ) (all : List ℕ) → j ≤ k → Whole m b s j all → Whole m b s k all
+pub whole_within : (m : Head) (b : ℕ) (s : State) (j k : ℕ) (all : List ℕ) → j ≤ k → Whole m b s j all → Whole m b s k all
 whole_within m b s j k all l w =
     record { steps = w.steps; few = (let few = w.few in omega arith); xs = w.xs; word = w.word; marks = w.marks; step = w.step; total = w.total }
 
 -- ---- a word is given
 
-pub looks_reads : (m : Macro) → looks_up m ≡ false → reads_for m ≡ false
-looks_reads macros.Standard h = refl
-looks_reads macros.Describes h = refl
-looks_reads (macros.Part letter) h = refl
-looks_reads m h = h
-
-pub plain_looks : (m : Macro) → takes_plain m ≡ true → looks_up m ≡ false
-unfolding takes_plain
-plain_looks m h = is_not (looks_up m) (and_right (not (prints_otherwise m)) (not (looks_up m)) h)
-
 pub plain_reads : (m : Macro) → takes_plain m ≡ true → reads_for m ≡ false
-plain_reads m h = looks_reads m (plain_looks m h)
+unfolding takes_plain
+plain_reads m h = is_not (reads_for m) (and_right (not (prints_otherwise m)) (not (reads_for m)) h)
 
-pub given_met : (head : Macro) (b : ℕ) (s : State) (word marks : List ℕ) → At head s (scans.Given false) word marks → meet b s.page ≡ parsed false s.page
+pub given_met : (head : Head) (b : ℕ) (s : State) (word marks : List ℕ) → At head s (scans.Given false) word marks → meet b s.page ≡ parsed false s.page
 unfolding meet meet_whole
 given_met head b s word marks at =
     let p = s.page in

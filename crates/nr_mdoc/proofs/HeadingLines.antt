@@ -23,12 +23,12 @@ use Rattle.nr_mdoc.specs.Scanning.{meet, meet_at, meet_whole}
 use Rattle.nr_mdoc.specs.Seeing.{Met, met, left, taken, three}
 use Rattle.nr_mdoc.specs.WordLaws.{reads_at, HeadingsAreSaid}
 use Rattle.nr_mdoc.specs.Words.{ends_long, parsed}
-use Rattle.nr_mdoc.specs.WrittenLines.{each, is_plain, names_no_string, Word, are_written, behind_each, heading_of}
+use Rattle.nr_mdoc.specs.WrittenLines.{Usual, way_of, each, is_plain, names_no_string, Word, are_written, behind_each, heading_of}
 use Rattle.nr_mdoc.proofs.After.{after, after-append, next-state, Fresh}
 use Rattle.nr_mdoc.proofs.Escapes.{and_left, and_right, line-text}
 use Rattle.nr_mdoc.proofs.Given.{Whole, whole_of}
 use Rattle.nr_mdoc.proofs.KeptWords.{no_escape, no_quote, not_ending, not_of, one_enough, room, scan_same, widened, between_by}
-use Rattle.nr_mdoc.proofs.MacroLines.{beginning, control_taken, macro_met, name_begun, name_taken, plain_names, reads_name, two_enough}
+use Rattle.nr_mdoc.proofs.MacroLines.{head_of, beginning, control_taken, macro_met, name_begun, name_taken, plain_names, reads_name, two_enough}
 use Rattle.nr_mdoc.proofs.Meeting.{with_page, Leads, Takes, then_takes, leads_by, takes_by}
 use Rattle.nr_mdoc.proofs.Outcomes.{takes_plain, Keeps}
 use Rattle.nr_mdoc.proofs.QuotedLines.{each_names, Behind, behind_of, in_words, Line}
@@ -249,21 +249,21 @@ heading_met b s word at =
     ap (λ (t : Bool). if t then ends_long p else if reads_for p.call.taker then option p else parsed false p) at.going
     ∙ ap (λ (m : Macro). if reads_for m then given_by m p else parsed false p) at.taker
 
-first_whole : (b : ℕ) (s : State) (word : List ℕ) → Heads s scans.Word word → Whole macros.Section b (given s) 3 word
+first_whole : (b : ℕ) (s : State) (word : List ℕ) → Heads s scans.Word word → Whole (head_of macros.Section) b (given s) 3 word
 unfolding given behind_first takes_plain
 first_whole b s word at =
     let p = (given s).page in
     let q = with_scan scans.Between p in
     let keeps : Keeps q (behind_first p) =
-    record { scan = refl; word = refl; marks = refl; few = λ l. l; going = refl; comment = refl; line = refl; fits = refl } in
-    whole_of macros.Section b (given s) 1 3 q.word q.word [] word (omega arith)
-    (out_step macros.Section b (given s) (met (behind_first p) (three (acts.Word Roman) acts.Nothing acts.Nothing)) q q.word [] (heading_met b s word at)
-    (said_in Roman (behind_first p) q keeps) at.marks_are at.few at.going at.comment at.line (λ h. refl))
+    record { scan = refl; word = refl; marks = refl; few = λ l. l; going = refl; comment = refl; line = refl; fits = refl; way = ap way_of (sym at.taker) } in
+    whole_of (head_of macros.Section) b (given s) 1 3 q.word q.word [] word (omega arith)
+    (out_step (head_of macros.Section) b (given s) (met (behind_first p) (three (acts.Word Roman) acts.Nothing acts.Nothing)) q q.word [] (heading_met b s word at)
+    (said_in Roman (behind_first p) q keeps) at.marks_are at.few at.going at.comment at.line (ap way_of at.taker) (λ h. refl))
     (append-nil q.word ∙ at.word_is)
 
-first_behind : (s : State) (word : List ℕ) → Heads s scans.Word word → Behind macros.Section s word
+first_behind : (s : State) (word : List ℕ) → Heads s scans.Word word → Behind (head_of macros.Section) s word
 first_behind s word at =
-    behind_of macros.Section s (given s) word (given_leads (code " ") s word at refl) (given_leads (code "\n") s word at refl)
+    behind_of (head_of macros.Section) s (given s) word (given_leads (code " ") s word at refl) (given_leads (code "\n") s word at refl)
     (first_whole (code " ") s word at) (first_whole (code "\n") s word at) refl
 
 -- ---- the whole line
@@ -289,12 +289,13 @@ first_words b bs s word at h l =
     }
 
 pub heading_line : (b : ℕ) (bs : List ℕ) (ws : List Word) (s : State) → s.page.marks ≡ [] → each is_plain (b ∷ bs) ≡ true
-    → nat_le (length (b ∷ bs)) 30 ≡ true → are_written ws ≡ true → Line (reads_at scans.Start s) (heading_of (b ∷ bs) ws) (b ∷ bs) ws
+    → nat_le (length (b ∷ bs)) 30 ≡ true → are_written Usual ws ≡ true
+    → Line (reads_at scans.Start s) (heading_of (b ∷ bs) ws) (b ∷ bs) Usual ws
 heading_line b bs ws s none h l all =
     let start = reads_at scans.Start s in
     let line = begun_by s.page.place.titled s none refl in
     let first = first_words b bs line.next (codes "Sh") line.heads h (at_most_thirty (length (b ∷ bs)) l) in
-    let rest = in_words ws macros.Section first.next (b ∷ bs) (first_behind first.next (b ∷ bs) first.heads) refl all in
+    let rest = in_words ws (head_of macros.Section) first.next (b ∷ bs) (first_behind first.next (b ∷ bs) first.heads) refl all in
     let behind = behind_each ws ++ codes "\n" in
     let words = (b ∷ bs ++ behind_each ws) ++ codes "\n" in
     let takes = then_takes (code " ") (reads_name (codes "Sh") s) line.next line.next 1 1 [] [] line.leads (blank_taken line.next (codes "Sh") line.heads) in
@@ -320,9 +321,9 @@ heading_line b bs ws s none h l all =
           rest.fresh;
     }
 
-pub heading_names : (b : ℕ) (bs : List ℕ) (ws : List Word) → each is_plain (b ∷ bs) ≡ true → are_written ws ≡ true
+pub heading_names : (b : ℕ) (bs : List ℕ) (ws : List Word) → each is_plain (b ∷ bs) ≡ true → are_written Usual ws ≡ true
     → names_no_string (codes ".Sh " ++ (b ∷ bs) ++ behind_each ws) ≡ true
-heading_names b bs ws h all = plain_names (b ∷ bs) (behind_each ws) h (each_names ws all)
+heading_names b bs ws h all = plain_names (b ∷ bs) (behind_each ws) h (each_names ws Usual all)
 
 pub headings_are_said : HeadingsAreSaid
 headings_are_said s b bs ws none h l all =

@@ -23,4 +23,5 @@ mod Taken
 mod TextSaid
 mod Turning
 mod Unchanged
+mod Ways
 mod WholeWords

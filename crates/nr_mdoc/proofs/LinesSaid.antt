@@ -12,7 +12,7 @@ use Rattle.nr_mdoc.specs.Macros.{macro_of}
 use Rattle.nr_mdoc.specs.Reading.{State, fed}
 use Rattle.nr_mdoc.specs.Saying.{parts_of, text_of, words_of}
 use Rattle.nr_mdoc.specs.WordLaws.{reads_at, LinesAreSaid}
-use Rattle.nr_mdoc.specs.WrittenLines.{begins_star, begins_text, each, is_plain, is_text, names_no_string, Word, are_written, behind_each, Line, EmptyLine, CommentLine, TextLine, HeadingLine, MacroLine, heads_some, is_line, are_lines, written_line, written_lines, printed_line, printed_lines}
+use Rattle.nr_mdoc.specs.WrittenLines.{Usual, way_named, printed_as, begins_star, begins_text, each, is_plain, is_text, names_no_string, Word, are_written, behind_each, Line, EmptyLine, CommentLine, TextLine, HeadingLine, MacroLine, heads_some, is_line, are_lines, written_line, written_lines, printed_line, printed_lines}
 use Rattle.nr_mdoc.proofs.After.{after, after-pending, words-append, Fresh}
 use Rattle.nr_mdoc.proofs.Escapes.{and_left, and_right, both, line-text}
 use Rattle.nr_mdoc.proofs.HeadingLines.{heading_line, heading_names}
@@ -29,11 +29,17 @@ record SaidAs (s : State) (l : Line) : Type 0 where
   said : Said s (written_line l) (printed_line wholes l)
 
 heads_some_said : (o : Option Macro) (name : List ℕ) (ws : List Word) (s : State) → s.page.marks ≡ [] → macro_of name ≡ o
-    → heads_some o ≡ true → each is_plain name ≡ true → are_written ws ≡ true → SaidAs s (MacroLine name ws)
+    → heads_some o ≡ true → each is_plain name ≡ true → are_written (way_named o) ws ≡ true → SaidAs s (MacroLine name ws)
 heads_some_said None name ws s none e h plain all = absurd (let no : false ≡ true = h in cc)
 heads_some_said (Some m) name ws s none e h plain all =
     let line = quoted_line name ws m s none e h plain all in
-    record { wholes = line.wholes; said = record { words = line.words; fresh = line.fresh } }
+    record {
+      wholes = line.wholes;
+      said = record {
+        words = line.words ∙ ap (λ (p : Option Macro). printed_as (way_named p) line.wholes ws) (sym e);
+        fresh = line.fresh;
+      };
+    }
 
 line_said : (l : Line) (s : State) → s.page.marks ≡ [] → is_line l ≡ true → SaidAs s l
 line_said EmptyLine s none h = record { wholes = []; said = empty_said s none }
@@ -51,16 +57,17 @@ line_said (TextLine b bs) s none h =
       };
     }
 line_said (HeadingLine b bs ws) s none h =
-    let front = and_left (each is_plain (b ∷ bs) && nat_le (length (b ∷ bs)) 30) (are_written ws) h in
+    let front = and_left (each is_plain (b ∷ bs) && nat_le (length (b ∷ bs)) 30) (are_written Usual ws) h in
     let line = heading_line b bs ws s none (and_left (each is_plain (b ∷ bs)) (nat_le (length (b ∷ bs)) 30) front)
     (and_right (each is_plain (b ∷ bs)) (nat_le (length (b ∷ bs)) 30) front)
-    (and_right (each is_plain (b ∷ bs) && nat_le (length (b ∷ bs)) 30) (are_written ws) h) in
+    (and_right (each is_plain (b ∷ bs) && nat_le (length (b ∷ bs)) 30) (are_written Usual ws) h) in
     record { wholes = line.wholes; said = record { words = line.words; fresh = line.fresh } }
 line_said (MacroLine name ws) s none h =
-    let front = and_left (heads_some (macro_of name) && each is_plain name) (are_written ws) h in
+    let written = are_written (way_named (macro_of name)) ws in
+    let front = and_left (heads_some (macro_of name) && each is_plain name) written h in
     heads_some_said (macro_of name) name ws s none refl (and_left (heads_some (macro_of name)) (each is_plain name) front)
     (and_right (heads_some (macro_of name)) (each is_plain name) front)
-    (and_right (heads_some (macro_of name) && each is_plain name) (are_written ws) h)
+    (and_right (heads_some (macro_of name) && each is_plain name) written h)
 
 -- ---- the lines
 
@@ -114,13 +121,14 @@ body_names (TextLine b bs) h = and_right (begins_text b && each is_text bs) (nam
 body_names (HeadingLine b bs ws) h =
     heading_names b bs ws
     (and_left (each is_plain (b ∷ bs)) (nat_le (length (b ∷ bs)) 30)
-    (and_left (each is_plain (b ∷ bs) && nat_le (length (b ∷ bs)) 30) (are_written ws) h))
-    (and_right (each is_plain (b ∷ bs) && nat_le (length (b ∷ bs)) 30) (are_written ws) h)
+    (and_left (each is_plain (b ∷ bs) && nat_le (length (b ∷ bs)) 30) (are_written Usual ws) h))
+    (and_right (each is_plain (b ∷ bs) && nat_le (length (b ∷ bs)) 30) (are_written Usual ws) h)
 body_names (MacroLine name ws) h =
+    let way = way_named (macro_of name) in
     plain_names name (behind_each ws)
     (and_right (heads_some (macro_of name)) (each is_plain name)
-    (and_left (heads_some (macro_of name) && each is_plain name) (are_written ws) h))
-    (each_names ws (and_right (heads_some (macro_of name) && each is_plain name) (are_written ws) h))
+    (and_left (heads_some (macro_of name) && each is_plain name) (are_written way ws) h))
+    (each_names ws way (and_right (heads_some (macro_of name) && each is_plain name) (are_written way ws) h))
 
 joined_names : (bs rest : List ℕ) → names_no_string bs ≡ true → names_no_string rest ≡ true → names_no_string (bs ++ code "\n" ∷ rest) ≡ true
 joined_names [] rest h e = e

@@ -1,4 +1,4 @@
--- A line of a macro says those of its words that call no macro.
+-- A line of a macro begins, its words end, and it ends.
 use Rattle.std.proofs.Common.{◌≡◌, ℕ, ◌≤◌, ◌<◌, ◌+◌, List, [], ◌∷◌, ◌++◌, length, Bool, true, false, not, ◌&&◌, ◌||◌, ◌==◌, nat_le, if◌then◌else◌, Option, None, Some, refl, sym, ◌∙◌, ap, subst, append_assoc, append-nil, length-append, arith}
 use Rattle.std.proofs.lemmas.Bool.Decides.{nat_tests}
 use Rattle.std.specs.Prelude.{codes}
@@ -19,30 +19,30 @@ use Rattle.nr_mdoc.specs.Reading.{State, said}
 use Rattle.nr_mdoc.specs.Saying.{parts_of, words_of}
 use Rattle.nr_mdoc.specs.Scanning.{meet, meet_at, name_begins}
 use Rattle.nr_mdoc.specs.Seeing.{Met, met, left, taken}
-use Rattle.nr_mdoc.specs.WordLaws.{reads_at, WordsAreSaid}
-use Rattle.nr_mdoc.specs.WrittenLines.{begins_star, each, names_no_string, Letter, Plain, Escape, are_letters, bytes_of, is_escaped, is_letter, is_plain, written, heads_words, kept, prints_words, none_or, is_word, are_words, behind_blanks, macro_line, unless_called, printed}
+use Rattle.nr_mdoc.specs.WordLaws.{reads_at}
+use Rattle.nr_mdoc.specs.WrittenLines.{Way, way_of, begins_star, each, names_no_string, Letter, Plain, Escape, are_letters, bytes_of, is_escaped, is_letter, is_plain, written, heads_words, kept, prints_words, none_or, is_word, unless_called}
 use Rattle.nr_mdoc.proofs.After.{after, next-state}
 use Rattle.nr_mdoc.proofs.Begins.{begins_out}
-use Rattle.nr_mdoc.proofs.Endings.{ends_quiet, heads_end, Ended, line_ended}
-use Rattle.nr_mdoc.proofs.Escapes.{and_left, and_right, both, is_not, line-text}
-use Rattle.nr_mdoc.proofs.KeptWords.{not_ending, no_escape, not_of, read_word, between_by, between_met}
+use Rattle.nr_mdoc.proofs.Endings.{ends_quiet, Ended, line_ended}
+use Rattle.nr_mdoc.proofs.Escapes.{and_left, and_right, both, is_not}
+use Rattle.nr_mdoc.proofs.KeptWords.{not_ending, no_escape, not_of, between_by, between_met}
 use Rattle.nr_mdoc.proofs.Meeting.{with_page, Leads, Takes, then_takes, leads_by, takes_by}
 use Rattle.nr_mdoc.proofs.TextSaid.{next-words, or_left, or_right}
-use Rattle.nr_mdoc.proofs.Stepping.{At, Stepped, out_step}
-use Rattle.nr_mdoc.proofs.WholeWords.{given_whole, heads_plain}
+use Rattle.nr_mdoc.proofs.Stepping.{At, Head, Stepped, out_step}
+use Rattle.nr_mdoc.proofs.WholeWords.{heads_plain}
 
 -- ---- between words
 
-blank_met : (head : Macro) (s : State) (word marks : List ℕ) → At head s scans.Between word marks → meet (code " ") s.page ≡ met s.page (taken acts.Nothing)
+blank_met : (head : Head) (s : State) (word marks : List ℕ) → At head s scans.Between word marks → meet (code " ") s.page ≡ met s.page (taken acts.Nothing)
 unfolding between_by
 blank_met head s word marks at = between_met head (code " ") s word marks at
 
-pub blank_taken : (head : Macro) (s : State) (word marks : List ℕ) → At head s scans.Between word marks → Takes (code " ") s s 1 []
+pub blank_taken : (head : Head) (s : State) (word marks : List ℕ) → At head s scans.Between word marks → Takes (code " ") s s 1 []
 unfolding said lay_out
 blank_taken head s word marks at =
     takes_by (code " ") s s.page s.page acts.Nothing acts.Nothing acts.Nothing [] (blank_met head s word marks at) refl refl
 
-newline_met : (head : Macro) (s : State) (word marks : List ℕ) → At head s scans.Between word marks
+newline_met : (head : Head) (s : State) (word marks : List ℕ) → At head s scans.Between word marks
     → meet (code "\n") s.page ≡ met (with_scan scans.Ends s.page) (left acts.Nothing)
 unfolding between_by
 newline_met head s word marks at = between_met head (code "\n") s word marks at
@@ -50,13 +50,13 @@ newline_met head s word marks at = between_met head (code "\n") s word marks at
 at_end : State → State
 at_end s = with_page (with_scan scans.Ends s.page) s
 
-newline_leads : (head : Macro) (s : State) (word marks : List ℕ) → At head s scans.Between word marks → Leads (code "\n") s (at_end s) 1 []
+newline_leads : (head : Head) (s : State) (word marks : List ℕ) → At head s scans.Between word marks → Leads (code "\n") s (at_end s) 1 []
 unfolding said lay_out at_end
 newline_leads head s word marks at =
     leads_by (code "\n") s (with_scan scans.Ends s.page) (with_scan scans.Ends s.page) acts.Nothing acts.Nothing acts.Nothing []
     (newline_met head s word marks at) refl refl
 
-ends_at : (head : Macro) (s : State) (scan : Scan) (word marks : List ℕ) → At head s scan word marks → At head (at_end s) scans.Ends word marks
+ends_at : (head : Head) (s : State) (scan : Scan) (word marks : List ℕ) → At head s scan word marks → At head (at_end s) scans.Ends word marks
 unfolding at_end
 ends_at head s scan word marks at = record {
   scan_is = refl;
@@ -67,11 +67,12 @@ ends_at head s scan word marks at = record {
   comment = at.comment;
   line = at.line;
   fits = at.fits;
+  way = at.way;
   free = at.free;
 }
 
 -- the line ends between words
-pub over : (head : Macro) (s : State) (word marks : List ℕ) → At head s scans.Between word marks → ends_quiet head ≡ true → Ended (code "\n") s 12 marks
+pub over : (head : Head) (s : State) (word marks : List ℕ) → At head s scans.Between word marks → ends_quiet head.line ≡ true → Ended (code "\n") s 12 marks
 over head s word marks at h =
     let e = line_ended head (code "\n") (at_end s) word marks (ends_at head s scans.Between word marks at) h in
     record {
@@ -87,7 +88,7 @@ over head s word marks at h =
 unfoldable pub given : State → State
 given s = with_page (with_scan (scans.Given false) s.page) s
 
-pub given_at : (head : Macro) (s : State) (word marks : List ℕ) → At head s scans.Word word marks → At head (given s) (scans.Given false) word marks
+pub given_at : (head : Head) (s : State) (word marks : List ℕ) → At head s scans.Word word marks → At head (given s) (scans.Given false) word marks
 unfolding given
 given_at head s word marks at = record {
   scan_is = refl;
@@ -98,27 +99,28 @@ given_at head s word marks at = record {
   comment = at.comment;
   line = at.line;
   fits = at.fits;
+  way = at.way;
   free = at.free;
 }
 
 in_word_rest : ℕ → Page → Met
 in_word_rest b p = if b == code "\\" then met (with_scan scans.Escape p) (taken acts.Nothing) else keep_byte b false p
 
-given_met : (head : Macro) (b : ℕ) (s : State) (word marks : List ℕ) → At head s scans.Word word marks → ends_word b ≡ true
+given_met : (head : Head) (b : ℕ) (s : State) (word marks : List ℕ) → At head s scans.Word word marks → ends_word b ≡ true
     → meet b s.page ≡ met (with_scan (scans.Given false) s.page) (left acts.Nothing)
 unfolding meet in_word_rest
 given_met head b s word marks at e =
     let p = s.page in
     ap (λ (sc : Scan). meet_at sc b p) at.scan_is ∙ ap (λ (t : Bool). if t then met (with_scan (scans.Given false) p) (left acts.Nothing) else in_word_rest b p) e
 
-pub given_leads : (head : Macro) (b : ℕ) (s : State) (word marks : List ℕ) → At head s scans.Word word marks → ends_word b ≡ true → Leads b s (given s) 1 []
+pub given_leads : (head : Head) (b : ℕ) (s : State) (word marks : List ℕ) → At head s scans.Word word marks → ends_word b ≡ true → Leads b s (given s) 1 []
 unfolding said lay_out given
 given_leads head b s word marks at e =
     leads_by b s (with_scan (scans.Given false) s.page) (with_scan (scans.Given false) s.page) acts.Nothing acts.Nothing acts.Nothing []
     (given_met head b s word marks at e) refl refl
 
 -- a blank ends a word: these bytes of words were said, and the line is read between words
-pub record Said (m : Macro) (s : State) (all : List ℕ) : Type 0 where
+pub record Said (m : Head) (s : State) (all : List ℕ) : Type 0 where
   pub next : State
   pub xs : List ℕ
   pub word : List ℕ
@@ -131,100 +133,40 @@ pub record Said (m : Macro) (s : State) (all : List ℕ) : Type 0 where
 pub five : (k : ℕ) → k ≤ 3 → 1 + (k + 1) ≤ 16
 five k l = omega arith
 
-blank_said : (head : Macro) (s : State) (word marks : List ℕ) → At head s scans.Word word marks → none_or prints_words (called_by false word) ≡ true
-    → Said head s (marks ++ unless_called (called_by false word) word)
-blank_said head s word marks at f =
-    let b = code " " in
-    let w = given_whole head b (given s) word marks (given_at head s word marks at) f in
-    let t = w.step.next in
-    record {
-      next = t;
-      xs = w.xs;
-      word = w.word;
-      marks = w.marks;
-      said = λ rest.
-          next-words b rest s t (1 + (w.steps + 1)) ([] ++ (w.xs ++ [])) _ (five w.steps w.few)
-          (then_takes b s (given s) t 1 (w.steps + 1) [] (w.xs ++ []) (given_leads head b s word marks at refl)
-          (then_takes b (given s) t t w.steps 1 w.xs [] w.step.leads (blank_taken head t w.word w.marks w.step.at))) refl
-          ∙ ap (λ (zs : List ℕ). zs ++ words_of (parts_of t rest)) (append-nil w.xs);
-      state =
-          next-state b [] s t (1 + (w.steps + 1)) ([] ++ (w.xs ++ [])) (five w.steps w.few)
-          (then_takes b s (given s) t 1 (w.steps + 1) [] (w.xs ++ []) (given_leads head b s word marks at refl)
-          (then_takes b (given s) t t w.steps 1 w.xs [] w.step.leads (blank_taken head t w.word w.marks w.step.at)));
-      at = w.step.at;
-      total = w.total;
-    }
-
 pub sixteen : (j k : ℕ) → j ≤ 3 → k ≤ 12 → 1 + (j + k) ≤ 16
 sixteen j k l m = omega arith
 
--- the line ends with a word
-newline_said : (head : Macro) (s : State) (word marks : List ℕ) → At head s scans.Word word marks → heads_words head ≡ true
-    → none_or prints_words (called_by false word) ≡ true → words_of (parts_of s (codes "\n")) ≡ marks ++ unless_called (called_by false word) word
-newline_said head s word marks at h f =
-    let b = code "\n" in
-    let w = given_whole head b (given s) word marks (given_at head s word marks at) f in
-    let t = w.step.next in
-    let e = over head t w.word w.marks w.step.at (heads_end head h) in
-    next-words b [] s e.next (1 + (w.steps + e.steps)) ([] ++ (w.xs ++ w.marks)) [] (sixteen w.steps e.steps w.few e.few)
-    (then_takes b s (given s) e.next 1 (w.steps + e.steps) [] (w.xs ++ w.marks) (given_leads head b s word marks at refl)
-    (then_takes b (given s) t e.next w.steps e.steps w.xs w.marks w.step.leads e.takes)) refl
-    ∙ append-nil (w.xs ++ w.marks) ∙ w.total
-
 -- ---- the words of a line
 
-pub word_letters : (l : Letter) (ls : List Letter) → is_word (l ∷ ls) ≡ true → are_letters (l ∷ ls) ≡ true
-word_letters l ls h =
-    and_left (are_letters (l ∷ ls)) (nat_le (length (kept (l ∷ ls))) 30)
-    (and_left (are_letters (l ∷ ls) && nat_le (length (kept (l ∷ ls))) 30) (none_or prints_words (called_by false (kept (l ∷ ls)))) h)
+pub word_letters : (way : Way) (l : Letter) (ls : List Letter) → is_word way (l ∷ ls) ≡ true → are_letters (l ∷ ls) ≡ true
+word_letters way l ls h =
+    let word = kept way (l ∷ ls) in
+    and_left (are_letters (l ∷ ls)) (nat_le (length word) 30)
+    (and_left (are_letters (l ∷ ls) && nat_le (length word) 30) (none_or prints_words (called_by false word)) h)
 
 at_most_thirty : (n : ℕ) → nat_le n 30 ≡ true → n ≤ 30
 at_most_thirty n e = grind (arith, nat_tests)
 
-pub word_short : (l : Letter) (ls : List Letter) → is_word (l ∷ ls) ≡ true → length (kept (l ∷ ls)) ≤ 30
-word_short l ls h =
-    at_most_thirty (length (kept (l ∷ ls)))
-    (and_right (are_letters (l ∷ ls)) (nat_le (length (kept (l ∷ ls))) 30)
-    (and_left (are_letters (l ∷ ls) && nat_le (length (kept (l ∷ ls))) 30) (none_or prints_words (called_by false (kept (l ∷ ls)))) h))
+pub word_short : (way : Way) (l : Letter) (ls : List Letter) → is_word way (l ∷ ls) ≡ true → length (kept way (l ∷ ls)) ≤ 30
+word_short way l ls h =
+    let word = kept way (l ∷ ls) in
+    at_most_thirty (length word)
+    (and_right (are_letters (l ∷ ls)) (nat_le (length word) 30)
+    (and_left (are_letters (l ∷ ls) && nat_le (length word) 30) (none_or prints_words (called_by false word)) h))
 
-pub word_prints : (l : Letter) (ls : List Letter) → is_word (l ∷ ls) ≡ true → none_or prints_words (called_by false (kept (l ∷ ls))) ≡ true
-word_prints l ls h = and_right (are_letters (l ∷ ls) && nat_le (length (kept (l ∷ ls))) 30) (none_or prints_words (called_by false (kept (l ∷ ls)))) h
+pub word_prints : (way : Way) (l : Letter) (ls : List Letter) → is_word way (l ∷ ls) ≡ true
+    → none_or prints_words (called_by false (kept way (l ∷ ls))) ≡ true
+word_prints way l ls h =
+    let word = kept way (l ∷ ls) in
+    and_right (are_letters (l ∷ ls) && nat_le (length word) 30) (none_or prints_words (called_by false word)) h
 
 -- what is printed of a word that is kept so
-unfoldable pub of_kept : List ℕ → List ℕ
-of_kept word = unless_called (called_by false word) word
-
--- the first of the words is read between words
-first_word : (l : Letter) (ls : List Letter) (ws : List (List Letter)) (head : Macro) (s : State) (word marks : List ℕ) → At head s scans.Between word marks
-    → is_word (l ∷ ls) ≡ true
-    → ((t : State) → At head t scans.Word (kept (l ∷ ls)) marks
-    → words_of (parts_of t (behind_blanks ws ++ codes "\n")) ≡ marks ++ of_kept (kept (l ∷ ls)) ++ printed ws)
-    → words_of (parts_of s ((written (l ∷ ls) ++ behind_blanks ws) ++ codes "\n")) ≡ marks ++ of_kept (kept (l ∷ ls)) ++ printed ws
-first_word l ls ws head s word marks at h rest =
-    let one = read_word l ls head s word marks at (word_letters l ls h) (word_short l ls h) in
-    ap (λ (xs : List ℕ). words_of (parts_of s xs)) (append_assoc (written (l ∷ ls)) (behind_blanks ws) (codes "\n"))
-    ∙ one.said (behind_blanks ws ++ codes "\n") ∙ rest one.next one.at
+unfoldable pub of_kept : Way → List ℕ → List ℕ
+of_kept way word = unless_called way (called_by false word) word
 
 pub regrouped : (xs marks all us vs : List ℕ) → xs ++ marks ≡ all → xs ++ (marks ++ us ++ vs) ≡ all ++ (us ++ vs)
 regrouped xs marks all us vs e =
     ap (λ (zs : List ℕ). xs ++ zs) (append_assoc marks us vs) ∙ sym (append_assoc xs marks (us ++ vs)) ∙ ap (λ (zs : List ℕ). zs ++ (us ++ vs)) e
-
--- behind a word
-in_line : (ws : List (List Letter)) (head : Macro) (s : State) (word marks : List ℕ) → At head s scans.Word word marks → heads_words head ≡ true
-    → none_or prints_words (called_by false word) ≡ true → are_words ws ≡ true
-    → words_of (parts_of s (behind_blanks ws ++ codes "\n")) ≡ marks ++ of_kept word ++ printed ws
-unfolding of_kept
-in_line [] head s word marks at h f all =
-    newline_said head s word marks at h f ∙ sym (append-nil (marks ++ of_kept word))
-in_line ([] ∷ ws) head s word marks at h f all = absurd (let no : false ≡ true = and_left false (are_words ws) all in cc)
-in_line ((l ∷ ls) ∷ ws) head s word marks at h f all =
-    let here = and_left (is_word (l ∷ ls)) (are_words ws) all in
-    let one = blank_said head s word marks at f in
-    one.said ((written (l ∷ ls) ++ behind_blanks ws) ++ codes "\n")
-    ∙ ap (λ (zs : List ℕ). one.xs ++ zs)
-    (first_word l ls ws head one.next one.word one.marks one.at here
-    (λ t at2. in_line ws head t (kept (l ∷ ls)) one.marks at2 h (word_prints l ls here) (and_right (is_word (l ∷ ls)) (are_words ws) all)))
-    ∙ regrouped one.xs one.marks (marks ++ of_kept word) (of_kept (kept (l ∷ ls))) (printed ws) one.total
 
 -- ---- the name of a line
 
@@ -328,37 +270,23 @@ macro_met b m name s e f =
     name_met b name s ∙ ap (λ (t : Bool). name_by t (b == code "\\") (is_full name) b p) e
     ∙ ap (λ (o : Option Macro). begins_or_other o (record p { scan = scans.Between; closers = [] })) f
 
+-- its words are taken as the macro takes them
+abbrev pub head_of : Macro → Head
+head_of m = record { line = m; way = way_of m }
+
 pub macro_step : (b : ℕ) (m : Macro) (name : List ℕ) (s : State) → s.page.marks ≡ [] → ends_word b ≡ true → macro_of name ≡ Some m → heads_words m ≡ true
-    → Stepped m b (reads_name name s) 1 [] scans.Between name []
+    → Stepped (head_of m) b (reads_name name s) 1 [] scans.Between name []
 unfolding beginning
 macro_step b m name s marks e f h =
     let q = beginning m name s in
-    out_step m b (reads_name name s) (begins m q) q [] [] (macro_met b m name s e f)
-    (begins_out m q h (heads_plain m h)) marks (omega arith) refl refl refl (λ k. refl)
+    out_step (head_of m) b (reads_name name s) (begins m q) q [] [] (macro_met b m name s e f)
+    (begins_out m q h (heads_plain m h) refl) marks (omega arith) refl refl refl refl (λ k. refl)
 
 pub thirteen : (k : ℕ) → k ≤ 12 → 1 + k ≤ 16
 thirteen k l = omega arith
 
 pub two_enough : 1 + 1 ≤ 16
 two_enough = omega arith
-
-behind_name : (ws : List (List Letter)) (m : Macro) (name : List ℕ) (s : State) → s.page.marks ≡ [] → macro_of name ≡ Some m → heads_words m ≡ true
-    → are_words ws ≡ true → words_of (parts_of (reads_name name s) (behind_blanks ws ++ codes "\n")) ≡ printed ws
-unfolding of_kept
-behind_name [] m name s marks f h all =
-    let b = code "\n" in
-    let one = macro_step b m name s marks refl f h in
-    let e = over m one.next name [] one.at (heads_end m h) in
-    next-words b [] (reads_name name s) e.next (1 + e.steps) ([] ++ []) [] (thirteen e.steps e.few)
-    (then_takes b (reads_name name s) one.next e.next 1 e.steps [] [] one.leads e.takes) refl
-behind_name ([] ∷ ws) m name s marks f h all = absurd (let no : false ≡ true = and_left false (are_words ws) all in cc)
-behind_name ((l ∷ ls) ∷ ws) m name s marks f h all =
-    let here = and_left (is_word (l ∷ ls)) (are_words ws) all in
-    let one = macro_step (code " ") m name s marks refl f h in
-    next-words (code " ") ((written (l ∷ ls) ++ behind_blanks ws) ++ codes "\n") (reads_name name s) one.next (1 + 1) ([] ++ []) _ two_enough
-    (then_takes (code " ") (reads_name name s) one.next one.next 1 1 [] [] one.leads (blank_taken m one.next name [] one.at)) refl
-    ∙ first_word l ls ws m one.next name [] one.at here
-    (λ t at. in_line ws m t (kept (l ∷ ls)) [] at h (word_prints l ls here) (and_right (is_word (l ∷ ls)) (are_words ws) all))
 
 -- ---- the whole line
 
@@ -368,19 +296,6 @@ short_name (a ∷ []) m e = absurd (let no : None ≡ Some m = e in cc)
 short_name (a ∷ b ∷ []) m e = omega arith
 short_name (a ∷ b ∷ c ∷ []) m e = omega arith
 short_name (a ∷ b ∷ c ∷ d ∷ rest) m e = absurd (let no : None ≡ Some m = e in cc)
-
-line_words : (name : List ℕ) (ws : List (List Letter)) (m : Macro) (s : State) → s.page.marks ≡ [] → macro_of name ≡ Some m → heads_words m ≡ true
-    → each is_plain name ≡ true → are_words ws ≡ true → words_of (parts_of (reads_at scans.Start s) (macro_line name ws)) ≡ printed ws
-line_words [] ws m s marks f h plain all = absurd (let no : None ≡ Some m = f in cc)
-line_words (b ∷ bs) ws m s marks f h plain all =
-    let rest = behind_blanks ws ++ codes "\n" in
-    let short = short_name (b ∷ bs) m f in
-    next-words (code ".") ((b ∷ bs ++ behind_blanks ws) ++ codes "\n") (reads_at scans.Start s) (reads_at scans.Control s) 1 [] _ one_enough (control_taken s) refl
-    ∙ ap (λ (xs : List ℕ). words_of (parts_of (reads_at scans.Control s) xs)) (append_assoc (b ∷ bs) (behind_blanks ws) (codes "\n"))
-    ∙ next-words b (bs ++ rest) (reads_at scans.Control s) (reads_name (b ∷ []) s) 1 [] _ one_enough
-    (name_begun b s (and_left (is_plain b) (each is_plain bs) plain)) refl
-    ∙ name_more bs (b ∷ []) s rest (and_right (is_plain b) (each is_plain bs) plain) (omega arith)
-    ∙ behind_name ws m (b ∷ bs) s marks f h all
 
 -- ---- no string is named in it
 
@@ -416,16 +331,3 @@ letters_names [] rest h e = e
 letters_names (l ∷ ls) rest h e =
     subst (λ (xs : List ℕ). names_no_string xs ≡ true) (sym (append_assoc (bytes_of l) (written ls) rest))
     (letter_names l (written ls ++ rest) (and_left (is_letter l) (are_letters ls) h) (letters_names ls rest (and_right (is_letter l) (are_letters ls) h) e))
-
-pub words_names : (ws : List (List Letter)) → are_words ws ≡ true → names_no_string (behind_blanks ws) ≡ true
-words_names [] all = refl
-words_names ([] ∷ ws) all = absurd (let no : false ≡ true = and_left false (are_words ws) all in cc)
-words_names ((l ∷ ls) ∷ ws) all =
-    letters_names (l ∷ ls) (behind_blanks ws) (word_letters l ls (and_left (is_word (l ∷ ls)) (are_words ws) all))
-    (words_names ws (and_right (is_word (l ∷ ls)) (are_words ws) all))
-
-pub words_are_said : WordsAreSaid
-words_are_said s m name ws marks f h plain all = record {
-  text = line-text (code "." ∷ name ++ behind_blanks ws) (reads_at scans.Start s) refl (plain_names name (behind_blanks ws) plain (words_names ws all));
-  words = line_words name ws m s marks f h plain all;
-}

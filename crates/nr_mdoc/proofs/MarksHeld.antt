@@ -14,17 +14,19 @@ use Rattle.nr_mdoc.specs.LayingOut.{lay_out}
 use Rattle.nr_mdoc.specs.Reading.{State, said}
 use Rattle.nr_mdoc.specs.Scanning.{meet}
 use Rattle.nr_mdoc.specs.Seeing.{Met, met, left}
+use Rattle.nr_mdoc.specs.WrittenLines.{Usual, way_of}
 use Rattle.nr_mdoc.specs.Words.{begins_anew, closing_mark, holding, is_closing, is_prefix, is_text, mark, mark_as_word, marked_or, parsed, stands, takes_marks, taken_by_same}
-use Rattle.nr_mdoc.proofs.Escapes.{and_left, is_not}
+use Rattle.nr_mdoc.proofs.Escapes.{and_left, and_right, is_not}
 use Rattle.nr_mdoc.proofs.Given.{Whole, whole_of, whole_behind, whole_within, given_met}
 use Rattle.nr_mdoc.proofs.Meeting.{with_page, leads_by}
 use Rattle.nr_mdoc.proofs.Outcomes.{is_quiet, of_word, never, takes_plain, Out, out, out_if, leaves_out}
-use Rattle.nr_mdoc.proofs.Stepping.{At, Left, out_lays, out_step, out_next, step_at, leaves_step, marks_step, true_is_false}
+use Rattle.nr_mdoc.proofs.Stepping.{At, Head, Left, out_lays, out_step, out_next, step_at, leaves_step, marks_step, true_is_false}
 use Rattle.nr_mdoc.proofs.Taken.{prefix_out}
+use Rattle.nr_mdoc.proofs.Ways.{due_usual, marks_usual}
 
 -- ---- closing marks
 
-pub mark_met : (head : Macro) (b c : ℕ) (s : State) (word marks : List ℕ) → At head s (scans.Given false) word marks
+pub mark_met : (head : Head) (b c : ℕ) (s : State) (word marks : List ℕ) → At head s (scans.Given false) word marks
     → closing_mark false word ≡ Some c → meet b s.page ≡ mark c s.page
 unfolding parsed
 mark_met head b c s word marks at e =
@@ -53,13 +55,13 @@ pub not_some : (s t : Bool) → (not s && t) ≡ true → s ≡ false
 not_some s t h = is_not s (and_left (not s) t h)
 
 -- a word that is a mark, and ends no sentence
-pub mark_out : (p : Page) → takes_plain p.call.taker ≡ true → Out (mark_as_word p) (with_scan scans.Between p) p.word
+pub mark_out : (p : Page) → takes_plain p.call.taker ≡ true → way_of p.call.taker ≡ Usual → Out (mark_as_word p) (with_scan scans.Between p) p.word
 unfolding is_quiet of_word
-mark_out p f =
+mark_out p f u =
     let q = with_scan scans.Between p in
-    out_if (is_prefix p.call.taker) _ _ q q.word (prefix_out q f)
+    out_if (is_prefix p.call.taker) _ _ q q.word (prefix_out q f u)
     (out (with_call (record q.call { some = true }) q) q (acts.Word Roman) (acts.Close texts.Empty) acts.Nothing q.word refl refl refl (append-nil q.word)
-    (record { scan = refl; word = refl; marks = refl; few = λ l. l; going = refl; comment = refl; line = refl; fits = f }))
+    (record { scan = refl; word = refl; marks = refl; few = λ l. l; going = refl; comment = refl; line = refl; fits = f; way = refl }))
 
 pub one_at_most : 1 ≤ 1
 one_at_most = omega arith
@@ -67,7 +69,7 @@ one_at_most = omega arith
 pub two_at_most : 1 ≤ 2
 two_at_most = omega arith
 
-pub held_whole : (head : Macro) (b c : ℕ) (s : State) (word marks : List ℕ) → At head s (scans.Given false) word marks
+pub held_whole : (head : Head) (b c : ℕ) (s : State) (word marks : List ℕ) → At head s (scans.Given false) word marks
     → meet b s.page ≡ met (holding c s.page) (left acts.Nothing) → word ≡ c ∷ [] → Whole head b s 1 (marks ++ word)
 unfolding said lay_out
 held_whole head b c s word marks at e same =
@@ -84,12 +86,13 @@ held_whole head b c s word marks at e same =
         comment = at.comment;
         line = at.line;
         fits = at.fits;
+        way = at.way;
         free = λ h. never (sym h);
       };
     })
     (ap (λ (xs : List ℕ). marks ++ xs) (sym same))
 
-pub clear_mark : (head : Macro) (b c : ℕ) (s : State) (word marks : List ℕ) → At head s (scans.Given false) word marks
+pub clear_mark : (head : Head) (b c : ℕ) (s : State) (word marks : List ℕ) → At head s (scans.Given false) word marks
     → closing_mark false word ≡ Some c → is_due s.page ≡ false → is_text s.page ≡ false → meet b s.page ≡ mark_by false false (length s.page.marks == 32) c s.page
 clear_mark head b c s word marks at e due text =
     mark_met head b c s word marks at e ∙ mark_is c s.page
@@ -97,7 +100,7 @@ clear_mark head b c s word marks at e due text =
     ∙ ap (λ (t : Bool). mark_by false t (length s.page.marks == 32) c s.page) text
 
 -- marks are full: they are said first
-pub full_whole : (t : Bool) (head : Macro) (b c : ℕ) (s : State) (word marks : List ℕ) → At head s (scans.Given false) word marks
+pub full_whole : (t : Bool) (head : Head) (b c : ℕ) (s : State) (word marks : List ℕ) → At head s (scans.Given false) word marks
     → closing_mark false word ≡ Some c → is_due s.page ≡ false → is_text s.page ≡ false → (length s.page.marks == 32) ≡ t → Whole head b s 2 (marks ++ word)
 unfolding mark_by marks_step
 full_whole true head b c s word marks at e due text full =
@@ -112,17 +115,18 @@ full_whole false head b c s word marks at e due text full =
     (clear_mark head b c s word marks at e due text ∙ ap (λ (t : Bool). mark_by false false t c s.page) full)
     (the_mark word c e))
 
-pub text_whole : (t : Bool) (head : Macro) (b c : ℕ) (s : State) (word marks : List ℕ) → At head s (scans.Given false) word marks
+pub text_whole : (t : Bool) (head : Head) (b c : ℕ) (s : State) (word marks : List ℕ) → At head s (scans.Given false) word marks
     → closing_mark false word ≡ Some c → is_due s.page ≡ false → is_text s.page ≡ t → Whole head b s 2 (marks ++ word)
 unfolding mark_by
 text_whole true head b c s word marks at e due text =
     let p = s.page in
     let none : marks ≡ [] = at.free (not_some p.call.some (takes_marks p.call.taker) text) in
+    let usual = marks_usual p.call.taker (and_right (not p.call.some) (takes_marks p.call.taker) text) in
     whole_of head b s 1 2 p.word p.word marks (marks ++ word) two_at_most
     (out_step head b s (mark_as_word p) (with_scan scans.Between p) p.word marks
     (mark_met head b c s word marks at e ∙ mark_is c p
     ∙ ap (λ (t : Bool). mark_by t (is_text p) (length p.marks == 32) c p) due ∙ ap (λ (t : Bool). mark_by false t (length p.marks == 32) c p) text)
-    (mark_out p at.fits) at.marks_are at.few at.going at.comment at.line (λ h. none))
+    (mark_out p at.fits usual) at.marks_are at.few at.going at.comment at.line at.way (λ h. none))
     (ap (λ (xs : List ℕ). p.word ++ xs) none ∙ append-nil p.word ∙ at.word_is ∙ ap (λ (xs : List ℕ). xs ++ word) (sym none))
 text_whole false head b c s word marks at e due text = full_whole (length s.page.marks == 32) head b c s word marks at e due text refl
 
@@ -150,9 +154,9 @@ anew_opened macros.Path h = refl
 anew_opened macros.Name h = refl
 anew_opened m h = never h
 
-anew_out : (p : Page) → takes_plain p.call.taker ≡ true → Out (taken_by_same p.call.taker (leaves p)) p []
-anew_out p f =
-    let o = leaves_out p f in
+anew_out : (p : Page) → takes_plain p.call.taker ≡ true → way_of p.call.taker ≡ Usual → Out (taken_by_same p.call.taker (leaves p)) p []
+anew_out p f u =
+    let o = leaves_out p f u in
     record {
       x = o.x;
       y = o.y;
@@ -171,6 +175,7 @@ anew_out p f =
         comment = o.keeps.comment;
         line = o.keeps.line;
         fits = f;
+        way = refl;
       };
     }
 
@@ -186,38 +191,38 @@ anew_some : (m : Macro) (p : Page) → (taken_by_same m (leaves p)).page.call.so
 unfolding leaves
 anew_some m p = refl
 
-anew_step : (head : Macro) (b : ℕ) (s : State) (scan : Scan) (word marks : List ℕ) → At head s scan word marks
-    → begins_anew s.page.call.taker ≡ true → meet b s.page ≡ taken_by_same s.page.call.taker (leaves s.page) → Left head b s scan word marks
+anew_step : (head : Head) (b : ℕ) (s : State) (scan : Scan) (word marks : List ℕ) → At head s scan word marks
+    → way_of s.page.call.taker ≡ Usual → begins_anew s.page.call.taker ≡ true → meet b s.page ≡ taken_by_same s.page.call.taker (leaves s.page) → Left head b s scan word marks
 unfolding out_next step_at out_step
-anew_step head b s scan word marks at h e =
+anew_step head b s scan word marks at u h e =
     let p = s.page in
     let m = taken_by_same p.call.taker (leaves p) in
-    let o = anew_out p at.fits in
+    let o = anew_out p at.fits u in
     let l = (out_lays m p [] o).0 in
     record {
       step =
           step_at head b s 1 [] p.scan scan p.word word marks at.scan_is at.word_is
-          (out_step head b s m p [] marks e o at.marks_are at.few at.going at.comment at.line
+          (out_step head b s m p [] marks e o at.marks_are at.few at.going at.comment at.line at.way
           (λ g. true_is_false m.page.call.some (anew_some p.call.taker p) g));
       not_due = anew_not_due l p.call.taker p h;
       no_enclosure = anew_no_enclosure l p.call.taker p h;
       some = anew_some p.call.taker p;
     }
 
-stands_step : (t : Bool) (head : Macro) (b : ℕ) (s : State) (scan : Scan) (word marks : List ℕ) → At head s scan word marks
-    → begins_anew s.page.call.taker ≡ t → meet b s.page ≡ stands s.page → Left head b s scan word marks
+stands_step : (t : Bool) (head : Head) (b : ℕ) (s : State) (scan : Scan) (word marks : List ℕ) → At head s scan word marks
+    → way_of s.page.call.taker ≡ Usual → begins_anew s.page.call.taker ≡ t → meet b s.page ≡ stands s.page → Left head b s scan word marks
 unfolding stands_by
-stands_step true head b s scan word marks at h e =
-    anew_step head b s scan word marks at h (e ∙ stands_is s.page ∙ ap (λ (t : Bool). stands_by t s.page) h)
-stands_step false head b s scan word marks at h e =
-    leaves_step head b s scan word marks at (e ∙ stands_is s.page ∙ ap (λ (t : Bool). stands_by t s.page) h)
+stands_step true head b s scan word marks at u h e =
+    anew_step head b s scan word marks at u h (e ∙ stands_is s.page ∙ ap (λ (t : Bool). stands_by t s.page) h)
+stands_step false head b s scan word marks at u h e =
+    leaves_step head b s scan word marks at u (e ∙ stands_is s.page ∙ ap (λ (t : Bool). stands_by t s.page) h)
 
-pub mark_whole : (t : Bool) (head : Macro) (b c : ℕ) (s : State) (word marks : List ℕ) → At head s (scans.Given false) word marks
+pub mark_whole : (t : Bool) (head : Head) (b c : ℕ) (s : State) (word marks : List ℕ) → At head s (scans.Given false) word marks
     → closing_mark false word ≡ Some c → is_due s.page ≡ t → Whole head b s 3 (marks ++ word)
 unfolding mark_by
 mark_whole true head b c s word marks at e due =
     let p = s.page in
-    let first = stands_step (begins_anew s.page.call.taker) head b s (scans.Given false) word marks at refl
+    let first = stands_step (begins_anew s.page.call.taker) head b s (scans.Given false) word marks at (due_usual p due) refl
     (mark_met head b c s word marks at e ∙ mark_is c p ∙ ap (λ (t : Bool). mark_by t (is_text p) (length p.marks == 32) c p) due) in
     let t = first.step.next in
     whole_behind head b s t 2 [] (marks ++ word) (marks ++ word) first.step.leads

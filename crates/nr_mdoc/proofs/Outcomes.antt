@@ -1,5 +1,5 @@
 -- What a meeting says of a word, and what it leaves of the page as it was.
-use Rattle.std.proofs.Common.{◌≡◌, ℕ, ◌≤◌, List, [], ◌++◌, length, Bool, true, false, not, ◌&&◌, if◌then◌else◌, refl, ◌∙◌, ap}
+use Rattle.std.proofs.Common.{◌≡◌, ℕ, ◌≤◌, List, [], ◌++◌, length, Bool, true, false, not, ◌&&◌, if◌then◌else◌, refl, sym, ◌∙◌, ap}
 use Prim.Native.Char.{code}
 use Rattle.nr_mdoc.specs.declared.acts.Act.{Act}
 use Rattle.nr_mdoc.specs.declared.acts.Act.TheVariants as acts
@@ -15,14 +15,14 @@ use Rattle.nr_mdoc.specs.declared.page.Lay.{Lay}
 use Rattle.nr_mdoc.specs.declared.page.Page.{Page}
 use Rattle.nr_mdoc.specs.declared.seen.Seen.{Seen}
 use Rattle.nr_mdoc.specs.Calls.{is_synopsis, heads_line, after_name, takes_no_more, due_from, due, leaves, function_closes}
-use Rattle.nr_mdoc.specs.Keeping.{looks_up}
 use Rattle.nr_mdoc.specs.Laying.{laid, with_lay}
 use Rattle.nr_mdoc.specs.LayingOut.{lay_out}
+use Rattle.nr_mdoc.specs.Options.{reads_for}
 use Rattle.nr_mdoc.specs.OwnLines.{fresh, was_sized}
 use Rattle.nr_mdoc.specs.Reading.{said}
 use Rattle.nr_mdoc.specs.Saying.{part_of, parts_seen, words_of}
 use Rattle.nr_mdoc.specs.Seeing.{Met, met, three}
-use Rattle.nr_mdoc.specs.WrittenLines.{prints_otherwise}
+use Rattle.nr_mdoc.specs.WrittenLines.{prints_otherwise, Usual, way_of}
 
 -- ---- acts that leave all of the page but how text is laid out
 
@@ -145,7 +145,7 @@ three-words x y z p i j k =
 
 -- a macro that prints its words as they stand
 unfoldable pub takes_plain : Macro → Bool
-takes_plain m = not (prints_otherwise m) && not (looks_up m)
+takes_plain m = not (prints_otherwise m) && not (reads_for m)
 
 pub record Keeps (q p : Page) : Type 0 where
   pub scan : p.scan ≡ q.scan
@@ -156,6 +156,7 @@ pub record Keeps (q p : Page) : Type 0 where
   pub comment : p.call.comment ≡ q.call.comment
   pub line : p.call.line ≡ q.call.line
   pub fits : takes_plain p.call.taker ≡ true
+  pub way : way_of p.call.taker ≡ way_of q.call.taker
 
 pub keeps_if : (t : Bool) (q p r : Page) → Keeps q p → Keeps q r → Keeps q (if t then p else r)
 keeps_if true q p r i j = i
@@ -171,11 +172,12 @@ keeps_then q p r i j = record {
   comment = j.comment ∙ i.comment;
   line = j.line ∙ i.line;
   fits = j.fits;
+  way = j.way ∙ i.way;
 }
 
-pub keeps_no_more : (q p : Page) → Keeps q p → Keeps q (takes_no_more p)
+pub keeps_no_more : (q p : Page) → way_of q.call.taker ≡ Usual → Keeps q p → Keeps q (takes_no_more p)
 unfolding takes_plain
-keeps_no_more q p i = record {
+keeps_no_more q p u i = record {
   scan = i.scan;
   word = i.word;
   marks = i.marks;
@@ -184,6 +186,7 @@ keeps_no_more q p i = record {
   comment = i.comment;
   line = i.line;
   fits = refl;
+  way = sym u;
 }
 
 -- ---- what is said
@@ -222,7 +225,8 @@ out_act_if false a b p q xs i j = j
 -- ---- nothing of a word is said: what is due, and macros that are called
 
 pub same_page : (q : Page) → takes_plain q.call.taker ≡ true → Keeps q q
-same_page q f = record { scan = refl; word = refl; marks = refl; few = λ l. l; going = refl; comment = refl; line = refl; fits = f }
+same_page q f =
+    record { scan = refl; word = refl; marks = refl; few = λ l. l; going = refl; comment = refl; line = refl; fits = f; way = refl }
 
 pub silent_one : (p q : Page) (x : Act) → is_quiet x ≡ true → of_word x q.word ≡ [] → Keeps q p → Out (met p (three x acts.Nothing acts.Nothing)) q []
 unfolding is_quiet of_word
@@ -255,9 +259,9 @@ due_out (macros.Encloses pair) p f = out p p (acts.Text (texts.Opening pair)) ac
 due_out (macros.Opens pair) p f = out p p (acts.Text (texts.Opening pair)) acts.Join acts.Nothing [] refl refl refl refl (same_page p f)
 due_out m p f = out p p acts.Nothing acts.Nothing acts.Nothing [] refl refl refl refl (same_page p f)
 
-pub leaves_out : (p : Page) → takes_plain p.call.taker ≡ true → Out (leaves p) p []
+pub leaves_out : (p : Page) → takes_plain p.call.taker ≡ true → way_of p.call.taker ≡ Usual → Out (leaves p) p []
 unfolding leaves
-leaves_out p f =
+leaves_out p f u =
     let d = due_out p.call.taker p f in
     record {
       x = d.x;
@@ -268,5 +272,5 @@ leaves_out p f =
       quiet_y = d.quiet_y;
       quiet_z = d.quiet_z;
       words = d.words;
-      keeps = keeps_no_more p (due p).page d.keeps;
+      keeps = keeps_no_more p (due p).page u d.keeps;
     }

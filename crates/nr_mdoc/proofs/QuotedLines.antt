@@ -1,4 +1,4 @@
--- A line of a macro with words between quotes says those of its words that call no macro.
+-- A line of a macro says those of its words that call no macro.
 use Rattle.std.proofs.Common.{◌≡◌, ℕ, ◌+◌, List, [], ◌∷◌, ◌++◌, length, Bool, true, false, not, ◌&&◌, ◌==◌, nat_le, if◌then◌else◌, Option, None, Some, refl, sym, ◌∙◌, ap, subst, append_assoc, append-nil, arith}
 use Rattle.std.specs.Prelude.{codes}
 use Prim.Native.Char.{code}
@@ -17,23 +17,24 @@ use Rattle.nr_mdoc.specs.Saying.{parts_of, words_of}
 use Rattle.nr_mdoc.specs.Scanning.{meet, meet_at, meet_whole, meet_whole_at}
 use Rattle.nr_mdoc.specs.Seeing.{Met, met, left}
 use Rattle.nr_mdoc.specs.Taking.{argument, some_taken, taken_word}
-use Rattle.nr_mdoc.specs.WordLaws.{reads_at, QuotedAreSaid}
+use Rattle.nr_mdoc.specs.WordLaws.{reads_at, WordsAreSaid}
 use Rattle.nr_mdoc.specs.Words.{closing_mark, ends_long, marked_or, parsed, read_or_called, unmarked}
-use Rattle.nr_mdoc.specs.WrittenLines.{begins_star, each, names_no_string, Letter, is_plain, is_quotable, is_word, kept, kept_quoted, written, heads_words, Word, Bare, Quoted, is_written, are_written, behind_each, line_of, printed_as}
+use Rattle.nr_mdoc.specs.WrittenLines.{Way, said_of, way_of, way_then, begins_star, each, names_no_string, Letter, is_plain, is_quotable, is_word, kept, kept_quoted, written, heads_words, Word, Bare, Quoted, is_written, are_written, behind_each, line_of, printed_as}
 use Rattle.nr_mdoc.proofs.Endings.{ends_quiet, heads_end}
 use Rattle.nr_mdoc.proofs.Escapes.{and_left, and_right, both, line-text}
 use Rattle.nr_mdoc.proofs.Given.{Whole, whole_of, whole_behind, whole_within, plain_reads}
 use Rattle.nr_mdoc.proofs.KeptWords.{read_word}
 use Rattle.nr_mdoc.proofs.After.{after, after-append, next-state, Fresh}
-use Rattle.nr_mdoc.proofs.MacroLines.{blank_taken, over, five, sixteen, thirteen, one_enough, two_enough, regrouped, of_kept, Said, given, given_at, given_leads, reads_name, name_begun, name_more, name_more_state, macro_step, short_name, letters_names, plain_names, control_taken, word_letters, word_short, word_prints}
+use Rattle.nr_mdoc.proofs.MacroLines.{head_of, blank_taken, over, five, sixteen, thirteen, one_enough, two_enough, regrouped, of_kept, Said, given, given_at, given_leads, reads_name, name_begun, name_more, name_more_state, macro_step, short_name, letters_names, plain_names, control_taken, word_letters, word_short, word_prints}
 use Rattle.nr_mdoc.proofs.MarksHeld.{one_at_most, two_at_most}
 use Rattle.nr_mdoc.proofs.Meeting.{with_page, Leads, then_takes, leads_by}
 use Rattle.nr_mdoc.proofs.Outcomes.{takes_plain, Out}
 use Rattle.nr_mdoc.proofs.QuotedWords.{read_quoted, no_slash}
-use Rattle.nr_mdoc.proofs.Stepping.{At, out_step, leaves_step, marks_step}
+use Rattle.nr_mdoc.proofs.Stepping.{At, Head, out_step, leaves_step, marks_step}
 use Rattle.nr_mdoc.proofs.Taken.{taken_out}
 use Rattle.nr_mdoc.proofs.TextSaid.{next-words}
-use Rattle.nr_mdoc.proofs.WholeWords.{given_whole, is_none-nil, some_kept}
+use Rattle.nr_mdoc.proofs.Ways.{opened_usual}
+use Rattle.nr_mdoc.proofs.WholeWords.{behind_head, given_whole, is_none-nil, some_kept}
 
 -- ---- a word between quotes is given
 
@@ -65,7 +66,7 @@ unmarked_is : (p : Page) → unmarked true p ≡ unmarked_by (is_none p.marks) p
 unfolding unmarked unmarked_by
 unmarked_is p = ap (λ (o : Option Macro). if not (is_none p.marks) then met p (left acts.Marks) else read_or_called o true p) (called_none p.word)
 
-given_met : (head : Macro) (b : ℕ) (s : State) (word marks : List ℕ) → At head s (scans.Given true) word marks → meet b s.page ≡ unmarked_by (is_none s.page.marks) s.page
+given_met : (head : Head) (b : ℕ) (s : State) (word marks : List ℕ) → At head s (scans.Given true) word marks → meet b s.page ≡ unmarked_by (is_none s.page.marks) s.page
 unfolding meet meet_whole parsed
 given_met head b s word marks at =
     let p = s.page in
@@ -74,7 +75,7 @@ given_met head b s word marks at =
     ∙ ap (λ (t : Bool). if t then option p else parsed true p) (plain_reads p.call.taker at.fits)
     ∙ ap (λ (o : Option ℕ). marked_or o true p) (marked_none p.word) ∙ unmarked_is p
 
-taken_said : (p : Page) → takes_plain p.call.taker ≡ true → Out (argument_by false p) (with_scan scans.Between p) p.word
+taken_said : (p : Page) → takes_plain p.call.taker ≡ true → Out (argument_by false p) (with_scan scans.Between p) (said_of (way_of p.call.taker) p.word)
 unfolding argument_by
 taken_said p f =
     let q = with_scan scans.Between p in
@@ -91,17 +92,18 @@ taken_said p f =
       keeps = some_kept q (taken_word q).page o.keeps;
     }
 
-said_whole : (head : Macro) (b : ℕ) (s : State) (word : List ℕ) → At head s (scans.Given true) word []
-    → meet b s.page ≡ argument_by false s.page → Whole head b s 1 word
+said_whole : (head : Head) (b : ℕ) (s : State) (word : List ℕ) → At head s (scans.Given true) word []
+    → meet b s.page ≡ argument_by false s.page → Whole head b s 1 (said_of head.way word)
 unfolding argument_by
 said_whole head b s word at e =
     let p = s.page in
-    whole_of head b s 1 1 p.word p.word [] word one_at_most
-    (out_step head b s (argument_by false p) (with_scan scans.Between p) p.word [] e (taken_said p at.fits)
-    at.marks_are at.few at.going at.comment at.line (λ h. refl))
-    (append-nil p.word ∙ at.word_is)
+    let xs = said_of (way_of p.call.taker) p.word in
+    whole_of head b s 1 1 xs p.word [] (said_of head.way word) one_at_most
+    (out_step head b s (argument_by false p) (with_scan scans.Between p) xs [] e (taken_said p at.fits)
+    at.marks_are at.few at.going at.comment at.line at.way (λ h. refl))
+    (append-nil xs ∙ ap (λ (w : Way). said_of w p.word) at.way ∙ ap (said_of head.way) at.word_is)
 
-clear_met : (head : Macro) (b : ℕ) (s : State) (word : List ℕ) (t : Bool) → At head s (scans.Given true) word [] → (is_enclosure_due s.page && true) ≡ t
+clear_met : (head : Head) (b : ℕ) (s : State) (word : List ℕ) (t : Bool) → At head s (scans.Given true) word [] → (is_enclosure_due s.page && true) ≡ t
     → meet b s.page ≡ argument_by t s.page
 unfolding unmarked_by
 clear_met head b s word t at e =
@@ -109,34 +111,35 @@ clear_met head b s word t at e =
     given_met head b s word [] at ∙ ap (λ (xs : List ℕ). unmarked_by (is_none xs) p) at.marks_are ∙ argument_is p
     ∙ ap (λ (u : Bool). argument_by u p) e
 
-clear_whole : (t : Bool) (head : Macro) (b : ℕ) (s : State) (word : List ℕ) → At head s (scans.Given true) word [] → (is_enclosure_due s.page && true) ≡ t
-    → Whole head b s 2 word
+clear_whole : (t : Bool) (head : Head) (b : ℕ) (s : State) (word : List ℕ) → At head s (scans.Given true) word [] → (is_enclosure_due s.page && true) ≡ t
+    → Whole head b s 2 (said_of head.way word)
 unfolding argument_by
 clear_whole true head b s word at e =
-    let first = leaves_step head b s (scans.Given true) word [] at (clear_met head b s word true at e) in
+    let first = leaves_step head b s (scans.Given true) word [] at (opened_usual s.page (and_left (is_enclosure_due s.page) true e))
+    (clear_met head b s word true at e) in
     let t = first.step.next in
-    whole_behind head b s t 1 [] word word first.step.leads
+    whole_behind head b s t 1 [] (said_of head.way word) (said_of head.way word) first.step.leads
     (said_whole head b t word first.step.at
     (clear_met head b t word false first.step.at (ap (λ (u : Bool). u && true) first.no_enclosure)))
     refl
 clear_whole false head b s word at e =
-    whole_within head b s 1 2 word two_at_most (said_whole head b s word at (clear_met head b s word false at e))
+    whole_within head b s 1 2 (said_of head.way word) two_at_most (said_whole head b s word at (clear_met head b s word false at e))
 
-quoted_by : (t : Bool) (head : Macro) (b : ℕ) (s : State) (word marks : List ℕ) → At head s (scans.Given true) word marks → is_none s.page.marks ≡ t
-    → Whole head b s 3 (marks ++ word)
+quoted_by : (t : Bool) (head : Head) (b : ℕ) (s : State) (word marks : List ℕ) → At head s (scans.Given true) word marks → is_none s.page.marks ≡ t
+    → Whole head b s 3 (marks ++ said_of head.way word)
 unfolding unmarked_by
 quoted_by true head b s word marks at none =
     let no_marks : marks ≡ [] = sym at.marks_are ∙ is_none-nil s.page.marks none in
     let clear : At head s (scans.Given true) word [] = subst (λ (xs : List ℕ). At head s (scans.Given true) word xs) no_marks at in
-    subst (λ (xs : List ℕ). Whole head b s 3 (xs ++ word)) (sym no_marks)
-    (whole_within head b s 2 3 word (omega arith) (clear_whole (is_enclosure_due s.page && true) head b s word clear refl))
+    subst (λ (xs : List ℕ). Whole head b s 3 (xs ++ said_of head.way word)) (sym no_marks)
+    (whole_within head b s 2 3 (said_of head.way word) (omega arith) (clear_whole (is_enclosure_due s.page && true) head b s word clear refl))
 quoted_by false head b s word marks at none =
     let first = marks_step head b s (scans.Given true) word marks at
     (given_met head b s word marks at ∙ ap (λ (t : Bool). unmarked_by t s.page) none) in
-    whole_behind head b s first.next 2 marks word (marks ++ word) first.leads
+    whole_behind head b s first.next 2 marks (said_of head.way word) (marks ++ said_of head.way word) first.leads
     (clear_whole (is_enclosure_due first.next.page && true) head b first.next word first.at refl) refl
 
-quoted_whole : (head : Macro) (b : ℕ) (s : State) (word marks : List ℕ) → At head s (scans.Given true) word marks → Whole head b s 3 (marks ++ word)
+quoted_whole : (head : Head) (b : ℕ) (s : State) (word marks : List ℕ) → At head s (scans.Given true) word marks → Whole head b s 3 (marks ++ said_of head.way word)
 quoted_whole head b s word marks at = quoted_by (is_none s.page.marks) head b s word marks at refl
 
 -- ---- behind its last quote
@@ -144,7 +147,7 @@ quoted_whole head b s word marks at = quoted_by (is_none s.page.marks) head b s 
 given_quoted : State → State
 given_quoted s = with_page (with_scan (scans.Given true) s.page) s
 
-quoted_at : (head : Macro) (s : State) (word marks : List ℕ) → At head s scans.Closing word marks → At head (given_quoted s) (scans.Given true) word marks
+quoted_at : (head : Head) (s : State) (word marks : List ℕ) → At head s scans.Closing word marks → At head (given_quoted s) (scans.Given true) word marks
 unfolding given_quoted
 quoted_at head s word marks at = record {
   scan_is = refl;
@@ -155,10 +158,11 @@ quoted_at head s word marks at = record {
   comment = at.comment;
   line = at.line;
   fits = at.fits;
+  way = at.way;
   free = at.free;
 }
 
-closing_met : (head : Macro) (b : ℕ) (s : State) (word marks : List ℕ) → At head s scans.Closing word marks → (b == code "\"") ≡ false
+closing_met : (head : Head) (b : ℕ) (s : State) (word marks : List ℕ) → At head s scans.Closing word marks → (b == code "\"") ≡ false
     → meet b s.page ≡ met (with_scan (scans.Given true) s.page) (left acts.Nothing)
 unfolding meet
 closing_met head b s word marks at e =
@@ -166,7 +170,7 @@ closing_met head b s word marks at e =
     ap (λ (sc : Scan). meet_at sc b p) at.scan_is
     ∙ ap (λ (t : Bool). if t then keep b true (with_scan scans.Quoted p) else met (with_scan (scans.Given true) p) (left acts.Nothing)) e
 
-quoted_leads : (head : Macro) (b : ℕ) (s : State) (word marks : List ℕ) → At head s scans.Closing word marks → (b == code "\"") ≡ false
+quoted_leads : (head : Head) (b : ℕ) (s : State) (word marks : List ℕ) → At head s scans.Closing word marks → (b == code "\"") ≡ false
     → Leads b s (given_quoted s) 1 []
 unfolding said lay_out given_quoted
 quoted_leads head b s word marks at e =
@@ -176,13 +180,13 @@ quoted_leads head b s word marks at e =
 -- ---- what ends a word
 
 -- these bytes of words are said where a blank comes, and where the line ends
-pub record Behind (head : Macro) (s : State) (all : List ℕ) : Type 0 where
+pub record Behind (head : Head) (s : State) (all : List ℕ) : Type 0 where
   blank : Said head s all
   newline : words_of (parts_of s (codes "\n")) ≡ all
   fresh : Fresh (after s (codes "\n"))
 
-pub behind_of : (head : Macro) (s g : State) (all : List ℕ) → Leads (code " ") s g 1 [] → Leads (code "\n") s g 1 []
-    → Whole head (code " ") g 3 all → Whole head (code "\n") g 3 all → ends_quiet head ≡ true → Behind head s all
+pub behind_of : (head : Head) (s g : State) (all : List ℕ) → Leads (code " ") s g 1 [] → Leads (code "\n") s g 1 []
+    → Whole head (code " ") g 3 all → Whole head (code "\n") g 3 all → ends_quiet head.line ≡ true → Behind head s all
 behind_of head s g all blank newline w v h =
     let t = w.step.next in
     let u = v.step.next in
@@ -212,34 +216,36 @@ behind_of head s g all blank newline w v h =
           e.fresh;
     }
 
-behind_bare : (l : Letter) (ls : List Letter) (head : Macro) (s : State) (marks : List ℕ) → At head s scans.Word (kept (l ∷ ls)) marks → ends_quiet head ≡ true
-    → is_word (l ∷ ls) ≡ true → Behind head s (marks ++ of_kept (kept (l ∷ ls)))
+behind_bare : (l : Letter) (ls : List Letter) (head : Head) (s : State) (marks : List ℕ) → At head s scans.Word (kept head.way (l ∷ ls)) marks
+    → ends_quiet head.line ≡ true → is_word head.way (l ∷ ls) ≡ true
+    → Behind (behind_head head (called_by false (kept head.way (l ∷ ls)))) s (marks ++ of_kept head.way (kept head.way (l ∷ ls)))
 unfolding of_kept
 behind_bare l ls head s marks at h f =
-    let word = kept (l ∷ ls) in
+    let word = kept head.way (l ∷ ls) in
     let inside = given_at head s word marks at in
-    behind_of head s (given s) (marks ++ of_kept word)
+    behind_of (behind_head head (called_by false word)) s (given s) (marks ++ of_kept head.way word)
     (given_leads head (code " ") s word marks at refl) (given_leads head (code "\n") s word marks at refl)
-    (given_whole head (code " ") (given s) word marks inside (word_prints l ls f))
-    (given_whole head (code "\n") (given s) word marks inside (word_prints l ls f)) h
+    (given_whole head (code " ") (given s) word marks inside (word_prints head.way l ls f))
+    (given_whole head (code "\n") (given s) word marks inside (word_prints head.way l ls f)) h
 
-behind_quoted : (head : Macro) (s : State) (word marks : List ℕ) → At head s scans.Closing word marks → ends_quiet head ≡ true → Behind head s (marks ++ word)
+behind_quoted : (head : Head) (s : State) (word marks : List ℕ) → At head s scans.Closing word marks → ends_quiet head.line ≡ true
+    → Behind head s (marks ++ said_of head.way word)
 behind_quoted head s word marks at h =
     let inside = quoted_at head s word marks at in
-    behind_of head s (given_quoted s) (marks ++ word)
+    behind_of head s (given_quoted s) (marks ++ said_of head.way word)
     (quoted_leads head (code " ") s word marks at refl) (quoted_leads head (code "\n") s word marks at refl)
     (quoted_whole head (code " ") (given_quoted s) word marks inside)
     (quoted_whole head (code "\n") (given_quoted s) word marks inside) h
 
 -- ---- the words of a line
 
-pub record Line (s : State) (bs all : List ℕ) (ws : List Word) : Type 0 where
+pub record Line (s : State) (bs all : List ℕ) (way : Way) (ws : List Word) : Type 0 where
   pub wholes : List Bool
-  pub words : words_of (parts_of s bs) ≡ all ++ printed_as wholes ws
+  pub words : words_of (parts_of s bs) ≡ all ++ printed_as way wholes ws
   pub fresh : Fresh (after s bs)
 
 -- a word is read behind a blank, and the others behind it
-then_word : (head : Macro) (s : State) (all bs us vs : List ℕ) (ws : List Word) (one : Said head s all) (next : State)
+then_word : (head : Head) (s : State) (all bs us vs : List ℕ) (ws : List Word) (one : Said head s all) (next : State)
     → ((rest : List ℕ) → words_of (parts_of one.next (bs ++ rest)) ≡ words_of (parts_of next rest))
     → words_of (parts_of next (behind_each ws ++ codes "\n")) ≡ one.marks ++ us ++ vs
     → words_of (parts_of s (code " " ∷ ((bs ++ behind_each ws) ++ codes "\n"))) ≡ all ++ (us ++ vs)
@@ -249,7 +255,7 @@ then_word head s all bs us vs ws one next said rest =
     ∙ ap (λ (zs : List ℕ). one.xs ++ zs) (said (behind_each ws ++ codes "\n") ∙ rest)
     ∙ regrouped one.xs one.marks all us vs one.total
 
-then_fresh : (head : Macro) (s : State) (all bs : List ℕ) (ws : List Word) (one : Said head s all) (next : State) → after one.next bs ≡ next
+then_fresh : (head : Head) (s : State) (all bs : List ℕ) (ws : List Word) (one : Said head s all) (next : State) → after one.next bs ≡ next
     → Fresh (after next (behind_each ws ++ codes "\n")) → Fresh (after s (code " " ∷ ((bs ++ behind_each ws) ++ codes "\n")))
 then_fresh head s all bs ws one next state rest =
     let behind = behind_each ws ++ codes "\n" in
@@ -259,45 +265,49 @@ then_fresh head s all bs ws one next state rest =
     ∙ after-append one.next bs behind ∙ ap (λ (t : State). after t behind) state))
     rest
 
-pub in_words : (ws : List Word) (head : Macro) (s : State) (all : List ℕ) → Behind head s all → ends_quiet head ≡ true → are_written ws ≡ true
-    → Line s (behind_each ws ++ codes "\n") all ws
+pub in_words : (ws : List Word) (head : Head) (s : State) (all : List ℕ) → Behind head s all → ends_quiet head.line ≡ true → are_written head.way ws ≡ true
+    → Line s (behind_each ws ++ codes "\n") all head.way ws
 unfolding of_kept
 in_words [] head s all behind h good = record { wholes = []; words = behind.newline ∙ sym (append-nil all); fresh = behind.fresh }
-in_words (Bare [] ∷ ws) head s all behind h good = absurd (let no : false ≡ true = and_left false (are_written ws) good in cc)
+in_words (Bare [] ∷ ws) head s all behind h good = absurd (let no : false ≡ true = and_left false (are_written (way_then head.way (Bare [])) ws) good in cc)
 in_words (Bare (l ∷ ls) ∷ ws) head s all behind h good =
+    let way = head.way in
+    let word = kept way (l ∷ ls) in
+    let then_way = way_then way (Bare (l ∷ ls)) in
     let one = behind.blank in
-    let here = and_left (is_word (l ∷ ls)) (are_written ws) good in
-    let r = read_word l ls head one.next one.word one.marks one.at (word_letters l ls here) (word_short l ls here) in
-    let rest = in_words ws head r.next (one.marks ++ of_kept (kept (l ∷ ls))) (behind_bare l ls head r.next one.marks r.at h here) h
-    (and_right (is_word (l ∷ ls)) (are_written ws) good) in
+    let here = and_left (is_word way (l ∷ ls)) (are_written then_way ws) good in
+    let r = read_word l ls head one.next one.word one.marks one.at (word_letters way l ls here) (word_short way l ls here) in
+    let rest = in_words ws (behind_head head (called_by false word)) r.next (one.marks ++ of_kept way word) (behind_bare l ls head r.next one.marks r.at h here) h
+    (and_right (is_word way (l ∷ ls)) (are_written then_way ws) good) in
     record {
       wholes = rest.wholes;
-      words = then_word head s all (written (l ∷ ls)) (of_kept (kept (l ∷ ls))) (printed_as rest.wholes ws) ws one r.next r.said rest.words;
+      words = then_word head s all (written (l ∷ ls)) (of_kept way word) (printed_as then_way rest.wholes ws) ws one r.next r.said rest.words;
       fresh = then_fresh head s all (written (l ∷ ls)) ws one r.next r.state rest.fresh;
     }
 in_words (Quoted bs ∷ ws) head s all behind h good =
+    let way = head.way in
     let one = behind.blank in
-    let here = and_left (is_written (Quoted bs)) (are_written ws) good in
+    let here = and_left (is_written way (Quoted bs)) (are_written way ws) good in
     let r = read_quoted bs head one.next one.word one.marks one.at
-    (and_left (each is_quotable bs) (nat_le (length (kept_quoted true bs)) 30) here)
-    (and_right (each is_quotable bs) (nat_le (length (kept_quoted true bs)) 30) here) in
-    let word = kept_quoted r.whole bs in
-    let rest = in_words ws head r.read.next (one.marks ++ word) (behind_quoted head r.read.next word one.marks r.read.at h) h
-    (and_right (is_written (Quoted bs)) (are_written ws) good) in
+    (and_left (each is_quotable bs) (nat_le (length (kept_quoted way true bs)) 30) here)
+    (and_right (each is_quotable bs) (nat_le (length (kept_quoted way true bs)) 30) here) in
+    let word = kept_quoted way r.whole bs in
+    let rest = in_words ws head r.read.next (one.marks ++ said_of way word) (behind_quoted head r.read.next word one.marks r.read.at h) h
+    (and_right (is_written way (Quoted bs)) (are_written way ws) good) in
     record {
       wholes = r.whole ∷ rest.wholes;
-      words = then_word head s all (code "\"" ∷ bs ++ codes "\"") word (printed_as rest.wholes ws) ws one r.read.next r.read.said rest.words;
+      words = then_word head s all (code "\"" ∷ bs ++ codes "\"") (said_of way word) (printed_as way rest.wholes ws) ws one r.read.next r.read.said rest.words;
       fresh = then_fresh head s all (code "\"" ∷ bs ++ codes "\"") ws one r.read.next r.read.state rest.fresh;
     }
 
 -- ---- the whole line
 
-name_behind : (m : Macro) (name : List ℕ) (s : State) → s.page.marks ≡ [] → macro_of name ≡ Some m → heads_words m ≡ true → Behind m (reads_name name s) []
+name_behind : (m : Macro) (name : List ℕ) (s : State) → s.page.marks ≡ [] → macro_of name ≡ Some m → heads_words m ≡ true → Behind (head_of m) (reads_name name s) []
 name_behind m name s marks f h =
     let one = macro_step (code " ") m name s marks refl f h in
     let two = macro_step (code "\n") m name s marks refl f h in
-    let e = over m two.next name [] two.at (heads_end m h) in
-    let takes = then_takes (code " ") (reads_name name s) one.next one.next 1 1 [] [] one.leads (blank_taken m one.next name [] one.at) in
+    let e = over (head_of m) two.next name [] two.at (heads_end m h) in
+    let takes = then_takes (code " ") (reads_name name s) one.next one.next 1 1 [] [] one.leads (blank_taken (head_of m) one.next name [] one.at) in
     record {
       blank = record {
         next = one.next;
@@ -320,12 +330,12 @@ name_behind m name s marks f h =
     }
 
 pub quoted_line : (name : List ℕ) (ws : List Word) (m : Macro) (s : State) → s.page.marks ≡ [] → macro_of name ≡ Some m → heads_words m ≡ true
-    → each is_plain name ≡ true → are_written ws ≡ true → Line (reads_at scans.Start s) (line_of name ws) [] ws
+    → each is_plain name ≡ true → are_written (way_of m) ws ≡ true → Line (reads_at scans.Start s) (line_of name ws) [] (way_of m) ws
 quoted_line [] ws m s marks f h plain all = absurd (let no : None ≡ Some m = f in cc)
 quoted_line (b ∷ bs) ws m s marks f h plain all =
     let rest = behind_each ws ++ codes "\n" in
     let short = short_name (b ∷ bs) m f in
-    let line = in_words ws m (reads_name (b ∷ bs) s) [] (name_behind m (b ∷ bs) s marks f h) (heads_end m h) all in
+    let line = in_words ws (head_of m) (reads_name (b ∷ bs) s) [] (name_behind m (b ∷ bs) s marks f h) (heads_end m h) all in
     record {
       wholes = line.wholes;
       words =
@@ -354,24 +364,25 @@ quotable_names (b ∷ bs) rest h e =
     (ap (λ (t : Bool). not (t && begins_star (bs ++ rest))) (no_slash b (and_left (is_quotable b) (each is_quotable bs) h)))
     (quotable_names bs rest (and_right (is_quotable b) (each is_quotable bs) h) e)
 
-pub each_names : (ws : List Word) → are_written ws ≡ true → names_no_string (behind_each ws) ≡ true
-each_names [] all = refl
-each_names (Bare [] ∷ ws) all = absurd (let no : false ≡ true = and_left false (are_written ws) all in cc)
-each_names (Bare (l ∷ ls) ∷ ws) all =
-    letters_names (l ∷ ls) (behind_each ws) (word_letters l ls (and_left (is_word (l ∷ ls)) (are_written ws) all))
-    (each_names ws (and_right (is_word (l ∷ ls)) (are_written ws) all))
-each_names (Quoted bs ∷ ws) all =
-    let here = and_left (is_written (Quoted bs)) (are_written ws) all in
+pub each_names : (ws : List Word) (way : Way) → are_written way ws ≡ true → names_no_string (behind_each ws) ≡ true
+each_names [] way all = refl
+each_names (Bare [] ∷ ws) way all = absurd (let no : false ≡ true = and_left false (are_written (way_then way (Bare [])) ws) all in cc)
+each_names (Bare (l ∷ ls) ∷ ws) way all =
+    let then_way = way_then way (Bare (l ∷ ls)) in
+    letters_names (l ∷ ls) (behind_each ws) (word_letters way l ls (and_left (is_word way (l ∷ ls)) (are_written then_way ws) all))
+    (each_names ws then_way (and_right (is_word way (l ∷ ls)) (are_written then_way ws) all))
+each_names (Quoted bs ∷ ws) way all =
+    let here = and_left (is_written way (Quoted bs)) (are_written way ws) all in
     subst (λ (xs : List ℕ). names_no_string xs ≡ true) (sym (append_assoc bs (codes "\"") (behind_each ws)))
-    (quotable_names bs (code "\"" ∷ behind_each ws) (and_left (each is_quotable bs) (nat_le (length (kept_quoted true bs)) 30) here)
-    (each_names ws (and_right (is_written (Quoted bs)) (are_written ws) all)))
+    (quotable_names bs (code "\"" ∷ behind_each ws) (and_left (each is_quotable bs) (nat_le (length (kept_quoted way true bs)) 30) here)
+    (each_names ws way (and_right (is_written way (Quoted bs)) (are_written way ws) all)))
 
-pub quoted_are_said : QuotedAreSaid
-quoted_are_said s m name ws marks f h plain all =
+pub words_are_said : WordsAreSaid
+words_are_said s m name ws marks f h plain all =
     let line = quoted_line name ws m s marks f h plain all in (
       line.wholes,
       record {
-        text = line-text (code "." ∷ name ++ behind_each ws) (reads_at scans.Start s) refl (plain_names name (behind_each ws) plain (each_names ws all));
+        text = line-text (code "." ∷ name ++ behind_each ws) (reads_at scans.Start s) refl (plain_names name (behind_each ws) plain (each_names ws (way_of m) all));
         words = line.words;
       },
     )

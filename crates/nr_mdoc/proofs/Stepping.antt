@@ -10,24 +10,32 @@ use Rattle.nr_mdoc.specs.LayingOut.{lay_out}
 use Rattle.nr_mdoc.specs.Reading.{State, said}
 use Rattle.nr_mdoc.specs.Scanning.{meet}
 use Rattle.nr_mdoc.specs.Seeing.{Met, met, left, three}
+use Rattle.nr_mdoc.specs.WrittenLines.{Way, Usual, way_of}
 use Rattle.nr_mdoc.proofs.Meeting.{with_page, Leads, leads_by}
 use Rattle.nr_mdoc.proofs.Outcomes.{of_word, never, Lays, three-page, three-words, takes_plain, Out, leaves_out}
 
--- ---- where a line of a macro is read: so, with this word, and with these marks held back
+-- ---- where a line of a macro is read
 
-pub record At (m : Macro) (s : State) (scan : Scan) (word marks : List ℕ) : Type 0 where
+-- the macro that it begins with, and how words are taken
+pub record Head : Type 0 where
+  pub line : Macro
+  pub way : Way
+
+-- so, with this word, and with these marks held back
+pub record At (m : Head) (s : State) (scan : Scan) (word marks : List ℕ) : Type 0 where
   pub scan_is : s.page.scan ≡ scan
   pub word_is : s.page.word ≡ word
   pub marks_are : s.page.marks ≡ marks
   pub few : length s.page.closers ≤ 8
   pub going : s.page.call.going ≡ false
   pub comment : s.page.call.comment ≡ false
-  pub line : s.page.call.line ≡ m
+  pub line : s.page.call.line ≡ m.line
   pub fits : takes_plain s.page.call.taker ≡ true
+  pub way : way_of s.page.call.taker ≡ m.way
   pub free : s.page.call.some ≡ false → marks ≡ []
 
 -- in so many meetings it is read further so, and these bytes of words are said
-pub record Stepped (m : Macro) (b : ℕ) (s : State) (k : ℕ) (xs : List ℕ) (scan : Scan) (word marks : List ℕ) : Type 0 where
+pub record Stepped (m : Head) (b : ℕ) (s : State) (k : ℕ) (xs : List ℕ) (scan : Scan) (word marks : List ℕ) : Type 0 where
   pub next : State
   pub leads : Leads b s next k xs
   pub at : At m next scan word marks
@@ -52,11 +60,11 @@ out_leads b s m q xs o e =
     (three-words o.x o.y o.z m.page o.quiet_x o.quiet_y o.quiet_z ∙ out_words m q xs o)
 
 -- by what is said, with a page before it
-unfoldable pub out_step : (head : Macro) (b : ℕ) (s : State) (m : Met) (q : Page) (xs marks : List ℕ) → meet b s.page ≡ m → Out m q xs
-    → q.marks ≡ marks → length q.closers ≤ 8 → q.call.going ≡ false → q.call.comment ≡ false → q.call.line ≡ head
+unfoldable pub out_step : (head : Head) (b : ℕ) (s : State) (m : Met) (q : Page) (xs marks : List ℕ) → meet b s.page ≡ m → Out m q xs
+    → q.marks ≡ marks → length q.closers ≤ 8 → q.call.going ≡ false → q.call.comment ≡ false → q.call.line ≡ head.line → way_of q.call.taker ≡ head.way
     → (m.page.call.some ≡ false → marks ≡ []) → Stepped head b s 1 xs q.scan q.word marks
 unfolding out_next
-out_step head b s m q xs marks e o marks_are few going comment line_is free = record {
+out_step head b s m q xs marks e o marks_are few going comment line_is way_is free = record {
   next = out_next m q xs o s;
   leads = out_leads b s m q xs o e;
   at = record {
@@ -68,12 +76,13 @@ out_step head b s m q xs marks e o marks_are few going comment line_is free = re
     comment = o.keeps.comment ∙ comment;
     line = o.keeps.line ∙ line_is;
     fits = o.keeps.fits;
+    way = o.keeps.way ∙ way_is;
     free = free;
   };
 }
 
 -- what was due was said: no macro takes words then
-pub record Left (m : Macro) (b : ℕ) (s : State) (scan : Scan) (word marks : List ℕ) : Type 0 where
+pub record Left (m : Head) (b : ℕ) (s : State) (scan : Scan) (word marks : List ℕ) : Type 0 where
   pub step : Stepped m b s 1 [] scan word marks
   pub not_due : is_due step.next.page ≡ false
   pub no_enclosure : is_enclosure_due step.next.page ≡ false
@@ -94,7 +103,7 @@ some_then p = refl
 pub true_is_false : {A : Type 0} (t : Bool) → t ≡ true → t ≡ false → A
 true_is_false t p q = never (sym q ∙ p)
 
-unfoldable pub step_at : (m : Macro) (b : ℕ) (s : State) (k : ℕ) (xs : List ℕ) (scan scan2 : Scan) (word word2 marks : List ℕ) → scan ≡ scan2 → word ≡ word2
+unfoldable pub step_at : (m : Head) (b : ℕ) (s : State) (k : ℕ) (xs : List ℕ) (scan scan2 : Scan) (word word2 marks : List ℕ) → scan ≡ scan2 → word ≡ word2
     → Stepped m b s k xs scan word marks → Stepped m b s k xs scan2 word2 marks
 step_at m b s k xs scan scan2 word word2 marks p q step = record {
   next = step.next;
@@ -108,11 +117,12 @@ step_at m b s k xs scan scan2 word word2 marks p q step = record {
     comment = step.at.comment;
     line = step.at.line;
     fits = step.at.fits;
+    way = step.at.way;
     free = step.at.free;
   };
 }
 
-pub left_step : (head : Macro) (b : ℕ) (s : State) (m : Met) (scan : Scan) (word marks : List ℕ) → At head s scan word marks
+pub left_step : (head : Head) (b : ℕ) (s : State) (m : Met) (scan : Scan) (word marks : List ℕ) → At head s scan word marks
     → meet b s.page ≡ m → Out m s.page [] → m.page ≡ (leaves s.page).page → Left head b s scan word marks
 unfolding out_next step_at out_step
 left_step head b s m scan word marks at e o same =
@@ -121,19 +131,19 @@ left_step head b s m scan word marks at e o same =
     record {
       step =
           step_at head b s 1 [] s.page.scan scan s.page.word word marks at.scan_is at.word_is
-          (out_step head b s m s.page [] marks e o at.marks_are at.few at.going at.comment at.line
+          (out_step head b s m s.page [] marks e o at.marks_are at.few at.going at.comment at.line at.way
           (λ h. true_is_false m.page.call.some then_some h));
       not_due = ap (λ (p : Page). is_due (with_lay l p)) same ∙ no_more_due l s.page;
       no_enclosure = ap (λ (p : Page). is_enclosure_due (with_lay l p)) same ∙ no_more_enclosed l s.page;
       some = then_some;
     }
 
-pub leaves_step : (head : Macro) (b : ℕ) (s : State) (scan : Scan) (word marks : List ℕ) → At head s scan word marks
-    → meet b s.page ≡ leaves s.page → Left head b s scan word marks
-leaves_step head b s scan word marks at e = left_step head b s (leaves s.page) scan word marks at e (leaves_out s.page at.fits) refl
+pub leaves_step : (head : Head) (b : ℕ) (s : State) (scan : Scan) (word marks : List ℕ) → At head s scan word marks
+    → way_of s.page.call.taker ≡ Usual → meet b s.page ≡ leaves s.page → Left head b s scan word marks
+leaves_step head b s scan word marks at u e = left_step head b s (leaves s.page) scan word marks at e (leaves_out s.page at.fits u) refl
 
 -- marks that were held back are said
-unfoldable pub marks_step : (head : Macro) (b : ℕ) (s : State) (scan : Scan) (word marks : List ℕ) → At head s scan word marks
+unfoldable pub marks_step : (head : Head) (b : ℕ) (s : State) (scan : Scan) (word marks : List ℕ) → At head s scan word marks
     → meet b s.page ≡ met s.page (left acts.Marks) → Stepped head b s 1 marks scan word []
 unfolding said lay_out
 marks_step head b s scan word marks at e = record {
@@ -150,6 +160,7 @@ marks_step head b s scan word marks at e = record {
     comment = at.comment;
     line = at.line;
     fits = at.fits;
+    way = at.way;
     free = λ h. refl;
   };
 }

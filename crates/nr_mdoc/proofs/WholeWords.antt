@@ -9,20 +9,21 @@ use Rattle.nr_mdoc.specs.declared.page.Page.{Page}
 use Rattle.nr_mdoc.specs.declared.page.Scan.TheVariants as scans
 use Rattle.nr_mdoc.specs.declared.seen.Seen.{Seen}
 use Rattle.nr_mdoc.specs.Calls.{called_by, called, calls, call, is_due, is_enclosure_due, is_flag, is_none, joining, leaves, seen_with, with_scan}
-use Rattle.nr_mdoc.specs.Keeping.{looks_up}
 use Rattle.nr_mdoc.specs.Macros.{is_callable}
+use Rattle.nr_mdoc.specs.Options.{reads_for}
 use Rattle.nr_mdoc.specs.Reading.{State}
 use Rattle.nr_mdoc.specs.Scanning.{meet}
 use Rattle.nr_mdoc.specs.Seeing.{Met, met, left, three}
 use Rattle.nr_mdoc.specs.Taking.{argument, is_bar, is_opening, some_taken, taken_word}
-use Rattle.nr_mdoc.specs.WrittenLines.{heads_words, none_or, prints_otherwise, prints_words, unless_called}
+use Rattle.nr_mdoc.specs.WrittenLines.{heads_words, none_or, prints_otherwise, prints_words, said_of, unless_called, Way, Usual, way_behind, way_of}
 use Rattle.nr_mdoc.specs.Words.{closing_mark, marked_or, parsed, read_or_called, unmarked}
 use Rattle.nr_mdoc.proofs.Escapes.{and_left, and_right, is_not}
 use Rattle.nr_mdoc.proofs.Given.{Whole, whole_of, whole_behind, whole_within, given_met}
 use Rattle.nr_mdoc.proofs.MarksHeld.{the_mark, one_at_most, two_at_most, mark_whole}
-use Rattle.nr_mdoc.proofs.Outcomes.{is_quiet, of_word, never, takes_plain, Keeps, Out, out, out_if, same_page, leaves_out}
-use Rattle.nr_mdoc.proofs.Stepping.{At, out_step, left_step, leaves_step, marks_step}
+use Rattle.nr_mdoc.proofs.Outcomes.{is_quiet, of_word, never, takes_plain, Keeps, Out, out, same_page, leaves_out}
+use Rattle.nr_mdoc.proofs.Stepping.{At, Head, out_step, left_step, leaves_step, marks_step}
 use Rattle.nr_mdoc.proofs.Taken.{called_out, taken_out, said_in}
+use Rattle.nr_mdoc.proofs.Ways.{due_usual, opened_usual, said_bar, said_one, said_opening}
 
 -- ---- words that are no marks
 
@@ -33,7 +34,7 @@ unmarked_is : (p : Page) → unmarked false p ≡ unmarked_by (is_none p.marks) 
 unfolding unmarked unmarked_by
 unmarked_is p = refl
 
-unmarked_met : (head : Macro) (b : ℕ) (s : State) (word marks : List ℕ) → At head s (scans.Given false) word marks
+unmarked_met : (head : Head) (b : ℕ) (s : State) (word marks : List ℕ) → At head s (scans.Given false) word marks
     → closing_mark false word ≡ None → meet b s.page ≡ unmarked_by (is_none s.page.marks) (called_by false s.page.word) s.page
 unfolding parsed
 unmarked_met head b s word marks at e =
@@ -41,7 +42,7 @@ unmarked_met head b s word marks at e =
     ∙ ap (λ (w : List ℕ). marked_or (closing_mark false w) false s.page) at.word_is
     ∙ ap (λ (o : Option ℕ). marked_or o false s.page) e ∙ unmarked_is s.page
 
-clear_met : (head : Macro) (b : ℕ) (s : State) (word : List ℕ) (o : Option Macro) → At head s (scans.Given false) word []
+clear_met : (head : Head) (b : ℕ) (s : State) (word : List ℕ) (o : Option Macro) → At head s (scans.Given false) word []
     → closing_mark false word ≡ None → called_by false word ≡ o → meet b s.page ≡ read_or_called o false s.page
 unfolding unmarked_by
 clear_met head b s word o at e f =
@@ -53,20 +54,17 @@ clear_met head b s word o at e f =
 
 -- ---- macros that are called
 
-callable_looks : (m : Macro) → is_callable m ≡ true → prints_otherwise m ≡ false → looks_up m ≡ false
-callable_looks macros.Standard h e = never (sym e)
-callable_looks macros.Describes h e = never h
-callable_looks (macros.Part letter) h e = never h
-callable_looks macros.Date h e = never h
-callable_looks macros.Title h e = never h
-callable_looks macros.List h e = never h
-callable_looks macros.Display h e = never h
-callable_looks macros.FontBegins h e = never h
-callable_looks macros.Spacing h e = never h
-callable_looks macros.Exits h e = never h
-callable_looks macros.Returns h e = never h
-callable_looks macros.Section h e = never h
-callable_looks m h e = refl
+callable_reads : (m : Macro) → is_callable m ≡ true → reads_for m ≡ false
+callable_reads macros.Date h = never h
+callable_reads macros.Title h = never h
+callable_reads macros.List h = never h
+callable_reads macros.Display h = never h
+callable_reads macros.FontBegins h = never h
+callable_reads macros.Spacing h = never h
+callable_reads macros.Exits h = never h
+callable_reads macros.Returns h = never h
+callable_reads macros.Section h = never h
+callable_reads m h = refl
 
 both_not : (a b : Bool) → a ≡ false → b ≡ false → (not a && not b) ≡ true
 both_not a b p q = ap (λ (t : Bool). not t && not b) p ∙ ap not q
@@ -74,11 +72,12 @@ both_not a b p q = ap (λ (t : Bool). not t && not b) p ∙ ap not q
 pub prints_plain : (m : Macro) → prints_words m ≡ true → takes_plain m ≡ true
 unfolding takes_plain
 prints_plain m h =
-    let same = is_not (prints_otherwise m) (and_right (is_callable m) (not (prints_otherwise m)) h) in
-    both_not (prints_otherwise m) (looks_up m) same (callable_looks m (and_left (is_callable m) (not (prints_otherwise m)) h) same)
+    both_not (prints_otherwise m) (reads_for m) (is_not (prints_otherwise m) (and_right (is_callable m) (not (prints_otherwise m)) h))
+    (callable_reads m (and_left (is_callable m) (not (prints_otherwise m)) h))
 
 pub heads_plain : (m : Macro) → heads_words m ≡ true → takes_plain m ≡ true
 unfolding takes_plain
+heads_plain macros.Describes h = refl
 heads_plain macros.Item h = refl
 heads_plain macros.Subsection h = refl
 heads_plain macros.Line h = refl
@@ -132,30 +131,64 @@ call_is m p = refl
 calling : Macro → Page → Page
 calling m p = record p { scan = scans.Between; call = record p.call { taker = m; first = false; some = false; listed = false } }
 
-calls_whole : (head m : Macro) (b : ℕ) (s : State) (word : List ℕ) → At head s (scans.Given false) word [] → takes_plain m ≡ true
-    → meet b s.page ≡ calls m s.page → Whole head b s 1 []
+-- how the words behind a word are taken
+abbrev pub behind_head : Head → Option Macro → Head
+behind_head head o = record { line = head.line; way = way_behind head.way o }
+
+-- a word that calls nothing
+called_nothing : (head : Head) (b : ℕ) (s : State) (k : ℕ) (all : List ℕ) → Whole head b s k all → Whole (behind_head head None) b s k all
+called_nothing head b s k all w = record {
+  steps = w.steps;
+  few = w.few;
+  xs = w.xs;
+  word = w.word;
+  marks = w.marks;
+  step = record {
+    next = w.step.next;
+    leads = w.step.leads;
+    at = record {
+      scan_is = w.step.at.scan_is;
+      word_is = w.step.at.word_is;
+      marks_are = w.step.at.marks_are;
+      few = w.step.at.few;
+      going = w.step.at.going;
+      comment = w.step.at.comment;
+      line = w.step.at.line;
+      fits = w.step.at.fits;
+      way = w.step.at.way;
+      free = w.step.at.free;
+    };
+  };
+  total = w.total;
+}
+
+calls_whole : (head : Head) (m : Macro) (b : ℕ) (s : State) (word : List ℕ) → At head s (scans.Given false) word [] → takes_plain m ≡ true
+    → meet b s.page ≡ calls m s.page → Whole (behind_head head (Some m)) b s 1 []
 unfolding calling
 calls_whole head m b s word at f e =
-    whole_of head b s 1 1 [] s.page.word [] [] one_at_most
-    (out_step head b s (calls m s.page) (calling m s.page) [] [] e (called_out m (calling m s.page) f) at.marks_are at.few at.going at.comment at.line (λ h. refl))
+    let behind = behind_head head (Some m) in
+    whole_of behind b s 1 1 [] s.page.word [] [] one_at_most
+    (out_step behind b s (calls m s.page) (calling m s.page) [] [] e (called_out m (calling m s.page) f)
+    at.marks_are at.few at.going at.comment at.line refl (λ h. refl))
     refl
 
-called_whole : (t : Bool) (head m : Macro) (b : ℕ) (s : State) (word : List ℕ) → At head s (scans.Given false) word [] → takes_plain m ≡ true
-    → closing_mark false word ≡ None → called_by false word ≡ Some m → is_due s.page ≡ t → Whole head b s 2 []
+called_whole : (t : Bool) (head : Head) (m : Macro) (b : ℕ) (s : State) (word : List ℕ) → At head s (scans.Given false) word [] → takes_plain m ≡ true
+    → closing_mark false word ≡ None → called_by false word ≡ Some m → is_due s.page ≡ t
+    → Whole (behind_head head (Some m)) b s 2 []
 unfolding call_by
 called_whole true head m b s word at f e g due =
     let p = s.page in
     let flag = is_flag p.call.taker in
     let first = left_step head b s (joining flag (leaves p)) (scans.Given false) word [] at
     (clear_met head b s word (Some m) at e g ∙ call_is m p ∙ ap (λ (t : Bool). call_by t m p) due)
-    (joined_out flag (leaves p) p (leaves_out p at.fits)) (joined_page flag (leaves p)) in
+    (joined_out flag (leaves p) p (leaves_out p at.fits (due_usual p due))) (joined_page flag (leaves p)) in
     let t = first.step.next in
-    whole_behind head b s t 1 [] [] [] first.step.leads
+    whole_behind (behind_head head (Some m)) b s t 1 [] [] [] first.step.leads
     (calls_whole head m b t word first.step.at f
     (clear_met head b t word (Some m) first.step.at e g ∙ call_is m t.page ∙ ap (λ (t2 : Bool). call_by t2 m t.page) first.not_due))
     refl
 called_whole false head m b s word at f e g due =
-    whole_within head b s 1 2 [] two_at_most
+    whole_within (behind_head head (Some m)) b s 1 2 [] two_at_most
     (calls_whole head m b s word at f (clear_met head b s word (Some m) at e g ∙ call_is m s.page ∙ ap (λ (t : Bool). call_by t m s.page) due))
 
 -- ---- words that a macro takes
@@ -183,16 +216,27 @@ some_kept q p i = record {
   comment = i.comment;
   line = i.line;
   fits = i.fits;
+  way = i.way;
 }
 
-argument_out : (p : Page) → takes_plain p.call.taker ≡ true → Out (argument_by false false p) (with_scan scans.Between p) p.word
+out_when : (t : Bool) (m n : Met) (q : Page) (xs : List ℕ) → (t ≡ true → Out m q xs) → Out n q xs → Out (if t then m else n) q xs
+out_when true m n q xs i j = i refl
+out_when false m n q xs i j = j
+
+out_same : (m : Met) (q : Page) (xs ys : List ℕ) → xs ≡ ys → Out m q xs → Out m q ys
+out_same m q xs ys e o = subst (λ (zs : List ℕ). Out m q zs) e o
+
+argument_out : (p : Page) → takes_plain p.call.taker ≡ true → Out (argument_by false false p) (with_scan scans.Between p) (said_of (way_of p.call.taker) p.word)
 unfolding argument_by is_quiet of_word
 argument_out p f =
     let q = with_scan scans.Between p in
+    let way = way_of p.call.taker in
     let o = taken_out q f in
-    out_if (is_bar p.word) _ _ q q.word (said_in Roman q q (same_page q f))
-    (out_if (is_opening p.word) _ _ q q.word
-    (out q q (acts.Word Roman) acts.Join acts.Nothing q.word refl refl refl (append-nil q.word) (same_page q f))
+    out_when (is_bar p.word) _ _ q (said_of way p.word)
+    (λ h. out_same _ q p.word (said_of way p.word) (said_bar way p.word h) (said_in Roman q q (same_page q f)))
+    (out_when (is_opening p.word) _ _ q (said_of way p.word)
+    (λ h. out_same _ q p.word (said_of way p.word) (said_opening way p.word h)
+    (out q q (acts.Word Roman) acts.Join acts.Nothing q.word refl refl refl (append-nil q.word) (same_page q f)))
     (record {
       x = o.x;
       y = o.y;
@@ -205,20 +249,21 @@ argument_out p f =
       keeps = some_kept q (taken_word q).page o.keeps;
     }))
 
-said_whole : (head : Macro) (b : ℕ) (s : State) (word : List ℕ) → At head s (scans.Given false) word []
-    → meet b s.page ≡ argument_by false false s.page → Whole head b s 1 word
+said_whole : (head : Head) (b : ℕ) (s : State) (word : List ℕ) → At head s (scans.Given false) word []
+    → meet b s.page ≡ argument_by false false s.page → Whole head b s 1 (said_of head.way word)
 said_whole head b s word at e =
     let p = s.page in
-    whole_of head b s 1 1 p.word p.word [] word one_at_most
-    (out_step head b s (argument_by false false p) (with_scan scans.Between p) p.word [] e (argument_out p at.fits)
-    at.marks_are at.few at.going at.comment at.line (λ h. refl))
-    (append-nil p.word ∙ at.word_is)
+    let xs = said_of (way_of p.call.taker) p.word in
+    whole_of head b s 1 1 xs p.word [] (said_of head.way word) one_at_most
+    (out_step head b s (argument_by false false p) (with_scan scans.Between p) xs [] e (argument_out p at.fits)
+    at.marks_are at.few at.going at.comment at.line at.way (λ h. refl))
+    (append-nil xs ∙ ap (λ (w : Way). said_of w p.word) at.way ∙ ap (said_of head.way) at.word_is)
 
 pub and_false : (a b : Bool) → b ≡ false → (a && b) ≡ false
 and_false true b e = e
 and_false false b e = refl
 
-argument_met : (head : Macro) (b : ℕ) (s : State) (word : List ℕ) (t u : Bool) → At head s (scans.Given false) word []
+argument_met : (head : Head) (b : ℕ) (s : State) (word : List ℕ) (t u : Bool) → At head s (scans.Given false) word []
     → closing_mark false word ≡ None → called_by false word ≡ None
     → (is_bar s.page.word && is_due s.page) ≡ t → (is_enclosure_due s.page && not (is_opening s.page.word)) ≡ u → meet b s.page ≡ argument_by t u s.page
 argument_met head b s word t u at e f g h =
@@ -227,71 +272,84 @@ argument_met head b s word t u at e f g h =
     ∙ ap (λ (x : Bool). argument_by x (is_enclosure_due p && not (is_opening p.word)) p) g ∙ ap (λ (x : Bool). argument_by t x p) h
 
 -- what is due comes first
-due_whole : (head : Macro) (b : ℕ) (s : State) (word : List ℕ) → At head s (scans.Given false) word []
-    → closing_mark false word ≡ None → called_by false word ≡ None → meet b s.page ≡ leaves s.page → Whole head b s 2 word
-due_whole head b s word at e f g =
-    let first = leaves_step head b s (scans.Given false) word [] at g in
+due_whole : (head : Head) (b : ℕ) (s : State) (word : List ℕ) → At head s (scans.Given false) word []
+    → closing_mark false word ≡ None → called_by false word ≡ None → way_of s.page.call.taker ≡ Usual → meet b s.page ≡ leaves s.page
+    → Whole head b s 2 (said_of head.way word)
+due_whole head b s word at e f u g =
+    let first = leaves_step head b s (scans.Given false) word [] at u g in
     let t = first.step.next in
-    whole_behind head b s t 1 [] word word first.step.leads
+    whole_behind head b s t 1 [] (said_of head.way word) (said_of head.way word) first.step.leads
     (said_whole head b t word first.step.at
     (argument_met head b t word false false first.step.at e f
     (and_false (is_bar t.page.word) (is_due t.page) first.not_due)
     (ap (λ (x : Bool). x && not (is_opening t.page.word)) first.no_enclosure)))
     refl
 
-argument_whole : (t u : Bool) (head : Macro) (b : ℕ) (s : State) (word : List ℕ) → At head s (scans.Given false) word []
+argument_whole : (t u : Bool) (head : Head) (b : ℕ) (s : State) (word : List ℕ) → At head s (scans.Given false) word []
     → closing_mark false word ≡ None → called_by false word ≡ None
-    → (is_bar s.page.word && is_due s.page) ≡ t → (is_enclosure_due s.page && not (is_opening s.page.word)) ≡ u → Whole head b s 2 word
+    → (is_bar s.page.word && is_due s.page) ≡ t → (is_enclosure_due s.page && not (is_opening s.page.word)) ≡ u
+    → Whole head b s 2 (said_of head.way word)
 unfolding argument_by
-argument_whole true u head b s word at e f g h = due_whole head b s word at e f (argument_met head b s word true u at e f g h)
-argument_whole false true head b s word at e f g h = due_whole head b s word at e f (argument_met head b s word false true at e f g h)
+argument_whole true u head b s word at e f g h =
+    due_whole head b s word at e f (due_usual s.page (and_right (is_bar s.page.word) (is_due s.page) g)) (argument_met head b s word true u at e f g h)
+argument_whole false true head b s word at e f g h =
+    due_whole head b s word at e f (opened_usual s.page (and_left (is_enclosure_due s.page) (not (is_opening s.page.word)) h)) (argument_met head b s word false true at e f g h)
 argument_whole false false head b s word at e f g h =
-    whole_within head b s 1 2 word two_at_most (said_whole head b s word at (argument_met head b s word false false at e f g h))
+    whole_within head b s 1 2 (said_of head.way word) two_at_most (said_whole head b s word at (argument_met head b s word false false at e f g h))
 
-clear_whole : (o : Option Macro) (head : Macro) (b : ℕ) (s : State) (word : List ℕ) → At head s (scans.Given false) word []
-    → closing_mark false word ≡ None → called_by false word ≡ o → none_or prints_words o ≡ true → Whole head b s 2 (unless_called o word)
+clear_whole : (o : Option Macro) (head : Head) (b : ℕ) (s : State) (word : List ℕ) → At head s (scans.Given false) word []
+    → closing_mark false word ≡ None → called_by false word ≡ o → none_or prints_words o ≡ true
+    → Whole (behind_head head o) b s 2 (unless_called head.way o word)
 clear_whole None head b s word at e f g =
-    argument_whole (is_bar s.page.word && is_due s.page) (is_enclosure_due s.page && not (is_opening s.page.word)) head b s word at e f refl refl
+    called_nothing head b s 2 (said_of head.way word)
+    (argument_whole (is_bar s.page.word && is_due s.page) (is_enclosure_due s.page && not (is_opening s.page.word)) head b s word at e f refl refl)
 clear_whole (Some m) head b s word at e f g = called_whole (is_due s.page) head m b s word at (prints_plain m g) e f refl
 
-whole_same : (head : Macro) (b : ℕ) (s : State) (k : ℕ) (xs ys : List ℕ) → xs ≡ ys → Whole head b s k xs → Whole head b s k ys
+whole_same : (head : Head) (b : ℕ) (s : State) (k : ℕ) (xs ys : List ℕ) → xs ≡ ys → Whole head b s k xs → Whole head b s k ys
 whole_same head b s k xs ys e w = subst (λ (zs : List ℕ). Whole head b s k zs) e w
 
 pub is_none-nil : (xs : List ℕ) → is_none xs ≡ true → xs ≡ []
 is_none-nil [] e = refl
 is_none-nil (x ∷ xs) e = absurd (let no : (length (x ∷ xs) == 0) ≡ true = e in grind (arith, nat_tests))
 
-unmarked_whole : (t : Bool) (head : Macro) (b : ℕ) (s : State) (word marks : List ℕ) → At head s (scans.Given false) word marks
+unmarked_whole : (t : Bool) (head : Head) (b : ℕ) (s : State) (word marks : List ℕ) → At head s (scans.Given false) word marks
     → closing_mark false word ≡ None → none_or prints_words (called_by false word) ≡ true → is_none s.page.marks ≡ t
-    → Whole head b s 3 (marks ++ unless_called (called_by false word) word)
+    → Whole (behind_head head (called_by false word)) b s 3 (marks ++ unless_called head.way (called_by false word) word)
 unfolding unmarked_by
 unmarked_whole true head b s word marks at e f none =
+    let o = called_by false word in
+    let all = unless_called head.way o word in
+    let behind = behind_head head o in
     let no_marks : marks ≡ [] = sym at.marks_are ∙ is_none-nil s.page.marks none in
     let clear : At head s (scans.Given false) word [] = subst (λ (xs : List ℕ). At head s (scans.Given false) word xs) no_marks at in
-    whole_same head b s 3 (unless_called (called_by false word) word) (marks ++ unless_called (called_by false word) word)
-    (ap (λ (xs : List ℕ). xs ++ unless_called (called_by false word) word) (sym no_marks))
-    (whole_within head b s 2 3 (unless_called (called_by false word) word) (omega arith)
-    (clear_whole (called_by false word) head b s word clear e refl f))
+    whole_same behind b s 3 all (marks ++ all) (ap (λ (xs : List ℕ). xs ++ all) (sym no_marks))
+    (whole_within behind b s 2 3 all (omega arith) (clear_whole o head b s word clear e refl f))
 unmarked_whole false head b s word marks at e f none =
     let p = s.page in
     let first = marks_step head b s (scans.Given false) word marks at
     (unmarked_met head b s word marks at e ∙ ap (λ (t : Bool). unmarked_by t (called_by false p.word) p) none) in
-    whole_behind head b s first.next 2 marks (unless_called (called_by false word) word) (marks ++ unless_called (called_by false word) word)
-    first.leads (clear_whole (called_by false word) head b first.next word first.at e refl f) refl
+    let o = called_by false word in
+    let all = unless_called head.way o word in
+    whole_behind (behind_head head o) b s first.next 2 marks all (marks ++ all) first.leads
+    (clear_whole o head b first.next word first.at e refl f) refl
 
-mark_calls_none : (word : List ℕ) (c : ℕ) → word ≡ c ∷ [] → word ≡ unless_called (called_by false word) word
-mark_calls_none word c e =
-    e ∙ ap (λ (w : List ℕ). unless_called (called_by false w) w) (sym e)
+-- a mark calls nothing
+mark_whole_as : (head : Head) (b : ℕ) (s : State) (word marks : List ℕ) (c : ℕ) → word ≡ c ∷ [] → Whole head b s 3 (marks ++ word)
+    → Whole (behind_head head (called_by false word)) b s 3 (marks ++ unless_called head.way (called_by false word) word)
+mark_whole_as head b s word marks c e w =
+    subst (λ (xs : List ℕ). Whole (behind_head head (called_by false xs)) b s 3 (marks ++ unless_called head.way (called_by false xs) xs)) (sym e)
+    (called_nothing head b s 3 (marks ++ said_of head.way (c ∷ []))
+    (whole_same head b s 3 (marks ++ word) (marks ++ said_of head.way (c ∷ []))
+    (ap (λ (xs : List ℕ). marks ++ xs) (e ∙ said_one head.way c)) w))
 
-whole_by : (o : Option ℕ) (head : Macro) (b : ℕ) (s : State) (word marks : List ℕ) → At head s (scans.Given false) word marks
+whole_by : (o : Option ℕ) (head : Head) (b : ℕ) (s : State) (word marks : List ℕ) → At head s (scans.Given false) word marks
     → none_or prints_words (called_by false word) ≡ true → closing_mark false word ≡ o
-    → Whole head b s 3 (marks ++ unless_called (called_by false word) word)
+    → Whole (behind_head head (called_by false word)) b s 3 (marks ++ unless_called head.way (called_by false word) word)
 whole_by None head b s word marks at f e = unmarked_whole (is_none s.page.marks) head b s word marks at e f refl
 whole_by (Some c) head b s word marks at f e =
-    whole_same head b s 3 (marks ++ word) (marks ++ unless_called (called_by false word) word)
-    (ap (λ (xs : List ℕ). marks ++ xs) (mark_calls_none word c (the_mark word c e)))
-    (mark_whole (is_due s.page) head b c s word marks at e refl)
+    mark_whole_as head b s word marks c (the_mark word c e) (mark_whole (is_due s.page) head b c s word marks at e refl)
 
-pub given_whole : (head : Macro) (b : ℕ) (s : State) (word marks : List ℕ) → At head s (scans.Given false) word marks
-    → none_or prints_words (called_by false word) ≡ true → Whole head b s 3 (marks ++ unless_called (called_by false word) word)
+pub given_whole : (head : Head) (b : ℕ) (s : State) (word marks : List ℕ) → At head s (scans.Given false) word marks
+    → none_or prints_words (called_by false word) ≡ true
+    → Whole (behind_head head (called_by false word)) b s 3 (marks ++ unless_called head.way (called_by false word) word)
 given_whole head b s word marks at f = whole_by (closing_mark false word) head b s word marks at f refl

@@ -14,7 +14,7 @@ use Rattle.nr_mdoc.specs.Lines.{ends_joined}
 use Rattle.nr_mdoc.specs.Macros.{macro_of}
 use Rattle.nr_mdoc.specs.Reading.{State, behind, fed, heard_in}
 use Rattle.nr_mdoc.specs.Saying.{parts_of, text_of, words_of}
-use Rattle.nr_mdoc.specs.WrittenLines.{each, names_no_string, is_text, begins_text, Letter, is_plain, heads_words, are_words, macro_line, printed, Word, are_written, heading_of, line_of, printed_as, Line, are_lines, written_lines, printed_lines}
+use Rattle.nr_mdoc.specs.WrittenLines.{each, names_no_string, is_text, begins_text, is_plain, heads_words, Usual, way_of, Word, are_written, heading_of, line_of, printed_as, Line, are_lines, written_lines, printed_lines}
 
 -- ---- words
 
@@ -33,27 +33,21 @@ TextIsSaid =
     (s : State) (b : ℕ) (bs : List ℕ) → begins_text b ≡ true → each is_text bs ≡ true → names_no_string (b ∷ bs) ≡ true →
     Says (reads_at scans.Start s) (b ∷ bs ++ codes "\n") (b ∷ bs)
 
--- in any state where no marks are held back, a line of a macro says those of its words that call no macro
+-- In any state where no marks are held back, a line of a macro says those of its words that call no macro and are no options,
+-- each once and in order, with words between quotes, whose blanks stay together or not.
 abbrev pub WordsAreSaid : Type 0
 WordsAreSaid =
-    (s : State) (m : Macro) (name : List ℕ) (words : List (List Letter)) → s.page.marks ≡ [] →
-    macro_of name ≡ Some m → heads_words m ≡ true → each is_plain name ≡ true → are_words words ≡ true →
-    Says (reads_at scans.Start s) (macro_line name words) (printed words)
-
--- so does one with words between quotes, whose bytes go out once and in order too, and whose blanks stay together or not
-abbrev pub QuotedAreSaid : Type 0
-QuotedAreSaid =
     (s : State) (m : Macro) (name : List ℕ) (words : List Word) → s.page.marks ≡ [] →
-    macro_of name ≡ Some m → heads_words m ≡ true → each is_plain name ≡ true → are_written words ≡ true →
-    (wholes : List Bool) × Says (reads_at scans.Start s) (line_of name words) (printed_as wholes words)
+    macro_of name ≡ Some m → heads_words m ≡ true → each is_plain name ≡ true → are_written (way_of m) words ≡ true →
+    (wholes : List Bool) × Says (reads_at scans.Start s) (line_of name words) (printed_as (way_of m) wholes words)
 
 -- and a heading, whose first word calls nothing, and keeps its hyphens
 abbrev pub HeadingsAreSaid : Type 0
 HeadingsAreSaid =
     (s : State) (b : ℕ) (bs : List ℕ) (words : List Word) → s.page.marks ≡ [] →
-    each is_plain (b ∷ bs) ≡ true → nat_le (length (b ∷ bs)) 30 ≡ true → are_written words ≡ true →
+    each is_plain (b ∷ bs) ≡ true → nat_le (length (b ∷ bs)) 30 ≡ true → are_written Usual words ≡ true →
     (wholes : List Bool) ×
-    Says (reads_at scans.Start s) (heading_of (b ∷ bs) words) ((b ∷ bs) ++ printed_as wholes words)
+    Says (reads_at scans.Start s) (heading_of (b ∷ bs) words) ((b ∷ bs) ++ printed_as Usual wholes words)
 
 -- in any state where no marks are held back, lines that follow one another say what each of them says, in order
 abbrev pub LinesAreSaid : Type 0

@@ -1,10 +1,11 @@
 -- Lines as they are written: text lines, and lines of macros with their words.
-use Rattle.std.specs.Prelude.{ℕ, List, [], ◌∷◌, ◌++◌, length, Bool, true, false, not, ◌==◌, ◌&&◌, nat_le, if◌then◌else◌, codes, Option, None, Some}
+use Rattle.std.specs.Prelude.{ℕ, List, [], ◌∷◌, ◌++◌, length, Bool, true, false, not, ◌==◌, ◌&&◌, ◌||◌, nat_le, if◌then◌else◌, codes, Option, None, Some}
+use Rattle.std.specs.Str.{bytes_eq}
 use Prim.Native.Char.{code}
 use Rattle.nr_mdoc.specs.declared.macros.Macro.{Macro}
 use Rattle.nr_mdoc.specs.declared.macros.Macro.TheVariants as macros
 use Rattle.nr_mdoc.specs.Calls.{called_by}
-use Rattle.nr_mdoc.specs.Keeping.{ends_word}
+use Rattle.nr_mdoc.specs.Keeping.{ends_word, is_title}
 use Rattle.nr_mdoc.specs.Laying.{is_control}
 use Rattle.nr_mdoc.specs.Macros.{is_callable, macro_of}
 
@@ -30,6 +31,33 @@ is_text b = not (b == code "\n")
 -- what begins no other line, and isn't dropped at its beginning
 abbrev pub begins_text : ℕ → Bool
 begins_text b = not (is_control b) && not (ends_word b)
+
+-- ---- how a macro takes its words
+
+-- as they are, but for their hyphens; as a description or a title, whose hyphens stay; or as authors, among whom are options
+pub data Way : Type 0 where
+  Usual : Way
+  Titled : Way
+  Authors : Way
+
+abbrev pub way_of_part : Bool → Way
+way_of_part title = if title then Titled else Usual
+
+abbrev pub way_of : Macro → Way
+way_of macros.Describes = Titled
+way_of (macros.Part letter) = way_of_part (is_title letter)
+way_of macros.Author = Authors
+way_of m = Usual
+
+-- what is said of a word: the options of `.An` are not printed
+abbrev pub said_of : Way → List ℕ → List ℕ
+said_of Authors word =
+    if bytes_eq word (codes "-split") then [] else if bytes_eq word (codes "-nosplit") then [] else word
+said_of way word = word
+
+abbrev pub hyphens_stay : Way → Bool
+hyphens_stay Titled = true
+hyphens_stay way = false
 
 -- ---- words of a macro's line
 
@@ -62,36 +90,42 @@ abbrev pub written : List Letter → List ℕ
 written [] = []
 written (l ∷ ls) = bytes_of l ++ written ls
 
--- a word as it is kept: no line is broken after a hyphen in it
-abbrev pub kept_letter : Letter → List ℕ
-kept_letter (Plain b) = if b == code "-" then codes "\\-" else b ∷ []
-kept_letter (Escape b) = code "\\" ∷ b ∷ []
+abbrev pub is_hyphen : Letter → Bool
+is_hyphen (Plain b) = b == code "-"
+is_hyphen (Escape b) = b == code "-"
 
-abbrev pub kept_in : List Letter → List ℕ
-kept_in [] = []
-kept_in (l ∷ ls) = kept_letter l ++ kept_in ls
+-- A letter of a word as it is kept, behind a hyphen or not: no line is broken after a hyphen in it. Where hyphens stay, it is so
+-- for one behind another.
+abbrev pub kept_letter : Way → Bool → Letter → List ℕ
+kept_letter way behind (Plain b) =
+    if (b == code "-") && (not (hyphens_stay way) || behind) then codes "\\-" else b ∷ []
+kept_letter way behind (Escape b) = code "\\" ∷ b ∷ []
 
-abbrev pub kept : List Letter → List ℕ
-kept [] = []
-kept (l ∷ ls) = bytes_of l ++ kept_in ls
+abbrev pub kept_in : Way → Bool → List Letter → List ℕ
+kept_in way behind [] = []
+kept_in way behind (l ∷ ls) = kept_letter way behind l ++ kept_in way (is_hyphen l) ls
+
+abbrev pub kept : Way → List Letter → List ℕ
+kept way [] = []
+kept way (l ∷ ls) = bytes_of l ++ kept_in way (is_hyphen l) ls
 
 -- ---- macros whose words are printed as they stand
 
--- names that tables have, and options, are printed otherwise
+-- names that tables have are printed otherwise
 abbrev pub prints_otherwise : Macro → Bool
 prints_otherwise macros.Att = true
 prints_otherwise macros.Standard = true
 prints_otherwise macros.Library = true
-prints_otherwise macros.Author = true
 prints_otherwise m = false
 
 -- a macro that words call, and that prints its own as they stand
 abbrev pub prints_words : Macro → Bool
 prints_words m = is_callable m && not (prints_otherwise m)
 
--- a macro whose line has such words: one of these, an item, a subsection, a paragraph, a line that is indented, the beginning
--- of a reference, the end of a font, or `.br`
+-- a macro whose line has such words: one of these, a description, an item, a subsection, a paragraph, a line that is indented,
+-- the beginning of a reference, the end of a font, or `.br`
 abbrev pub heads_words : Macro → Bool
+heads_words macros.Describes = true
 heads_words macros.Item = true
 heads_words macros.Subsection = true
 heads_words macros.Line = true
@@ -109,32 +143,20 @@ none_or test None = true
 none_or test (Some m) = test m
 
 -- a word of at most thirty bytes, which calls no macro, or one that prints its words as they stand
-abbrev pub is_word : List Letter → Bool
-is_word [] = false
-is_word (l ∷ ls) =
-    are_letters (l ∷ ls) && nat_le (length (kept (l ∷ ls))) 30 && none_or prints_words (called_by false (kept (l ∷ ls)))
+abbrev pub is_word : Way → List Letter → Bool
+is_word way [] = false
+is_word way (l ∷ ls) =
+    are_letters (l ∷ ls) && nat_le (length (kept way (l ∷ ls))) 30 && none_or prints_words (called_by false (kept way (l ∷ ls)))
 
-abbrev pub are_words : List (List Letter) → Bool
-are_words [] = true
-are_words (w ∷ ws) = is_word w && are_words ws
-
--- each word behind a blank
-abbrev pub behind_blanks : List (List Letter) → List ℕ
-behind_blanks [] = []
-behind_blanks (w ∷ ws) = codes " " ++ written w ++ behind_blanks ws
-
-abbrev pub macro_line : List ℕ → List (List Letter) → List ℕ
-macro_line name words = codes "." ++ name ++ behind_blanks words ++ codes "\n"
+-- words behind one that calls a macro are taken as that takes them
+abbrev pub way_behind : Way → Option Macro → Way
+way_behind way None = way
+way_behind way (Some m) = way_of m
 
 -- a word that calls a macro is not printed
-abbrev pub unless_called : Option Macro → List ℕ → List ℕ
-unless_called None word = word
-unless_called (Some m) word = []
-
--- the words that call no macro, in order
-abbrev pub printed : List (List Letter) → List ℕ
-printed [] = []
-printed (w ∷ ws) = unless_called (called_by false (kept w)) (kept w) ++ printed ws
+abbrev pub unless_called : Way → Option Macro → List ℕ → List ℕ
+unless_called way None word = said_of way word
+unless_called way (Some m) word = []
 
 -- ---- words between quotes
 
@@ -146,26 +168,39 @@ pub data Word : Type 0 where
 abbrev pub is_quotable : ℕ → Bool
 is_quotable b = not (b == code "\"") && not (b == code "\n") && not (b == code "\\")
 
--- one of its bytes as it is kept, the first or not, where its blanks stay together or not
-abbrev pub kept_quotable : Bool → Bool → ℕ → List ℕ
-kept_quotable first whole b =
-    if (b == code " ") && whole then codes "\\~" else if (b == code "-") && not first then codes "\\-" else b ∷ []
+-- whether a hyphen that is not the first byte of its word, behind a hyphen or not, is kept as an escape
+abbrev pub is_held : Way → Bool → ℕ → Bool
+is_held way behind b = (b == code "-") && (not (hyphens_stay way) || behind)
 
-abbrev pub quoted_in : Bool → List ℕ → List ℕ
-quoted_in whole [] = []
-quoted_in whole (b ∷ bs) = kept_quotable false whole b ++ quoted_in whole bs
+-- one of its bytes as it is kept, behind a hyphen or not, where its blanks stay together or not
+abbrev pub kept_quotable : Way → Bool → Bool → ℕ → List ℕ
+kept_quotable way whole behind b =
+    if (b == code " ") && whole then codes "\\~" else if is_held way behind b then codes "\\-" else b ∷ []
 
-abbrev pub kept_quoted : Bool → List ℕ → List ℕ
-kept_quoted whole [] = []
-kept_quoted whole (b ∷ bs) = kept_quotable true whole b ++ quoted_in whole bs
+abbrev pub quoted_in : Way → Bool → Bool → List ℕ → List ℕ
+quoted_in way whole behind [] = []
+quoted_in way whole behind (b ∷ bs) = kept_quotable way whole behind b ++ quoted_in way whole (b == code "-") bs
 
-abbrev pub is_written : Word → Bool
-is_written (Bare letters) = is_word letters
-is_written (Quoted bs) = each is_quotable bs && nat_le (length (kept_quoted true bs)) 30
+-- its first byte
+abbrev pub kept_first : Bool → ℕ → List ℕ
+kept_first whole b = if (b == code " ") && whole then codes "\\~" else b ∷ []
 
-abbrev pub are_written : List Word → Bool
-are_written [] = true
-are_written (w ∷ ws) = is_written w && are_written ws
+abbrev pub kept_quoted : Way → Bool → List ℕ → List ℕ
+kept_quoted way whole [] = []
+kept_quoted way whole (b ∷ bs) = kept_first whole b ++ quoted_in way whole (b == code "-") bs
+
+abbrev pub is_written : Way → Word → Bool
+is_written way (Bare letters) = is_word way letters
+is_written way (Quoted bs) = each is_quotable bs && nat_le (length (kept_quoted way true bs)) 30
+
+-- words behind a word are taken so
+abbrev pub way_then : Way → Word → Way
+way_then way (Bare letters) = way_behind way (called_by false (kept way letters))
+way_then way (Quoted bs) = way
+
+abbrev pub are_written : Way → List Word → Bool
+are_written way [] = true
+are_written way (w ∷ ws) = is_written way w && are_written (way_then way w) ws
 
 abbrev pub written_word : Word → List ℕ
 written_word (Bare letters) = written letters
@@ -183,11 +218,13 @@ abbrev pub heading_of : List ℕ → List Word → List ℕ
 heading_of first words = codes ".Sh " ++ first ++ behind_each words ++ codes "\n"
 
 -- what they say, where the blanks of these words between quotes stay together
-abbrev pub printed_as : List Bool → List Word → List ℕ
-printed_as wholes [] = []
-printed_as wholes (Bare letters ∷ ws) = unless_called (called_by false (kept letters)) (kept letters) ++ printed_as wholes ws
-printed_as [] (Quoted bs ∷ ws) = kept_quoted false bs ++ printed_as [] ws
-printed_as (whole ∷ wholes) (Quoted bs ∷ ws) = kept_quoted whole bs ++ printed_as wholes ws
+abbrev pub printed_as : Way → List Bool → List Word → List ℕ
+printed_as way wholes [] = []
+printed_as way wholes (Bare letters ∷ ws) =
+    unless_called way (called_by false (kept way letters)) (kept way letters) ++ printed_as (way_then way (Bare letters)) wholes ws
+printed_as way [] (Quoted bs ∷ ws) = said_of way (kept_quoted way false bs) ++ printed_as way [] ws
+printed_as way (whole ∷ wholes) (Quoted bs ∷ ws) =
+    said_of way (kept_quoted way whole bs) ++ printed_as way wholes ws
 
 -- ---- lines of a page
 
@@ -204,12 +241,17 @@ abbrev pub heads_some : Option Macro → Bool
 heads_some None = false
 heads_some (Some m) = heads_words m
 
+abbrev pub way_named : Option Macro → Way
+way_named None = Usual
+way_named (Some m) = way_of m
+
 abbrev pub is_line : Line → Bool
 is_line EmptyLine = true
 is_line (CommentLine bs) = each is_text bs && names_no_string bs
 is_line (TextLine b bs) = begins_text b && each is_text bs && names_no_string (b ∷ bs)
-is_line (HeadingLine b bs words) = each is_plain (b ∷ bs) && nat_le (length (b ∷ bs)) 30 && are_written words
-is_line (MacroLine name words) = heads_some (macro_of name) && each is_plain name && are_written words
+is_line (HeadingLine b bs words) = each is_plain (b ∷ bs) && nat_le (length (b ∷ bs)) 30 && are_written Usual words
+is_line (MacroLine name words) =
+    heads_some (macro_of name) && each is_plain name && are_written (way_named (macro_of name)) words
 
 abbrev pub are_lines : List Line → Bool
 are_lines [] = true
@@ -231,8 +273,8 @@ abbrev pub printed_line : List Bool → Line → List ℕ
 printed_line wholes EmptyLine = []
 printed_line wholes (CommentLine bs) = []
 printed_line wholes (TextLine b bs) = b ∷ bs
-printed_line wholes (HeadingLine b bs words) = (b ∷ bs) ++ printed_as wholes words
-printed_line wholes (MacroLine name words) = printed_as wholes words
+printed_line wholes (HeadingLine b bs words) = (b ∷ bs) ++ printed_as Usual wholes words
+printed_line wholes (MacroLine name words) = printed_as (way_named (macro_of name)) wholes words
 
 abbrev pub printed_lines : List (List Bool) → List Line → List ℕ
 printed_lines wholes [] = []

@@ -1,11 +1,10 @@
 //! Laws of the words of lines, and of the enclosures that a line opens.
-ghost use Rattle.nr_mdoc.specs.WordLaws.{HeadingsAreSaid, LastIsClosedFirst, LinesAreSaid, QuotedAreSaid, TextIsSaid, WordsAreSaid};
+ghost use Rattle.nr_mdoc.specs.WordLaws.{HeadingsAreSaid, LastIsClosedFirst, LinesAreSaid, TextIsSaid, WordsAreSaid};
 
 /// Does nothing: its contract is the laws.
 pub fn words_are_said()
     ensures text { TextIsSaid }
     ensures words { WordsAreSaid }
-    ensures quoted { QuotedAreSaid }
     ensures headings { HeadingsAreSaid }
     ensures lines { LinesAreSaid }
     ensures enclosures { LastIsClosedFirst }

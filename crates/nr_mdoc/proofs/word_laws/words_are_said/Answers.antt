@@ -2,8 +2,7 @@ use Rattle.nr_mdoc.proofs.word_laws.words_are_said.Goals as goal
 use Rattle.nr_mdoc.proofs.Closing.{last_is_closed_first}
 use Rattle.nr_mdoc.proofs.HeadingLines.{headings_are_said}
 use Rattle.nr_mdoc.proofs.LinesSaid.{lines_are_said}
-use Rattle.nr_mdoc.proofs.MacroLines.{words_are_said}
-use Rattle.nr_mdoc.proofs.QuotedLines.{quoted_are_said}
+use Rattle.nr_mdoc.proofs.QuotedLines.{words_are_said}
 use Rattle.nr_mdoc.proofs.TextSaid.{text_is_said}
 
 pub returns-clause-text : goal.returns-clause-text
@@ -11,9 +10,6 @@ returns-clause-text c = text_is_said
 
 pub returns-clause-words : goal.returns-clause-words
 returns-clause-words c = words_are_said
-
-pub returns-clause-quoted : goal.returns-clause-quoted
-returns-clause-quoted c = quoted_are_said
 
 pub returns-clause-headings : goal.returns-clause-headings
 returns-clause-headings c = headings_are_said

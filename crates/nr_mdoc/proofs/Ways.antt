@@ -1,0 +1,141 @@
+-- How macros take their words.
+use Rattle.std.proofs.Common.{◌≡◌, ℕ, ◌≤◌, ◌-◌, List, [], ◌∷◌, ◌++◌, length, length-append, Bool, true, false, not, ◌&&◌, ◌||◌, ◌==◌, nat_lt, if◌then◌else◌, refl, sym, ◌∙◌, ap, append_assoc, arith}
+use Rattle.std.proofs.lemmas.Bool.Decides.{nat_tests}
+use Rattle.std.specs.Prelude.{codes, slice_index}
+use Rattle.std.proofs.Math.Seq.{get_or-append_seam}
+use Prim.Native.Char.{code}
+use Rattle.nr_mdoc.specs.declared.macros.Macro.{Macro}
+use Rattle.nr_mdoc.specs.declared.macros.Macro.TheVariants as macros
+use Rattle.nr_mdoc.specs.declared.page.Page.{Page}
+use Rattle.nr_mdoc.specs.Calls.{is_due, is_due_from, is_enclosure_due, is_opened_by}
+use Rattle.nr_mdoc.specs.Keeping.{ends_in_hyphen, has_dashes, is_title, looks_up}
+use Rattle.nr_mdoc.specs.Options.{reads_for}
+use Rattle.nr_mdoc.specs.Taking.{is_bar, is_opening}
+use Rattle.nr_mdoc.specs.Words.{takes_marks}
+use Rattle.nr_mdoc.specs.WrittenLines.{bytes_of, is_hyphen, kept_letter, Letter, Plain, Escape, prints_otherwise, Way, Usual, Titled, Authors, way_of, way_of_part, said_of, hyphens_stay}
+use Rattle.nr_mdoc.proofs.Escapes.{and_left, and_right, is_not}
+use Rattle.nr_mdoc.proofs.Outcomes.{never, takes_plain}
+
+-- ---- macros that take words otherwise are not due
+
+due_from_usual : (m : Macro) (some named : Bool) → is_due_from m some named ≡ true → way_of m ≡ Usual
+due_from_usual macros.Describes some named h = never h
+due_from_usual (macros.Part letter) some named h = never h
+due_from_usual macros.Author some named h = never h
+due_from_usual m some named h = refl
+
+pub due_usual : (p : Page) → is_due p ≡ true → way_of p.call.taker ≡ Usual
+due_usual p h = due_from_usual p.call.taker p.call.some _ h
+
+opened_by_usual : (m : Macro) → is_opened_by m ≡ true → way_of m ≡ Usual
+opened_by_usual macros.Describes h = never h
+opened_by_usual (macros.Part letter) h = never h
+opened_by_usual macros.Author h = never h
+opened_by_usual m h = refl
+
+pub opened_usual : (p : Page) → is_enclosure_due p ≡ true → way_of p.call.taker ≡ Usual
+opened_usual p h = opened_by_usual p.call.taker (and_left (is_opened_by p.call.taker) (not p.call.some) h)
+
+pub marks_usual : (m : Macro) → takes_marks m ≡ true → way_of m ≡ Usual
+marks_usual macros.Describes h = never h
+marks_usual (macros.Part letter) h = never h
+marks_usual macros.Author h = never h
+marks_usual m h = refl
+
+-- ---- hyphens
+
+part_looks : (t : Bool) → t ≡ hyphens_stay (way_of_part t)
+part_looks true = refl
+part_looks false = refl
+
+looks_by : (m : Macro) → prints_otherwise m ≡ false → reads_for m ≡ false → looks_up m ≡ hyphens_stay (way_of m)
+looks_by macros.Standard h e = never (sym h)
+looks_by macros.Describes h e = refl
+looks_by (macros.Part letter) h e = part_looks (is_title letter)
+looks_by macros.Author h e = refl
+looks_by m h e = e
+
+pub plain_looks : (m : Macro) → takes_plain m ≡ true → looks_up m ≡ hyphens_stay (way_of m)
+unfolding takes_plain
+plain_looks m h =
+    looks_by m (is_not (prints_otherwise m) (and_left (not (prints_otherwise m)) (not (reads_for m)) h))
+    (is_not (reads_for m) (and_right (not (prints_otherwise m)) (not (reads_for m)) h))
+
+-- whether a hyphen is kept as an escape
+hyphen_by : (m : Macro) (dash : Bool) → takes_plain m ≡ true → (not (hyphens_stay (way_of m)) || (has_dashes m && dash)) ≡ (not (hyphens_stay (way_of m)) || dash)
+hyphen_by macros.Describes dash h = refl
+hyphen_by (macros.Part letter) dash h = refl
+hyphen_by m dash h = refl
+
+pub plain_hyphen : (m : Macro) (dash : Bool) → takes_plain m ≡ true → (not (looks_up m) || (has_dashes m && dash)) ≡ (not (hyphens_stay (way_of m)) || dash)
+plain_hyphen m dash h = ap (λ (t : Bool). not t || (has_dashes m && dash)) (plain_looks m h) ∙ hyphen_by m dash h
+
+one_less : (xs : List ℕ) (c : ℕ) → length (xs ++ c ∷ []) - 1 ≡ length xs
+one_less xs c = rw (length-append xs (c ∷ [])) (omega arith)
+
+some_length : (xs : List ℕ) (c : ℕ) → nat_lt 0 (length (xs ++ c ∷ [])) ≡ true
+some_length xs c = rw (length-append xs (c ∷ [])) (grind (arith, nat_tests))
+
+pub last_hyphen : (xs : List ℕ) (c : ℕ) → ends_in_hyphen (xs ++ c ∷ []) ≡ (c == code "-")
+last_hyphen xs c =
+    ap (λ (t : Bool). t && (slice_index (xs ++ c ∷ []) (length (xs ++ c ∷ []) - 1) == code "-")) (some_length xs c)
+    ∙ ap (λ (k : ℕ). slice_index (xs ++ c ∷ []) k == code "-") (one_less xs c)
+    ∙ ap (λ (k : ℕ). k == code "-") (get_or-append_seam xs c [] 0)
+
+plain_by : (t : Bool) (b : ℕ) → 1 ≤ length (if t then codes "\\-" else b ∷ [])
+plain_by true b = omega arith
+plain_by false b = omega arith
+
+pub letter_some : (way : Way) (behind : Bool) (l : Letter) → 1 ≤ length (kept_letter way behind l)
+letter_some way behind (Plain b) = plain_by ((b == code "-") && (not (hyphens_stay way) || behind)) b
+letter_some way behind (Escape b) = omega arith
+
+-- a hyphen is the last byte of what is kept where it is the last letter
+pub plain_last : (t v : Bool) (b : ℕ) (word : List ℕ) → (b == code "-") ≡ t → ends_in_hyphen (word ++ (if t && v then codes "\\-" else b ∷ [])) ≡ t
+plain_last true true b word e =
+    ap ends_in_hyphen (sym (append_assoc word (code "\\" ∷ []) (code "-" ∷ []))) ∙ last_hyphen (word ++ code "\\" ∷ []) (code "-")
+plain_last true false b word e = last_hyphen word b ∙ e
+plain_last false v b word e = last_hyphen word b ∙ e
+
+escape_last : (b : ℕ) (word : List ℕ) → ends_in_hyphen (word ++ code "\\" ∷ b ∷ []) ≡ (b == code "-")
+escape_last b word =
+    ap ends_in_hyphen (sym (append_assoc word (code "\\" ∷ []) (b ∷ []))) ∙ last_hyphen (word ++ code "\\" ∷ []) b
+
+pub letter_last : (way : Way) (behind : Bool) (l : Letter) (word : List ℕ) → ends_in_hyphen (word ++ kept_letter way behind l) ≡ is_hyphen l
+letter_last way behind (Plain b) word = plain_last (b == code "-") (not (hyphens_stay way) || behind) b word refl
+letter_last way behind (Escape b) word = escape_last b word
+
+pub first_last : (l : Letter) → ends_in_hyphen (bytes_of l) ≡ is_hyphen l
+first_last (Plain b) = last_hyphen [] b
+first_last (Escape b) = escape_last b []
+
+-- ---- what is said of words that authors have none of
+
+one_said : (t : Bool) (c : ℕ) → c ∷ [] ≡ (if t && false then [] else if t && false then [] else c ∷ [])
+one_said true c = refl
+one_said false c = refl
+
+pub said_one : (way : Way) (c : ℕ) → c ∷ [] ≡ said_of way (c ∷ [])
+said_one Usual c = refl
+said_one Titled c = refl
+said_one Authors c = one_said (c == code "-") c
+
+pub said_bar : (way : Way) (word : List ℕ) → is_bar word ≡ true → word ≡ said_of way word
+said_bar way [] h = never h
+said_bar way (b ∷ []) h = said_one way b
+said_bar way (a ∷ b ∷ rest) h = never h
+
+pub said_opening : (way : Way) (word : List ℕ) → is_opening word ≡ true → word ≡ said_of way word
+said_opening way [] h = never h
+said_opening way (b ∷ []) h = said_one way b
+said_opening way (a ∷ b ∷ rest) h = never h
+
+pub said_usual : (way : Way) (word : List ℕ) → way ≡ Usual → word ≡ said_of way word
+said_usual way word e = ap (λ (w : Way). said_of w word) (sym e)
+
+part_said : (t : Bool) (word : List ℕ) → word ≡ said_of (way_of_part t) word
+part_said true word = refl
+part_said false word = refl
+
+pub said_part : (letter : ℕ) (word : List ℕ) → word ≡ said_of (way_of (macros.Part letter)) word
+said_part letter word = part_said (is_title letter) word
