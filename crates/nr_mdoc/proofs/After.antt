@@ -2,14 +2,13 @@
 use Rattle.std.proofs.Common.{◌≡◌, ℕ, ◌≤◌, List, [], ◌∷◌, ◌++◌, refl, sym, ◌∙◌, ap, append_assoc}
 use Rattle.nr_mdoc.specs.declared.page.Scan.TheVariants as scans
 use Rattle.nr_mdoc.specs.Reading.{State, heard}
-use Rattle.nr_mdoc.specs.Saying.{parts_at, parts_of, words_of}
+use Rattle.nr_mdoc.specs.Saying.{parts_at, parts_of, state_behind, words_of}
 use Rattle.nr_mdoc.proofs.Escapes.{heard-pending}
 use Rattle.nr_mdoc.proofs.Meeting.{Takes, takes-state}
 use Rattle.nr_mdoc.proofs.Saying.{words_of-append}
 
 abbrev pub after : State → List ℕ → State
-after s [] = s
-after s (b ∷ bs) = after (heard b s).state bs
+after s bs = state_behind s bs
 
 pub after-append : (s : State) (xs ys : List ℕ) → after s (xs ++ ys) ≡ after (after s xs) ys
 after-append s [] ys = refl

@@ -191,7 +191,7 @@ last_word_by : (t : Bool) (p q : Page) → (part_of (if t then tag_ends p else a
 last_word_by true p q = ap (λ (xs : List ℕ). xs ++ []) (tag_word p.block.kind p.block q)
 last_word_by false p q = refl
 
-last_word : (p q : Page) → (part_of (last_act p) q).word ++ [] ≡ []
+pub last_word : (p q : Page) → (part_of (last_act p) q).word ++ [] ≡ []
 last_word p q = last_word_by (p.lay.tag && (p.place.depth == 0)) p q
 
 no_words : (xs ys zs : List ℕ) → xs ≡ [] → ys ≡ [] → zs ++ [] ≡ [] → xs ++ (ys ++ (zs ++ [])) ≡ []
@@ -207,10 +207,13 @@ unfolding is_laid
 last_laid_by true p = tag_laid p.block.kind p.block
 last_laid_by false p = refl
 
+pub last_laid : (p : Page) → is_laid (last_act p) ≡ true
+last_laid p = last_laid_by (p.lay.tag && (p.place.depth == 0)) p
+
 over_fresh : (x y : Act) (s : State) (p : Page) → is_laid x ≡ true → is_laid y ≡ true → p.marks ≡ []
     → Fresh (with_page (said (three x y (last_act p)) (with_scan scans.Start p)).page s)
 over_fresh x y s p i j none =
-    let l = three_laid x y (last_act p) (with_scan scans.Start p) i j (last_laid_by (p.lay.tag && (p.place.depth == 0)) p) in
+    let l = three_laid x y (last_act p) (with_scan scans.Start p) i j (last_laid p) in
     record { scan_is = ap (λ (r : Page). r.scan) l.1; marks_are = ap (λ (r : Page). r.marks) l.1 ∙ none }
 
 over_ended : (head : Head) (b : ℕ) (s : State) (word marks : List ℕ) → At head s scans.Ends word marks → ends_quiet head.line ≡ true

@@ -229,14 +229,14 @@ kept_slash head s word marks at = record {
   };
 }
 
-no_comment : (b : ℕ) → is_escaped b ≡ true → (b == code "\"") ≡ false
+pub no_comment : (b : ℕ) → is_escaped b ≡ true → (b == code "\"") ≡ false
 no_comment b h =
     is_not (b == code "\"")
     (and_left (not (b == code "\"")) (not (b == code "\n"))
     (and_left (not (b == code "\"") && not (b == code "\n")) (not (b == code "*"))
     (and_left (not (b == code "\"") && not (b == code "\n") && not (b == code "*")) (not (b == code "\\")) h)))
 
-no_newline : (b : ℕ) → is_escaped b ≡ true → (b == code "\n") ≡ false
+pub no_newline : (b : ℕ) → is_escaped b ≡ true → (b == code "\n") ≡ false
 no_newline b h =
     is_not (b == code "\n")
     (and_right (not (b == code "\"")) (not (b == code "\n"))

@@ -1,4 +1,7 @@
 mod After
+mod AskedBytes
+mod AskedWords
+mod AskingLines
 mod Begins
 mod Closing
 mod Endings

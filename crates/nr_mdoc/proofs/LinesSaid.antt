@@ -1,5 +1,5 @@
 -- Lines that follow one another say what each of them says.
-use Rattle.std.proofs.Common.{◌≡◌, ℕ, Bool, nat_le, length, List, [], ◌∷◌, ◌++◌, true, false, not, ◌&&◌, ◌==◌, Option, None, Some, refl, sym, ◌∙◌, ap, subst, append_assoc, append-nil}
+use Rattle.std.proofs.Common.{◌≡◌, ℕ, Bool, nat_le, length, List, [], ◌∷◌, ◌++◌, true, false, not, ◌&&◌, ◌||◌, ◌==◌, nat_lt, Option, None, Some, refl, sym, ◌∙◌, ap, subst, append_assoc, append-nil}
 use Rattle.std.specs.Prelude.{codes}
 use Prim.Native.Char.{code}
 use Rattle.nr_mdoc.specs.declared.macros.Macro.{Macro}
@@ -11,9 +11,10 @@ use Rattle.nr_mdoc.specs.Calls.{with_scan}
 use Rattle.nr_mdoc.specs.Macros.{macro_of}
 use Rattle.nr_mdoc.specs.Reading.{State, fed}
 use Rattle.nr_mdoc.specs.Saying.{parts_of, text_of, words_of}
-use Rattle.nr_mdoc.specs.WordLaws.{reads_at, LinesAreSaid}
-use Rattle.nr_mdoc.specs.WrittenLines.{Usual, way_named, printed_as, begins_star, begins_text, each, is_plain, is_text, names_no_string, Word, are_written, behind_each, Line, EmptyLine, CommentLine, TextLine, HeadingLine, MacroLine, heads_some, is_line, are_lines, written_line, written_lines, printed_line, printed_lines}
+use Rattle.nr_mdoc.specs.WordLaws.{begins_block, has_room, opens_some, reads_at, LinesAreSaid}
+use Rattle.nr_mdoc.specs.WrittenLines.{Usual, way_named, printed_as, begins_star, begins_text, each, is_plain, is_text, names_no_string, Word, are_written, behind_each, Line, EmptyLine, CommentLine, TextLine, HeadingLine, MacroLine, AskingLine, asks_some, are_asking, begins_blank, written, Letter, heads_some, is_line, are_lines, written_line, written_lines, printed_line, printed_lines}
 use Rattle.nr_mdoc.proofs.After.{after, after-pending, words-append, Fresh}
+use Rattle.nr_mdoc.proofs.AskingLines.{asking_said, line_names}
 use Rattle.nr_mdoc.proofs.Escapes.{and_left, and_right, both, line-text}
 use Rattle.nr_mdoc.proofs.HeadingLines.{heading_line, heading_names}
 use Rattle.nr_mdoc.proofs.MacroLines.{plain_names}
@@ -41,11 +42,39 @@ heads_some_said (Some m) name ws s none e h plain all =
       };
     }
 
-line_said : (l : Line) (s : State) → s.page.marks ≡ [] → is_line l ≡ true → SaidAs s l
-line_said EmptyLine s none h = record { wholes = []; said = empty_said s none }
-line_said (CommentLine bs) s none h =
+-- and a line that asks says none, where a list or a display that it begins has room
+room_for : Line → State → Bool
+room_for l s = not (begins_block l) || nat_lt (length s.blocks) 64
+
+asks_some_said : (o : Option Macro) (name : List ℕ) (rest : List Letter) (s : State) → s.page.marks ≡ [] → macro_of name ≡ o → asks_some o ≡ true
+    → (not (opens_some o) || nat_lt (length s.blocks) 64) ≡ true → each is_plain name ≡ true → begins_blank rest ≡ true → are_asking rest ≡ true
+    → SaidAs s (AskingLine name rest)
+asks_some_said None name rest s none e h room plain blank good = absurd (let no : false ≡ true = h in cc)
+asks_some_said (Some m) name rest s none e h room plain blank good =
+    record { wholes = []; said = asking_said name rest m s none h e room plain blank good }
+
+-- what is_line says of it
+record IsAsking (name : List ℕ) (rest : List Letter) : Type 0 where
+  asks : asks_some (macro_of name) ≡ true
+  plain : each is_plain name ≡ true
+  blank : begins_blank rest ≡ true
+  good : are_asking rest ≡ true
+
+is_asking_line : (name : List ℕ) (rest : List Letter) → is_line (AskingLine name rest) ≡ true → IsAsking name rest
+is_asking_line name rest h =
+    let a = asks_some (macro_of name) in
+    let b = each is_plain name in
+    let c = begins_blank rest in
+    let front = and_left (a && b && c) (are_asking rest) h in
+    let first = and_left (a && b) c front in
+    record { asks = and_left a b first; plain = and_right a b first; blank = and_right (a && b) c front; good = and_right (a && b && c) (are_asking rest) h }
+
+line_said : (l : Line) (s : State) → s.page.marks ≡ [] → is_line l ≡ true → room_for l s ≡ true → SaidAs s l
+unfolding room_for
+line_said EmptyLine s none h room = record { wholes = []; said = empty_said s none }
+line_said (CommentLine bs) s none h room =
     record { wholes = []; said = comment_said bs s none (and_left (each is_text bs) (names_no_string bs) h) }
-line_said (TextLine b bs) s none h =
+line_said (TextLine b bs) s none h room =
     let front = and_left (begins_text b && each is_text bs) (names_no_string (b ∷ bs)) h in
     let first = and_left (begins_text b) (each is_text bs) front in
     let rest = and_right (begins_text b) (each is_text bs) front in
@@ -56,18 +85,21 @@ line_said (TextLine b bs) s none h =
         fresh = text_fresh b bs s none first rest;
       };
     }
-line_said (HeadingLine b bs ws) s none h =
+line_said (HeadingLine b bs ws) s none h room =
     let front = and_left (each is_plain (b ∷ bs) && nat_le (length (b ∷ bs)) 30) (are_written Usual ws) h in
     let line = heading_line b bs ws s none (and_left (each is_plain (b ∷ bs)) (nat_le (length (b ∷ bs)) 30) front)
     (and_right (each is_plain (b ∷ bs)) (nat_le (length (b ∷ bs)) 30) front)
     (and_right (each is_plain (b ∷ bs) && nat_le (length (b ∷ bs)) 30) (are_written Usual ws) h) in
     record { wholes = line.wholes; said = record { words = line.words; fresh = line.fresh } }
-line_said (MacroLine name ws) s none h =
+line_said (MacroLine name ws) s none h room =
     let written = are_written (way_named (macro_of name)) ws in
     let front = and_left (heads_some (macro_of name) && each is_plain name) written h in
     heads_some_said (macro_of name) name ws s none refl (and_left (heads_some (macro_of name)) (each is_plain name) front)
     (and_right (heads_some (macro_of name)) (each is_plain name) front)
     (and_right (heads_some (macro_of name) && each is_plain name) written h)
+line_said (AskingLine name rest) s none h room =
+    let is = is_asking_line name rest h in
+    asks_some_said (macro_of name) name rest s none refl is.asks room is.plain is.blank is.good
 
 -- ---- the lines
 
@@ -80,20 +112,22 @@ record AllSaid (s : State) (ls : List Line) : Type 0 where
   wholes : List (List Bool)
   words : words_of (parts_of (reads_at scans.Start s) (written_lines ls)) ≡ printed_lines wholes ls
 
-lines_said : (ls : List Line) (s : State) → s.page.marks ≡ [] → are_lines ls ≡ true → AllSaid s ls
-lines_said [] s none h = record { wholes = []; words = refl }
-lines_said (l ∷ ls) s none h =
-    let one = line_said l s none (and_left (is_line l) (are_lines ls) h) in
+lines_said : (ls : List Line) (s : State) → s.page.marks ≡ [] → are_lines ls ≡ true → has_room (reads_at scans.Start s) ls ≡ true → AllSaid s ls
+unfolding room_for
+lines_said [] s none h room = record { wholes = []; words = refl }
+lines_said (l ∷ ls) s none h room =
     let start = reads_at scans.Start s in
     let t = after start (written_line l) in
-    let rest = lines_said ls t one.said.fresh.marks_are (and_right (is_line l) (are_lines ls) h) in
+    let one = line_said l s none (and_left (is_line l) (are_lines ls) h) (and_left (room_for l s) (has_room t ls) room) in
+    let again = begins_again s t one.said.fresh (after-pending start (written_line l)) in
+    let rest = lines_said ls t one.said.fresh.marks_are (and_right (is_line l) (are_lines ls) h)
+    (subst (λ (u : State). has_room u ls ≡ true) again (and_right (room_for l s) (has_room t ls) room)) in
     record {
       wholes = one.wholes ∷ rest.wholes;
       words =
           words-append start (written_line l) (written_lines ls)
           ∙ ap (λ (zs : List ℕ). zs ++ words_of (parts_of t (written_lines ls))) one.said.words
-          ∙ ap (λ (u : State). printed_line one.wholes l ++ words_of (parts_of u (written_lines ls)))
-          (begins_again s t one.said.fresh (after-pending start (written_line l)))
+          ∙ ap (λ (u : State). printed_line one.wholes l ++ words_of (parts_of u (written_lines ls))) again
           ∙ ap (λ (zs : List ℕ). printed_line one.wholes l ++ zs) rest.words;
     }
 
@@ -106,6 +140,7 @@ body (CommentLine bs) = codes ".\\\"" ++ bs
 body (TextLine b bs) = b ∷ bs
 body (HeadingLine b bs ws) = codes ".Sh " ++ (b ∷ bs) ++ behind_each ws
 body (MacroLine name ws) = codes "." ++ name ++ behind_each ws
+body (AskingLine name rest) = codes "." ++ name ++ written rest
 
 body_written : (l : Line) → written_line l ≡ body l ++ codes "\n"
 body_written EmptyLine = refl
@@ -113,6 +148,7 @@ body_written (CommentLine bs) = refl
 body_written (TextLine b bs) = refl
 body_written (HeadingLine b bs ws) = refl
 body_written (MacroLine name ws) = refl
+body_written (AskingLine name rest) = refl
 
 body_names : (l : Line) → is_line l ≡ true → names_no_string (body l) ≡ true
 body_names EmptyLine h = refl
@@ -129,6 +165,7 @@ body_names (MacroLine name ws) h =
     (and_right (heads_some (macro_of name)) (each is_plain name)
     (and_left (heads_some (macro_of name) && each is_plain name) (are_written way ws) h))
     (each_names ws way (and_right (heads_some (macro_of name) && each is_plain name) (are_written way ws) h))
+body_names (AskingLine name rest) h = let is = is_asking_line name rest h in line_names name rest is.plain is.good
 
 joined_names : (bs rest : List ℕ) → names_no_string bs ≡ true → names_no_string rest ≡ true → names_no_string (bs ++ code "\n" ∷ rest) ≡ true
 joined_names [] rest h e = e
@@ -167,5 +204,5 @@ lines_text (l ∷ ls) s h =
     (line-text (all_but_end l ls) start refl (all_names l ls h))
 
 pub lines_are_said : LinesAreSaid
-lines_are_said s ls none h =
-    let all = lines_said ls s none h in (all.wholes, record { text = lines_text ls s h; words = all.words })
+lines_are_said s ls none h room =
+    let all = lines_said ls s none h room in (all.wholes, record { text = lines_text ls s h; words = all.words })

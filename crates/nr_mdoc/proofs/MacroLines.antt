@@ -309,13 +309,13 @@ plain_names (b ∷ bs) rest h e =
     (not_and (b == code "\\") (begins_star (bs ++ rest)) (no_escape b (and_left (is_plain b) (each is_plain bs) h)))
     (plain_names bs rest (and_right (is_plain b) (each is_plain bs) h) e)
 
-no_star : (b : ℕ) → is_escaped b ≡ true → (b == code "*") ≡ false
+pub no_star : (b : ℕ) → is_escaped b ≡ true → (b == code "*") ≡ false
 no_star b h =
     is_not (b == code "*")
     (and_right (not (b == code "\"") && not (b == code "\n")) (not (b == code "*"))
     (and_left (not (b == code "\"") && not (b == code "\n") && not (b == code "*")) (not (b == code "\\")) h))
 
-no_slash : (b : ℕ) → is_escaped b ≡ true → (b == code "\\") ≡ false
+pub no_slash : (b : ℕ) → is_escaped b ≡ true → (b == code "\\") ≡ false
 no_slash b h =
     is_not (b == code "\\") (and_right (not (b == code "\"") && not (b == code "\n") && not (b == code "*")) (not (b == code "\\")) h)
 

@@ -1,11 +1,12 @@
 -- How often a byte is met until it is taken, and what is said then.
 use Rattle.std.proofs.Common.{◌≡◌, ℕ, suc, ◌+◌, ◌-◌, ◌≤◌, List, [], ◌++◌, if◌then◌else◌, refl, sym, ◌∙◌, ap, append_assoc, append-nil, arith}
 use Rattle.nr_mdoc.specs.declared.acts.Act.{Act}
+use Rattle.nr_mdoc.specs.declared.acts.Stack.{Stack}
 use Rattle.nr_mdoc.specs.declared.page.Page.{Page}
-use Rattle.nr_mdoc.specs.Reading.{State, Told, told, behind, said, once, once_seen, heard_in, heard}
+use Rattle.nr_mdoc.specs.Reading.{State, Told, told, behind, said, once, once_seen, stacked, heard_in, heard}
 use Rattle.nr_mdoc.specs.Saying.{parts_seen, parts_in, parts_at, words_of}
 use Rattle.nr_mdoc.specs.Scanning.{meet}
-use Rattle.nr_mdoc.specs.Seeing.{Met, met, three, and_taken}
+use Rattle.nr_mdoc.specs.Seeing.{Met, met, three, and_taken, with_stack}
 use Rattle.nr_mdoc.proofs.Saying.{words_of-append}
 
 abbrev pub with_page : Page → State → State
@@ -89,6 +90,32 @@ leads_by b s p q x y z xs e f g = record {
       ap (λ (i : ℕ). (heard_in i b s).state) (one_more n) ∙ ap (λ (t : Told). t.state) (heard-once n b s)
       ∙ ap (λ (m : Met). (told_once n b m s).state) e ∙ after_left n b s p x y z
       ∙ ap (λ (r : Page). (heard_in n b (with_page r s)).state) f;
+}
+
+-- the same, where a block opens or closes
+after_with : (n b : ℕ) (s : State) (p : Page) (st : Stack) (x y z : Act)
+    → (told_once n b (met p (with_stack st (three x y z))) s).state ≡ (heard_in n b (stacked st s.page.block (with_page (said (three x y z) p).page s))).state
+unfolding told_once said
+after_with n b s p st x y z = refl
+
+words_with : (n b : ℕ) (s : State) (p : Page) (st : Stack) (x y z : Act)
+    → words_once n b (met p (with_stack st (three x y z))) s
+    ≡ words_of (parts_seen (three x y z) p) ++ words_of (parts_in n b (stacked st s.page.block (with_page (said (three x y z) p).page s)))
+unfolding words_once said
+words_with n b s p st x y z = words_of-append (parts_seen (three x y z) p) (parts_in n b (stacked st s.page.block (record s { page = (said (three x y z) p).page })))
+
+pub leads_with : (b : ℕ) (s : State) (p q : Page) (st : Stack) (x y z : Act) (xs : List ℕ) → meet b s.page ≡ met p (with_stack st (three x y z))
+    → (said (three x y z) p).page ≡ q → words_of (parts_seen (three x y z) p) ≡ xs → Leads b s (stacked st s.page.block (with_page q s)) 1 xs
+leads_with b s p q st x y z xs e f g = record {
+  words = λ n.
+      ap (λ (i : ℕ). words_of (parts_in i b s)) (one_more n) ∙ words-once n b s ∙ ap (λ (m : Met). words_once n b m s) e
+      ∙ words_with n b s p st x y z
+      ∙ ap (λ (r : Page). words_of (parts_seen (three x y z) p) ++ words_of (parts_in n b (stacked st s.page.block (with_page r s)))) f
+      ∙ ap (λ (zs : List ℕ). zs ++ words_of (parts_in n b (stacked st s.page.block (with_page q s)))) g;
+  state = λ n.
+      ap (λ (i : ℕ). (heard_in i b s).state) (one_more n) ∙ ap (λ (t : Told). t.state) (heard-once n b s)
+      ∙ ap (λ (m : Met). (told_once n b m s).state) e ∙ after_with n b s p st x y z
+      ∙ ap (λ (r : Page). (heard_in n b (stacked st s.page.block (with_page r s))).state) f;
 }
 
 pub takes_by : (b : ℕ) (s : State) (p q : Page) (x y z : Act) (xs : List ℕ) → meet b s.page ≡ met p (and_taken (three x y z))

@@ -71,6 +71,11 @@ abbrev pub parts_of : State → List ℕ → List Part
 parts_of s [] = []
 parts_of s (b ∷ bs) = parts_at b s ++ parts_of (heard b s).state bs
 
+-- what is half read behind them
+abbrev pub state_behind : State → List ℕ → State
+state_behind s [] = s
+state_behind s (b ∷ bs) = state_behind (heard b s).state bs
+
 -- ---- what goes out of parts, and what of that is words
 
 abbrev pub text_of : List Part → List ℕ

@@ -1,5 +1,5 @@
 -- What is said of the words of lines and of the enclosures that a line opened, in any state of the page.
-use Rattle.std.specs.Prelude.{◌≡◌, ℕ, ◌+◌, List, [], ◌∷◌, ◌++◌, length, reverse, Bool, nat_le, true, false, if◌then◌else◌, codes, Some}
+use Rattle.std.specs.Prelude.{◌≡◌, ℕ, ◌+◌, List, [], ◌∷◌, ◌++◌, length, reverse, Bool, nat_le, nat_lt, true, false, not, ◌&&◌, ◌||◌, if◌then◌else◌, codes, Option, None, Some}
 use Rattle.nr_mdoc.specs.declared.acts.Act.TheVariants as acts
 use Rattle.nr_mdoc.specs.declared.acts.Text.TheVariants as texts
 use Rattle.nr_mdoc.specs.declared.macros.Macro.{Macro}
@@ -13,8 +13,8 @@ use Rattle.nr_mdoc.specs.LayingOut.{lay_out}
 use Rattle.nr_mdoc.specs.Lines.{ends_joined}
 use Rattle.nr_mdoc.specs.Macros.{macro_of}
 use Rattle.nr_mdoc.specs.Reading.{State, behind, fed, heard_in}
-use Rattle.nr_mdoc.specs.Saying.{parts_of, text_of, words_of}
-use Rattle.nr_mdoc.specs.WrittenLines.{each, names_no_string, is_text, begins_text, is_plain, heads_words, Usual, way_of, Word, are_written, heading_of, line_of, printed_as, Line, are_lines, written_lines, printed_lines}
+use Rattle.nr_mdoc.specs.Saying.{parts_of, state_behind, text_of, words_of}
+use Rattle.nr_mdoc.specs.WrittenLines.{each, names_no_string, is_text, begins_text, is_plain, heads_words, Usual, way_of, Word, are_written, heading_of, line_of, printed_as, opens_block, Line, AskingLine, are_lines, written_line, written_lines, printed_lines}
 
 -- ---- words
 
@@ -49,10 +49,23 @@ HeadingsAreSaid =
     (wholes : List Bool) ×
     Says (reads_at scans.Start s) (heading_of (b ∷ bs) words) ((b ∷ bs) ++ printed_as Usual wholes words)
 
+-- fewer than sixty-four lists and displays are open around the innermost where one of these lines begins another
+abbrev pub opens_some : Option Macro → Bool
+opens_some None = false
+opens_some (Some m) = opens_block m
+
+abbrev pub begins_block : Line → Bool
+begins_block (AskingLine name rest) = opens_some (macro_of name)
+begins_block line = false
+
+abbrev pub has_room : State → List Line → Bool
+has_room s [] = true
+has_room s (l ∷ ls) = (not (begins_block l) || nat_lt (length s.blocks) 64) && has_room (state_behind s (written_line l)) ls
+
 -- in any state where no marks are held back, lines that follow one another say what each of them says, in order
 abbrev pub LinesAreSaid : Type 0
 LinesAreSaid =
-    (s : State) (lines : List Line) → s.page.marks ≡ [] → are_lines lines ≡ true →
+    (s : State) (lines : List Line) → s.page.marks ≡ [] → are_lines lines ≡ true → has_room (reads_at scans.Start s) lines ≡ true →
     (wholes : List (List Bool)) × Says (reads_at scans.Start s) (written_lines lines) (printed_lines wholes lines)
 
 -- ---- enclosures of a line

@@ -226,20 +226,61 @@ printed_as way [] (Quoted bs ∷ ws) = said_of way (kept_quoted way false bs) ++
 printed_as way (whole ∷ wholes) (Quoted bs ∷ ws) =
     said_of way (kept_quoted way whole bs) ++ printed_as way wholes ws
 
+-- ---- lines whose words are read for what they ask
+
+-- dates, titles, lists and displays, fonts and spacing: none of their words is printed
+abbrev pub asks : Macro → Bool
+asks macros.Date = true
+asks macros.Title = true
+asks macros.List = true
+asks macros.Display = true
+asks macros.FontBegins = true
+asks macros.Spacing = true
+asks m = false
+
+-- a list or a display
+abbrev pub opens_block : Macro → Bool
+opens_block macros.List = true
+opens_block macros.Display = true
+opens_block m = false
+
+-- a byte of such a line, or an escape
+abbrev pub is_asking : Letter → Bool
+is_asking (Plain b) = not (b == code "\n") && not (b == code "\\")
+is_asking (Escape b) = is_escaped b
+
+abbrev pub are_asking : List Letter → Bool
+are_asking [] = true
+are_asking (l ∷ ls) = is_asking l && are_asking ls
+
+abbrev pub begins_blank : List Letter → Bool
+begins_blank [] = true
+begins_blank (Plain b ∷ ls) = ends_word b
+begins_blank (Escape b ∷ ls) = false
+
+abbrev pub asking_line : List ℕ → List Letter → List ℕ
+asking_line name rest = codes "." ++ name ++ written rest ++ codes "\n"
+
 -- ---- lines of a page
 
 -- an empty line, a comment, by its bytes, a text line, by its first byte and the others, a heading, by the first byte of its
--- first word, the others, and its further words, or a line of a macro, by its name and its words
+-- first word, the others, and its further words, a line of a macro, by its name and its words, or one that asks, by its name
+-- and what stands behind it
 pub data Line : Type 0 where
   EmptyLine : Line
   CommentLine : List ℕ → Line
   TextLine : ℕ → List ℕ → Line
   HeadingLine : ℕ → List ℕ → List Word → Line
   MacroLine : List ℕ → List Word → Line
+  AskingLine : List ℕ → List Letter → Line
 
 abbrev pub heads_some : Option Macro → Bool
 heads_some None = false
 heads_some (Some m) = heads_words m
+
+abbrev pub asks_some : Option Macro → Bool
+asks_some None = false
+asks_some (Some m) = asks m
 
 abbrev pub way_named : Option Macro → Way
 way_named None = Usual
@@ -252,6 +293,7 @@ is_line (TextLine b bs) = begins_text b && each is_text bs && names_no_string (b
 is_line (HeadingLine b bs words) = each is_plain (b ∷ bs) && nat_le (length (b ∷ bs)) 30 && are_written Usual words
 is_line (MacroLine name words) =
     heads_some (macro_of name) && each is_plain name && are_written (way_named (macro_of name)) words
+is_line (AskingLine name rest) = asks_some (macro_of name) && each is_plain name && begins_blank rest && are_asking rest
 
 abbrev pub are_lines : List Line → Bool
 are_lines [] = true
@@ -263,6 +305,7 @@ written_line (CommentLine bs) = codes ".\\\"" ++ bs ++ codes "\n"
 written_line (TextLine b bs) = b ∷ bs ++ codes "\n"
 written_line (HeadingLine b bs words) = heading_of (b ∷ bs) words
 written_line (MacroLine name words) = line_of name words
+written_line (AskingLine name rest) = asking_line name rest
 
 abbrev pub written_lines : List Line → List ℕ
 written_lines [] = []
@@ -275,6 +318,7 @@ printed_line wholes (CommentLine bs) = []
 printed_line wholes (TextLine b bs) = b ∷ bs
 printed_line wholes (HeadingLine b bs words) = (b ∷ bs) ++ printed_as Usual wholes words
 printed_line wholes (MacroLine name words) = printed_as (way_named (macro_of name)) wholes words
+printed_line wholes (AskingLine name rest) = []
 
 abbrev pub printed_lines : List (List Bool) → List Line → List ℕ
 printed_lines wholes [] = []
