@@ -207,5 +207,6 @@ begins_out macros.Function q h f u = function_out q f
 begins_out macros.FunctionOpens q h f u = function_out q f
 begins_out macros.Variable q h f u = synopsis_out lasts.Variable q f
 begins_out macros.Declaration q h f u = synopsis_out lasts.Declaration q f
+begins_out macros.Configuration q h f u = synopsis_out lasts.Configuration q f
 begins_out macros.Include q h f u = include_out q f
 begins_out m q h f u = called_out m q f

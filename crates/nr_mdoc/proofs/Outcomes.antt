@@ -43,6 +43,7 @@ is_quiet (acts.Hanging n) = true
 is_quiet acts.Cell = true
 is_quiet acts.Fresh = true
 is_quiet (acts.Sized sized n) = true
+is_quiet (acts.Tag width) = true
 is_quiet (acts.Numbered n width) = true
 is_quiet acts.Subsection = true
 is_quiet act = false
@@ -70,6 +71,8 @@ sized_page : (sized : Sized) (p : Page) → Lays p (was_sized sized (fresh p))
 sized_page sizes.Indent p = (_, refl)
 sized_page sizes.Inner p = (_, refl)
 sized_page sizes.Tagged p = (_, refl)
+sized_page sizes.Tag p = (_, refl)
+sized_page sizes.Hanging p = (_, refl)
 sized_page sized p = (_, refl)
 
 pub quiet-page : (act : Act) (p : Page) → is_quiet act ≡ true → Lays p (lay_out act p).page
@@ -90,6 +93,7 @@ quiet-page (acts.Hanging n) p h = (_, refl)
 quiet-page acts.Cell p h = (_, refl)
 quiet-page acts.Fresh p h = (_, refl)
 quiet-page (acts.Sized sized n) p h = sized_page sized p
+quiet-page (acts.Tag width) p h = (_, refl)
 quiet-page (acts.Numbered n width) p h = (_, refl)
 quiet-page acts.Subsection p h = (_, refl)
 quiet-page act p h = never h
@@ -112,6 +116,7 @@ quiet-word (acts.Hanging n) p h = refl
 quiet-word acts.Cell p h = refl
 quiet-word acts.Fresh p h = refl
 quiet-word (acts.Sized sized n) p h = refl
+quiet-word (acts.Tag width) p h = refl
 quiet-word (acts.Numbered n width) p h = refl
 quiet-word acts.Subsection p h = refl
 quiet-word act p h = never h

@@ -306,6 +306,7 @@ taken_by_out macros.Path q e h f = said_in Italic q q (same_page q f)
 taken_by_out macros.Variable q e h f = said_in Italic q q (same_page q f)
 taken_by_out macros.ResultType q e h f = said_in Italic q q (same_page q f)
 taken_by_out macros.Declaration q e h f = said_in Bold q q (same_page q f)
+taken_by_out macros.Configuration q e h f = said_in Bold q q (same_page q f)
 taken_by_out macros.Name q e h f = named_out q f
 taken_by_out macros.Parameter q e h f = parameter_out q f
 taken_by_out macros.Reference q e h f = reference_out q f (usual_is macros.Reference q e refl)

@@ -90,14 +90,10 @@ display_begins p =
     then met (with_literal true p) (three (space p.block.compact) (indent p) (acts.Request requests.Literal))
     else met p (two (space p.block.compact) (indent p))
 
--- space may stand behind a tag that stands alone
-abbrev pub behind_list : Page → Page
-behind_list p = record p { lay = record p.lay { quiet = p.lay.quiet && not p.lay.alone } }
-
 abbrev pub list_ends : Page → Met
 list_ends p =
     if not (is_list p.block.kind) then none p else
-    met (behind_list p) (with_stack Closes (if is_column p.block.kind
+    met p (with_stack Closes (if is_column p.block.kind
     then three (acts.Request requests.Fill) (acts.Request requests.Tabs) (acts.Request requests.IndentEnds)
     else left (acts.Request requests.IndentEnds)))
 
@@ -132,7 +128,7 @@ abbrev pub item_head_of : Kind → Page → Act
 item_head_of kinds.Bullet p = acts.Sized sizes.Bullet (tag_width p.block)
 item_head_of kinds.Dash p = acts.Sized sizes.Dash (tag_width p.block)
 item_head_of kinds.Number p = acts.Numbered p.block.items (tag_width p.block)
-item_head_of kinds.Tag p = acts.Sized sizes.Tagged (tag_width p.block)
+item_head_of kinds.Tag p = acts.Tag (tag_width p.block)
 item_head_of kinds.Hang p = acts.Sized sizes.Tagged (tag_width p.block)
 item_head_of kinds.Column p = acts.Nothing
 item_head_of kind p = acts.Request requests.Break
@@ -153,7 +149,7 @@ counted_item p = if is_diagnosis p.block.kind then taking Bold (counts p) else c
 abbrev pub stands_close : Block → Bool
 stands_close b = b.compact || is_column b.kind
 
--- space before an item; one that has a tag alone has space behind it too
+-- space before an item
 abbrev pub before_item : Page → Act
 before_item p =
     if stands_close p.block || not p.block.begun then space (stands_close p.block) else acts.Request requests.Space
@@ -164,9 +160,9 @@ item p =
     met (counted_item (new_item p))
     (two (before_item p) (item_head (counted_item (new_item p))))
 
--- a tag that would stand one blank before its text stands alone
+-- two blanks stand between a tag and its text, or the tag stands alone
 abbrev pub tag_ends_of : Kind → Block → Act
-tag_ends_of kinds.Tag b = acts.TagEnds (tag_width b - 1)
+tag_ends_of kinds.Tag b = acts.TagEnds (tag_width b - 2)
 tag_ends_of kind b = acts.Fresh
 
 abbrev pub tag_ends : Page → Act

@@ -73,7 +73,7 @@ abbrev pub gap : Bool → ℕ → Page → List ℕ
 gap joined first p = gap_at p.lay p.lay.at joined first
 
 abbrev pub was_put : Page → Page
-was_put p = with_lay (record p.lay { at = Middle; joined = not p.lay.spaced; quiet = false; alone = false }) p
+was_put p = with_lay (record p.lay { at = Middle; joined = not p.lay.spaced; quiet = false }) p
 
 abbrev pub is_middle : At → Bool
 is_middle Middle = true

@@ -4,12 +4,13 @@ use Rattle.nr_mdoc.specs.declared.acts.Act.{Act}
 use Rattle.nr_mdoc.specs.declared.acts.Act.TheVariants as acts
 use Rattle.nr_mdoc.specs.declared.page.Page.{Page}
 use Rattle.nr_mdoc.specs.Laying.{Laid, laid, with_lay, put, is_joined, end_line, lay_word}
-use Rattle.nr_mdoc.specs.OwnLines.{freshen, end_tag, quiet_down, put_space, put_request, put_sized, put_hanging, put_numbered, put_title, end_title, put_head, column_text, put_cell, put_control}
+use Rattle.nr_mdoc.specs.OwnLines.{freshen, end_tag, quiet_down, put_space, put_request, put_sized, put_hanging, put_tag, put_numbered, put_title, end_title, put_head, column_text, put_cell, put_control}
 use Rattle.nr_mdoc.specs.References.{put_part_begin, put_reference}
 use Rattle.nr_mdoc.specs.Texts.{text_of, front_of}
 
 abbrev pub lay_request : Act → Page → Laid
 lay_request acts.Fresh p = freshen p
+lay_request (acts.Tag width) p = put_tag width p
 lay_request (acts.TagEnds width) p = end_tag width p
 lay_request acts.Quiet p = quiet_down p
 lay_request acts.Space p = put_space p

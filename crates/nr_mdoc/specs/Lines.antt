@@ -67,6 +67,7 @@ is_include kind = false
 
 abbrev pub stands_behind : Last → Last → Bool
 stands_behind lasts.Heading kind = true
+stands_behind lasts.Configuration kind = true
 stands_behind lasts.ResultType kind = is_function kind
 stands_behind lasts.Variable kind = is_variable kind
 stands_behind lasts.Declaration kind = is_declaration kind
@@ -175,6 +176,7 @@ begins_block macros.Function p = function_line p
 begins_block macros.FunctionOpens p = function_line p
 begins_block macros.Variable p = synopsis_line lasts.Variable p
 begins_block macros.Declaration p = synopsis_line lasts.Declaration p
+begins_block macros.Configuration p = synopsis_line lasts.Configuration p
 begins_block macros.Include p = include_line p
 begins_block m p = called m p
 

@@ -63,6 +63,7 @@ is_callable_too macros.Cell = true
 is_callable_too macros.ResultType = true
 is_callable_too macros.Variable = true
 is_callable_too macros.Declaration = true
+is_callable_too macros.Configuration = true
 is_callable_too m = false
 
 -- a word of a line that another macro began calls it

@@ -35,17 +35,21 @@ abbrev pub line_end : Page → List ℕ
 line_end p = line_end_at p.lay.at p.lay.tag
 
 abbrev pub fresh : Page → Page
-fresh p = with_lay (record p.lay { at = Start; joined = false; quiet = p.lay.quiet || p.lay.tag; alone = p.lay.alone || p.lay.tag; tag = false }) p
+fresh p = with_lay (record p.lay { at = Start; joined = false; quiet = p.lay.quiet && not p.lay.tag; tag = false }) p
 
 abbrev pub freshen : Page → Laid
 freshen p = laid (fresh p) (line_end p)
 
--- a tag is whole: one that is as wide as this has no two blanks behind it, and stands alone on its line
+-- A tag is whole: text stands behind it where it is one line, by the place before it, and no wider than this.
 abbrev pub end_tag : ℕ → Page → Laid
-end_tag width p = laid (fresh p) (line_end p ++ codes ".if \\n(.nu=" ++ digits width ++ codes "n .br\n")
+end_tag width p = laid (fresh p) (line_end p ++ codes ".br\n.if \\n(nl-\\n(%tu=1v&(\\n(.nu<=" ++ digits width ++ codes "n) \\{\\\n.sp -1\n\\&\\c\n.\\}\n")
 
 abbrev pub quiet : Page → Page
 quiet p = with_lay (record p.lay { quiet = true }) p
+
+-- space may come
+abbrev pub loud : Page → Page
+loud p = with_lay (record p.lay { quiet = false }) p
 
 abbrev pub quiet_down : Page → Laid
 quiet_down p = laid (quiet (fresh p)) (line_end p)
@@ -60,8 +64,10 @@ put_request request p = laid (fresh p) (line_end p ++ request_of request)
 abbrev pub was_sized : Sized → Page → Page
 was_sized sizes.Indent p = p
 was_sized sizes.Inner p = p
-was_sized sizes.Tagged p = with_lay (record p.lay { tag = true; quiet = true }) p
-was_sized sized p = quiet p
+was_sized sizes.Tagged p = with_lay (record p.lay { tag = true }) p
+was_sized sizes.Tag p = with_lay (record p.lay { tag = true }) p
+was_sized sizes.Hanging p = quiet p
+was_sized sized p = loud p
 
 abbrev pub put_sized : Sized → ℕ → Page → Laid
 put_sized sized n p = laid (was_sized sized (fresh p)) (line_end p ++ sized_of sized ++ digits n ++ codes "n\n")
@@ -69,9 +75,13 @@ put_sized sized n p = laid (was_sized sized (fresh p)) (line_end p ++ sized_of s
 abbrev pub put_hanging : ℕ → Page → Laid
 put_hanging n p = with_end (request_of requests.Distance) (put_sized sizes.Hanging n p)
 
+-- a tag begins, which hangs, and the place before it is kept
+abbrev pub put_tag : ℕ → Page → Laid
+put_tag n p = with_end (codes ".nr %t \\n(nl\n") (put_sized sizes.Tag n p)
+
 abbrev pub put_numbered : ℕ → ℕ → Page → Laid
 put_numbered n width p =
-    laid (quiet (fresh p)) (line_end p ++ codes ".PD 0\n.IP " ++ digits n ++ codes ". " ++ digits width ++ codes "n\n")
+    laid (loud (fresh p)) (line_end p ++ codes ".PD 0\n.IP " ++ digits n ++ codes ". " ++ digits width ++ codes "n\n")
 
 -- ---- the page's title
 

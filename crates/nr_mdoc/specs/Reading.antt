@@ -71,7 +71,6 @@ first_lay = record {
   literal = false;
   kept = false;
   quiet = true;
-  alone = false;
   font = Roman;
   front = false;
 }

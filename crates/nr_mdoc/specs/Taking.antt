@@ -180,6 +180,7 @@ taken_by macros.Path p = met p (left (acts.Word Italic))
 taken_by macros.Variable p = met p (left (acts.Word Italic))
 taken_by macros.ResultType p = met p (left (acts.Word Italic))
 taken_by macros.Declaration p = met p (left (acts.Word Bold))
+taken_by macros.Configuration p = met p (left (acts.Word Bold))
 taken_by macros.Name p = named p
 taken_by macros.Parameter p = parameter p
 taken_by macros.Reference p = reference p

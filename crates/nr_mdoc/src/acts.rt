@@ -106,6 +106,8 @@ pub(crate) enum Sized {
     Inner,
     /// A tag is the next line.
     Tagged,
+    /// A tag hangs.
+    Tag,
     /// A paragraph hangs.
     Hanging,
 }
@@ -161,7 +163,9 @@ pub(crate) enum Act {
     Ends,
     /// What was begun is put on a line, and a tag is whole.
     Fresh,
-    /// A tag is whole: one of so many ens stands alone on its line.
+    /// A tag begins, by the width of tags: what goes on over lines hangs by that.
+    Tag(u16),
+    /// A tag is whole: one wider than so many ens, or of several lines, stands alone.
     TagEnds(u16),
     /// The same, and nothing was put since space was made.
     Quiet,

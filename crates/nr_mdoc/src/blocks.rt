@@ -145,14 +145,13 @@ impl Page {
         Seen::two(space, indent)
     }
 
-    /// A list ends: space may stand behind a tag that stands alone.
+    /// A list ends.
     pub(crate) fn list_ends(&mut self) -> Seen
         ensures { met self.new result ≡ specs.list_ends self.old }
     {
         if !is_list(self.block.kind) {
             return Seen::left(Act::Nothing);
         }
-        self.lay.quiet = self.lay.quiet && !self.lay.alone;
         let end = Act::Request(Request::IndentEnds);
         if matches!(self.block.kind, Kind::Column) {
             let seen = Seen::three(
@@ -225,7 +224,7 @@ impl Page {
         Seen::two(before, self.item_head())
     }
 
-    /// What stands before an item: space, unless the list is compact. An item that has a tag alone has space behind it too.
+    /// What stands before an item: space, unless the list is compact.
     fn before_item(&self) -> Act
         ensures { result ≡ specs.before_item self.now }
     {
@@ -245,7 +244,8 @@ impl Page {
             Kind::Bullet => Act::Sized(Sized::Bullet, width),
             Kind::Dash => Act::Sized(Sized::Dash, width),
             Kind::Number => Act::Numbered(self.block.items, width),
-            Kind::Tag | Kind::Hang => Act::Sized(Sized::Tagged, width),
+            Kind::Tag => Act::Tag(width),
+            Kind::Hang => Act::Sized(Sized::Tagged, width),
             Kind::Column => Act::Nothing,
             _ => Act::Request(Request::Break),
         }
@@ -256,7 +256,7 @@ impl Page {
         ensures { result ≡ specs.tag_ends self.now }
     {
         match self.block.kind {
-            Kind::Tag => Act::TagEnds(tag_width(self.block) - 1),
+            Kind::Tag => Act::TagEnds(tag_width(self.block) - 2),
             _ => Act::Fresh,
         }
     }

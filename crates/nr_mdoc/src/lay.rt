@@ -121,7 +121,6 @@ impl Page {
         self.lay.at = At::Middle;
         self.lay.joined = !self.lay.spaced;
         self.lay.quiet = false;
-        self.lay.alone = false;
     }
 
     /// Whether what comes next from a macro joins what is before.

@@ -18,6 +18,7 @@ impl Page {
     {
         match act {
             Act::Fresh => self.freshen(out),
+            Act::Tag(width) => self.put_tag(width, out),
             Act::TagEnds(width) => self.end_tag(width, out),
             Act::Quiet => self.quiet_down(out),
             Act::Space => self.put_space(out),

@@ -43,7 +43,7 @@ fn stands_behind(last: Last, kind: Last) -> bool
     ensures { result ≡ specs.stands_behind last kind }
 {
     match last {
-        Last::Heading => true,
+        Last::Heading | Last::Configuration => true,
         Last::ResultType => matches!(kind, Last::Function),
         Last::Variable => matches!(kind, Last::Variable),
         Last::Declaration => matches!(kind, Last::Declaration),
@@ -125,6 +125,7 @@ impl Page {
             Macro::Function | Macro::FunctionOpens => self.function_line(),
             Macro::Variable => self.synopsis_line(Last::Variable),
             Macro::Declaration => self.synopsis_line(Last::Declaration),
+            Macro::Configuration => self.synopsis_line(Last::Configuration),
             Macro::Include => self.include_line(),
             _ => self.called(line),
         }

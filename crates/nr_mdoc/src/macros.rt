@@ -118,8 +118,10 @@ pub(crate) enum Macro {
     ResultType,
     /// `.Vt`.
     Variable,
-    /// `.Cd` and `.Fd`.
+    /// `.Fd`.
     Declaration,
+    /// `.Cd`.
+    Configuration,
     /// `.Nd`.
     Describes,
     /// `.Dd`.
@@ -201,7 +203,7 @@ static NAMES: [(u8, u8, Macro); 111] = [
     (b'B', b'q', Macro::Encloses(Pair::Brackets)),
     (b'B', b't', Macro::Stands(System::Beta)),
     (b'B', b'x', Macro::Bsd),
-    (b'C', b'd', Macro::Declaration),
+    (b'C', b'd', Macro::Configuration),
     (b'C', b'm', Macro::Words(Font::Bold)),
     (b'D', b'1', Macro::Line),
     (b'D', b'b', Macro::Silent),
@@ -416,7 +418,8 @@ impl Macro {
             | Macro::Cell
             | Macro::ResultType
             | Macro::Variable
-            | Macro::Declaration => true,
+            | Macro::Declaration
+            | Macro::Configuration => true,
             _ => false,
         }
     }

@@ -68,23 +68,22 @@ impl Page {
         out.extend(self.line_end());
         self.lay.at = At::Start;
         self.lay.joined = false;
-        self.lay.quiet = self.lay.quiet || self.lay.tag;
-        self.lay.alone = self.lay.alone || self.lay.tag;
+        self.lay.quiet = self.lay.quiet && !self.lay.tag;
         self.lay.tag = false;
     }
 
-    /// A tag is whole: it needs two blanks behind it, or stands alone on its line.
+    /// A tag is whole: text stands behind it where it is one line, and no wider than this.
     pub(crate) fn end_tag(&mut self, width: u16, out: &mut SliceVec<'_, u8>)
-        requires { length out.old.items + 48 ≤ out.old.room }
+        requires { length out.old.items + 128 ≤ out.old.room }
         ensures page { self.new ≡ (specs.end_tag width self.old).page }
         ensures items { out.new.items ≡ out.old.items ++ (specs.end_tag width self.old).bytes }
-        ensures few { length out.new.items ≤ length out.old.items + 48 }
+        ensures few { length out.new.items ≤ length out.old.items + 128 }
         ensures room { out.new.room ≡ out.old.room }
     {
         self.freshen(out);
-        out.extend(b".if \\n(.nu=");
+        out.extend(b".br\n.if \\n(nl-\\n(%tu=1v&(\\n(.nu<=");
         put_number(width, out);
-        out.extend(b"n .br\n");
+        out.extend(b"n) \\{\\\n.sp -1\n\\&\\c\n.\\}\n");
     }
 
     /// The same, and nothing was put since space was made.
@@ -132,11 +131,9 @@ impl Page {
     {
         match sized {
             Sized::Indent | Sized::Inner => {}
-            Sized::Tagged => {
-                self.lay.tag = true;
-                self.lay.quiet = true;
-            }
-            _ => self.lay.quiet = true,
+            Sized::Tagged | Sized::Tag => self.lay.tag = true,
+            Sized::Bullet | Sized::Dash => self.lay.quiet = false,
+            Sized::Hanging => self.lay.quiet = true,
         }
     }
 
@@ -167,6 +164,18 @@ impl Page {
         out.extend(request_of(Request::Distance));
     }
 
+    /// A tag begins, which hangs.
+    pub(crate) fn put_tag(&mut self, n: u16, out: &mut SliceVec<'_, u8>)
+        requires { length out.old.items + 64 ≤ out.old.room }
+        ensures page { self.new ≡ (specs.put_tag n self.old).page }
+        ensures items { out.new.items ≡ out.old.items ++ (specs.put_tag n self.old).bytes }
+        ensures few { length out.new.items ≤ length out.old.items + 64 }
+        ensures room { out.new.room ≡ out.old.room }
+    {
+        self.put_sized(Sized::Tag, n, out);
+        out.extend(b".nr %t \\n(nl\n");
+    }
+
     /// A numbered item.
     pub(crate) fn put_numbered(&mut self, n: u16, width: u16, out: &mut SliceVec<'_, u8>)
         requires { length out.old.items + 48 ≤ out.old.room }
@@ -175,12 +184,13 @@ impl Page {
         ensures few { length out.new.items ≤ length out.old.items + 48 }
         ensures room { out.new.room ≡ out.old.room }
     {
-        self.quiet_down(out);
+        self.freshen(out);
         out.extend(b".PD 0\n.IP ");
         put_number(n, out);
         out.extend(b". ");
         put_number(width, out);
         out.extend(b"n\n");
+        self.lay.quiet = false;
     }
 
     /// The page's date.

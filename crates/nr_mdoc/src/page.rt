@@ -145,8 +145,10 @@ pub(crate) enum Last {
     Function,
     /// `.Vt`.
     Variable,
-    /// `.Cd` or `.Fd`.
+    /// `.Fd`.
     Declaration,
+    /// `.Cd`.
+    Configuration,
     /// `.In`.
     Include,
     /// The heading.
@@ -255,8 +257,6 @@ pub(crate) struct Lay {
     pub kept: bool,
     /// Nothing was put since space was made.
     pub quiet: bool,
-    /// A tag stands alone: nothing was put behind it.
-    pub alone: bool,
     /// The font of a word that goes on.
     pub font: Font,
     /// The next word is only the front of a longer one.

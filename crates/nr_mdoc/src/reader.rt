@@ -30,7 +30,6 @@ fn first_lay() -> Lay
         literal: false,
         kept: false,
         quiet: true,
-        alone: false,
         font: Font::Roman,
         front: false,
     }

@@ -65,7 +65,7 @@ impl Page {
             Macro::Argument | Macro::Path | Macro::Variable | Macro::ResultType => Seen::left(
                 Act::Word(Font::Italic),
             ),
-            Macro::Declaration => Seen::left(Act::Word(Font::Bold)),
+            Macro::Declaration | Macro::Configuration => Seen::left(Act::Word(Font::Bold)),
             Macro::Name => self.named(),
             Macro::Parameter => self.parameter(),
             Macro::Reference => self.reference(),

@@ -181,6 +181,6 @@ pub(crate) fn sized_of(sized: Sized) -> &'static [u8]
         Sized::Dash => b".PD 0\n.IP \\- ",
         Sized::Inner => b".in +",
         Sized::Tagged => b".PD 0\n.TP ",
-        Sized::Hanging => b".PD 0\n.HP ",
+        Sized::Tag | Sized::Hanging => b".PD 0\n.HP ",
     }
 }
