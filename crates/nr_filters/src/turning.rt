@@ -8,8 +8,8 @@ use nr_units::sink::Sink;
 use std::alloc::{AllocError, Global};
 use std::io::Read;
 
-/// The bytes of a buffer.
-pub const BUFFER_SIZE: usize = 65_536;
+/// The bytes of a buffer. Each is written once before the first text is read.
+pub const BUFFER_SIZE: usize = 16_384;
 
 /// The buffers that texts are turned in.
 #[derive(Drop)]
