@@ -40,7 +40,7 @@ silent_before kind p w = silent_by (stands_behind p.place.last kind) w
 kept_after : (kind : Last) (q : Page) → takes_plain q.call.taker ≡ true → Keeps q (after kind q)
 kept_after kind q f = record { scan = refl; word = refl; marks = refl; few = λ l. l; going = refl; comment = refl; line = refl; fits = f; way = refl }
 
-none_out : (q : Page) → takes_plain q.call.taker ≡ true → Out (none q) q []
+pub none_out : (q : Page) → takes_plain q.call.taker ≡ true → Out (none q) q []
 unfolding is_quiet of_word
 none_out q f = out q q acts.Nothing acts.Nothing acts.Nothing [] refl refl refl refl (same_page q f)
 
@@ -172,41 +172,49 @@ book_out q f =
     (out p q acts.Space acts.Nothing acts.Nothing [] refl refl refl refl keeps)
     (out p q acts.Nothing acts.Nothing acts.Nothing [] refl refl refl refl keeps)
 
-pub begins_out : (m : Macro) (q : Page) → heads_words m ≡ true → takes_plain q.call.taker ≡ true → way_of q.call.taker ≡ way_of m → Out (begins m q) q []
+-- those whose lines begin with more than acts that leave all but how text is laid out
+abbrev pub begins_apart : Macro → Bool
+begins_apart macros.ListEnds = true
+begins_apart macros.DisplayEnds = true
+begins_apart macros.BookEnds = true
+begins_apart (macros.Part letter) = true
+begins_apart m = false
+
+pub begins_out : (m : Macro) (q : Page) → heads_words m ≡ true → begins_apart m ≡ false → takes_plain q.call.taker ≡ true → way_of q.call.taker ≡ way_of m → Out (begins m q) q []
 unfolding begins is_quiet of_word
-begins_out macros.Title q h f u = never h
-begins_out macros.System q h f u = never h
-begins_out macros.Section q h f u = never h
-begins_out macros.Subsection q h f u =
+begins_out macros.Title q h c f u = never h
+begins_out macros.System q h c f u = never h
+begins_out macros.Section q h c f u = never h
+begins_out macros.Subsection q h c f u =
     out _ q acts.Subsection acts.Nothing acts.Nothing [] refl refl refl refl (kept_taking (after lasts.Heading q) q Roman u (kept_after lasts.Heading q f))
-begins_out macros.Paragraph q h f u = out _ q acts.Space acts.Nothing acts.Nothing [] refl refl refl refl (kept_after lasts.Heading q f)
-begins_out macros.Describes q h f u = out q q (acts.Text texts.Description) acts.Nothing acts.Nothing [] refl refl refl refl (same_page q f)
-begins_out macros.Silent q h f u = never h
-begins_out macros.Breaks q h f u = out q q (acts.Request requests.Break) acts.Nothing acts.Nothing [] refl refl refl refl (same_page q f)
-begins_out macros.Spaces q h f u = never h
-begins_out macros.Defines q h f u = never h
-begins_out macros.Book q h f u = book_out q f
-begins_out macros.BookEnds q h f u = never h
-begins_out (macros.Part letter) q h f u = never h
-begins_out macros.Keeps q h f u = never h
-begins_out macros.KeepEnds q h f u = never h
-begins_out macros.Table q h f u = never h
-begins_out macros.TableEnds q h f u = never h
-begins_out macros.FontEnds q h f u = out q q (acts.Request (requests.Font Roman)) acts.Nothing acts.Nothing [] refl refl refl refl (same_page q f)
-begins_out macros.Exits q h f u = never h
-begins_out macros.Returns q h f u = never h
-begins_out macros.List q h f u = never h
-begins_out macros.Display q h f u = never h
-begins_out macros.Item q h f u = item_out q f u
-begins_out macros.ListEnds q h f u = never h
-begins_out macros.DisplayEnds q h f u = never h
-begins_out macros.Line q h f u = indented_out q f u
-begins_out macros.LiteralLine q h f u = indented_out q f u
-begins_out macros.ResultType q h f u = synopsis_out lasts.ResultType q f
-begins_out macros.Function q h f u = function_out q f
-begins_out macros.FunctionOpens q h f u = function_out q f
-begins_out macros.Variable q h f u = synopsis_out lasts.Variable q f
-begins_out macros.Declaration q h f u = synopsis_out lasts.Declaration q f
-begins_out macros.Configuration q h f u = synopsis_out lasts.Configuration q f
-begins_out macros.Include q h f u = include_out q f
-begins_out m q h f u = called_out m q f
+begins_out macros.Paragraph q h c f u = out _ q acts.Space acts.Nothing acts.Nothing [] refl refl refl refl (kept_after lasts.Heading q f)
+begins_out macros.Describes q h c f u = out q q (acts.Text texts.Description) acts.Nothing acts.Nothing [] refl refl refl refl (same_page q f)
+begins_out macros.Silent q h c f u = never h
+begins_out macros.Breaks q h c f u = out q q (acts.Request requests.Break) acts.Nothing acts.Nothing [] refl refl refl refl (same_page q f)
+begins_out macros.Spaces q h c f u = never h
+begins_out macros.Defines q h c f u = never h
+begins_out macros.Book q h c f u = book_out q f
+begins_out macros.BookEnds q h c f u = never (sym c)
+begins_out (macros.Part letter) q h c f u = never (sym c)
+begins_out macros.Keeps q h c f u = never h
+begins_out macros.KeepEnds q h c f u = never h
+begins_out macros.Table q h c f u = never h
+begins_out macros.TableEnds q h c f u = never h
+begins_out macros.FontEnds q h c f u = out q q (acts.Request (requests.Font Roman)) acts.Nothing acts.Nothing [] refl refl refl refl (same_page q f)
+begins_out macros.Exits q h c f u = never h
+begins_out macros.Returns q h c f u = never h
+begins_out macros.List q h c f u = never h
+begins_out macros.Display q h c f u = never h
+begins_out macros.Item q h c f u = item_out q f u
+begins_out macros.ListEnds q h c f u = never (sym c)
+begins_out macros.DisplayEnds q h c f u = never (sym c)
+begins_out macros.Line q h c f u = indented_out q f u
+begins_out macros.LiteralLine q h c f u = indented_out q f u
+begins_out macros.ResultType q h c f u = synopsis_out lasts.ResultType q f
+begins_out macros.Function q h c f u = function_out q f
+begins_out macros.FunctionOpens q h c f u = function_out q f
+begins_out macros.Variable q h c f u = synopsis_out lasts.Variable q f
+begins_out macros.Declaration q h c f u = synopsis_out lasts.Declaration q f
+begins_out macros.Configuration q h c f u = synopsis_out lasts.Configuration q f
+begins_out macros.Include q h c f u = include_out q f
+begins_out m q h c f u = called_out m q f

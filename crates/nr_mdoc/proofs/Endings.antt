@@ -151,6 +151,18 @@ silent_outer true n p =
 silent_outer false n p =
     record { x = acts.Request requests.IndentEnds; y = acts.Nothing; met_is = refl; no_x = λ q. refl; no_y = λ q. refl; laid_x = refl; laid_y = refl }
 
+silent_part : (t : Bool) (p : Page) → Silent (met p (left (if t then acts.Fresh else acts.Nothing))) p
+unfolding is_laid is_quiet
+silent_part true p = record { x = acts.Fresh; y = acts.Nothing; met_is = refl; no_x = λ q. refl; no_y = λ q. refl; laid_x = refl; laid_y = refl }
+silent_part false p = silent_none p
+
+silent_by : (t : Bool) (n : ℕ) (x : Act) (p : Page) → ((q : Page) → (part_of x q).word ≡ []) → is_laid x ≡ true
+    → Silent (met p (if t then two x (acts.Sized sizes.Inner n) else left x)) p
+unfolding is_laid is_quiet
+silent_by true n x p silent i =
+    record { x = x; y = acts.Sized sizes.Inner n; met_is = refl; no_x = silent; no_y = λ q. refl; laid_x = i; laid_y = refl }
+silent_by false n x p silent i = record { x = x; y = acts.Nothing; met_is = refl; no_x = silent; no_y = λ q. refl; laid_x = i; laid_y = refl }
+
 -- what begins a line that says nothing of its words at its end
 abbrev pub ends_quiet : Macro → Bool
 ends_quiet macros.Section = true
@@ -166,9 +178,9 @@ silent_end macros.Section p h = record { x = acts.Quiet; y = acts.Nothing; met_i
 silent_end macros.System p h = never h
 silent_end macros.List p h = never h
 silent_end macros.Display p h = never h
-silent_end macros.ListEnds p h = never h
-silent_end macros.DisplayEnds p h = never h
-silent_end (macros.Part letter) p h = never h
+silent_end macros.ListEnds p h = silent_by (is_tagged p.block) (tag_width p.block) (acts.Request requests.Distance) p (λ q. refl) refl
+silent_end macros.DisplayEnds p h = silent_by (is_tagged p.block) (tag_width p.block) acts.Nothing p (λ q. refl) refl
+silent_end (macros.Part letter) p h = silent_part p.place.reference p
 silent_end macros.Exits p h = never h
 silent_end macros.Returns p h = never h
 silent_end macros.Spacing p h = never h

@@ -3,6 +3,7 @@ mod AskedBytes
 mod AskedWords
 mod AskingLines
 mod Begins
+mod BlockEnds
 mod Closing
 mod Endings
 mod Escapes
@@ -16,6 +17,7 @@ mod MarksHeld
 mod Meeting
 mod OtherLines
 mod Outcomes
+mod PartLines
 mod QuotedLines
 mod QuotedWords
 mod Reading

@@ -6,6 +6,7 @@ use Prim.Native.Char.{code}
 use Rattle.nr_units.specs.Name.{capacity, is_full}
 use Rattle.nr_mdoc.specs.declared.acts.Act.TheVariants as acts
 use Rattle.nr_mdoc.specs.declared.macros.Macro.{Macro}
+use Rattle.nr_mdoc.specs.declared.macros.Macro.TheVariants as macros
 use Rattle.nr_mdoc.specs.declared.page.Page.{Page}
 use Rattle.nr_mdoc.specs.declared.page.Scan.{Scan}
 use Rattle.nr_mdoc.specs.declared.page.Scan.TheVariants as scans
@@ -22,11 +23,14 @@ use Rattle.nr_mdoc.specs.Seeing.{Met, met, left, taken}
 use Rattle.nr_mdoc.specs.WordLaws.{reads_at}
 use Rattle.nr_mdoc.specs.WrittenLines.{Way, way_of, begins_star, each, names_no_string, Letter, Plain, Escape, are_letters, bytes_of, is_escaped, is_letter, is_plain, written, heads_words, kept, prints_words, none_or, is_word, unless_called}
 use Rattle.nr_mdoc.proofs.After.{after, next-state}
-use Rattle.nr_mdoc.proofs.Begins.{begins_out}
+use Rattle.nr_mdoc.proofs.Begins.{begins_apart, begins_out}
+use Rattle.nr_mdoc.proofs.BlockEnds.{Begun, display_step, list_step}
+use Rattle.nr_mdoc.proofs.PartLines.{book_step, part_step}
 use Rattle.nr_mdoc.proofs.Endings.{ends_quiet, Ended, line_ended}
 use Rattle.nr_mdoc.proofs.Escapes.{and_left, and_right, both, is_not}
 use Rattle.nr_mdoc.proofs.KeptWords.{not_ending, no_escape, not_of, between_by, between_met}
 use Rattle.nr_mdoc.proofs.Meeting.{with_page, Leads, Takes, then_takes, leads_by, takes_by}
+use Rattle.nr_mdoc.proofs.Outcomes.{never}
 use Rattle.nr_mdoc.proofs.TextSaid.{next-words, or_left, or_right}
 use Rattle.nr_mdoc.proofs.Stepping.{At, Head, Stepped, out_step}
 use Rattle.nr_mdoc.proofs.WholeWords.{heads_plain}
@@ -274,13 +278,51 @@ macro_met b m name s e f =
 abbrev pub head_of : Macro → Head
 head_of m = record { line = m; way = way_of m }
 
-pub macro_step : (b : ℕ) (m : Macro) (name : List ℕ) (s : State) → s.page.marks ≡ [] → ends_word b ≡ true → macro_of name ≡ Some m → heads_words m ≡ true
-    → Stepped (head_of m) b (reads_name name s) 1 [] scans.Between name []
+begun_on : (m : Macro) (name : List ℕ) (s : State) → s.page.marks ≡ [] → heads_words m ≡ true → Begun (head_of m) (beginning m name s) name
 unfolding beginning
-macro_step b m name s marks e f h =
+begun_on m name s marks h = record {
+  scan_is = refl;
+  word_is = refl;
+  marks_are = marks;
+  few = omega arith;
+  going = refl;
+  comment = refl;
+  line = refl;
+  fits = heads_plain m h;
+  way = refl;
+}
+
+apart_step : (b : ℕ) (m : Macro) (name : List ℕ) (s : State) → s.page.marks ≡ [] → ends_word b ≡ true → macro_of name ≡ Some m → heads_words m ≡ true
+    → begins_apart m ≡ true → Stepped (head_of m) b (reads_name name s) 1 [] scans.Between name []
+unfolding begins
+apart_step b macros.ListEnds name s marks e f h c =
+    let q = beginning macros.ListEnds name s in
+    list_step (head_of macros.ListEnds) b (reads_name name s) q name (begun_on macros.ListEnds name s marks h) (macro_met b macros.ListEnds name s e f)
+apart_step b macros.DisplayEnds name s marks e f h c =
+    let q = beginning macros.DisplayEnds name s in
+    display_step q.block.kind (head_of macros.DisplayEnds) b (reads_name name s) q name (begun_on macros.DisplayEnds name s marks h)
+    (macro_met b macros.DisplayEnds name s e f)
+apart_step b macros.BookEnds name s marks e f h c =
+    let q = beginning macros.BookEnds name s in
+    book_step (head_of macros.BookEnds) b (reads_name name s) q name (begun_on macros.BookEnds name s marks h) (macro_met b macros.BookEnds name s e f)
+apart_step b (macros.Part letter) name s marks e f h c =
+    let q = beginning (macros.Part letter) name s in
+    part_step letter (head_of (macros.Part letter)) b (reads_name name s) q name (begun_on (macros.Part letter) name s marks h)
+    (macro_met b (macros.Part letter) name s e f)
+apart_step b m name s marks e f h c = never c
+
+macro_step_by : (t : Bool) (b : ℕ) (m : Macro) (name : List ℕ) (s : State) → s.page.marks ≡ [] → ends_word b ≡ true → macro_of name ≡ Some m
+    → heads_words m ≡ true → begins_apart m ≡ t → Stepped (head_of m) b (reads_name name s) 1 [] scans.Between name []
+unfolding beginning
+macro_step_by true b m name s marks e f h c = apart_step b m name s marks e f h c
+macro_step_by false b m name s marks e f h c =
     let q = beginning m name s in
     out_step (head_of m) b (reads_name name s) (begins m q) q [] [] (macro_met b m name s e f)
-    (begins_out m q h (heads_plain m h) refl) marks (omega arith) refl refl refl refl (λ k. refl)
+    (begins_out m q h c (heads_plain m h) refl) marks (omega arith) refl refl refl refl (λ k. refl)
+
+pub macro_step : (b : ℕ) (m : Macro) (name : List ℕ) (s : State) → s.page.marks ≡ [] → ends_word b ≡ true → macro_of name ≡ Some m → heads_words m ≡ true
+    → Stepped (head_of m) b (reads_name name s) 1 [] scans.Between name []
+macro_step b m name s marks e f h = macro_step_by (begins_apart m) b m name s marks e f h refl
 
 pub thirteen : (k : ℕ) → k ≤ 12 → 1 + k ≤ 16
 thirteen k l = omega arith

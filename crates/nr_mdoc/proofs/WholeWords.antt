@@ -86,6 +86,10 @@ heads_plain macros.Paragraph h = refl
 heads_plain macros.Book h = refl
 heads_plain macros.FontEnds h = refl
 heads_plain macros.Breaks h = refl
+heads_plain macros.ListEnds h = refl
+heads_plain macros.DisplayEnds h = refl
+heads_plain macros.BookEnds h = refl
+heads_plain (macros.Part letter) h = refl
 heads_plain m h = prints_plain m h
 
 none_left : (xs ys : List ℕ) → xs ++ ys ≡ [] → xs ≡ []

@@ -123,7 +123,7 @@ abbrev pub prints_words : Macro → Bool
 prints_words m = is_callable m && not (prints_otherwise m)
 
 -- a macro whose line has such words: one of these, a description, an item, a subsection, a paragraph, a line that is indented,
--- the beginning of a reference, the end of a font, or `.br`
+-- the beginning of a reference, a part of one, the end of one, of a list, a display or a font, or `.br`
 abbrev pub heads_words : Macro → Bool
 heads_words macros.Describes = true
 heads_words macros.Item = true
@@ -134,6 +134,10 @@ heads_words macros.Paragraph = true
 heads_words macros.Book = true
 heads_words macros.FontEnds = true
 heads_words macros.Breaks = true
+heads_words macros.ListEnds = true
+heads_words macros.DisplayEnds = true
+heads_words macros.BookEnds = true
+heads_words (macros.Part letter) = true
 heads_words m = prints_words m
 
 -- ---- lines of macros

@@ -1,0 +1,108 @@
+-- The line that ends a list or a display begins as others do.
+use Rattle.std.proofs.Common.{◌≡◌, ℕ, ◌≤◌, List, [], ◌++◌, length, Bool, true, false, not, if◌then◌else◌, refl, sym, ◌∙◌, ap}
+use Rattle.nr_mdoc.specs.declared.acts.Act.{Act}
+use Rattle.nr_mdoc.specs.declared.acts.Act.TheVariants as acts
+use Rattle.nr_mdoc.specs.declared.acts.Request.TheVariants as requests
+use Rattle.nr_mdoc.specs.declared.acts.Stack.TheVariants.{Closes}
+use Rattle.nr_mdoc.specs.declared.page.Kind.{Kind}
+use Rattle.nr_mdoc.specs.declared.page.Kind.TheVariants as kinds
+use Rattle.nr_mdoc.specs.declared.page.Page.{Page}
+use Rattle.nr_mdoc.specs.declared.page.Scan.TheVariants as scans
+use Rattle.nr_mdoc.specs.Blocks.{display_ends_of, is_list, list_ends, with_literal}
+use Rattle.nr_mdoc.specs.Laying.{with_lay}
+use Rattle.nr_mdoc.specs.Options.{is_column, none}
+use Rattle.nr_mdoc.specs.Reading.{State, stacked}
+use Rattle.nr_mdoc.specs.Scanning.{meet}
+use Rattle.nr_mdoc.specs.Seeing.{Met, met, left, three, two, with_stack}
+use Rattle.nr_mdoc.specs.WrittenLines.{way_of}
+use Rattle.nr_mdoc.proofs.Begins.{none_out}
+use Rattle.nr_mdoc.proofs.Meeting.{with_page, leads_with}
+use Rattle.nr_mdoc.proofs.Outcomes.{is_quiet, of_word, takes_plain, three-page, three-words}
+use Rattle.nr_mdoc.proofs.Stepping.{Head, Stepped, out_step, step_at}
+
+-- a page on which a macro begins its line
+pub record Begun (head : Head) (p : Page) (word : List ℕ) : Type 0 where
+  pub scan_is : p.scan ≡ scans.Between
+  pub word_is : p.word ≡ word
+  pub marks_are : p.marks ≡ []
+  pub few : length p.closers ≤ 8
+  pub going : p.call.going ≡ false
+  pub comment : p.call.comment ≡ false
+  pub line : p.call.line ≡ head.line
+  pub fits : takes_plain p.call.taker ≡ true
+  pub way : way_of p.call.taker ≡ head.way
+
+-- a block ends, and the line is read further
+ends_step : (head : Head) (b : ℕ) (s : State) (p : Page) (x y z : Act) (word : List ℕ) → Begun head p word
+    → meet b s.page ≡ met p (with_stack Closes (three x y z)) → is_quiet x ≡ true → is_quiet y ≡ true → is_quiet z ≡ true
+    → of_word x p.word ++ (of_word y p.word ++ (of_word z p.word ++ [])) ≡ [] → Stepped head b s 1 [] scans.Between word []
+ends_step head b s p x y z word begun e i j k silent =
+    let lays = three-page x y z p i j k in
+    let r = with_lay lays.0 p in
+    record {
+      next = stacked Closes s.page.block (with_page r s);
+      leads = leads_with b s p r Closes x y z [] e lays.1 (three-words x y z p i j k ∙ silent);
+      at = record {
+        scan_is = begun.scan_is;
+        word_is = begun.word_is;
+        marks_are = begun.marks_are;
+        few = begun.few;
+        going = begun.going;
+        comment = begun.comment;
+        line = begun.line;
+        fits = begun.fits;
+        way = begun.way;
+        free = λ n. refl;
+      };
+    }
+
+pub none_step : (head : Head) (b : ℕ) (s : State) (p : Page) (word : List ℕ) → Begun head p word → meet b s.page ≡ none p
+    → Stepped head b s 1 [] scans.Between word []
+none_step head b s p word begun e =
+    step_at head b s 1 [] p.scan scans.Between p.word word [] begun.scan_is begun.word_is
+    (out_step head b s (none p) p [] [] e (none_out p begun.fits) begun.marks_are begun.few begun.going begun.comment begun.line begun.way (λ n. refl))
+
+ends_list : Bool → Bool → Page → Met
+ends_list list column p =
+    if not list then none p else
+    met p (with_stack Closes (if column
+    then three (acts.Request requests.Fill) (acts.Request requests.Tabs) (acts.Request requests.IndentEnds)
+    else left (acts.Request requests.IndentEnds)))
+
+list_is : (p : Page) → list_ends p ≡ ends_list (is_list p.block.kind) (is_column p.block.kind) p
+unfolding ends_list
+list_is p = refl
+
+list_by : (t u : Bool) (head : Head) (b : ℕ) (s : State) (p : Page) (word : List ℕ) → Begun head p word → meet b s.page ≡ ends_list t u p
+    → Stepped head b s 1 [] scans.Between word []
+unfolding ends_list is_quiet of_word
+list_by false u head b s p word begun e = none_step head b s p word begun e
+list_by true true head b s p word begun e =
+    ends_step head b s p (acts.Request requests.Fill) (acts.Request requests.Tabs) (acts.Request requests.IndentEnds) word begun e refl refl refl refl
+list_by true false head b s p word begun e =
+    ends_step head b s p (acts.Request requests.IndentEnds) acts.Nothing acts.Nothing word begun e refl refl refl refl
+
+pub list_step : (head : Head) (b : ℕ) (s : State) (p : Page) (word : List ℕ) → Begun head p word → meet b s.page ≡ list_ends p
+    → Stepped head b s 1 [] scans.Between word []
+list_step head b s p word begun e = list_by (is_list p.block.kind) (is_column p.block.kind) head b s p word begun (e ∙ list_is p)
+
+pub display_step : (kind : Kind) (head : Head) (b : ℕ) (s : State) (p : Page) (word : List ℕ) → Begun head p word → meet b s.page ≡ display_ends_of kind p
+    → Stepped head b s 1 [] scans.Between word []
+unfolding is_quiet of_word
+display_step kinds.Literal head b s p word begun e =
+    ends_step head b s (with_literal false p) (acts.Request requests.LiteralEnds) (acts.Request requests.IndentEnds) acts.Nothing word
+    (record {
+      scan_is = begun.scan_is;
+      word_is = begun.word_is;
+      marks_are = begun.marks_are;
+      few = begun.few;
+      going = begun.going;
+      comment = begun.comment;
+      line = begun.line;
+      fits = begun.fits;
+      way = begun.way;
+    })
+    e refl refl refl refl
+display_step kinds.Filled head b s p word begun e =
+    ends_step head b s p (acts.Request requests.IndentEnds) acts.Nothing acts.Nothing word begun e refl refl refl refl
+display_step kind head b s p word begun e = none_step head b s p word begun e
