@@ -1,5 +1,5 @@
 -- The line that ends a list or a display begins as others do.
-use Rattle.std.proofs.Common.{◌≡◌, ℕ, ◌≤◌, List, [], ◌++◌, length, Bool, true, false, not, if◌then◌else◌, refl, sym, ◌∙◌, ap}
+use Rattle.std.proofs.Common.{◌≡◌, ℕ, ◌≤◌, List, [], ◌++◌, length, Bool, true, false, not, if◌then◌else◌, refl, ◌∙◌}
 use Rattle.nr_mdoc.specs.declared.acts.Act.{Act}
 use Rattle.nr_mdoc.specs.declared.acts.Act.TheVariants as acts
 use Rattle.nr_mdoc.specs.declared.acts.Request.TheVariants as requests
@@ -13,7 +13,7 @@ use Rattle.nr_mdoc.specs.Laying.{with_lay}
 use Rattle.nr_mdoc.specs.Options.{is_column, none}
 use Rattle.nr_mdoc.specs.Reading.{State, stacked}
 use Rattle.nr_mdoc.specs.Scanning.{meet}
-use Rattle.nr_mdoc.specs.Seeing.{Met, met, left, three, two, with_stack}
+use Rattle.nr_mdoc.specs.Seeing.{Met, met, left, three, with_stack}
 use Rattle.nr_mdoc.specs.WrittenLines.{way_of}
 use Rattle.nr_mdoc.proofs.Begins.{none_out}
 use Rattle.nr_mdoc.proofs.Meeting.{with_page, leads_with}

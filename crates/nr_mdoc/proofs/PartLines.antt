@@ -2,14 +2,12 @@
 use Rattle.std.proofs.Common.{◌≡◌, ℕ, ◌≤◌, ◌+◌, List, [], ◌∷◌, ◌++◌, length, Bool, true, false, not, ◌==◌, nat_lt, if◌then◌else◌, refl, sym, ◌∙◌, ap, subst}
 use Rattle.std.specs.Prelude.{codes}
 use Prim.Native.Char.{code}
-use Rattle.nr_mdoc.specs.declared.acts.Act.{Act}
 use Rattle.nr_mdoc.specs.declared.acts.Act.TheVariants as acts
 use Rattle.nr_mdoc.specs.declared.page.Call.{Call}
 use Rattle.nr_mdoc.specs.declared.page.Page.{Page}
-use Rattle.nr_mdoc.specs.declared.page.Scan.{Scan}
 use Rattle.nr_mdoc.specs.declared.page.Scan.TheVariants as scans
 use Rattle.nr_mdoc.specs.Calls.{with_place}
-use Rattle.nr_mdoc.specs.Laying.{Laid, laid, then_laid, put, is_joined, was_put}
+use Rattle.nr_mdoc.specs.Laying.{Laid, laid, put, is_joined, was_put}
 use Rattle.nr_mdoc.specs.LayingOut.{lay_out}
 use Rattle.nr_mdoc.specs.Lines.{book_ends, part_begins}
 use Rattle.nr_mdoc.specs.Options.{none}
@@ -17,7 +15,7 @@ use Rattle.nr_mdoc.specs.OwnLines.{put_head}
 use Rattle.nr_mdoc.specs.Reading.{State, said}
 use Rattle.nr_mdoc.specs.References.{author_head, authors_of, has_part, more_authors, order, put_author_head, put_authors, put_comma, put_part, put_part_begin, put_part_head, put_parts, put_stop, put_title_part, with_listed, with_part}
 use Rattle.nr_mdoc.specs.Scanning.{meet}
-use Rattle.nr_mdoc.specs.Seeing.{Met, met, left, two}
+use Rattle.nr_mdoc.specs.Seeing.{met, left, two}
 use Rattle.nr_mdoc.specs.WrittenLines.{way_of}
 use Rattle.nr_mdoc.proofs.BlockEnds.{Begun, none_step}
 use Rattle.nr_mdoc.proofs.Meeting.{with_page, leads_by}
