@@ -16,7 +16,17 @@ abbrev pub name_capacity : ℕ
 name_capacity = 32
 
 abbrev pub first : Half
-first = record { number = 1; looked = 0; line = lines.Start; dotted = false; name = []; cut = false; calls = false; awake = false }
+first =
+    record {
+      number = 1;
+      looked = 0;
+      line = lines.Start;
+      dotted = false;
+      name = [];
+      cut = false;
+      calls = false;
+      awake = false;
+    }
 
 abbrev pub with_line : Line → Half → Half
 with_line line h = record h { line = line }
@@ -44,7 +54,10 @@ words_after b = if b == code "\n" then lines.Start else if b == code "\\" then l
 
 abbrev pub starts : ℕ → Half → Half
 starts b h =
-    record h { line = if (b == code ".") || (b == code "'") then lines.Control else rest_after b; dotted = b == code "." }
+    record h {
+      line = if (b == code ".") || (b == code "'") then lines.Control else rest_after b;
+      dotted = b == code ".";
+    }
 
 abbrev pub begins : Line → ℕ → Half → Half
 begins line b h = record h { line = line; name = b ∷ []; cut = false }
@@ -62,7 +75,8 @@ apart b h =
     if b == code "\\" then with_line lines.Rest h else begins lines.Name b h
 
 abbrev pub grows : ℕ → Half → Half
-grows b h = if length h.name == name_capacity then record h { cut = true } else record h { name = h.name ++ b ∷ [] }
+grows b h =
+    if length h.name == name_capacity then record h { cut = true } else record h { name = h.name ++ b ∷ [] }
 
 -- the name of a request or a macro is whole
 abbrev pub behind_name : ℕ → Half → Half × Whole
@@ -120,15 +134,18 @@ text_after b =
 
 abbrev pub in_text : Bool → ℕ → Half → Half
 in_text escaped b h =
-    with_line (if not escaped then text_after b else if b == code "\"" then lines.Rest else lines.Text false) h
+    with_line (if not escaped then text_after b else if b == code "\"" then lines.Rest
+    else lines.Text false) h
 
 abbrev pub quotes_after : ℕ → Line
 quotes_after b =
-    if b == code "\"" then lines.Closed else if b == code "\n" then lines.Start else lines.Quoted (b == code "\\")
+    if b == code "\"" then lines.Closed else if b == code "\n" then lines.Start
+    else lines.Quoted (b == code "\\")
 
 abbrev pub in_quotes : Bool → ℕ → Half → Half
 in_quotes escaped b h =
-    with_line (if not escaped then quotes_after b else if b == code "\"" then lines.Rest else lines.Quoted false) h
+    with_line (if not escaped then quotes_after b else if b == code "\"" then lines.Rest
+    else lines.Quoted false) h
 
 -- two quotes within quotes are one
 abbrev pub closed : ℕ → Half → Half
@@ -176,7 +193,8 @@ is_looked_at line = true
 
 abbrev pub looked_at : Line → ℕ → Half → Half
 looked_at line b h =
-    if (b == code "\n") && is_looked_at line && nat_lt h.looked 64 then record h { looked = h.looked + 1 } else h
+    if (b == code "\n") && is_looked_at line && nat_lt h.looked 64
+    then record h { looked = h.looked + 1 } else h
 
 -- a byte meets the line: what is whole with it
 abbrev pub met : ℕ → Half → Half × Whole

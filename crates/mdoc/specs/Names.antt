@@ -15,7 +15,8 @@ defines name = bytes_eq name (codes "de") || bytes_eq name (codes "am") || bytes
 
 abbrev pub is_in : List (List ℕ) → ℕ → ℕ → Bool
 is_in [] a b = false
-is_in (name ∷ names) a b = if (slice_index name 0 == a) && (slice_index name 1 == b) then true else is_in names a b
+is_in (name ∷ names) a b =
+    if (slice_index name 0 == a) && (slice_index name 1 == b) then true else is_in names a b
 
 -- words of a macro's line may call macros, but those of some macros
 abbrev pub is_parsed : List ℕ → Bool

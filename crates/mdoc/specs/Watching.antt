@@ -82,7 +82,8 @@ item p = item_at (place_of (codes "Bl") p.blocks.items) p
 abbrev pub judged : Page → Page
 judged p =
     if not (is_some (macro_of p.half.name)) then told (kinds.Unknown p.half.name p.half.cut) p else
-    if bytes_eq p.half.name (codes "Sh") || bytes_eq p.half.name (codes "Ss") then broken (length p.blocks.items) p else
+    if bytes_eq p.half.name (codes "Sh") || bytes_eq p.half.name (codes "Ss")
+    then broken (length p.blocks.items) p else
     if bytes_eq p.half.name (codes "It") then item p else called p
 
 -- ---- a byte comes, and the end

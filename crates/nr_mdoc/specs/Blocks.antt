@@ -20,7 +20,8 @@ use Rattle.nr_mdoc.specs.Seeing.{Met, met, left, two, three, with_stack}
 -- ---- blocks
 
 abbrev pub fresh_block : Kind → ℕ → Block
-fresh_block kind offset = record { kind = kind; width = None; offset = offset; items = 0; compact = false; begun = false }
+fresh_block kind offset =
+    record { kind = kind; width = None; offset = offset; items = 0; compact = false; begun = false }
 
 -- no block, or none of whose options was read
 abbrev pub no_block : Block
@@ -67,7 +68,8 @@ space compact = if compact then acts.Fresh else acts.Space
 -- ---- a block begins and ends
 
 abbrev pub block_opens : Kind → Page → Met
-block_opens kind p = met (record p { block = fresh_block kind (inner p.block) }) (with_stack Opens (left acts.Fresh))
+block_opens kind p =
+    met (record p { block = fresh_block kind (inner p.block) }) (with_stack Opens (left acts.Fresh))
 
 abbrev pub indent : Page → Act
 indent p = acts.Sized sizes.Indent (at_most 999 p.block.offset)
@@ -99,7 +101,8 @@ list_ends p =
 
 abbrev pub display_ends_of : Kind → Page → Met
 display_ends_of kinds.Literal p =
-    met (with_literal false p) (with_stack Closes (two (acts.Request requests.LiteralEnds) (acts.Request requests.IndentEnds)))
+    met (with_literal false p)
+    (with_stack Closes (two (acts.Request requests.LiteralEnds) (acts.Request requests.IndentEnds)))
 display_ends_of kinds.Filled p = met p (with_stack Closes (left (acts.Request requests.IndentEnds)))
 display_ends_of kind p = none p
 
@@ -108,7 +111,8 @@ display_ends p = display_ends_of p.block.kind p
 
 -- the item around what ended goes on, as far to the right as its text
 abbrev pub outer_goes_on : Act → Page → Seen
-outer_goes_on act p = if is_tagged p.block then two act (acts.Sized sizes.Inner (tag_width p.block)) else left act
+outer_goes_on act p =
+    if is_tagged p.block then two act (acts.Sized sizes.Inner (tag_width p.block)) else left act
 
 abbrev pub taking : Font → Page → Page
 taking font p = record p { call = record p.call { taker = macros.Words font } }
@@ -152,7 +156,8 @@ stands_close b = b.compact || is_column b.kind
 -- space before an item
 abbrev pub before_item : Page → Act
 before_item p =
-    if stands_close p.block || not p.block.begun then space (stands_close p.block) else acts.Request requests.Space
+    if stands_close p.block || not p.block.begun then space (stands_close p.block)
+    else acts.Request requests.Space
 
 abbrev pub item : Page → Met
 item p =

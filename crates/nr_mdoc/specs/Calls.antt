@@ -102,7 +102,8 @@ after_name p = record p { place = record p.place { last = lasts.Name }; lay = re
 -- a synopsis sets the name apart from what it hangs after
 abbrev pub own_name : Page → Met
 own_name p =
-    if heads_line p then met (after_name p) (two (acts.Hanging (hanging p.place.width)) acts.Own) else met p (left acts.Own)
+    if heads_line p then met (after_name p) (two (acts.Hanging (hanging p.place.width)) acts.Own)
+    else met p (left acts.Own)
 
 abbrev pub function_closes : Page → Met
 function_closes p =
@@ -113,7 +114,8 @@ function_closes p =
 -- a link stands behind its name, and behind a colon
 abbrev pub link_closes : Page → Seen
 link_closes p =
-    if p.call.listed then two (acts.Close texts.Colon) (acts.Text texts.Link) else two acts.Fresh (acts.Text texts.Link)
+    if p.call.listed then two (acts.Close texts.Colon) (acts.Text texts.Link)
+    else two acts.Fresh (acts.Text texts.Link)
 
 abbrev pub due_from : Macro → Page → Met
 due_from macros.Flag p = met p (left (acts.Text texts.Dash))
@@ -139,13 +141,15 @@ leaves p = seen_with (takes_no_more (due p).page) (due p)
 -- to the end of the line: what closes it is kept
 abbrev pub encloses : Pair → Page → Met
 encloses pair p =
-    met (if nat_lt (length p.closers) 8 then record p { closers = p.closers ++ closer pair ∷ [] } else p) (left acts.Nothing)
+    met (if nat_lt (length p.closers) 8 then record p { closers = p.closers ++ closer pair ∷ [] } else p)
+    (left acts.Nothing)
 
 abbrev pub deeper : Page → Page
 deeper p = if nat_lt p.place.depth 255 then with_place (record p.place { depth = p.place.depth + 1 }) p else p
 
 abbrev pub shallower : Page → Page
-shallower p = if nat_lt 0 p.place.depth then with_place (record p.place { depth = p.place.depth - 1 }) p else p
+shallower p =
+    if nat_lt 0 p.place.depth then with_place (record p.place { depth = p.place.depth - 1 }) p else p
 
 -- to its partner, on this line or another
 abbrev pub opens : Page → Met
@@ -153,7 +157,8 @@ opens p = met (deeper p) (left acts.Nothing)
 
 abbrev pub closes : Pair → Page → Met
 closes pair p =
-    met (shallower p) (left (if is_nothing pair then acts.Apart else acts.Close (texts.Closing (closer pair))))
+    met (shallower p)
+    (left (if is_nothing pair then acts.Apart else acts.Close (texts.Closing (closer pair))))
 
 -- ---- macros are called
 
@@ -174,7 +179,16 @@ called m p = met p (left acts.Nothing)
 
 abbrev pub calls : Macro → Page → Met
 calls m p =
-    called m (record p { scan = scans.Between; call = record p.call { taker = m; first = false; some = false; listed = false } })
+    called m
+    (record p {
+      scan = scans.Between;
+      call = record p.call {
+        taker = m;
+        first = false;
+        some = false;
+        listed = false;
+      };
+    })
 
 abbrev pub is_flag : Macro → Bool
 is_flag macros.Flag = true

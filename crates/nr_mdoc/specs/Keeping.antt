@@ -25,7 +25,8 @@ abbrev pub word_begins : Scan → Seen → Page → Met
 word_begins scan seen p = turns scan seen (record p { word = []; call = record p.call { width = 0 } })
 
 abbrev pub widens : Page → Page
-widens p = if nat_lt p.call.width 9999 then record p { call = record p.call { width = p.call.width + 1 } } else p
+widens p =
+    if nat_lt p.call.width 9999 then record p { call = record p.call { width = p.call.width + 1 } } else p
 
 abbrev pub keeping : List ℕ → Page → Page
 keeping bytes p = record p { word = p.word ++ bytes }
@@ -34,7 +35,8 @@ keeping bytes p = record p { word = p.word ++ bytes }
 abbrev pub keep : ℕ → Bool → Page → Met
 keep b quoted p =
     if nat_lt (length p.word) 30 then met (widens (keeping (b ∷ []) p)) (taken acts.Nothing) else
-    if is_shown p then turns (scans.Long quoted false) (left acts.Nothing) p else met (widens p) (taken acts.Nothing)
+    if is_shown p then turns (scans.Long quoted false) (left acts.Nothing) p
+    else met (widens p) (taken acts.Nothing)
 
 abbrev pub in_word_of : Bool → Scan
 in_word_of quoted = if quoted then scans.Quoted else scans.Word
@@ -45,7 +47,9 @@ wider b p = if not (b == code "&") then widens p else p
 
 abbrev pub keep_escape : ℕ → Bool → Page → Met
 keep_escape b quoted p =
-    if nat_lt (length p.word) 30 then turns (in_word_of quoted) (taken acts.Nothing) (wider b (keeping (b ∷ []) (keeping (code "\\" ∷ []) p))) else
+    if nat_lt (length p.word) 30
+    then turns (in_word_of quoted) (taken acts.Nothing)
+    (wider b (keeping (b ∷ []) (keeping (code "\\" ∷ []) p))) else
     if is_shown p then turns (scans.Long quoted true) (left acts.Nothing) p else
     turns (in_word_of quoted) (taken acts.Nothing) (wider b p)
 
@@ -77,7 +81,8 @@ is_dash p = has_dashes p.call.taker && ends_in_hyphen p.word
 -- another hyphen that doesn't begin its word is kept as an escape, since no line is broken after that
 abbrev pub keep_byte : ℕ → Bool → Page → Met
 keep_byte b quoted p =
-    if (b == code "-") && not (is_none p.word) && (not (is_looked_up p) || is_dash p) then keep_escape b quoted p else keep b quoted p
+    if (b == code "-") && not (is_none p.word) && (not (is_looked_up p) || is_dash p)
+    then keep_escape b quoted p else keep b quoted p
 
 abbrev pub whole_for : Macro → Page → Bool
 whole_for macros.Parameter p = not (is_outside p.place.parameters)
@@ -103,19 +108,22 @@ in_quotes b p =
 -- two quotes within quotes are one
 abbrev pub closing : ℕ → Page → Met
 closing b p =
-    if b == code "\"" then keep b true (with_scan scans.Quoted p) else turns (scans.Given true) (left acts.Nothing) p
+    if b == code "\"" then keep b true (with_scan scans.Quoted p)
+    else turns (scans.Given true) (left acts.Nothing) p
 
 -- ---- escapes and comments in words
 
 abbrev pub comment : Bool → Page → Met
 comment quoted p =
-    turns (if is_none p.word && not p.call.going then scans.Between else scans.Given quoted) (left acts.Nothing)
+    turns (if is_none p.word && not p.call.going then scans.Between else scans.Given quoted)
+    (left acts.Nothing)
     (record p { call = record p.call { comment = true } })
 
 -- a line goes on with the next: a word that was not begun may begin there
 abbrev pub continued : Bool → Page → Met
 continued quoted p =
-    turns (if not quoted && is_none p.word && not p.call.going then scans.Between else in_word_of quoted) (taken acts.Nothing) p
+    turns (if not quoted && is_none p.word && not p.call.going then scans.Between else in_word_of quoted)
+    (taken acts.Nothing) p
 
 -- a line whose last byte is a backslash goes on with the next
 abbrev pub in_escape : ℕ → Bool → Page → Met

@@ -96,17 +96,21 @@ end_word font p =
 
 abbrev pub put_word : Bool → Font → Page → Laid
 put_word joined font p =
-    behind (gap joined (first_in font p.word) p ++ font_begin font ++ before_hyphen p.word ++ p.word) (end_word font (was_put p))
+    behind (gap joined (first_in font p.word) p ++ font_begin font ++ before_hyphen p.word ++ p.word)
+    (end_word font (was_put p))
 
 abbrev pub put_more : Page → Laid
 put_more p = laid (was_put p) (before_hyphen p.word ++ p.word)
 
 abbrev pub put_last_more : Page → Laid
-put_last_more p = laid (was_put (with_lay (record p.lay { font = Roman }) p)) (before_hyphen p.word ++ p.word ++ font_end p.lay.font)
+put_last_more p =
+    laid (was_put (with_lay (record p.lay { font = Roman }) p)) (before_hyphen p.word ++ p.word
+    ++ font_end p.lay.font)
 
 abbrev pub put_flag : Page → Laid
 put_flag p =
-    behind (gap (is_joined p) (code "\\") p ++ codes "\\fB\\-" ++ before_hyphen p.word ++ p.word) (end_word Bold (was_put p))
+    behind (gap (is_joined p) (code "\\") p ++ codes "\\fB\\-" ++ before_hyphen p.word ++ p.word)
+    (end_word Bold (was_put p))
 
 -- a name in bold
 abbrev pub put_name : List ℕ → Page → Laid
@@ -129,7 +133,8 @@ abbrev pub put_and : Page → Laid
 put_and p = put (is_joined p) (codes "and") p
 
 abbrev pub put_last_held : Bool → Page → Laid
-put_last_held many p = and_hold [] (then_laid (then_laid (comma_if many p) (λ q. put_and q)) (λ q. put_name p.held q))
+put_last_held many p =
+    and_hold [] (then_laid (then_laid (comma_if many p) (λ q. put_and q)) (λ q. put_name p.held q))
 
 abbrev pub without_marks : Page → Page
 without_marks p = record p { marks = [] }
@@ -143,7 +148,8 @@ put_named (Some text) p = put (is_joined p) (before_nul text) p
 
 abbrev pub put_other_library : Page → Laid
 put_other_library p =
-    with_end (codes "\\(rq") (then_laid (put (is_joined p) (codes "library \\(lq") p) (λ q. put_word true Roman q))
+    with_end (codes "\\(rq") (then_laid (put (is_joined p) (codes "library \\(lq") p)
+    (λ q. put_word true Roman q))
 
 abbrev pub put_library : Option (List ℕ) → Page → Laid
 put_library None p = put_other_library p

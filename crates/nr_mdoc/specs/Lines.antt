@@ -105,22 +105,26 @@ silent p = none (with_scan scans.Dropped p)
 -- the title's line goes out once
 abbrev pub system : Page → Met
 system p =
-    if p.place.titled then silent (record p { call = record p.call { line = macros.Silent } }) else met p (left acts.Title)
+    if p.place.titled then silent (record p { call = record p.call { line = macros.Silent } })
+    else met p (left acts.Title)
 
 abbrev pub in_section : Page → Page
 in_section p =
     record p {
-      place = record p.place { section = sections.Other; last = lasts.Heading; split = splits.Never; depth = 0 };
+      place =
+          record p.place { section = sections.Other; last = lasts.Heading; split = splits.Never; depth = 0 };
       lay = record p.lay { kept = false };
     }
 
 abbrev pub section : Page → Met
 section p =
-    met (in_section p) (if p.place.titled then left acts.Section else three acts.Title acts.TitleEnds acts.Section)
+    met (in_section p) (if p.place.titled then left acts.Section
+    else three acts.Title acts.TitleEnds acts.Section)
 
 abbrev pub subsection : Page → Met
 subsection p =
-    met (after lasts.Heading (record p { call = record p.call { taker = macros.Words Roman } })) (left acts.Subsection)
+    met (after lasts.Heading (record p { call = record p.call { taker = macros.Words Roman } }))
+    (left acts.Subsection)
 
 abbrev pub paragraph : Page → Met
 paragraph p = met (after lasts.Heading p) (left acts.Space)
@@ -153,7 +157,8 @@ book p =
 
 abbrev pub book_ends : Page → Met
 book_ends p =
-    if not p.place.reference then none p else met (with_place (record p.place { reference = false }) p) (left acts.Reference)
+    if not p.place.reference then none p else met (with_place (record p.place { reference = false }) p)
+    (left acts.Reference)
 
 abbrev pub part_begins : ℕ → Page → Met
 part_begins letter p = if not p.place.reference then none p else met p (two (acts.Part letter) acts.Join)
@@ -221,7 +226,8 @@ named_line p = begins_or_other (macro_of p.word) (record p { scan = scans.Betwee
 abbrev pub exits : Page → Seen
 exits p =
     if not p.call.listed then two acts.Own (acts.Text texts.Exits) else
-    if is_none p.held then left (acts.Text texts.Exits) else two (acts.LastHeld p.call.many) (acts.Text texts.AllExit)
+    if is_none p.held then left (acts.Text texts.Exits)
+    else two (acts.LastHeld p.call.many) (acts.Text texts.AllExit)
 
 abbrev pub returns : Page → Seen
 returns p =

@@ -12,7 +12,8 @@ use Rattle.nr_mdoc.specs.declared.macros.TheConstants.{NAMES}
 -- what a table has after a name of two bytes
 abbrev pub looked_up : {T : Type 0} → List (ℕ × ℕ × T) → ℕ → ℕ → Option T
 looked_up [] a b = None
-looked_up (entry ∷ entries) a b = if (entry.0 == a) && (entry.1 == b) then Some entry.2 else looked_up entries a b
+looked_up (entry ∷ entries) a b =
+    if (entry.0 == a) && (entry.1 == b) then Some entry.2 else looked_up entries a b
 
 unfoldable pub letters_macro : ℕ → ℕ → Option Macro
 letters_macro a b = looked_up NAMES a b

@@ -124,12 +124,14 @@ splits_in s = splits.Never
 
 abbrev pub enters : Page → Page
 enters p =
-    let s = section_or (section_named p.word) in record p { place = record p.place { section = s; split = splits_in s } }
+    let s = section_or (section_named p.word) in
+    record p { place = record p.place { section = s; split = splits_in s } }
 
 -- the words after the first are printed, and may call macros
 abbrev pub heading_word : Page → Met
 heading_word p =
-    let q = enters p in met (record q { call = record q.call { taker = macros.Words Roman } }) (left (acts.Word Roman))
+    let q = enters p in
+    met (record q { call = record q.call { taker = macros.Words Roman } }) (left (acts.Word Roman))
 
 -- ---- fonts, spacing, utilities and functions
 
@@ -157,7 +159,8 @@ holds p =
 
 abbrev pub utility : Page → Met
 utility p =
-    if is_usual p then none p else if not p.call.listed then met (listed p) (left (acts.Word Bold)) else holds p
+    if is_usual p then none p else if not p.call.listed then met (listed p) (left (acts.Word Bold))
+    else holds p
 
 -- the name of a function has parentheses
 abbrev pub holds_function : Page → Met
@@ -189,7 +192,8 @@ wide p = none (wanting wanteds.Option (record p.block { width = Some (at_most 90
 
 abbrev pub indented : Page → Met
 indented p =
-    none (wanting wanteds.Option (record p.block { offset = at_most 900 p.block.offset + at_most 90 (width_said p) }) p)
+    none (wanting wanteds.Option
+    (record p.block { offset = at_most 900 p.block.offset + at_most 90 (width_said p) }) p)
 
 abbrev pub wants : Wanted → Page → Met
 wants w p = none (record p { call = record p.call { wanted = w } })
@@ -207,7 +211,8 @@ abbrev pub column : Page → Met
 column p =
     if not (is_column p.block.kind) then none p else
     if wants_column p.call.wanted then met p (left (acts.Column (at_most 900 p.call.width + 4))) else
-    met (record p { call = record p.call { wanted = wanteds.Column } }) (two acts.Columns (acts.Column (at_most 900 p.call.width + 4)))
+    met (record p { call = record p.call { wanted = wanteds.Column } })
+    (two acts.Columns (acts.Column (at_most 900 p.call.width + 4)))
 
 abbrev pub block_asked : Option Asks → Page → Met
 block_asked None p = column p

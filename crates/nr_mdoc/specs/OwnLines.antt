@@ -35,14 +35,22 @@ abbrev pub line_end : Page → List ℕ
 line_end p = line_end_at p.lay.at p.lay.tag
 
 abbrev pub fresh : Page → Page
-fresh p = with_lay (record p.lay { at = Start; joined = false; quiet = p.lay.quiet && not p.lay.tag; tag = false }) p
+fresh p =
+    with_lay (record p.lay {
+      at = Start;
+      joined = false;
+      quiet = p.lay.quiet && not p.lay.tag;
+      tag = false;
+    }) p
 
 abbrev pub freshen : Page → Laid
 freshen p = laid (fresh p) (line_end p)
 
 -- A tag is whole: text stands behind it where it is one line, by the place before it, and no wider than this.
 abbrev pub end_tag : ℕ → Page → Laid
-end_tag width p = laid (fresh p) (line_end p ++ codes ".br\n.if \\n(nl-\\n(%tu=1v&(\\n(.nu<=" ++ digits width ++ codes "n) \\{\\\n.sp -1\n\\&\\c\n.\\}\n")
+end_tag width p =
+    laid (fresh p) (line_end p ++ codes ".br\n.if \\n(nl-\\n(%tu=1v&(\\n(.nu<=" ++ digits width
+    ++ codes "n) \\{\\\n.sp -1\n\\&\\c\n.\\}\n")
 
 abbrev pub quiet : Page → Page
 quiet p = with_lay (record p.lay { quiet = true }) p
@@ -56,7 +64,8 @@ quiet_down p = laid (quiet (fresh p)) (line_end p)
 
 -- space as before a paragraph, once
 abbrev pub put_space : Page → Laid
-put_space p = laid (quiet (fresh p)) (line_end p ++ (if not (fresh p).lay.quiet then request_of requests.Space else []))
+put_space p =
+    laid (quiet (fresh p)) (line_end p ++ (if not (fresh p).lay.quiet then request_of requests.Space else []))
 
 abbrev pub put_request : Request → Page → Laid
 put_request request p = laid (fresh p) (line_end p ++ request_of request)
@@ -70,7 +79,8 @@ was_sized sizes.Hanging p = quiet p
 was_sized sized p = loud p
 
 abbrev pub put_sized : Sized → ℕ → Page → Laid
-put_sized sized n p = laid (was_sized sized (fresh p)) (line_end p ++ sized_of sized ++ digits n ++ codes "n\n")
+put_sized sized n p =
+    laid (was_sized sized (fresh p)) (line_end p ++ sized_of sized ++ digits n ++ codes "n\n")
 
 abbrev pub put_hanging : ℕ → Page → Laid
 put_hanging n p = with_end (request_of requests.Distance) (put_sized sizes.Hanging n p)
@@ -81,7 +91,8 @@ put_tag n p = with_end (codes ".nr %t \\n(nl\n") (put_sized sizes.Tag n p)
 
 abbrev pub put_numbered : ℕ → ℕ → Page → Laid
 put_numbered n width p =
-    laid (loud (fresh p)) (line_end p ++ codes ".PD 0\n.IP " ++ digits n ++ codes ". " ++ digits width ++ codes "n\n")
+    laid (loud (fresh p)) (line_end p ++ codes ".PD 0\n.IP " ++ digits n ++ codes ". " ++ digits width
+    ++ codes "n\n")
 
 -- ---- the page's title
 
@@ -96,15 +107,18 @@ abbrev pub put_date : Page → Laid
 put_date p = laid p (p.month ++ codes " " ++ p.day ++ behind_day p.day ++ p.year)
 
 abbrev pub titled : Page → Page
-titled p = record p { lay = record p.lay { at = Middle; joined = true }; place = record p.place { titled = true } }
+titled p =
+    record p { lay = record p.lay { at = Middle; joined = true }; place = record p.place { titled = true } }
 
 abbrev pub put_title : Page → Laid
 put_title p =
     laid (titled (fresh p))
-    (line_end p ++ codes ".TH " ++ p.title ++ codes " " ++ p.chapter ++ codes " \"" ++ (put_date p).bytes ++ codes "\" \"")
+    (line_end p ++ codes ".TH " ++ p.title ++ codes " " ++ p.chapter ++ codes " \"" ++ (put_date p).bytes
+    ++ codes "\" \"")
 
 abbrev pub end_title : Page → Laid
-end_title p = laid (with_lay (record p.lay { at = Start; joined = false; quiet = true }) p) (codes "\"\n.nr IN 5n\n")
+end_title p =
+    laid (with_lay (record p.lay { at = Start; joined = false; quiet = true }) p) (codes "\"\n.nr IN 5n\n")
 
 -- ---- headings, and requests of the page itself
 

@@ -10,7 +10,8 @@ use Rattle.nr_mdoc.specs.Scanning.{front_grows, given_up, passes_to}
 
 -- where a byte leads that goes on no `.Dd`: nowhere, if it ends one
 abbrev pub leads_behind : Front → ℕ → ℕ → Option Scan
-leads_behind fronts.Whole lines b = if ends_word b then None else Some (passes_to (given_up fronts.Whole) lines b)
+leads_behind fronts.Whole lines b =
+    if ends_word b then None else Some (passes_to (given_up fronts.Whole) lines b)
 leads_behind front lines b = Some (passes_to (given_up front) lines b)
 
 abbrev pub leads_with : Option Front → Front → ℕ → ℕ → Option Scan

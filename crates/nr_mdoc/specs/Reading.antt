@@ -118,11 +118,13 @@ first_state = state first_reader []
 -- ---- a byte is met once
 
 unfoldable pub said : Seen → Page → Laid
-said seen p = then_laid (then_laid (lay_out seen.first p) (λ q. lay_out seen.second q)) (λ q. lay_out seen.third q)
+said seen p =
+    then_laid (then_laid (lay_out seen.first p) (λ q. lay_out seen.second q)) (λ q. lay_out seen.third q)
 
 -- a list or a display within sixty-four others is none
 abbrev pub refused : Block → Page → Page
-refused outer p = record p { block = outer; call = record p.call { line = macros.Silent; taker = macros.Silent } }
+refused outer p =
+    record p { block = outer; call = record p.call { line = macros.Silent; taker = macros.Silent } }
 
 abbrev pub block_or : Option Block → Block
 block_or None = no_block
@@ -131,7 +133,8 @@ block_or (Some b) = b
 abbrev pub stacked : Stack → Block → State → State
 stacked Stay outer s = s
 stacked Opens outer s =
-    if nat_lt (length s.blocks) 64 then record s { blocks = s.blocks ++ outer ∷ [] } else record s { page = refused outer s.page }
+    if nat_lt (length s.blocks) 64 then record s { blocks = s.blocks ++ outer ∷ [] }
+    else record s { page = refused outer s.page }
 stacked Closes outer s =
     let n = length s.blocks - 1 in
     record s { page = record s.page { block = block_or (slice_get s.blocks n) }; blocks = take n s.blocks }
@@ -170,7 +173,8 @@ heard_some b s = if b == 0 then told s [] 0 else heard b s
 
 abbrev pub heard_text : ℕ → ℕ → ℕ → ℕ → State → Told
 heard_text a b c d s =
-    then_told (then_told (then_told (heard_some a s) (λ t. heard_some b t)) (λ t. heard_some c t)) (λ t. heard_some d t)
+    then_told (then_told (then_told (heard_some a s) (λ t. heard_some b t)) (λ t. heard_some c t))
+    (λ t. heard_some d t)
 
 abbrev pub heard_star : State → Told
 heard_star s = then_told (heard (code "\\") s) (λ t. heard (code "*") t)

@@ -15,11 +15,13 @@ has_part letter p = list_any (λ (b : ℕ). b == letter) p.parts
 -- all authors but the last, and the last
 abbrev pub author_head : ℕ → List ℕ
 author_head n =
-    if n == 0 then codes ".ds %A \"" else if n == 1 then codes ".ds %a \"" else codes ".as %A \", \\*(%a\n.ds %a \""
+    if n == 0 then codes ".ds %A \"" else if n == 1 then codes ".ds %a \""
+    else codes ".as %A \", \\*(%a\n.ds %a \""
 
 abbrev pub more_authors : Page → Page
 more_authors p =
-    if nat_lt p.place.authors 3 then record p { place = record p.place { authors = p.place.authors + 1 } } else p
+    if nat_lt p.place.authors 3 then record p { place = record p.place { authors = p.place.authors + 1 } }
+    else p
 
 abbrev pub put_author_head : Page → Laid
 put_author_head p = let l = put_head (author_head p.place.authors) p in laid (more_authors l.page) l.bytes
@@ -29,13 +31,15 @@ abbrev pub most_parts : ℕ
 most_parts = 32
 
 abbrev pub with_part : ℕ → Page → Page
-with_part letter p = if not (length p.parts == most_parts) then record p { parts = p.parts ++ letter ∷ [] } else p
+with_part letter p =
+    if not (length p.parts == most_parts) then record p { parts = p.parts ++ letter ∷ [] } else p
 
 -- a further part of the same letter stands after a comma
 abbrev pub put_part_head : ℕ → Page → Laid
 put_part_head letter p =
     if has_part letter p then with_end (letter ∷ codes " \", ") (put_head (codes ".as %") p) else
-    let l = with_end (letter ∷ codes " \"") (put_head (codes ".ds %") p) in laid (with_part letter l.page) l.bytes
+    let l = with_end (letter ∷ codes " \"") (put_head (codes ".ds %") p) in
+    laid (with_part letter l.page) l.bytes
 
 abbrev pub put_part_begin : ℕ → Page → Laid
 put_part_begin letter p = if letter == code "A" then put_author_head p else put_part_head letter p
@@ -58,7 +62,8 @@ put_authors p =
 
 abbrev pub put_comma : Page → Laid
 put_comma p =
-    let l = if p.place.listed then put true (codes ",") p else laid p [] in laid (with_listed true l.page) l.bytes
+    let l = if p.place.listed then put true (codes ",") p else laid p [] in
+    laid (with_listed true l.page) l.bytes
 
 -- the title of an article stands between quotes, where a journal or a book names what it stands in
 abbrev pub is_quoted : Page → Bool

@@ -67,7 +67,8 @@ is_fault turn = false
 -- ---- a run
 
 -- where a run stands that took these bytes, in so many steps: what they come to went out, or is pending
-pub record Stands (first supply : Option Supply) (held new : Option (List ℕ)) (pending : List ℕ) (r : State) (taken steps : ℕ) : Type 0 where
+pub record Stands (first supply : Option Supply) (held new : Option (List ℕ)) (pending : List ℕ) (r : State)
+    (taken steps : ℕ) : Type 0 where
   pub bytes : List ℕ
   pub came : Comes first bytes supply
   pub count : length bytes ≡ taken

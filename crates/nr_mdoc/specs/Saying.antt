@@ -24,15 +24,18 @@ part before word behind = record { before = before; word = word; behind = behind
 
 abbrev pub part_word : Bool → Font → Page → Part
 part_word joined font p =
-    part (gap joined (first_in font p.word) p ++ font_begin font ++ before_hyphen p.word) p.word (end_word font (was_put p)).bytes
+    part (gap joined (first_in font p.word) p ++ font_begin font ++ before_hyphen p.word) p.word
+    (end_word font (was_put p)).bytes
 
 abbrev pub part_flag : Page → Part
 part_flag p =
-    part (gap (is_joined p) (code "\\") p ++ codes "\\fB\\-" ++ before_hyphen p.word) p.word (end_word Bold (was_put p)).bytes
+    part (gap (is_joined p) (code "\\") p ++ codes "\\fB\\-" ++ before_hyphen p.word) p.word
+    (end_word Bold (was_put p)).bytes
 
 abbrev pub part_release : Page → Part
 part_release p =
-    part (codes "-" ++ (gap true (first_in Roman p.word) p ++ font_begin Roman ++ before_hyphen p.word)) p.word (end_word Roman (was_put p)).bytes
+    part (codes "-" ++ (gap true (first_in Roman p.word) p ++ font_begin Roman ++ before_hyphen p.word))
+    p.word (end_word Roman (was_put p)).bytes
 
 -- What an act says: of text lines their bytes, of macros' lines their words and marks. All of another act stands before no word,
 -- also names that are held back, and what tables have for a word.

@@ -27,7 +27,8 @@ is_letter b = (nat_le (code "A") b && nat_le b (code "Z")) || (nat_le (code "a")
 
 -- what a byte is for the one after it
 abbrev pub before_next : ℕ → Before
-before_next b = if is_letter b then befores.Letter else if b == code "\\" then befores.Backslash else befores.Other
+before_next b =
+    if is_letter b then befores.Letter else if b == code "\\" then befores.Backslash else befores.Other
 
 -- ---- text lines
 
@@ -117,7 +118,8 @@ after_ignored dots.Two = scans.Start
 after_ignored d = scans.Ignored dots.Start
 
 abbrev pub ignored : Dots → ℕ → Page → Met
-ignored d b p = turns (if b == code "\n" then after_ignored d else scans.Ignored (dots_then d b)) (taken (acts.Byte b)) p
+ignored d b p =
+    turns (if b == code "\n" then after_ignored d else scans.Ignored (dots_then d b)) (taken (acts.Byte b)) p
 
 -- ---- before a page is known to be one of mdoc: `.Dd` begins one of its first 64 lines that are neither empty nor comments
 

@@ -17,7 +17,8 @@ met p seen = record { page = p; seen = seen }
 
 -- a byte that is left is met again
 abbrev pub three : Act → Act → Act → Seen
-three first second third = record { first = first; second = second; third = third; stack = Stay; takes = false }
+three first second third =
+    record { first = first; second = second; third = third; stack = Stay; takes = false }
 
 abbrev pub two : Act → Act → Seen
 two first second = three first second Nothing

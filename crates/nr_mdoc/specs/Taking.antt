@@ -44,7 +44,8 @@ naming p =
 
 abbrev pub named : Page → Met
 named p =
-    if heads_line (naming p) then met (after_name (naming p)) (two (acts.Hanging (hanging p.call.width)) (acts.Word Bold))
+    if heads_line (naming p)
+    then met (after_name (naming p)) (two (acts.Hanging (hanging p.call.width)) (acts.Word Bold))
     else met (naming p) (left (acts.Word Bold))
 
 abbrev pub is_further : Parameters → Bool
@@ -63,7 +64,8 @@ abbrev pub is_listed : Page → Bool
 is_listed p = p.call.listed || (not p.call.some && is_further p.place.parameters)
 
 abbrev pub behind_first : Page → Page
-behind_first p = if is_first p.place.parameters then with_place (record p.place { parameters = Further }) p else p
+behind_first p =
+    if is_first p.place.parameters then with_place (record p.place { parameters = Further }) p else p
 
 abbrev pub listing : Page → Page
 listing p = with_call (record p.call { listed = true }) p
@@ -79,7 +81,8 @@ abbrev pub reference : Page → Met
 reference p =
     if not p.call.some then met p (left (acts.Word Roman)) else
     met (takes_no_more p)
-    (three (acts.Close (texts.Opening pairs.Parentheses)) (acts.Joined Roman) (acts.Close (texts.Closing (code ")"))))
+    (three (acts.Close (texts.Opening pairs.Parentheses)) (acts.Joined Roman)
+    (acts.Close (texts.Closing (code ")"))))
 
 -- the version of a system stays with its name
 abbrev pub version : Page → Met
@@ -108,7 +111,8 @@ author p =
 
 abbrev pub release : Page → Met
 release p =
-    met (with_call (record p.call { taker = macros.BsdRelease }) p) (two (acts.Word Roman) (acts.Close texts.Bsd))
+    met (with_call (record p.call { taker = macros.BsdRelease }) p)
+    (two (acts.Word Roman) (acts.Close texts.Bsd))
 
 -- what stands behind a word that is only the front of a longer one comes later
 abbrev pub behind_later : Behind → Page → Page
@@ -137,9 +141,11 @@ function_opens p = function_begins (with_place (record p.place { parameters = Fi
 abbrev pub include : Page → Met
 include p =
     if p.lay.front then
-    met (behind_later behinds.Angle (takes_no_more p)) (two (acts.Text (texts.Opening pairs.Angles)) (acts.Joined Italic)) else
+    met (behind_later behinds.Angle (takes_no_more p))
+    (two (acts.Text (texts.Opening pairs.Angles)) (acts.Joined Italic)) else
     met (takes_no_more p)
-    (three (acts.Text (texts.Opening pairs.Angles)) (acts.Joined Italic) (acts.Close (texts.Closing (code ">"))))
+    (three (acts.Text (texts.Opening pairs.Angles)) (acts.Joined Italic)
+    (acts.Close (texts.Closing (code ">"))))
 
 -- A link stands behind its name: a string keeps it meanwhile, where its line may be broken off.
 abbrev pub keeps_link : Page → Bool
@@ -147,7 +153,8 @@ keeps_link p = p.call.first && not (p.lay.tag || p.lay.joined || p.place.referen
 
 abbrev pub link_name : Page → Met
 link_name p =
-    if p.call.listed then met p (left (acts.Word Italic)) else met (listing p) (two acts.Fresh (acts.Word Italic))
+    if p.call.listed then met p (left (acts.Word Italic))
+    else met (listing p) (two acts.Fresh (acts.Word Italic))
 
 abbrev pub link : Page → Met
 link p =

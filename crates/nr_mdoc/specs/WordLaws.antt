@@ -30,7 +30,8 @@ pub record Says (s : State) (line said : List ℕ) : Type 0 where
 -- in any state a text line says its bytes
 abbrev pub TextIsSaid : Type 0
 TextIsSaid =
-    (s : State) (b : ℕ) (bs : List ℕ) → begins_text b ≡ true → each is_text bs ≡ true → names_no_string (b ∷ bs) ≡ true →
+    (s : State) (b : ℕ) (bs : List ℕ) → begins_text b ≡ true → each is_text bs ≡ true
+    → names_no_string (b ∷ bs) ≡ true →
     Says (reads_at scans.Start s) (b ∷ bs ++ codes "\n") (b ∷ bs)
 
 -- In any state where no marks are held back, a line of a macro says those of its words that call no macro and are no options,
@@ -38,8 +39,10 @@ TextIsSaid =
 abbrev pub WordsAreSaid : Type 0
 WordsAreSaid =
     (s : State) (m : Macro) (name : List ℕ) (words : List Word) → s.page.marks ≡ [] →
-    macro_of name ≡ Some m → heads_words m ≡ true → each is_plain name ≡ true → are_written (way_of m) words ≡ true →
-    (wholes : List Bool) × Says (reads_at scans.Start s) (line_of name words) (printed_as (way_of m) wholes words)
+    macro_of name ≡ Some m → heads_words m ≡ true → each is_plain name ≡ true
+    → are_written (way_of m) words ≡ true →
+    (wholes : List Bool) × Says (reads_at scans.Start s) (line_of name words)
+    (printed_as (way_of m) wholes words)
 
 -- and a heading, whose first word calls nothing, and keeps its hyphens
 abbrev pub HeadingsAreSaid : Type 0
@@ -60,20 +63,24 @@ begins_block line = false
 
 abbrev pub has_room : State → List Line → Bool
 has_room s [] = true
-has_room s (l ∷ ls) = (not (begins_block l) || nat_lt (length s.blocks) 64) && has_room (state_behind s (written_line l)) ls
+has_room s (l ∷ ls) =
+    (not (begins_block l) || nat_lt (length s.blocks) 64) && has_room (state_behind s (written_line l)) ls
 
 -- in any state where no marks are held back, lines that follow one another say what each of them says, in order
 abbrev pub LinesAreSaid : Type 0
 LinesAreSaid =
-    (s : State) (lines : List Line) → s.page.marks ≡ [] → are_lines lines ≡ true → has_room (reads_at scans.Start s) lines ≡ true →
-    (wholes : List (List Bool)) × Says (reads_at scans.Start s) (written_lines lines) (printed_lines wholes lines)
+    (s : State) (lines : List Line) → s.page.marks ≡ [] → are_lines lines ≡ true
+    → has_room (reads_at scans.Start s) lines ≡ true →
+    (wholes : List (List Bool)) × Says (reads_at scans.Start s) (written_lines lines)
+    (printed_lines wholes lines)
 
 -- ---- enclosures of a line
 
 -- what closes one joins what is before, and what comes next joins it where `.Ns` ended the line
 abbrev pub close : ℕ → Page → Laid
 close c p =
-    let l = lay_out (acts.Close (texts.Closing c)) p in if ends_joined p then then_laid l (λ q. lay_out acts.Join q) else l
+    let l = lay_out (acts.Close (texts.Closing c)) p in
+    if ends_joined p then then_laid l (λ q. lay_out acts.Join q) else l
 
 -- what closes several, one after another
 abbrev pub close_all : List ℕ → Page → Laid
@@ -90,4 +97,5 @@ LastIsClosedFirst =
     (n b : ℕ) (s : State) → s.page.scan ≡ scans.Ends → is_due s.page ≡ false →
     let cs = s.page.closers in
     let l = close_all (reverse cs) s.page in
-    heard_in (n + length cs) b s ≡ behind l.bytes (length cs) (heard_in n b (record s { page = with_closers [] l.page }))
+    heard_in (n + length cs) b s ≡ behind l.bytes (length cs)
+    (heard_in n b (record s { page = with_closers [] l.page }))

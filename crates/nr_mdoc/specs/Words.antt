@@ -31,7 +31,12 @@ closing_mark quoted (a ∷ b ∷ rest) = None
 -- ---- closing marks are held back, as they may be the last of the line
 
 abbrev pub holding : ℕ → Page → Page
-holding b p = record p { scan = scans.Between; marks = p.marks ++ b ∷ []; call = record p.call { some = true; listed = false } }
+holding b p =
+    record p {
+      scan = scans.Between;
+      marks = p.marks ++ b ∷ [];
+      call = record p.call { some = true; listed = false };
+    }
 
 abbrev pub is_prefix : Macro → Bool
 is_prefix macros.Prefix = true
@@ -80,7 +85,8 @@ read_or_called (Some m) quoted p = call m p
 
 unfoldable pub unmarked : Bool → Page → Met
 unmarked quoted p =
-    if not (is_none p.marks) then met p (left acts.Marks) else read_or_called (called_by quoted p.word) quoted p
+    if not (is_none p.marks) then met p (left acts.Marks)
+    else read_or_called (called_by quoted p.word) quoted p
 
 abbrev pub marked_or : Option ℕ → Bool → Page → Met
 marked_or None quoted p = unmarked quoted p
@@ -98,7 +104,8 @@ behind_long behinds.Joint = two acts.LastMore acts.Join
 
 abbrev pub ends_long : Page → Met
 ends_long p =
-    met (record p { scan = scans.Between; call = record p.call { going = false; behind = behinds.Nothing } }) (behind_long p.call.behind)
+    met (record p { scan = scans.Between; call = record p.call { going = false; behind = behinds.Nothing } })
+    (behind_long p.call.behind)
 
 abbrev pub given : Bool → Page → Met
 given quoted p =

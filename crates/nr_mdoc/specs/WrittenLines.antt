@@ -150,7 +150,8 @@ none_or test (Some m) = test m
 abbrev pub is_word : Way → List Letter → Bool
 is_word way [] = false
 is_word way (l ∷ ls) =
-    are_letters (l ∷ ls) && nat_le (length (kept way (l ∷ ls))) 30 && none_or prints_words (called_by false (kept way (l ∷ ls)))
+    are_letters (l ∷ ls) && nat_le (length (kept way (l ∷ ls))) 30
+    && none_or prints_words (called_by false (kept way (l ∷ ls)))
 
 -- words behind one that calls a macro are taken as that takes them
 abbrev pub way_behind : Way → Option Macro → Way
@@ -183,7 +184,8 @@ kept_quotable way whole behind b =
 
 abbrev pub quoted_in : Way → Bool → Bool → List ℕ → List ℕ
 quoted_in way whole behind [] = []
-quoted_in way whole behind (b ∷ bs) = kept_quotable way whole behind b ++ quoted_in way whole (b == code "-") bs
+quoted_in way whole behind (b ∷ bs) =
+    kept_quotable way whole behind b ++ quoted_in way whole (b == code "-") bs
 
 -- its first byte
 abbrev pub kept_first : Bool → ℕ → List ℕ
@@ -225,7 +227,8 @@ heading_of first words = codes ".Sh " ++ first ++ behind_each words ++ codes "\n
 abbrev pub printed_as : Way → List Bool → List Word → List ℕ
 printed_as way wholes [] = []
 printed_as way wholes (Bare letters ∷ ws) =
-    unless_called way (called_by false (kept way letters)) (kept way letters) ++ printed_as (way_then way (Bare letters)) wholes ws
+    unless_called way (called_by false (kept way letters)) (kept way letters)
+    ++ printed_as (way_then way (Bare letters)) wholes ws
 printed_as way [] (Quoted bs ∷ ws) = said_of way (kept_quoted way false bs) ++ printed_as way [] ws
 printed_as way (whole ∷ wholes) (Quoted bs ∷ ws) =
     said_of way (kept_quoted way whole bs) ++ printed_as way wholes ws
@@ -294,10 +297,12 @@ abbrev pub is_line : Line → Bool
 is_line EmptyLine = true
 is_line (CommentLine bs) = each is_text bs && names_no_string bs
 is_line (TextLine b bs) = begins_text b && each is_text bs && names_no_string (b ∷ bs)
-is_line (HeadingLine b bs words) = each is_plain (b ∷ bs) && nat_le (length (b ∷ bs)) 30 && are_written Usual words
+is_line (HeadingLine b bs words) =
+    each is_plain (b ∷ bs) && nat_le (length (b ∷ bs)) 30 && are_written Usual words
 is_line (MacroLine name words) =
     heads_some (macro_of name) && each is_plain name && are_written (way_named (macro_of name)) words
-is_line (AskingLine name rest) = asks_some (macro_of name) && each is_plain name && begins_blank rest && are_asking rest
+is_line (AskingLine name rest) =
+    asks_some (macro_of name) && each is_plain name && begins_blank rest && are_asking rest
 
 abbrev pub are_lines : List Line → Bool
 are_lines [] = true

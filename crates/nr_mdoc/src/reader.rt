@@ -83,8 +83,10 @@ impl Reader {
     ) -> bool
         requires room { length out.old.items + 768 ≤ out.old.room }
         requires blocks { 64 ≤ blocks.old.room }
-        ensures state { state self.new blocks.new.items ≡ (specs.once byte (state self.old blocks.old.items)).state }
-        ensures items { out.new.items ≡ out.old.items ++ (specs.once byte (state self.old blocks.old.items)).bytes }
+        ensures state { state self.new blocks.new.items
+            ≡ (specs.once byte (state self.old blocks.old.items)).state }
+        ensures items { out.new.items ≡ out.old.items
+            ++ (specs.once byte (state self.old blocks.old.items)).bytes }
         ensures few { length out.new.items ≤ length out.old.items + 768 }
         ensures room { out.new.room ≡ out.old.room }
         ensures blocks { blocks.new.room ≡ blocks.old.room }
@@ -100,7 +102,8 @@ impl Reader {
     /// What becomes of the open blocks.
     fn stack(&mut self, stack: Stack, outer: Block, blocks: &mut SliceVec<'_, Block>)
         requires { 64 ≤ blocks.old.room }
-        ensures state { state self.new blocks.new.items ≡ specs.stacked stack outer (state self.old blocks.old.items) }
+        ensures state { state self.new blocks.new.items ≡ specs.stacked stack outer
+            (state self.old blocks.old.items) }
         ensures blocks { blocks.new.room ≡ blocks.old.room }
     {
         match stack {
@@ -131,8 +134,10 @@ impl Reader {
     ) -> u64
         requires room { length out.old.items + 768 * most ≤ out.old.room }
         requires blocks { 64 ≤ blocks.old.room }
-        ensures state { state self.new blocks.new.items ≡ (specs.heard_in most byte (state self.old blocks.old.items)).state }
-        ensures items { out.new.items ≡ out.old.items ++ (specs.heard_in most byte (state self.old blocks.old.items)).bytes }
+        ensures state { state self.new blocks.new.items
+            ≡ (specs.heard_in most byte (state self.old blocks.old.items)).state }
+        ensures items { out.new.items ≡ out.old.items
+            ++ (specs.heard_in most byte (state self.old blocks.old.items)).bytes }
         ensures few { length out.new.items ≤ length out.old.items + 768 * most }
         ensures room { out.new.room ≡ out.old.room }
         ensures blocks { blocks.new.room ≡ blocks.old.room }
@@ -158,8 +163,10 @@ impl Reader {
     ) -> u64
         requires room { length out.old.items + 12288 ≤ out.old.room }
         requires blocks { 64 ≤ blocks.old.room }
-        ensures state { state self.new blocks.new.items ≡ (specs.heard byte (state self.old blocks.old.items)).state }
-        ensures items { out.new.items ≡ out.old.items ++ (specs.heard byte (state self.old blocks.old.items)).bytes }
+        ensures state { state self.new blocks.new.items
+            ≡ (specs.heard byte (state self.old blocks.old.items)).state }
+        ensures items { out.new.items ≡ out.old.items
+            ++ (specs.heard byte (state self.old blocks.old.items)).bytes }
         ensures few { length out.new.items ≤ length out.old.items + 12288 }
         ensures room { out.new.room ≡ out.old.room }
         ensures blocks { blocks.new.room ≡ blocks.old.room }
@@ -178,7 +185,8 @@ impl Reader {
     ) -> u64
         requires room { length out.old.items + 12544 ≤ out.old.room }
         requires blocks { 64 ≤ blocks.old.room }
-        ensures items { out.new.items ≡ out.old.items ++ (specs.line_finished (state self.old blocks.old.items)).bytes }
+        ensures items { out.new.items ≡ out.old.items
+            ++ (specs.line_finished (state self.old blocks.old.items)).bytes }
         ensures few { length out.new.items ≤ length out.old.items + 12544 }
         ensures room { out.new.room ≡ out.old.room }
         ensures steps { result ≡ (specs.line_finished (state self.old blocks.old.items)).steps }

@@ -60,7 +60,8 @@ fn put_pending<W: Sink>(out: &mut SliceVec<'_, u8>, output: &mut W) -> Result<()
 /// Room is made for what one turn says: where there is none, all that is pending goes out.
 fn make_room<W: Sink>(out: &mut SliceVec<'_, u8>, output: &mut W) -> Result<(), Fault>
     requires { 73984 ≤ out.old.room }
-    ensures ok { OnOk result (specs.Flushes (W.held output.old) (W.held output.new) out.old.items out.new.items) }
+    ensures ok { OnOk result (specs.Flushes (W.held output.old) (W.held output.new) out.old.items
+        out.new.items) }
     ensures err { specs.FrontAtErr result (W.held output.old) (W.held output.new) out.old.items }
     ensures fits { OnOk result (length out.new.items + 73984 ≤ out.new.room) }
     ensures failures { W.failures output.new ≡ put_counted (W.failures output.old) result }
@@ -81,7 +82,8 @@ fn make_turn<R: Source>(
 ) -> Turn
     requires room { length out.old.items + 73984 ≤ out.old.room }
     requires blocks { 64 ≤ blocks.old.room }
-    ensures turns { specs.Turns (R.supply input.old) (R.supply input.new) (state reader.old blocks.old.items) (state reader.new blocks.new.items) out.old.items out.new.items result }
+    ensures turns { specs.Turns (R.supply input.old) (R.supply input.new) (state reader.old blocks.old.items)
+        (state reader.new blocks.new.items) out.old.items out.new.items result }
     ensures measured { specs.IsMeasured (length out.old.items) (length out.new.items) result }
     ensures failures { R.failures input.new ≡ counted_if (specs.is_fault result) (R.failures input.old) }
     ensures room { out.new.room ≡ out.old.room }
@@ -103,7 +105,8 @@ fn make_turn<R: Source>(
 /// The rest goes out, and the run has ended so.
 fn ended<W: Sink>(out: &mut SliceVec<'_, u8>, output: &mut W, outcome: Outcome) -> Outcome
     ensures ends { specs.EndsAs outcome result (W.held output.old) (W.held output.new) out.old.items }
-    ensures failures { specs.is_write_fault outcome ≡ false → W.failures output.new ≡ put_counted_if (specs.is_write_fault result) (W.failures output.old) }
+    ensures failures { specs.is_write_fault outcome ≡ false
+        → W.failures output.new ≡ put_counted_if (specs.is_write_fault result) (W.failures output.old) }
 {
     match put_pending(out, output) {
         Ok(()) => outcome,
@@ -125,9 +128,11 @@ fn run<R: Source, W: Sink>(
     requires blocks { 64 ≤ blocks.old.room }
     requires room { 73984 ≤ out.old.room }
     requires empty { out.old.items ≡ [] }
-    ensures ran { specs.Ran (R.supply input.old) (R.supply input.new) (W.held output.old) (W.held output.new) steps.new result }
+    ensures ran { specs.Ran (R.supply input.old) (R.supply input.new) (W.held output.old) (W.held output.new)
+        steps.new result }
     ensures read_faults { specs.TellsReads result (R.failures input.old) (R.failures input.new) }
-    ensures write_faults { W.failures output.new ≡ put_counted_if (specs.is_write_fault result) (W.failures output.old) }
+    ensures write_faults { W.failures output.new ≡ put_counted_if (specs.is_write_fault result)
+        (W.failures output.old) }
 {
     let mut taken = 0;
     *steps = 0;
@@ -169,10 +174,12 @@ pub fn convert<R: Source, W: Sink>(
 ) -> Outcome
     requires blocks { 64 ≤ length blocks.old }
     requires buffer { 73984 ≤ length buffer.old }
-    ensures ran { specs.Ran (R.supply input.old) (R.supply input.new) (W.held output.old) (W.held output.new) steps.new result }
+    ensures ran { specs.Ran (R.supply input.old) (R.supply input.new) (W.held output.old) (W.held output.new)
+        steps.new result }
     // A read fault is told only where the source failed once, and then always, but where the output fails too.
     ensures read_faults { specs.TellsReads result (R.failures input.old) (R.failures input.new) }
-    ensures write_faults { W.failures output.new ≡ put_counted_if (specs.is_write_fault result) (W.failures output.old) }
+    ensures write_faults { W.failures output.new ≡ put_counted_if (specs.is_write_fault result)
+        (W.failures output.old) }
 {
     let mut reader = Reader::new();
     let mut open = SliceVec::over(blocks);

@@ -125,8 +125,10 @@ impl Reader {
     ) -> u64
         requires room { length out.old.items + 12288 ≤ out.old.room }
         requires blocks { 64 ≤ blocks.old.room }
-        ensures state { state self.new blocks.new.items ≡ (specs.heard_some byte (state self.old blocks.old.items)).state }
-        ensures items { out.new.items ≡ out.old.items ++ (specs.heard_some byte (state self.old blocks.old.items)).bytes }
+        ensures state { state self.new blocks.new.items
+            ≡ (specs.heard_some byte (state self.old blocks.old.items)).state }
+        ensures items { out.new.items ≡ out.old.items
+            ++ (specs.heard_some byte (state self.old blocks.old.items)).bytes }
         ensures steps { result ≡ (specs.heard_some byte (state self.old blocks.old.items)).steps }
         ensures few { length out.new.items ≤ length out.old.items + 12288 }
         ensures quick { result ≤ 16 }
@@ -148,9 +150,15 @@ impl Reader {
     ) -> u64
         requires room { length out.old.items + 49152 ≤ out.old.room }
         requires blocks { 64 ≤ blocks.old.room }
-        ensures state { state self.new blocks.new.items ≡ (specs.heard_text (slice_index text 0) (slice_index text 1) (slice_index text 2) (slice_index text 3) (state self.old blocks.old.items)).state }
-        ensures items { out.new.items ≡ out.old.items ++ (specs.heard_text (slice_index text 0) (slice_index text 1) (slice_index text 2) (slice_index text 3) (state self.old blocks.old.items)).bytes }
-        ensures steps { result ≡ (specs.heard_text (slice_index text 0) (slice_index text 1) (slice_index text 2) (slice_index text 3) (state self.old blocks.old.items)).steps }
+        ensures state { state self.new blocks.new.items
+            ≡ (specs.heard_text (slice_index text 0) (slice_index text 1) (slice_index text 2)
+            (slice_index text 3) (state self.old blocks.old.items)).state }
+        ensures items { out.new.items ≡ out.old.items
+            ++ (specs.heard_text (slice_index text 0) (slice_index text 1) (slice_index text 2)
+            (slice_index text 3) (state self.old blocks.old.items)).bytes }
+        ensures steps { result
+            ≡ (specs.heard_text (slice_index text 0) (slice_index text 1) (slice_index text 2)
+            (slice_index text 3) (state self.old blocks.old.items)).steps }
         ensures few { length out.new.items ≤ length out.old.items + 49152 }
         ensures quick { result ≤ 64 }
         ensures room { out.new.room ≡ out.old.room }
@@ -166,8 +174,10 @@ impl Reader {
     fn hear_star(&mut self, blocks: &mut SliceVec<'_, Block>, out: &mut SliceVec<'_, u8>) -> u64
         requires room { length out.old.items + 24576 ≤ out.old.room }
         requires blocks { 64 ≤ blocks.old.room }
-        ensures state { state self.new blocks.new.items ≡ (specs.heard_star (state self.old blocks.old.items)).state }
-        ensures items { out.new.items ≡ out.old.items ++ (specs.heard_star (state self.old blocks.old.items)).bytes }
+        ensures state { state self.new blocks.new.items
+            ≡ (specs.heard_star (state self.old blocks.old.items)).state }
+        ensures items { out.new.items ≡ out.old.items
+            ++ (specs.heard_star (state self.old blocks.old.items)).bytes }
         ensures steps { result ≡ (specs.heard_star (state self.old blocks.old.items)).steps }
         ensures few { length out.new.items ≤ length out.old.items + 24576 }
         ensures quick { result ≤ 32 }
@@ -186,9 +196,12 @@ impl Reader {
     ) -> u64
         requires room { length out.old.items + 36864 ≤ out.old.room }
         requires blocks { 64 ≤ blocks.old.room }
-        ensures state { state self.new blocks.new.items ≡ (specs.heard_then specs.heard_star byte (state self.old blocks.old.items)).state }
-        ensures items { out.new.items ≡ out.old.items ++ (specs.heard_then specs.heard_star byte (state self.old blocks.old.items)).bytes }
-        ensures steps { result ≡ (specs.heard_then specs.heard_star byte (state self.old blocks.old.items)).steps }
+        ensures state { state self.new blocks.new.items
+            ≡ (specs.heard_then specs.heard_star byte (state self.old blocks.old.items)).state }
+        ensures items { out.new.items ≡ out.old.items
+            ++ (specs.heard_then specs.heard_star byte (state self.old blocks.old.items)).bytes }
+        ensures steps { result
+            ≡ (specs.heard_then specs.heard_star byte (state self.old blocks.old.items)).steps }
         ensures few { length out.new.items ≤ length out.old.items + 36864 }
         ensures quick { result ≤ 48 }
         ensures room { out.new.room ≡ out.old.room }
@@ -207,9 +220,15 @@ impl Reader {
     ) -> u64
         requires room { length out.old.items + 49152 ≤ out.old.room }
         requires blocks { 64 ≤ blocks.old.room }
-        ensures state { state self.new blocks.new.items ≡ (specs.heard_then (specs.heard_then specs.heard_star byte) first (state self.old blocks.old.items)).state }
-        ensures items { out.new.items ≡ out.old.items ++ (specs.heard_then (specs.heard_then specs.heard_star byte) first (state self.old blocks.old.items)).bytes }
-        ensures steps { result ≡ (specs.heard_then (specs.heard_then specs.heard_star byte) first (state self.old blocks.old.items)).steps }
+        ensures state { state self.new blocks.new.items
+            ≡ (specs.heard_then (specs.heard_then specs.heard_star byte) first
+            (state self.old blocks.old.items)).state }
+        ensures items { out.new.items ≡ out.old.items
+            ++ (specs.heard_then (specs.heard_then specs.heard_star byte) first
+            (state self.old blocks.old.items)).bytes }
+        ensures steps { result
+            ≡ (specs.heard_then (specs.heard_then specs.heard_star byte) first
+            (state self.old blocks.old.items)).steps }
         ensures few { length out.new.items ≤ length out.old.items + 49152 }
         ensures quick { result ≤ 64 }
         ensures room { out.new.room ≡ out.old.room }
@@ -228,9 +247,15 @@ impl Reader {
     ) -> u64
         requires room { length out.old.items + 61440 ≤ out.old.room }
         requires blocks { 64 ≤ blocks.old.room }
-        ensures state { state self.new blocks.new.items ≡ (specs.heard_then (specs.heard_then (specs.heard_then specs.heard_star 91) first) second (state self.old blocks.old.items)).state }
-        ensures items { out.new.items ≡ out.old.items ++ (specs.heard_then (specs.heard_then (specs.heard_then specs.heard_star 91) first) second (state self.old blocks.old.items)).bytes }
-        ensures steps { result ≡ (specs.heard_then (specs.heard_then (specs.heard_then specs.heard_star 91) first) second (state self.old blocks.old.items)).steps }
+        ensures state { state self.new blocks.new.items
+            ≡ (specs.heard_then (specs.heard_then (specs.heard_then specs.heard_star 91) first) second
+            (state self.old blocks.old.items)).state }
+        ensures items { out.new.items ≡ out.old.items
+            ++ (specs.heard_then (specs.heard_then (specs.heard_then specs.heard_star 91) first) second
+            (state self.old blocks.old.items)).bytes }
+        ensures steps { result
+            ≡ (specs.heard_then (specs.heard_then (specs.heard_then specs.heard_star 91) first) second
+            (state self.old blocks.old.items)).steps }
         ensures few { length out.new.items ≤ length out.old.items + 61440 }
         ensures quick { result ≤ 80 }
         ensures room { out.new.room ≡ out.old.room }
@@ -248,8 +273,10 @@ impl Reader {
     ) -> u64
         requires room { length out.old.items + 61440 ≤ out.old.room }
         requires blocks { 64 ≤ blocks.old.room }
-        ensures state { state self.new blocks.new.items ≡ (specs.heard_raw pending (state self.old blocks.old.items)).state }
-        ensures items { out.new.items ≡ out.old.items ++ (specs.heard_raw pending (state self.old blocks.old.items)).bytes }
+        ensures state { state self.new blocks.new.items
+            ≡ (specs.heard_raw pending (state self.old blocks.old.items)).state }
+        ensures items { out.new.items ≡ out.old.items
+            ++ (specs.heard_raw pending (state self.old blocks.old.items)).bytes }
         ensures steps { result ≡ (specs.heard_raw pending (state self.old blocks.old.items)).steps }
         ensures few { length out.new.items ≤ length out.old.items + 61440 }
         ensures quick { result ≤ 80 }
@@ -278,8 +305,10 @@ impl Reader {
     ) -> u64
         requires room { length out.old.items + 73728 ≤ out.old.room }
         requires blocks { 64 ≤ blocks.old.room }
-        ensures state { state self.new blocks.new.items ≡ (specs.read byte (state self.old blocks.old.items)).state }
-        ensures items { out.new.items ≡ out.old.items ++ (specs.read byte (state self.old blocks.old.items)).bytes }
+        ensures state { state self.new blocks.new.items
+            ≡ (specs.read byte (state self.old blocks.old.items)).state }
+        ensures items { out.new.items ≡ out.old.items
+            ++ (specs.read byte (state self.old blocks.old.items)).bytes }
         ensures steps { result ≡ (specs.read byte (state self.old blocks.old.items)).steps }
         ensures few { length out.new.items ≤ length out.old.items + 73728 }
         ensures quick { result ≤ 96 }
@@ -307,7 +336,8 @@ impl Reader {
     fn finish_page(&mut self, blocks: &mut SliceVec<'_, Block>, out: &mut SliceVec<'_, u8>) -> u64
         requires room { length out.old.items + 12544 ≤ out.old.room }
         requires blocks { 64 ≤ blocks.old.room }
-        ensures items { out.new.items ≡ out.old.items ++ (specs.page_finished (state self.old blocks.old.items)).bytes }
+        ensures items { out.new.items ≡ out.old.items
+            ++ (specs.page_finished (state self.old blocks.old.items)).bytes }
         ensures steps { result ≡ (specs.page_finished (state self.old blocks.old.items)).steps }
         ensures few { length out.new.items ≤ length out.old.items + 12544 }
         ensures quick { result ≤ 16 }
@@ -337,7 +367,8 @@ impl Reader {
     ) -> u64
         requires room { length out.old.items + 73984 ≤ out.old.room }
         requires blocks { 64 ≤ blocks.old.room }
-        ensures items { out.new.items ≡ out.old.items ++ (specs.finished (state self.old blocks.old.items)).bytes }
+        ensures items { out.new.items ≡ out.old.items
+            ++ (specs.finished (state self.old blocks.old.items)).bytes }
         ensures steps { result ≡ (specs.finished (state self.old blocks.old.items)).steps }
         ensures few { length out.new.items ≤ length out.old.items + 73984 }
         ensures quick { result ≤ 96 }
