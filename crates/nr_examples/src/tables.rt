@@ -1,7 +1,7 @@
 // Rows of tables: an input goes through tbl, and what that makes of it through the formatter.
 
 use super::formatted;
-use nr_engine::{Buffered, Desk, Outcome};
+use nr_engine::{Buffered, Desk, Outcome, Sink, Source};
 use nr_tables::{Complaint, Report, Rooms, convert};
 use nr_units::fakes::{Script, Slate};
 use nr_units::slice_vec::SliceVec;
@@ -102,39 +102,100 @@ fn gives<R: Files + AllocGlobal + Print>(
     if limits.formats > USUAL || limits.row > USUAL {
         anyhow::bail!("limits out of range: {name}");
     }
+    let (pages, file) = opened(rt, name)?;
+    let (mut rooms, mut printed) = rooms_of(rt.alloc(), limits, pages.len())?;
+    let mut input = Buffered::over(file, buffer);
+    let ran = run_row(desk, turner, &mut rooms, &mut input, &mut printed, &pages);
+    is_good(rt, name, end, ran, &turner.complaints)
+}
+
+/// The pages of a row, and its input.
+fn opened<R: Files + AllocGlobal>(rt: &R, name: &str) -> anyhow::Result<(Vec<u8>, R::File)> {
     let pages = fs::read(rt, format!(in rt.alloc(); "{name}.out")?)?;
     let file = fs::open(rt, format!(in rt.alloc(); "{name}.roff")?)?;
-    let mut rooms = Rooms::new(rt.alloc(), limits.formats, limits.row, limits.line)?;
-    let mut printed = vec![in rt.alloc(); 0u8; pages.len()]?;
-    let turned = Slate::over(&mut turner.turned);
-    let mut complaints = SliceVec::over(&mut turner.complaints);
-    let (report, turned) = convert(
-        &mut Buffered::over(file, buffer),
-        turned,
-        &mut rooms,
-        &mut complaints,
-    );
-    let mut output = Slate::over(&mut printed);
-    let outcome = formatted(desk, &mut Script::new(turned.bytes()), &mut output);
-    let ended = end_of(rt.alloc(), report, complaints.as_slice(), outcome)?;
-    let good = ended.as_str() == end && output.bytes() == pages.as_slice();
+    Ok((pages, file))
+}
+
+/// The rooms of tbl under these limits, and room for so many bytes of pages.
+fn rooms_of(alloc: Global, limits: Bounds, len: usize) -> Result<(Rooms, Vec<u8>), AllocError> {
+    let rooms = Rooms::new(alloc, limits.formats, limits.row, limits.line)?;
+    let printed = vec![in alloc; 0u8; len]?;
+    Ok((rooms, printed))
+}
+
+/// Whether a row came to its pages and its end. Prints its name and how it ended where it did not.
+fn is_good<R: AllocGlobal + Print>(
+    rt: &R,
+    name: &str,
+    end: &str,
+    ran: Ran,
+    complaints: &[Complaint],
+) -> anyhow::Result<bool> {
+    let ended = end_of(rt.alloc(), ran, complaints)?;
+    let good = ended.as_str() == end && ran.is_same;
     if !good {
         println!(rt; "other pages or another end: {name}, {ended}")?;
     }
     Ok(good)
 }
 
-/// How a run ended, as the list says it: `Done`, or its complaints, as `BadFormat on line 3, OpenTable on line 4`.
-fn end_of(
-    alloc: Global,
+/// What became of a row.
+#[derive(Clone, Copy)]
+struct Ran {
     report: Report,
-    complaints: &[Complaint],
+    /// How many complaints there were.
+    complaints: usize,
     outcome: Outcome,
-) -> anyhow::Result<String> {
+    /// The pages are those of the row.
+    is_same: bool,
+}
+
+/// Turns the tables of an input, and formats what that makes of it.
+fn run_row<R: Source>(
+    desk: &mut Desk,
+    turner: &mut Turner,
+    rooms: &mut Rooms,
+    input: &mut R,
+    printed: &mut [u8],
+    pages: &[u8],
+) -> Ran {
+    let room = Slate::over(&mut turner.turned);
+    let mut complaints = SliceVec::over(&mut turner.complaints);
+    let (report, turned) = turned(input, room, rooms, &mut complaints);
+    let mut output = Slate::over(printed);
+    let outcome = formatted(desk, &mut Script::new(turned.bytes()), &mut output);
+    Ran {
+        report,
+        complaints: complaints.len(),
+        outcome,
+        is_same: output.bytes() == pages,
+    }
+}
+
+/// What tbl makes of an input, and what it reports.
+fn turned<R: Source, W: Sink>(
+    input: &mut R,
+    output: W,
+    rooms: &mut Rooms,
+    complaints: &mut SliceVec<'_, Complaint>,
+) -> (Report, W) {
+    convert(input, output, rooms, complaints)
+}
+
+/// How a run ended, as the list says it: `Done`, or its complaints, as `BadFormat on line 3, OpenTable on line 4`.
+fn end_of(alloc: Global, ran: Ran, complaints: &[Complaint]) -> anyhow::Result<String> {
+    let Ran {
+        report,
+        outcome,
+        ..
+    } = ran;
     if report.missed || report.outcome != nr_tables::Outcome::Done || outcome != Outcome::Done {
         return Ok(format!(in alloc; "{report:?}, {outcome:?}")?);
     }
     let mut ended = String::new(alloc);
+    let Some(complaints) = complaints.get(..ran.complaints) else {
+        return Ok(ended);
+    };
     for complaint in complaints {
         if !ended.is_empty() {
             ended.push_str(", ")?;
