@@ -1,8 +1,8 @@
 //! A formatter for terminals: marked-up text into pages, under four limits.
 //!
-//! It stands on nr_formatter, nr_page, nr_options and the crates below them. To read: `outcome`, `lengths`,
-//! `desk`; `engine`; its moves in `pages`, `lines`, `breaks`, `titles`, `rooms`, `diverted`, `spacing`,
-//! `ejecting`; many moves at once in `reading`, `plain_text`, `fonts`, `level_text`, `rereading`,
+//! It stands on nr_formatter, nr_page, nr_options and the crates below them. To read: `outcome`, `lengths`;
+//! `engine`, `desk`; its moves in `pages`, `lines`, `breaks`, `titles`, `rooms`, `diverted`, `spacing`,
+//! `ejecting`; many moves at once in `reading`, `fonts`, `plain_text`, `level_text`, `rereading`,
 //! `empty_lines`, `obeying`; `run`, with `format`.
 #![tactic(auto)]
 

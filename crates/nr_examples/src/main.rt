@@ -3,7 +3,7 @@
 //! their ends; data/rows_of_tables lists inputs that go through tbl first, with their limits and what that reports. The
 //! program runs them. Those with faults of their own are tests of nr_fault_tests.
 //!
-//! It stands on nr_units, nr_engine and nr_tables. To read: this file, `limits`, `tables`.
+//! It stands on nr_units, nr_characters, nr_engine and nr_tables. To read: this file, `limits`, `tables`.
 #![tactic(auto)]
 
 use nr_engine::{Buffered, Desk, Limits, Options, Outcome, Sink, Source, format};

@@ -1,6 +1,7 @@
 // Rows of tables: an input goes through tbl, and what that makes of it through the formatter.
 
 use super::formatted;
+use nr_characters::Table;
 use nr_engine::{Buffered, Desk, Outcome, Sink, Source};
 use nr_tables::{Complaint, Report, Rooms, convert};
 use nr_units::fakes::{Script, Slate};
@@ -59,26 +60,32 @@ pub(crate) fn passes<R: Files + AllocGlobal + Print>(
     gives(rt, desk, turner, name, limits, end, &mut buffer[..1])
 }
 
-/// The limits on formats and on a row, and the length of the line.
+/// The limits on formats and on a row, the length of the line, and the table of characters.
 #[derive(Clone, Copy)]
 struct Bounds {
     formats: usize,
     row: usize,
     line: usize,
+    characters: Option<Table>,
 }
 
-/// The limits that the words set, as in `formats=4 row=64`.
+/// What the words set, as in `formats=4 row=64` or `characters=english`.
 fn limits_of(words: &str) -> anyhow::Result<Bounds> {
     let mut limits = Bounds {
         formats: USUAL,
         row: USUAL,
         line: USUAL_LINE,
+        characters: None,
     };
     for word in words.split_whitespace() {
-        let (name, digits) = word
+        let (name, value) = word
             .split_once('=')
             .ok_or(anyhow::anyhow!("no limit: {word}"))?;
-        let number = digits.parse::<usize>()?;
+        if name == "characters" {
+            limits.characters = Table::named(value);
+            continue;
+        }
+        let number = value.parse::<usize>()?;
         match name {
             "formats" => limits.formats = number,
             "row" => limits.row = number,
@@ -118,7 +125,13 @@ fn opened<R: Files + AllocGlobal>(rt: &R, name: &str) -> anyhow::Result<(Vec<u8>
 
 /// The rooms of tbl under these limits, and room for so many bytes of pages.
 fn rooms_of(alloc: Global, limits: Bounds, len: usize) -> Result<(Rooms, Vec<u8>), AllocError> {
-    let rooms = Rooms::new(alloc, limits.formats, limits.row, limits.line)?;
+    let rooms = Rooms::new(
+        alloc,
+        limits.formats,
+        limits.row,
+        limits.line,
+        limits.characters,
+    )?;
     let printed = vec![in alloc; 0u8; len]?;
     Ok((rooms, printed))
 }

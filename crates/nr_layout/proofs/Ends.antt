@@ -1,18 +1,18 @@
 -- Where the lines of a table in a box end.
 use Rattle.std.proofs.Common.{◌≡◌, ℕ, ◌-◌, ◌≤◌, Bool, true, false, ◌==◌, ◌&&◌, ◌||◌, not, nat_le, nat_lt, List, [], ◌∷◌, ◌++◌, Option, None, Some, refl, ap, arith, ◌∙◌, if◌then◌else◌}
 use Rattle.std.proofs.lemmas.Bool.Decides.{nat_tests}
-use Prim.Native.Char.{code}
 use Rattle.nr_layout.specs.declared.pen.Pen.{Pen}
 use Rattle.nr_layout.specs.declared.places.Mark.{Mark}
 use Rattle.nr_layout.specs.declared.places.Mark.TheVariants as marks
 use Rattle.nr_layout.specs.declared.places.Place.{Place}
 use Rattle.nr_layout.specs.declared.table.Table.{Table}
-use Rattle.nr_layout.specs.Drawing.{bar, bar_byte, crossing_byte, go, row_cells, rule_cells, rule_end, some_bars, was_covered, was_ruled}
+use Rattle.nr_layout.specs.Drawing.{bar, crossing_byte, dash, go, row_cells, rule_cells, rule_end, some_bars, was_covered, was_ruled}
 use Rattle.nr_layout.specs.Ends.{EdgesEndTogether, RowsEndTogether, RulesEndTogether, end_of}
 use Rattle.nr_layout.specs.Frames.{bar_place, right_edge, table_end}
 use Rattle.nr_layout.specs.Held.{column, columns}
-use Rattle.nr_layout.specs.Pens.{Stroke, Start, after_all, bars, dash, dashed_to, first, furthest, on_from, released, steps_from, to}
+use Rattle.nr_layout.specs.Pens.{Stroke, Start, after_all, bars, dashed_to, first, furthest, on_from, released, steps_from, to}
 use Rattle.nr_layout.specs.Places.{edge, is_same_mark, on, steps_between}
+use Rattle.nr_layout.specs.Signs.{joint}
 use Rattle.nr_layout.proofs.Tapes.{after_all-append}
 
 -- ---- the pen goes to a place that is no less far
@@ -34,12 +34,12 @@ dashed_to-at : (o : Option ℕ) (n : ℕ) (place : Place) (p : Pen) → o ≡ So
 dashed_to-at None n place p e = cc
 dashed_to-at (Some m) n place p e = refl
 
-go-at : (ruled : Bool) (place : Place) (p : Pen) → (at : Place) → p.at ≡ Some at → is_same_mark at.mark place.mark ≡ true → at.cells ≤ place.cells
-    → (after_all (go ruled place) p).at ≡ Some place
-go-at true place p at e alike within =
+go-at : (t : Table) (ruled : Bool) (place : Place) (p : Pen) → (at : Place) → p.at ≡ Some at → is_same_mark at.mark place.mark ≡ true → at.cells ≤ place.cells
+    → (after_all (go t ruled place) p).at ≡ Some place
+go-at t true place p at e alike within =
     dashed_to-at (steps_from p.at place) (place.cells - at.cells) place (released p) (ap (λ (a : Option Place). steps_from a place) e ∙ known at place alike)
     ∙ ap (λ (a : Option Place). furthest a place) e ∙ further at place within
-go-at false place p at e alike within =
+go-at t false place p at e alike within =
     to-at (steps_from p.at place) (place.cells - at.cells) place p (ap (λ (a : Option Place). steps_from a place) e ∙ known at place alike)
     ∙ ap (λ (a : Option Place). furthest a place) e ∙ further at place within
 
@@ -59,11 +59,11 @@ le_itself n = grind (arith, nat_tests)
 end-place : (t : Table) → bar_place t (columns t) ≡ table_end t
 end-place t = end_choice (columns t == 0) (nat_le (columns t) (columns t)) edge (on (right_edge t) (column t (columns t - 1)).right) (column t (columns t - 1)).bar (le_itself (columns t))
 
-last-at : (ruled : Bool) (b n : ℕ) (place : Place) (p : Pen) (at : Place) → p.at ≡ Some at → is_same_mark at.mark place.mark ≡ true → at.cells ≤ place.cells
-    → (after_all (go ruled place ++ bars b n) p).at ≡ Some (on n place)
-last-at ruled b n place p at e alike within =
-    ap (λ (q : Pen). q.at) (after_all-append (go ruled place) (bars b n) p)
-    ∙ bars-at b n (after_all (go ruled place) p) place (go-at ruled place p at e alike within)
+last-at : (t : Table) (ruled : Bool) (b n : ℕ) (place : Place) (p : Pen) (at : Place) → p.at ≡ Some at → is_same_mark at.mark place.mark ≡ true → at.cells ≤ place.cells
+    → (after_all (go t ruled place ++ bars b n) p).at ≡ Some (on n place)
+last-at t ruled b n place p at e alike within =
+    ap (λ (q : Pen). q.at) (after_all-append (go t ruled place) (bars b n) p)
+    ∙ bars-at b n (after_all (go t ruled place) p) place (go-at t ruled place p at e alike within)
 
 -- ---- the law
 
@@ -71,30 +71,32 @@ pub rows_end_together : RowsEndTogether
 rows_end_together t r line one w =
     let was : Bool = was_ruled t r (columns t) in
     let cells : List Stroke = row_cells (columns t) t r line in
-    let is : bar t r (columns t) was false ≡ go was (table_end t) ++ bars (bar_byte (was || false)) 1 =
+    let is : bar t r (columns t) was false ≡ go t was (table_end t) ++ bars (joint t.signs true true was false) 1 =
     ap (λ (n : ℕ). if n == 0 then [] else some_bars t (columns t) was false n) one
-    ∙ ap (λ (place : Place). go was place ++ bars (bar_byte (was || false)) 1) (end-place t) in
+    ∙ ap (λ (place : Place). go t was place ++ bars (joint t.signs true true was false) 1) (end-place t) in
     ap (λ (ss : List Stroke). end_of (cells ++ ss)) is
-    ∙ ap (λ (q : Pen). q.at) (after_all-append (Start ∷ cells) (go was (table_end t) ++ bars (bar_byte (was || false)) 1) first)
-    ∙ last-at was (bar_byte (was || false)) 1 (table_end t) (after_all (Start ∷ cells) first) w.place w.ends w.alike w.within
+    ∙ ap (λ (q : Pen). q.at) (after_all-append (Start ∷ cells) (go t was (table_end t) ++ bars (joint t.signs true true was false) 1) first)
+    ∙ last-at t was (joint t.signs true true was false) 1 (table_end t) (after_all (Start ∷ cells) first) w.place w.ends w.alike w.within
 
 pub rules_end_together : RulesEndTogether
 rules_end_together t above below line one w =
     let ruled : Bool = not (was_covered t above below (columns t) && nat_lt 0 (columns t)) in
     let cells : List Stroke = rule_cells (columns t) t above below line in
-    let b : ℕ = crossing_byte (was_covered t above below (columns t)) in
+    let b : ℕ = crossing_byte t above below (columns t) in
     let is : rule_end t above below ≡ bars b 1 = ap (λ (n : ℕ). if n == 0 then [] else bars b 1) one in
-    ap (λ (ss : List Stroke). end_of (cells ++ go ruled (table_end t) ++ ss)) is
-    ∙ ap (λ (q : Pen). q.at) (after_all-append (Start ∷ cells ++ go ruled (table_end t)) (bars b 1) first)
-    ∙ bars-at b 1 (after_all (Start ∷ cells ++ go ruled (table_end t)) first) (table_end t)
-    (ap (λ (q : Pen). q.at) (after_all-append (Start ∷ cells) (go ruled (table_end t)) first)
-    ∙ go-at ruled (table_end t) (after_all (Start ∷ cells) first) w.place w.ends w.alike w.within)
+    ap (λ (ss : List Stroke). end_of (cells ++ go t ruled (table_end t) ++ ss)) is
+    ∙ ap (λ (q : Pen). q.at) (after_all-append (Start ∷ cells ++ go t ruled (table_end t)) (bars b 1) first)
+    ∙ bars-at b 1 (after_all (Start ∷ cells ++ go t ruled (table_end t)) first) (table_end t)
+    (ap (λ (q : Pen). q.at) (after_all-append (Start ∷ cells) (go t ruled (table_end t)) first)
+    ∙ go-at t ruled (table_end t) (after_all (Start ∷ cells) first) w.place w.ends w.alike w.within)
 
 edge_alike : (mark : Mark) → mark ≡ marks.Edge → is_same_mark marks.Edge mark ≡ true
 edge_alike mark e = ap (is_same_mark marks.Edge) e
 
 pub edges_end_together : EdgesEndTogether
-edges_end_together t mark within =
-    ap (λ (q : Pen). q.at) (after_all-append (Start ∷ bars (code "+") 1 ++ dash (table_end t)) (bars (code "+") 1) first)
-    ∙ bars-at (code "+") 1 (after_all (Start ∷ bars (code "+") 1 ++ dash (table_end t)) first) (table_end t)
-    (go-at true (table_end t) (after_all (Start ∷ bars (code "+") 1) first) (on 1 edge) refl (edge_alike (table_end t).mark mark) within)
+edges_end_together t above mark within =
+    let left : ℕ = joint t.signs (not above) above false true in
+    let right : ℕ = joint t.signs (not above) above true false in
+    ap (λ (q : Pen). q.at) (after_all-append (Start ∷ bars left 1 ++ dash t (table_end t)) (bars right 1) first)
+    ∙ bars-at right 1 (after_all (Start ∷ bars left 1 ++ dash t (table_end t)) first) (table_end t)
+    (go-at t true (table_end t) (after_all (Start ∷ bars left 1) first) (on 1 edge) refl (edge_alike (table_end t).mark mark) within)

@@ -37,7 +37,7 @@ kind-texts t l (steps.Before r ruled) = refl
 kind-texts t l (steps.Beyond r) = beyond-texts t r
 kind-texts t l (steps.Request s) = refl
 kind-texts t l (steps.Bars r count) = bars_lines-texts count t r l
-kind-texts t l steps.Edge = edges_have_none t false
+kind-texts t l (steps.Edge above) = edges_have_none t above false
 kind-texts t l (steps.Rule above below) = rules_have_their_texts t above below (Some l) false
 kind-texts t l (steps.Row r) = rows_have_their_texts t r (Some l) false
 

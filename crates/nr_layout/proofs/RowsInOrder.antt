@@ -167,8 +167,8 @@ begun_met : (t : Table) → 4 ≤ t.steps.room → Met t 1 [] (walk_begun (witho
 begun_met t room =
     let u : Table = without_steps t in
     let first : Met t 0 [] u = record { few = omega arith; room = refl; are = refl; items = refl; own = λ r. refl } in
-    if_met t 1 [] (is_double t.looks.frame && not t.begun) (stepped steps.Edge 1 (walking_on u)) (walking_on u)
-    (other_met t 0 [] steps.Edge 1 (walking_on u) refl (omega (arith, room)) first) (more_lines 1 (omega arith) first)
+    if_met t 1 [] (is_double t.looks.frame && not t.begun) (stepped (steps.Edge true) 1 (walking_on u)) (walking_on u)
+    (other_met t 0 [] (steps.Edge true) 1 (walking_on u) refl (omega (arith, room)) first) (more_lines 1 (omega arith) first)
 
 ended_met : (t : Table) (ends : Bool) (lines : ℕ) (rows : List ℕ) (w : Walking) → lines + 3 ≤ t.steps.room → Met t lines rows w.table
     → Met t (suc (suc (suc lines))) rows (walk_ended ends w).table
@@ -181,8 +181,8 @@ ended_met t ends lines rows w h m =
     let m2 : Met t (suc (suc lines)) rows box.table =
     if_met t (suc (suc lines)) rows (ends && (rule.walk.ruled || is_boxed rule.table)) (stepped (steps.Rule rule.walk.last None) 1 rule) rule
     (other_met t (suc lines) rows (steps.Rule rule.walk.last None) 1 rule refl (omega (arith, h)) m1) (more_lines (suc (suc lines)) (omega arith) m1) in
-    if_met t (suc (suc (suc lines))) rows (ends && is_double box.table.looks.frame) (stepped steps.Edge 1 box) box
-    (other_met t (suc (suc lines)) rows steps.Edge 1 box refl (omega (arith, h)) m2) (more_lines (suc (suc (suc lines))) (omega arith) m2)
+    if_met t (suc (suc (suc lines))) rows (ends && is_double box.table.looks.frame) (stepped (steps.Edge false) 1 box) box
+    (other_met t (suc (suc lines)) rows (steps.Edge false) 1 box refl (omega (arith, h)) m2) (more_lines (suc (suc (suc lines))) (omega arith) m2)
 
 pub rows_go_out : RowsGoOut
 rows_go_out t ends room =

@@ -8,11 +8,12 @@ use Rattle.nr_layout.specs.declared.table.Cell.{Cell}
 use Rattle.nr_layout.specs.declared.table.Form.{Form}
 use Rattle.nr_layout.specs.declared.table.Form.TheVariants as forms
 use Rattle.nr_layout.specs.declared.table.Table.{Table}
-use Rattle.nr_layout.specs.Drawing.{bar, bar_byte, bars_cell, bars_cells, bars_strokes, begin_at, begin_of, content, crossing, crossing_begin, crossing_byte, edge_strokes, falling, field_in, field_rule, field_strokes, field_text, first_of, go, goes_through, going_on, is_ruled, row_cell, row_cells, row_strokes, rule_begin, rule_cell, rule_cells, rule_end, rule_strokes, shown_width, some_bars, some_crossing, stands_on, text_strokes, was_covered, was_ruled, whole}
+use Rattle.nr_layout.specs.Drawing.{bar, bars_cell, bars_cells, bars_strokes, begin_at, begin_of, content, crossing, crossing_begin, crossing_byte, dash, edge_strokes, falling, field_in, field_rule, field_strokes, field_text, first_of, go, going_on, is_ruled, row_cell, row_cells, row_strokes, rule_begin, rule_cell, rule_cells, rule_end, rule_strokes, shown_width, some_bars, some_crossing, stands_on, text_strokes, was_covered, was_ruled, whole}
 use Rattle.nr_layout.specs.Frames.{bar_place, bars_of, is_covered, meeting, table_end}
 use Rattle.nr_layout.specs.Held.{cell, column, columns, has_text, is_rule, is_text}
 use Rattle.nr_layout.specs.Pens as pens
 use Rattle.nr_layout.specs.Pens.{Stroke, Pass, Text, To, after, bytes, bytes_of}
+use Rattle.nr_layout.specs.Signs.{joint}
 use Rattle.nr_layout.specs.Texts.{BarsHaveTheirTexts, EdgesHaveNone, RowsHaveTheirTexts, RulesHaveTheirTexts, StandIn, TextsGoOut, bars_texts, each, falling_text, row_texts, rule_texts, text_at, text_if, text_in, text_over, texts}
 
 -- ---- strokes after others
@@ -36,28 +37,28 @@ whole-texts ss told = before_none (pens.Start ∷ ss) (pens.end told) refl
 
 -- ---- frames have none
 
-go-none : (ruled : Bool) (place : Place) → texts (go ruled place) ≡ []
-go-none true place = refl
-go-none false place = refl
+go-none : (t : Table) (ruled : Bool) (place : Place) → texts (go t ruled place) ≡ []
+go-none t true place = refl
+go-none t false place = refl
 
 some_bars-none : (t : Table) (c : ℕ) (was now : Bool) (n : ℕ) → texts (some_bars t c was now n) ≡ []
-some_bars-none t c was now n = after_none (go was (bar_place t c)) (pens.bars (bar_byte (was || now)) n) (go-none was (bar_place t c))
+some_bars-none t c was now n = after_none (go t was (bar_place t c)) (pens.bars (joint t.signs true true was now) n) (go-none t was (bar_place t c))
 
 bar-none : (t : Table) (r c : ℕ) (was now : Bool) → texts (bar t r c was now) ≡ []
 bar-none t r c was now = either_none (bars_of t r c == 0) [] (some_bars t c was now (bars_of t r c)) refl (some_bars-none t c was now (bars_of t r c))
 
 field_rule-none : (t : Table) (r c : ℕ) → texts (field_rule t r c) ≡ []
 field_rule-none t r c =
-    after_none (rule_begin t r c) (pens.dash (column t (cell t r c).last).right)
+    after_none (rule_begin t r c) (dash t (column t (cell t r c).last).right)
     (either_none (not (was_ruled t r c) && (bars_of t r c == 0)) (To (column t c).left ∷ []) [] refl refl)
 
 crossing_begin-none : (t : Table) (above below : Option ℕ) (c : ℕ) → texts (crossing_begin t above below c) ≡ []
 crossing_begin-none t above below c =
-    either_none (c == 0) [] (go (not (was_covered t above below c)) (bar_place t c)) refl (go-none (not (was_covered t above below c)) (bar_place t c))
+    either_none (c == 0) [] (go t (not (was_covered t above below c)) (bar_place t c)) refl (go-none t (not (was_covered t above below c)) (bar_place t c))
 
 some_crossing-none : (t : Table) (above below : Option ℕ) (c n : ℕ) → texts (some_crossing t above below c n) ≡ []
 some_crossing-none t above below c n =
-    after_none (crossing_begin t above below c) (pens.bars (crossing_byte (goes_through t above below c)) n) (crossing_begin-none t above below c)
+    after_none (crossing_begin t above below c) (pens.bars (crossing_byte t above below c) n) (crossing_begin-none t above below c)
 
 crossing-none : (t : Table) (above below : Option ℕ) (c : ℕ) → texts (crossing t above below c) ≡ []
 crossing-none t above below c =
@@ -66,7 +67,7 @@ crossing-none t above below c =
 
 rule_end-none : (t : Table) (above below : Option ℕ) → texts (rule_end t above below) ≡ []
 rule_end-none t above below =
-    either_none (meeting t above below (columns t) == 0) [] (pens.bars (crossing_byte (was_covered t above below (columns t))) 1) refl refl
+    either_none (meeting t above below (columns t) == 0) [] (pens.bars (crossing_byte t above below (columns t)) 1) refl refl
 
 -- ---- a field has its own
 
@@ -191,7 +192,7 @@ over-text t above (Some r) line c = covered-text (is_covered t above (Some r) c)
 
 rule_cell-text : (t : Table) (above below line : Option ℕ) (c : ℕ) → texts (rule_cell t above below c line) ≡ text_over t above below line c
 rule_cell-text t above below line c =
-    before_none (crossing t above below c ++ going_on t above below c line) (go (not (is_covered t above below c)) (column t c).right) (go-none (not (is_covered t above below c)) (column t c).right)
+    before_none (crossing t above below c ++ going_on t above below c line) (go t (not (is_covered t above below c)) (column t c).right) (go-none t (not (is_covered t above below c)) (column t c).right)
     ∙ after_none (crossing t above below c) (going_on t above below c line) (crossing-none t above below c) ∙ over-text t above below line c
 
 rule_cells-texts : (n : ℕ) (t : Table) (above below line : Option ℕ) → texts (rule_cells n t above below line) ≡ each n (text_over t above below line)
@@ -202,9 +203,9 @@ rule_cells-texts (suc c) t above below line =
 
 pub rule-texts : (t : Table) (above below line : Option ℕ) → texts (rule_strokes t above below line) ≡ rule_texts t above below line
 rule-texts t above below line =
-    let last : List Stroke = go (not (was_covered t above below (columns t) && nat_lt 0 (columns t))) (table_end t) in
+    let last : List Stroke = go t (not (was_covered t above below (columns t) && nat_lt 0 (columns t))) (table_end t) in
     before_none (rule_cells (columns t) t above below line ++ last) (rule_end t above below) (rule_end-none t above below)
-    ∙ before_none (rule_cells (columns t) t above below line) last (go-none (not (was_covered t above below (columns t) && nat_lt 0 (columns t))) (table_end t))
+    ∙ before_none (rule_cells (columns t) t above below line) last (go-none t (not (was_covered t above below (columns t) && nat_lt 0 (columns t))) (table_end t))
     ∙ rule_cells-texts (columns t) t above below line
 
 -- ---- texts in bytes
@@ -238,7 +239,7 @@ pub rules_have_their_texts : RulesHaveTheirTexts
 rules_have_their_texts t above below line told = whole-texts (rule_strokes t above below line) told ∙ rule-texts t above below line
 
 pub edges_have_none : EdgesHaveNone
-edges_have_none t told = whole-texts (edge_strokes t) told
+edges_have_none t above told = whole-texts (edge_strokes t above) told
 
 pub texts_go_out : TextsGoOut
 texts_go_out = texts-stand

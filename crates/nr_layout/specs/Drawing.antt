@@ -12,11 +12,12 @@ use Rattle.nr_layout.specs.declared.table.Form.TheVariants as forms
 use Rattle.nr_layout.specs.declared.table.Span.{Span}
 use Rattle.nr_layout.specs.declared.table.Table.{Table}
 use Rattle.nr_layout.specs.Extent.{cells_of}
-use Rattle.nr_layout.specs.Frames.{bar_place, bars_of, is_covered, meeting, table_end}
-use Rattle.nr_layout.specs.Held.{cell, column, columns, has_text, is_block, is_rule, is_text, text_of}
+use Rattle.nr_layout.specs.Frames.{bar_place, bars_of, begins_with_rule, framing_at, is_covered, meeting, table_end}
+use Rattle.nr_layout.specs.Held.{cell, column, columns, has_text, is_block, is_double, is_rule, is_text, text_of}
 use Rattle.nr_layout.specs.Pens as pens
 use Rattle.nr_layout.specs.Pens.{Stroke, Start, To, Leave, Bytes, Text, Pass}
 use Rattle.nr_layout.specs.Places.{on, place_text, steps_between, sum}
+use Rattle.nr_layout.specs.Signs.{joint}
 
 abbrev pub or_nothing : Option ℕ → ℕ
 or_nothing None = 0
@@ -182,9 +183,13 @@ text_strokes t f =
     begin_at (begin_of t f) t f ++ pens.begin (first_of t f) ++ Text (field_text t f)
     ∷ Pass (shown_width f) ∷ []
 
+-- a rule up to a place
+abbrev pub dash : Table → Place → List Stroke
+dash t place = pens.dash t.signs.rule place
+
 abbrev pub field_in : Form → Table → Cell → List Stroke
 field_in forms.Text t f = if has_text f.field then text_strokes t f else []
-field_in forms.Inner t f = To (column t f.first).left ∷ pens.dash (column t f.last).right
+field_in forms.Inner t f = To (column t f.first).left ∷ dash t (column t f.last).right
 field_in (forms.Repeat b) t f = To (column t f.first).left ∷ pens.fill b (column t f.last).right
 field_in form t f = []
 
@@ -204,14 +209,11 @@ falling t r c line =
 -- ---- a row
 
 -- a rule goes on up to there, or the pen goes
-abbrev pub go : Bool → Place → List Stroke
-go ruled place = if ruled then pens.dash place else To place ∷ []
-
-abbrev pub bar_byte : Bool → ℕ
-bar_byte meets = if meets then code "+" else code "|"
+abbrev pub go : Table → Bool → Place → List Stroke
+go t ruled place = if ruled then dash t place else To place ∷ []
 
 abbrev pub some_bars : Table → ℕ → Bool → Bool → ℕ → List Stroke
-some_bars t c was now n = go was (bar_place t c) ++ pens.bars (bar_byte (was || now)) n
+some_bars t c was now n = go t was (bar_place t c) ++ pens.bars (joint t.signs true true was now) n
 
 -- bars before a column, after a rule of a field or before one
 abbrev pub bar : Table → ℕ → ℕ → Bool → Bool → List Stroke
@@ -229,7 +231,7 @@ abbrev pub rule_begin : Table → ℕ → ℕ → List Stroke
 rule_begin t r c = if not (was_ruled t r c) && (bars_of t r c == 0) then To (column t c).left ∷ [] else []
 
 abbrev pub field_rule : Table → ℕ → ℕ → List Stroke
-field_rule t r c = rule_begin t r c ++ pens.dash (column t (cell t r c).last).right
+field_rule t r c = rule_begin t r c ++ dash t (column t (cell t r c).last).right
 
 abbrev pub content : Table → ℕ → ℕ → Option ℕ → List Stroke
 content t r c line =
@@ -262,24 +264,45 @@ bars_cells (suc c) t r line = bars_cells c t r line ++ bars_cell t r c line
 abbrev pub bars_strokes : Table → ℕ → Option ℕ → List Stroke
 bars_strokes t r line = bars_cells (columns t) t r line ++ bar t r (columns t) false false
 
--- ---- a rule between two rows: + where bars meet it, | where they go on on both sides of it; it has a gap where a field goes on
+-- ---- a rule between two rows: bars meet it, and go up from it and down if the rows have them; it has a gap where
+-- a field goes on
 
 -- before a column; the edge is as a column over which one goes on
 abbrev pub was_covered : Table → Option ℕ → Option ℕ → ℕ → Bool
 was_covered t above below c = (c == 0) || is_covered t above below (c - 1)
 
 abbrev pub crossing_begin : Table → Option ℕ → Option ℕ → ℕ → List Stroke
-crossing_begin t above below c = if c == 0 then [] else go (not (was_covered t above below c)) (bar_place t c)
+crossing_begin t above below c =
+    if c == 0 then [] else go t (not (was_covered t above below c)) (bar_place t c)
 
-abbrev pub crossing_byte : Bool → ℕ
-crossing_byte on_both_sides = if on_both_sides then code "|" else code "+"
+-- a line stands above a rule that is below no row: the outer one of a double box, or another rule that is the
+-- first in a box
+abbrev pub is_second : Table → Option ℕ → Bool
+is_second t below = is_double t.looks.frame || (is_given below && begins_with_rule t)
 
-abbrev pub goes_through : Table → Option ℕ → Option ℕ → ℕ → Bool
-goes_through t above below c = was_covered t above below c && is_covered t above below c
+-- what is above a part of a table went out before
+abbrev pub goes_up_first : Table → Option ℕ → ℕ → Bool
+goes_up_first t below c = t.begun || (nat_lt 0 (framing_at t c) && is_second t below)
+
+abbrev pub goes_up : Table → Option ℕ → Option ℕ → ℕ → Bool
+goes_up t None below c = goes_up_first t below c
+goes_up t (Some r) below c = nat_lt 0 (bars_of t r c)
+
+abbrev pub goes_down : Table → Option ℕ → Option ℕ → ℕ → Bool
+goes_down t above None c = nat_lt 0 (framing_at t c) && (is_double t.looks.frame || not (is_given above))
+goes_down t above (Some r) c = nat_lt 0 (bars_of t r c)
+
+abbrev pub goes_right : Table → Option ℕ → Option ℕ → ℕ → Bool
+goes_right t above below c = nat_lt c (columns t) && not (is_covered t above below c)
+
+abbrev pub crossing_byte : Table → Option ℕ → Option ℕ → ℕ → ℕ
+crossing_byte t above below c =
+    joint t.signs (goes_up t above below c) (goes_down t above below c)
+    (not (was_covered t above below c)) (goes_right t above below c)
 
 abbrev pub some_crossing : Table → Option ℕ → Option ℕ → ℕ → ℕ → List Stroke
 some_crossing t above below c n =
-    crossing_begin t above below c ++ pens.bars (crossing_byte (goes_through t above below c)) n
+    crossing_begin t above below c ++ pens.bars (crossing_byte t above below c) n
 
 abbrev pub crossing : Table → Option ℕ → Option ℕ → ℕ → List Stroke
 crossing t above below c =
@@ -291,8 +314,8 @@ going_on t above (Some r) c line = if is_covered t above (Some r) c then falling
 
 abbrev pub rule_cell : Table → Option ℕ → Option ℕ → ℕ → Option ℕ → List Stroke
 rule_cell t above below c line =
-    crossing t above below c ++ going_on t above below c line ++ go (not (is_covered t above below c))
-    (column t c).right
+    crossing t above below c ++ going_on t above below c line
+    ++ go t (not (is_covered t above below c)) (column t c).right
 
 abbrev pub rule_cells : ℕ → Table → Option ℕ → Option ℕ → Option ℕ → List Stroke
 rule_cells zero t above below line = []
@@ -301,17 +324,19 @@ rule_cells (suc c) t above below line = rule_cells c t above below line ++ rule_
 abbrev pub rule_end : Table → Option ℕ → Option ℕ → List Stroke
 rule_end t above below =
     if meeting t above below (columns t) == 0 then []
-    else pens.bars (crossing_byte (was_covered t above below (columns t))) 1
+    else pens.bars (crossing_byte t above below (columns t)) 1
 
 abbrev pub rule_strokes : Table → Option ℕ → Option ℕ → Option ℕ → List Stroke
 rule_strokes t above below line =
     rule_cells (columns t) t above below line
-    ++ go (not (was_covered t above below (columns t) && nat_lt 0 (columns t))) (table_end t)
+    ++ go t (not (was_covered t above below (columns t) && nat_lt 0 (columns t))) (table_end t)
     ++ rule_end t above below
 
--- the outer rule of a double box meets no bars
-abbrev pub edge_strokes : Table → List Stroke
-edge_strokes t = pens.bars (code "+") 1 ++ pens.dash (table_end t) ++ pens.bars (code "+") 1
+-- the outer rule of a double box, above it or below, meets no bars
+abbrev pub edge_strokes : Table → Bool → List Stroke
+edge_strokes t above =
+    pens.bars (joint t.signs (not above) above false true) 1 ++ dash t (table_end t)
+    ++ pens.bars (joint t.signs (not above) above true false) 1
 
 -- ---- lines
 

@@ -39,5 +39,6 @@ RulesEndTogether =
     → end_of (rule_strokes t above below line) ≡ Some (width_end t)
 
 abbrev pub EdgesEndTogether : Type 0
-EdgesEndTogether = (t : Table) → (table_end t).mark ≡ marks.Edge → 1 ≤ (table_end t).cells
-    → end_of (edge_strokes t) ≡ Some (width_end t)
+EdgesEndTogether =
+    (t : Table) (above : Bool) → (table_end t).mark ≡ marks.Edge → 1 ≤ (table_end t).cells
+    → end_of (edge_strokes t above) ≡ Some (width_end t)

@@ -6,7 +6,7 @@ use Rattle.nr_layout.specs.declared.extent.Reading.{Reading}
 use Rattle.nr_layout.specs.declared.extent.Reading.TheVariants as readings
 use Rattle.nr_layout.specs.declared.extent.Extent.{Extent}
 
--- a blank, a sign or a byte beyond ASCII
+-- a blank, a sign or a byte from 128 on, for which a table of characters has one of one cell; the formatter prints a cell for each
 abbrev pub is_printing : ℕ → Bool
 is_printing b = (nat_le 32 b && nat_le b 126) || nat_le 128 b
 

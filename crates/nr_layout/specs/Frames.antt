@@ -3,8 +3,10 @@
 use Rattle.std.specs.Prelude.{ℕ, zero, suc, ◌+◌, ◌-◌, Bool, true, false, ◌==◌, ◌&&◌, ◌||◌, not, nat_le, nat_lt, Option, None, Some, max, min, length, if◌then◌else◌}
 use Prim.Native.Char.{code}
 use Rattle.nr_layout.specs.declared.places.Place.{Place}
+use Rattle.nr_layout.specs.declared.table.Item.{Item}
+use Rattle.nr_layout.specs.declared.table.Item.TheVariants as items
 use Rattle.nr_layout.specs.declared.table.Table.{Table}
-use Rattle.nr_layout.specs.Held.{bars_in, cell, cell_number, column, columns, is_all, is_boxed, key, line, row}
+use Rattle.nr_layout.specs.Held.{bars_in, cell, cell_number, column, columns, is_all, is_boxed, item, key, line, row}
 use Rattle.nr_layout.specs.Places.{edge, on, sum}
 
 -- one field stands in both columns
@@ -42,10 +44,22 @@ is_covered t None below c = false
 is_covered t (Some above) None c = false
 is_covered t (Some above) (Some below) c = not (above == below) && nat_lt (cell t below c).top below
 
--- how many bars meet a rule before a column; a box has its own at both edges
+-- a rule across the table stands first
+abbrev pub is_rule_item : Item → Bool
+is_rule_item items.Rule = true
+is_rule_item i = false
+
+abbrev pub begins_with_rule : Table → Bool
+begins_with_rule t = is_rule_item (item t 0)
+
+-- a box has a bar at both edges
+abbrev pub framing_at : Table → ℕ → ℕ
+framing_at t c = count (((c == 0) || (c == columns t)) && is_boxed t)
+
+-- how many bars meet a rule before a column
 abbrev pub meeting : Table → Option ℕ → Option ℕ → ℕ → ℕ
 meeting t above below c =
-    max (max (bars_at t above c) (bars_at t below c)) (count (((c == 0) || (c == columns t)) && is_boxed t))
+    max (max (bars_at t above c) (bars_at t below c)) (framing_at t c)
 
 -- the most bars that a line of formats has before a column
 abbrev pub most_bars_in : ℕ → Table → ℕ → ℕ

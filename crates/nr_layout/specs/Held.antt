@@ -195,6 +195,7 @@ none_of i = record { items = []; room = i.room }
 abbrev pub emptied : Table → Table
 emptied t = record {
   looks = plain;
+  signs = t.signs;
   text = none_of t.text;
   keys = none_of t.keys;
   lines = none_of t.lines;

@@ -6,7 +6,7 @@ use Rattle.nr_layout.specs.declared.table.StepKind.TheVariants as steps
 use Rattle.nr_layout.specs.declared.table.Table.{Table}
 use Rattle.nr_layout.specs.declared.told.Told.{Told}
 use Rattle.nr_layout.specs.Blocks.{is_same}
-use Rattle.nr_layout.specs.Drawing.{bars_strokes, rule_strokes, whole}
+use Rattle.nr_layout.specs.Drawing.{bars_strokes, crossing_byte, rule_strokes, whole}
 use Rattle.nr_layout.specs.Frames.{bars_at, bars_of, count, has_bars, is_covered}
 use Rattle.nr_layout.specs.Heights.{is_tall}
 use Rattle.nr_layout.specs.Held.{column, columns, step}
@@ -30,6 +30,7 @@ is_open_at t rule c = nat_lt c (columns t) && is_covered t rule.0 rule.1 c
 abbrev pub is_same_part : Table → Between → Between → ℕ → Bool
 is_same_part t one other c =
     (most_bars_at t one c == most_bars_at t other c) && is_same (is_open_at t one c) (is_open_at t other c)
+    && (crossing_byte t one.0 one.1 c == crossing_byte t other.0 other.1 c)
 
 abbrev pub is_same_rule : Table → Between → Between → Bool
 is_same_rule t one other = all_below (sum (columns t) 1) (is_same_part t one other)

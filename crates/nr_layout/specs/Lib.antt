@@ -26,6 +26,7 @@ pub mod Requests
 pub mod Rows
 pub mod Sequences
 pub mod Sharing
+pub mod Signs
 pub mod Standing
 pub mod Steps
 pub mod Table

@@ -127,7 +127,7 @@ drawn_on t l (steps.Before r ruled) = Bytes (room t r) ∷ []
 drawn_on t l (steps.Beyond r) = beyond t r
 drawn_on t l (steps.Request s) = Bytes (request t s) ∷ []
 drawn_on t l (steps.Bars r count) = bars_lines count t r l
-drawn_on t l steps.Edge = whole (edge_strokes t) false
+drawn_on t l (steps.Edge above) = whole (edge_strokes t above) false
 drawn_on t l (steps.Rule above below) = whole (rule_strokes t above below (Some l)) false
 drawn_on t l (steps.Row r) = whole (row_strokes t r (Some l)) false
 

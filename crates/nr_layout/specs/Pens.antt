@@ -16,10 +16,10 @@ pub data Stroke : Type 0 where
   Leave : Stroke
   -- the blanks go out
   Release : Stroke
-  -- a rule up to a place, by bytes or by the formatter
-  DashTo : Place → Stroke
-  Dashes : ℕ → Place → Stroke
-  Rule : Place → Stroke
+  -- a rule of a byte up to a place, by bytes or by the formatter
+  DashTo : ℕ → Place → Stroke
+  Dashes : ℕ → ℕ → Place → Stroke
+  Rule : ℕ → Place → Stroke
   -- a byte repeated up to a place, by bytes or by the formatter
   Fill : ℕ → Place → Stroke
   Copies : ℕ → ℕ → Place → Stroke
@@ -91,9 +91,9 @@ after (To place) p = to (steps_to place p) place p
 after (Jump place) p = gone (Some place) (released p)
 after Leave p = gone None (released p)
 after Release p = released p
-after (DashTo place) p = dashed_to (steps_to place p) place p
-after (Dashes cells place) p = dashed cells place p
-after (Rule place) p = gone (Some place) p
+after (DashTo b place) p = dashed_to (steps_to place p) place p
+after (Dashes b cells place) p = dashed cells place p
+after (Rule b place) p = gone (Some place) p
 after (Fill b place) p = filled b place p
 after (Copies b cells place) p = gone (Some place) p
 after (FillTold b place) p = gone None p
@@ -116,12 +116,12 @@ abbrev pub to_bytes : Option ℕ → Place → Pen → List ℕ
 to_bytes None place p = jump_bytes place p
 to_bytes (Some cells) place p = []
 
-abbrev pub rule_bytes : Place → List ℕ
-rule_bytes place = codes "\\l'|" ++ place_text place ++ codes "-'"
+abbrev pub rule_bytes : ℕ → Place → List ℕ
+rule_bytes b place = codes "\\l'|" ++ place_text place ++ b ∷ code "'" ∷ []
 
-abbrev pub dash_bytes : Option ℕ → Place → List ℕ
-dash_bytes None place = rule_bytes place
-dash_bytes (Some cells) place = replicate cells (code "-")
+abbrev pub dash_bytes : Option ℕ → ℕ → Place → List ℕ
+dash_bytes None b place = rule_bytes b place
+dash_bytes (Some cells) b place = replicate cells b
 
 abbrev pub fill_told : ℕ → Place → List ℕ
 fill_told b place = codes "\\l'|" ++ place_text place ++ b ∷ code "'" ∷ []
@@ -145,9 +145,9 @@ bytes (To place) p = to_bytes (steps_to place p) place p
 bytes (Jump place) p = jump_bytes place p
 bytes Leave p = blanks p
 bytes Release p = blanks p
-bytes (DashTo place) p = dash_bytes (steps_to place p) place
-bytes (Dashes cells place) p = replicate cells (code "-")
-bytes (Rule place) p = rule_bytes place
+bytes (DashTo b place) p = dash_bytes (steps_to place p) b place
+bytes (Dashes b cells place) p = replicate cells b
+bytes (Rule b place) p = rule_bytes b place
 bytes (Fill b place) p = fill_bytes b place p
 bytes (Copies b cells place) p = replicate cells b
 bytes (FillTold b place) p = fill_told b place
@@ -173,8 +173,8 @@ bytes_of (s ∷ ss) p = bytes s p ++ bytes_of ss (after s p)
 abbrev pub begin : ℕ → List Stroke
 begin b = Release ∷ Guard b ∷ Begun ∷ []
 
-abbrev pub dash : Place → List Stroke
-dash place = Release ∷ DashTo place ∷ []
+abbrev pub dash : ℕ → Place → List Stroke
+dash b place = Release ∷ DashTo b place ∷ []
 
 -- bars, or what stands for them where a rule meets them
 abbrev pub bars : ℕ → ℕ → List Stroke

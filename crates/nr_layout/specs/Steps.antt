@@ -15,7 +15,7 @@ use Rattle.nr_layout.specs.declared.table.Step.{Step}
 use Rattle.nr_layout.specs.declared.table.StepKind.{StepKind}
 use Rattle.nr_layout.specs.declared.table.StepKind.TheVariants as steps
 use Rattle.nr_layout.specs.declared.table.Table.{Table}
-use Rattle.nr_layout.specs.Frames.{has_bars}
+use Rattle.nr_layout.specs.Frames.{has_bars, is_rule_item}
 use Rattle.nr_layout.specs.Held.{cell_of, field, has_text, is_all, is_block, is_boxed, is_double, item, none_of, row, step, text_of}
 use Rattle.nr_layout.specs.Lists.{added, in_turn, put}
 use Rattle.nr_layout.specs.Places.{sum}
@@ -145,11 +145,8 @@ walking_on t = walking t (first_walk t)
 
 abbrev pub walk_begun : Table → Walking
 walk_begun t =
-    if is_double t.looks.frame && not t.begun then stepped steps.Edge 1 (walking_on t) else walking_on t
-
-abbrev pub is_rule_item : Item → Bool
-is_rule_item items.Rule = true
-is_rule_item i = false
+    if is_double t.looks.frame && not t.begun then stepped (steps.Edge true) 1 (walking_on t)
+    else walking_on t
 
 abbrev pub ends_with_rule : Table → Bool
 ends_with_rule t = nat_lt 0 (length t.items.items) && is_rule_item (item t (length t.items.items - 1))
@@ -163,7 +160,7 @@ closed_box ends w =
     if ends && (w.walk.ruled || is_boxed w.table) then stepped (steps.Rule w.walk.last None) 1 w else w
 
 abbrev pub closed_double : Bool → Walking → Walking
-closed_double ends w = if ends && is_double w.table.looks.frame then stepped steps.Edge 1 w else w
+closed_double ends w = if ends && is_double w.table.looks.frame then stepped (steps.Edge false) 1 w else w
 
 abbrev pub walk_ended : Bool → Walking → Walking
 walk_ended ends w = closed_double ends (closed_box ends (closed_rule ends w))
@@ -190,7 +187,7 @@ row_line t r = (step t (row t r).step).line
 
 -- the last line of a step up to another, if it has one on which a field may stand
 abbrev pub standing_on : StepKind → ℕ → ℕ → Option ℕ
-standing_on steps.Edge line wanted = Some line
+standing_on (steps.Edge above) line wanted = Some line
 standing_on (steps.Rule above below) line wanted = Some line
 standing_on (steps.Row r) line wanted = Some line
 standing_on (steps.Bars r lines) line wanted = Some (min (sum line (lines - 1)) wanted)

@@ -1,6 +1,7 @@
 -- A table between what is read of it: before all, where it begins, where its rows went out.
 use Rattle.std.specs.Prelude.{ℕ, ◌+◌, ◌*◌, ◌/◌, max, min, false, List, [], ◌∷◌, take}
 use Rattle.nr_units.specs.Items.{Items}
+use Rattle.nr_layout.specs.declared.signs.Signs.{Signs}
 use Rattle.nr_layout.specs.declared.table.Line.{Line}
 use Rattle.nr_layout.specs.declared.table.Looks.{Looks}
 use Rattle.nr_layout.specs.declared.table.Open.TheVariants as opens
@@ -28,9 +29,10 @@ item_room most = row_room most * 2 + 512
 abbrev pub step_room : ℕ → ℕ
 step_room most = item_room most * 4
 
-abbrev pub first_table : ℕ → ℕ → Table
-first_table most row = record {
+abbrev pub first_table : Signs → ℕ → ℕ → Table
+first_table signs most row = record {
   looks = plain;
+  signs = signs;
   text = room_for (text_room most row);
   keys = room_for 16384;
   lines = room_for 256;

@@ -79,7 +79,7 @@ RulesHaveTheirTexts =
     → texts (whole (rule_strokes t above below line) told) ≡ rule_texts t above below line
 
 abbrev pub EdgesHaveNone : Type 0
-EdgesHaveNone = (t : Table) (told : Bool) → texts (whole (edge_strokes t) told) ≡ []
+EdgesHaveNone = (t : Table) (above told : Bool) → texts (whole (edge_strokes t above) told) ≡ []
 
 abbrev pub TextsGoOut : Type 0
 TextsGoOut = (strokes : List Stroke) (pen : Pen) → StandIn (texts strokes) (bytes_of strokes pen)

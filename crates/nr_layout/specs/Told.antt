@@ -183,7 +183,7 @@ kind_strokes t (steps.Before r ruled) told = Bytes (before_text t r ruled) ∷ [
 kind_strokes t (steps.Beyond r) told = beyond t r
 kind_strokes t (steps.Request s) told = Bytes (request_text t s) ∷ []
 kind_strokes t (steps.Bars r n) told = bar_lines t r n told
-kind_strokes t steps.Edge told = whole (edge_strokes t) true
+kind_strokes t (steps.Edge above) told = whole (edge_strokes t above) true
 kind_strokes t (steps.Rule above below) told = rule_or_string t (above, below) told
 kind_strokes t (steps.Row r) told = told_row t r told
 

@@ -117,7 +117,7 @@ impl Table {
             StepKind::Beyond(row) => self.put_beyond(row, out),
             StepKind::Request(span) => self.put_told_request(span, out),
             StepKind::Bars(row, count) => self.put_bar_lines(row, count, told, out),
-            StepKind::Edge => self.put_edge_line(true, out),
+            StepKind::Edge(above) => self.put_edge_line(above, true, out),
             StepKind::Rule(above, below) => self.put_rule((above, below), told, out),
             StepKind::Row(row) => self.put_told_row(row, told, out),
         }

@@ -1,5 +1,5 @@
 //! Lines of a table are drawn: bars, fields, and rules in their place.
-ghost use Rattle.std.specs.Prelude.{◌≡◌, ◌==◌, ◌&&◌, ◌||◌};
+ghost use Rattle.std.specs.Prelude.{◌≡◌, ◌==◌, ◌&&◌};
 ghost use Rattle.nr_layout.specs.Contents as contents;
 ghost use Rattle.nr_layout.specs.Drawing as specs;
 ghost use Rattle.nr_layout.specs.Held as held;
@@ -10,23 +10,6 @@ use super::places::Place;
 use super::table::{Cell, Form, Table};
 use super::writing::Out;
 use nr_units::sink::Sink;
-
-/// It goes on at a place, by a rule or not.
-pub(crate) fn go<W: Sink>(ruled: bool, place: Place, out: &mut Out<'_, W>)
-    ensures { Draws out.old out.new (specs.go ruled place) }
-{
-    if ruled {
-        return out.dash(place);
-    }
-    out.to(place);
-}
-
-/// The byte of bars: a rule meets them at the left or at the right, or none does.
-fn bar_byte(was: bool, now: bool) -> u8
-    ensures { result ≡ specs.bar_byte (was || now) }
-{
-    if was || now { b'+' } else { b'|' }
-}
 
 /// Whether a field that goes on over rows below stands on a line.
 fn stands_on(line: Option<usize>, cell: Cell) -> bool
@@ -55,6 +38,23 @@ impl Cell {
 }
 
 impl Table {
+    /// It goes on at a place, by a rule or not.
+    pub(crate) fn go<W: Sink>(&self, ruled: bool, place: Place, out: &mut Out<'_, W>)
+        ensures { Draws out.old out.new (specs.go self.now ruled place) }
+    {
+        if ruled {
+            return self.draw_dash(place, out);
+        }
+        out.to(place);
+    }
+
+    /// A rule up to a place.
+    pub(crate) fn draw_dash<W: Sink>(&self, place: Place, out: &mut Out<'_, W>)
+        ensures { Draws out.old out.new (specs.dash self.now place) }
+    {
+        out.dash(self.signs.rule, place);
+    }
+
     /// A byte that is repeated over the columns of a field.
     fn draw_repeat<W: Sink>(&self, byte: u8, cell: Cell, out: &mut Out<'_, W>)
         ensures { Draws out.old out.new (specs.field_in (forms.Repeat byte) self.now cell) }
@@ -68,7 +68,7 @@ impl Table {
         ensures { Draws out.old out.new (specs.field_in forms.Inner self.now cell) }
     {
         out.to(self.column(cell.first).left);
-        out.dash(self.column(cell.last).right);
+        self.draw_dash(self.column(cell.last).right, out);
     }
 
     /// A field.
@@ -135,8 +135,8 @@ impl Table {
     )
         ensures { Draws out.old out.new (specs.some_bars self.now column was now bars) }
     {
-        go(was, self.bar_place(column), out);
-        out.bars(bar_byte(was, now), bars);
+        self.go(was, self.bar_place(column), out);
+        out.bars(self.signs.joint(true, true, was, now), bars);
     }
 
     /// Whether a field of a row is a rule in a column.
@@ -170,7 +170,7 @@ impl Table {
     {
         self.begin_rule(row, column, out);
         let cell = self.cell(row, column);
-        out.dash(self.column(cell.last).right);
+        self.draw_dash(self.column(cell.last).right, out);
     }
 
     /// What stands in a column in which its field begins.
@@ -321,12 +321,12 @@ impl Table {
         out.end(told);
     }
 
-    /// The line of the outer rule of a double box.
-    pub(crate) fn put_edge_line<W: Sink>(&self, told: bool, out: &mut Out<'_, W>)
-        ensures { Draws out.old out.new (specs.whole (specs.edge_strokes self.now) told) }
+    /// The line of the outer rule of a double box, above it or below.
+    pub(crate) fn put_edge_line<W: Sink>(&self, above: bool, told: bool, out: &mut Out<'_, W>)
+        ensures { Draws out.old out.new (specs.whole (specs.edge_strokes self.now above) told) }
     {
         out.start();
-        self.draw_edge(out);
+        self.draw_edge(above, out);
         out.end(told);
     }
 

@@ -46,7 +46,7 @@ pub(crate) struct Extent {
     pub cells: usize,
 }
 
-/// A blank, a sign or a byte beyond ASCII, which takes a cell.
+/// A blank, a sign or a byte from 128 on, which takes a cell: it may be a character of a table.
 fn is_printing(byte: u8) -> bool
     ensures { result ≡ specs.is_printing byte }
 {

@@ -273,6 +273,8 @@ impl Table {
     {
         self.most_bars_at(one, column) == self.most_bars_at(other, column)
             && is_same(self.is_open_at(one, column), self.is_open_at(other, column))
+            && self.crossing_byte(one.0, one.1, column)
+                == self.crossing_byte(other.0, other.1, column)
     }
 
     /// Whether two rules look the same.

@@ -1,9 +1,9 @@
 //! Tables as they are held, measured and laid out.
 //!
-//! It stands on nr_units and nr_rooms. To read: `lists`, `places`, `table`, `held`, `formats`, `rows`; `extent`, `cells`;
-//! `pen`, `writing`, `strokes`, `fields`; `counted`, `columns`, `frames`; `requests`, `steps`; `drawing`, `ruling`,
-//! `lines`; `told`, `names`, `registers`, `widening`, `standing`, `heights`, `blocks`, `sharing`, `kept`, `beside`,
-//! `measured`, `as_requests`; `laws`.
+//! It stands on nr_units and nr_rooms. To read: `lists`, `places`, `signs`, `table`, `held`, `formats`, `rows`;
+//! `extent`, `cells`; `pen`, `writing`, `strokes`, `fields`; `counted`, `columns`, `frames`; `requests`, `steps`;
+//! `drawing`, `ruling`, `lines`; `told`, `names`, `registers`, `widening`, `standing`, `heights`, `blocks`,
+//! `sharing`, `kept`, `beside`, `measured`, `as_requests`; `laws`.
 #![tactic(auto)]
 
 mod as_requests;
@@ -32,6 +32,7 @@ mod requests;
 mod rows;
 mod ruling;
 mod sharing;
+mod signs;
 mod standing;
 mod steps;
 mod strokes;
@@ -40,5 +41,6 @@ mod told;
 mod widening;
 mod writing;
 
+pub use signs::{Joints, Signs};
 pub use table::{Form, Frame, Looks, Stand, Table};
 pub use writing::Out;

@@ -243,7 +243,7 @@ impl Table {
             StepKind::Beyond(row) => self.put_beyond(row, out),
             StepKind::Request(span) => self.put_request(span, out),
             StepKind::Bars(row, count) => self.put_bars(row, count, step.line, out),
-            StepKind::Edge => self.put_edge_line(false, out),
+            StepKind::Edge(above) => self.put_edge_line(above, false, out),
             StepKind::Rule(above, below) => {
                 self.put_rule_line(above, below, Some(step.line), false, out);
             }

@@ -1,27 +1,18 @@
 //! Rules between the rows of a table are drawn, and the outer rule of a double box.
-ghost use Rattle.std.specs.Prelude.{◌≡◌, ◌==◌, ◌&&◌, ◌||◌, not, nat_lt};
+ghost use Rattle.std.specs.Prelude.{◌≡◌, ◌&&◌, not, nat_lt};
 ghost use Rattle.nr_layout.specs.Drawing as specs;
 ghost use Rattle.nr_layout.specs.Frames as frames;
 ghost use Rattle.nr_layout.specs.Held as held;
 ghost use Rattle.nr_layout.specs.Tapes.{Draws};
 
-use super::drawing::go;
-use super::table::Table;
+use super::table::{Item, Table};
 use super::writing::Out;
 use nr_units::sink::Sink;
-
-/// The byte where bars meet a rule: they go on on both sides of it, or not.
-fn crossing_byte(on_both_sides: bool) -> u8
-    ensures { result ≡ specs.crossing_byte on_both_sides }
-{
-    if on_both_sides { b'|' } else { b'+' }
-}
 
 impl Table {
     /// The bars of a box at an edge of the table.
     fn framing_bars_at(&self, column: usize) -> usize
-        ensures { result ≡ frames.count (((column == 0) || (column == held.columns self.now))
-            && held.is_boxed self.now) }
+        ensures { result ≡ frames.framing_at self.now column }
     {
         let edge = column == 0 || column == self.columns.len();
         if edge && self.is_boxed() { 1 } else { 0 }
@@ -58,7 +49,7 @@ impl Table {
             return;
         }
         let ruled = !self.was_covered(above, below, column);
-        go(ruled, self.bar_place(column), out);
+        self.go(ruled, self.bar_place(column), out);
     }
 
     /// Bars meet a rule before a column.
@@ -91,14 +82,71 @@ impl Table {
         ensures { Draws out.old out.new (specs.some_crossing self.now above below column bars) }
     {
         self.begin_crossing(above, below, column, out);
-        out.bars(crossing_byte(self.goes_through(above, below, column)), bars);
+        out.bars(self.crossing_byte(above, below, column), bars);
     }
 
-    /// Whether fields go on over a rule on both sides of the bars before a column.
-    fn goes_through(&self, above: Option<usize>, below: Option<usize>, column: usize) -> bool
-        ensures { result ≡ specs.goes_through self.now above below column }
+    /// Whether a rule across the table stands first.
+    fn begins_with_rule(&self) -> bool
+        ensures { result ≡ frames.begins_with_rule self.now }
     {
-        self.was_covered(above, below, column) && self.is_covered(above, below, column)
+        matches!(self.item(0), Item::Rule)
+    }
+
+    /// Whether a line stands above a rule that is below no row of what is held.
+    fn is_second(&self, below: Option<usize>) -> bool
+        ensures { result ≡ specs.is_second self.now below }
+    {
+        self.is_double() || (below.is_some() && self.begins_with_rule())
+    }
+
+    /// Whether bars go up from a rule that is below no row of what is held.
+    fn goes_up_first(&self, below: Option<usize>, column: usize) -> bool
+        ensures { result ≡ specs.goes_up_first self.now below column }
+    {
+        self.begun || (self.framing_bars_at(column) > 0 && self.is_second(below))
+    }
+
+    /// Whether bars go up from a rule before a column.
+    fn goes_up(&self, above: Option<usize>, below: Option<usize>, column: usize) -> bool
+        ensures { result ≡ specs.goes_up self.now above below column }
+    {
+        match above {
+            Some(row) => self.bars_of(row, column) > 0,
+            None => self.goes_up_first(below, column),
+        }
+    }
+
+    /// Whether bars go down from a rule before a column.
+    fn goes_down(&self, above: Option<usize>, below: Option<usize>, column: usize) -> bool
+        ensures { result ≡ specs.goes_down self.now above below column }
+    {
+        match below {
+            Some(row) => self.bars_of(row, column) > 0,
+            None => self.framing_bars_at(column) > 0 && (self.is_double() || above.is_none()),
+        }
+    }
+
+    /// Whether a rule goes on in a column.
+    fn goes_right(&self, above: Option<usize>, below: Option<usize>, column: usize) -> bool
+        ensures { result ≡ specs.goes_right self.now above below column }
+    {
+        column < self.columns.len() && !self.is_covered(above, below, column)
+    }
+
+    /// What stands where bars meet a rule before a column, or after the last one.
+    pub(crate) fn crossing_byte(
+        &self,
+        above: Option<usize>,
+        below: Option<usize>,
+        column: usize,
+    ) -> u8
+        ensures { result ≡ specs.crossing_byte self.now above below column }
+    {
+        let up = self.goes_up(above, below, column);
+        let down = self.goes_down(above, below, column);
+        let left = !self.was_covered(above, below, column);
+        let right = self.goes_right(above, below, column);
+        self.signs.joint(up, down, left, right)
     }
 
     /// A field that goes on over a rule.
@@ -129,11 +177,12 @@ impl Table {
         column: usize,
         out: &mut Out<'_, W>,
     )
-        ensures { Draws out.old out.new (specs.go (not (frames.is_covered self.now above below column))
+        ensures { Draws out.old out.new
+            (specs.go self.now (not (frames.is_covered self.now above below column))
             (held.column self.now column).right) }
     {
         let covered = self.is_covered(above, below, column);
-        go(!covered, self.column(column).right, out);
+        self.go(!covered, self.column(column).right, out);
     }
 
     /// A column of a rule.
@@ -176,7 +225,7 @@ impl Table {
         if self.meeting_bars(above, below, columns) == 0 {
             return;
         }
-        out.bars(crossing_byte(self.was_covered(above, below, columns)), 1);
+        out.bars(self.crossing_byte(above, below, columns), 1);
     }
 
     /// Whether a field goes on over the last column.
@@ -190,15 +239,15 @@ impl Table {
     /// The rule goes on to where the table ends, but behind such a field.
     fn go_end<W: Sink>(&self, above: Option<usize>, below: Option<usize>, out: &mut Out<'_, W>)
         ensures { Draws out.old out.new
-            (specs.go
+            (specs.go self.now
             (not (specs.was_covered self.now above below (held.columns self.now)
             && nat_lt 0 (held.columns self.now))) (frames.table_end self.now)) }
     {
         let covered = self.ends_covered(above, below);
-        go(!covered, self.end(), out);
+        self.go(!covered, self.end(), out);
     }
 
-    /// A rule between two rows, with `+` where bars meet it.
+    /// A rule between two rows.
     pub(crate) fn draw_rule<W: Sink>(
         &self,
         above: Option<usize>,
@@ -213,12 +262,12 @@ impl Table {
         self.end_rule(above, below, out);
     }
 
-    /// The outer rule of a double box, which meets no bars.
-    pub(crate) fn draw_edge<W: Sink>(&self, out: &mut Out<'_, W>)
-        ensures { Draws out.old out.new (specs.edge_strokes self.now) }
+    /// The outer rule of a double box, above it or below, which meets no bars.
+    pub(crate) fn draw_edge<W: Sink>(&self, above: bool, out: &mut Out<'_, W>)
+        ensures { Draws out.old out.new (specs.edge_strokes self.now above) }
     {
-        out.bars(b'+', 1);
-        out.dash(self.end());
-        out.bars(b'+', 1);
+        out.bars(self.signs.joint(!above, above, false, true), 1);
+        self.draw_dash(self.end(), out);
+        out.bars(self.signs.joint(!above, above, true, false), 1);
     }
 }

@@ -216,7 +216,7 @@ impl Table {
     {
         let walk = self.first_walk();
         if self.is_double() && !self.begun {
-            return self.add_step(StepKind::Edge, 1, walk);
+            return self.add_step(StepKind::Edge(true), 1, walk);
         }
         walk
     }
@@ -260,7 +260,7 @@ impl Table {
         ensures room { held.emptied self.new ≡ held.emptied self.old }
     {
         if ends && self.is_double() {
-            return self.add_step(StepKind::Edge, 1, walk);
+            return self.add_step(StepKind::Edge(false), 1, walk);
         }
         walk
     }
@@ -322,7 +322,7 @@ impl Table {
         ensures { result ≡ specs.standing_line step wanted }
     {
         match step.kind {
-            StepKind::Edge | StepKind::Rule(_, _) | StepKind::Row(_) => Some(step.line),
+            StepKind::Edge(_) | StepKind::Rule(_, _) | StepKind::Row(_) => Some(step.line),
             StepKind::Bars(_, lines) => {
                 Some(
                     step.line

@@ -57,43 +57,43 @@ impl<'a, W: Sink> Out<'a, W> {
         }
     }
 
-    /// A rule up to a place, by the formatter.
-    fn rule(&mut self, place: Place)
-        ensures { Draws self.old self.new (specs.Rule place ∷ []) }
+    /// A rule of this byte up to a place, by the formatter.
+    fn rule(&mut self, byte: u8, place: Place)
+        ensures { Draws self.old self.new (specs.Rule byte place ∷ []) }
     {
         self.add(b"\\l'|");
         self.place(place);
-        self.add(b"-'");
+        self.add(&[byte, b'\'']);
         let pen = self.pen();
         self.set_pen(pen.gone(Some(place)));
     }
 
     /// A rule of so many cells, up to a place.
-    fn dashes(&mut self, cells: usize, place: Place)
-        ensures { Draws self.old self.new (specs.Dashes cells place ∷ []) }
+    fn dashes(&mut self, byte: u8, cells: usize, place: Place)
+        ensures { Draws self.old self.new (specs.Dashes byte cells place ∷ []) }
     {
-        self.repeat(b'-', cells);
+        self.repeat(byte, cells);
         let pen = self.pen();
         self.set_pen(pen.dashed(cells, place));
     }
 
     /// A rule up to a place, by bytes if the place shows.
-    fn dash_to(&mut self, place: Place)
-        ensures { Draws self.old self.new (specs.DashTo place ∷ []) }
+    fn dash_to(&mut self, byte: u8, place: Place)
+        ensures { Draws self.old self.new (specs.DashTo byte place ∷ []) }
     {
         let pen = self.pen();
         match pen.steps_to(place) {
-            Some(cells) => self.dashes(cells, place),
-            None => self.rule(place),
+            Some(cells) => self.dashes(byte, cells, place),
+            None => self.rule(byte, place),
         }
     }
 
     /// A rule up to a place.
-    pub(crate) fn dash(&mut self, place: Place)
-        ensures { Draws self.old self.new (specs.dash place) }
+    pub(crate) fn dash(&mut self, byte: u8, place: Place)
+        ensures { Draws self.old self.new (specs.dash byte place) }
     {
         self.release();
-        self.dash_to(place);
+        self.dash_to(byte, place);
     }
 
     /// A control character that begins a line is none.

@@ -5,6 +5,7 @@ ghost use Rattle.nr_layout.specs.Held as held;
 ghost use Rattle.nr_layout.specs.Table as specs;
 
 use super::places::Place;
+use super::signs::Signs;
 use nr_rooms::FixedVec;
 use std::alloc::{AllocError, Global};
 
@@ -248,6 +249,8 @@ pub(crate) enum Open {
 #[derive(Drop)]
 pub struct Table {
     pub(crate) looks: Looks,
+    /// What frames and rules are drawn with.
+    pub(crate) signs: Signs,
     pub(crate) text: FixedVec<u8>,
     pub(crate) keys: FixedVec<Key>,
     pub(crate) lines: FixedVec<Line>,
@@ -290,8 +293,8 @@ pub(crate) struct Step {
 /// What a line of a table is.
 #[derive(Clone, Copy)]
 pub(crate) enum StepKind {
-    /// The outer rule of a double box.
-    Edge,
+    /// The outer rule of a double box, above it or below.
+    Edge(bool),
     /// A rule between two rows.
     Rule(Option<usize>, Option<usize>),
     /// Room is asked for the rows that begin here, below a rule or not.
@@ -307,9 +310,9 @@ pub(crate) enum StepKind {
 }
 
 impl Table {
-    /// Takes the memory for a table of so many bytes, whose rows have so many at most.
-    pub fn new(alloc: Global, most: usize, row: usize) -> Result<Table, AllocError>
-        ensures value { IfOk result (λ made. made ≡ specs.first_table most row) }
+    /// Takes the memory for a table of so many bytes, whose rows have so many at most, and which is drawn with these.
+    pub fn new(alloc: Global, most: usize, row: usize, signs: Signs) -> Result<Table, AllocError>
+        ensures value { IfOk result (λ made. made ≡ specs.first_table signs most row) }
     {
         let text = most.saturating_add(row).saturating_add(64);
         let rows = most / COLUMNS + 2;
@@ -317,6 +320,7 @@ impl Table {
         let cells = rows.saturating_mul(COLUMNS);
         Ok(Table {
             looks: Looks::plain(),
+            signs,
             text: FixedVec::new(alloc, text)?,
             keys: FixedVec::new(alloc, COLUMNS * LINES)?,
             lines: FixedVec::new(alloc, LINES)?,

@@ -41,12 +41,19 @@ resume_of reads.Mark mode = None
 -- the level of a frame with this mode
 abbrev pub open_of : {K : Type 0} → List ℕ → List Span → Frame → Option K → Open K
 open_of bytes places f mode =
-    record { source = source_of bytes f.reads mode; old = arguments_of bytes places f.old; charge = f.charge; resume = resume_of f.reads mode }
+    record {
+      source = source_of bytes f.reads mode;
+      old = arguments_of bytes places f.old;
+      charge = f.charge;
+      resume = resume_of f.reads mode;
+    }
 
 -- the levels of frames, which take their modes in order
 abbrev pub opens_of : {K : Type 0} → List ℕ → List Span → List Frame → List K → List (Open K)
 opens_of bytes places [] modes = []
-opens_of bytes places (f ∷ fs) modes = open_of bytes places f (mode_of f.has_mode modes) ∷ opens_of bytes places fs (modes_behind f.has_mode modes)
+opens_of bytes places (f ∷ fs) modes =
+    open_of bytes places f (mode_of f.has_mode modes) ∷ opens_of bytes places fs
+    (modes_behind f.has_mode modes)
 
 -- the levels of a row of frames
 abbrev pub levels_of : {K : Type 0} → List Frame → List K → List ℕ → List Span → Span → ℕ → ℕ → Levels K
@@ -134,7 +141,8 @@ IsStacked places [] inforce h = (inforce.last ≡ 0) × (h ≡ 0)
 IsStacked places (f ∷ fs) inforce h = IsOn places f inforce h × IsStacked places fs f.old f.height
 
 -- what is always true of the fields
-pub record AreLevels (frames : List Frame) (bytes : List ℕ) (places : List Span) (inforce : Span) (room most place_room : ℕ) : Type 0 where
+pub record AreLevels (frames : List Frame) (bytes : List ℕ) (places : List Span) (inforce : Span)
+    (room most place_room : ℕ) : Type 0 where
   pub stacked : IsStacked places frames inforce (length bytes)
   pub now : AreBelow places (length bytes) inforce
   pub top : inforce.last ≡ length places

@@ -26,7 +26,10 @@ impl Model for Gathering {
 
     ghost Value = { Gathering };
 
-    ghost view = { λ g. record { gathered = gathered_of (take g.count g.lens) g.bytes.items g.start; room = g.bytes.room } };
+    ghost view = { λ g. record {
+      gathered = gathered_of (take g.count g.lens) g.bytes.items g.start;
+      room = g.bytes.room;
+    } };
 
     ghost invariant = { λ g. IsGathering g.lens g.bytes.items g.count g.start g.bytes.room };
 }

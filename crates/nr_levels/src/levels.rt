@@ -38,9 +38,11 @@ impl<K: Copy> Model for Levels<K> {
 
     ghost Value = { Levels K };
 
-    ghost view = { λ s. levels_of s.frames.items s.modes.items s.bytes.items s.places.items s.in_force s.bytes.room s.frames.room };
+    ghost view = { λ s. levels_of s.frames.items s.modes.items s.bytes.items s.places.items s.in_force
+        s.bytes.room s.frames.room };
 
-    ghost invariant = { λ s. (AreLevels s.frames.items s.bytes.items s.places.items s.in_force s.bytes.room s.frames.room s.places.room)
+    ghost invariant = { λ s. (AreLevels s.frames.items s.bytes.items s.places.items s.in_force
+        s.bytes.room s.frames.room s.places.room)
         × (AreModes s.frames.items s.modes.items s.modes.room s.frames.room) };
 }
 
@@ -67,7 +69,12 @@ impl<K: Copy> Levels<K> {
     /// where there is no memory for them.
     pub fn new(alloc: Global, room: usize, most: usize) -> Result<Levels<K>, AllocError>
         requires { room < 2 ^ 32 }
-        ensures { IfOk result (λ made. made ≡ record { levels = []; arguments = []; room = room; most = most }) }
+        ensures { IfOk result (λ made. made ≡ record {
+          levels = [];
+          arguments = [];
+          room = room;
+          most = most;
+        }) }
     {
         Ok(Levels {
             frames: Stack::new(alloc, most)?,

@@ -15,7 +15,8 @@ pub record IsSwapped {T : Type 0} (E F : List T) (a b len : ℕ) : Type 0 where
   pub same_length : length F ≡ length E
   pub first : (k : ℕ) (d : T) → k < len → slice_index_or F (a + k) d ≡ slice_index_or E (b + k) d
   pub second : (k : ℕ) (d : T) → k < len → slice_index_or F (b + k) d ≡ slice_index_or E (a + k) d
-  pub others : (m : ℕ) (d : T) → (m < a) ⊎ (a + len ≤ m) → (m < b) ⊎ (b + len ≤ m) → slice_index_or F m d ≡ slice_index_or E m d
+  pub others : (m : ℕ) (d : T) → (m < a) ⊎ (a + len ≤ m) → (m < b) ⊎ (b + len ≤ m)
+      → slice_index_or F m d ≡ slice_index_or E m d
 
 -- a text lies last now, and nothing else has changed
 pub record IsExchanged {T : Type 0} (E F : List T) (slots news : List Slot) (used i : ℕ) : Type 0 where

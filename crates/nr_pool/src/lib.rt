@@ -72,7 +72,8 @@ impl<T: Copy> Model for Pool<T> {
 
     ghost view = { λ p. texts_within p.capacity p.most p.elements.items p.slots.items };
 
-    ghost invariant = { λ p. IsKept p.elements.items p.slots.items p.used p.spares p.first_spare p.capacity p.most × ((p.elements.room ≡ p.capacity) × (p.slots.room ≡ p.most)) };
+    ghost invariant = { λ p. IsKept p.elements.items p.slots.items p.used p.spares p.first_spare p.capacity
+        p.most × ((p.elements.room ≡ p.capacity) × (p.slots.room ≡ p.most)) };
 }
 
 impl Id {

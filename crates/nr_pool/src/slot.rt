@@ -73,7 +73,8 @@ pub(crate) fn spare_of(
     ensures none { result ≡ None → (count ≡ 0) × ((length slots.old.items ≡ most) × (slots.new ≡ slots.old)) }
     ensures some { IfSome result (λ found. 0 < found.0) }
     ensures spares { IfSome result (λ found. HasSpares slots.new.items found.0 found.1) }
-    ensures same { (slots.new.items ≡ slots.old.items) ⊎ (slots.new.items ≡ slots.old.items ++ blank_slot ∷ []) }
+    ensures same { (slots.new.items ≡ slots.old.items) ⊎ (slots.new.items ≡ slots.old.items
+        ++ blank_slot ∷ []) }
     ensures few { length slots.new.items ≤ most }
     ensures room { slots.new.room ≡ slots.old.room }
 {
@@ -217,7 +218,8 @@ pub(crate) fn bring_last<T: Copy>(
     requires held { 0 < (slot_at slots.old.items index).holders }
     ensures packed { IsPacked (length elements.new.items) slots.new.items used }
     ensures last { (slot_at slots.new.items index).start + (slot_at slots.new.items index).len ≡ used }
-    ensures spares { (count first : ℕ) → HasSpares slots.old.items count first → HasSpares slots.new.items count first }
+    ensures spares { (count first : ℕ) → HasSpares slots.old.items count first
+        → HasSpares slots.new.items count first }
     ensures same { texts_of elements.new.items slots.new.items ≡ texts_of elements.old.items slots.old.items }
     ensures elements { length elements.new.items ≡ length elements.old.items }
     ensures slots { length slots.new.items ≡ length slots.old.items }
@@ -278,7 +280,8 @@ pub(crate) fn remove_text<T: Copy>(
     requires packed { IsPacked (length elements.old.items) slots.old.items used }
     requires within { index < length slots.old.items }
     requires held { 0 < (slot_at slots.old.items index).holders }
-    ensures removed { IsRemoved elements.old.items elements.new.items slots.old.items slots.new.items used index next }
+    ensures removed { IsRemoved elements.old.items elements.new.items slots.old.items slots.new.items
+        used index next }
     ensures len { result ≡ (slot_at slots.old.items index).len }
     ensures within { result ≤ used }
     ensures elements { length elements.new.items ≡ length elements.old.items }

@@ -1,11 +1,11 @@
 //! Reading: what each item of the input does to what is half read. Plain data, and functions of it.
 //!
-//! It stands on nr_units. To read: `front`, `event`, `spelled`, `ask`, `mode`, `ended`; `answers`, `kept`, `notes`,
-//! `delimited`, `asks`; `escape`, `step`; a file for each group of modes, `text`, `text_escape`, `titles`,
+//! It stands on nr_units. To read: `front`, `event`, `spelled`, `ask`, `mode`, `ended`; `answers`, `kept`, `step`,
+//! `notes`, `delimited`, `asks`; `escape`; a file for each group of modes, `text`, `text_escape`, `titles`,
 //! `control`, `strings`, `definitions`, `conditions`, `skipping`; `reader`, which puts them together, and
 //! `half`, where an item is met; `seeking`, `conditionals` and `setting`, what comes from outside; `runs`, many
-//! items at once, with `passing`, `control_names`, `interpolations`, `request_lines`, `arguments`, `braces` and `defined_texts`; and
-//! `row` and a file for each group of modes whose rows have loops of their own, `line_rows`, `condition_rows`,
+//! items at once, with `passing`, `row`, `control_names`, `interpolations`, `arguments`, `request_lines`, `braces` and
+//! `defined_texts`; and a file for each group of modes whose rows have loops of their own, `line_rows`, `condition_rows`,
 //! `request_rows`, `part_rows`, `argument_rows`, `string_rows`.
 #![tactic(auto)]
 

@@ -30,7 +30,8 @@ impl<T: Copy> Model for FixedVec<T> {
 
     ghost view = { λ v. record { items = take v.len v.slots.items; room = v.room } };
 
-    ghost invariant = { λ v. (v.len ≤ length v.slots.items) × ((length v.slots.items ≤ v.room) × (v.slots.room ≡ v.room)) };
+    ghost invariant = { λ v. (v.len ≤ length v.slots.items)
+        × ((length v.slots.items ≤ v.room) × (v.slots.room ≡ v.room)) };
 }
 
 impl<T: Copy> FixedVec<T> {

@@ -1,5 +1,5 @@
 //! A vector whose memory is taken once, and that gives nobody its allocator.
-ghost use Rattle.std.specs.Prelude.{◌≡◌, ◌+◌, ◌-◌, ◌==◌, ◌<◌, ◌≤◌, [], ◌∷◌, ◌++◌, length, take, replicate, slice_index_or, IfOk};
+ghost use Rattle.std.specs.Prelude.{◌≡◌, ◌+◌, ◌-◌, ◌==◌, ◌<◌, ◌≤◌, [], ◌∷◌, ◌++◌, length, take, replicate, slice_index_or, max, IfOk};
 ghost use Rattle.std.specs.List.{CopiedTo, SameBelow, SameFrom, copy_within};
 ghost use Rattle.std.specs.Borrow.{sem};
 
@@ -119,7 +119,9 @@ impl<T: Copy> ReservedVec<T> {
         ensures items { self.new.items ≡ copy_within self.old.items from.start from.end to }
         ensures len { length self.new.items ≡ length self.old.items }
         ensures room { self.new.room ≡ self.old.room }
-        ensures by_index { CopiedTo self.old.items self.new.items from.start to (from.end - from.start) × SameBelow self.old.items self.new.items to × SameFrom self.old.items self.new.items (to + (from.end - from.start)) }
+        ensures by_index { CopiedTo self.old.items self.new.items from.start to (from.end - from.start)
+            × SameBelow self.old.items self.new.items to
+            × SameFrom self.old.items self.new.items (to + (from.end - from.start)) }
     {
         self.items.copy_within(from, to);
     }
@@ -130,9 +132,11 @@ impl<T: Copy> ReservedVec<T> {
     pub fn lengthen(&mut self, least: usize, item: T)
         requires asked { least ≤ self.old.room }
         requires held { length self.old.items ≤ self.old.room }
-        ensures items { self.new.items ≡ self.old.items ++ replicate (length self.new.items - length self.old.items) item }
+        ensures items { self.new.items ≡ self.old.items
+            ++ replicate (length self.new.items - length self.old.items) item }
         ensures longer { length self.old.items ≤ length self.new.items }
         ensures least { least ≤ length self.new.items }
+        ensures most { length self.new.items ≤ max (length self.old.items) (least + 63) }
         ensures held { length self.new.items ≤ self.new.room }
         ensures room { self.new.room ≡ self.old.room }
     {
@@ -146,9 +150,11 @@ impl<T: Copy> ReservedVec<T> {
     fn grow(&mut self, least: usize, item: T)
         requires shorter { length self.old.items < least }
         requires asked { least ≤ self.old.room }
-        ensures items { self.new.items ≡ self.old.items ++ replicate (length self.new.items - length self.old.items) item }
+        ensures items { self.new.items ≡ self.old.items
+            ++ replicate (length self.new.items - length self.old.items) item }
         ensures longer { length self.old.items ≤ length self.new.items }
         ensures least { least ≤ length self.new.items }
+        ensures most { length self.new.items ≤ least + 63 }
         ensures held { length self.new.items ≤ self.new.room }
         ensures room { self.new.room ≡ self.old.room }
     {

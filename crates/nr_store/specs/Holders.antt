@@ -31,7 +31,8 @@ pub record Beside : Type 0 where
 
 -- these
 abbrev pub beside_of : Gathering → Table Register → Items Trap → Items HyphenationWord → Beside
-beside_of gathering registers traps words = record { gathering = gathering; registers = registers; traps = traps; words = words }
+beside_of gathering registers traps words =
+    record { gathering = gathering; registers = registers; traps = traps; words = words }
 
 -- there is room for as much of it as may be charged, and for no more
 pub record Suffice (beside : Beside) (limit : ℕ) : Type 0 where
@@ -55,8 +56,10 @@ built_of p d = record { text = text p d.id; diversion = d.diversion }
 
 -- what a source still gives
 abbrev pub level_in : {K : Type 0} → Texts Element → Source K → Open K → Level K
-level_in p (Text id place) l = Read (record { rest = drop place (text p id); old = l.old; charge = l.charge; resume = l.resume })
-level_in p (Own bytes) l = Read (record { rest = map Byte bytes; old = l.old; charge = l.charge; resume = l.resume })
+level_in p (Text id place) l =
+    Read (record { rest = drop place (text p id); old = l.old; charge = l.charge; resume = l.resume })
+level_in p (Own bytes) l =
+    Read (record { rest = map Byte bytes; old = l.old; charge = l.charge; resume = l.resume })
 level_in p (Marked mode) l = Mark mode
 
 -- a level with its text
@@ -106,7 +109,12 @@ name_for k (n ∷ ns) = name_by n.value n.name k (name_for k ns)
 
 -- the text that a source reads: it is charged where none of these reads it too
 abbrev pub text_in : {K : Type 0} → Texts Element → List (Named Sense) → List ℕ → Source K → List Shared
-text_in p names older (Text id place) = record { name = name_for id names; share = if nat_lt 0 (count id older) then 0 else share (text p id) } ∷ []
+text_in p names older (Text id place) =
+    record {
+      name = name_for id names;
+      share = if nat_lt 0 (count id older) then 0
+          else share (text p id);
+    } ∷ []
 text_in p names older (Own bytes) = own_text ∷ []
 text_in p names older (Marked mode) = []
 
@@ -116,7 +124,8 @@ texts_in p names [] = []
 texts_in p names (l ∷ ls) = text_in p names (ids_of ls) l.source ++ texts_in p names ls
 
 -- what all fields stand for
-abbrev pub stored_of : {K : Type 0} → Texts Element → List (Named Sense) → List Draft → Levels K → Beside → ℕ → Stored K
+abbrev pub stored_of : {K : Type 0} → Texts Element → List (Named Sense) → List Draft → Levels K
+    → Beside → ℕ → Stored K
 stored_of p names drafts levels beside limit = record {
   names = map (named_means p) names;
   building = map (built_of p) drafts;
@@ -164,7 +173,8 @@ lone p id = if holders p id == 1 then share (text p id) else 0
 -- many
 abbrev pub charge_of_text : Texts Element → List ℕ → List ℕ → ℕ → ℕ
 charge_of_text p kept read id =
-    if nat_lt 0 (count id kept) then weight (text p id) else if nat_lt 0 (count id read) then share (text p id) else 0
+    if nat_lt 0 (count id kept) then weight (text p id) else if nat_lt 0 (count id read)
+    then share (text p id) else 0
 
 -- what all texts of the pool are charged, each once
 abbrev pub charge_of_texts : Texts Element → List ℕ → List ℕ → ℕ
@@ -173,14 +183,16 @@ charge_of_texts p kept read = sum_by (charge_of_text p kept read) (range_with_le
 -- what is charged beside texts, names and levels
 abbrev pub beside_cost : Beside → ℕ
 beside_cost beside =
-    charge_beside beside.gathering.gathered beside.registers.entries beside.traps.items (map word_in beside.words.items)
+    charge_beside beside.gathering.gathered beside.registers.entries beside.traps.items
+    (map word_in beside.words.items)
 
 -- how many names are those of requests
 abbrev pub acts : List (Named Sense) → ℕ
 acts names = sum_by (λ (n : Named Sense). act n.value) names
 
 -- what is always true of the texts, the names and the levels
-pub record IsStore {K : Type 0} (p : Texts Element) (names : Table Sense) (drafts : Items Draft) (levels : Levels K) (beside : Beside) (charge limit : ℕ) : Type 0 where
+pub record IsStore {K : Type 0} (p : Texts Element) (names : Table Sense) (drafts : Items Draft)
+    (levels : Levels K) (beside : Beside) (charge limit : ℕ) : Type 0 where
   pub held : IsHeld p (held_ids names.entries (draft_ids drafts.items) levels.levels)
   -- a text that is being built has no other holder
   pub alone : (k : ℕ) → 0 < count k (draft_ids drafts.items) → holders p k ≡ 1
@@ -189,7 +201,8 @@ pub record IsStore {K : Type 0} (p : Texts Element) (names : Table Sense) (draft
   pub few_acts : acts names.entries ≤ length REQUESTS
   pub charged : charge ≡ charge_of (stored_of p names.entries drafts.items levels beside limit)
   -- what is charged is a sum over the pool, in which each text stands once, however many levels read it
-  pub once : charge ≡ charge_of_texts p (values names.entries ++ draft_ids drafts.items) (ids_of levels.levels) + total levels.levels + beside_cost beside
+  pub once : charge ≡ charge_of_texts p (values names.entries ++ draft_ids drafts.items)
+      (ids_of levels.levels) + total levels.levels + beside_cost beside
   pub within : charge ≤ limit
   pub deep : length levels.levels ≤ levels.most
   pub small : limit < 2 ^ 32

@@ -103,7 +103,8 @@ charge_beside gathered registers traps words =
 abbrev pub charge_of : {K : Type 0} → Stored K → ℕ
 charge_of v =
     sum_by (λ (n : Named Means). weight_of n.value) v.names + sum_by (λ (b : Built). weight b.text) v.building
-    + (sum_by level_charge v.levels + sum_by text_charge v.texts) + charge_beside v.gathered v.registers v.traps v.words
+    + (sum_by level_charge v.levels + sum_by text_charge v.texts) + charge_beside v.gathered
+    v.registers v.traps v.words
 
 -- x, where v may be stored; else that it may not
 abbrev pub afforded : {K X : Type 0} → Stored K → X → Result X StoredBytes
@@ -169,7 +170,8 @@ removed name v = record v { names = without name v.names; texts = renamed_by (wi
 -- where one name has what another had
 abbrev pub moved : {K : Type 0} → Option Means → List ℕ → List ℕ → Stored K → Stored K
 moved None from to v = v
-moved (Some m) from to v = record v { names = put to m (without from v.names); texts = renamed_by (with_name from to) v.texts }
+moved (Some m) from to v =
+    record v { names = put to m (without from v.names); texts = renamed_by (with_name from to) v.texts }
 
 -- where one name has what another had, if that had anything and is another
 abbrev pub renamed : {K : Type 0} → List ℕ → List ℕ → Stored K → Stored K
@@ -208,7 +210,8 @@ blank_cell = elements.Cell (record { byte = code " "; under = false })
 
 -- a diverted line: blanks, cells, and its end
 abbrev pub line_of : ℕ → List Cell → ℕ → List Element
-line_of indent cells height = replicate indent blank_cell ++ (map elements.Cell cells ++ elements.LineEnd height ∷ [])
+line_of indent cells height =
+    replicate indent blank_cell ++ (map elements.Cell cells ++ elements.LineEnd height ∷ [])
 
 -- the greatest height and width that are told
 abbrev pub greatest : ℕ
@@ -216,24 +219,38 @@ greatest = 2147483647
 
 -- a diversion that took a line of so many cells
 abbrev pub taken : ℕ → ℕ → Diversion → Diversion
-taken cells height d = record d { height = min greatest (d.height + height); width = min greatest (max d.width (24 * cells)) }
+taken cells height d =
+    record d { height = min greatest (d.height + height); width = min greatest (max d.width (24 * cells)) }
 
 -- with a line more in the newest text being built
 abbrev pub diverted : {K : Type 0} → ℕ → List Cell → ℕ → Stored K → Stored K
 diverted indent cells height v = record v {
-  building = on_newest (λ b. record { text = b.text ++ line_of indent cells height; diversion = option_map (taken (indent + length cells) height) b.diversion }) v.building;
+  building =
+      on_newest (λ b. record {
+        text = b.text ++ line_of indent cells height;
+        diversion = option_map (taken (indent + length cells) height) b.diversion;
+      }) v.building;
 }
 
 -- where a diverted line ends whose cells, so many, were added one by one
 abbrev pub diverted_end : {K : Type 0} → ℕ → ℕ → Stored K → Stored K
 diverted_end cells height v = record v {
-  building = on_newest (λ b. record { text = b.text ++ elements.LineEnd height ∷ []; diversion = option_map (taken cells height) b.diversion }) v.building;
+  building =
+      on_newest (λ b. record {
+        text = b.text ++ elements.LineEnd height ∷ [];
+        diversion = option_map (taken cells height) b.diversion;
+      }) v.building;
 }
 
 -- where the newest text being built has this name
 abbrev pub named_newest : {K : Type 0} → List Built → List ℕ → Stored K → Stored K
 named_newest [] name v = v
-named_newest (b ∷ bs) name v = record v { names = put name (Words b.text) v.names; building = bs; texts = renamed_by (without_name name) v.texts }
+named_newest (b ∷ bs) name v =
+    record v {
+      names = put name (Words b.text) v.names;
+      building = bs;
+      texts = renamed_by (without_name name) v.texts;
+    }
 
 abbrev pub defined : {K : Type 0} → List ℕ → Stored K → Stored K
 defined name v = named_newest v.building name v
@@ -250,7 +267,12 @@ innermost (b ∷ bs) = first_of b.diversion (innermost bs)
 
 -- where the newest text being built has this trap, if it is a diversion's
 abbrev pub trapped : {K : Type 0} → Option Trap → Stored K → Stored K
-trapped trap v = record v { building = on_newest (λ b. record b { diversion = option_map (λ (d : Diversion). record d { trap = trap }) b.diversion }) v.building }
+trapped trap v =
+    record v {
+      building = on_newest
+          (λ b. record b { diversion = option_map (λ (d : Diversion). record d { trap = trap }) b.diversion })
+          v.building;
+    }
 
 -- the diversion of the newest text being built
 abbrev pub newest_diversion : List Built → Option Diversion
@@ -322,7 +344,8 @@ gathered_whole v = record v { gathered = with_end v.gathered }
 abbrev pub called : {K : Type 0} → List ℕ → Option (List Element) → Stored K → Stored K
 called name None v = ungathered v
 called name (Some text) v =
-    ungathered (reading text v.gathered.kept (16 + bytes_in v.gathered.kept) None (shared_by name text v.texts) v)
+    ungathered (reading text v.gathered.kept (16 + bytes_in v.gathered.kept) None
+    (shared_by name text v.texts) v)
 
 -- what a look at a text shows
 abbrev pub shown_of : {K : Type 0} → List Element → Shown K
@@ -361,7 +384,8 @@ left (l ∷ ls) v = left_in l ls v
 
 -- where the newest level goes, its text unread
 abbrev pub dropped_in : {K : Type 0} → Level K → List (Level K) → Stored K → Stored K
-dropped_in (Read l) ls v = record v { levels = mark_of l.resume ++ ls; texts = drop 1 v.texts; arguments = l.old }
+dropped_in (Read l) ls v =
+    record v { levels = mark_of l.resume ++ ls; texts = drop 1 v.texts; arguments = l.old }
 dropped_in (Mark mode) ls v = record v { levels = ls }
 
 abbrev pub dropped : {K : Type 0} → List (Level K) → Stored K → Stored K
@@ -441,7 +465,8 @@ stepped name up v = written (option_and_then (gone_on up) (find name v.registers
 
 -- where a register is written so
 abbrev pub formatted : {K : Type 0} → List ℕ → Format → Stored K → Stored K
-formatted name format v = with_register name (record (register_of (find name v.registers)) { format = format }) v
+formatted name format v =
+    with_register name (record (register_of (find name v.registers)) { format = format }) v
 
 -- where a register is undefined
 abbrev pub unregistered : {K : Type 0} → List ℕ → Stored K → Stored K

@@ -3,7 +3,7 @@
 //!
 //! It stands on nr_units, nr_pool, nr_levels and nr_symbol_tables. To read: `height`, `element`, `request`, `named`,
 //! `register`, `shown`, `refusal`; `memory`; `store`, and its calls in `store/`: `beginning`, `names`,
-//! `building`, `lines`, `levels`, `arguments`, `registers`, `traps`, `words`.
+//! `lines`, `building`, `levels`, `arguments`, `registers`, `traps`, `words`.
 #![tactic(auto)]
 
 pub mod element;

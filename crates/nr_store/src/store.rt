@@ -48,9 +48,11 @@ impl<K: Copy> Model for Store<K> {
 
     ghost Value = { Stored K };
 
-    ghost view = { λ s. stored_of s.pool s.names.entries s.drafts.items s.levels (beside_of s.gathering s.registers s.traps s.words) s.stored };
+    ghost view = { λ s. stored_of s.pool s.names.entries s.drafts.items s.levels
+        (beside_of s.gathering s.registers s.traps s.words) s.stored };
 
-    ghost invariant = { λ s. IsStore s.pool s.names s.drafts s.levels (beside_of s.gathering s.registers s.traps s.words) s.charge s.stored };
+    ghost invariant = { λ s. IsStore s.pool s.names s.drafts s.levels
+        (beside_of s.gathering s.registers s.traps s.words) s.charge s.stored };
 }
 
 impl<K: Copy> Store<K> {

@@ -34,9 +34,11 @@ pub record IsChained (kinds earlier latest : List ℕ) : Type 0 where
   pub reaches : (k : ℕ) → k < length kinds → k < number_at latest (number_at kinds k)
   pub latest_in : (c : ℕ) → number_at latest c ≤ length kinds
   pub latest_of : (c : ℕ) → 0 < number_at latest c → number_at kinds (number_at latest c - 1) ≡ c
-  pub passes : (k j : ℕ) → k < length kinds → j < k → number_at kinds j ≡ number_at kinds k → j < number_at earlier k
+  pub passes : (k j : ℕ) → k < length kinds → j < k → number_at kinds j ≡ number_at kinds k
+      → j < number_at earlier k
   pub earlier_in : (k : ℕ) → k < length kinds → number_at earlier k ≤ k
-  pub earlier_of : (k : ℕ) → k < length kinds → 0 < number_at earlier k → number_at kinds (number_at earlier k - 1) ≡ number_at kinds k
+  pub earlier_of : (k : ℕ) → k < length kinds → 0 < number_at earlier k
+      → number_at kinds (number_at earlier k - 1) ≡ number_at kinds k
 
 -- the latest word with these letters, counted from 1, or 0
 pub record IsLatest (letters : List ℕ) (ws : List Word) (at : ℕ) : Type 0 where

@@ -62,7 +62,8 @@ pub record IsLastOf (kinds : List ℕ) (c k at : ℕ) : Type 0 where
 -- each kind has its last entry, and each entry the last of its kind before it
 pub record AreChains (kinds earlier latest : List ℕ) : Type 0 where
   pub first : (c : ℕ) → c < 512 → IsLastOf kinds c (length kinds) (place_in latest c)
-  pub next : (k c : ℕ) → k < length kinds → place_in kinds k ≡ c → c < 512 → IsLastOf kinds c k (place_in earlier k)
+  pub next : (k c : ℕ) → k < length kinds → place_in kinds k ≡ c → c < 512
+      → IsLastOf kinds c k (place_in earlier k)
 
 -- the chain of a kind comes to a place or passes it: from an entry after that place, counted from 1, or from its beginning, which is 0
 pub record IsLink (kinds earlier latest : List ℕ) (c p over to : ℕ) : Type 0 where
@@ -80,7 +81,8 @@ led over to es = if over == 0 then es else slice_set es (over - 1) to
 abbrev pub begun : ℕ → ℕ → ℕ → List ℕ → List ℕ
 begun over c to ls = if over == 0 then slice_set ls c to else ls
 
-pub record IsLed {V : Type 0} (c over to : ℕ) (row new : List (Entry V)) (latest later : List ℕ) : Type 0 where
+pub record IsLed {V : Type 0} (c over to : ℕ) (row new : List (Entry V))
+    (latest later : List ℕ) : Type 0 where
   pub names : map named new ≡ map named row
   pub links : earliers new ≡ led over to (earliers row)
   pub begins : later ≡ begun over c to latest

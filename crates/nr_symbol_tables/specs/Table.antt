@@ -24,12 +24,14 @@ find name (e ∷ es) = if is_same e.name name then Some e.value else find name e
 -- another value for what has this name already
 abbrev pub replaced : {X : Type 0} → List ℕ → X → List (Named X) → List (Named X)
 replaced name x [] = []
-replaced name x (e ∷ es) = if is_same e.name name then record { name = name; value = x } ∷ es else e ∷ replaced name x es
+replaced name x (e ∷ es) =
+    if is_same e.name name then record { name = name; value = x } ∷ es else e ∷ replaced name x es
 
 -- a new name, before the first that comes after it
 abbrev pub inserted : {X : Type 0} → List ℕ → X → List (Named X) → List (Named X)
 inserted name x [] = record { name = name; value = x } ∷ []
-inserted name x (e ∷ es) = if is_before name e.name then record { name = name; value = x } ∷ (e ∷ es) else e ∷ inserted name x es
+inserted name x (e ∷ es) = if is_before name e.name then record { name = name; value = x } ∷ (e ∷ es)
+    else e ∷ inserted name x es
 
 -- the list where this name has this value
 abbrev pub put : {X : Type 0} → List ℕ → X → List (Named X) → List (Named X)

@@ -23,7 +23,8 @@ letters_of (b ∷ bs) = if b == code "-" then letters_of bs else b ∷ letters_o
 -- where its minus signs stand, each so many letters in, where so many came before
 abbrev pub points_from : ℕ → List ℕ → List ℕ
 points_from place [] = []
-points_from place (b ∷ bs) = if b == code "-" then place ∷ points_from place bs else points_from (place + 1) bs
+points_from place (b ∷ bs) =
+    if b == code "-" then place ∷ points_from place bs else points_from (place + 1) bs
 
 -- the word that is given so
 abbrev pub word_of : List ℕ → Word
@@ -35,7 +36,9 @@ bytes_of cells = map (λ (x : Cell). x.byte) cells
 
 -- a byte that may stand after a word: `.,;:!?)`
 abbrev pub closes : ℕ → Bool
-closes b = b == code "." || b == code "," || b == code ";" || b == code ":" || b == code "!" || b == code "?" || b == code ")"
+closes b =
+    b == code "." || b == code "," || b == code ";" || b == code ":" || b == code "!" || b
+    == code "?" || b == code ")"
 
 -- the bytes of a word without those at its end
 abbrev pub stem : List ℕ → List ℕ
@@ -43,8 +46,10 @@ stem bytes = take (length bytes - suffix_len closes bytes) bytes
 
 -- whether bytes are a word, or that word with an `s` after it; a word of no letters is none
 abbrev pub is_given : List ℕ → Word → Bool
-is_given bytes w = not (length w.letters == 0) && (bytes_eq bytes w.letters || bytes_eq bytes (w.letters ++ code "s" ∷ []))
+is_given bytes w =
+    not (length w.letters == 0) && (bytes_eq bytes w.letters || bytes_eq bytes (w.letters ++ code "s" ∷ []))
 
 -- where a word may be cut: at the points of the latest of these, the latest first, that it is
 abbrev pub points_of : List ℕ → List Word → List ℕ
-points_of bytes words = unwrap_or (option_map (λ (w : Word). w.points) (find (is_given (stem bytes)) words)) []
+points_of bytes words =
+    unwrap_or (option_map (λ (w : Word). w.points) (find (is_given (stem bytes)) words)) []

@@ -104,7 +104,10 @@ impl Model for HyphenationWords {
 
     ghost Value = { Items HyphenationWord };
 
-    ghost view = { λ w. record { items = reverse (map (λ (l : Linked). l.word) w.row.items); room = w.row.room } };
+    ghost view = { λ w. record {
+      items = reverse (map (λ (l : Linked). l.word) w.row.items);
+      room = w.row.room;
+    } };
 
     ghost invariant = { λ w. IsChained (kinds w.row.items) (earliers w.row.items) w.latest.value };
 }

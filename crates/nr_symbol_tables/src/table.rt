@@ -94,7 +94,8 @@ fn link_at<V: Copy>(row: &[Entry<V>], latest: &[usize; KINDS], kind: usize, at: 
     requires chained { AreChains (kinds (map named row.now)) (earliers row.now) latest.now }
     requires few { kind < 512 }
     requires some { 0 < at }
-    ensures { IsLink (kinds (map named row.now)) (earliers row.now) latest.now kind (at - 1) result.over result.to }
+    ensures { IsLink (kinds (map named row.now)) (earliers row.now) latest.now kind (at - 1)
+        result.over result.to }
 {
     let mut over = 0;
     let mut to = latest[kind];

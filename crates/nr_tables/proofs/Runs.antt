@@ -14,6 +14,7 @@ use Rattle.nr_tbl.specs.declared.running.Outcome.TheVariants.{Done, ReadFault, T
 use Rattle.nr_tbl.specs.Ending.{page_said}
 use Rattle.nr_tbl.specs.Running as reading
 use Rattle.nr_tbl.specs.Telling.{Piece, Tells}
+use Rattle.nr_layout.specs.declared.signs.Signs.{Signs}
 use Rattle.nr_layout.specs.declared.table.Table.{Table}
 use Rattle.nr_layout.specs.Held.{emptied}
 use Rattle.nr_layout.specs.Pens.{Bytes}
@@ -37,68 +38,68 @@ abbrev pub said_to : List Piece → Shown → Shown
 said_to ps s = record s { said = ps }
 
 -- who had heard nothing, and had a table that holds nothing
-pub record Starts {A : Type 0} (shows : A → Shown → Type 0) (old : A) (l : Limits) (s : Shown) : Type 0 where
+pub record Starts {A : Type 0} (shows : A → Shown → Type 0) (old : A) (g : Signs) (l : Limits) (s : Shown) : Type 0 where
   pub shows_it : shows old (said_to [] s)
-  pub table : s.table ≡ page_table l
+  pub table : s.table ≡ page_table g l
 
 -- what one shows in the end who has heard this
-shown : {A : Type 0} (shows : A → Shown → Type 0) (old new : A) (l : Limits) (ps : List Piece) (s : Shown) (a : Tape) (table : MutBor Table) (kept : MutBor (Items Complaint)) (missed : Bool)
-    → Starts shows old l s
+shown : {A : Type 0} (shows : A → Shown → Type 0) (old new : A) (g : Signs) (l : Limits) (ps : List Piece) (s : Shown) (a : Tape) (table : MutBor Table) (kept : MutBor (Items Complaint)) (missed : Bool)
+    → Starts shows old g l s
     → ((s : Shown) → shows new s → Shows a table kept missed s)
     → Tells shows hears ps old new
     → Shows a table kept missed (said_to ps s)
-shown shows old new l ps s a table kept missed start is told =
+shown shows old new g l ps s a table kept missed start is told =
     is _ (subst (shows new) (heard-said ps (said_to [] s)) (told (said_to [] s) start.shows_it))
 
 -- what was drawn, and what waited and went then
-sent : (l : Limits) (ps : List Piece) (s : Shown) (a b : Tape) (table : MutBor Table) (kept : MutBor (Items Complaint)) (missed : Bool)
-    → s.table ≡ page_table l → Shows a table kept missed (said_to ps s) → Draws a b (Bytes [] ∷ []) → Sends (first_tape s.held s.failures) b (set_bytes l ps)
-sent l ps s a b table kept missed at shows flushed =
-    let drawn : Draws (first_tape s.held s.failures) a (strokes ps (page_table l)) = subst (λ (t : Table). Draws (first_tape s.held s.failures) a (strokes ps t)) at shows.draws in
-    subst (Sends (first_tape s.held s.failures) b) (append-nil (set_bytes l ps)) (sends_then drawn.sends flushed.sends)
+sent : (g : Signs) (l : Limits) (ps : List Piece) (s : Shown) (a b : Tape) (table : MutBor Table) (kept : MutBor (Items Complaint)) (missed : Bool)
+    → s.table ≡ page_table g l → Shows a table kept missed (said_to ps s) → Draws a b (Bytes [] ∷ []) → Sends (first_tape s.held s.failures) b (set_bytes g l ps)
+sent g l ps s a b table kept missed at shows flushed =
+    let drawn : Draws (first_tape s.held s.failures) a (strokes ps (page_table g l)) = subst (λ (t : Table). Draws (first_tape s.held s.failures) a (strokes ps t)) at shows.draws in
+    subst (Sends (first_tape s.held s.failures) b) (append-nil (set_bytes g l ps)) (sends_then drawn.sends flushed.sends)
 
 -- a run, and its end
-module _ {A : Type 0} (shows : A → Shown → Type 0) (old new : A) (l : Limits) (cells : ℕ) (first last : Option Supply)
+module _ {A : Type 0} (shows : A → Shown → Type 0) (old new : A) (g : Signs) (l : Limits) (cells : ℕ) (first last : Option Supply)
     (s : Shown) (a b : Tape) (table : MutBor Table) (kept : MutBor (Items Complaint)) (missed : Bool)
-    (start : Starts shows old l s)
+    (start : Starts shows old g l s)
     (is : (s : Shown) → shows new s → Shows a table kept missed s)
     (flushed : Draws a b (Bytes [] ∷ [])) where
-  whole : (ps : List Piece) → Tells shows hears ps old new → b.failed ≡ false → b.pending ≡ [] → Puts (set_bytes l ps) ps s.held b.held kept.now missed
+  whole : (ps : List Piece) → Tells shows hears ps old new → b.failed ≡ false → b.pending ≡ [] → Puts (set_bytes g l ps) ps s.held b.held kept.now missed
   whole ps told live empty =
-      let h = shown shows old new l ps s a table kept missed start is told in
-      record { went_out = went_out b.failed s.held b.held b.pending (set_bytes l ps) (sent l ps s a b table kept missed start.table h flushed).sends live empty; keeps = h.keeps }
+      let h = shown shows old new g l ps s a table kept missed start is told in
+      record { went_out = went_out b.failed s.held b.held b.pending (set_bytes g l ps) (sent g l ps s a b table kept missed start.table h flushed).sends live empty; keeps = h.keeps }
 
-  part : (ps : List Piece) → Tells shows hears ps old new → PutsFront (set_bytes l ps) ps s.held b.held kept.now missed
+  part : (ps : List Piece) → Tells shows hears ps old new → PutsFront (set_bytes g l ps) ps s.held b.held kept.now missed
   part ps told =
-      let h = shown shows old new l ps s a table kept missed start is told in
-      record { went_out = front_out b.failed s.held b.held b.pending (set_bytes l ps) (sent l ps s a b table kept missed start.table h flushed).sends; keeps = h.keeps }
+      let h = shown shows old new g l ps s a table kept missed start is told in
+      record { went_out = front_out b.failed s.held b.held b.pending (set_bytes g l ps) (sent g l ps s a b table kept missed start.table h flushed).sends; keeps = h.keeps }
 
   parts : {ps qs : List Piece} → Tells shows hears ps old new ⊎ Tells shows hears qs old new
-      → PutsFront (set_bytes l ps) ps s.held b.held kept.now missed ⊎ PutsFront (set_bytes l qs) qs s.held b.held kept.now missed
+      → PutsFront (set_bytes g l ps) ps s.held b.held kept.now missed ⊎ PutsFront (set_bytes g l qs) qs s.held b.held kept.now missed
   parts (inl told) = inl (part _ told)
   parts (inr told) = inr (part _ told)
 
-  ran-whole : (o : Outcome) → reading.Ran shows hears l cells first last old new o → b.failed ≡ false → b.pending ≡ [] → Ran l cells first last s.held b.held kept.now missed o
+  ran-whole : (o : Outcome) → reading.Ran shows hears l cells first last old new o → b.failed ≡ false → b.pending ≡ [] → Ran g l cells first last s.held b.held kept.now missed o
   ran-whole Done r live empty = record { bytes = r.bytes; came = r.came; ends = r.ends; puts = whole _ r.told live empty }
   ran-whole (ReadFault at) r live empty = record { bytes = r.bytes; came = r.came; count = r.count; puts = whole _ r.told live empty }
   ran-whole TooLong r live empty = record { bytes = r.bytes; came = r.came; count = r.count; puts = whole _ r.told live empty }
   ran-whole WriteFault r live empty = record { bytes = r.bytes; came = r.came; puts = parts r.told }
 
-  broken : (o : Outcome) → reading.Ran shows hears l cells first last old new o → IsBroken l cells first last s.held b.held kept.now missed
+  broken : (o : Outcome) → reading.Ran shows hears l cells first last old new o → IsBroken g l cells first last s.held b.held kept.now missed
   broken Done r = record { bytes = r.bytes; came = r.came; puts = inr (part _ r.told) }
   broken (ReadFault at) r = record { bytes = r.bytes; came = r.came; puts = inl (part _ r.told) }
   broken TooLong r = record { bytes = r.bytes; came = r.came; puts = inl (part _ r.told) }
   broken WriteFault r = record { bytes = r.bytes; came = r.came; puts = parts r.told }
 
-  ran-ends : (wanted o : Outcome) → reading.Ran shows hears l cells first last old new wanted → EndsAs wanted o b → Ran l cells first last s.held b.held kept.now missed o
+  ran-ends : (wanted o : Outcome) → reading.Ran shows hears l cells first last old new wanted → EndsAs wanted o b → Ran g l cells first last s.held b.held kept.now missed o
   ran-ends wanted o r (inl (same, live, empty)) =
-      subst (λ x. Ran l cells first last s.held b.held kept.now missed x) (sym same) (ran-whole wanted r live empty)
+      subst (λ x. Ran g l cells first last s.held b.held kept.now missed x) (sym same) (ran-whole wanted r live empty)
   ran-ends wanted o r (inr (same, fails)) =
-      subst (λ x. Ran l cells first last s.held b.held kept.now missed x) (sym same) (broken wanted r)
+      subst (λ x. Ran g l cells first last s.held b.held kept.now missed x) (sym same) (broken wanted r)
 
   -- what was lent stays what it is
   heard-it : (ps : List Piece) → Tells shows hears ps old new → (all : List Piece) × Shows a table kept missed (said_to all s)
-  heard-it ps told = (ps, shown shows old new l ps s a table kept missed start is told)
+  heard-it ps told = (ps, shown shows old new g l ps s a table kept missed start is told)
 
   heard-some : (ps qs : List Piece) → Tells shows hears ps old new ⊎ Tells shows hears qs old new → (all : List Piece) × Shows a table kept missed (said_to all s)
   heard-some ps qs (inl told) = heard-it ps told
@@ -135,35 +136,35 @@ reads-end TooLong o before after t tells (inr (same, fails)) = subst (λ x. read
 reads-end WriteFault o before after t tells (inr (same, fails)) = subst (λ x. reading.TellsReads x before after) (sym same) tells
 
 -- what a run comes to, and what stays of what was lent
-pub record RunsTo (l : Limits) (cells : ℕ) (first last : Option Supply) (s : Shown) (b : Tape) (table : MutBor Table) (kept : MutBor (Items Complaint)) (missed : Bool) (o : Outcome) : Type 0 where
-  pub ran : Ran l cells first last s.held b.held kept.now missed o
+pub record RunsTo (g : Signs) (l : Limits) (cells : ℕ) (first last : Option Supply) (s : Shown) (b : Tape) (table : MutBor Table) (kept : MutBor (Items Complaint)) (missed : Bool) (o : Outcome) : Type 0 where
+  pub ran : Ran g l cells first last s.held b.held kept.now missed o
   pub failures : b.failures ≡ put_counted_if (reading.is_write_fault o) s.failures
   pub table_same : table.ghost_name ≡ s.table_name
   pub table_room : emptied table.now ≡ emptied s.table
   pub same : kept.ghost_name ≡ s.name
   pub room : kept.now.room ≡ s.room
 
-pub runs_to : {A : Type 0} (shows : A → Shown → Type 0) (old new : A) (l : Limits) (cells : ℕ) (first last : Option Supply)
+pub runs_to : {A : Type 0} (shows : A → Shown → Type 0) (old new : A) (g : Signs) (l : Limits) (cells : ℕ) (first last : Option Supply)
     (s : Shown) (a b : Tape) (table table' : MutBor Table) (kept kept' : MutBor (Items Complaint)) (missed missed' : Bool) (wanted o : Outcome)
-    → Starts shows old l s
+    → Starts shows old g l s
     → ((s : Shown) → shows new s → Shows a table kept missed s)
     → Draws a b (Bytes [] ∷ []) → table' ≡ table → IsSame kept missed kept' missed'
     → reading.Ran shows hears l cells first last old new wanted → a.failed ≡ reading.is_write_fault wanted → EndsAs wanted o b
-    → RunsTo l cells first last s b table' kept' missed' o
-runs_to shows old new l cells first last s a b table table' kept kept' missed missed' wanted o start is flushed here same ran failed ends =
-    let h = (heard-all shows old new l cells first last s a b table kept missed start is flushed wanted ran).1 in
-    let all : RunsTo l cells first last s b table kept missed o = record {
+    → RunsTo g l cells first last s b table' kept' missed' o
+runs_to shows old new g l cells first last s a b table table' kept kept' missed missed' wanted o start is flushed here same ran failed ends =
+    let h = (heard-all shows old new g l cells first last s a b table kept missed start is flushed wanted ran).1 in
+    let all : RunsTo g l cells first last s b table kept missed o = record {
       failures = faults-counted (reading.is_write_fault o) s.failures b.failures b.failed
           (sends_then h.draws.sends flushed.sends).failures (faults-told wanted o a b flushed failed ends);
-      ran = ran-ends shows old new l cells first last s a b table kept missed start is flushed wanted o ran ends;
+      ran = ran-ends shows old new g l cells first last s a b table kept missed start is flushed wanted o ran ends;
       table_same = h.table_same;
       table_room = h.table_room;
       same = h.same;
       room = h.room;
     } in
-    subst (λ t. RunsTo l cells first last s b t kept' missed' o) (sym here)
-    (subst (λ m. RunsTo l cells first last s b table kept' m o) (sym same.1)
-    (subst (λ k. RunsTo l cells first last s b table k missed o) (sym same.0) all))
+    subst (λ t. RunsTo g l cells first last s b t kept' missed' o) (sym here)
+    (subst (λ m. RunsTo g l cells first last s b table kept' m o) (sym same.1)
+    (subst (λ k. RunsTo g l cells first last s b table k missed o) (sym same.0) all))
 
 take_none : (n : ℕ) (xs : List Complaint) → xs ≡ [] → take n xs ≡ []
 take_none zero [] is = refl
@@ -196,13 +197,3 @@ begins out table kept missed same empty none = record {
   room = refl;
   keeps = record { first = empty ∙ sym (take_none kept.now.room [] refl); others = none ∙ sym (none_more kept.now.room) };
 }
-
--- of the same
-pub carried : (l l' : Limits) (cells cells' : ℕ) (first last : Option Supply) (old old' new new' : Option (List ℕ)) (kept kept' : Items Complaint) (missed : Bool) (o : Outcome)
-    → Ran l cells first last old new kept missed o → l ≡ l' → cells ≡ cells' → old ≡ old' → new ≡ new' → kept ≡ kept' → Ran l' cells' first last old' new' kept' missed o
-carried l l' cells cells' first last old old' new new' kept kept' missed o ran limits line before after told =
-    subst (λ k. Ran l' cells' first last old' new' k missed o) told
-    (subst (λ z. Ran l' cells' first last old' z kept missed o) after
-    (subst (λ y. Ran l' cells' first last y new kept missed o) before
-    (subst (λ c. Ran l' c first last old new kept missed o) line
-    (subst (λ m. Ran m cells first last old new kept missed o) limits ran))))

@@ -1,3 +1,4 @@
+pub mod Drawing
 pub mod Hearing
 pub mod Setting
 pub mod Running

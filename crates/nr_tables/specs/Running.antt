@@ -4,6 +4,7 @@ use Rattle.std.specs.Io.KnownBytes.{Appends}
 use Rattle.nr_units.specs.Items.{Items}
 use Rattle.nr_units.specs.Sink.{AppendsFront}
 use Rattle.nr_units.specs.Source.{Supply}
+use Rattle.nr_layout.specs.declared.signs.Signs.{Signs}
 use Rattle.nr_tbl.specs.declared.complaint.Complaint.{Complaint}
 use Rattle.nr_tbl.specs.declared.reader.Limits.{Limits}
 use Rattle.nr_tbl.specs.declared.running.Outcome.{Outcome}
@@ -14,20 +15,21 @@ use Rattle.nr_tbl.specs.Running.{Came, Ends}
 use Rattle.nr_tbl.specs.Telling.{Piece}
 use Rattle.nr_tables.specs.Setting.{Keeps, set_bytes, wrongs}
 
--- by which limits tables are turned, and for a line of so many cells
+-- with what tables are drawn, by which limits, and for a line of so many cells
 pub record Bounds : Type 0 where
+  pub signs : Signs
   pub limits : Limits
   pub cells : ℕ
 
 -- what a page of these bytes comes to, and what it comes to so far where more bytes may follow
-abbrev pub set_page : Limits → ℕ → List ℕ → List ℕ
-set_page l cells bytes = set_bytes l (page_said l cells bytes)
+abbrev pub set_page : Signs → Limits → ℕ → List ℕ → List ℕ
+set_page g l cells bytes = set_bytes g l (page_said l cells bytes)
 
 abbrev pub said_so_far : Limits → ℕ → List ℕ → List Piece
 said_so_far l cells bytes = (fed bytes (first_page l cells)).pieces
 
-abbrev pub set_so_far : Limits → ℕ → List ℕ → List ℕ
-set_so_far l cells bytes = set_bytes l (said_so_far l cells bytes)
+abbrev pub set_so_far : Signs → Limits → ℕ → List ℕ → List ℕ
+set_so_far g l cells bytes = set_bytes g l (said_so_far l cells bytes)
 
 -- these bytes went out, and what is wrong with what was said was told
 pub record Puts (out : List ℕ) (said : List Piece) (held new : Option (List ℕ)) (kept : Items Complaint)
@@ -36,20 +38,20 @@ pub record Puts (out : List ℕ) (said : List Piece) (held new : Option (List �
   pub keeps : Keeps (wrongs said) kept missed
 
 -- all bytes came
-pub record IsDone (l : Limits) (cells : ℕ) (first last : Option Supply) (held new : Option (List ℕ))
-    (kept : Items Complaint) (missed : Bool) : Type 0 where
+pub record IsDone (g : Signs) (l : Limits) (cells : ℕ) (first last : Option Supply)
+    (held new : Option (List ℕ)) (kept : Items Complaint) (missed : Bool) : Type 0 where
   pub bytes : List ℕ
   pub came : Came first bytes last
   pub ends : Ends first last
-  pub puts : Puts (set_page l cells bytes) (page_said l cells bytes) held new kept missed
+  pub puts : Puts (set_page g l cells bytes) (page_said l cells bytes) held new kept missed
 
 -- so many bytes came, and what is half read neither went out nor was told
-pub record IsCut (l : Limits) (cells : ℕ) (first last : Option Supply) (held new : Option (List ℕ))
-    (kept : Items Complaint) (missed : Bool) (at : ℕ) : Type 0 where
+pub record IsCut (g : Signs) (l : Limits) (cells : ℕ) (first last : Option Supply)
+    (held new : Option (List ℕ)) (kept : Items Complaint) (missed : Bool) (at : ℕ) : Type 0 where
   pub bytes : List ℕ
   pub came : Came first bytes last
   pub count : length bytes ≡ at
-  pub puts : Puts (set_so_far l cells bytes) (said_so_far l cells bytes) held new kept missed
+  pub puts : Puts (set_so_far g l cells bytes) (said_so_far l cells bytes) held new kept missed
 
 -- a part of these bytes went out, and what is wrong with what was said was told
 pub record PutsFront (out : List ℕ) (said : List Piece) (held new : Option (List ℕ)) (kept : Items Complaint)
@@ -58,20 +60,21 @@ pub record PutsFront (out : List ℕ) (said : List Piece) (held new : Option (Li
   pub keeps : Keeps (wrongs said) kept missed
 
 -- some bytes came, and a part of what they come to went out, without the end or with it
-pub record IsBroken (l : Limits) (cells : ℕ) (first last : Option Supply) (held new : Option (List ℕ))
-    (kept : Items Complaint) (missed : Bool) : Type 0 where
+pub record IsBroken (g : Signs) (l : Limits) (cells : ℕ) (first last : Option Supply)
+    (held new : Option (List ℕ)) (kept : Items Complaint) (missed : Bool) : Type 0 where
   pub bytes : List ℕ
   pub came : Came first bytes last
-  pub puts : PutsFront (set_so_far l cells bytes) (said_so_far l cells bytes) held new kept missed ⊎ PutsFront
-      (set_page l cells bytes) (page_said l cells bytes) held new kept missed
+  pub puts : PutsFront (set_so_far g l cells bytes) (said_so_far l cells bytes) held new kept missed
+      ⊎ PutsFront (set_page g l cells bytes) (page_said l cells bytes) held new kept missed
 
-abbrev pub Ran : Limits → ℕ → Option Supply → Option Supply → Option (List ℕ) → Option (List ℕ)
+abbrev pub Ran : Signs → Limits → ℕ → Option Supply → Option Supply → Option (List ℕ) → Option (List ℕ)
     → Items Complaint → Bool → Outcome → Type 0
-Ran l cells first last held new kept missed Done = IsDone l cells first last held new kept missed
-Ran l cells first last held new kept missed (ReadFault at) = IsCut l cells first last held new kept missed at
-Ran l cells first last held new kept missed TooLong =
-    IsCut l cells first last held new kept missed 1099511627776
-Ran l cells first last held new kept missed WriteFault = IsBroken l cells first last held new kept missed
+Ran g l cells first last held new kept missed Done = IsDone g l cells first last held new kept missed
+Ran g l cells first last held new kept missed (ReadFault at) =
+    IsCut g l cells first last held new kept missed at
+Ran g l cells first last held new kept missed TooLong =
+    IsCut g l cells first last held new kept missed 1099511627776
+Ran g l cells first last held new kept missed WriteFault = IsBroken g l cells first last held new kept missed
 
 abbrev pub is_read_fault : Outcome → Bool
 is_read_fault (ReadFault at) = true

@@ -11,6 +11,7 @@ use Rattle.nr_tbl.specs.declared.telling.Tell.TheVariants as tells
 use Rattle.nr_tbl.specs.declared.running.Outcome.{Outcome}
 use Rattle.nr_tbl.specs.declared.running.Outcome.TheVariants.{WriteFault}
 use Rattle.nr_tbl.specs.Telling.{Piece}
+use Rattle.nr_layout.specs.declared.signs.Signs.{Signs}
 use Rattle.nr_layout.specs.declared.table.Table.{Table}
 use Rattle.nr_layout.specs.Formats.{formats_begun, formats_ended, text_added}
 use Rattle.nr_layout.specs.Held.{emptied}
@@ -120,12 +121,12 @@ abbrev pub strokes : List Piece → Table → List Stroke
 strokes [] t = []
 strokes (p ∷ ps) t = strokes_in p.tell p.text t ++ strokes ps (set_in p.tell p.text t)
 
--- what a page comes to, by its limits
-abbrev pub page_table : Limits → Table
-page_table l = first_table l.formats l.row
+-- what a page comes to, drawn with these, by its limits
+abbrev pub page_table : Signs → Limits → Table
+page_table g l = first_table g l.formats l.row
 
-abbrev pub set_bytes : Limits → List Piece → List ℕ
-set_bytes l said = bytes_of (strokes said (page_table l)) first
+abbrev pub set_bytes : Signs → Limits → List Piece → List ℕ
+set_bytes g l said = bytes_of (strokes said (page_table g l)) first
 
 -- ---- what is wrong
 

@@ -1,12 +1,15 @@
 //! A whole page is turned.
 ghost use Rattle.std.specs.Prelude.{◌≡◌, [], false, IfOk, min};
+ghost use Rattle.nr_tables.specs.Drawing.{signs_of};
 ghost use Rattle.nr_tables.specs.Running as specs;
 ghost use Rattle.nr_tables.specs.Setting.{first_tape, page_table};
 ghost use Rattle.nr_layout.specs.Held.{emptied};
 ghost use Rattle.nr_tbl.specs.Running.{TellsReads, is_write_fault};
 ghost use Rattle.nr_units.specs.Failures.{put_counted_if};
 
+use super::drawing::signs_of;
 use super::press::Press;
+use nr_characters::Table as Characters;
 use nr_layout::{Out, Table};
 use nr_rooms::FixedVec;
 use nr_tbl::{Complaint, Limits, Outcome, Reader, read_page};
@@ -47,14 +50,26 @@ impl Model for Rooms {
 
     ghost Value = { Bounds };
 
-    ghost view = { λ r. record { limits = r.reader.limits; cells = r.reader.state.measure.line } };
+    ghost view = { λ r. record {
+      signs = r.table.signs;
+      limits = r.reader.limits;
+      cells = r.reader.state.measure.line;
+    } };
 
-    ghost invariant = { λ r. emptied r.table ≡ page_table r.reader.limits };
+    ghost invariant = { λ r. emptied r.table ≡ page_table r.table.signs r.reader.limits };
 }
 
 impl Rooms {
-    /// Takes the memory: for a table of so many bytes, of which rows have so many at most, where the line has so many cells.
-    pub fn new(alloc: Global, table: usize, row: usize, cells: usize) -> Result<Rooms, AllocError>
+    /// Takes the memory: for a table of so many bytes, of which rows have so many at most, where the line has so
+    /// many cells, and frames are drawn with what a table of characters has, or in ASCII.
+    pub fn new(
+        alloc: Global,
+        table: usize,
+        row: usize,
+        cells: usize,
+        characters: Option<Characters>,
+    ) -> Result<Rooms, AllocError>
+        ensures signs { IfOk result (λ made. made.signs ≡ signs_of characters) }
         ensures table { IfOk result (λ made. made.limits.formats ≡ min table 18446744073709551614) }
         ensures row { IfOk result (λ made. made.limits.row ≡ min row 18446744073709551614) }
         ensures cells { IfOk result (λ made. made.cells ≡ cells) }
@@ -65,7 +80,7 @@ impl Rooms {
         };
         Ok(Rooms {
             reader: Reader::new(alloc, limits, cells)?,
-            table: Table::new(alloc, limits.formats, limits.row)?,
+            table: Table::new(alloc, limits.formats, limits.row, signs_of(characters))?,
             pending: FixedVec::new(alloc, PENDING)?,
         })
     }
@@ -77,13 +92,13 @@ fn run<R: Source, W: Sink>(
     input: &mut R,
     press: &mut Press<'_, '_, '_, '_, W>,
 ) -> Outcome
-    requires table { press.old.table.now ≡ page_table reader.old.limits }
+    requires table { press.old.table.now ≡ page_table press.old.table.now.signs reader.old.limits }
     requires tape { press.old.out ≡ first_tape press.old.out.held press.old.out.failures }
     requires empty { press.old.complaints.now.items ≡ [] }
     requires missed { press.old.missed ≡ false }
-    ensures ran { specs.Ran reader.old.limits reader.old.state.measure.line (R.supply input.old)
-        (R.supply input.new) press.old.out.held press.new.out.held press.new.complaints.now
-        press.new.missed result }
+    ensures ran { specs.Ran press.old.table.now.signs reader.old.limits reader.old.state.measure.line
+        (R.supply input.old) (R.supply input.new) press.old.out.held press.new.out.held
+        press.new.complaints.now press.new.missed result }
     ensures table_same { press.new.table.ghost_name ≡ press.old.table.ghost_name }
     ensures table_room { emptied press.new.table.now ≡ emptied press.old.table.now }
     ensures same { press.new.complaints.ghost_name ≡ press.old.complaints.ghost_name }
@@ -106,12 +121,12 @@ fn turn<R: Source, W: Sink>(
     out: Out<'_, W>,
     complaints: &mut SliceVec<'_, Complaint>,
 ) -> (Report, W)
-    requires table { table.old ≡ page_table reader.old.limits }
+    requires table { table.old ≡ page_table table.old.signs reader.old.limits }
     requires tape { out ≡ first_tape out.held out.failures }
     requires empty { complaints.old.items ≡ [] }
-    ensures ran { specs.Ran reader.old.limits reader.old.state.measure.line (R.supply input.old)
-        (R.supply input.new) out.entry.held (W.held result.1) complaints.new result.0.missed
-        result.0.outcome }
+    ensures ran { specs.Ran table.old.signs reader.old.limits reader.old.state.measure.line
+        (R.supply input.old) (R.supply input.new) out.entry.held (W.held result.1) complaints.new
+        result.0.missed result.0.outcome }
     ensures table_room { emptied table.new ≡ emptied table.old }
     ensures room { complaints.new.room ≡ complaints.old.room }
     ensures read_faults { TellsReads result.0.outcome (R.failures input.old) (R.failures input.new) }
@@ -148,8 +163,9 @@ pub fn convert<R: Source, W: Sink>(
     rooms: &mut Rooms,
     complaints: &mut SliceVec<'_, Complaint>,
 ) -> (Report, W)
-    ensures ran { specs.Ran rooms.old.limits rooms.old.cells (R.supply input.old) (R.supply input.new)
-        (W.held output) (W.held result.1) complaints.new result.0.missed result.0.outcome }
+    ensures ran { specs.Ran rooms.old.signs rooms.old.limits rooms.old.cells (R.supply input.old)
+        (R.supply input.new) (W.held output) (W.held result.1) complaints.new result.0.missed
+        result.0.outcome }
     // A read fault is told only where the source failed once, and then always, but where the output fails too.
     ensures read_faults { TellsReads result.0.outcome (R.failures input.old) (R.failures input.new) }
     // A write fault is told where a call of the sink failed, and else none did.

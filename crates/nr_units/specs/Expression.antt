@@ -91,6 +91,9 @@ pub record IsLongest (c : Ctx) (text : List ℕ) (read : Read) (e : Expression) 
   pub value : read.value ≡ expression_value c e
 
 pub data IsAnswer (c : Ctx) (text : List ℕ) (read : Read) : Type 0 where
-  Longest : ((k : ℕ) → IsTooDeep text k → ⊥) → (e : Expression) → IsLongest c text read e → IsAnswer c text read
-  Nothing : ((k : ℕ) → IsTooDeep text k → ⊥) → ((m : ℕ) → (e : Expression) → IsFront text m e → ⊥) → read.value ≡ None → read.used ≡ 0 → IsAnswer c text read
-  TooDeep : IsTooDeep text read.used → ((k : ℕ) → k < read.used → IsTooDeep text k → ⊥) → read.value ≡ None → IsAnswer c text read
+  Longest : ((k : ℕ) → IsTooDeep text k → ⊥) → (e : Expression) → IsLongest c text read e
+      → IsAnswer c text read
+  Nothing : ((k : ℕ) → IsTooDeep text k → ⊥) → ((m : ℕ) → (e : Expression) → IsFront text m e → ⊥)
+      → read.value ≡ None → read.used ≡ 0 → IsAnswer c text read
+  TooDeep : IsTooDeep text read.used → ((k : ℕ) → k < read.used → IsTooDeep text k → ⊥) → read.value ≡ None
+      → IsAnswer c text read

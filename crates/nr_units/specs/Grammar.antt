@@ -98,9 +98,11 @@ abbrev mutual
   operand_text inside (Plus o) = code "+" ∷ operand_text inside o
   operand_text inside (Minus o) = code "-" ∷ operand_text inside o
   operand_text inside (Past n o) = code "|" ∷ (blanks inside n ++ operand_text inside o)
-  operand_text inside (Parentheses n e m) = code "(" ∷ (blanks true n ++ (expression_text true e ++ (blanks true m ++ code ")" ∷ [])))
+  operand_text inside (Parentheses n e m) =
+      code "(" ∷ (blanks true n ++ (expression_text true e ++ (blanks true m ++ code ")" ∷ [])))
 
   pub expression_text : Bool → Expression → List ℕ
   expression_text inside (Single o) = operand_text inside o
   expression_text inside (Joined e n operator m o) =
-      expression_text inside e ++ (blanks inside n ++ (operator_text operator ++ (blanks inside m ++ operand_text inside o)))
+      expression_text inside e
+      ++ (blanks inside n ++ (operator_text operator ++ (blanks inside m ++ operand_text inside o)))

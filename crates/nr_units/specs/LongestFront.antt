@@ -30,7 +30,8 @@ read_step on here false i longest (Some t) = on t longest
 abbrev pub read_symbol : (Scan → Read → Read) → Ctx → Scan → ℕ → Read → Option Symbol → Read
 read_symbol on c s i longest None = read_at (whole_value c s) i longest
 read_symbol on c s i longest (Some y) =
-    read_step on (read_at (whole_value c s) i longest) (is_one_too_many (length s.outer) y) i (noted (whole_value c s) y i longest) (after_symbol c s y)
+    read_step on (read_at (whole_value c s) i longest) (is_one_too_many (length s.outer) y) i
+    (noted (whole_value c s) y i longest) (after_symbol c s y)
 
 -- what is read where the first i bytes are scanned and these come next
 abbrev pub read_on : Ctx → Scan → ℕ → Read → List ℕ → Read

@@ -27,10 +27,14 @@ found b (entry ∷ more) = if b == entry.0 then Some entry.1 else found b more
 
 abbrev pub symbols : List (ℕ × Symbol)
 symbols =
-    (code ".", Point) ∷ (code "i", Letter Inch) ∷ (code "c", Letter Centimetre) ∷ (code "P", Letter Pica) ∷ (code "v", Letter VerticalSpace)
-    ∷ (code "m", Letter Em) ∷ (code "n", Letter En) ∷ (code "p", Letter PointScale) ∷ (code "u", Letter OneUnit) ∷ (code "+", Mark Add)
-    ∷ (code "-", Mark Subtract) ∷ (code "*", Mark Multiply) ∷ (code "/", Mark Divide) ∷ (code "%", Mark Remainder) ∷ (code "<", Mark Less)
-    ∷ (code ">", Mark Greater) ∷ (code "=", Mark Equal) ∷ (code "&", Mark And) ∷ (code ":", Mark Or) ∷ (code "|", Bar) ∷ (code "(", Open) ∷ (code ")", Close)
+    (code ".", Point) ∷ (code "i", Letter Inch) ∷ (code "c", Letter Centimetre) ∷ (code "P", Letter Pica)
+    ∷ (code "v", Letter VerticalSpace)
+    ∷ (code "m", Letter Em) ∷ (code "n", Letter En) ∷ (code "p", Letter PointScale)
+    ∷ (code "u", Letter OneUnit) ∷ (code "+", Mark Add)
+    ∷ (code "-", Mark Subtract) ∷ (code "*", Mark Multiply) ∷ (code "/", Mark Divide)
+    ∷ (code "%", Mark Remainder) ∷ (code "<", Mark Less)
+    ∷ (code ">", Mark Greater) ∷ (code "=", Mark Equal) ∷ (code "&", Mark And) ∷ (code ":", Mark Or)
+    ∷ (code "|", Bar) ∷ (code "(", Open) ∷ (code ")", Close)
     ∷ (code " ", Blank) ∷ []
 
 abbrev pub symbol_of : ℕ → Option Symbol
@@ -125,14 +129,16 @@ widened_left (Some l) = option_map (λ o. record { value = l.value; operator = o
 
 abbrev pub with_equal : Behind → Waiting → Option Level
 with_equal AnOperator w =
-    option_map (λ l. record { mode = Before Nothing; waiting = record { left = Some l; prefix = w.prefix } }) (widened_left w.left)
+    option_map (λ l. record { mode = Before Nothing; waiting = record { left = Some l; prefix = w.prefix } })
+    (widened_left w.left)
 with_equal Nothing w = None
 with_equal ASign w = None
 
 -- an operator's byte where an operand is wanted: a sign, or `=` after an operator
 abbrev pub with_sign : Behind → Operator → Waiting → Option Level
 with_sign b Add w = Some (record { mode = Before ASign; waiting = w })
-with_sign b Subtract w = Some (record { mode = Before ASign; waiting = record { left = w.left; prefix = behind_minus w.prefix } })
+with_sign b Subtract w =
+    Some (record { mode = Before ASign; waiting = record { left = w.left; prefix = behind_minus w.prefix } })
 with_sign b Equal w = with_equal b w
 with_sign b Multiply w = None
 with_sign b Divide w = None
@@ -147,7 +153,13 @@ with_sign b Or w = None
 
 abbrev pub behind_operator : Operator → Option ℤ → Level
 behind_operator o v =
-    record { mode = Before AnOperator; waiting = record { left = Some (record { value = v; operator = o }); prefix = no_prefix } }
+    record {
+      mode = Before AnOperator;
+      waiting = record {
+        left = Some (record { value = v; operator = o });
+        prefix = no_prefix;
+      };
+    }
 
 abbrev pub mark_in : Ctx → Operator → Waiting → Mode → Option Level
 mark_in c o w (Before b) = with_sign b o w
@@ -160,7 +172,11 @@ abbrev pub with_mark : Ctx → Operator → Level → Option Level
 with_mark c o l = mark_in c o l.waiting l.mode
 
 abbrev pub bar_in : ℤ → Waiting → Mode → Option Level
-bar_in here w (Before b) = Some (record { mode = Before Nothing; waiting = record { left = w.left; prefix = behind_bar here w.prefix } })
+bar_in here w (Before b) =
+    Some (record {
+      mode = Before Nothing;
+      waiting = record { left = w.left; prefix = behind_bar here w.prefix };
+    })
 bar_in here w LonePoint = None
 bar_in here w (Whole n) = None
 bar_in here w (Fraction n f p) = None
@@ -201,7 +217,8 @@ with_open s (Complete v) = None
 
 abbrev pub with_close : Ctx → Level → List Waiting → Option Scan
 with_close c l [] = None
-with_close c l (w ∷ ws) = option_map (λ v. record { level = completed (finished w v); outer = ws }) (level_value c l)
+with_close c l (w ∷ ws) =
+    option_map (λ v. record { level = completed (finished w v); outer = ws }) (level_value c l)
 
 abbrev pub with_blank : Ctx → Level → List Waiting → Option Scan
 with_blank c l [] = None

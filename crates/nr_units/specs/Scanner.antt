@@ -17,7 +17,8 @@ scan_of s = record { level = s.level; outer = reverse s.outer.items }
 abbrev pub Steps : Ctx → Scan → Symbol → Step → Scan → Type 0
 Steps c old y Taken new = (after_symbol c old y ≡ Some new) × (y ≡ Open → length old.outer < 64)
 Steps c old y Stuck new = (after_symbol c old y ≡ None) × (new ≡ old)
-Steps c old y TooDeep new = (y ≡ Open) × (length old.outer ≡ 64) × ((next : Scan) × (after_symbol c old y ≡ Some next))
+Steps c old y TooDeep new =
+    (y ≡ Open) × (length old.outer ≡ 64) × ((next : Scan) × (after_symbol c old y ≡ Some next))
 
 -- the longest expression among the first i bytes: all of them, where they have a value, else the one so far
 abbrev pub read_at : Option (Option ℤ) → ℕ → Read → Read

@@ -50,7 +50,8 @@ reader_supply known = option_map (λ bytes. record { bytes = bytes; faults = Any
 -- the bytes that were read already and then those of the reader, or nothing more once its end was seen
 abbrev pub buffered_supply : List ℕ → Bool → Option (List ℕ) → Option Supply
 buffered_supply kept true known = Some (record { bytes = kept; faults = Anytime })
-buffered_supply kept false known = option_map (λ rest. record { bytes = kept ++ rest; faults = Anytime }) known
+buffered_supply kept false known =
+    option_map (λ rest. record { bytes = kept ++ rest; faults = Anytime }) known
 
 -- ---- many bytes at once
 

@@ -51,9 +51,12 @@ impl<'a, R: Read + Drop> Buffered<'a, R> {
     #[cold]
     fn read_next(&mut self) -> Result<Option<u8>, Fault>
         requires { self.old.at ≡ self.old.end }
-        ensures gives { Gives (⟦<Buffered<'a, R> as Source>⟧.supply self.old) result (⟦<Buffered<'a, R> as Source>⟧.supply self.new) }
-        ensures failures { ⟦<Buffered<'a, R> as Source>⟧.failures self.new ≡ counted (⟦<Buffered<'a, R> as Source>⟧.failures self.old) result }
-        ensures end { result ≡ Ok None → ⟦<Buffered<'a, R> as Source>⟧.supply self.new ≡ reader_supply (Some []) }
+        ensures gives { Gives (⟦<Buffered<'a, R> as Source>⟧.supply self.old) result
+            (⟦<Buffered<'a, R> as Source>⟧.supply self.new) }
+        ensures failures { ⟦<Buffered<'a, R> as Source>⟧.failures self.new
+            ≡ counted (⟦<Buffered<'a, R> as Source>⟧.failures self.old) result }
+        ensures end { result ≡ Ok None → ⟦<Buffered<'a, R> as Source>⟧.supply self.new
+            ≡ reader_supply (Some []) }
     {
         if self.ended {
             return Ok(None);
@@ -83,9 +86,12 @@ impl<'a, R: Read + Drop> Buffered<'a, R> {
     fn read_alone(&mut self) -> Result<Option<u8>, Fault>
         requires at { self.old.at ≡ self.old.end }
         requires more { self.old.ended ≡ false }
-        ensures gives { Gives (⟦<Buffered<'a, R> as Source>⟧.supply self.old) result (⟦<Buffered<'a, R> as Source>⟧.supply self.new) }
-        ensures failures { ⟦<Buffered<'a, R> as Source>⟧.failures self.new ≡ counted (⟦<Buffered<'a, R> as Source>⟧.failures self.old) result }
-        ensures end { result ≡ Ok None → ⟦<Buffered<'a, R> as Source>⟧.supply self.new ≡ reader_supply (Some []) }
+        ensures gives { Gives (⟦<Buffered<'a, R> as Source>⟧.supply self.old) result
+            (⟦<Buffered<'a, R> as Source>⟧.supply self.new) }
+        ensures failures { ⟦<Buffered<'a, R> as Source>⟧.failures self.new
+            ≡ counted (⟦<Buffered<'a, R> as Source>⟧.failures self.old) result }
+        ensures end { result ≡ Ok None → ⟦<Buffered<'a, R> as Source>⟧.supply self.new
+            ≡ reader_supply (Some []) }
     {
         match read_byte(&mut self.reader) {
             Ok(Some(byte)) => Ok(Some(byte)),
@@ -106,7 +112,8 @@ impl<'a, R: Read + Drop> Source for Buffered<'a, R> {
     ghost use Rattle.nr_units.specs.Failures.{counted};
     ghost use Rattle.nr_units.specs.Source.{Gives, buffered_supply, reader_supply};
 
-    ghost supply = { λ s. buffered_supply (drop s.at (take s.end s.buffer.now)) s.ended (R.remaining s.reader) };
+    ghost supply = { λ s. buffered_supply (drop s.at (take s.end s.buffer.now)) s.ended
+        (R.remaining s.reader) };
 
     ghost at_hand = { λ s. drop s.at (take s.end s.buffer.now) };
 
@@ -124,10 +131,13 @@ impl<'a, R: Read + Drop> Source for Buffered<'a, R> {
 
     #[inline]
     fn next(&mut self) -> Result<Option<u8>, Fault>
-        ensures gives { Gives (⟦<Buffered<'a, R> as Source>⟧.supply self.old) result (⟦<Buffered<'a, R> as Source>⟧.supply self.new) }
-        ensures failures { ⟦<Buffered<'a, R> as Source>⟧.failures self.new ≡ counted (⟦<Buffered<'a, R> as Source>⟧.failures self.old) result }
+        ensures gives { Gives (⟦<Buffered<'a, R> as Source>⟧.supply self.old) result
+            (⟦<Buffered<'a, R> as Source>⟧.supply self.new) }
+        ensures failures { ⟦<Buffered<'a, R> as Source>⟧.failures self.new
+            ≡ counted (⟦<Buffered<'a, R> as Source>⟧.failures self.old) result }
         // At any reader, nothing comes after the end.
-        ensures end { result ≡ Ok None → ⟦<Buffered<'a, R> as Source>⟧.supply self.new ≡ reader_supply (Some []) }
+        ensures end { result ≡ Ok None → ⟦<Buffered<'a, R> as Source>⟧.supply self.new
+            ≡ reader_supply (Some []) }
     {
         if self.at < self.end {
             let byte = self.buffer[self.at];

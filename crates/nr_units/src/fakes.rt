@@ -20,7 +20,8 @@ pub struct Script<'a> {
 impl<'a> Script<'a> {
     /// Gives all of the bytes and then the end. No call fails.
     pub fn new(bytes: &'a [u8]) -> Self
-        ensures supply { ⟦<Script<'a> as Source>⟧.supply result ≡ Some (record { bytes = bytes.now; faults = Never }) }
+        ensures supply { ⟦<Script<'a> as Source>⟧.supply result
+            ≡ Some (record { bytes = bytes.now; faults = Never }) }
         ensures failures { ⟦<Script<'a> as Source>⟧.failures result ≡ 0 }
     {
         Script {
@@ -32,7 +33,8 @@ impl<'a> Script<'a> {
 
     /// Each call fails once `count` bytes were given, and none before.
     pub fn failing_after(bytes: &'a [u8], count: usize) -> Self
-        ensures supply { ⟦<Script<'a> as Source>⟧.supply result ≡ Some (record { bytes = bytes.now; faults = After count }) }
+        ensures supply { ⟦<Script<'a> as Source>⟧.supply result
+            ≡ Some (record { bytes = bytes.now; faults = After count }) }
         ensures failures { ⟦<Script<'a> as Source>⟧.failures result ≡ 0 }
     {
         Script {
@@ -134,7 +136,13 @@ impl<'a> Model for Slate<'a> {
 impl<'a> Slate<'a> {
     /// Holds nothing yet, and takes as many bytes as the slice is long.
     pub fn over(cells: &'a mut [u8]) -> Self
-        ensures { result ≡ record { bytes = []; passed = 0; room = length cells.entry.now; flush_fails = false; failures = no_failures } }
+        ensures { result ≡ record {
+          bytes = [];
+          passed = 0;
+          room = length cells.entry.now;
+          flush_fails = false;
+          failures = no_failures;
+        } }
     {
         Slate {
             cells,
@@ -148,7 +156,13 @@ impl<'a> Slate<'a> {
 
     /// The same, but each flush fails.
     pub fn failing_flush(cells: &'a mut [u8]) -> Self
-        ensures { result ≡ record { bytes = []; passed = 0; room = length cells.entry.now; flush_fails = true; failures = no_failures } }
+        ensures { result ≡ record {
+          bytes = [];
+          passed = 0;
+          room = length cells.entry.now;
+          flush_fails = true;
+          failures = no_failures;
+        } }
     {
         Slate {
             cells,
@@ -202,11 +216,16 @@ impl Sink for Slate<'_> {
     fn put(&mut self, bytes: &[u8]) -> Result<(), Fault>
         ensures ok { OnOk result (Appends (Some self.old.bytes) (Some self.new.bytes) bytes.now) }
         ensures err { OnErr result (AppendsFront (Some self.old.bytes) (Some self.new.bytes) bytes.now) }
-        ensures passed_on { OnOk result ((self.new.passed == length self.new.bytes) ≡ passed_on_with (self.old.passed == length self.old.bytes) bytes.now) }
+        ensures passed_on { OnOk result ((self.new.passed == length self.new.bytes)
+            ≡ passed_on_with (self.old.passed == length self.old.bytes) bytes.now) }
         ensures failures { self.new.failures ≡ put_counted self.old.failures result }
         ensures fits { IsOk result ↔ (length bytes.now ≤ self.old.room) }
         ensures bytes { self.new.bytes ≡ self.old.bytes ++ take self.old.room bytes.now }
-        ensures kept { self.new ≡ record self.old { bytes = self.new.bytes; room = self.old.room - length bytes.now; failures = self.new.failures } }
+        ensures kept { self.new ≡ record self.old {
+          bytes = self.new.bytes;
+          room = self.old.room - length bytes.now;
+          failures = self.new.failures;
+        } }
     {
         let room = self.cells.len() - self.used;
         if bytes.len() <= room {
@@ -220,7 +239,8 @@ impl Sink for Slate<'_> {
 
     fn flush(&mut self) -> Result<(), Fault>
         ensures held { Keeps (Some self.old.bytes) (Some self.new.bytes) }
-        ensures passed_on { (self.new.passed == length self.new.bytes) ≡ passed_on_by (self.old.passed == length self.old.bytes) result }
+        ensures passed_on { (self.new.passed == length self.new.bytes)
+            ≡ passed_on_by (self.old.passed == length self.old.bytes) result }
         ensures failures { self.new.failures ≡ flush_counted self.old.failures result }
         ensures fails { is_ok result ≡ not self.old.flush_fails }
         ensures kept { self.new ≡ record self.old { passed = self.new.passed; failures = self.new.failures } }
@@ -238,7 +258,10 @@ impl Slate<'_> {
     /// Takes bytes that fit.
     fn take(&mut self, bytes: &[u8])
         requires { length bytes.now ≤ self.old.room }
-        ensures taken { self.new ≡ record self.old { bytes = self.old.bytes ++ bytes.now; room = self.old.room - length bytes.now } }
+        ensures taken { self.new ≡ record self.old {
+          bytes = self.old.bytes ++ bytes.now;
+          room = self.old.room - length bytes.now;
+        } }
         // What it passed on, it took before.
         ensures passed { self.old.passed ≤ length self.old.bytes }
     {
@@ -281,10 +304,14 @@ impl Sink for Shut {
     ghost failures = { λ s. record { puts = s.failures; flushes = 0 } };
 
     fn put(&mut self, bytes: &[u8]) -> Result<(), Fault>
-        ensures ok { OnOk result (Appends (⟦<Shut as Sink>⟧.held self.old) (⟦<Shut as Sink>⟧.held self.new) bytes.now) }
-        ensures err { OnErr result (AppendsFront (⟦<Shut as Sink>⟧.held self.old) (⟦<Shut as Sink>⟧.held self.new) bytes.now) }
-        ensures passed_on { OnOk result (⟦<Shut as Sink>⟧.passed_on self.new ≡ passed_on_with (⟦<Shut as Sink>⟧.passed_on self.old) bytes.now) }
-        ensures failures { ⟦<Shut as Sink>⟧.failures self.new ≡ put_counted (⟦<Shut as Sink>⟧.failures self.old) result }
+        ensures ok { OnOk result (Appends (⟦<Shut as Sink>⟧.held self.old) (⟦<Shut as Sink>⟧.held self.new)
+            bytes.now) }
+        ensures err { OnErr result
+            (AppendsFront (⟦<Shut as Sink>⟧.held self.old) (⟦<Shut as Sink>⟧.held self.new) bytes.now) }
+        ensures passed_on { OnOk result (⟦<Shut as Sink>⟧.passed_on self.new
+            ≡ passed_on_with (⟦<Shut as Sink>⟧.passed_on self.old) bytes.now) }
+        ensures failures { ⟦<Shut as Sink>⟧.failures self.new
+            ≡ put_counted (⟦<Shut as Sink>⟧.failures self.old) result }
         ensures empty { IsOk result ↔ (bytes.now ≡ []) }
     {
         if bytes.is_empty() {
@@ -296,8 +323,10 @@ impl Sink for Shut {
 
     fn flush(&mut self) -> Result<(), Fault>
         ensures held { Keeps (⟦<Shut as Sink>⟧.held self.old) (⟦<Shut as Sink>⟧.held self.new) }
-        ensures passed_on { ⟦<Shut as Sink>⟧.passed_on self.new ≡ passed_on_by (⟦<Shut as Sink>⟧.passed_on self.old) result }
-        ensures failures { ⟦<Shut as Sink>⟧.failures self.new ≡ flush_counted (⟦<Shut as Sink>⟧.failures self.old) result }
+        ensures passed_on { ⟦<Shut as Sink>⟧.passed_on self.new
+            ≡ passed_on_by (⟦<Shut as Sink>⟧.passed_on self.old) result }
+        ensures failures { ⟦<Shut as Sink>⟧.failures self.new
+            ≡ flush_counted (⟦<Shut as Sink>⟧.failures self.old) result }
         ensures ok { IsOk result }
     {
         Ok(())

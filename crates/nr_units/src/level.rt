@@ -74,7 +74,10 @@ impl Waiting {
 
     /// After this value and operator.
     pub(crate) fn behind(value: Option<i32>, operator: Operator) -> Self
-        ensures { result ≡ record { left = Some (record { value = value; operator = operator }); prefix = no_prefix } }
+        ensures { result ≡ record {
+          left = Some (record { value = value; operator = operator });
+          prefix = no_prefix;
+        } }
     {
         Waiting {
             left: Some(Left { value, operator }),
@@ -108,7 +111,8 @@ impl Mode {
     /// After the byte, if it is a digit of a whole number.
     #[inline(always)]
     pub(crate) fn behind_digit(self, byte: u8) -> Option<Self>
-        ensures { IfSome result (λ mode. (symbol_of byte ≡ Some (Digit (byte - 48))) × (with_digit (byte - 48) self ≡ Some mode)) }
+        ensures { IfSome result (λ mode. (symbol_of byte ≡ Some (Digit (byte - 48)))
+            × (with_digit (byte - 48) self ≡ Some mode)) }
     {
         if !byte.is_ascii_digit() {
             return None;
@@ -325,7 +329,8 @@ impl Level {
     #[inline(never)]
     pub(crate) fn take(&mut self, symbol: Symbol, ctx: &Ctx, at: usize, longest: &mut Read) -> bool
         requires { symbol ≡ Open → ⊥ }
-        ensures taken { result ≡ true → after_symbol ctx.now (outermost self.old) symbol ≡ Some (outermost self.new) }
+        ensures taken { result ≡ true → after_symbol ctx.now (outermost self.old) symbol
+            ≡ Some (outermost self.new) }
         ensures stuck { result ≡ false → after_symbol ctx.now (outermost self.old) symbol ≡ None }
         ensures same { result ≡ false → self.new ≡ self.old }
         ensures noted { longest.new ≡ noted (level_value ctx.now self.old) symbol at longest.old }
@@ -416,7 +421,8 @@ impl Left {
 
     /// With `=` after the operator.
     fn widened(self) -> Option<Self>
-        ensures { result ≡ option_map (λ o. record { value = self.value; operator = o }) (widened self.operator) }
+        ensures { result ≡ option_map (λ o. record { value = self.value; operator = o })
+            (widened self.operator) }
     {
         let operator = match self.operator {
             Operator::Less => Operator::LessOrEqual,

@@ -128,10 +128,13 @@ impl<R: Read + Drop> Source for FromReader<R> {
     fn skip(&mut self, _n: usize) {}
 
     fn next(&mut self) -> Result<Option<u8>, Fault>
-        ensures gives { Gives (⟦<FromReader<R> as Source>⟧.supply self.old) result (⟦<FromReader<R> as Source>⟧.supply self.new) }
-        ensures failures { ⟦<FromReader<R> as Source>⟧.failures self.new ≡ counted (⟦<FromReader<R> as Source>⟧.failures self.old) result }
+        ensures gives { Gives (⟦<FromReader<R> as Source>⟧.supply self.old) result
+            (⟦<FromReader<R> as Source>⟧.supply self.new) }
+        ensures failures { ⟦<FromReader<R> as Source>⟧.failures self.new
+            ≡ counted (⟦<FromReader<R> as Source>⟧.failures self.old) result }
         // At any reader, nothing comes after the end.
-        ensures end { result ≡ Ok None → ⟦<FromReader<R> as Source>⟧.supply self.new ≡ reader_supply (Some []) }
+        ensures end { result ≡ Ok None → ⟦<FromReader<R> as Source>⟧.supply self.new
+            ≡ reader_supply (Some []) }
     {
         if self.ended {
             return Ok(None);

@@ -4,7 +4,7 @@
 pub(crate) type Name = (u8, u8, char);
 
 /// Letters of `latin`, and letters and signs of `english`, that another table lacks.
-pub(crate) static NAMES: [Name; 48] = [
+pub(crate) static NAMES: [Name; 41] = [
     (b'o', b'e', 'œ'),
     (b'/', b'L', 'Ł'),
     (b'/', b'l', 'ł'),
@@ -21,14 +21,7 @@ pub(crate) static NAMES: [Name; 48] = [
     (b'a', b'a', '´'),
     (b'c', b't', '¢'),
     (b'Y', b'e', '¥'),
-    (b'C', b's', '¤'),
-    (b'b', b'b', '¦'),
-    (b'a', b'd', '¨'),
-    (b'O', b'f', 'ª'),
-    (b'O', b'm', 'º'),
     (b'n', b'o', '¬'),
-    (b'a', b'-', '¯'),
-    (b'a', b'c', '¸'),
     (b'1', b'2', '½'),
     (b'1', b'4', '¼'),
     (b'3', b'4', '¾'),

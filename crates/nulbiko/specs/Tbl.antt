@@ -1,7 +1,8 @@
 -- What a call of tbl comes to.
-use Rattle.std.specs.Prelude.{◌≡◌, ℕ, List, [], ◌∷◌, length, Bool, false, Option, Some}
+use Rattle.std.specs.Prelude.{◌≡◌, ℕ, List, [], ◌∷◌, length, Bool, false, Option, None, Some}
 use Rattle.nr_units.specs.Items.{Items}
 use Rattle.nr_units.specs.Source.{Supply}
+use Rattle.nr_tables.specs.Drawing.{signs_of}
 use Rattle.nr_tables.specs.Running.{Ran, is_read_fault}
 use Rattle.nr_tbl.specs.declared.reader.Limits.{Limits}
 use Rattle.nr_tbl.specs.declared.complaint.Complaint.{Complaint}
@@ -46,14 +47,15 @@ first_line (c ∷ cs) = c.line
 abbrev pub limits : Limits
 limits = record { formats = 262144; row = 16384 }
 
--- The tables of the text were set for a line of so many cells, what came out was handed over, and what was wrong first is told.
+-- The tables of the text were set for a line of so many cells, with frames in ASCII, what came out was handed over, and what was wrong first is told.
 pub record SetsTables (line : ℕ) (text output : List ℕ) (report : Report) (code : ℕ) : Type 0 where
   pub outcome : Outcome
   pub left : Option Supply
   pub bytes : List ℕ
   pub kept : Items Complaint
   pub missed : Bool
-  pub ran : Ran limits line (Some (whole_text text)) left (Some []) (Some bytes) kept missed outcome
+  pub ran : Ran (signs_of None) limits line (Some (whole_text text)) left (Some []) (Some bytes) kept
+      missed outcome
   pub room : kept.room ≡ 1
   pub handed : IsHanded bytes output report.written
   pub code_is : code ≡ code_within (code_of outcome) (length bytes) (length output)

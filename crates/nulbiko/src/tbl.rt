@@ -71,7 +71,7 @@ fn set_tables(
     ensures not_memory { IfOk result (λ code. code ≢ 5) }
     ensures untouched { OnErr result ((output.new ≡ output.old) × (told.new ≡ told.old)) }
 {
-    let mut rooms = Rooms::new(alloc, TABLE, ROW, line)?;
+    let mut rooms = Rooms::new(alloc, TABLE, ROW, line, None)?;
     let pages = Pages::new(alloc, output.len())?;
     let mut text = Text::over(input);
     let mut slots = [Complaint::NONE];

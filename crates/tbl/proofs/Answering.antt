@@ -1,135 +1,135 @@
--- There is one answer.
-use Rattle.std.proofs.Common.{◌≡◌, ℕ, zero, suc, ◌<◌, ◌≤◌, List, [], ◌∷◌, ◌++◌, length, take, Some, Result, Ok, Err, get_or, slice_get, refl, sym, ap, subst, ◌∙◌, arith}
+-- There is one answer, and each word leads to it.
+use Rattle.std.proofs.Common.{◌≡◌, ℕ, ◌+◌, ◌<◌, ◌≤◌, List, [], ◌∷◌, length, drop, get_or, Bool, true, false, Option, None, Some, Result, Ok, codes, refl, sym, ap, subst, ◌∙◌, inl, inr}
+use Rattle.std.proofs.lemmas.List.{drop_all}
 use Rattle.std.specs.Borrow.{Bor}
-use Rattle.std.specs.List.{fold, AllZip}
+use Rattle.std.specs.Str.{bytes_eq}
+use Rattle.nr_characters.specs.declared.table.Table.{Table}
+use Rattle.nr_characters.specs.Tables.{table_named}
 use Rattle.tbl.specs.declared.words.BadWord.{BadWord}
 use Rattle.tbl.specs.declared.words.Job.{Job}
 use Rattle.tbl.specs.declared.words.Setting.{Setting}
 use Rattle.tbl.specs.declared.words.Which.{Which}
 use Rattle.tbl.specs.declared.words.Which.TheVariants.{Formats, Row, Line}
 use Rattle.tbl.specs.declared.words.Wrong.{Wrong}
-use Rattle.tbl.specs.Words.{IsAnswer, IsBad, IsFirstBad, IsGood, Means, asked_by, options, texts, usual_job, with_number, with_setting}
-use Rattle.tbl.proofs.Parting.{texts-get, texts-take}
+use Rattle.tbl.specs.declared.words.Wrong.TheVariants.{UnknownTable}
+use Rattle.tbl.specs.Words.{ComesTo, IsAnswer, IsBad, Means, Named, Sets, Stands, at, is_option, is_wrong, texts, usual_job, with_number, with_setting, with_table}
+use Rattle.tbl.proofs.Parting.{texts-from}
 use Rattle.tbl.proofs.Reading.{Bad-means, Bad-one, Means-one}
 
--- ---- one option after the other
+-- ---- a word, and those behind it
 
--- these options were read, and this is asked for so far
-pub record Taken (words : List (List ℕ)) (files : ℕ) (job : Job) : Type 0 where
-  pub settings : List Setting
-  pub meant : AllZip Means settings words
-  pub job_is : job ≡ asked_by settings files
-  pub files_are : job.files ≡ files
-  pub formats : job.formats ≤ 1048576
-  pub row : job.row ≤ 1048576
+pub named : (job : Job) (place : ℕ) (name : List ℕ) (words : List (List ℕ)) (answer : Result Job BadWord) (t : Table) → table_named name ≡ Some t
+    → ComesTo false (with_table t job) (place + 1) words answer → ComesTo true job place (name ∷ words) answer
+named job place name words answer t is rest =
+    subst (λ (o : Option Table). Named o place answer (λ t. ComesTo false (with_table t job) (place + 1) words answer)) (sym is) rest
 
-AllZip-more : {A B : Type 0} (R : A → B → Type 0) (xs : List A) (ys : List B) (x : A) (y : B) → AllZip R xs ys → R x y → AllZip R (xs ++ x ∷ []) (ys ++ y ∷ [])
-AllZip-more R [] [] x y all last = (last, tt)
-AllZip-more R [] (z ∷ ys) x y all last = absurd all
-AllZip-more R (z ∷ xs) [] x y all last = absurd all
-AllZip-more R (w ∷ xs) (z ∷ ys) x y all last = (all.0, AllZip-more R xs ys x y all.1 last)
+pub unnamed : (job : Job) (place : ℕ) (name : List ℕ) (words : List (List ℕ)) → table_named name ≡ None
+    → ComesTo true job place (name ∷ words) (is_wrong place UnknownTable)
+unnamed job place name words is =
+    subst (λ (o : Option Table). Named o place (is_wrong place UnknownTable) (λ t. ComesTo false (with_table t job) (place + 1) words (is_wrong place UnknownTable))) (sym is) refl
 
-fold-append : {A B : Type 0} (f : B → A → B) (b : B) (xs : List A) (x : A) → fold f b (xs ++ x ∷ []) ≡ f (fold f b xs) x
-fold-append f b [] x = refl
-fold-append f b (y ∷ xs) x = fold-append f (f b y) xs x
+stands-file : (option names : Bool) (F T O : Type 0) → option ≡ false → F → Stands option names F T O
+stands-file false names F T O is x = x
+stands-file true names F T O is x = absurd (let no : true ≡ false = is in cc)
 
-with_number-formats : (which : Which) (n : ℕ) (job : Job) → n ≤ 1048576 → job.formats ≤ 1048576 → (with_number which n job).formats ≤ 1048576
-with_number-formats Formats n job fits old = fits
-with_number-formats Row n job fits old = old
-with_number-formats Line n job fits old = old
+stands-table : (option names : Bool) (F T O : Type 0) → option ≡ true → names ≡ true → T → Stands option names F T O
+stands-table true true F T O is so x = x
+stands-table false names F T O is so x = absurd (let no : false ≡ true = is in cc)
+stands-table true false F T O is so x = absurd (let no : false ≡ true = so in cc)
 
-with_number-row : (which : Which) (n : ℕ) (job : Job) → n ≤ 1048576 → job.row ≤ 1048576 → (with_number which n job).row ≤ 1048576
-with_number-row Formats n job fits old = old
-with_number-row Row n job fits old = fits
-with_number-row Line n job fits old = old
+stands-option : (option names : Bool) (F T O : Type 0) → option ≡ true → names ≡ false → O → Stands option names F T O
+stands-option true false F T O is so x = x
+stands-option false names F T O is so x = absurd (let no : false ≡ true = is in cc)
+stands-option true true F T O is so x = absurd (let no : true ≡ false = so in cc)
 
-with_number-files : (which : Which) (n : ℕ) (job : Job) → (with_number which n job).files ≡ job.files
-with_number-files Formats n job = refl
-with_number-files Row n job = refl
-with_number-files Line n job = refl
+pub table_follows : (job : Job) (place : ℕ) (word : List ℕ) (words : List (List ℕ)) (answer : Result Job BadWord)
+    → is_option word ≡ true → bytes_eq word (codes "-u") ≡ true → ComesTo true job (place + 1) words answer → ComesTo false job place (word ∷ words) answer
+table_follows job place word words answer option names rest = stands-table (is_option word) (bytes_eq word (codes "-u")) _ _ _ option names rest
 
-pub Taken-nil : (files : ℕ) → Taken [] files (usual_job files)
-Taken-nil files = record { settings = []; meant = tt; job_is = refl; files_are = refl; formats = omega arith; row = omega arith }
+pub option_sets : (job : Job) (place : ℕ) (word : List ℕ) (words : List (List ℕ)) (answer : Result Job BadWord) (s : Setting)
+    → is_option word ≡ true → bytes_eq word (codes "-u") ≡ false → Means s word → ComesTo false (with_setting s job) (place + 1) words answer
+    → ComesTo false job place (word ∷ words) answer
+option_sets job place word words answer s option names means rest =
+    stands-option (is_option word) (bytes_eq word (codes "-u")) _ _ _ option names (inl (s, means, rest))
 
-pub Taken-more : (words : List (List ℕ)) (files : ℕ) (old new : Job) (word : List ℕ) (setting : Setting)
-    → Taken words files old → Means setting word → new ≡ with_setting setting old → Taken (words ++ word ∷ []) files new
-Taken-more words files old new word setting taken means is = record {
-  settings = taken.settings ++ setting ∷ [];
-  meant = AllZip-more Means taken.settings words setting word taken.meant means;
-  job_is = is ∙ ap (with_setting setting) taken.job_is ∙ sym (fold-append (λ job s. with_setting s job) (usual_job files) taken.settings setting);
-  files_are = ap (λ (job : Job). job.files) is ∙ with_number-files setting.which setting.limit old ∙ taken.files_are;
-  formats = subst (λ (job : Job). job.formats ≤ 1048576) (sym is) (with_number-formats setting.which setting.limit old means.most taken.formats);
-  row = subst (λ (job : Job). job.row ≤ 1048576) (sym is) (with_number-row setting.which setting.limit old means.most taken.row);
-}
+pub option_bad : (job : Job) (place : ℕ) (word : List ℕ) (words : List (List ℕ)) (wrong : Wrong)
+    → is_option word ≡ true → bytes_eq word (codes "-u") ≡ false → IsBad wrong word → ComesTo false job place (word ∷ words) (is_wrong place wrong)
+option_bad job place word words wrong option names bad =
+    stands-option (is_option word) (bytes_eq word (codes "-u")) _ _ _ option names (inr (wrong, bad, refl))
 
--- all options were read
-pub Good-taken : (words : List (List ℕ)) (files : ℕ) (job : Job) → files ≡ length (options words) → Taken (options words) files job → IsGood words job
-Good-taken words files job is taken = record { settings = taken.settings; meant = taken.meant; job_is = taken.job_is ∙ ap (asked_by taken.settings) is }
-
--- those before a bad one were read
-pub FirstBad-taken : (words : List (List ℕ)) (front : List (Bor (List ℕ))) (place files : ℕ) (job : Job) (wrong : Wrong) (d : Bor (List ℕ))
-    → texts front ≡ options words → place < length front → Taken (texts (take place front)) files job → IsBad wrong (get_or front place d).now
-    → IsFirstBad words (record { place = place; wrong = wrong })
-FirstBad-taken words front place files job wrong d is within taken bad = record {
-  settings = taken.settings;
-  meant = subst (λ (ws : List (List ℕ)). AllZip Means taken.settings ws) (texts-take place front ∙ ap (take place) is) taken.meant;
-  word = (get_or front place d).now;
-  there = ap (λ (ws : List (List ℕ)). slice_get ws place) (sym is) ∙ texts-get front place d within;
-  is_bad = bad;
-}
+pub file_stands : (job : Job) (place : ℕ) (word : List ℕ) (words : List (List ℕ)) → is_option word ≡ false
+    → ComesTo false job place (word ∷ words) (Ok (at place job))
+file_stands job place word words is = stands-file (is_option word) (bytes_eq word (codes "-u")) _ _ _ is refl
 
 -- ---- no other answer
 
--- the same words mean the same
-same_settings : (settings others : List Setting) (words : List (List ℕ)) → AllZip Means settings words → AllZip Means others words → others ≡ settings
-same_settings [] [] [] meant mean = refl
-same_settings [] (o ∷ others) [] meant mean = absurd mean
-same_settings [] others (w ∷ words) meant mean = absurd meant
-same_settings (s ∷ settings) others [] meant mean = absurd meant
-same_settings (s ∷ settings) [] (w ∷ words) meant mean = absurd mean
-same_settings (s ∷ settings) (o ∷ others) (w ∷ words) meant mean =
-    let head : o ≡ s = Means-one s o w meant.0 mean.0 in
-    let tail = same_settings settings others words meant.1 mean.1 in cc
+one_named : (o : Option Table) (place : ℕ) (a b : Result Job BadWord) (P Q : Table → Type 0)
+    → ((t : Table) → P t → Q t → b ≡ a) → Named o place a P → Named o place b Q → b ≡ a
+one_named None place a b P Q same x y = y ∙ sym x
+one_named (Some t) place a b P Q same x y = same t x y
 
--- where all mean something, none is bad
-none_bad : (settings : List Setting) (words : List (List ℕ)) (place : ℕ) (word : List ℕ) (wrong : Wrong)
-    → AllZip Means settings words → slice_get words place ≡ Some word → IsBad wrong word → ⊥
-none_bad settings [] place word wrong meant there bad = cc
-none_bad [] (w ∷ words) place word wrong meant there bad = meant
-none_bad (s ∷ settings) (w ∷ words) zero word wrong meant there bad =
-    let same : word ≡ w = cc in
-    Bad-means wrong s w (subst (λ (text : List ℕ). IsBad wrong text) same bad) meant.0
-none_bad (s ∷ settings) (w ∷ words) (suc place) word wrong meant there bad = none_bad settings words place word wrong meant.1 there bad
+one_sets : (word : List ℕ) (place : ℕ) (a b : Result Job BadWord) (P Q : Setting → Type 0)
+    → ((s : Setting) → P s → Q s → b ≡ a) → Sets word place a P → Sets word place b Q → b ≡ a
+one_sets word place a b P Q same (inl (s, m, p)) (inl (s', m', q)) = same s p (subst Q (Means-one s s' word m m') q)
+one_sets word place a b P Q same (inl (s, m, p)) (inr (w, bad, is)) = absurd (Bad-means w s word bad m)
+one_sets word place a b P Q same (inr (w, bad, is)) (inl (s, m, q)) = absurd (Bad-means w s word bad m)
+one_sets word place a b P Q same (inr (w, bad, is)) (inr (w', bad', is')) = is' ∙ ap (is_wrong place) (Bad-one w w' word bad bad') ∙ sym is
 
--- one word is the first that is bad, in one way
-one_bad : (settings others : List Setting) (words : List (List ℕ)) (place place' : ℕ) (word word' : List ℕ) (wrong wrong' : Wrong)
-    → AllZip Means settings (take place words) → slice_get words place ≡ Some word → IsBad wrong word
-    → AllZip Means others (take place' words) → slice_get words place' ≡ Some word' → IsBad wrong' word' → (place' ≡ place) × (wrong' ≡ wrong)
-one_bad settings others [] place place' word word' wrong wrong' meant there bad meant' there' bad' = cc
-one_bad settings others (w ∷ words) zero zero word word' wrong wrong' meant there bad meant' there' bad' =
-    let same : word' ≡ word = cc in
-    (refl, Bad-one wrong wrong' word bad (subst (λ (text : List ℕ). IsBad wrong' text) same bad'))
-one_bad settings [] (w ∷ words) zero (suc place') word word' wrong wrong' meant there bad meant' there' bad' = absurd meant'
-one_bad settings (o ∷ others) (w ∷ words) zero (suc place') word word' wrong wrong' meant there bad meant' there' bad' =
-    let same : word ≡ w = cc in
-    absurd (Bad-means wrong o w (subst (λ (text : List ℕ). IsBad wrong text) same bad) meant'.0)
-one_bad [] others (w ∷ words) (suc place) place' word word' wrong wrong' meant there bad meant' there' bad' = absurd meant
-one_bad (s ∷ settings) others (w ∷ words) (suc place) zero word word' wrong wrong' meant there bad meant' there' bad' =
-    let same : word' ≡ w = cc in
-    absurd (Bad-means wrong' s w (subst (λ (text : List ℕ). IsBad wrong' text) same bad') meant.0)
-one_bad (s ∷ settings) [] (w ∷ words) (suc place) (suc place') word word' wrong wrong' meant there bad meant' there' bad' = absurd meant'
-one_bad (s ∷ settings) (o ∷ others) (w ∷ words) (suc place) (suc place') word word' wrong wrong' meant there bad meant' there' bad' =
-    let one = one_bad settings others words place place' word word' wrong wrong' meant.1 there bad meant'.1 there' bad' in
-    (ap suc one.0, one.1)
+one_stands : (option names : Bool) (E F G T U O P : Type 0) → (F → G → E) → (T → U → E) → (O → P → E)
+    → Stands option names F T O → Stands option names G U P → E
+one_stands false names E F G T U O P file table other x y = file x y
+one_stands true true E F G T U O P file table other x y = table x y
+one_stands true false E F G T U O P file table other x y = other x y
 
-pub only_good : (words : List (List ℕ)) (job : Job) → IsGood words job → (answer : Result Job BadWord) → IsAnswer words answer → answer ≡ Ok job
-only_good words job good (Ok other) is =
-    ap Ok (is.job_is ∙ ap (λ (settings : List Setting). asked_by settings (length (options words))) (same_settings good.settings is.settings (options words) good.meant is.meant) ∙ sym good.job_is)
-only_good words job good (Err bad) is = absurd (none_bad good.settings (options words) bad.place is.word bad.wrong good.meant is.there is.is_bad)
+pub one_answer : (awaits : Bool) (job : Job) (place : ℕ) (words : List (List ℕ)) (a b : Result Job BadWord)
+    → ComesTo awaits job place words a → ComesTo awaits job place words b → b ≡ a
+one_answer true job place [] a b x y = y ∙ sym x
+one_answer false job place [] a b x y = y ∙ sym x
+one_answer true job place (name ∷ words) a b x y =
+    one_named (table_named name) place a b _ _ (λ t. one_answer false (with_table t job) (place + 1) words a b) x y
+one_answer false job place (word ∷ words) a b x y =
+    one_stands (is_option word) (bytes_eq word (codes "-u")) (b ≡ a) _ _ _ _ _ _ (λ p q. q ∙ sym p)
+    (one_answer true job (place + 1) words a b)
+    (one_sets word place a b _ _ (λ s. one_answer false (with_setting s job) (place + 1) words a b)) x y
 
-pub only_bad : (words : List (List ℕ)) (bad : BadWord) → IsFirstBad words bad → (answer : Result Job BadWord) → IsAnswer words answer → answer ≡ Err bad
-only_bad words bad is (Ok job) good = absurd (none_bad good.settings (options words) bad.place is.word bad.wrong good.meant is.there is.is_bad)
-only_bad words bad is (Err other) others =
-    let one = one_bad is.settings others.settings (options words) bad.place other.place is.word others.word bad.wrong other.wrong is.meant is.there is.is_bad others.meant others.there others.is_bad in
-    let P : ℕ → Wrong → Result Job BadWord = λ place wrong. Err (record { place = place; wrong = wrong }) in
-    ap (λ (place : ℕ). P place other.wrong) one.0 ∙ ap (P bad.place) one.1
+pub only : (words : List (List ℕ)) (answer : Result Job BadWord) → IsAnswer words answer → (other : Result Job BadWord) → IsAnswer words other → other ≡ answer
+only words answer is other so = one_answer false usual_job 0 words answer other is so
+
+-- ---- what is left of the words comes to the answer
+
+abbrev pub Leads : Bool → Job → ℕ → List (Bor (List ℕ)) → Type 0
+Leads awaits job place words = (answer : Result Job BadWord) → ComesTo awaits job place (texts (drop place words)) answer → IsAnswer (texts words) answer
+
+pub next_word : (awaits known : Bool) (job : Job) (place : ℕ) (words : List (Bor (List ℕ))) (d : Bor (List ℕ)) → place < length words → awaits ≡ known
+    → Leads awaits job place words → (answer : Result Job BadWord) → ComesTo known job place ((get_or words place d).now ∷ texts (drop (place + 1) words)) answer
+    → IsAnswer (texts words) answer
+next_word awaits known job place words d within is leads answer comes =
+    leads answer (subst (λ (ws : List (List ℕ)). ComesTo awaits job place ws answer) (sym (texts-from words place d within))
+    (subst (λ (b : Bool). ComesTo b job place ((get_or words place d).now ∷ texts (drop (place + 1) words)) answer) (sym is) comes))
+
+pub no_word : (awaits known : Bool) (job : Job) (place : ℕ) (words : List (Bor (List ℕ))) → length words ≤ place → awaits ≡ known
+    → Leads awaits job place words → (answer : Result Job BadWord) → ComesTo known job place [] answer → IsAnswer (texts words) answer
+no_word awaits known job place words behind is leads answer comes =
+    leads answer (subst (λ (ws : List (Bor (List ℕ))). ComesTo awaits job place (texts ws) answer) (sym (drop_all place words behind))
+    (subst (λ (b : Bool). ComesTo b job place [] answer) (sym is) comes))
+
+pub goes_on : (awaits known : Bool) (job so : Job) (place : ℕ) (words : List (List ℕ)) (answer : Result Job BadWord) → awaits ≡ known → job ≡ so
+    → ComesTo awaits job place words answer → ComesTo known so place words answer
+goes_on awaits known job so place words answer is same comes =
+    subst (λ (b : Bool). ComesTo b so place words answer) is (subst (λ (j : Job). ComesTo awaits j place words answer) same comes)
+
+-- two texts that are compared
+pub compared : (a b v w : List ℕ) (e : Bool) → a ≡ v → b ≡ w → e ≡ bytes_eq a b → bytes_eq v w ≡ e
+compared a b v w e is so found = ap (λ (x : List ℕ). bytes_eq x w) (sym is) ∙ ap (bytes_eq a) (sym so) ∙ sym found
+
+-- ---- limits stay in their range
+
+pub formats_fit : (which : Which) (n : ℕ) (job : Job) → n ≤ 1048576 → job.formats ≤ 1048576 → (with_number which n job).formats ≤ 1048576
+formats_fit Formats n job fits old = fits
+formats_fit Row n job fits old = old
+formats_fit Line n job fits old = old
+
+pub row_fits : (which : Which) (n : ℕ) (job : Job) → n ≤ 1048576 → job.row ≤ 1048576 → (with_number which n job).row ≤ 1048576
+row_fits Formats n job fits old = old
+row_fits Row n job fits old = fits
+row_fits Line n job fits old = old

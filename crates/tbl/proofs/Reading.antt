@@ -5,7 +5,7 @@ use Rattle.tbl.specs.declared.words.Setting.{Setting}
 use Rattle.tbl.specs.declared.words.Which.{Which}
 use Rattle.tbl.specs.declared.words.Which.TheVariants.{Formats, Row, Line}
 use Rattle.tbl.specs.declared.words.Wrong.{Wrong}
-use Rattle.tbl.specs.declared.words.Wrong.TheVariants.{Unknown, BadValue}
+use Rattle.tbl.specs.declared.words.Wrong.TheVariants.{Unknown, BadValue, UnknownTable, NoTable}
 use Rattle.tbl.specs.Words.{BeginsWith, IsBad, Means, front_of}
 
 second : (v w : List ℕ) → v ≡ w → get_or v 1 0 ≡ get_or w 1 0
@@ -47,6 +47,8 @@ Bad-means Unknown setting word bad means =
       | inr begins ↦ bad.1 (begins.0, means.word_is ∙ begins.1)
     ]
 Bad-means BadValue setting word bad means = bad.1 setting means
+Bad-means UnknownTable setting word bad means = absurd bad
+Bad-means NoTable setting word bad means = absurd bad
 
 -- a word is bad in one way
 pub Bad-one : (wrong other : Wrong) (word : List ℕ) → IsBad wrong word → IsBad other word → other ≡ wrong
@@ -54,3 +56,9 @@ Bad-one Unknown Unknown word a b = refl
 Bad-one BadValue BadValue word a b = refl
 Bad-one Unknown BadValue word a b = elim b.0 [ inl begins ↦ absurd (a.0 begins) | inr begins ↦ absurd (a.1 begins) ]
 Bad-one BadValue Unknown word a b = elim a.0 [ inl begins ↦ absurd (b.0 begins) | inr begins ↦ absurd (b.1 begins) ]
+Bad-one UnknownTable other word a b = absurd a
+Bad-one NoTable other word a b = absurd a
+Bad-one Unknown UnknownTable word a b = absurd b
+Bad-one Unknown NoTable word a b = absurd b
+Bad-one BadValue UnknownTable word a b = absurd b
+Bad-one BadValue NoTable word a b = absurd b

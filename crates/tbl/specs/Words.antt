@@ -1,15 +1,17 @@
 -- What the words of the command line come to.
-use Rattle.std.specs.Prelude.{◌≡◌, ℕ, ◌≤◌, ◌⊎◌, List, [], ◌∷◌, ◌++◌, length, take, map, Bool, false, ◌==◌, Some, Result, Ok, Err, codes, slice_get}
+use Rattle.std.specs.Prelude.{◌≡◌, ℕ, ◌+◌, ◌-◌, ◌≤◌, ◌⊎◌, List, [], ◌∷◌, ◌++◌, map, Bool, true, false, ◌==◌, Option, None, Some, Result, Ok, Err, codes}
 use Rattle.std.specs.Borrow.{Bor}
-use Rattle.std.specs.List.{take_while, fold, AllZip}
+use Rattle.std.specs.Str.{bytes_eq}
 use Rattle.std.specs.Str.Parse.{IsNumeral, digits_value}
+use Rattle.nr_characters.specs.declared.table.Table.{Table}
+use Rattle.nr_characters.specs.Tables.{table_named}
 use Rattle.tbl.specs.declared.words.BadWord.{BadWord}
 use Rattle.tbl.specs.declared.words.Job.{Job}
 use Rattle.tbl.specs.declared.words.Setting.{Setting}
 use Rattle.tbl.specs.declared.words.Which.{Which}
 use Rattle.tbl.specs.declared.words.Which.TheVariants.{Formats, Row, Line}
 use Rattle.tbl.specs.declared.words.Wrong.{Wrong}
-use Rattle.tbl.specs.declared.words.Wrong.TheVariants.{Unknown, BadValue}
+use Rattle.tbl.specs.declared.words.Wrong.TheVariants.{Unknown, BadValue, UnknownTable, NoTable}
 
 -- the texts that references point to
 abbrev pub texts : List (Bor (List ℕ)) → List (List ℕ)
@@ -20,10 +22,6 @@ abbrev pub is_option : List ℕ → Bool
 is_option [] = false
 is_option (byte ∷ []) = false
 is_option (byte ∷ next ∷ rest) = byte == 45
-
--- the words before the first that is no option
-abbrev pub options : List (List ℕ) → List (List ℕ)
-options words = take_while is_option words
 
 -- how an option that sets this begins
 abbrev pub front_of : Which → List ℕ
@@ -53,6 +51,8 @@ BeginsWith front word = (rest : List ℕ) × (word ≡ front ++ rest)
 -- the option is none, or it is one and sets nothing
 abbrev pub IsBad : Wrong → List ℕ → Type 0
 IsBad Unknown word = ¬ BeginsWith (codes "-L") word × ¬ BeginsWith (codes "-l") word
+IsBad UnknownTable word = ⊥
+IsBad NoTable word = ⊥
 IsBad BadValue word =
     (BeginsWith (codes "-L") word ⊎ BeginsWith (codes "-l") word)
     × ((setting : Setting) → Means setting word → ⊥)
@@ -66,32 +66,51 @@ with_number Line n job = record job { line = n }
 abbrev pub with_setting : Setting → Job → Job
 with_setting setting job = with_number setting.which setting.limit job
 
--- the job where no option sets anything, and the first file stands at this place
-abbrev pub usual_job : ℕ → Job
-usual_job files = record { formats = 262144; row = 16384; line = 65; files = files }
+-- the job where no option sets anything
+abbrev pub usual_job : Job
+usual_job = record { formats = 262144; row = 16384; line = 65; characters = None; files = 0 }
 
--- what is asked for where these are set one after the other
-abbrev pub asked_by : List Setting → ℕ → Job
-asked_by settings files = fold (λ job setting. with_setting setting job) (usual_job files) settings
+-- with a table of characters, and with the place of the first file
+abbrev pub with_table : Table → Job → Job
+with_table table job = record job { characters = Some table }
 
--- all options are good, and this is what they ask for
-pub record IsGood (words : List (List ℕ)) (job : Job) : Type 0 where
-  pub settings : List Setting
-  pub meant : AllZip Means settings (options words)
-  pub job_is : job ≡ asked_by settings (length (options words))
+abbrev pub at : ℕ → Job → Job
+at place job = record job { files = place }
 
--- the first bad option, and what is wrong with it
-pub record IsFirstBad (words : List (List ℕ)) (bad : BadWord) : Type 0 where
-  pub settings : List Setting
-  pub meant : AllZip Means settings (take bad.place (options words))
-  pub word : List ℕ
-  pub there : slice_get (options words) bad.place ≡ Some word
-  pub is_bad : IsBad bad.wrong word
+abbrev pub is_wrong : ℕ → Wrong → Result Job BadWord
+is_wrong place wrong = Err (record { place = place; wrong = wrong })
 
--- what the words come to: a job, or the first bad word
+-- what a name comes to that stands at this place
+abbrev pub Named : Option Table → ℕ → Result Job BadWord → (Table → Type 0) → Type 0
+Named None place answer next = answer ≡ is_wrong place UnknownTable
+Named (Some table) place answer next = next table
+
+-- a file, the option that a table's name follows, or another option
+abbrev pub Stands : Bool → Bool → Type 0 → Type 0 → Type 0 → Type 0
+Stands false names file table option = file
+Stands true true file table option = table
+Stands true false file table option = option
+
+-- it sets something, and the words behind it come to the rest; or it is bad
+abbrev pub Sets : List ℕ → ℕ → Result Job BadWord → (Setting → Type 0) → Type 0
+Sets word place answer next =
+    ((setting : Setting) × Means setting word × next setting)
+    ⊎ ((wrong : Wrong) × IsBad wrong word × (answer ≡ is_wrong place wrong))
+
+-- Words from this place on, up to the first file, where a table's name may be awaited and this is asked for so far: the last that sets the
+-- same counts. The first that can't be taken is told by its place.
+abbrev pub ComesTo : Bool → Job → ℕ → List (List ℕ) → Result Job BadWord → Type 0
+ComesTo true job place [] answer = answer ≡ is_wrong (place - 1) NoTable
+ComesTo false job place [] answer = answer ≡ Ok (at place job)
+ComesTo true job place (name ∷ words) answer =
+    Named (table_named name) place answer (λ t. ComesTo false (with_table t job) (place + 1) words answer)
+ComesTo false job place (word ∷ words) answer =
+    Stands (is_option word) (bytes_eq word (codes "-u")) (answer ≡ Ok (at place job))
+    (ComesTo true job (place + 1) words answer)
+    (Sets word place answer (λ s. ComesTo false (with_setting s job) (place + 1) words answer))
+
 abbrev pub IsAnswer : List (List ℕ) → Result Job BadWord → Type 0
-IsAnswer words (Ok job) = IsGood words job
-IsAnswer words (Err bad) = IsFirstBad words bad
+IsAnswer words answer = ComesTo false usual_job 0 words answer
 
 -- one option was read: it sets this, or it is bad
 abbrev pub Reads : List ℕ → Result Setting Wrong → Type 0

@@ -1,6 +1,7 @@
 //! The program tbl: it turns the tables of a page into the language of nroff, to standard output.
 //!
-//! It stands on nr_filters, nr_tables and nr_units. To read: `words`, `complaints`, `rooms`, `program`.
+//! It stands on nr_filters, nr_tables, nr_characters and nr_units. To read: `words`, `complaints`, `rooms`,
+//! `program`.
 #![tactic(auto)]
 
 mod complaints;

@@ -25,7 +25,7 @@ impl Filter for Tbl {
     ) -> Ending<'a> {
         let job = match read_words(words) {
             Ok(job) => job,
-            Err(bad) => return Ending::BadWord(message_of(bad.wrong), words[bad.place]),
+            Err(bad) => return ending_of(bad.wrong, words[bad.place]),
         };
         let texts = match disk.open_all(&words[job.files..]) {
             Ok(texts) => texts,
@@ -39,9 +39,11 @@ impl Filter for Tbl {
 }
 
 /// What is told of a word.
-fn message_of(wrong: Wrong) -> &'static str {
+fn ending_of(wrong: Wrong, word: &str) -> Ending<'_> {
     match wrong {
-        Wrong::Unknown => "unknown option ",
-        Wrong::BadValue => "bad value in ",
+        Wrong::Unknown => Ending::BadWord("unknown option ", word),
+        Wrong::BadValue => Ending::BadWord("bad value in ", word),
+        Wrong::UnknownTable => Ending::BadWord("unknown table ", word),
+        Wrong::NoTable => Ending::BadWord("no table is named", ""),
     }
 }

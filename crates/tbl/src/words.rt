@@ -2,7 +2,9 @@
 ghost use Rattle.std.specs.Prelude.{◌≡◌, ◌≢◌, ℕ, ◌<◌, ◌≤◌, List, ◌++◌, IfErr, IfNone, IfOk, IfSome, Result, length};
 ghost use Rattle.std.specs.Option.{SomeIff};
 ghost use Rattle.std.specs.Str.Parse.{IsNumeral, digits_value};
-ghost use Rattle.tbl.specs.Words.{IsAnswer, Reads, front_of, is_option, least_of, options, texts, with_setting};
+ghost use Rattle.tbl.specs.Words.{IsAnswer, Reads, at, front_of, is_option, least_of, texts, usual_job, with_setting, with_table};
+
+use nr_characters::Table;
 
 /// The greatest limit that a word may set.
 const MOST: u64 = 1_048_576;
@@ -27,6 +29,8 @@ pub struct Job {
     pub row: usize,
     /// The length of the line, in n.
     pub line: usize,
+    /// What bytes from 128 on stand for, if anything.
+    pub characters: Option<Table>,
     /// The place of the first file among the words: there may be none.
     pub files: usize,
 }
@@ -38,6 +42,10 @@ pub enum Wrong {
     Unknown,
     /// It has no number, or one out of range.
     BadValue,
+    /// It is no table.
+    UnknownTable,
+    /// No word stands after it that names a table.
+    NoTable,
 }
 
 /// A word that can't be taken, by its place.
@@ -85,19 +93,6 @@ fn is_option(word: &str) -> bool
 {
     let bytes = word.as_bytes();
     bytes.len() > 1 && bytes[0] == b'-'
-}
-
-/// How many words stand before the files.
-fn options_len(words: &[&str]) -> usize
-    ensures value { result ≡ length (options (texts words.now)) }
-    ensures within { result ≤ length words.now }
-{
-    for (at, word) in words.iter().enumerate() {
-        if !is_option(word) {
-            return at;
-        }
-    }
-    words.len()
 }
 
 /// What an option sets, and what stands after its front: `-LtN`, `-LrN` or `-lN`.
@@ -148,6 +143,39 @@ fn read_option(word: &str) -> Result<Setting, Wrong>
 }
 
 impl Job {
+    /// What is asked for where no word sets it.
+    fn usual() -> Job
+        ensures { result ≡ usual_job }
+    {
+        Job {
+            formats: USUAL_FORMATS,
+            row: USUAL_ROW,
+            line: USUAL_LINE,
+            characters: None,
+            files: 0,
+        }
+    }
+
+    /// With a table of characters.
+    fn with_table(self, table: Table) -> Job
+        ensures { result ≡ with_table table self }
+    {
+        Job {
+            characters: Some(table),
+            ..self
+        }
+    }
+
+    /// With the place of the first file.
+    fn at(self, place: usize) -> Job
+        ensures { result ≡ at place self }
+    {
+        Job {
+            files: place,
+            ..self
+        }
+    }
+
     /// With a number set.
     fn with(self, setting: Setting) -> Job
         ensures { result ≡ with_setting setting self }
@@ -180,18 +208,34 @@ pub fn read_words(words: &[&str]) -> Result<Job, BadWord>
     ensures limits { IfOk result (λ job. (job.formats ≤ 1048576) × (job.row ≤ 1048576)) }
     ensures bad { IfErr result (λ bad. bad.place < length words.now) }
 {
-    let options = &words[..options_len(words)];
-    let mut job = Job {
-        formats: USUAL_FORMATS,
-        row: USUAL_ROW,
-        line: USUAL_LINE,
-        files: options.len(),
-    };
-    for (place, word) in options.iter().enumerate() {
-        match read_option(word) {
-            Ok(setting) => job = job.with(setting),
-            Err(wrong) => return Err(BadWord { place, wrong }),
+    let mut job = Job::usual();
+    let mut awaits = false;
+    for (place, word) in words.iter().enumerate() {
+        if awaits {
+            let Some(table) = Table::named(word) else {
+                return Err(BadWord {
+                    place,
+                    wrong: Wrong::UnknownTable,
+                });
+            };
+            job = job.with_table(table);
+            awaits = false;
+        } else if !is_option(word) {
+            return Ok(job.at(place));
+        } else if word.as_bytes() == b"-u".as_slice() {
+            awaits = true;
+        } else {
+            match read_option(word) {
+                Ok(setting) => job = job.with(setting),
+                Err(wrong) => return Err(BadWord { place, wrong }),
+            }
         }
     }
-    Ok(job)
+    if awaits {
+        return Err(BadWord {
+            place: words.len() - 1,
+            wrong: Wrong::NoTable,
+        });
+    }
+    Ok(job.at(words.len()))
 }

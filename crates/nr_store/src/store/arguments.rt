@@ -43,7 +43,8 @@ impl<K: Copy> Store<K> {
         ensures within { result ≤ length bytes.now }
         ensures added { self.new ≡ gathering_all (take result bytes.now) self.old }
         ensures afforded { charge_of self.new ≤ self.new.limit }
-        ensures most { result < length bytes.now → self.new.limit < charge_of (gathering (slice_index bytes.now result) self.new) }
+        ensures most { result < length bytes.now
+            → self.new.limit < charge_of (gathering (slice_index bytes.now result) self.new) }
     {
         let drops = self.gathering.is_full();
         if drops {

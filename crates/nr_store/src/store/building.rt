@@ -123,7 +123,9 @@ impl<K: Copy> Store<K> {
         ensures within { result ≤ length bytes.now }
         ensures added { self.new ≡ added (map elements.Byte (take result bytes.now)) self.old }
         ensures afforded { charge_of self.new ≤ self.new.limit }
-        ensures most { result < length bytes.now → self.new.limit < charge_of (added (elements.Byte (slice_index bytes.now result) ∷ []) self.new) }
+        ensures most { result < length bytes.now
+            → self.new.limit
+            < charge_of (added (elements.Byte (slice_index bytes.now result) ∷ []) self.new) }
     {
         let Some(draft) = self.drafts.top() else {
             return bytes.len();

@@ -30,7 +30,8 @@ impl<K: Copy> Store<K> {
     pub fn spring(&mut self, name: Name, mode: K) -> Result<bool, Refusal>
         ensures answer { let text = words (find name self.old.names) in
             result ≡ checked (entered name text (Some mode) self.old) (is_some text) }
-        ensures ok { OnOk result (self.new ≡ entered name (words (find name self.old.names)) (Some mode) self.old) }
+        ensures ok { OnOk result (self.new ≡ entered name (words (find name self.old.names))
+            (Some mode) self.old) }
         ensures err { OnErr result (self.new ≡ self.old) }
     {
         self.open(name, Some(mode))
@@ -41,7 +42,8 @@ impl<K: Copy> Store<K> {
     fn open(&mut self, name: Name, resume: Option<K>) -> Result<bool, Refusal>
         ensures answer { let text = words (find name self.old.names) in
             result ≡ checked (entered name text resume self.old) (is_some text) }
-        ensures ok { OnOk result (self.new ≡ entered name (words (find name self.old.names)) resume self.old) }
+        ensures ok { OnOk result
+            (self.new ≡ entered name (words (find name self.old.names)) resume self.old) }
         ensures err { OnErr result (self.new ≡ self.old) }
     {
         let Some(id) = text_in(&self.names, name) else {

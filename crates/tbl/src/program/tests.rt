@@ -12,15 +12,48 @@ struct Row {
     lines: &'static [u8],
 }
 
-static TEXTS: [(&str, Page<'static>); 5] = [
+static TEXTS: [(&str, Page<'static>); 6] = [
     ("plain", Page::Bytes(b"T{ _\n.TSX\n\xc3\xa9\\fIb\\fP\n")),
     ("open", Page::Bytes(b".ds x y")),
     ("folder", Page::Cut(b"")),
     ("cut", Page::Cut(b"a\n.BR c d")),
     ("empty", Page::Bytes(b"")),
+    ("box", Page::Bytes(b".TS\nbox;\nl.\n\xe9\n.TE\n")),
 ];
 
-static ROWS: [Row; 22] = [
+static ROWS: [Row; 27] = [
+    // Frames have the characters of the table, and what it names is no file.
+    Row {
+        words: &[b"tbl", b"-u", b"english", b"box"],
+        output: b".TS\n.br\n.nr *u \\n(.u\n.nr *I \\n(.i\n.nf\n.nr *box 1\n.if '\\n(.z'' .if 3v<\\n(.p .ne 3v\n.if !'\\n(.z'' \\{\\\n\\!.ne 3v\n.\\}\n\xa4\x9c\x9c\xa6\n\x9d\xe9 \x9d\n\x9e\x9c\x9c\xa8\n.in \\n(*Iu\n.if \\n(*u .fi\n.TE\n",
+        status: 0,
+        lines: b"",
+    },
+    // In a table without boxes they have those of ASCII; the last word counts.
+    Row {
+        words: &[b"tbl", b"-u", b"english", b"-l65", b"-u", b"latin", b"box"],
+        output: b".TS\n.br\n.nr *u \\n(.u\n.nr *I \\n(.i\n.nf\n.nr *box 1\n.if '\\n(.z'' .if 3v<\\n(.p .ne 3v\n.if !'\\n(.z'' \\{\\\n\\!.ne 3v\n.\\}\n+--+\n|\xe9 |\n+--+\n.in \\n(*Iu\n.if \\n(*u .fi\n.TE\n",
+        status: 0,
+        lines: b"",
+    },
+    Row {
+        words: &[b"tbl", b"-u"],
+        output: b"",
+        status: 2,
+        lines: b"tbl: no table is named\n",
+    },
+    Row {
+        words: &[b"tbl", b"-l65", b"-u", b"-l65", b"plain"],
+        output: b"",
+        status: 2,
+        lines: b"tbl: unknown table -l65\n",
+    },
+    Row {
+        words: &[b"tbl", b"-u", b"Latin"],
+        output: b"",
+        status: 2,
+        lines: b"tbl: unknown table Latin\n",
+    },
     Row {
         words: &[b"tbl"],
         output: b"a\n.br\n",

@@ -7,4 +7,4 @@ pub returns : goal.returns
 returns g c =
     let d = draws_both (draws_both c.add.ensures c.place.ensures) c.add-2.ensures in
     let n = c.gone.ensures ∙ ap (gone (Some c.args.place)) (c.pen-pen.ensures ∙ d.pen) in
-    rw c.set_pen.ensures (draws_to _ (Rule c.args.place ∷ []) d n refl)
+    rw c.set_pen.ensures (draws_to _ (Rule c.args.byte c.args.place ∷ []) d n refl)
