@@ -231,13 +231,13 @@ impl Page {
 
     /// The title's line ends.
     pub(crate) fn end_title(&mut self, out: &mut SliceVec<'_, u8>)
-        requires { length out.old.items + 16 ≤ out.old.room }
+        requires { length out.old.items + 18 ≤ out.old.room }
         ensures page { self.new ≡ (specs.end_title self.old).page }
         ensures items { out.new.items ≡ out.old.items ++ (specs.end_title self.old).bytes }
-        ensures few { length out.new.items ≤ length out.old.items + 16 }
+        ensures few { length out.new.items ≤ length out.old.items + 18 }
         ensures room { out.new.room ≡ out.old.room }
     {
-        out.extend(b"\"\n.nr IN 5n\n");
+        out.extend(b"\"\n.nr IN 5n\n.ad l\n");
         self.lay.at = At::Start;
         self.lay.joined = false;
         self.lay.quiet = true;
