@@ -18,7 +18,7 @@ use Rattle.nr_mdoc.specs.Calls.{is_none, with_scan}
 use Rattle.nr_mdoc.specs.Keeping.{ends_in_hyphen, has_dashes, keep, keep_byte, keep_escape, keeping, looks_up, whole_for, widens, wider}
 use Rattle.nr_mdoc.specs.Laying.{with_lay}
 use Rattle.nr_mdoc.specs.LayingOut.{lay_out}
-use Rattle.nr_mdoc.specs.Options.{asked, at_most, block_asked, block_wanted, column, dated, date_word, font_named, font_or, is_column, is_heading, is_shown, is_version, none, option, option_for, option_word, reads_for, title_word, wants_column}
+use Rattle.nr_mdoc.specs.Options.{added_column, asked, block_asked, block_wanted, column, column_width, dated, date_word, font_named, font_or, is_column, is_heading, is_shown, is_version, none, option, option_for, option_word, reads_for, title_word, wants_column}
 use Rattle.nr_mdoc.specs.Reading.{State, said}
 use Rattle.nr_mdoc.specs.Saying.{part_of, parts_seen, words_of}
 use Rattle.nr_mdoc.specs.Scanning.{meet, meet_at, meet_whole, meet_whole_at}
@@ -206,11 +206,13 @@ font_asked (Some font) q m at = asked_act m q (acts.Request (requests.Font font)
 column_asked : (q : Page) (m : Macro) → Asking m q scans.Between → Asked m (column q)
 unfolding is_hushed
 column_asked q m at =
-    let n = at_most 900 q.call.width + 4 in
+    let n = column_width q in
+    let p = added_column n q in
+    let added = asking_as m scans.Between q p at.scan_is refl refl refl refl refl refl at in
     asked_if (not (is_column q.block.kind)) m _ _ (asked_none m q at)
-    (asked_if (wants_column q.call.wanted) m _ _ (asked_act m q (acts.Column n) acts.Nothing refl refl at)
-    (asked_act m (record q { call = record q.call { wanted = wanteds.Column } }) acts.Columns (acts.Column n) refl refl
-    (asking_as m scans.Between q _ at.scan_is refl refl refl refl refl refl at)))
+    (asked_if (wants_column q.call.wanted) m _ _ (asked_act m p (acts.Column n) acts.Nothing refl refl added)
+    (asked_act m (record p { call = record p.call { wanted = wanteds.Column } }) acts.Columns (acts.Column n) refl refl
+    (asking_as m scans.Between p _ added.scan_is refl refl refl refl refl refl added)))
 
 option_asked : (o : Option Asks) (q : Page) (m : Macro) → Asking m q scans.Between → Asked m (block_asked o q)
 option_asked None q m at = column_asked q m at

@@ -14,7 +14,7 @@ use Rattle.nr_mdoc.specs.declared.page.Kind.TheVariants as kinds
 use Rattle.nr_mdoc.specs.declared.page.Page.{Page}
 use Rattle.nr_mdoc.specs.declared.page.Scan.{Scan}
 use Rattle.nr_mdoc.specs.declared.page.Scan.TheVariants as scans
-use Rattle.nr_mdoc.specs.Blocks.{block_opens, fresh_block, indent, inner, is_literal, space, with_literal}
+use Rattle.nr_mdoc.specs.Blocks.{block_opens, fresh_block, hang, indent, inner, is_literal, space, with_literal}
 use Rattle.nr_mdoc.specs.Calls.{is_due, is_due_from, is_none, leaves, with_scan}
 use Rattle.nr_mdoc.specs.Keeping.{ends_word}
 use Rattle.nr_mdoc.specs.Laying.{with_lay}
@@ -123,13 +123,13 @@ space_word true q = refl
 space_word false q = refl
 
 list_over : (t : Bool) (p : Page) → p.marks ≡ []
-    → Over (met p (if t then three (space p.block.compact) (indent p) (acts.Request requests.NoFill) else left (indent p)))
+    → Over (met p (if t then three (space p.block.compact) (indent p) (hang p) else left (indent p)))
 unfolding line_over is_laid is_quiet
 list_over true p none = record {
   page = p;
   x = space p.block.compact;
   y = indent p;
-  z = acts.Request requests.NoFill;
+  z = hang p;
   is = refl;
   marks = none;
   laid_x = space_laid p.block.compact;

@@ -8,12 +8,12 @@ use Rattle.nr_mdoc.specs.declared.page.Kind.{Kind}
 use Rattle.nr_mdoc.specs.declared.page.Kind.TheVariants as kinds
 use Rattle.nr_mdoc.specs.declared.page.Page.{Page}
 use Rattle.nr_mdoc.specs.declared.page.Scan.TheVariants as scans
-use Rattle.nr_mdoc.specs.Blocks.{display_ends_of, is_list, list_ends, with_literal}
+use Rattle.nr_mdoc.specs.Blocks.{breaking, display_ends_of, is_list, list_ends, with_literal}
 use Rattle.nr_mdoc.specs.Laying.{with_lay}
 use Rattle.nr_mdoc.specs.Options.{is_column, none}
 use Rattle.nr_mdoc.specs.Reading.{State, stacked}
 use Rattle.nr_mdoc.specs.Scanning.{meet}
-use Rattle.nr_mdoc.specs.Seeing.{Met, met, left, three, with_stack}
+use Rattle.nr_mdoc.specs.Seeing.{Met, met, left, three, two, with_stack}
 use Rattle.nr_mdoc.specs.WrittenLines.{way_of}
 use Rattle.nr_mdoc.proofs.Begins.{none_out}
 use Rattle.nr_mdoc.proofs.Meeting.{with_page, leads_with}
@@ -65,9 +65,8 @@ none_step head b s p word begun e =
 ends_list : Bool → Bool → Page → Met
 ends_list list column p =
     if not list then none p else
-    met p (with_stack Closes (if column
-    then three (acts.Request requests.Fill) (acts.Request requests.Tabs) (acts.Request requests.IndentEnds)
-    else left (acts.Request requests.IndentEnds)))
+    if not column then met p (with_stack Closes (left (acts.Request requests.IndentEnds))) else
+    met (breaking p) (with_stack Closes (two (acts.Request requests.Tabs) (acts.Request requests.IndentEnds)))
 
 list_is : (p : Page) → list_ends p ≡ ends_list (is_list p.block.kind) (is_column p.block.kind) p
 unfolding ends_list
@@ -78,7 +77,19 @@ list_by : (t u : Bool) (head : Head) (b : ℕ) (s : State) (p : Page) (word : Li
 unfolding ends_list is_quiet of_word
 list_by false u head b s p word begun e = none_step head b s p word begun e
 list_by true true head b s p word begun e =
-    ends_step head b s p (acts.Request requests.Fill) (acts.Request requests.Tabs) (acts.Request requests.IndentEnds) word begun e refl refl refl refl
+    ends_step head b s (breaking p) (acts.Request requests.Tabs) (acts.Request requests.IndentEnds) acts.Nothing word
+    (record {
+      scan_is = begun.scan_is;
+      word_is = begun.word_is;
+      marks_are = begun.marks_are;
+      few = begun.few;
+      going = begun.going;
+      comment = begun.comment;
+      line = begun.line;
+      fits = begun.fits;
+      way = begun.way;
+    })
+    e refl refl refl refl
 list_by true false head b s p word begun e =
     ends_step head b s p (acts.Request requests.IndentEnds) acts.Nothing acts.Nothing word begun e refl refl refl refl
 

@@ -21,7 +21,7 @@ use Rattle.nr_mdoc.specs.Seeing.{Met, met, left, two, three, with_stack}
 
 abbrev pub fresh_block : Kind → ℕ → Block
 fresh_block kind offset =
-    record { kind = kind; width = None; offset = offset; items = 0; compact = false; begun = false }
+    record { kind = kind; width = None; hang = 0; last = 0; columns = 0; offset = offset; items = 0; compact = false; begun = false }
 
 -- no block, or none of whose options was read
 abbrev pub no_block : Block
@@ -74,10 +74,14 @@ block_opens kind p =
 abbrev pub indent : Page → Act
 indent p = acts.Sized sizes.Indent (at_most 999 p.block.offset)
 
+-- how far the last column stands from the first
+abbrev pub hang : Page → Act
+hang p = acts.Sized sizes.Inner (at_most 999 p.block.hang)
+
 abbrev pub list_begins : Page → Met
 list_begins p =
     met p (if is_column p.block.kind
-    then three (space p.block.compact) (indent p) (acts.Request requests.NoFill) else left (indent p))
+    then three (space p.block.compact) (indent p) (hang p) else left (indent p))
 
 abbrev pub is_literal : Kind → Bool
 is_literal kinds.Literal = true
@@ -92,12 +96,17 @@ display_begins p =
     then met (with_literal true p) (three (space p.block.compact) (indent p) (acts.Request requests.Literal))
     else met p (two (space p.block.compact) (indent p))
 
+-- lines are broken between words again
+abbrev pub breaking : Page → Page
+breaking p = record p { lay = record p.lay { kept = false } }
+
 abbrev pub list_ends : Page → Met
 list_ends p =
     if not (is_list p.block.kind) then none p else
-    met p (with_stack Closes (if is_column p.block.kind
-    then three (acts.Request requests.Fill) (acts.Request requests.Tabs) (acts.Request requests.IndentEnds)
-    else left (acts.Request requests.IndentEnds)))
+    if not (is_column p.block.kind)
+    then met p (with_stack Closes (left (acts.Request requests.IndentEnds))) else
+    met (breaking p)
+    (with_stack Closes (two (acts.Request requests.Tabs) (acts.Request requests.IndentEnds)))
 
 abbrev pub display_ends_of : Kind → Page → Met
 display_ends_of kinds.Literal p =
@@ -134,7 +143,7 @@ item_head_of kinds.Dash p = acts.Sized sizes.Dash (tag_width p.block)
 item_head_of kinds.Number p = acts.Numbered p.block.items (tag_width p.block)
 item_head_of kinds.Tag p = acts.Tag (tag_width p.block)
 item_head_of kinds.Hang p = acts.Sized sizes.Tagged (tag_width p.block)
-item_head_of kinds.Column p = acts.Nothing
+item_head_of kinds.Column p = acts.Row
 item_head_of kind p = acts.Request requests.Break
 
 abbrev pub item_head : Page → Act

@@ -1,5 +1,6 @@
 pub mod Blocks
 pub mod Calls
+pub mod Columns
 pub mod Keeping
 pub mod Laying
 pub mod LayingOut

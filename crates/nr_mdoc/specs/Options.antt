@@ -206,13 +206,32 @@ abbrev pub wants_column : Wanted → Bool
 wants_column wanteds.Column = true
 wants_column w = false
 
+-- one more column: the one before it is not the last
+abbrev pub with_column : ℕ → Block → Block
+with_column width b =
+    record b {
+      hang = at_most 999 b.hang + at_most 999 b.last;
+      last = width;
+      columns = at_most 99 b.columns + 1;
+    }
+
+abbrev pub added_column : ℕ → Page → Page
+added_column width p =
+    record p { block = with_column width p.block; lay = record p.lay { cell = 0 } }
+
 -- tab stops, one after the other
+abbrev pub tab_stop : ℕ → Page → Met
+tab_stop width p =
+    if wants_column p.call.wanted then met p (left (acts.Column width)) else
+    met (record p { call = record p.call { wanted = wanteds.Column } }) (two acts.Columns (acts.Column width))
+
+abbrev pub column_width : Page → ℕ
+column_width p = at_most 900 p.call.width + 4
+
 abbrev pub column : Page → Met
 column p =
     if not (is_column p.block.kind) then none p else
-    if wants_column p.call.wanted then met p (left (acts.Column (at_most 900 p.call.width + 4))) else
-    met (record p { call = record p.call { wanted = wanteds.Column } })
-    (two acts.Columns (acts.Column (at_most 900 p.call.width + 4)))
+    tab_stop (column_width p) (added_column (column_width p) p)
 
 abbrev pub block_asked : Option Asks → Page → Met
 block_asked None p = column p

@@ -1,4 +1,4 @@
--- Lines of their own: requests, the title, headings and columns.
+-- Lines of their own: requests, the title and headings.
 use Rattle.std.specs.Prelude.{ℕ, ◌+◌, ◌-◌, ◌/◌, ◌%◌, List, [], ◌∷◌, ◌++◌, length, Bool, true, false, not, ◌==◌, ◌&&◌, nat_lt, if◌then◌else◌, slice_index, codes}
 use Prim.Native.Char.{code}
 use Rattle.nr_mdoc.specs.declared.acts.Request.{Request}
@@ -127,11 +127,3 @@ put_head head p = laid (with_lay (record (fresh p).lay { at = Middle }) (fresh p
 
 abbrev pub put_control : Page → Laid
 put_control p = laid (fresh p) (line_end p ++ codes "." ++ p.word)
-
--- ---- columns
-
-abbrev pub column_text : ℕ → List ℕ
-column_text width = codes " +" ++ digits width ++ codes "n"
-
-abbrev pub put_cell : Page → Laid
-put_cell p = laid (with_lay (record (was_put p).lay { joined = true }) (was_put p)) (codes "\t")

@@ -70,6 +70,7 @@ first_lay = record {
   tag = false;
   literal = false;
   kept = false;
+  cell = 0;
   quiet = true;
   font = Roman;
   front = false;

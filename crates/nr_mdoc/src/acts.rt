@@ -71,10 +71,6 @@ pub(crate) enum Request {
     NoDistance,
     /// That of the macro file.
     Distance,
-    /// Lines stay.
-    NoFill,
-    /// Lines are filled.
-    Fill,
     /// The tab stops of the macro file.
     Tabs,
     /// An indent ends.
@@ -195,6 +191,8 @@ pub(crate) enum Act {
     Column(u16),
     /// A cell of a table ends.
     Cell,
+    /// A row of columns begins.
+    Row,
     /// A part of a reference begins, by its letter: its line sets a string.
     Part(u8),
     /// The parts of a reference stand in their order.

@@ -14,6 +14,9 @@ impl Block {
     pub const NONE: Block = Block {
         kind: Kind::Page,
         width: None,
+        hang: 0,
+        last: 0,
+        columns: 0,
         offset: 0,
         items: 0,
         compact: false,
@@ -28,6 +31,9 @@ fn fresh_block(kind: Kind, offset: u16) -> Block
     Block {
         kind,
         width: None,
+        hang: 0,
+        last: 0,
+        columns: 0,
         offset,
         items: 0,
         compact: false,
@@ -118,16 +124,19 @@ impl Page {
         Act::Sized(Sized::Indent, at_most(999, self.block.offset))
     }
 
+    /// How far the last column stands from the first.
+    fn hang(&self) -> Act
+        ensures { result ≡ specs.hang self.now }
+    {
+        Act::Sized(Sized::Inner, at_most(999, self.block.hang))
+    }
+
     /// A list begins.
     pub(crate) fn list_begins(&mut self) -> Seen
         ensures { met self.new result ≡ specs.list_begins self.old }
     {
         if matches!(self.block.kind, Kind::Column) {
-            return Seen::three(
-                space(self.block.compact),
-                self.indent(),
-                Act::Request(Request::NoFill),
-            );
+            return Seen::three(space(self.block.compact), self.indent(), self.hang());
         }
         Seen::left(self.indent())
     }
@@ -154,12 +163,8 @@ impl Page {
         }
         let end = Act::Request(Request::IndentEnds);
         if matches!(self.block.kind, Kind::Column) {
-            let seen = Seen::three(
-                Act::Request(Request::Fill),
-                Act::Request(Request::Tabs),
-                end,
-            );
-            return seen.with(Stack::Closes);
+            self.lay.kept = false;
+            return Seen::two(Act::Request(Request::Tabs), end).with(Stack::Closes);
         }
         Seen::left(end).with(Stack::Closes)
     }
@@ -246,7 +251,7 @@ impl Page {
             Kind::Number => Act::Numbered(self.block.items, width),
             Kind::Tag => Act::Tag(width),
             Kind::Hang => Act::Sized(Sized::Tagged, width),
-            Kind::Column => Act::Nothing,
+            Kind::Column => Act::Row,
             _ => Act::Request(Request::Break),
         }
     }

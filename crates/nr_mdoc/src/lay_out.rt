@@ -33,6 +33,7 @@ impl Page {
             Act::Columns => self.put_head(b".ta", out),
             Act::Column(width) => self.put_column(width, out),
             Act::Cell => self.put_cell(out),
+            Act::Row => self.put_row(out),
             Act::Part(letter) => self.put_part_begin(letter, out),
             Act::Reference => self.put_reference(out),
             Act::Control => self.put_control(out),

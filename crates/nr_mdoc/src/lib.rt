@@ -8,6 +8,7 @@
 mod acts;
 mod blocks;
 mod calls;
+mod columns;
 mod keeping;
 mod lay;
 mod lay_out;

@@ -411,6 +411,17 @@ impl Page {
         }
     }
 
+    /// One more column: the one before it is not the last.
+    fn adds_column(&mut self, width: u16)
+        ensures { self.new ≡ specs.added_column width self.old }
+    {
+        let before = at_most(999, self.block.last);
+        self.block.hang = at_most(999, self.block.hang) + before;
+        self.block.last = width;
+        self.block.columns = at_most(99, self.block.columns) + 1;
+        self.lay.cell = 0;
+    }
+
     /// The width of a column.
     fn column(&mut self) -> Seen
         ensures { met self.new result ≡ specs.column self.old }
@@ -418,7 +429,9 @@ impl Page {
         if !matches!(self.block.kind, Kind::Column) {
             return Seen::left(Act::Nothing);
         }
-        let act = Act::Column(at_most(900, self.call.width) + 4);
+        let width = at_most(900, self.call.width) + 4;
+        self.adds_column(width);
+        let act = Act::Column(width);
         if matches!(self.call.wanted, Wanted::Column) {
             return Seen::left(act);
         }

@@ -1,4 +1,4 @@
-//! Lines of their own: requests, the title, headings and columns.
+//! Lines of their own: requests, the title and headings.
 ghost use Rattle.std.specs.Prelude.{◌≡◌, ◌+◌, ◌≤◌, ◌++◌, length};
 ghost use Rattle.nr_mdoc.specs.OwnLines as specs;
 
@@ -28,7 +28,7 @@ fn digit(n: u16) -> u8
 }
 
 /// A number below ten thousand.
-fn put_number(n: u16, out: &mut SliceVec<'_, u8>)
+pub(crate) fn put_number(n: u16, out: &mut SliceVec<'_, u8>)
     requires { length out.old.items + 4 ≤ out.old.room }
     ensures items { out.new.items ≡ out.old.items ++ specs.digits n }
     ensures few { length out.new.items ≤ length out.old.items + 4 }
@@ -47,7 +47,7 @@ fn put_number(n: u16, out: &mut SliceVec<'_, u8>)
 
 impl Page {
     /// What ends the line that was begun: an empty tag shows nothing.
-    fn line_end(&self) -> &'static [u8]
+    pub(crate) fn line_end(&self) -> &'static [u8]
         ensures value { result.now ≡ specs.line_end self.now }
         ensures few { length result.now ≤ 3 }
     {
@@ -267,30 +267,5 @@ impl Page {
         self.freshen(out);
         out.push(b'.');
         out.extend(self.word.as_bytes());
-    }
-
-    /// A tab stop after the ones before.
-    pub(crate) fn put_column(&self, width: u16, out: &mut SliceVec<'_, u8>)
-        requires { length out.old.items + 16 ≤ out.old.room }
-        ensures items { out.new.items ≡ out.old.items ++ specs.column_text width }
-        ensures few { length out.new.items ≤ length out.old.items + 16 }
-        ensures room { out.new.room ≡ out.old.room }
-    {
-        out.extend(b" +");
-        put_number(width, out);
-        out.push(b'n');
-    }
-
-    /// A cell of a table ends.
-    pub(crate) fn put_cell(&mut self, out: &mut SliceVec<'_, u8>)
-        requires { length out.old.items + 3 ≤ out.old.room }
-        ensures page { self.new ≡ (specs.put_cell self.old).page }
-        ensures items { out.new.items ≡ out.old.items ++ (specs.put_cell self.old).bytes }
-        ensures few { length out.new.items ≤ length out.old.items + 3 }
-        ensures room { out.new.room ≡ out.old.room }
-    {
-        out.push(b'\t');
-        self.was_put();
-        self.lay.joined = true;
     }
 }

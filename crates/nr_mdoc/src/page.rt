@@ -230,6 +230,12 @@ pub struct Block {
     pub(crate) kind: Kind,
     /// The width of its tags, where it is said.
     pub(crate) width: Option<u16>,
+    /// Where the last of its columns begins.
+    pub(crate) hang: u16,
+    /// The width of that column.
+    pub(crate) last: u16,
+    /// How many columns it has.
+    pub(crate) columns: u16,
     /// Its indent.
     pub(crate) offset: u16,
     /// How many items it has.
@@ -255,6 +261,8 @@ pub(crate) struct Lay {
     pub literal: bool,
     /// No line is broken between the words of a line.
     pub kept: bool,
+    /// Which cell of its row it is; the first is 0.
+    pub cell: u16,
     /// Nothing was put since space was made.
     pub quiet: bool,
     /// The font of a word that goes on.

@@ -31,6 +31,7 @@ fn first_lay() -> Lay
         kept: false,
         quiet: true,
         font: Font::Roman,
+        cell: 0,
         front: false,
     }
 }

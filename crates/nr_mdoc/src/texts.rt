@@ -155,8 +155,6 @@ pub(crate) fn request_of(request: Request) -> &'static [u8]
         Request::Space => b".sp\n",
         Request::NoDistance => b".PD 0\n",
         Request::Distance => b".PD\n",
-        Request::NoFill => b".nf\n",
-        Request::Fill => b".fi\n",
         Request::Tabs => b".DT\n",
         Request::IndentEnds => b".RE\n",
         Request::Literal => b".nf\n.ta 8n 16n 24n 32n 40n 48n 56n 64n 72n 80n\n",

@@ -1,0 +1,53 @@
+-- Rows of columns: a tab before each cell but the first, and what is too long for the last cell below it
+-- (mdoc(7), Bl -column and Ta).
+use Rattle.std.specs.Prelude.{ℕ, ◌+◌, List, [], ◌++◌, Bool, true, false, ◌==◌, ◌&&◌, ◌||◌, nat_lt, nat_le, if◌then◌else◌, codes}
+use Rattle.nr_mdoc.specs.declared.page.Block.{Block}
+use Rattle.nr_mdoc.specs.declared.page.Lay.{Lay}
+use Rattle.nr_mdoc.specs.declared.page.Page.{Page}
+use Rattle.nr_mdoc.specs.Laying.{Laid, laid, with_lay, was_put}
+use Rattle.nr_mdoc.specs.Options.{at_most}
+use Rattle.nr_mdoc.specs.OwnLines.{digits, fresh, line_end}
+
+-- a tab stop after the ones before
+abbrev pub column_text : ℕ → List ℕ
+column_text width = codes " +" ++ digits width ++ codes "n"
+
+-- no line is broken in a cell before the last of its columns
+abbrev pub stays_whole : ℕ → Block → Bool
+stays_whole cell b = nat_lt (cell + 1) b.columns
+
+-- the row has a cell behind its last column
+abbrev pub is_past : ℕ → Block → Bool
+is_past cell b = nat_lt 0 b.columns && nat_le b.columns cell
+
+abbrev pub moved : List ℕ → ℕ → List ℕ
+moved request width = request ++ digits (at_most 999 width) ++ codes "n\n"
+
+abbrev pub row_begun : Page → Page
+row_begun p = with_lay (record (fresh p).lay { cell = 0; kept = stays_whole 0 p.block }) (fresh p)
+
+-- what the row before moved to the right goes back, and the first cell stands left of the last
+abbrev pub put_row : Page → Laid
+put_row p =
+    laid (row_begun p) (line_end p
+    ++ (if is_past p.lay.cell p.block then moved (codes ".in -") p.block.last else [])
+    ++ moved (codes ".ti -") p.block.hang)
+
+-- the first cell has the number 0
+abbrev pub next_cell : Page → ℕ
+next_cell p = at_most 99 p.lay.cell + 1
+
+abbrev pub cell_begun : Page → Page
+cell_begun p =
+    with_lay (record (was_put p).lay {
+      joined = true;
+      cell = next_cell p;
+      kept = p.lay.kept && (p.block.columns == 0 || stays_whole (next_cell p) p.block);
+    }) p
+
+-- below the first cell behind the last column its text goes on
+abbrev pub put_cell : Page → Laid
+put_cell p =
+    laid (cell_begun p)
+    ((if nat_lt 0 p.block.columns && next_cell p == p.block.columns
+    then line_end p ++ moved (codes "'in +") p.block.last else []) ++ codes "\t")

@@ -1,0 +1,88 @@
+//! Rows of columns: a tab before each cell but the first, and what is too long for the last cell below it.
+ghost use Rattle.std.specs.Prelude.{◌≡◌, ◌+◌, ◌≤◌, ◌++◌, length};
+ghost use Rattle.nr_mdoc.specs.Columns as specs;
+
+use super::options::at_most;
+use super::own_lines::put_number;
+use super::page::{Block, Page};
+use nr_units::slice_vec::SliceVec;
+
+/// Whether no line is broken in a cell, since it stands before the last of its columns.
+fn stays_whole(cell: u16, block: Block) -> bool
+    requires { cell ≤ 100 }
+    ensures { result ≡ specs.stays_whole cell block }
+{
+    cell + 1 < block.columns
+}
+
+/// A request with a width.
+fn put_moved(request: &[u8], width: u16, out: &mut SliceVec<'_, u8>)
+    requires short { length request.now ≤ 8 }
+    requires space { length out.old.items + 16 ≤ out.old.room }
+    ensures items { out.new.items ≡ out.old.items ++ specs.moved request.now width }
+    ensures few { length out.new.items ≤ length out.old.items + 16 }
+    ensures room { out.new.room ≡ out.old.room }
+{
+    out.extend(request);
+    put_number(at_most(999, width), out);
+    out.extend(b"n\n");
+}
+
+impl Page {
+    /// A tab stop after the ones before.
+    pub(crate) fn put_column(&self, width: u16, out: &mut SliceVec<'_, u8>)
+        requires { length out.old.items + 16 ≤ out.old.room }
+        ensures items { out.new.items ≡ out.old.items ++ specs.column_text width }
+        ensures few { length out.new.items ≤ length out.old.items + 16 }
+        ensures room { out.new.room ≡ out.old.room }
+    {
+        out.extend(b" +");
+        put_number(width, out);
+        out.push(b'n');
+    }
+
+    /// Whether the row has a cell behind its last column.
+    fn is_past(&self) -> bool
+        ensures { result ≡ specs.is_past self.now.lay.cell self.now.block }
+    {
+        0 < self.block.columns && self.block.columns <= self.lay.cell
+    }
+
+    /// A row begins.
+    pub(crate) fn put_row(&mut self, out: &mut SliceVec<'_, u8>)
+        requires { length out.old.items + 40 ≤ out.old.room }
+        ensures page { self.new ≡ (specs.put_row self.old).page }
+        ensures items { out.new.items ≡ out.old.items ++ (specs.put_row self.old).bytes }
+        ensures few { length out.new.items ≤ length out.old.items + 40 }
+        ensures room { out.new.room ≡ out.old.room }
+    {
+        self.freshen(out);
+        if self.is_past() {
+            put_moved(b".in -", self.block.last, out);
+        }
+        put_moved(b".ti -", self.block.hang, out);
+        self.lay.cell = 0;
+        self.lay.kept = stays_whole(0, self.block);
+    }
+
+    /// A cell ends, and another begins.
+    pub(crate) fn put_cell(&mut self, out: &mut SliceVec<'_, u8>)
+        requires { length out.old.items + 40 ≤ out.old.room }
+        ensures page { self.new ≡ (specs.put_cell self.old).page }
+        ensures items { out.new.items ≡ out.old.items ++ (specs.put_cell self.old).bytes }
+        ensures few { length out.new.items ≤ length out.old.items + 40 }
+        ensures room { out.new.room ≡ out.old.room }
+    {
+        let cell = at_most(99, self.lay.cell) + 1;
+        let columns = self.block.columns;
+        if columns > 0 && cell == columns {
+            out.extend(self.line_end());
+            put_moved(b"'in +", self.block.last, out);
+        }
+        out.push(b'\t');
+        self.was_put();
+        self.lay.joined = true;
+        self.lay.cell = cell;
+        self.lay.kept = self.lay.kept && (columns == 0 || stays_whole(cell, self.block));
+    }
+}
