@@ -26,7 +26,7 @@ use Rattle.nr_tbl.specs.Heads.{options_end, is_dotted}
 use Rattle.nr_tbl.specs.Measure.{cells_of}
 use Rattle.nr_tbl.specs.Options.{options_of}
 use Rattle.nr_tbl.specs.Outside.{passed, line_passed, plain_passed, plain_line_passed, given_up}
-use Rattle.nr_tbl.specs.Pages.{Page, Effect, effect, and_then, with_state, line_counted, forgotten, rest_of, line_of, wrong}
+use Rattle.nr_tbl.specs.Pages.{Page, Effect, effect, and_then, with_state, at_mode, line_counted, forgotten, rest_of, line_of, wrong}
 use Rattle.nr_tbl.specs.Reading.{read, read_in, fed, kept, limit_of, with_kept, block_goes_on, kept_more, line_ended, line_ended_in, overflown, overflown_in}
 use Rattle.nr_tbl.specs.RowLines.{Said, saying, trimmed, solid, is_none, text_said, shape_said, field_said, last_said, widths_wrong, ended_at, fields_ended, all_ended, with_pairs, last_ended, rest_said, rest_told, comments, line_continued, row_line, row_so_far, line_between, long_end, row_overflown}
 use Rattle.nr_tbl.specs.States as states
@@ -151,7 +151,8 @@ last_light p =
 
 rest_light : (shape : Shape) (p : Page) → Light 4 (rest_said shape p)
 rest_light shapes.Empty p = last_light p
-rest_light shapes.Block p = record { few = omega arith }
+rest_light shapes.Block p =
+    record { few = choose (λ (ps : List Piece). length ps + weight (forgotten (at_mode modes.Block p)) ≤ 4) (states.is_beyond p.state) _ _ (omega arith) (omega arith) }
 rest_light shapes.Text p = last_light p
 rest_light (shapes.Mark marks.Nothing) p = last_light p
 rest_light (shapes.Mark marks.Rule) p = choose (Light 4) (p.state.fields == 0) _ _ (record { few = omega arith }) (last_light p)

@@ -113,9 +113,14 @@ last_field p = let said = last_said p.state (rest_of p) in effect (with_state sa
 abbrev pub last_ended : Page → Effect
 last_ended p = and_then (last_field p) row_ended
 
+-- a text block begins, which may stand behind the columns
+abbrev pub block_begun : State → List Piece
+block_begun s =
+    if is_beyond s then wrong TooManyFields s ∷ piece tells.Block [] ∷ [] else piece tells.Block [] ∷ []
+
 -- a rule alone goes across the table, a block begins, or the row ends
 abbrev pub rest_said : Shape → Page → Effect
-rest_said shapes.Block p = effect (forgotten (at_mode modes.Block p)) (piece tells.Block [] ∷ [])
+rest_said shapes.Block p = effect (forgotten (at_mode modes.Block p)) (block_begun p.state)
 rest_said (shapes.Mark marks.Rule) p =
     if p.state.fields == 0 then effect (rows_begun p) (piece tells.Rule [] ∷ []) else last_ended p
 rest_said shape p = last_ended p

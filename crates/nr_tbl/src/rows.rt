@@ -161,6 +161,16 @@ impl State {
         self.complains(Kind::TooManyFields, setter);
         self.tell_text(text, setter);
     }
+
+    /// A text block begins.
+    fn tell_block<S: Setter>(&self, setter: &mut S)
+        ensures { Tells S.shows S.hears (lines.block_begun self.now) setter.old setter.new }
+    {
+        if self.is_beyond() {
+            self.complains(Kind::TooManyFields, setter);
+        }
+        setter.tell(Tell::Block, b"");
+    }
 }
 
 impl Reader {
@@ -258,7 +268,7 @@ impl Reader {
     {
         match shape_of(self.state.trimmed(self.rest())) {
             Shape::Block => {
-                setter.tell(Tell::Block, b"");
+                self.state.tell_block(setter);
                 self.state.mode = Mode::Block;
                 self.forgets();
             }
