@@ -7,12 +7,14 @@ use Rattle.std.specs.Char.{encode_utf8}
 use Rattle.nr_units.specs.Source.{Supply, Faults, Never, After, Anytime, Gives, Offers, Skips, MayGiveAll}
 use Rattle.nr_units.specs.declared.source.Fault.{Fault}
 use Rattle.nr_coding.specs.declared.part.Part.{Part}
-use Rattle.nr_coding.specs.declared.part.Part.TheVariants.{Start, Mark, LongMark, Head, Plain, Latin1, Wide}
+use Rattle.nr_coding.specs.declared.part.Part.TheVariants.{Start, Mark, LongMark, Head, Plain, Unknown, Eight, Wide}
 use Rattle.nr_coding.specs.declared.part.Step.{Step}
+use Rattle.nr_coding.specs.declared.tag.Head.{Head as Heads}
+use Rattle.nr_coding.specs.Sets.{character_of as set_character}
 use Rattle.nr_coding.specs.declared.wide.Units.{Units}
 use Rattle.nr_coding.specs.declared.wide.Wide.{Wide as Wides}
 use Rattle.nr_coding.specs.Wide.{replacement, character_of, is_high, is_low, pair_code, unit, first_wide, fresh, behind_high, behind_first}
-use Rattle.nr_coding.specs.Part.{taken, ended, is_marking}
+use Rattle.nr_coding.specs.Part.{taken, ended, is_marking, is_plain}
 use Rattle.nr_coding.specs.UnderCoding.{text_from, given, supply_from, hand_of}
 
 -- what was known is as it was
@@ -68,15 +70,17 @@ end_stays a part ready known new none stays gives =
     Stays-trans a (supply_from part [] known) _ (subst (λ (xs : List ℕ). Stays a (supply_from part xs known)) none stays) (end_came part known new gives)
 
 end_told : (part : Part) (known new : Option Supply) → Gives {E = Fault} known (Ok None) new → ended part ≡ []
-    → Gives {E = Fault} (supply_from part [] known) (Ok None) (supply_from Plain (ended part) new)
+    → Gives {E = Fault} (supply_from part [] known) (Ok None) (supply_from part [] new)
 end_told part None new gives none = tt
 end_told part (Some q) None gives none = absurd gives
-end_told part (Some q) (Some t) gives none = (ap (text_from part) gives.0 ∙ none, end_same part q t gives.0 gives.1, tt)
+end_told part (Some q) (Some t) gives none = (ap (text_from part) gives.0 ∙ none, ap (given part []) gives.1, tt)
 
 pub end_gives : (a : Option Supply) (part : Part) (ready : List ℕ) (known new : Option Supply) → ready ≡ [] → Stays a (supply_from part ready known) → Gives {E = Fault} known (Ok None) new → ended part ≡ []
-    → Gives {E = Fault} a (Ok None) (supply_from Plain (ended part) new)
+    → Gives {E = Fault} a (Ok None) (supply_from part ready new)
 end_gives a part ready known new none stays gives last =
-    Stays-gives a (supply_from part [] known) _ (Ok None) (subst (λ (xs : List ℕ). Stays a (supply_from part xs known)) none stays) (end_told part known new gives last)
+    let told = end_told part known new gives last in
+    let with_ready = subst (λ (xs : List ℕ). Gives {E = Fault} (supply_from part xs known) (Ok None) (supply_from part xs new)) (sym none) told in
+    Stays-gives a (supply_from part ready known) _ (Ok None) stays with_ready
 
 -- a call failed
 fault_told : (part : Part) (ready : List ℕ) (known new : Option Supply) (e : Fault) → Gives known (Err e) new → Gives (supply_from part ready known) (Err e) (supply_from part ready new)
@@ -108,9 +112,23 @@ pub plain_text : (bs : List ℕ) → text_from Plain bs ≡ bs
 plain_text [] = refl
 plain_text (b ∷ bs) = ap (λ (xs : List ℕ). b ∷ xs) (plain_text bs)
 
-pub plain_offers : (known : Option Supply) (bs : List ℕ) → Offers known bs → Offers (supply_from Plain [] known) bs
-plain_offers None bs offers = tt
-plain_offers (Some q) bs offers = (ap (take (length bs)) (plain_text q.bytes) ∙ offers.0, tt)
+pub unknown_text : (head : Heads) (bs : List ℕ) → text_from (Unknown head) bs ≡ bs
+unknown_text head [] = refl
+unknown_text head (b ∷ bs) = ap (λ (xs : List ℕ). b ∷ xs) (unknown_text head bs)
+
+as_it_is : (part : Part) → is_plain part ≡ true → (bs : List ℕ) → text_from part bs ≡ bs
+as_it_is Plain is bs = plain_text bs
+as_it_is (Unknown head) is bs = unknown_text head bs
+as_it_is Start is bs = absurd (let no : false ≡ true = is in cc)
+as_it_is (Mark a) is bs = absurd (let no : false ≡ true = is in cc)
+as_it_is LongMark is bs = absurd (let no : false ≡ true = is in cc)
+as_it_is (Head head) is bs = absurd (let no : false ≡ true = is in cc)
+as_it_is (Eight set) is bs = absurd (let no : false ≡ true = is in cc)
+as_it_is (Wide w) is bs = absurd (let no : false ≡ true = is in cc)
+
+pub plain_offers : (part : Part) → is_plain part ≡ true → (known : Option Supply) (bs : List ℕ) → Offers known bs → Offers (supply_from part [] known) bs
+plain_offers part is None bs offers = tt
+plain_offers part is (Some q) bs offers = (ap (take (length bs)) (as_it_is part is q.bytes) ∙ offers.0, tt)
 
 pub none_offered : (known : Option Supply) → Offers known []
 none_offered None = tt
@@ -121,22 +139,20 @@ none_offered (Some q) = (refl, may_give_none q.faults)
     may_give_none (After m) = omega arith
     may_give_none Anytime = tt
 
-pub plain_skips : (known new : Option Supply) (n : ℕ) → Skips known n new → Skips (supply_from Plain [] known) n (supply_from Plain [] new)
-plain_skips None new n skips = tt
-plain_skips (Some q) new n skips =
-    ap (supply_from Plain []) skips
-    ∙ ap (λ (bytes : List ℕ). Some (record { bytes = bytes; faults = Anytime })) (plain_text (drop n q.bytes) ∙ ap (drop n) (sym (plain_text q.bytes)))
+pub plain_skips : (part : Part) → is_plain part ≡ true → (known new : Option Supply) (n : ℕ) → Skips known n new → Skips (supply_from part [] known) n (supply_from part [] new)
+plain_skips part is None new n skips = tt
+plain_skips part is (Some q) new n skips =
+    ap (supply_from part []) skips
+    ∙ ap (λ (bytes : List ℕ). Some (record { bytes = bytes; faults = Anytime })) (as_it_is part is (drop n q.bytes) ∙ ap (drop n) (sym (as_it_is part is q.bytes)))
 
 -- bytes are at hand only where nothing is ready, and they go out as they are
-pub hand_plain : (part : Part) (ready hand : List ℕ) → 0 < length (hand_of part ready hand) → (part ≡ Plain) × (ready ≡ [])
-hand_plain Plain [] hand some = (refl, refl)
-hand_plain Plain (b ∷ rest) hand some = absurd (omega arith)
-hand_plain Start ready hand some = absurd (omega arith)
-hand_plain (Mark a) ready hand some = absurd (omega arith)
-hand_plain (Head head) ready hand some = absurd (omega arith)
-hand_plain Latin1 ready hand some = absurd (omega arith)
-hand_plain LongMark ready hand some = absurd (omega arith)
-hand_plain (Wide w) ready hand some = absurd (omega arith)
+hand_by : (x : Bool) (hand : List ℕ) → 0 < length (if x then hand else []) → x ≡ true
+hand_by true hand some = refl
+hand_by false hand some = absurd (omega arith)
+
+pub hand_plain : (part : Part) (ready hand : List ℕ) → 0 < length (hand_of part ready hand) → (is_plain part ≡ true) × (ready ≡ [])
+hand_plain part [] hand some = (hand_by (is_plain part) hand some, refl)
+hand_plain part (b ∷ rest) hand some = absurd (omega arith)
 
 -- ---- a call ends: so many bytes may come at most before some text does
 
@@ -152,7 +168,8 @@ rank (Mark a) = 5
 rank LongMark = 4
 rank (Head head) = 0
 rank Plain = 0
-rank Latin1 = 0
+rank (Unknown head) = 0
+rank (Eight set) = 0
 rank (Wide w) = rank_by w.high w.first
 
 abbrev pub patience : Part → List ℕ → ℕ
@@ -221,7 +238,8 @@ takes_nearer b (Mark a) =
 takes_nearer b LongMark = step_split 4 (b == 0xBF) _ _ (omega arith) (omega arith)
 takes_nearer b (Head head) = omega arith
 takes_nearer b Plain = omega arith
-takes_nearer b Latin1 = nearer 0 Latin1 (encode_utf8 b) (encoded b)
+takes_nearer b (Unknown head) = omega arith
+takes_nearer b (Eight set) = nearer 0 (Eight set) (encode_utf8 (set_character set b)) (encoded (set_character set b))
 takes_nearer b (Wide w) = byte_nearer b w w.high w.first refl
 
 -- ---- nothing is ready, or something is

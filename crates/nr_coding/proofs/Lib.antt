@@ -1,3 +1,4 @@
 pub mod Giving
+pub mod Named
 pub mod Unchanged
 pub mod Units

@@ -1,13 +1,15 @@
 -- The mark at the beginning of a text (RFC 2781, section 3.2; RFC 3629, section 6), and what is half read behind it.
-use Rattle.std.specs.Prelude.{ℕ, List, [], ◌∷◌, Bool, ◌==◌, ◌&&◌, ◌||◌, if◌then◌else◌}
+use Rattle.std.specs.Prelude.{ℕ, List, [], ◌∷◌, Bool, true, false, ◌==◌, ◌&&◌, ◌||◌, if◌then◌else◌}
 use Rattle.nr_coding.specs.declared.wide.Order.TheVariants.{Big, Little}
 use Rattle.nr_coding.specs.declared.wide.Units.{Units}
 use Rattle.nr_coding.specs.declared.part.Part.{Part}
-use Rattle.nr_coding.specs.declared.part.Part.TheVariants.{Start, Mark, LongMark, Head, Plain, Latin1, Wide}
+use Rattle.nr_coding.specs.declared.part.Part.TheVariants.{Start, Mark, LongMark, Head, Plain, Unknown, Eight, Wide}
 use Rattle.nr_coding.specs.declared.part.Step.{Step}
 use Rattle.std.specs.Char.{encode_utf8}
 use Rattle.nr_coding.specs.declared.tag.Tells.{Tells}
 use Rattle.nr_coding.specs.declared.tag.Tells.TheVariants as tells
+use Rattle.nr_coding.specs.declared.names.Coding.TheVariants as codings
+use Rattle.nr_coding.specs.Sets.{character_of}
 use Rattle.nr_coding.specs.Tag as tags
 use Rattle.nr_coding.specs.Wide as wides
 
@@ -16,8 +18,9 @@ plain part bytes = record { part = part; text = bytes }
 
 abbrev pub told : Tells → Part
 told (tells.More head) = Head head
-told tells.Plain = Plain
-told tells.Latin1 = Latin1
+told (tells.Reads codings.Plain) = Plain
+told (tells.Reads (codings.Eight set)) = Eight set
+told (tells.Unknown head) = Unknown head
 
 -- the first byte of a text without a mark
 abbrev pub first : ℕ → Part
@@ -43,11 +46,18 @@ of_units u = record { part = Wide u.wide; text = u.text }
 abbrev pub taken : ℕ → Part → Step
 taken b Start = if is_marking b then silent (Mark b) else plain (first b) (b ∷ [])
 taken b (Mark a) = behind_mark a b
-taken b LongMark = if b == 0xBF then silent (Head tags.first_head) else plain Plain (0xEF ∷ 0xBB ∷ b ∷ [])
+taken b LongMark = if b == 0xBF then silent Plain else plain Plain (0xEF ∷ 0xBB ∷ b ∷ [])
 taken b (Head head) = plain (told (tags.taken b head)) (b ∷ [])
 taken b Plain = plain Plain (b ∷ [])
-taken b Latin1 = plain Latin1 (encode_utf8 b)
+taken b (Unknown head) = plain (Unknown head) (b ∷ [])
+taken b (Eight set) = plain (Eight set) (encode_utf8 (character_of set b))
 taken b (Wide w) = of_units (wides.taken b w)
+
+-- bytes go out as they are from now on
+abbrev pub is_plain : Part → Bool
+is_plain Plain = true
+is_plain (Unknown head) = true
+is_plain part = false
 
 -- the end comes
 abbrev pub ended : Part → List ℕ
@@ -56,5 +66,6 @@ ended (Mark a) = a ∷ []
 ended LongMark = 0xEF ∷ 0xBB ∷ []
 ended (Head head) = []
 ended Plain = []
-ended Latin1 = []
+ended (Unknown head) = []
+ended (Eight set) = []
 ended (Wide w) = wides.ended w

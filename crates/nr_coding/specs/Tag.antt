@@ -1,13 +1,15 @@
--- A coding that is named in a page's first two lines, as in `.\" -*- coding: latin-1 -*-` (groff's preconv(1), Coding Tags).
+-- A coding that is named in a page's first two lines, as in `.\" -*- coding: koi8-r -*-` (groff's preconv(1), Coding Tags).
 use Prim.Native.Char.{code}
-use Rattle.std.specs.Prelude.{ℕ, ◌+◌, List, [], ◌∷◌, ◌++◌, Bool, true, false, not, ◌==◌, ◌&&◌, ◌||◌, nat_le, if◌then◌else◌, Option, None, Some, codes, slice_get}
-use Rattle.std.specs.Str.{bytes_eq}
+use Rattle.std.specs.Prelude.{ℕ, ◌+◌, List, [], ◌∷◌, ◌++◌, length, Bool, true, false, not, ◌==◌, ◌&&◌, ◌||◌, nat_le, if◌then◌else◌, Option, None, Some, codes, slice_get}
 use Rattle.nr_units.specs.Name.{is_full}
 use Rattle.nr_coding.specs.declared.tag.Tag.{Tag}
 use Rattle.nr_coding.specs.declared.tag.Tag.TheVariants.{Key, Blanks, Value}
 use Rattle.nr_coding.specs.declared.tag.Head.{Head}
 use Rattle.nr_coding.specs.declared.tag.Tells.{Tells}
-use Rattle.nr_coding.specs.declared.tag.Tells.TheVariants.{More, Plain, Latin1}
+use Rattle.nr_coding.specs.declared.tag.Tells.TheVariants.{More, Reads, Unknown}
+use Rattle.nr_coding.specs.declared.names.Coding.{Coding}
+use Rattle.nr_coding.specs.declared.names.Coding.TheVariants.{Plain}
+use Rattle.nr_coding.specs.Names.{coding_named}
 
 abbrev pub key : List ℕ
 key = codes "coding:"
@@ -15,16 +17,10 @@ key = codes "coding:"
 abbrev pub is_within : ℕ → ℕ → ℕ → Bool
 is_within first last b = nat_le first b && nat_le b last
 
--- the names of Latin-1; any other is read as if none were named
-abbrev pub is_latin1 : List ℕ → Bool
-is_latin1 name =
-    bytes_eq name (codes "latin-1") || bytes_eq name (codes "latin1") || bytes_eq name (codes "iso-8859-1")
-    || bytes_eq name (codes "iso-latin-1")
-
 abbrev pub goes_on : ℕ → Bool
 goes_on b =
     is_within (code "A") (code "Z") b || is_within (code "a") (code "z") b
-    || is_within (code "0") (code "9") b || (b == code "-")
+    || is_within (code "0") (code "9") b || (b == code "-") || (b == code "/") || (b == code "_")
 
 abbrev pub lowered : ℕ → ℕ
 lowered b = if is_within (code "A") (code "Z") b then b + 32 else b
@@ -47,15 +43,21 @@ abbrev pub spelling : ℕ → Head → Tells
 spelling b h = More (record { second = h.second; tag = Value; name = h.name ++ lowered b ∷ [] })
 
 abbrev pub line_ended : Head → Tells
-line_ended h = if h.second then Plain else More (record { second = true; tag = Key 0; name = [] })
+line_ended h = if h.second then Reads Plain else More (record { second = true; tag = Key 0; name = [] })
 
 abbrev pub behind_key : ℕ → Head → Tells
 behind_key read h = going (if read == 7 then Blanks else Key read) h
 
+abbrev pub of_name : Option Coding → Head → Tells
+of_name (Some coding) h = Reads coding
+of_name None h = Unknown h
+
+-- the name was read whole; an empty one names nothing
+abbrev pub named : Head → Tells
+named h = if length h.name == 0 then Reads Plain else of_name (coding_named h.name) h
+
 abbrev pub in_value : ℕ → Head → Tells
-in_value b h =
-    if goes_on b && not (is_full h.name) then spelling b h else
-    if is_latin1 h.name then Latin1 else Plain
+in_value b h = if goes_on b && not (is_full h.name) then spelling b h else named h
 
 abbrev pub in_blanks : ℕ → Head → Tells
 in_blanks b h =

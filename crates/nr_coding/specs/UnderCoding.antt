@@ -1,10 +1,12 @@
 -- The text of bytes, read as UTF-8.
-use Rattle.std.specs.Prelude.{ℕ, List, [], ◌∷◌, ◌++◌, Option}
+use Rattle.std.specs.Prelude.{ℕ, List, [], ◌∷◌, ◌++◌, if◌then◌else◌, Option, None, Some}
 use Rattle.std.specs.Option.{option_map}
 use Rattle.nr_units.specs.Source.{Supply, Anytime}
 use Rattle.nr_coding.specs.declared.part.Part.{Part}
-use Rattle.nr_coding.specs.declared.part.Part.TheVariants.{Start, Plain}
-use Rattle.nr_coding.specs.Part.{taken, ended}
+use Rattle.nr_coding.specs.declared.part.Part.TheVariants.{Start}
+use Rattle.nr_coding.specs.declared.part.Part.TheVariants as parts
+use Rattle.nr_coding.specs.declared.under_coding.Unknown.{Unknown}
+use Rattle.nr_coding.specs.Part.{taken, ended, is_plain}
 
 -- the text of the bytes that are to come
 abbrev pub text_from : Part → List ℕ → List ℕ
@@ -27,5 +29,10 @@ text_supply known = option_map (λ (q : Supply). record { bytes = text_of q.byte
 
 -- bytes that go out as they are may be taken many at once
 abbrev pub hand_of : Part → List ℕ → List ℕ → List ℕ
-hand_of Plain [] hand = hand
-hand_of part ready hand = []
+hand_of part [] hand = if is_plain part then hand else []
+hand_of part (b ∷ bs) hand = []
+
+-- a coding that the text names, and that is not known
+abbrev pub unknown_in : Part → Option Unknown
+unknown_in (parts.Unknown h) = Some (record { name = h.name; line = if h.second then 2 else 1 })
+unknown_in part = None

@@ -2,6 +2,8 @@
 ghost use Rattle.std.specs.Prelude.{◌≡◌, ◌≤◌, length};
 ghost use Rattle.nr_coding.specs.Part as specs;
 
+use super::names::Coding;
+use super::sets::Set;
 use super::tag::{Head, Tells};
 use super::wide::{Order, Wide, utf8_of};
 use nr_units::Name;
@@ -19,8 +21,10 @@ pub(crate) enum Part {
     Head(Head),
     /// Bytes go out as they are.
     Plain,
-    /// Latin-1.
-    Latin1,
+    /// The same, behind the name of a coding that is not known.
+    Unknown(Head),
+    /// Characters of a set of eight bits.
+    Eight(Set),
     /// UTF-16.
     Wide(Wide),
 }
@@ -51,8 +55,9 @@ fn told(tells: Tells) -> Part
 {
     match tells {
         Tells::More(head) => Part::Head(head),
-        Tells::Plain => Part::Plain,
-        Tells::Latin1 => Part::Latin1,
+        Tells::Reads(Coding::Plain) => Part::Plain,
+        Tells::Reads(Coding::Eight(set)) => Part::Eight(set),
+        Tells::Unknown(head) => Part::Unknown(head),
     }
 }
 
@@ -93,14 +98,15 @@ impl Part {
         match self {
             Part::Start if matches!(byte, 0xEF | 0xFE | 0xFF) => silent(Part::Mark(byte)),
             Part::Mark(first) => behind_mark(first, byte),
-            Part::LongMark if byte == 0xBF => silent(Part::Head(Head::new())),
+            Part::LongMark if byte == 0xBF => silent(Part::Plain),
             Part::LongMark => plain(Part::Plain, &[0xEF, 0xBB, byte]),
             Part::Start => plain(first(byte), &[byte]),
             Part::Head(head) => plain(told(head.takes(byte)), &[byte]),
             Part::Plain => plain(Part::Plain, &[byte]),
-            Part::Latin1 => Step {
-                part: Part::Latin1,
-                text: utf8_of(byte as char),
+            Part::Unknown(head) => plain(Part::Unknown(head), &[byte]),
+            Part::Eight(set) => Step {
+                part: Part::Eight(set),
+                text: utf8_of(set.character(byte)),
             },
             Part::Wide(wide) => {
                 let units = wide.takes(byte);
@@ -112,12 +118,22 @@ impl Part {
         }
     }
 
+    /// Whether bytes go out as they are from now on.
+    #[inline]
+    pub(crate) fn is_plain(self) -> bool
+        ensures { result ≡ specs.is_plain self }
+    {
+        matches!(self, Part::Plain | Part::Unknown(_))
+    }
+
     /// The end comes.
     pub(crate) fn ends(self) -> Name
         ensures { result ≡ specs.ended self }
     {
         match self {
-            Part::Start | Part::Head(_) | Part::Plain | Part::Latin1 => Name::new(),
+            Part::Start | Part::Head(_) | Part::Plain | Part::Unknown(_) | Part::Eight(_) => {
+                Name::new()
+            }
             Part::Mark(first) => Name::of(&[first]),
             Part::LongMark => Name::of(&[0xEF, 0xBB]),
             Part::Wide(wide) => wide.ends(),

@@ -1,8 +1,9 @@
-//! A coding that is named in a page's first two lines, as in `.\" -*- coding: latin-1 -*-` (groff's preconv(1), Coding Tags).
+//! A coding that is named in a page's first two lines, as in `.\" -*- coding: koi8-r -*-` (groff's preconv(1), Coding Tags).
 ghost use Rattle.std.specs.Prelude.{◌≡◌, ◌<◌, length};
 ghost use Rattle.nr_coding.specs.Tag as specs;
 ghost use Rattle.nr_units.specs.Name.{capacity};
 
+use super::names::{Coding, coding_named};
 use nr_units::Name;
 
 /// What stands before the name of a coding.
@@ -35,27 +36,17 @@ pub(crate) struct Head {
 pub(crate) enum Tells {
     /// Nothing yet.
     More(Head),
-    /// Bytes are read as they stand.
-    Plain,
-    /// The text is in Latin-1.
-    Latin1,
-}
-
-/// Whether a name is one of Latin-1.
-fn is_latin1(name: &[u8]) -> bool
-    ensures { result ≡ specs.is_latin1 name.now }
-{
-    name == b"latin-1".as_slice()
-        || name == b"latin1".as_slice()
-        || name == b"iso-8859-1".as_slice()
-        || name == b"iso-latin-1".as_slice()
+    /// How the text is read.
+    Reads(Coding),
+    /// A coding that is not known.
+    Unknown(Head),
 }
 
 /// Whether a byte goes on a name.
 fn goes_on(byte: u8) -> bool
     ensures { result ≡ specs.goes_on byte }
 {
-    matches!(byte, b'A'..=b'Z' | b'a'..=b'z' | b'0'..=b'9' | b'-')
+    matches!(byte, b'A'..=b'Z' | b'a'..=b'z' | b'0'..=b'9' | b'-' | b'/' | b'_')
 }
 
 /// A letter in lowercase.
@@ -117,6 +108,19 @@ impl Head {
         })
     }
 
+    /// The name was read whole; an empty one names nothing.
+    fn names(self) -> Tells
+        ensures { result ≡ specs.named self }
+    {
+        if self.name.is_empty() {
+            return Tells::Reads(Coding::Plain);
+        }
+        match coding_named(self.name.as_bytes()) {
+            Some(coding) => Tells::Reads(coding),
+            None => Tells::Unknown(self),
+        }
+    }
+
     /// A byte comes in the name of a coding, or behind it.
     fn in_value(self, byte: u8) -> Tells
         ensures { result ≡ specs.in_value byte self }
@@ -124,10 +128,7 @@ impl Head {
         if goes_on(byte) && !self.name.is_full() {
             return self.spells(byte);
         }
-        if is_latin1(self.name.as_bytes()) {
-            return Tells::Latin1;
-        }
-        Tells::Plain
+        self.names()
     }
 
     /// A byte comes behind the key.
@@ -172,7 +173,7 @@ impl Head {
         ensures { result ≡ specs.line_ended self }
     {
         if self.second {
-            return Tells::Plain;
+            return Tells::Reads(Coding::Plain);
         }
         Tells::More(Head {
             second: true,

@@ -5,9 +5,19 @@ use super::part::Part;
 use nr_units::Name;
 use nr_units::source::{Fault, Source};
 
+/// A coding that a text names, and that is not known: its text is read as if it named none.
+#[derive(Clone, Copy)]
+pub struct Unknown {
+    /// The name, in lowercase.
+    pub name: Name,
+    /// The line that names it.
+    pub line: u8,
+}
+
 /// The text of a source in UTF-8. Where it begins with the mark of UTF-16 these are its characters, U+FFFD for what is none.
-/// Else they are its bytes, but for the mark of UTF-8; behind a name of Latin-1 in its first two lines, as `coding: latin-1`,
-/// a byte is a character of Latin-1. What it gives may fail at any call, where what is to come of the source is known.
+/// Else they are its bytes, but for the mark of UTF-8; behind the name of a set of eight bits in its first two lines, as
+/// `coding: koi8-r`, a byte is a character of the set. What it gives may fail at any call, where what is to come of the
+/// source is known.
 #[derive(Drop)]
 pub struct UnderCoding<S> {
     source: S,
@@ -17,8 +27,8 @@ pub struct UnderCoding<S> {
 }
 
 impl<S: Source + Drop> UnderCoding<S> {
-    ghost use Rattle.nr_coding.specs.Laws.{PlainStays, WideIsRead};
-    ghost use Rattle.nr_coding.specs.UnderCoding.{text_supply};
+    ghost use Rattle.nr_coding.specs.Laws.{AsciiStays, OthersStay, PlainStays, SetsAreRead, WideIsRead};
+    ghost use Rattle.nr_coding.specs.UnderCoding.{text_supply, unknown_in};
 
     /// The text of this source, of which nothing was read.
     pub fn over(source: S) -> Self
@@ -28,11 +38,30 @@ impl<S: Source + Drop> UnderCoding<S> {
         ensures plain { PlainStays }
         // A text in UTF-16 is read as its characters.
         ensures wide { WideIsRead }
+        // A text is read as the characters of the set that its first line names.
+        ensures named { SetsAreRead }
+        // A text whose first line names UTF-8, ASCII, or what is not known, is as it was.
+        ensures others { OthersStay }
+        // A text of ASCII is the same in every set.
+        ensures ascii { AsciiStays }
     {
         UnderCoding {
             source,
             part: Part::Start,
             ready: Name::new(),
+        }
+    }
+
+    /// The coding that the text names, as far as it was read, if that is not known.
+    pub fn unknown(&self) -> Option<Unknown>
+        ensures { result ≡ unknown_in self.now.part }
+    {
+        match self.part {
+            Part::Unknown(head) => Some(Unknown {
+                name: head.name,
+                line: if head.second { 2 } else { 1 },
+            }),
+            _ => None,
         }
     }
 }
@@ -55,11 +84,12 @@ impl<S: Source + Drop> Source for UnderCoding<S> {
                     self.ready = step.text;
                 }
                 Ok(None) => {
-                    self.ready = self.part.ends();
-                    self.part = Part::Plain;
-                    if self.ready.is_empty() {
+                    let text = self.part.ends();
+                    if text.is_empty() {
                         return Ok(None);
                     }
+                    self.part = Part::Plain;
+                    self.ready = text;
                 }
                 Err(fault) => return Err(fault),
             }
@@ -71,7 +101,7 @@ impl<S: Source + Drop> Source for UnderCoding<S> {
 
     #[inline]
     fn window(&self) -> &[u8] {
-        if self.ready.is_empty() && matches!(self.part, Part::Plain) {
+        if self.ready.is_empty() && self.part.is_plain() {
             self.source.window()
         } else {
             &[]

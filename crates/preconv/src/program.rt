@@ -2,9 +2,10 @@
 
 use super::lines::Lines;
 use super::words::{Wrong, read_words};
+use itoa::Buffer;
 use nr_characters::Table;
-use nr_coding::UnderCoding;
-use nr_filters::{Buffers, Disk, Ending, Filter, Turns, turn_all};
+use nr_coding::{UnderCoding, Unknown};
+use nr_filters::{Buffers, Disk, Ending, Filter, Turns, put_all, turn_all};
 use nr_preconv::{Outcome, convert};
 use nr_units::buffered::Buffered;
 use nr_units::sink::Sink;
@@ -66,13 +67,13 @@ impl Turns for Turner {
         name: &'a str,
         text: T,
         output: &mut W,
-        _errors: &mut E,
+        errors: &mut E,
     ) -> Ending<'a> {
         let mut source = UnderCoding::over(Buffered::over(text, &mut self.buffers.input));
         let mut lines = Lines::over(output);
         let mut steps = 0;
         let pending = &mut self.buffers.pending;
-        match convert(&mut source, &mut lines, self.table, pending, &mut steps) {
+        let ending = match convert(&mut source, &mut lines, self.table, pending, &mut steps) {
             Outcome::Done => match lines.end_line() {
                 Ok(()) => Ending::Done,
                 Err(_) => Ending::WriteFault,
@@ -80,6 +81,36 @@ impl Turns for Turner {
             Outcome::WriteFault => Ending::WriteFault,
             Outcome::TooLong => Ending::TooLong(Some(name)),
             Outcome::ReadFault { at } => Ending::ReadFault(Some(name), at),
+        };
+        match source.unknown() {
+            Some(unknown) => complained(name, unknown, ending, errors),
+            None => ending,
         }
+    }
+}
+
+/// Tells of a coding that the text of this name names and that is not known, as far as `errors` takes it, and so how
+/// the text ended.
+fn complained<'a, E: Sink>(
+    name: &'a str,
+    unknown: Unknown,
+    ending: Ending<'a>,
+    errors: &mut E,
+) -> Ending<'a> {
+    let mut digits = Buffer::new();
+    let line = digits.format(unknown.line).as_bytes();
+    let parts = [
+        b"preconv: ".as_slice(),
+        name.as_bytes(),
+        b":",
+        line,
+        b": unknown coding ",
+        unknown.name.as_bytes(),
+        b"\n",
+    ];
+    let _ = put_all(&parts, errors);
+    match ending {
+        Ending::Done => Ending::Complained,
+        fault => fault,
     }
 }

@@ -12,7 +12,7 @@ struct Row {
     line: &'static [u8],
 }
 
-static TEXTS: [(&str, Page<'static>); 14] = [
+static TEXTS: [(&str, Page<'static>); 18] = [
     (
         "quotes",
         Page::Bytes(b"\xe2\x80\x9ca\xe2\x80\x9d \\(em \\fIb\\fP\n"),
@@ -41,11 +41,27 @@ static TEXTS: [(&str, Page<'static>); 14] = [
         Page::Bytes(b".\\\" coding: Latin-1 -*-\na\xc3\xa9\n"),
     ),
     ("unnamed", Page::Bytes(b"a\nb\ncoding: latin-1\n\xc3\xa9\n")),
+    (
+        "russian",
+        Page::Bytes(b".\\\" -*- mode: nroff; coding: KOI8-R -*-\n\xf0\xd2\xa3 a\n"),
+    ),
+    (
+        "czech",
+        Page::Bytes(b".TH x\n.\\\" -*-coding:iso-8859-2-*-\n\xf8\xec \xb3\n"),
+    ),
+    (
+        "money",
+        Page::Bytes(b".\\\" -*- coding: latin-0-dos; -*-\n\xa4\xbd\xe9\n"),
+    ),
+    (
+        "japanese",
+        Page::Bytes(b".TH x\n.\\\" -*- coding: EUC-JP-unix -*-\na\xe9\n"),
+    ),
     ("folder", Page::Cut(b"")),
     ("cut", Page::Cut(b"a\\~b\n.BR c\\(l")),
 ];
 
-static ROWS: [Row; 23] = [
+static ROWS: [Row; 26] = [
     Row {
         words: &[b"preconv"],
         output: b"cafe\n",
@@ -129,6 +145,25 @@ static ROWS: [Row; 23] = [
         output: b".\\\" coding: Latin-1 -*-\na\xc3\xa9\na\nb\ncoding: latin-1\n\xe9\n",
         status: 0,
         line: b"",
+    },
+    Row {
+        words: &[b"preconv", b"-u", b"cyrillic", b"russian", b"czech"],
+        output: b".\\\" -*- mode: nroff; coding: KOI8-R -*-\n\x9a\xcd\xde a\n.TH x\n.\\\" -*-coding:iso-8859-2-*-\nre \xbc\n",
+        status: 0,
+        line: b"",
+    },
+    Row {
+        words: &[b"preconv", b"-u", b"latin", b"money"],
+        output: b".\\\" -*- coding: latin-0-dos; -*-\n\xd0\x96\xe9\n",
+        status: 0,
+        line: b"",
+    },
+    // A coding that is not known is told.
+    Row {
+        words: &[b"preconv", b"japanese", b"half"],
+        output: b".TH x\n.\\\" -*- coding: EUC-JP-unix -*-\nae\n\\(l\n",
+        status: 1,
+        line: b"preconv: japanese:2: unknown coding euc-jp-unix\n",
     },
     // Each file is turned by itself, and ends with a newline.
     Row {

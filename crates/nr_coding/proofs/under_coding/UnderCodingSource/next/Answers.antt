@@ -17,5 +17,5 @@ loop-self-preserved-in-Ok-Some g c =
 
 pub loop-self-smaller : goal.loop-self-smaller
 loop-self-smaller g c =
-    end_nearer c.loop-self.self.part c.loop-self.self.ready c.ends-self.result (sym c.is_empty.ensures ∙ c.loop-self-test.true)
+    end_nearer c.loop-self.self.part c.loop-self.self.ready c.ends-text.result (sym c.is_empty.ensures ∙ c.loop-self-test.true)
     (sym c.is_empty-in-Ok-None.ensures ∙ c.if-is_empty.false)
