@@ -3,6 +3,7 @@
 use super::words::{Job, Wrong, read_words};
 use itoa::Buffer;
 use nr_characters::Table;
+use nr_coding::UnderCoding;
 use nr_filters::{BUFFER_SIZE, Buffers, Disk, Ending, Filter, Turns, put_all, turn_all};
 use nr_units::buffered::Buffered;
 use nr_units::sink::Sink;
@@ -79,7 +80,7 @@ fn choose_for<'a, R: Files, I: Read + Copy + Drop, W: Sink>(
     let Ok(mut counts) = vec![in disk.alloc; 0u32; CHARACTERS] else {
         return Ending::OutOfMemory;
     };
-    let mut source = Buffered::over(text.stream, &mut input);
+    let mut source = UnderCoding::over(Buffered::over(text.stream, &mut input));
     match choose(&mut source, &mut page, &mut counts) {
         Ok(table) => put_out(&[table.name().as_bytes(), b"\n"], output),
         Err(_) => Ending::CannotRead(name),

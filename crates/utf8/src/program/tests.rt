@@ -12,20 +12,24 @@ struct Row {
     line: &'static [u8],
 }
 
-static TEXTS: [(&str, Page<'static>); 10] = [
+static TEXTS: [(&str, Page<'static>); 11] = [
     ("underlined", Page::Bytes(b"_\x08a_\x08b c__\x08_\n_")),
     ("hostile", Page::Bytes(b"\x1b[1m\x08\x7f_\x08-\x00\r\n\xff")),
     ("half", Page::Bytes(b"a_\x08")),
     ("cut", Page::Cut(b"ab_\x08")),
     ("russian", Page::Bytes(b"\xc3\xa9 \xd0\xaf\xd0\xb1\n")),
     ("greek", Page::Bytes(b"\xce\xb1\xce\xb9")),
+    (
+        "named",
+        Page::Bytes(b".\\\" -*- coding: iso-8859-7 -*-\n\xe1\xe2"),
+    ),
     ("polish", Page::Bytes(b"\xc4\x99\xe2\x80\x9c")),
     ("plain", Page::Bytes(b"a\xe9\n")),
     ("letters", Page::Bytes(b"\\(oeuvre \\[/l]")),
     ("accents", Page::Bytes(b"\\'a \\(14 \xe2\x80\x94")),
 ];
 
-static ROWS: [Row; 25] = [
+static ROWS: [Row; 26] = [
     Row {
         words: &[b"utf8", b"latin"],
         output: b"caf\xc3\xa9_",
@@ -108,6 +112,13 @@ static ROWS: [Row; 25] = [
     },
     Row {
         words: &[b"utf8", b"--choose", b"greek"],
+        output: b"greek\n",
+        status: 0,
+        line: b"",
+    },
+    // A page is read under its coding.
+    Row {
+        words: &[b"utf8", b"--choose", b"named"],
         output: b"greek\n",
         status: 0,
         line: b"",
