@@ -4,7 +4,7 @@
 pub(crate) type Name = (u8, u8, char);
 
 /// Letters of `latin`, and letters and signs of `english`, that another table lacks.
-pub(crate) static NAMES: [Name; 41] = [
+pub(crate) static NAMES: [Name; 43] = [
     (b'o', b'e', 'œ'),
     (b'/', b'L', 'Ł'),
     (b'/', b'l', 'ł'),
@@ -17,6 +17,8 @@ pub(crate) static NAMES: [Name; 41] = [
     (b'v', b'z', 'ž'),
     (b'\'', b'C', 'Ć'),
     (b'\'', b'c', 'ć'),
+    (b'O', b'f', 'ª'),
+    (b'O', b'm', 'º'),
     (b'p', b'c', '·'),
     (b'a', b'a', '´'),
     (b'c', b't', '¢'),

@@ -83,7 +83,7 @@ static ROWS: [Row; 26] = [
     // Characters of the table are its bytes, by their names too.
     Row {
         words: &[b"preconv", b"-u", b"latin", b"quotes"],
-        output: b"\xbaa\xbc \xb4 \\fIb\\fP\n",
+        output: b"\xffa\xbc \xb4 \\fIb\\fP\n",
         status: 0,
         line: b"",
     },

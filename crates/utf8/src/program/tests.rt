@@ -57,7 +57,7 @@ static ROWS: [Row; 26] = [
     // No control character goes out but newline.
     Row {
         words: &[b"utf8", b"latin", b"hostile"],
-        output: b"[1m_-\n\xc3\xbf",
+        output: b"[1m_-\n\xe2\x80\x9c",
         status: 0,
         line: b"utf8: 6 bytes dropped that show nothing\n",
     },
