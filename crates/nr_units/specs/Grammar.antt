@@ -52,7 +52,7 @@ fraction_digits (Some ds) = ds
 
 abbrev pub digits_text : List ℕ → List ℕ
 digits_text [] = []
-digits_text (d ∷ ds) = (48 + d) ∷ digits_text ds
+digits_text (d ∷ ds) = (code "0" + d) ∷ digits_text ds
 
 abbrev pub fraction_text : Option (List ℕ) → List ℕ
 fraction_text None = []

@@ -1,4 +1,5 @@
 pub mod Cell
+pub mod Character
 pub mod Expression
 pub mod Failures
 pub mod Grammar

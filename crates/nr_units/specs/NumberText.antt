@@ -21,13 +21,13 @@ roman_forms i v x =
 abbrev pub roman_digit : ℕ → ℕ → ℕ → ℕ → List ℕ
 roman_digit i v x digit = unwrap_or (slice_get (roman_forms i v x) digit) []
 
--- thousands, hundreds, tens and units; raised is 32 for capitals and 0 for small letters
+-- thousands, hundreds, tens and units; raised is how far the letters stand before the small ones
 abbrev pub roman : ℕ → ℕ → List ℕ
 roman raised n =
-    replicate (n / 1000) (109 - raised)
-    ++ roman_digit (99 - raised) (100 - raised) (109 - raised) (n / 100 % 10)
-    ++ roman_digit (120 - raised) (108 - raised) (99 - raised) (n / 10 % 10)
-    ++ roman_digit (105 - raised) (118 - raised) (120 - raised) (n % 10)
+    replicate (n / 1000) (code "m" - raised)
+    ++ roman_digit (code "c" - raised) (code "d" - raised) (code "m" - raised) (n / 100 % 10)
+    ++ roman_digit (code "x" - raised) (code "l" - raised) (code "c" - raised) (n / 10 % 10)
+    ++ roman_digit (code "i" - raised) (code "v" - raised) (code "x" - raised) (n % 10)
 
 -- roman from 1 to 3999, elsewhere Arabic without zeros in front
 pub record IsRoman (raised n : ℕ) (text : List ℕ) : Type 0 where
@@ -51,13 +51,13 @@ pub record IsAlphabetic (before n : ℕ) (text : List ℕ) : Type 0 where
   pub letters : 0 < n → AreLetters before text
   pub value : 0 < n → letters_value_after before 0 text ≡ n
 
--- the form of a number without a sign: 96 and 64 are the bytes before `a` and `A`
+-- the form of a number without a sign
 abbrev pub IsForm : Format → ℕ → List ℕ → Type 0
 IsForm (Arabic places) n text = IsArabic places n text
 IsForm LowerRoman n text = IsRoman 0 n text
-IsForm UpperRoman n text = IsRoman 32 n text
-IsForm LowerAlphabetic n text = IsAlphabetic 96 n text
-IsForm UpperAlphabetic n text = IsAlphabetic 64 n text
+IsForm UpperRoman n text = IsRoman (code "a" - code "A") n text
+IsForm LowerAlphabetic n text = IsAlphabetic (code "a" - 1) n text
+IsForm UpperAlphabetic n text = IsAlphabetic (code "A" - 1) n text
 
 -- the text of a number in a format: a negative one is `-` and the form of its magnitude
 abbrev pub IsNumberText : Format → ℤ → List ℕ → Type 0
@@ -72,7 +72,7 @@ Appends old new P = (form : List ℕ) × (new ≡ old ++ form) × P form
 
 -- decimal digits, with zeros in front for so many places, of which at most nine count
 abbrev pub arabic_text : ℕ → ℕ → List ℕ
-arabic_text places n = replicate (min 9 places - length (decimal n)) 48 ++ decimal n
+arabic_text places n = replicate (min 9 places - length (decimal n)) (code "0") ++ decimal n
 
 -- roman from 1 to 3999, elsewhere Arabic
 abbrev pub roman_text : ℕ → ℕ → List ℕ
@@ -95,9 +95,9 @@ alphabetic_text before n = if n == 0 then code "0" ∷ [] else letters before n
 abbrev pub form_text : Format → ℕ → List ℕ
 form_text (Arabic places) n = arabic_text places n
 form_text LowerRoman n = roman_text 0 n
-form_text UpperRoman n = roman_text 32 n
-form_text LowerAlphabetic n = alphabetic_text 96 n
-form_text UpperAlphabetic n = alphabetic_text 64 n
+form_text UpperRoman n = roman_text (code "a" - code "A") n
+form_text LowerAlphabetic n = alphabetic_text (code "a" - 1) n
+form_text UpperAlphabetic n = alphabetic_text (code "A" - 1) n
 
 -- a negative number is `-` and the form of its magnitude
 abbrev pub number_text : Format → ℤ → List ℕ

@@ -1,5 +1,6 @@
 //! One place of an output line.
 ghost use Rattle.std.specs.Prelude.{◌≡◌, false};
+ghost use Rattle.nr_units.specs.Character.{code};
 
 /// A character of an output line: its byte, and whether it is underlined.
 #[derive(Clone, Copy)]
@@ -13,7 +14,7 @@ pub struct Cell {
 impl Cell {
     /// A blank that is not underlined, to fill new slices with.
     pub fn blank() -> Cell
-        ensures { result ≡ record { byte = 32; under = false } }
+        ensures { result ≡ record { byte = code " "; under = false } }
     {
         Cell {
             byte: b' ',

@@ -98,6 +98,7 @@ impl Waiting {
 }
 
 impl Mode {
+    ghost use Rattle.nr_units.specs.Character.{code};
     ghost use Rattle.nr_units.specs.Scan.{more_whole, more_fraction, with_digit, with_point, number_of, symbol_of};
     ghost use Rattle.nr_units.specs.declared.symbols.Symbol.TheVariants.{Digit};
 
@@ -111,8 +112,8 @@ impl Mode {
     /// After the byte, if it is a digit of a whole number.
     #[inline(always)]
     pub(crate) fn behind_digit(self, byte: u8) -> Option<Self>
-        ensures { IfSome result (λ mode. (symbol_of byte ≡ Some (Digit (byte - 48)))
-            × (with_digit (byte - 48) self ≡ Some mode)) }
+        ensures { IfSome result (λ mode. (symbol_of byte ≡ Some (Digit (byte - code "0")))
+            × (with_digit (byte - code "0") self ≡ Some mode)) }
     {
         if !byte.is_ascii_digit() {
             return None;

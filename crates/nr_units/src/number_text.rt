@@ -2,6 +2,7 @@
 ghost use Rattle.std.specs.Prelude.{◌≡◌, ◌+◌, ◌-◌, ◌<◌, ◌≤◌, ◌++◌, ◌^◌, ◌/◌, ◌%◌, ◌∷◌, [], length, replicate};
 ghost use Rattle.std.specs.Fmt.{decimal};
 ghost use Rattle.arrayvec.specs.ArrayVec.{array_vec_len};
+ghost use Rattle.nr_units.specs.Character.{code};
 ghost use Rattle.nr_units.specs.NumberText.{IsArabic, IsRoman, IsAlphabetic, Appends, roman_digit, IsNumberText, arabic_text, roman_text, alphabetic_text, number_text};
 
 use arrayvec::ArrayVec;
@@ -60,7 +61,7 @@ fn push_times(text: &mut Text, byte: u8, times: usize)
 fn push_pair(text: &mut Text, n: u64)
     requires room { array_vec_len text.old + 2 ≤ 32 }
     requires range { n < 100 }
-    ensures { text.new.items ≡ text.old.items ++ (48 + n / 10) ∷ (48 + n % 10) ∷ [] }
+    ensures { text.new.items ≡ text.old.items ++ (code "0" + n / 10) ∷ (code "0" + n % 10) ∷ [] }
 {
     text.push(b'0' + (n / 10) as u8);
     text.push(b'0' + (n % 10) as u8);
@@ -146,11 +147,11 @@ fn push_roman_digit(text: &mut Text, digit: u8, one: u8, five: u8, ten: u8)
     }
 }
 
-/// Adds `n` in roman, `raised` being 32 for capitals and 0 for small letters; from 4000 on, and 0, in Arabic.
+/// Adds `n` in roman, in letters that stand `raised` before the small ones; from 4000 on, and 0, in Arabic.
 fn push_roman(text: &mut Text, n: u64, raised: u8)
     requires room { array_vec_len text.old ≤ 1 }
     requires range { n ≤ 2 ^ 63 }
-    requires case { raised ≤ 32 }
+    requires case { raised ≤ code "a" - code "A" }
     ensures appends { Appends text.old.items text.new.items (IsRoman raised n) }
     ensures short { array_vec_len text.new ≤ array_vec_len text.old + 19 }
     ensures computed { text.new.items ≡ text.old.items ++ roman_text raised n }
@@ -172,7 +173,7 @@ fn push_roman(text: &mut Text, n: u64, raised: u8)
 fn push_alphabetic(text: &mut Text, n: u64, before: u8)
     requires room { array_vec_len text.old ≤ 1 }
     requires range { n ≤ 2 ^ 63 }
-    requires case { before ≤ 96 }
+    requires case { before < code "a" }
     ensures appends { Appends text.old.items text.new.items (IsAlphabetic before n) }
     ensures short { array_vec_len text.new ≤ array_vec_len text.old + 19 }
     ensures computed { text.new.items ≡ text.old.items ++ alphabetic_text before n }
@@ -205,9 +206,9 @@ pub fn format_number(n: i64, format: Format) -> ArrayVec<u8, 32>
     match format {
         Format::Arabic { places } => push_arabic(&mut text, magnitude, places),
         Format::LowerRoman => push_roman(&mut text, magnitude, 0),
-        Format::UpperRoman => push_roman(&mut text, magnitude, 32),
-        Format::LowerAlphabetic => push_alphabetic(&mut text, magnitude, 96),
-        Format::UpperAlphabetic => push_alphabetic(&mut text, magnitude, 64),
+        Format::UpperRoman => push_roman(&mut text, magnitude, b'a' - b'A'),
+        Format::LowerAlphabetic => push_alphabetic(&mut text, magnitude, b'a' - 1),
+        Format::UpperAlphabetic => push_alphabetic(&mut text, magnitude, b'A' - 1),
     }
     text
 }
