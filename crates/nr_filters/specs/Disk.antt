@@ -7,7 +7,8 @@ use Rattle.nr_filters.specs.declared.disk.Stream.TheVariants.{File, Standard}
 use Rattle.nr_filters.specs.declared.disk.Text.{Text}
 
 -- the bytes that are left to be read, where they are known
-abbrev pub left_of : {F I : Type 0} → (F → Option (List ℕ)) → (I → Option (List ℕ)) → Stream F I → Option (List ℕ)
+abbrev pub left_of :
+    {F I : Type 0} → (F → Option (List ℕ)) → (I → Option (List ℕ)) → Stream F I → Option (List ℕ)
 left_of file standard (File f) = file f
 left_of file standard (Standard i) = standard i
 

@@ -26,7 +26,8 @@ told program what word = concat (program ∷ codes ": " ∷ what ∷ word ∷ co
 
 -- a line about the text of this name
 abbrev pub told_named : List ℕ → List ℕ → List ℕ → List ℕ → List ℕ
-told_named program name what word = concat (program ∷ codes ": " ∷ name ∷ codes ": " ∷ what ∷ word ∷ codes "\n" ∷ [])
+told_named program name what word =
+    concat (program ∷ codes ": " ∷ name ∷ codes ": " ∷ what ∷ word ∷ codes "\n" ∷ [])
 
 -- a line about a text, by its name or without
 abbrev pub told_of : List ℕ → Option (Bor (List ℕ)) → List ℕ → List ℕ → List ℕ
@@ -45,7 +46,9 @@ line_of program (CannotOpen name) = told program (codes "cannot open ") name.now
 line_of program (CannotRead name) = told program (codes "cannot read ") name.now
 line_of program OutOfMemory = told program (codes "out of memory") []
 
--- A line was written whole, or a prefix of it went out where a call failed. The counts are those of the failed calls before and after.
+-- A line was written whole, or a prefix of it went out where a call failed. The counts are those of the failed
+-- calls before and after.
 abbrev pub Tells : Option (List ℕ) → Option (List ℕ) → SinkFailures → SinkFailures → List ℕ → Type 0
 Tells old new before after line =
-    ((after ≡ before) × Appends old new line) ⊎ ((after ≡ put_counted_if true before) × AppendsFront old new line)
+    ((after ≡ before) × Appends old new line)
+    ⊎ ((after ≡ put_counted_if true before) × AppendsFront old new line)

@@ -45,7 +45,8 @@ fn status(ending: Ending<'_>) -> u8
 
 /// Writes a line of the program, with a word at its end, as far as `errors` takes it.
 fn put_line<E: Sink>(program: &str, what: &str, word: &str, errors: &mut E)
-    ensures { Tells (E.held errors.old) (E.held errors.new) (E.failures errors.old) (E.failures errors.new) (told program.now what.now word.now) }
+    ensures { Tells (E.held errors.old) (E.held errors.new) (E.failures errors.old) (E.failures errors.new)
+        (told program.now what.now word.now) }
 {
     let parts = [
         program.as_bytes(),
@@ -59,7 +60,8 @@ fn put_line<E: Sink>(program: &str, what: &str, word: &str, errors: &mut E)
 
 /// Writes a line about the text of this name.
 fn put_named_line<E: Sink>(program: &str, name: &str, what: &str, word: &str, errors: &mut E)
-    ensures { Tells (E.held errors.old) (E.held errors.new) (E.failures errors.old) (E.failures errors.new) (told_named program.now name.now what.now word.now) }
+    ensures { Tells (E.held errors.old) (E.held errors.new) (E.failures errors.old) (E.failures errors.new)
+        (told_named program.now name.now what.now word.now) }
 {
     let parts = [
         program.as_bytes(),
@@ -75,7 +77,8 @@ fn put_named_line<E: Sink>(program: &str, name: &str, what: &str, word: &str, er
 
 /// Writes a line about a text, by its name where the program tells it.
 fn put_line_of<E: Sink>(program: &str, name: Option<&str>, what: &str, word: &str, errors: &mut E)
-    ensures { Tells (E.held errors.old) (E.held errors.new) (E.failures errors.old) (E.failures errors.new) (told_of program.now name.entry what.now word.now) }
+    ensures { Tells (E.held errors.old) (E.held errors.new) (E.failures errors.old) (E.failures errors.new)
+        (told_of program.now name.entry what.now word.now) }
 {
     match name {
         Some(name) => put_named_line(program, name, what, word, errors),
@@ -85,7 +88,8 @@ fn put_line_of<E: Sink>(program: &str, name: Option<&str>, what: &str, word: &st
 
 /// Writes the line that tells an ending, as far as `errors` takes it, and nothing where all went out.
 fn put_ending<E: Sink>(program: &str, ending: Ending<'_>, errors: &mut E)
-    ensures { Tells (E.held errors.old) (E.held errors.new) (E.failures errors.old) (E.failures errors.new) (line_of program.now ending.entry) }
+    ensures { Tells (E.held errors.old) (E.held errors.new) (E.failures errors.old) (E.failures errors.new)
+        (line_of program.now ending.entry) }
 {
     match ending {
         Ending::Done | Ending::Complained => {}
@@ -111,7 +115,8 @@ fn put_ending<E: Sink>(program: &str, ending: Ending<'_>, errors: &mut E)
 /// Tells how the program of this name ended, as far as `errors` takes the line, and gives the status.
 pub fn tell<E: Sink>(program: &str, ending: Ending<'_>, errors: &mut E) -> u8
     ensures status { result ≡ status_of ending.entry }
-    ensures told { Tells (E.held errors.old) (E.held errors.new) (E.failures errors.old) (E.failures errors.new) (line_of program.now ending.entry) }
+    ensures told { Tells (E.held errors.old) (E.held errors.new) (E.failures errors.old) (E.failures errors.new)
+        (line_of program.now ending.entry) }
 {
     put_ending(program, ending, errors);
     status(ending)
