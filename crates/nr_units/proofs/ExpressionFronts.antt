@@ -1,4 +1,5 @@
 -- The prefixes of a text that are expressions, and its open parentheses, by the scan.
+use Prim.Native.Char.{code}
 use Rattle.std.proofs.Common.{◌≡◌, ℕ, ◌+◌, false, cond, ◌==◌, Option, Some, None, List, [], ◌∷◌, ◌++◌, length, ℤ, arith, refl, ap, sym, ne_eqb, append-nil, ◌∙◌}
 use Rattle.std.specs.List.{count_by}
 use Rattle.std.proofs.lemmas.List.Sums.{sum_by-cons}
@@ -127,10 +128,10 @@ run-front c s t (b ∷ bs) v h =
 -- ---- how many parentheses are open
 
 abbrev pub opens : List ℕ → ℕ
-opens u = count_by (λ b. b == 40) u
+opens u = count_by (λ b. b == code "(") u
 
 abbrev pub closings : List ℕ → ℕ
-closings u = count_by (λ b. b == 41) u
+closings u = count_by (λ b. b == code ")") u
 
 pub level_keeps : (ws : List Waiting) (l : Option Level) (t : Scan) → on_level ws l ≡ Some t → t.outer ≡ ws
 level_keeps ws None t h = cc
@@ -164,15 +165,15 @@ close_takes c l (w ∷ ws) t h =
 
 -- what a byte adds to the open parentheses, and takes from them
 abbrev opened : ℕ → ℕ
-opened b = cond (b == 40) 1 0
+opened b = cond (b == code "(") 1 0
 
 abbrev closed : ℕ → ℕ
-closed b = cond (b == 41) 1 0
+closed b = cond (b == code ")") 1 0
 
-plain : (b : ℕ) (m n : ℕ) → (b ≡ 40 → ⊥) → (b ≡ 41 → ⊥) → n ≡ m → opened b + m ≡ closed b + n
-plain b m n not_open not_closed e = rw (ne_eqb b 40 not_open, ne_eqb b 41 not_closed) (omega arith)
+plain : (b : ℕ) (m n : ℕ) → (b ≡ code "(" → ⊥) → (b ≡ code ")" → ⊥) → n ≡ m → opened b + m ≡ closed b + n
+plain b m n not_open not_closed e = rw (ne_eqb b (code "(") not_open, ne_eqb b (code ")") not_closed) (omega arith)
 
-letter_plain : (scale : Scale) → (letter scale ≡ 40 → ⊥) × (letter scale ≡ 41 → ⊥)
+letter_plain : (scale : Scale) → (letter scale ≡ code "(" → ⊥) × (letter scale ≡ code ")" → ⊥)
 letter_plain Inch = (λ e. omega arith, λ e. omega arith)
 letter_plain Centimetre = (λ e. omega arith, λ e. omega arith)
 letter_plain Pica = (λ e. omega arith, λ e. omega arith)
@@ -182,17 +183,17 @@ letter_plain En = (λ e. omega arith, λ e. omega arith)
 letter_plain PointScale = (λ e. omega arith, λ e. omega arith)
 letter_plain OneUnit = (λ e. omega arith, λ e. omega arith)
 
-mark_plain : (o : Operator) (b : ℕ) → operator_text o ≡ b ∷ [] → (b ≡ 40 → ⊥) × (b ≡ 41 → ⊥)
-mark_plain Add b h = let e : 43 ≡ b = cc in (λ k. omega arith, λ k. omega arith)
-mark_plain Subtract b h = let e : 45 ≡ b = cc in (λ k. omega arith, λ k. omega arith)
+mark_plain : (o : Operator) (b : ℕ) → operator_text o ≡ b ∷ [] → (b ≡ code "(" → ⊥) × (b ≡ code ")" → ⊥)
+mark_plain Add b h = let e : code "+" ≡ b = cc in (λ k. omega arith, λ k. omega arith)
+mark_plain Subtract b h = let e : code "-" ≡ b = cc in (λ k. omega arith, λ k. omega arith)
 mark_plain Multiply b h = let e : 42 ≡ b = cc in (λ k. omega arith, λ k. omega arith)
 mark_plain Divide b h = let e : 47 ≡ b = cc in (λ k. omega arith, λ k. omega arith)
 mark_plain Remainder b h = let e : 37 ≡ b = cc in (λ k. omega arith, λ k. omega arith)
-mark_plain Less b h = let e : 60 ≡ b = cc in (λ k. omega arith, λ k. omega arith)
+mark_plain Less b h = let e : code "<" ≡ b = cc in (λ k. omega arith, λ k. omega arith)
 mark_plain LessOrEqual b h = absurd cc
-mark_plain Greater b h = let e : 62 ≡ b = cc in (λ k. omega arith, λ k. omega arith)
+mark_plain Greater b h = let e : code ">" ≡ b = cc in (λ k. omega arith, λ k. omega arith)
 mark_plain GreaterOrEqual b h = absurd cc
-mark_plain Equal b h = let e : 61 ≡ b = cc in (λ k. omega arith, λ k. omega arith)
+mark_plain Equal b h = let e : code "=" ≡ b = cc in (λ k. omega arith, λ k. omega arith)
 mark_plain DoubleEqual b h = absurd cc
 mark_plain And b h = let e : 38 ≡ b = cc in (λ k. omega arith, λ k. omega arith)
 mark_plain Or b h = let e : 58 ≡ b = cc in (λ k. omega arith, λ k. omega arith)

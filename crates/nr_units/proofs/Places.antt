@@ -1,4 +1,5 @@
 -- Places in an expression that is being read: what stands in front of them, and what waits there.
+use Prim.Native.Char.{code}
 use Rattle.std.proofs.Common.{◌≡◌, ℕ, Bool, true, false, Some, List, [], ◌∷◌, ◌++◌, refl, ap, append_assoc, append-nil, ◌∙◌}
 use Rattle.nr_units.specs.Grammar.{Operand, Expression, Plus, Minus, Past, Parentheses, Single, Joined, blanks, operator_text, operand_text, expression_text}
 use Rattle.nr_units.specs.Expression.{operand_value, expression_value}
@@ -39,15 +40,15 @@ is_inside (Inside p n) = true
 abbrev mutual
   pub slot_text : Slot → List ℕ
   slot_text Outermost = []
-  slot_text (Inside p n) = place_text p ++ (40 ∷ blanks true n)
+  slot_text (Inside p n) = place_text p ++ (code "(" ∷ blanks true n)
 
   pub place_text : Place → List ℕ
   place_text (First k) = slot_text k
   place_text (Next k e n o m) =
       slot_text k ++ (expression_text (is_inside k) e ++ (blanks (is_inside k) n ++ (operator_text o ++ blanks (is_inside k) m)))
-  place_text (BehindPlus p) = place_text p ++ 43 ∷ []
-  place_text (BehindMinus p) = place_text p ++ 45 ∷ []
-  place_text (BehindBar p n) = place_text p ++ (124 ∷ blanks (is_inside (slot_of p)) n)
+  place_text (BehindPlus p) = place_text p ++ code "+" ∷ []
+  place_text (BehindMinus p) = place_text p ++ code "-" ∷ []
+  place_text (BehindBar p n) = place_text p ++ (code "|" ∷ blanks (is_inside (slot_of p)) n)
 
 -- what waits there, and what waits at each open parenthesis
 abbrev pub waiting : Ctx → Place → Waiting
@@ -87,9 +88,9 @@ ended (BehindBar q n) o = ended q (Past n o)
 pub ended_text : (p : Place) (o : Operand) → place_text p ++ operand_text (is_inside (slot_of p)) o ≡ slot_text (slot_of p) ++ expression_text (is_inside (slot_of p)) (ended p o)
 ended_text (First k) o = refl
 ended_text (Next k e n q m) o = simp append_assoc
-ended_text (BehindPlus p) o = append_assoc (place_text p) (43 ∷ []) (operand_text (is_inside (slot_of p)) o) ∙ ended_text p (Plus o)
-ended_text (BehindMinus p) o = append_assoc (place_text p) (45 ∷ []) (operand_text (is_inside (slot_of p)) o) ∙ ended_text p (Minus o)
-ended_text (BehindBar p n) o = append_assoc (place_text p) (124 ∷ blanks (is_inside (slot_of p)) n) (operand_text (is_inside (slot_of p)) o) ∙ ended_text p (Past n o)
+ended_text (BehindPlus p) o = append_assoc (place_text p) (code "+" ∷ []) (operand_text (is_inside (slot_of p)) o) ∙ ended_text p (Plus o)
+ended_text (BehindMinus p) o = append_assoc (place_text p) (code "-" ∷ []) (operand_text (is_inside (slot_of p)) o) ∙ ended_text p (Minus o)
+ended_text (BehindBar p n) o = append_assoc (place_text p) (code "|" ∷ blanks (is_inside (slot_of p)) n) (operand_text (is_inside (slot_of p)) o) ∙ ended_text p (Past n o)
 
 pub ended_value : (c : Ctx) (p : Place) (o : Operand) → finished (waiting c p) (operand_value c o) ≡ expression_value c (ended p o)
 ended_value c (First k) o = finished-nothing (operand_value c o) (operand_in_range c o)
@@ -115,7 +116,7 @@ abbrev mutual
 abbrev mutual
   pub slot_end : Slot → List ℕ
   slot_end Outermost = []
-  slot_end (Inside p n) = 41 ∷ place_end p
+  slot_end (Inside p n) = code ")" ∷ place_end p
 
   pub place_end : Place → List ℕ
   place_end (First k) = slot_end k
@@ -136,8 +137,8 @@ mutual
   closed_place_text (Next k e n q m) o =
       let here : place_text (Next k e n q m) ++ (operand_text (is_inside k) o ++ slot_end k) ≡ slot_text k ++ (expression_text (is_inside k) (Joined e n q m o) ++ slot_end k) = simp append_assoc in
       here ∙ closed_slot_text k (Joined e n q m o)
-  closed_place_text (BehindPlus p) o = append_assoc (place_text p) (43 ∷ []) (operand_text (is_inside (slot_of p)) o ++ place_end p) ∙ closed_place_text p (Plus o)
-  closed_place_text (BehindMinus p) o = append_assoc (place_text p) (45 ∷ []) (operand_text (is_inside (slot_of p)) o ++ place_end p) ∙ closed_place_text p (Minus o)
+  closed_place_text (BehindPlus p) o = append_assoc (place_text p) (code "+" ∷ []) (operand_text (is_inside (slot_of p)) o ++ place_end p) ∙ closed_place_text p (Plus o)
+  closed_place_text (BehindMinus p) o = append_assoc (place_text p) (code "-" ∷ []) (operand_text (is_inside (slot_of p)) o ++ place_end p) ∙ closed_place_text p (Minus o)
   closed_place_text (BehindBar p n) o =
       let i : Bool = is_inside (slot_of p) in
       let here : place_text (BehindBar p n) ++ (operand_text i o ++ place_end p) ≡ place_text p ++ (operand_text i (Past n o) ++ place_end p) = simp append_assoc in

@@ -1,4 +1,5 @@
 -- How far the answer for a text is known as it is scanned, and the answer where the scan ends.
+use Prim.Native.Char.{code}
 use Rattle.std.proofs.Common.{◌≡◌, ℕ, zero, suc, ◌+◌, ◌*◌, ◌<◌, ◌≤◌, Option, Some, None, List, [], ◌∷◌, ◌++◌, length, take, ℤ, inl, inr, ◌⊎◌, arith, refl, ap, sym, subst, append_assoc, append-nil, ◌∙◌}
 use Rattle.std.specs.Option.{option_map, option_and_then}
 use Rattle.nr_units.specs.Grammar.{Expression}
@@ -187,7 +188,7 @@ last-byte (x ∷ xs) a b h = let e : xs ++ a ∷ [] ≡ xs ++ b ∷ [] = cc in l
 -- the parentheses that are open at a place are those that wait
 too_deep_waits : (c : Ctx) (text : List ℕ) (i b : ℕ) (y : Symbol) (s : Scan) → take (suc i) text ≡ take i text ++ b ∷ [] → symbol_of b ≡ Some y → run c start (take i text) ≡ Some s → IsTooDeep text i → (y ≡ Open) × (length s.outer ≡ 64)
 too_deep_waits c text i b y s more is reads deep =
-    let byte : b ≡ 40 = last-byte (take i text) b 40 (sym more ∙ deep.opens) in
+    let byte : b ≡ code "(" = last-byte (take i text) b (code "(") (sym more ∙ deep.opens) in
     let same : Some Open ≡ Some y = sym (ap symbol_of byte) ∙ is in
     let what : y ≡ Open = cc in
     (what, omega (arith, depth c start (take i text) s reads, deep.depth))
@@ -258,7 +259,7 @@ ends c text s read a =
       | inr w ↦ a.shallow k w.1 deep
       | inl w ↦
           let past = w.1 in
-          let lengths : length (take (suc k) text) ≡ length (take k text) + 1 = ap length deep.opens ∙ length-append (take k text) (40 ∷ []) in
+          let lengths : length (take (suc k) text) ≡ length (take k text) + 1 = ap length deep.opens ∙ length-append (take k text) (code "(" ∷ []) in
           omega (arith, lengths, length-take (suc k) text, length-take k text)
     ])
     (λ m e f. f.within)
@@ -266,7 +267,7 @@ ends c text s read a =
 
 pub too_deep : (c : Ctx) (text : List ℕ) (i b : ℕ) (y : Symbol) (s t : Scan) (read : Read) → take (suc i) text ≡ take i text ++ b ∷ [] → symbol_of b ≡ Some y → Along c text i s read → Steps c s y TooDeep t → IsAnswer c text (record { value = None; used = i })
 too_deep c text i b y s t read more is a step =
-    let byte : b ≡ 40 = subst (IsByteOf b) step.0 (symbol_tells b y is) in
+    let byte : b ≡ code "(" = subst (IsByteOf b) step.0 (symbol_tells b y is) in
     let next = step.2 in
     let reads : run c start (take (suc i) text) ≡ Some next.0 =
     ap (run c start) more ∙ run-then c start s (take i text) (b ∷ []) (Some next.0) a.reads (run-one c s next.0 b (ap (option_and_then (after_symbol c s)) is ∙ next.1)) in

@@ -1,4 +1,5 @@
 -- The scan of an expression's text arrives at its value.
+use Prim.Native.Char.{code}
 use Rattle.std.proofs.Common.{◌≡◌, ℕ, zero, suc, ◌+◌, ◌-◌, ◌*◌, ◌/◌, ◌<◌, ◌≤◌, Bool, true, false, Option, Some, None, List, [], ◌∷◌, ◌++◌, length, ℤ, neg_ℤ, nat_le, unwrap_or, arith, refl, ap, sym, append_assoc, le-leb, ◌∙◌}
 use Rattle.std.specs.Option.{option_map, option_and_then}
 use Rattle.std.proofs.Math.Nat.{mul-le-mul_left}
@@ -94,12 +95,12 @@ blanks_after c true (suc n) t v [] is h k = absurd is
 blanks_after c true (suc n) t v (w ∷ ws) is h k =
     let next : Scan = record { level = completed v; outer = w ∷ ws } in
     let e : t ≡ record t { outer = w ∷ ws } = ap (λ x. record t { outer = x }) k in
-    let step : after_byte c t 32 ≡ Some next =
-    ap (λ x. after_byte c x 32) e ∙ ap (option_map (λ l. record { level = l; outer = w ∷ ws })) (blank_in-value c t.level.waiting t.level.mode v h) in
-    ends-cons c t next 32 (blanks true n) v (w ∷ ws) step (blanks_after c true n next v (w ∷ ws) tt refl refl)
+    let step : after_byte c t (code " ") ≡ Some next =
+    ap (λ x. after_byte c x (code " ")) e ∙ ap (option_map (λ l. record { level = l; outer = w ∷ ws })) (blank_in-value c t.level.waiting t.level.mode v h) in
+    ends-cons c t next (code " ") (blanks true n) v (w ∷ ws) step (blanks_after c true n next v (w ∷ ws) tt refl refl)
 
 -- a closing parenthesis there
-pub closes : (c : Ctx) (t : Scan) (v : Option ℤ) (w : Waiting) (ws : List Waiting) → level_value c t.level ≡ Some v → t.outer ≡ w ∷ ws → after_byte c t 41 ≡ Some (record { level = completed (finished w v); outer = ws })
+pub closes : (c : Ctx) (t : Scan) (v : Option ℤ) (w : Waiting) (ws : List Waiting) → level_value c t.level ≡ Some v → t.outer ≡ w ∷ ws → after_byte c t (code ")") ≡ Some (record { level = completed (finished w v); outer = ws })
 closes c t v w ws h k =
     ap (with_close c t.level) k ∙ ap (option_map (λ x. record { level = completed (finished w x); outer = ws })) h
 
@@ -129,17 +130,17 @@ abbrev pub operand_after : Operator → Option ℤ → List Waiting → Scan
 operand_after o v ws = before (behind o) (record { left = Some (record { value = v; operator = o }); prefix = no_prefix }) ws
 
 pub operator_runs : (c : Ctx) (o : Operator) (t : Scan) (v : Option ℤ) (ws : List Waiting) → level_value c t.level ≡ Some v → t.outer ≡ ws → run c t (operator_text o) ≡ Some (operand_after o v ws)
-operator_runs c Add t v ws h k = run-one c t _ 43 (marks c t Add v ws h k)
-operator_runs c Subtract t v ws h k = run-one c t _ 45 (marks c t Subtract v ws h k)
+operator_runs c Add t v ws h k = run-one c t _ (code "+") (marks c t Add v ws h k)
+operator_runs c Subtract t v ws h k = run-one c t _ (code "-") (marks c t Subtract v ws h k)
 operator_runs c Multiply t v ws h k = run-one c t _ 42 (marks c t Multiply v ws h k)
 operator_runs c Divide t v ws h k = run-one c t _ 47 (marks c t Divide v ws h k)
 operator_runs c Remainder t v ws h k = run-one c t _ 37 (marks c t Remainder v ws h k)
-operator_runs c Less t v ws h k = run-one c t _ 60 (marks c t Less v ws h k)
-operator_runs c LessOrEqual t v ws h k = run-cons c t _ 60 (61 ∷ []) _ (marks c t Less v ws h k) refl
-operator_runs c Greater t v ws h k = run-one c t _ 62 (marks c t Greater v ws h k)
-operator_runs c GreaterOrEqual t v ws h k = run-cons c t _ 62 (61 ∷ []) _ (marks c t Greater v ws h k) refl
-operator_runs c Equal t v ws h k = run-one c t _ 61 (marks c t Equal v ws h k)
-operator_runs c DoubleEqual t v ws h k = run-cons c t _ 61 (61 ∷ []) _ (marks c t Equal v ws h k) refl
+operator_runs c Less t v ws h k = run-one c t _ (code "<") (marks c t Less v ws h k)
+operator_runs c LessOrEqual t v ws h k = run-cons c t _ (code "<") (code "=" ∷ []) _ (marks c t Less v ws h k) refl
+operator_runs c Greater t v ws h k = run-one c t _ (code ">") (marks c t Greater v ws h k)
+operator_runs c GreaterOrEqual t v ws h k = run-cons c t _ (code ">") (code "=" ∷ []) _ (marks c t Greater v ws h k) refl
+operator_runs c Equal t v ws h k = run-one c t _ (code "=") (marks c t Equal v ws h k)
+operator_runs c DoubleEqual t v ws h k = run-cons c t _ (code "=") (code "=" ∷ []) _ (marks c t Equal v ws h k) refl
 operator_runs c And t v ws h k = run-one c t _ 38 (marks c t And v ws h k)
 operator_runs c Or t v ws h k = run-one c t _ 58 (marks c t Or v ws h k)
 
@@ -165,7 +166,7 @@ behind_may DoubleEqual = tt
 behind_may And = tt
 behind_may Or = tt
 
-blank_before : (c : Ctx) (b : Behind) (w x : Waiting) (ws : List Waiting) → MayHaveBlanks b → after_byte c (before b w (x ∷ ws)) 32 ≡ Some (before Nothing w (x ∷ ws))
+blank_before : (c : Ctx) (b : Behind) (w x : Waiting) (ws : List Waiting) → MayHaveBlanks b → after_byte c (before b w (x ∷ ws)) (code " ") ≡ Some (before Nothing w (x ∷ ws))
 blank_before c Nothing w x ws may = refl
 blank_before c AnOperator w x ws may = refl
 blank_before c ASign w x ws may = absurd may
@@ -175,22 +176,22 @@ blanks_before c false n b w ws u v is may ends = ends b
 blanks_before c true zero b w ws u v is may ends = ends b
 blanks_before c true (suc n) b w [] u v is may ends = absurd is
 blanks_before c true (suc n) b w (x ∷ ws) u v is may ends =
-    ends-cons c (before b w (x ∷ ws)) (before Nothing w (x ∷ ws)) 32 (blanks true n ++ u) v (x ∷ ws) (blank_before c b w x ws may)
+    ends-cons c (before b w (x ∷ ws)) (before Nothing w (x ∷ ws)) (code " ") (blanks true n ++ u) v (x ∷ ws) (blank_before c b w x ws may)
     (blanks_before c true n Nothing w (x ∷ ws) u v is tt ends)
 
 -- ---- numbers
 
-symbol_of-digit : (d : ℕ) → d < 10 → symbol_of (48 + d) ≡ Some (Digit d)
+symbol_of-digit : (d : ℕ) → d < 10 → symbol_of (code "0" + d) ≡ Some (Digit d)
 symbol_of-digit d h =
-    let e : (48 + d) - 48 ≡ d = omega arith in
-    let low : nat_le 48 (48 + d) ≡ true = le-leb 48 (48 + d) (omega arith) in
-    let high : nat_le (48 + d) 57 ≡ true = le-leb (48 + d) 57 (omega arith) in
+    let e : (code "0" + d) - code "0" ≡ d = omega arith in
+    let low : nat_le (code "0") (code "0" + d) ≡ true = le-leb (code "0") (code "0" + d) (omega arith) in
+    let high : nat_le (code "0" + d) (code "9") ≡ true = le-leb (code "0" + d) (code "9") (omega arith) in
     rw (low, high, e) refl
 
 abbrev pub in_number : Mode → Waiting → List Waiting → Scan
 in_number m w ws = record { level = record { mode = m; waiting = w }; outer = ws }
 
-digit_step : (c : Ctx) (m m' : Mode) (w : Waiting) (ws : List Waiting) (d : ℕ) → d < 10 → with_digit d m ≡ Some m' → after_byte c (in_number m w ws) (48 + d) ≡ Some (in_number m' w ws)
+digit_step : (c : Ctx) (m m' : Mode) (w : Waiting) (ws : List Waiting) (d : ℕ) → d < 10 → with_digit d m ≡ Some m' → after_byte c (in_number m w ws) (code "0" + d) ≡ Some (in_number m' w ws)
 digit_step c m m' w ws d h e =
     ap (option_and_then (after_symbol c (in_number m w ws))) (symbol_of-digit d h)
     ∙ ap (λ r. on_level ws (option_map (in_mode (record { mode = m; waiting = w })) r)) e
@@ -201,14 +202,14 @@ capped-more n d = omega arith
 whole_runs : (c : Ctx) (w : Waiting) (ws : List Waiting) (n : ℕ) (ds : List ℕ) → AreDigits ds → run c (in_number (Whole (capped n)) w ws) (digits_text ds) ≡ Some (in_number (Whole (capped (whole_after n ds))) w ws)
 whole_runs c w ws n [] h = refl
 whole_runs c w ws n (d ∷ ds) h =
-    run-cons c (in_number (Whole (capped n)) w ws) (in_number (Whole (capped (10 * n + d))) w ws) (48 + d) (digits_text ds) _
+    run-cons c (in_number (Whole (capped n)) w ws) (in_number (Whole (capped (10 * n + d))) w ws) (code "0" + d) (digits_text ds) _
     (digit_step c (Whole (capped n)) (Whole (capped (10 * n + d))) w ws d h.0 (ap (λ x. Some (Whole x)) (capped-more n d)))
     (whole_runs c w ws (10 * n + d) ds h.1)
 
 whole_first : (c : Ctx) (b : Behind) (w : Waiting) (ws : List Waiting) (d : ℕ) (ds : List ℕ) → AreDigits (d ∷ ds) → run c (before b w ws) (digits_text (d ∷ ds)) ≡ Some (in_number (Whole (capped (whole_after 0 (d ∷ ds)))) w ws)
 whole_first c b w ws d ds h =
     let e : d ≡ capped (10 * 0 + d) = omega (arith, h.0) in
-    run-cons c (before b w ws) (in_number (Whole (capped (10 * 0 + d))) w ws) (48 + d) (digits_text ds) _
+    run-cons c (before b w ws) (in_number (Whole (capped (10 * 0 + d))) w ws) (code "0" + d) (digits_text ds) _
     (digit_step c (Before b) (Whole (capped (10 * 0 + d))) w ws d h.0 (ap (λ x. Some (Whole x)) e))
     (whole_runs c w ws (10 * 0 + d) ds h.1)
 
@@ -224,7 +225,7 @@ fraction_runs c w ws x f p (d ∷ ds) h small =
     let more = fraction_runs c w ws x (f + p * d) (p / 10) ds h.1 fits.1 in
     let sum : (f + p * d) + fraction_by (p / 10) ds ≡ f + (p * d + fraction_by (p / 10) ds) = omega arith in (
       more.0,
-      run-cons c (in_number (Fraction x f p) w ws) (in_number (Fraction x (f + p * d) (p / 10)) w ws) (48 + d) (digits_text ds) _
+      run-cons c (in_number (Fraction x f p) w ws) (in_number (Fraction x (f + p * d) (p / 10)) w ws) (code "0" + d) (digits_text ds) _
           (digit_step c (Fraction x f p) (Fraction x (f + p * d) (p / 10)) w ws d h.0 (ap (λ y. Some (Fraction x y (p / 10))) fits.0))
           (more.1 ∙ ap (λ y. Some (in_number (Fraction x y more.0) w ws)) sum),
     )
@@ -249,7 +250,7 @@ digits_run c b w ws [] (Some (f ∷ fs)) h k some =
     let more = fraction_runs c w ws 0 0 1000 (f ∷ fs) k (omega arith) in
     record {
       mode = Fraction 0 (0 + fraction_by 1000 (f ∷ fs)) more.0;
-      runs = run-cons c (before b w ws) (in_number LonePoint w ws) 46 (digits_text (f ∷ fs)) _ refl (lone_point c w ws f fs k.0 ∙ more.1);
+      runs = run-cons c (before b w ws) (in_number LonePoint w ws) (code ".") (digits_text (f ∷ fs)) _ refl (lone_point c w ws f fs k.0 ∙ more.1);
       number = ap Some (omega arith);
     }
 digits_run c b w ws (d ∷ ds) None h k some = record {
@@ -262,7 +263,7 @@ digits_run c b w ws (d ∷ ds) (Some fs) h k some =
     let more = fraction_runs c w ws x 0 1000 fs k (omega arith) in
     record {
       mode = Fraction x (0 + fraction_by 1000 fs) more.0;
-      runs = run-then c (before b w ws) (in_number (Whole x) w ws) (digits_text (d ∷ ds)) (46 ∷ digits_text fs) _ (whole_first c b w ws d ds h) more.1;
+      runs = run-then c (before b w ws) (in_number (Whole x) w ws) (digits_text (d ∷ ds)) (code "." ∷ digits_text fs) _ (whole_first c b w ws d ds h) more.1;
       number = ap Some (omega arith);
     }
 
@@ -318,15 +319,15 @@ mutual
   pub operand_runs : (c : Ctx) (o : Operand) (inside : Bool) (b : Behind) (w : Waiting) (ws : List Waiting) → IsOpen inside ws → Ends c (before b w ws) (operand_text inside o) (finished w (operand_value c o)) ws
   operand_runs c (Numeral n is) inside b w ws open_is = number_runs c n is b w ws
   operand_runs c (Plus o) inside b w ws open_is =
-      ends-cons c (before b w ws) (before ASign w ws) 43 (operand_text inside o) _ ws refl (operand_runs c o inside ASign w ws open_is)
+      ends-cons c (before b w ws) (before ASign w ws) (code "+") (operand_text inside o) _ ws refl (operand_runs c o inside ASign w ws open_is)
   operand_runs c (Minus o) inside b w ws open_is =
       let next : Waiting = record { left = w.left; prefix = behind_minus w.prefix } in
-      ends-cons c (before b w ws) (before ASign next ws) 45 (operand_text inside o) _ ws refl
+      ends-cons c (before b w ws) (before ASign next ws) (code "-") (operand_text inside o) _ ws refl
       (ends-value c (before ASign next ws) (operand_text inside o) (finished next (operand_value c o)) (finished w (option_map neg_ℤ (operand_value c o))) ws (ap (joined_left w.left) (prefixed-minus w.prefix (operand_value c o)))
       (operand_runs c o inside ASign next ws open_is))
   operand_runs c (Past n o) inside b w ws open_is =
       let next : Waiting = record { left = w.left; prefix = behind_bar c.here w.prefix } in
-      ends-cons c (before b w ws) (before Nothing next ws) 124 (blanks inside n ++ operand_text inside o) _ ws refl
+      ends-cons c (before b w ws) (before Nothing next ws) (code "|") (blanks inside n ++ operand_text inside o) _ ws refl
       (ends-value c (before Nothing next ws) (blanks inside n ++ operand_text inside o) (finished next (operand_value c o)) (finished w (past c.here (operand_value c o))) ws (ap (joined_left w.left) (prefixed-bar c.here w.prefix (operand_value c o) (operand_in_range c o)))
       (blanks_before c inside n Nothing next ws (operand_text inside o) (finished next (operand_value c o)) open_is tt (λ b. operand_runs c o inside b next ws open_is)))
   operand_runs c (Parentheses n e m) inside b w ws open_is =
@@ -335,11 +336,11 @@ mutual
       let second = blanks_after c true m first.to v (w ∷ ws) tt first.value first.outer in
       let last : Scan = record { level = completed (finished w v); outer = ws } in
       let begin : Scan = before Nothing nothing_waits (w ∷ ws) in
-      ends-cons c (before b w ws) begin 40 (blanks true n ++ (expression_text true e ++ (blanks true m ++ 41 ∷ []))) (finished w v) ws refl
-      (ends-text c begin ((blanks true n ++ expression_text true e) ++ (blanks true m ++ 41 ∷ [])) (blanks true n ++ (expression_text true e ++ (blanks true m ++ 41 ∷ []))) (finished w v) ws (append_assoc (blanks true n) (expression_text true e) (blanks true m ++ 41 ∷ []))
-      (ends-then c begin first.to (blanks true n ++ expression_text true e) (blanks true m ++ 41 ∷ []) (finished w v) ws first.runs
-      (ends-then c first.to second.to (blanks true m) (41 ∷ []) (finished w v) ws second.runs
-      (record { to = last; runs = run-one c second.to last 41 (closes c second.to v w ws second.value second.outer); value = refl; outer = refl }))))
+      ends-cons c (before b w ws) begin (code "(") (blanks true n ++ (expression_text true e ++ (blanks true m ++ code ")" ∷ []))) (finished w v) ws refl
+      (ends-text c begin ((blanks true n ++ expression_text true e) ++ (blanks true m ++ code ")" ∷ [])) (blanks true n ++ (expression_text true e ++ (blanks true m ++ code ")" ∷ []))) (finished w v) ws (append_assoc (blanks true n) (expression_text true e) (blanks true m ++ code ")" ∷ []))
+      (ends-then c begin first.to (blanks true n ++ expression_text true e) (blanks true m ++ code ")" ∷ []) (finished w v) ws first.runs
+      (ends-then c first.to second.to (blanks true m) (code ")" ∷ []) (finished w v) ws second.runs
+      (record { to = last; runs = run-one c second.to last (code ")") (closes c second.to v w ws second.value second.outer); value = refl; outer = refl }))))
 
   pub expression_runs : (c : Ctx) (e : Expression) (inside : Bool) (b : Behind) (ws : List Waiting) → IsOpen inside ws → Ends c (before b nothing_waits ws) (expression_text inside e) (expression_value c e) ws
   expression_runs c (Single o) inside b ws open_is =

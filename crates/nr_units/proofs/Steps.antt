@@ -1,4 +1,5 @@
 -- Each step of the scan goes on with an expression's text.
+use Prim.Native.Char.{code}
 use Rattle.std.proofs.Common.{◌≡◌, ℕ, zero, suc, ◌+◌, ◌*◌, ◌/◌, ◌<◌, ◌≤◌, Bool, true, false, Option, Some, None, List, [], ◌∷◌, ◌++◌, length, ℤ, unwrap_or, arith, refl, ap, sym, append_assoc, append-nil, length-append, ◌∙◌}
 use Rattle.std.specs.Option.{option_map}
 use Rattle.nr_units.specs.Grammar.{AreDigits, Operand, Expression, Numeral, Parentheses, blanks, operator_text, letter, digits_text, fraction_digits, operand_text, expression_text}
@@ -31,9 +32,9 @@ pub data State : Type 0 where
 
 abbrev pub state_text : State → List ℕ
 state_text (AtPlace p) = place_text p
-state_text (AtPoint p) = place_text p ++ 46 ∷ []
+state_text (AtPoint p) = place_text p ++ code "." ∷ []
 state_text (InWhole p ds are some) = place_text p ++ digits_text ds
-state_text (InFraction p ds fs are_ds are_fs some) = place_text p ++ (digits_text ds ++ (46 ∷ digits_text fs))
+state_text (InFraction p ds fs are_ds are_fs some) = place_text p ++ (digits_text ds ++ (code "." ∷ digits_text fs))
 state_text (After k e n) = slot_text k ++ (expression_text (is_inside k) e ++ blanks (is_inside k) n)
 
 abbrev pub behind_place : Place → Behind
@@ -84,9 +85,9 @@ pub blanks-zero : (inside : Bool) → blanks inside 0 ≡ []
 blanks-zero false = refl
 blanks-zero true = refl
 
-pub blanks-more : (inside : Bool) (n : ℕ) → inside ≡ true → blanks inside (suc n) ≡ blanks inside n ++ 32 ∷ []
+pub blanks-more : (inside : Bool) (n : ℕ) → inside ≡ true → blanks inside (suc n) ≡ blanks inside n ++ code " " ∷ []
 blanks-more true zero h = refl
-blanks-more true (suc n) h = ap (λ bs. 32 ∷ bs) (blanks-more true n refl)
+blanks-more true (suc n) h = ap (λ bs. code " " ∷ bs) (blanks-more true n refl)
 blanks-more false n h = cc
 
 -- the text up to the end of an operand
@@ -122,7 +123,7 @@ ends_fraction c p ds fs a b some = record {
   slot = slot_of p;
   expression = ended p (numeral ds (Some fs) None a b some);
   count = 0;
-  text = text_ended p (numeral ds (Some fs) None a b some) (digits_text ds ++ (46 ∷ digits_text fs)) (ap (λ v. digits_text ds ++ v) (sym (append-nil (46 ∷ digits_text fs))));
+  text = text_ended p (numeral ds (Some fs) None a b some) (digits_text ds ++ (code "." ∷ digits_text fs)) (ap (λ v. digits_text ds ++ v) (sym (append-nil (code "." ∷ digits_text fs))));
   value = ap Some (number_ended c p None ds (Some fs) a b some);
   outer = outer_place-slot_of c p;
 }
@@ -149,7 +150,7 @@ pub inside_is : (c : Ctx) (k : Slot) (w : Waiting) (ws : List Waiting) → outer
 inside_is c Outermost w ws h = cc
 inside_is c (Inside p n) w ws h = refl
 
-pub blank_ends : (c : Ctx) (z : State) (e : EndsAt c z) (s : Scan) → after_symbol c (shown c z) Blank ≡ Some s → Goes c z (32 ∷ []) s
+pub blank_ends : (c : Ctx) (z : State) (e : EndsAt c z) (s : Scan) → after_symbol c (shown c z) Blank ≡ Some s → Goes c z (code " " ∷ []) s
 blank_ends c z e s h =
     let l : Level = (shown c z).level in
     let ws : List Waiting = (shown c z).outer in
@@ -157,12 +158,12 @@ blank_ends c z e s h =
     let inside : is_inside e.slot ≡ true = inside_is c e.slot opened.0.0 opened.0.1 (sym e.outer ∙ opened.0.2) in
     let i : Bool = is_inside e.slot in
     let to : State = After e.slot e.expression (suc e.count) in
-    let regrouped : slot_text e.slot ++ (expression_text i e.expression ++ (blanks i e.count ++ 32 ∷ [])) ≡ (slot_text e.slot ++ (expression_text i e.expression ++ blanks i e.count)) ++ 32 ∷ [] = simp append_assoc in
-    let text : state_text to ≡ state_text z ++ 32 ∷ [] =
+    let regrouped : slot_text e.slot ++ (expression_text i e.expression ++ (blanks i e.count ++ code " " ∷ [])) ≡ (slot_text e.slot ++ (expression_text i e.expression ++ blanks i e.count)) ++ code " " ∷ [] = simp append_assoc in
+    let text : state_text to ≡ state_text z ++ code " " ∷ [] =
     ap (λ v. slot_text e.slot ++ (expression_text i e.expression ++ v)) (blanks-more i e.count inside)
     ∙ regrouped
-    ∙ ap (λ v. v ++ 32 ∷ []) (sym e.text) in
-    goes_to c z (32 ∷ []) (with_blank c l ws) s to text
+    ∙ ap (λ v. v ++ code " " ∷ []) (sym e.text) in
+    goes_to c z (code " " ∷ []) (with_blank c l ws) s to text
     (opened.1 ∙ ap (on_level ws) (blank_in-value c l.waiting l.mode (expression_value c e.expression) e.value) ∙ ap (λ v. on_level v (Some (completed (expression_value c e.expression)))) e.outer) h
 
 pub mark_ends : (c : Ctx) (z : State) (e : EndsAt c z) (o : Operator) (s : Scan) → behind o ≡ AnOperator → after_symbol c (shown c z) (Mark o) ≡ Some s → Goes c z (operator_text o) s
@@ -181,28 +182,28 @@ mark_ends c z e o s one h =
     ∙ ap (λ ws. on_level ws (Some (behind_operator o v))) e.outer
     ∙ ap (λ b. Some (record { level = record { mode = Before b; waiting = record { left = Some (record { value = v; operator = o }); prefix = no_prefix } }; outer = outer_slot c e.slot })) (sym one)) h
 
-close_ends_at : (c : Ctx) (z : State) (k : Slot) (x : Expression) (n : ℕ) (s : Scan) → state_text z ≡ state_text (After k x n) → level_value c (shown c z).level ≡ Some (expression_value c x) → (shown c z).outer ≡ outer_slot c k → after_symbol c (shown c z) Close ≡ Some s → Goes c z (41 ∷ []) s
+close_ends_at : (c : Ctx) (z : State) (k : Slot) (x : Expression) (n : ℕ) (s : Scan) → state_text z ≡ state_text (After k x n) → level_value c (shown c z).level ≡ Some (expression_value c x) → (shown c z).outer ≡ outer_slot c k → after_symbol c (shown c z) Close ≡ Some s → Goes c z (code ")" ∷ []) s
 close_ends_at c z Outermost x n s text value outer h =
     stuck (with_close c (shown c z).level (shown c z).outer) s (ap (with_close c (shown c z).level) outer) h
 close_ends_at c z (Inside p m) x n s text value outer h =
     let o : Operand = Parentheses m x n in
     let v : Option ℤ = expression_value c x in
     let to : State = After (slot_of p) (ended p o) 0 in
-    let here : state_text (After (Inside p m) x n) ++ 41 ∷ [] ≡ place_text p ++ operand_text (is_inside (slot_of p)) o = simp append_assoc in
-    goes_to c z (41 ∷ []) (with_close c (shown c z).level (shown c z).outer) s to
-    (sym (ap (λ v. v ++ 41 ∷ []) text ∙ here ∙ text_ended p o (operand_text (is_inside (slot_of p)) o) refl))
+    let here : state_text (After (Inside p m) x n) ++ code ")" ∷ [] ≡ place_text p ++ operand_text (is_inside (slot_of p)) o = simp append_assoc in
+    goes_to c z (code ")" ∷ []) (with_close c (shown c z).level (shown c z).outer) s to
+    (sym (ap (λ v. v ++ code ")" ∷ []) text ∙ here ∙ text_ended p o (operand_text (is_inside (slot_of p)) o) refl))
     (ap (with_close c (shown c z).level) outer
     ∙ ap (option_map (λ v. record { level = completed (finished (waiting c p) v); outer = outer_place c p })) value
     ∙ ap (λ v. Some (record { level = completed v; outer = outer_place c p })) (ended_value c p o)
     ∙ ap (λ ws. Some (record { level = completed (expression_value c (ended p o)); outer = ws })) (outer_place-slot_of c p)) h
 
-close_ends : (c : Ctx) (z : State) (e : EndsAt c z) (s : Scan) → after_symbol c (shown c z) Close ≡ Some s → Goes c z (41 ∷ []) s
+close_ends : (c : Ctx) (z : State) (e : EndsAt c z) (s : Scan) → after_symbol c (shown c z) Close ≡ Some s → Goes c z (code ")" ∷ []) s
 close_ends c z e s h = close_ends_at c z e.slot e.expression e.count s e.text e.value e.outer h
 
 -- digits
-digits_text-push : (ds : List ℕ) (d : ℕ) → digits_text (ds ++ d ∷ []) ≡ digits_text ds ++ (48 + d) ∷ []
+digits_text-push : (ds : List ℕ) (d : ℕ) → digits_text (ds ++ d ∷ []) ≡ digits_text ds ++ (code "0" + d) ∷ []
 digits_text-push [] d = refl
-digits_text-push (x ∷ ds) d = ap (λ v. (48 + x) ∷ v) (digits_text-push ds d)
+digits_text-push (x ∷ ds) d = ap (λ v. (code "0" + x) ∷ v) (digits_text-push ds d)
 
 AreDigits-push : (ds : List ℕ) (d : ℕ) → AreDigits ds → d < 10 → AreDigits (ds ++ d ∷ [])
 AreDigits-push [] d are h = (h, tt)
@@ -230,47 +231,47 @@ fraction_small f p (d ∷ ds) are h =
 capped-more : (n d : ℕ) → capped (10 * n + d) ≡ capped (capped (capped n * 10) + d)
 capped-more n d = omega arith
 
-digit_at : (c : Ctx) (p : Place) (d : ℕ) (s : Scan) → d < 10 → after_symbol c (shown c (AtPlace p)) (Digit d) ≡ Some s → Goes c (AtPlace p) ((48 + d) ∷ []) s
+digit_at : (c : Ctx) (p : Place) (d : ℕ) (s : Scan) → d < 10 → after_symbol c (shown c (AtPlace p)) (Digit d) ≡ Some s → Goes c (AtPlace p) ((code "0" + d) ∷ []) s
 digit_at c p d s small h =
-    goes_to c (AtPlace p) ((48 + d) ∷ []) _ s (InWhole p (d ∷ []) (small, tt) (omega arith)) refl
+    goes_to c (AtPlace p) ((code "0" + d) ∷ []) _ s (InWhole p (d ∷ []) (small, tt) (omega arith)) refl
     (let e : d ≡ capped (10 * 0 + d) = omega arith in ap (λ x. Some (shown_at c p (Whole x))) e) h
 
-digit_point : (c : Ctx) (p : Place) (d : ℕ) (s : Scan) → d < 10 → after_symbol c (shown c (AtPoint p)) (Digit d) ≡ Some s → Goes c (AtPoint p) ((48 + d) ∷ []) s
+digit_point : (c : Ctx) (p : Place) (d : ℕ) (s : Scan) → d < 10 → after_symbol c (shown c (AtPoint p)) (Digit d) ≡ Some s → Goes c (AtPoint p) ((code "0" + d) ∷ []) s
 digit_point c p d s small h =
-    goes_to c (AtPoint p) ((48 + d) ∷ []) _ s (InFraction p [] (d ∷ []) tt (small, tt) (omega arith)) (simp append_assoc)
+    goes_to c (AtPoint p) ((code "0" + d) ∷ []) _ s (InFraction p [] (d ∷ []) tt (small, tt) (omega arith)) (simp append_assoc)
     (let e : capped (0 + capped (1000 * d)) ≡ 1000 * d + 0 = omega arith in ap (λ x. Some (shown_at c p (Fraction 0 x 100))) e) h
 
-digit_whole : (c : Ctx) (p : Place) (ds : List ℕ) (a : AreDigits ds) (some : 0 < length ds) (d : ℕ) (s : Scan) → d < 10 → after_symbol c (shown c (InWhole p ds a some)) (Digit d) ≡ Some s → Goes c (InWhole p ds a some) ((48 + d) ∷ []) s
+digit_whole : (c : Ctx) (p : Place) (ds : List ℕ) (a : AreDigits ds) (some : 0 < length ds) (d : ℕ) (s : Scan) → d < 10 → after_symbol c (shown c (InWhole p ds a some)) (Digit d) ≡ Some s → Goes c (InWhole p ds a some) ((code "0" + d) ∷ []) s
 digit_whole c p ds a some d s small h =
-    goes_to c (InWhole p ds a some) ((48 + d) ∷ []) _ s (InWhole p (ds ++ d ∷ []) (AreDigits-push ds d a small) (omega (arith, length-append ds (d ∷ []))))
+    goes_to c (InWhole p ds a some) ((code "0" + d) ∷ []) _ s (InWhole p (ds ++ d ∷ []) (AreDigits-push ds d a small) (omega (arith, length-append ds (d ∷ []))))
     (ap (λ v. place_text p ++ v) (digits_text-push ds d) ∙ simp append_assoc)
     (let e : capped (capped (capped (whole_after 0 ds) * 10) + d) ≡ capped (whole_after 0 (ds ++ d ∷ [])) = sym (ap capped (whole_after-push 0 ds d) ∙ capped-more (whole_after 0 ds) d) in
     ap (λ x. Some (shown_at c p (Whole x))) e) h
 
-digit_fraction : (c : Ctx) (p : Place) (ds fs : List ℕ) (a : AreDigits ds) (b : AreDigits fs) (some : 0 < length ds + length fs) (d : ℕ) (s : Scan) → d < 10 → after_symbol c (shown c (InFraction p ds fs a b some)) (Digit d) ≡ Some s → Goes c (InFraction p ds fs a b some) ((48 + d) ∷ []) s
+digit_fraction : (c : Ctx) (p : Place) (ds fs : List ℕ) (a : AreDigits ds) (b : AreDigits fs) (some : 0 < length ds + length fs) (d : ℕ) (s : Scan) → d < 10 → after_symbol c (shown c (InFraction p ds fs a b some)) (Digit d) ≡ Some s → Goes c (InFraction p ds fs a b some) ((code "0" + d) ∷ []) s
 digit_fraction c p ds fs a b some d s small h =
     let room = fraction_small 0 1000 fs b (omega arith) in
     let f : ℕ = fraction_by 1000 fs in
     let q : ℕ = place_after 1000 fs in
     let most : q * d ≤ q * 9 = mul-le-mul_left q (omega arith) in
     let is_f : capped (f + capped (q * d)) ≡ fraction_by 1000 (fs ++ d ∷ []) = omega (arith, fraction_by-push 1000 fs d, most, room) in
-    goes_to c (InFraction p ds fs a b some) ((48 + d) ∷ []) _ s (InFraction p ds (fs ++ d ∷ []) a (AreDigits-push fs d b small) (omega (arith, length-append fs (d ∷ []))))
-    (ap (λ v. place_text p ++ (digits_text ds ++ (46 ∷ v))) (digits_text-push fs d) ∙ simp append_assoc)
+    goes_to c (InFraction p ds fs a b some) ((code "0" + d) ∷ []) _ s (InFraction p ds (fs ++ d ∷ []) a (AreDigits-push fs d b small) (omega (arith, length-append fs (d ∷ []))))
+    (ap (λ v. place_text p ++ (digits_text ds ++ (code "." ∷ v))) (digits_text-push fs d) ∙ simp append_assoc)
     (ap (λ x. Some (shown_at c p (Fraction (capped (whole_after 0 ds)) x (q / 10)))) is_f
     ∙ ap (λ x. Some (shown_at c p (Fraction (capped (whole_after 0 ds)) (fraction_by 1000 (fs ++ d ∷ [])) x))) (sym (place_after-push 1000 fs d))) h
 
-pub by_digit : (c : Ctx) (z : State) (d : ℕ) (s : Scan) → d < 10 → after_symbol c (shown c z) (Digit d) ≡ Some s → Goes c z ((48 + d) ∷ []) s
+pub by_digit : (c : Ctx) (z : State) (d : ℕ) (s : Scan) → d < 10 → after_symbol c (shown c z) (Digit d) ≡ Some s → Goes c z ((code "0" + d) ∷ []) s
 by_digit c (AtPlace p) d s small h = digit_at c p d s small h
 by_digit c (AtPoint p) d s small h = digit_point c p d s small h
 by_digit c (InWhole p ds a some) d s small h = digit_whole c p ds a some d s small h
 by_digit c (InFraction p ds fs a b some) d s small h = digit_fraction c p ds fs a b some d s small h
 by_digit c (After k e n) d s small h = cc
 
-pub by_point : (c : Ctx) (z : State) (s : Scan) → after_symbol c (shown c z) Point ≡ Some s → Goes c z (46 ∷ []) s
-by_point c (AtPlace p) s h = goes_to c (AtPlace p) (46 ∷ []) _ s (AtPoint p) refl refl h
+pub by_point : (c : Ctx) (z : State) (s : Scan) → after_symbol c (shown c z) Point ≡ Some s → Goes c z (code "." ∷ []) s
+by_point c (AtPlace p) s h = goes_to c (AtPlace p) (code "." ∷ []) _ s (AtPoint p) refl refl h
 by_point c (AtPoint p) s h = cc
 by_point c (InWhole p ds a some) s h =
-    goes_to c (InWhole p ds a some) (46 ∷ []) _ s (InFraction p ds [] a tt (omega arith)) (simp append_assoc) refl h
+    goes_to c (InWhole p ds a some) (code "." ∷ []) _ s (InFraction p ds [] a tt (omega arith)) (simp append_assoc) refl h
 by_point c (InFraction p ds fs a b some) s h = cc
 by_point c (After k e n) s h = cc
 
@@ -287,21 +288,21 @@ by_letter c (InWhole p ds a some) scale s h =
 by_letter c (InFraction p ds fs a b some) scale s h =
     let o : Operand = numeral ds (Some fs) (Some scale) a b some in
     goes_to c (InFraction p ds fs a b some) (letter scale ∷ []) _ s (After (slot_of p) (ended p o) 0)
-    (sym (append_assoc (place_text p) (digits_text ds ++ (46 ∷ digits_text fs)) (letter scale ∷ []) ∙ text_ended p o ((digits_text ds ++ (46 ∷ digits_text fs)) ++ letter scale ∷ []) (append_assoc (digits_text ds) (46 ∷ digits_text fs) (letter scale ∷ []))))
+    (sym (append_assoc (place_text p) (digits_text ds ++ (code "." ∷ digits_text fs)) (letter scale ∷ []) ∙ text_ended p o ((digits_text ds ++ (code "." ∷ digits_text fs)) ++ letter scale ∷ []) (append_assoc (digits_text ds) (code "." ∷ digits_text fs) (letter scale ∷ []))))
     (ap (λ v. Some (record { level = completed v; outer = outer_place c p })) (number_ended c p (Some scale) ds (Some fs) a b some)
     ∙ ap (λ ws. Some (record { level = completed (expression_value c (ended p o)); outer = ws })) (outer_place-slot_of c p)) h
 by_letter c (After k e n) scale s h = cc
 
-pub by_bar : (c : Ctx) (z : State) (s : Scan) → after_symbol c (shown c z) Bar ≡ Some s → Goes c z (124 ∷ []) s
+pub by_bar : (c : Ctx) (z : State) (s : Scan) → after_symbol c (shown c z) Bar ≡ Some s → Goes c z (code "|" ∷ []) s
 by_bar c (AtPlace p) s h =
-    goes_to c (AtPlace p) (124 ∷ []) _ s (AtPlace (BehindBar p 0)) (ap (λ v. place_text p ++ (124 ∷ v)) (blanks-zero (is_inside (slot_of p)))) refl h
+    goes_to c (AtPlace p) (code "|" ∷ []) _ s (AtPlace (BehindBar p 0)) (ap (λ v. place_text p ++ (code "|" ∷ v)) (blanks-zero (is_inside (slot_of p)))) refl h
 by_bar c (AtPoint p) s h = cc
 by_bar c (InWhole p ds a some) s h = cc
 by_bar c (InFraction p ds fs a b some) s h = cc
 by_bar c (After k e n) s h = cc
 
-pub by_open : (c : Ctx) (z : State) (s : Scan) → after_symbol c (shown c z) Open ≡ Some s → Goes c z (40 ∷ []) s
-by_open c (AtPlace p) s h = goes_to c (AtPlace p) (40 ∷ []) _ s (AtPlace (First (Inside p 0))) refl refl h
+pub by_open : (c : Ctx) (z : State) (s : Scan) → after_symbol c (shown c z) Open ≡ Some s → Goes c z (code "(" ∷ []) s
+by_open c (AtPlace p) s h = goes_to c (AtPlace p) (code "(" ∷ []) _ s (AtPlace (First (Inside p 0))) refl refl h
 by_open c (AtPoint p) s h = cc
 by_open c (InWhole p ds a some) s h = cc
 by_open c (InFraction p ds fs a b some) s h = cc
@@ -311,7 +312,7 @@ close_none : (c : Ctx) (l : Level) (ws : List Waiting) → level_value c l ≡ N
 close_none c l [] h = refl
 close_none c l (w ∷ ws) h = ap (option_map (λ v. record { level = completed (finished w v); outer = ws })) h
 
-pub by_close : (c : Ctx) (z : State) (s : Scan) → after_symbol c (shown c z) Close ≡ Some s → Goes c z (41 ∷ []) s
+pub by_close : (c : Ctx) (z : State) (s : Scan) → after_symbol c (shown c z) Close ≡ Some s → Goes c z (code ")" ∷ []) s
 by_close c (AtPlace p) s h = stuck (with_close c (shown c (AtPlace p)).level (outer_place c p)) s (close_none c (shown c (AtPlace p)).level (outer_place c p) refl) h
 by_close c (AtPoint p) s h = stuck (with_close c (shown c (AtPoint p)).level (outer_place c p)) s (close_none c (shown c (AtPoint p)).level (outer_place c p) refl) h
 by_close c (InWhole p ds a some) s h = close_ends c (InWhole p ds a some) (ends_whole c p ds a some) s h

@@ -1,4 +1,5 @@
 -- What the scan keeps is that of an expression's text.
+use Prim.Native.Char.{code}
 use Rattle.std.proofs.Common.{◌≡◌, ℕ, zero, suc, ◌+◌, ◌-◌, ◌<◌, Bool, true, false, cond, ◌&&◌, ◌==◌, Some, None, List, [], ◌∷◌, ◌++◌, nat_le, inl, inr, arith, refl, ap, sym, subst, append_assoc, append-nil, ◌∙◌}
 use Rattle.std.specs.Option.{option_and_then}
 use Rattle.nr_units.specs.Grammar.{Expression, blanks, operator_text, letter, expression_text}
@@ -35,13 +36,13 @@ blank_before c ASign w may = absurd may
 place_inside : (c : Ctx) (p : Place) (w : Waiting) (ws : List Waiting) → outer_place c p ≡ w ∷ ws → is_inside (slot_of p) ≡ true
 place_inside c p w ws h = inside_is c (slot_of p) w ws (sym (outer_place-slot_of c p) ∙ h)
 
-blank_first : (c : Ctx) (k : Slot) (s : Scan) → after_symbol c (shown c (AtPlace (First k))) Blank ≡ Some s → Goes c (AtPlace (First k)) (32 ∷ []) s
+blank_first : (c : Ctx) (k : Slot) (s : Scan) → after_symbol c (shown c (AtPlace (First k))) Blank ≡ Some s → Goes c (AtPlace (First k)) (code " " ∷ []) s
 blank_first c Outermost s h = cc
 blank_first c (Inside p n) s h =
-    goes_to c (AtPlace (First (Inside p n))) (32 ∷ []) _ s (AtPlace (First (Inside p (suc n))))
-    (ap (λ v. place_text p ++ (40 ∷ v)) (blanks-more true n refl) ∙ simp append_assoc) refl h
+    goes_to c (AtPlace (First (Inside p n))) (code " " ∷ []) _ s (AtPlace (First (Inside p (suc n))))
+    (ap (λ v. place_text p ++ (code "(" ∷ v)) (blanks-more true n refl) ∙ simp append_assoc) refl h
 
-blank_next : (c : Ctx) (k : Slot) (e : Expression) (n : ℕ) (o : Operator) (m : ℕ) (s : Scan) → MayHaveBlanks (behind_place (Next k e n o m)) → after_symbol c (shown c (AtPlace (Next k e n o m))) Blank ≡ Some s → Goes c (AtPlace (Next k e n o m)) (32 ∷ []) s
+blank_next : (c : Ctx) (k : Slot) (e : Expression) (n : ℕ) (o : Operator) (m : ℕ) (s : Scan) → MayHaveBlanks (behind_place (Next k e n o m)) → after_symbol c (shown c (AtPlace (Next k e n o m))) Blank ≡ Some s → Goes c (AtPlace (Next k e n o m)) (code " " ∷ []) s
 blank_next c k e n o m s may h =
     let p : Place = Next k e n o m in
     let l : Level = (shown c (AtPlace p)).level in
@@ -49,23 +50,23 @@ blank_next c k e n o m s may h =
     let opened = blank_opened c l ws s h in
     let i : Bool = is_inside k in
     let inside : i ≡ true = inside_is c k opened.0.0 opened.0.1 opened.0.2 in
-    let regrouped : state_text (AtPlace p) ++ 32 ∷ [] ≡ slot_text k ++ (expression_text i e ++ (blanks i n ++ (operator_text o ++ (blanks i m ++ 32 ∷ [])))) = simp append_assoc in
-    goes_to c (AtPlace p) (32 ∷ []) (with_blank c l ws) s (AtPlace (Next k e n o (suc m)))
+    let regrouped : state_text (AtPlace p) ++ code " " ∷ [] ≡ slot_text k ++ (expression_text i e ++ (blanks i n ++ (operator_text o ++ (blanks i m ++ code " " ∷ [])))) = simp append_assoc in
+    goes_to c (AtPlace p) (code " " ∷ []) (with_blank c l ws) s (AtPlace (Next k e n o (suc m)))
     (ap (λ v. slot_text k ++ (expression_text i e ++ (blanks i n ++ (operator_text o ++ v)))) (blanks-more i m inside) ∙ sym regrouped)
     (opened.1 ∙ ap (on_level ws) (blank_before c (behind_place p) (waiting c p) may)) h
 
-blank_bar : (c : Ctx) (p : Place) (n : ℕ) (s : Scan) → after_symbol c (shown c (AtPlace (BehindBar p n))) Blank ≡ Some s → Goes c (AtPlace (BehindBar p n)) (32 ∷ []) s
+blank_bar : (c : Ctx) (p : Place) (n : ℕ) (s : Scan) → after_symbol c (shown c (AtPlace (BehindBar p n))) Blank ≡ Some s → Goes c (AtPlace (BehindBar p n)) (code " " ∷ []) s
 blank_bar c p n s h =
     let l : Level = (shown c (AtPlace (BehindBar p n))).level in
     let opened = blank_opened c l (outer_place c p) s h in
     let i : Bool = is_inside (slot_of p) in
     let inside : i ≡ true = place_inside c p opened.0.0 opened.0.1 opened.0.2 in
-    let regrouped : (place_text p ++ (124 ∷ blanks i n)) ++ 32 ∷ [] ≡ place_text p ++ (124 ∷ (blanks i n ++ 32 ∷ [])) = simp append_assoc in
-    goes_to c (AtPlace (BehindBar p n)) (32 ∷ []) (with_blank c l (outer_place c p)) s (AtPlace (BehindBar p (suc n)))
-    (ap (λ v. place_text p ++ (124 ∷ v)) (blanks-more i n inside) ∙ sym regrouped)
+    let regrouped : (place_text p ++ (code "|" ∷ blanks i n)) ++ code " " ∷ [] ≡ place_text p ++ (code "|" ∷ (blanks i n ++ code " " ∷ [])) = simp append_assoc in
+    goes_to c (AtPlace (BehindBar p n)) (code " " ∷ []) (with_blank c l (outer_place c p)) s (AtPlace (BehindBar p (suc n)))
+    (ap (λ v. place_text p ++ (code "|" ∷ v)) (blanks-more i n inside) ∙ sym regrouped)
     opened.1 h
 
-blank_at : (c : Ctx) (p : Place) (s : Scan) → after_symbol c (shown c (AtPlace p)) Blank ≡ Some s → Goes c (AtPlace p) (32 ∷ []) s
+blank_at : (c : Ctx) (p : Place) (s : Scan) → after_symbol c (shown c (AtPlace p)) Blank ≡ Some s → Goes c (AtPlace p) (code " " ∷ []) s
 blank_at c (First k) s h = blank_first c k s h
 blank_at c (Next k e n o zero) s h = blank_next c k e n o zero s (behind_may o) h
 blank_at c (Next k e n o (suc m)) s h = blank_next c k e n o (suc m) s tt h
@@ -75,7 +76,7 @@ blank_at c (BehindMinus p) s h =
     let l : Level = (shown c (AtPlace (BehindMinus p))).level in stuck (with_blank c l (outer_place c p)) s (blank_none c l (outer_place c p) refl) h
 blank_at c (BehindBar p n) s h = blank_bar c p n s h
 
-by_blank : (c : Ctx) (z : State) (s : Scan) → after_symbol c (shown c z) Blank ≡ Some s → Goes c z (32 ∷ []) s
+by_blank : (c : Ctx) (z : State) (s : Scan) → after_symbol c (shown c z) Blank ≡ Some s → Goes c z (code " " ∷ []) s
 by_blank c (AtPlace p) s h = blank_at c p s h
 by_blank c (AtPoint p) s h = let l : Level = (shown c (AtPoint p)).level in stuck (with_blank c l (outer_place c p)) s (blank_none c l (outer_place c p) refl) h
 by_blank c (InWhole p ds a some) s h = blank_ends c (InWhole p ds a some) (ends_whole c p ds a some) s h
@@ -85,18 +86,18 @@ by_blank c (After k e n) s h = blank_ends c (After k e n) (ends_after c k e n) s
 -- ---- an operator's byte
 
 -- `=` after an operator
-wider : (c : Ctx) (k : Slot) (e : Expression) (n : ℕ) (o wide : Operator) (s : Scan) → operator_text wide ≡ operator_text o ++ 61 ∷ [] → behind wide ≡ Nothing → after_symbol c (shown c (AtPlace (Next k e n o 0))) (Mark Equal) ≡ Some (record { level = record { mode = Before Nothing; waiting = record { left = Some (record { value = expression_value c e; operator = wide }); prefix = no_prefix } }; outer = outer_slot c k }) → after_symbol c (shown c (AtPlace (Next k e n o 0))) (Mark Equal) ≡ Some s → Goes c (AtPlace (Next k e n o 0)) (61 ∷ []) s
+wider : (c : Ctx) (k : Slot) (e : Expression) (n : ℕ) (o wide : Operator) (s : Scan) → operator_text wide ≡ operator_text o ++ code "=" ∷ [] → behind wide ≡ Nothing → after_symbol c (shown c (AtPlace (Next k e n o 0))) (Mark Equal) ≡ Some (record { level = record { mode = Before Nothing; waiting = record { left = Some (record { value = expression_value c e; operator = wide }); prefix = no_prefix } }; outer = outer_slot c k }) → after_symbol c (shown c (AtPlace (Next k e n o 0))) (Mark Equal) ≡ Some s → Goes c (AtPlace (Next k e n o 0)) (code "=" ∷ []) s
 wider c k e n o wide s text is step h =
     let i : Bool = is_inside k in
     let w : Waiting = record { left = Some (record { value = expression_value c e; operator = wide }); prefix = no_prefix } in
     let old : operator_text o ++ blanks i 0 ≡ operator_text o = ap (λ v. operator_text o ++ v) (blanks-zero i) ∙ append-nil (operator_text o) in
-    let new : operator_text wide ++ blanks i 0 ≡ operator_text o ++ 61 ∷ [] = ap (λ v. operator_text wide ++ v) (blanks-zero i) ∙ append-nil (operator_text wide) ∙ text in
-    let regrouped : slot_text k ++ (expression_text i e ++ (blanks i n ++ (operator_text o ++ 61 ∷ []))) ≡ (slot_text k ++ (expression_text i e ++ (blanks i n ++ operator_text o))) ++ 61 ∷ [] = simp append_assoc in
-    goes_to c (AtPlace (Next k e n o 0)) (61 ∷ []) _ s (AtPlace (Next k e n wide 0))
-    (ap (λ v. slot_text k ++ (expression_text i e ++ (blanks i n ++ v))) new ∙ regrouped ∙ ap (λ v. (slot_text k ++ (expression_text i e ++ (blanks i n ++ v))) ++ 61 ∷ []) (sym old))
+    let new : operator_text wide ++ blanks i 0 ≡ operator_text o ++ code "=" ∷ [] = ap (λ v. operator_text wide ++ v) (blanks-zero i) ∙ append-nil (operator_text wide) ∙ text in
+    let regrouped : slot_text k ++ (expression_text i e ++ (blanks i n ++ (operator_text o ++ code "=" ∷ []))) ≡ (slot_text k ++ (expression_text i e ++ (blanks i n ++ operator_text o))) ++ code "=" ∷ [] = simp append_assoc in
+    goes_to c (AtPlace (Next k e n o 0)) (code "=" ∷ []) _ s (AtPlace (Next k e n wide 0))
+    (ap (λ v. slot_text k ++ (expression_text i e ++ (blanks i n ++ v))) new ∙ regrouped ∙ ap (λ v. (slot_text k ++ (expression_text i e ++ (blanks i n ++ v))) ++ code "=" ∷ []) (sym old))
     (step ∙ ap (λ b. Some (record { level = record { mode = Before b; waiting = w }; outer = outer_slot c k })) (sym is)) h
 
-equal_next : (c : Ctx) (k : Slot) (e : Expression) (n : ℕ) (o : Operator) (s : Scan) → after_symbol c (shown c (AtPlace (Next k e n o 0))) (Mark Equal) ≡ Some s → Goes c (AtPlace (Next k e n o 0)) (61 ∷ []) s
+equal_next : (c : Ctx) (k : Slot) (e : Expression) (n : ℕ) (o : Operator) (s : Scan) → after_symbol c (shown c (AtPlace (Next k e n o 0))) (Mark Equal) ≡ Some s → Goes c (AtPlace (Next k e n o 0)) (code "=" ∷ []) s
 equal_next c k e n Add s h = cc
 equal_next c k e n Subtract s h = cc
 equal_next c k e n Multiply s h = cc
@@ -111,7 +112,7 @@ equal_next c k e n DoubleEqual s h = cc
 equal_next c k e n And s h = cc
 equal_next c k e n Or s h = cc
 
-equal_at : (c : Ctx) (p : Place) (s : Scan) → after_symbol c (shown c (AtPlace p)) (Mark Equal) ≡ Some s → Goes c (AtPlace p) (61 ∷ []) s
+equal_at : (c : Ctx) (p : Place) (s : Scan) → after_symbol c (shown c (AtPlace p)) (Mark Equal) ≡ Some s → Goes c (AtPlace p) (code "=" ∷ []) s
 equal_at c (First k) s h = cc
 equal_at c (Next k e n o zero) s h = equal_next c k e n o s h
 equal_at c (Next k e n o (suc m)) s h = cc
@@ -120,8 +121,8 @@ equal_at c (BehindMinus p) s h = cc
 equal_at c (BehindBar p n) s h = cc
 
 mark_at : (c : Ctx) (p : Place) (o : Operator) (s : Scan) → after_symbol c (shown c (AtPlace p)) (Mark o) ≡ Some s → Goes c (AtPlace p) (operator_text o) s
-mark_at c p Add s h = goes_to c (AtPlace p) (43 ∷ []) _ s (AtPlace (BehindPlus p)) refl refl h
-mark_at c p Subtract s h = goes_to c (AtPlace p) (45 ∷ []) _ s (AtPlace (BehindMinus p)) refl refl h
+mark_at c p Add s h = goes_to c (AtPlace p) (code "+" ∷ []) _ s (AtPlace (BehindPlus p)) refl refl h
+mark_at c p Subtract s h = goes_to c (AtPlace p) (code "-" ∷ []) _ s (AtPlace (BehindMinus p)) refl refl h
 mark_at c p Equal s h = equal_at c p s h
 mark_at c p Multiply s h = cc
 mark_at c p Divide s h = cc
@@ -145,14 +146,14 @@ by_mark c (After k e n) o s one h = mark_ends c (After k e n) (ends_after c k e 
 
 -- the byte b is this symbol's
 abbrev pub IsByteOf : ℕ → Symbol → Type 0
-IsByteOf b (Digit d) = (d < 10) × (b ≡ 48 + d)
-IsByteOf b Point = b ≡ 46
+IsByteOf b (Digit d) = (d < 10) × (b ≡ code "0" + d)
+IsByteOf b Point = b ≡ code "."
 IsByteOf b (Letter scale) = b ≡ letter scale
 IsByteOf b (Mark o) = (operator_text o ≡ b ∷ []) × (behind o ≡ AnOperator)
-IsByteOf b Bar = b ≡ 124
-IsByteOf b Open = b ≡ 40
-IsByteOf b Close = b ≡ 41
-IsByteOf b Blank = b ≡ 32
+IsByteOf b Bar = b ≡ code "|"
+IsByteOf b Open = b ≡ code "("
+IsByteOf b Close = b ≡ code ")"
+IsByteOf b Blank = b ≡ code " "
 
 abbrev AreBytes : List (ℕ × Symbol) → Type 0
 AreBytes [] = Unit {0}
@@ -175,20 +176,20 @@ symbols_are =
 
 pub symbol_tells : (b : ℕ) (y : Symbol) → symbol_of b ≡ Some y → IsByteOf b y
 symbol_tells b y h =
-    elim (leb_tells 48 b) [
+    elim (leb_tells (code "0") b) [
       | inr w ↦
-          let test : (nat_le 48 b && nat_le b 57) ≡ false = rw w.0 refl in
-          found_tells b symbols y symbols_are (ap (λ t. cond t (Some (Digit (b - 48))) (found b symbols)) (sym test) ∙ h)
-      | inl w ↦ elim (leb_tells b 57) [
+          let test : (nat_le (code "0") b && nat_le b (code "9")) ≡ false = rw w.0 refl in
+          found_tells b symbols y symbols_are (ap (λ t. cond t (Some (Digit (b - code "0"))) (found b symbols)) (sym test) ∙ h)
+      | inl w ↦ elim (leb_tells b (code "9")) [
         | inr v ↦
-            let test : (nat_le 48 b && nat_le b 57) ≡ false = rw (w.0, v.0) refl in
-            found_tells b symbols y symbols_are (ap (λ t. cond t (Some (Digit (b - 48))) (found b symbols)) (sym test) ∙ h)
+            let test : (nat_le (code "0") b && nat_le b (code "9")) ≡ false = rw (w.0, v.0) refl in
+            found_tells b symbols y symbols_are (ap (λ t. cond t (Some (Digit (b - code "0"))) (found b symbols)) (sym test) ∙ h)
         | inl v ↦
             let low = w.1 in
             let high = v.1 in
-            let test : (nat_le 48 b && nat_le b 57) ≡ true = rw (w.0, v.0) refl in
-            let is : Some (Digit (b - 48)) ≡ Some y = ap (λ t. cond t (Some (Digit (b - 48))) (found b symbols)) (sym test) ∙ h in
-            let what : Digit (b - 48) ≡ y = cc in
+            let test : (nat_le (code "0") b && nat_le b (code "9")) ≡ true = rw (w.0, v.0) refl in
+            let is : Some (Digit (b - code "0")) ≡ Some y = ap (λ t. cond t (Some (Digit (b - code "0"))) (found b symbols)) (sym test) ∙ h in
+            let what : Digit (b - code "0") ≡ y = cc in
             subst (λ x. IsByteOf b x) what (omega arith, omega arith)
       ]
     ]

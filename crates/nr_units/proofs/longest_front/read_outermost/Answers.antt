@@ -1,3 +1,4 @@
+use Prim.Native.Char.{code}
 use Rattle.std.proofs.Common.{◌≡◌, ◌+◌, ◌-◌, ◌<◌, ◌∙◌, [], get_or, length, sym, subst, ap, arith, add-one, None}
 use Rattle.std.specs.Option.{option_and_then, option_map}
 use Rattle.std.proofs.Math.Seq.{take-suc}
@@ -39,7 +40,7 @@ loop-at-preserved-in-Some c =
     let i = c.loop-at.at in
     let s : Scan = outermost c.loop-at.level in
     let t : Scan = outermost (record c.loop-at.level { mode = c.in-Some.mode }) in
-    let digit : Symbol = Digit (get_or text i 0 - 48) in
+    let digit : Symbol = Digit (get_or text i 0 - code "0") in
     let inside : i < length text = omega arith in
     let taken : Steps c.args.ctx.now s digit Taken t = (ap (λ m. on_level [] (option_map (in_mode c.loop-at.level) m)) c.in-Some.ensures.1, λ is. omega arith) in
     let next = advances c.args.ctx.now text i (get_or text i 0) digit s t c.loop-at.longest inside (take-suc text i 0 inside) c.in-Some.ensures.0 c.loop-at.invariant.along taken in
