@@ -1,19 +1,21 @@
 -- The bytes of a line whose words are read for what they ask are not said.
-use Rattle.std.proofs.Common.{◌≡◌, ℕ, ◌≤◌, ◌+◌, [], Bool, true, false, ◌&&◌, ◌||◌, ◌==◌, if◌then◌else◌, refl, ◌∙◌, ap, arith}
+use Rattle.std.proofs.Common.{◌≡◌, ℕ, ◌≤◌, ◌+◌, [], length, Bool, true, false, not, nat_lt, ◌&&◌, ◌||◌, ◌==◌, if◌then◌else◌, refl, ◌∙◌, ap, arith}
 use Prim.Native.Char.{code}
 use Rattle.nr_mdoc.specs.declared.acts.Act.TheVariants as acts
 use Rattle.nr_mdoc.specs.declared.macros.Macro.{Macro}
+use Rattle.nr_mdoc.specs.declared.page.Inside.TheVariants as insides
 use Rattle.nr_mdoc.specs.declared.page.Page.{Page}
 use Rattle.nr_mdoc.specs.declared.page.Scan.{Scan}
 use Rattle.nr_mdoc.specs.declared.page.Scan.TheVariants as scans
 use Rattle.nr_mdoc.specs.Calls.{with_scan}
-use Rattle.nr_mdoc.specs.Keeping.{comment, continued, ends_word, keep, keep_byte, keep_escape, whole_for}
+use Rattle.nr_mdoc.specs.Keeping.{comment, continued, ends_word, keep, keep_blank, keep_byte, keep_escape, keep_quote, whole_for}
+use Rattle.nr_mdoc.specs.Options.{is_heading, reads_for}
 use Rattle.nr_mdoc.specs.Reading.{State}
 use Rattle.nr_mdoc.specs.Scanning.{meet, meet_at}
 use Rattle.nr_mdoc.specs.Seeing.{Met, met, left, taken}
 use Rattle.nr_mdoc.specs.WrittenLines.{asks}
-use Rattle.nr_mdoc.proofs.AskedWords.{Asking, asking_as, Leading, Taking, left_leads, taken_takes, cell_takes, given_step, kept, kept_byte, asks_whole}
-use Rattle.nr_mdoc.proofs.KeptWords.{between_by}
+use Rattle.nr_mdoc.proofs.AskedWords.{Asking, asking_as, Leading, Taking, left_leads, taken_takes, cell_takes, given_step, kept, kept_byte, asks_shown, asks_whole}
+use Rattle.nr_mdoc.proofs.ReadWords.{between_by}
 use Rattle.nr_mdoc.proofs.Meeting.{Takes, then_takes}
 use Rattle.nr_mdoc.proofs.Outcomes.{never}
 
@@ -143,7 +145,7 @@ word_byte true m b s h at e f g =
 word_byte false m b s h at e f g = heard_within m b s 1 4 (omega arith) (word_heard m b s h at e g)
 
 unfoldable pub quoted_rest : ℕ → Page → Met
-quoted_rest b p = if (b == code " ") && whole_for p.call.taker p then keep_escape (code "~") true p else keep_byte b true p
+quoted_rest b p = if (b == code " ") && whole_for p.call.taker p then keep_blank p else keep_byte b true p
 
 and_no : (a b : Bool) → b ≡ false → (a && b) ≡ false
 and_no true b e = e
@@ -167,27 +169,33 @@ quoted_byte false m b s h at e f g =
     ∙ ap (λ (t : Bool). if t then met (with_scan scans.Closing p) (taken acts.Nothing) else if b == code "\n" then met (with_scan (scans.Given true) p) (left acts.Nothing) else if b == code "\\" then met (with_scan scans.QuotedEscape p) (taken acts.Nothing) else quoted_rest b p) e
     ∙ ap (λ (t : Bool). if t then met (with_scan (scans.Given true) p) (left acts.Nothing) else if b == code "\\" then met (with_scan scans.QuotedEscape p) (taken acts.Nothing) else quoted_rest b p) f
     ∙ ap (λ (t : Bool). if t then met (with_scan scans.QuotedEscape p) (taken acts.Nothing) else quoted_rest b p) g
-    ∙ ap (λ (k : Macro). if (b == code " ") && whole_for k p then keep_escape (code "~") true p else keep_byte b true p) at.taker
-    ∙ ap (λ (t : Bool). if t then keep_escape (code "~") true p else keep_byte b true p)
+    ∙ ap (λ (k : Macro). if (b == code " ") && whole_for k p then keep_blank p else keep_byte b true p) at.taker
+    ∙ ap (λ (t : Bool). if t then keep_blank p else keep_byte b true p)
     (and_no (b == code " ") (whole_for m p) (asks_whole m p h)))
     at)
 
+quote_rest : Bool → Page → Met
+quote_rest full p =
+    if full then met (with_scan (scans.Long insides.Closing) p) (left acts.Nothing) else keep (code "\"") true (with_scan scans.Quoted p)
+
 closing_byte : (t : Bool) (m : Macro) (b : ℕ) (s : State) → asks m ≡ true → Asking m s.page scans.Closing → (b == code "\"") ≡ t
     → (b == code "\n") ≡ false → (b == code "\\") ≡ false → Heard m b s 4
-unfolding meet is_inside
+unfolding meet is_inside quote_rest
 closing_byte true m b s h at e f g =
     let p = s.page in
     let q = with_scan scans.Quoted p in
     heard_of m b s 4 scans.Quoted (omega arith) refl
-    (kept m b b true s q scans.Quoted h
+    (kept m b (code "\"") true s q scans.Quoted h
     (ap (λ (sc : Scan). meet_at sc b p) at.scan_is
-    ∙ ap (λ (t : Bool). if t then keep b true q else met (with_scan (scans.Given true) p) (left acts.Nothing)) e)
+    ∙ ap (λ (t : Bool). if t then keep_quote p else met (with_scan (scans.Given true) p) (left acts.Nothing)) e
+    ∙ ap (λ (k : Macro). quote_rest (not (nat_lt (length p.word) 30) && (not (reads_for k) || is_heading k)) p) at.taker
+    ∙ ap (λ (t : Bool). quote_rest t p) (and_no (not (nat_lt (length p.word) 30)) (not (reads_for m) || is_heading m) (asks_shown m h)))
     (asking_as m scans.Quoted p _ refl refl refl refl refl refl refl at))
 closing_byte false m b s h at e f g =
     let p = s.page in
     let one = left_leads m b s (with_scan (scans.Given true) p) (scans.Given true)
     (ap (λ (sc : Scan). meet_at sc b p) at.scan_is
-    ∙ ap (λ (t : Bool). if t then keep b true (with_scan scans.Quoted p) else met (with_scan (scans.Given true) p) (left acts.Nothing)) e)
+    ∙ ap (λ (t : Bool). if t then keep_quote p else met (with_scan (scans.Given true) p) (left acts.Nothing)) e)
     (given_asking m true scans.Closing p at) in
     heard_behind m b s 3 (scans.Given true) one (given_heard true m b one.next h one.at f g)
 

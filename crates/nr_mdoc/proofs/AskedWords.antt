@@ -15,7 +15,7 @@ use Rattle.nr_mdoc.specs.declared.page.Scan.TheVariants as scans
 use Rattle.nr_mdoc.specs.declared.page.Wanted.{Wanted}
 use Rattle.nr_mdoc.specs.declared.page.Wanted.TheVariants as wanteds
 use Rattle.nr_mdoc.specs.Calls.{is_none, with_scan}
-use Rattle.nr_mdoc.specs.Keeping.{ends_in_hyphen, has_dashes, keep, keep_byte, keep_escape, keeping, looks_up, whole_for, widens, wider}
+use Rattle.nr_mdoc.specs.Keeping.{ends_in_hyphen, has_dashes, keep, keep_byte, keep_escape, keeping, looks_up, whole_for, widens, wider, within, within_escape}
 use Rattle.nr_mdoc.specs.Laying.{with_lay}
 use Rattle.nr_mdoc.specs.LayingOut.{lay_out}
 use Rattle.nr_mdoc.specs.Options.{added_column, asked, block_asked, block_wanted, column, column_width, dated, date_word, font_named, font_or, is_column, is_heading, is_shown, is_version, none, option, option_for, option_word, reads_for, title_word, wants_column}
@@ -279,7 +279,7 @@ given_step m quoted b s h at =
 
 -- ---- its bytes
 
-asks_shown : (m : Macro) → asks m ≡ true → (not (reads_for m) || is_heading m) ≡ false
+pub asks_shown : (m : Macro) → asks m ≡ true → (not (reads_for m) || is_heading m) ≡ false
 asks_shown macros.Date h = refl
 asks_shown macros.Title h = refl
 asks_shown macros.List h = refl
@@ -324,14 +324,14 @@ unfolding widened
 kept_by true m b c quoted s p scan h e at room =
     let q = keeping (c ∷ []) p in
     wide_takes (nat_lt p.call.width 9999) m b s q scan
-    (e ∙ ap (λ (t : Bool). if t then met (widens q) (taken acts.Nothing) else if is_shown p then met (with_scan (scans.Long quoted false) p) (left acts.Nothing) else met (widens p) (taken acts.Nothing)) room)
+    (e ∙ ap (λ (t : Bool). if t then met (widens q) (taken acts.Nothing) else if is_shown p then met (with_scan (scans.Long (within quoted)) p) (left acts.Nothing) else met (widens p) (taken acts.Nothing)) room)
     (asking_as m scan p q at.scan_is refl refl refl refl refl refl at)
 kept_by false m b c quoted s p scan h e at room =
     let q = keeping (c ∷ []) p in
     wide_takes (nat_lt p.call.width 9999) m b s p scan
-    (e ∙ ap (λ (t : Bool). if t then met (widens q) (taken acts.Nothing) else if is_shown p then met (with_scan (scans.Long quoted false) p) (left acts.Nothing) else met (widens p) (taken acts.Nothing)) room
-    ∙ ap (λ (k : Macro). if not (reads_for k) || is_heading k then met (with_scan (scans.Long quoted false) p) (left acts.Nothing) else met (widens p) (taken acts.Nothing)) at.taker
-    ∙ ap (λ (t : Bool). if t then met (with_scan (scans.Long quoted false) p) (left acts.Nothing) else met (widens p) (taken acts.Nothing)) (asks_shown m h))
+    (e ∙ ap (λ (t : Bool). if t then met (widens q) (taken acts.Nothing) else if is_shown p then met (with_scan (scans.Long (within quoted)) p) (left acts.Nothing) else met (widens p) (taken acts.Nothing)) room
+    ∙ ap (λ (k : Macro). if not (reads_for k) || is_heading k then met (with_scan (scans.Long (within quoted)) p) (left acts.Nothing) else met (widens p) (taken acts.Nothing)) at.taker
+    ∙ ap (λ (t : Bool). if t then met (with_scan (scans.Long (within quoted)) p) (left acts.Nothing) else met (widens p) (taken acts.Nothing)) (asks_shown m h))
     at
 
 pub kept : (m : Macro) (b c : ℕ) (quoted : Bool) (s : State) (p : Page) (scan : Scan) → asks m ≡ true → meet b s.page ≡ keep c quoted p
@@ -372,15 +372,15 @@ escape_by true m b quoted s scan h e at room =
     let p = s.page in
     let q = keeping (b ∷ []) (keeping (code "\\" ∷ []) p) in
     escape_wide (not (b == code "&")) m b quoted s q
-    (e ∙ ap (λ (t : Bool). if t then met (with_scan (inside_of quoted) (wider b q)) (taken acts.Nothing) else if is_shown p then met (with_scan (scans.Long quoted true) p) (left acts.Nothing) else met (with_scan (inside_of quoted) (wider b p)) (taken acts.Nothing)) room)
+    (e ∙ ap (λ (t : Bool). if t then met (with_scan (inside_of quoted) (wider b q)) (taken acts.Nothing) else if is_shown p then met (with_scan (scans.Long (within_escape quoted)) p) (left acts.Nothing) else met (with_scan (inside_of quoted) (wider b p)) (taken acts.Nothing)) room)
     (asking_as m scan p q at.scan_is refl refl refl refl refl refl at)
 escape_by false m b quoted s scan h e at room =
     let p = s.page in
     let q = keeping (b ∷ []) (keeping (code "\\" ∷ []) p) in
     escape_wide (not (b == code "&")) m b quoted s p
-    (e ∙ ap (λ (t : Bool). if t then met (with_scan (inside_of quoted) (wider b q)) (taken acts.Nothing) else if is_shown p then met (with_scan (scans.Long quoted true) p) (left acts.Nothing) else met (with_scan (inside_of quoted) (wider b p)) (taken acts.Nothing)) room
-    ∙ ap (λ (k : Macro). if not (reads_for k) || is_heading k then met (with_scan (scans.Long quoted true) p) (left acts.Nothing) else met (with_scan (inside_of quoted) (wider b p)) (taken acts.Nothing)) at.taker
-    ∙ ap (λ (t : Bool). if t then met (with_scan (scans.Long quoted true) p) (left acts.Nothing) else met (with_scan (inside_of quoted) (wider b p)) (taken acts.Nothing)) (asks_shown m h))
+    (e ∙ ap (λ (t : Bool). if t then met (with_scan (inside_of quoted) (wider b q)) (taken acts.Nothing) else if is_shown p then met (with_scan (scans.Long (within_escape quoted)) p) (left acts.Nothing) else met (with_scan (inside_of quoted) (wider b p)) (taken acts.Nothing)) room
+    ∙ ap (λ (k : Macro). if not (reads_for k) || is_heading k then met (with_scan (scans.Long (within_escape quoted)) p) (left acts.Nothing) else met (with_scan (inside_of quoted) (wider b p)) (taken acts.Nothing)) at.taker
+    ∙ ap (λ (t : Bool). if t then met (with_scan (scans.Long (within_escape quoted)) p) (left acts.Nothing) else met (with_scan (inside_of quoted) (wider b p)) (taken acts.Nothing)) (asks_shown m h))
     at
 
 pub kept_escape : (m : Macro) (b : ℕ) (quoted : Bool) (s : State) (scan : Scan) → asks m ≡ true → meet b s.page ≡ keep_escape b quoted s.page

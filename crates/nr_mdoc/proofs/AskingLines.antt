@@ -32,7 +32,8 @@ use Rattle.nr_mdoc.proofs.AskedBytes.{between_heard, between_met, byte_heard, es
 use Rattle.nr_mdoc.proofs.AskedWords.{Asking, asking_as, Leading, left_leads, given_step, kept_escape, is_hushed, three_page, three_words}
 use Rattle.nr_mdoc.proofs.Endings.{is_laid, last_laid, last_word, three_laid}
 use Rattle.nr_mdoc.proofs.Escapes.{and_left, and_right, both, is_not}
-use Rattle.nr_mdoc.proofs.KeptWords.{between_by, no_comment, no_newline, one_enough}
+use Rattle.nr_mdoc.proofs.KeptWords.{no_comment, no_newline, one_enough}
+use Rattle.nr_mdoc.proofs.ReadWords.{between_by}
 use Rattle.nr_mdoc.proofs.MacroLines.{beginning, control_taken, macro_met, name_begun, name_more, name_more_state, no_slash, no_star, plain_names, reads_name, short_name}
 use Rattle.nr_mdoc.proofs.Meeting.{with_page, Takes, then_takes, leads_with, takes_by}
 use Rattle.nr_mdoc.proofs.OtherLines.{Said}
@@ -266,7 +267,7 @@ few_enough : (k : ℕ) → k ≤ 4 → k ≤ 16
 few_enough k l = omega arith
 
 letter_read : (l : Letter) (m : Macro) (s : State) (scan : Scan) → asks m ≡ true → Asking m s.page scan → is_inside scan ≡ true → is_asking l ≡ true
-    → Read m s (bytes_of l)
+    → Read m s (bytes_of false l)
 letter_read (Plain b) m s scan h at i good =
     let one = byte_heard scan m b s h at i (is_not (b == code "\n") (and_left (not (b == code "\n")) (not (b == code "\\")) good))
     (is_not (b == code "\\") (and_right (not (b == code "\n")) (not (b == code "\\")) good)) in
@@ -296,7 +297,7 @@ letter_read (Escape b) m s scan h at i good =
     }
 
 letters_read : (ls : List Letter) (m : Macro) (s : State) (scan : Scan) → asks m ≡ true → Asking m s.page scan → is_inside scan ≡ true → are_asking ls ≡ true
-    → Read m s (written ls)
+    → Read m s (written false ls)
 letters_read [] m s scan h at i good = record { next = s; said = λ rest. refl; state = refl; scan = scan; at = at; inside = i }
 letters_read (l ∷ ls) m s scan h at i good =
     let one = letter_read l m s scan h at i (and_left (is_asking l) (are_asking ls) good) in
@@ -304,9 +305,9 @@ letters_read (l ∷ ls) m s scan h at i good =
     record {
       next = later.next;
       said = λ rest.
-          ap (λ (xs : List ℕ). words_of (parts_of s xs)) (append_assoc (bytes_of l) (written ls) rest)
-          ∙ one.said (written ls ++ rest) ∙ later.said rest;
-      state = after-append s (bytes_of l) (written ls) ∙ ap (λ (t : State). after t (written ls)) one.state ∙ later.state;
+          ap (λ (xs : List ℕ). words_of (parts_of s xs)) (append_assoc (bytes_of false l) (written false ls) rest)
+          ∙ one.said (written false ls ++ rest) ∙ later.said rest;
+      state = after-append s (bytes_of false l) (written false ls) ∙ ap (λ (t : State). after t (written false ls)) one.state ∙ later.state;
       scan = later.scan;
       at = later.at;
       inside = later.inside;
@@ -382,7 +383,7 @@ read_rest m s bs h r =
 
 rest_said : (ls : List Letter) (m : Macro) (name : List ℕ) (s : State) → s.page.marks ≡ [] → asks m ≡ true → macro_of name ≡ Some m
     → (not (opens_block m) || nat_lt (length s.blocks) 64) ≡ true → begins_blank ls ≡ true → are_asking ls ≡ true
-    → Rest (reads_name name s) (written ls ++ codes "\n")
+    → Rest (reads_name name s) (written false ls ++ codes "\n")
 rest_said [] m name s none h f room blank good =
     let one = begin_step m (code "\n") name s none h refl f room in
     newline_rest (reads_name name s) 3 (omega arith) (ended_behind m (code "\n") (reads_name name s) 2 scans.Between one (between_ended m one.next h one.at))
@@ -395,11 +396,11 @@ rest_said (Plain b ∷ ls) m name s none h f room blank good =
     (between_heard (b == code " ") (b == code "\t") (b == code "\"") m b one.next h one.at refl refl
     (is_not (b == code "\n") (and_left (not (b == code "\n")) (not (b == code "\\")) here)) refl
     (is_not (b == code "\\") (and_right (not (b == code "\n")) (not (b == code "\\")) here))) in
-    let rest = read_rest m first.next (written ls) h (letters_read ls m first.next first.scan h first.at first.inside (and_right (is_asking (Plain b)) (are_asking ls) good)) in
+    let rest = read_rest m first.next (written false ls) h (letters_read ls m first.next first.scan h first.at first.inside (and_right (is_asking (Plain b)) (are_asking ls) good)) in
     record {
-      words = next-words b (written ls ++ codes "\n") start first.next first.steps [] [] (let few = first.few in omega arith) first.takes rest.words;
+      words = next-words b (written false ls ++ codes "\n") start first.next first.steps [] [] (let few = first.few in omega arith) first.takes rest.words;
       fresh =
-          subst Fresh (sym (next-state b (written ls ++ codes "\n") start first.next first.steps [] (let few = first.few in omega arith) first.takes))
+          subst Fresh (sym (next-state b (written false ls ++ codes "\n") start first.next first.steps [] (let few = first.few in omega arith) first.takes))
           rest.fresh;
     }
 
@@ -408,21 +409,21 @@ pub asking_said : (name : List ℕ) (rest : List Letter) (m : Macro) (s : State)
     → Said s (asking_line name rest) []
 asking_said [] rest m s none h f room plain blank good = absurd (let no : None ≡ Some m = f in cc)
 asking_said (b ∷ bs) rest m s none h f room plain blank good =
-    let behind = written rest ++ codes "\n" in
+    let behind = written false rest ++ codes "\n" in
     let short = short_name (b ∷ bs) m f in
     let line = rest_said rest m (b ∷ bs) s none h f room blank good in
     let begins = name_begun b s (and_left (is_plain b) (each is_plain bs) plain) in
     let more = and_right (is_plain b) (each is_plain bs) plain in
     record {
       words =
-          next-words (code ".") ((b ∷ bs ++ written rest) ++ codes "\n") (reads_at scans.Start s) (reads_at scans.Control s) 1 [] _ one_enough (control_taken s) refl
-          ∙ ap (λ (xs : List ℕ). words_of (parts_of (reads_at scans.Control s) xs)) (append_assoc (b ∷ bs) (written rest) (codes "\n"))
+          next-words (code ".") ((b ∷ bs ++ written false rest) ++ codes "\n") (reads_at scans.Start s) (reads_at scans.Control s) 1 [] _ one_enough (control_taken s) refl
+          ∙ ap (λ (xs : List ℕ). words_of (parts_of (reads_at scans.Control s) xs)) (append_assoc (b ∷ bs) (written false rest) (codes "\n"))
           ∙ next-words b (bs ++ behind) (reads_at scans.Control s) (reads_name (b ∷ []) s) 1 [] _ one_enough begins refl
           ∙ name_more bs (b ∷ []) s behind more (omega arith) ∙ line.words;
       fresh =
           subst Fresh
-          (sym (next-state (code ".") ((b ∷ bs ++ written rest) ++ codes "\n") (reads_at scans.Start s) (reads_at scans.Control s) 1 [] one_enough (control_taken s)
-          ∙ ap (λ (xs : List ℕ). after (reads_at scans.Control s) xs) (append_assoc (b ∷ bs) (written rest) (codes "\n"))
+          (sym (next-state (code ".") ((b ∷ bs ++ written false rest) ++ codes "\n") (reads_at scans.Start s) (reads_at scans.Control s) 1 [] one_enough (control_taken s)
+          ∙ ap (λ (xs : List ℕ). after (reads_at scans.Control s) xs) (append_assoc (b ∷ bs) (written false rest) (codes "\n"))
           ∙ next-state b (bs ++ behind) (reads_at scans.Control s) (reads_name (b ∷ []) s) 1 [] one_enough begins
           ∙ name_more_state bs (b ∷ []) s behind more (omega arith)))
           line.fresh;
@@ -434,16 +435,16 @@ slash_names : (b : ℕ) (rest : List ℕ) → (b == code "\\") ≡ false → nam
 slash_names b rest e h =
     both (not ((b == code "\\") && begins_star rest)) (names_no_string rest) (ap (λ (t : Bool). not (t && begins_star rest)) e) h
 
-asking_names : (ls : List Letter) → are_asking ls ≡ true → names_no_string (written ls) ≡ true
+asking_names : (ls : List Letter) → are_asking ls ≡ true → names_no_string (written false ls) ≡ true
 asking_names [] good = refl
 asking_names (Plain b ∷ ls) good =
-    slash_names b (written ls) (is_not (b == code "\\") (and_right (not (b == code "\n")) (not (b == code "\\")) (and_left (is_asking (Plain b)) (are_asking ls) good)))
+    slash_names b (written false ls) (is_not (b == code "\\") (and_right (not (b == code "\n")) (not (b == code "\\")) (and_left (is_asking (Plain b)) (are_asking ls) good)))
     (asking_names ls (and_right (is_asking (Plain b)) (are_asking ls) good))
 asking_names (Escape b ∷ ls) good =
     let here = and_left (is_asking (Escape b)) (are_asking ls) good in
-    both (not (b == code "*")) (names_no_string (b ∷ written ls)) (ap not (no_star b here))
-    (slash_names b (written ls) (no_slash b here) (asking_names ls (and_right (is_asking (Escape b)) (are_asking ls) good)))
+    both (not (b == code "*")) (names_no_string (b ∷ written false ls)) (ap not (no_star b here))
+    (slash_names b (written false ls) (no_slash b here) (asking_names ls (and_right (is_asking (Escape b)) (are_asking ls) good)))
 
 pub line_names : (name : List ℕ) (rest : List Letter) → each is_plain name ≡ true → are_asking rest ≡ true
-    → names_no_string (codes "." ++ name ++ written rest) ≡ true
-line_names name rest plain good = plain_names name (written rest) plain (asking_names rest good)
+    → names_no_string (codes "." ++ name ++ written false rest) ≡ true
+line_names name rest plain good = plain_names name (written false rest) plain (asking_names rest good)

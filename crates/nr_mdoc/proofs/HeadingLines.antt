@@ -7,6 +7,7 @@ use Rattle.nr_mdoc.specs.declared.acts.Act.TheVariants as acts
 use Rattle.nr_mdoc.specs.declared.macros.Font.TheVariants.{Roman}
 use Rattle.nr_mdoc.specs.declared.macros.Macro.{Macro}
 use Rattle.nr_mdoc.specs.declared.macros.Macro.TheVariants as macros
+use Rattle.nr_mdoc.specs.declared.page.Inside.TheVariants as insides
 use Rattle.nr_mdoc.specs.declared.page.Page.{Page}
 use Rattle.nr_mdoc.specs.declared.page.Scan.{Scan}
 use Rattle.nr_mdoc.specs.declared.page.Scan.TheVariants as scans
@@ -27,11 +28,12 @@ use Rattle.nr_mdoc.specs.WrittenLines.{Usual, way_of, each, is_plain, names_no_s
 use Rattle.nr_mdoc.proofs.After.{after, after-append, next-state, Fresh}
 use Rattle.nr_mdoc.proofs.Escapes.{and_left, and_right, line-text}
 use Rattle.nr_mdoc.proofs.Given.{Whole, whole_of}
-use Rattle.nr_mdoc.proofs.KeptWords.{no_escape, no_quote, not_ending, not_of, one_enough, room, scan_same, widened, between_by}
+use Rattle.nr_mdoc.proofs.KeptWords.{no_escape, no_quote, not_ending, one_enough, room, scan_same, widened}
 use Rattle.nr_mdoc.proofs.MacroLines.{head_of, beginning, control_taken, macro_met, name_begun, name_taken, plain_names, reads_name, two_enough}
 use Rattle.nr_mdoc.proofs.Meeting.{with_page, Leads, Takes, then_takes, leads_by, takes_by}
 use Rattle.nr_mdoc.proofs.Outcomes.{takes_plain, Keeps}
 use Rattle.nr_mdoc.proofs.QuotedLines.{each_names, Behind, behind_of, in_words, Line}
+use Rattle.nr_mdoc.proofs.ReadWords.{not_of, between_by}
 use Rattle.nr_mdoc.proofs.Stepping.{out_step}
 use Rattle.nr_mdoc.proofs.Taken.{said_in}
 use Rattle.nr_mdoc.proofs.TextSaid.{next-words, or_left, or_right}
@@ -173,7 +175,7 @@ longer s bytes word at = record {
 }
 
 keep_rest : ℕ → Page → Met
-keep_rest b p = if is_shown p then turns (scans.Long false false) (left acts.Nothing) p else met (widens p) (taken acts.Nothing)
+keep_rest b p = if is_shown p then turns (scans.Long insides.Word) (left acts.Nothing) p else met (widens p) (taken acts.Nothing)
 
 kept_byte : (b : ℕ) (s : State) (word : List ℕ) → Heads s scans.Word word → is_plain b ≡ true → length word < 30 → Kept b s (word ++ b ∷ [])
 unfolding said lay_out widened keep_rest

@@ -1,29 +1,35 @@
--- The bytes of a word are kept.
-use Rattle.std.proofs.Common.{◌≡◌, ℕ, ◌≤◌, ◌<◌, ◌+◌, List, [], ◌∷◌, ◌++◌, length, Bool, true, false, not, ◌&&◌, ◌||◌, ◌==◌, nat_lt, if◌then◌else◌, refl, sym, ◌∙◌, ap, subst, append_assoc, append-nil, length-append, arith}
+-- The bytes of a word are kept, between quotes or not; where they have no room, what was kept goes out first.
+use Rattle.std.proofs.Common.{◌≡◌, ℕ, ◌≤◌, ◌<◌, ◌+◌, List, [], ◌∷◌, ◌++◌, length, Bool, true, false, not, ◌&&◌, ◌||◌, ◌==◌, nat_lt, if◌then◌else◌, refl, sym, ◌∙◌, ap, subst, append_assoc, append-nil, arith}
 use Rattle.std.proofs.lemmas.Bool.Decides.{nat_tests}
 use Rattle.std.specs.Prelude.{codes}
 use Prim.Native.Char.{code}
 use Rattle.nr_mdoc.specs.declared.acts.Act.TheVariants as acts
+use Rattle.nr_mdoc.specs.declared.macros.Macro.{Macro}
+use Rattle.nr_mdoc.specs.declared.page.Inside.{Inside}
+use Rattle.nr_mdoc.specs.declared.page.Inside.TheVariants as insides
 use Rattle.nr_mdoc.specs.declared.page.Page.{Page}
 use Rattle.nr_mdoc.specs.declared.page.Scan.{Scan}
 use Rattle.nr_mdoc.specs.declared.page.Scan.TheVariants as scans
 use Rattle.nr_mdoc.specs.Calls.{is_none, with_scan}
-use Rattle.nr_mdoc.specs.Keeping.{comment, continued, ends_in_hyphen, ends_word, has_dashes, keep, keep_byte, keep_escape, keeping, looks_up, turns, widens, wider, word_begins}
+use Rattle.nr_mdoc.specs.Keeping.{comment, continued, ends_in_hyphen, ends_word, has_dashes, in_word_of, is_whole, keep, keep_blank, keep_byte, keep_escape, keep_quote, keeping, looks_up, turns, whole_for, widens, wider, within, within_escape}
 use Rattle.nr_mdoc.specs.LayingOut.{lay_out}
-use Rattle.nr_mdoc.specs.Options.{is_shown}
+use Rattle.nr_mdoc.specs.Options.{is_heading, is_shown}
 use Rattle.nr_mdoc.specs.Reading.{State, said}
-use Rattle.nr_mdoc.specs.Saying.{parts_of, words_of}
-use Rattle.nr_mdoc.specs.Scanning.{between, meet, meet_at}
+use Rattle.nr_mdoc.specs.Scanning.{meet, meet_at}
 use Rattle.nr_mdoc.specs.Seeing.{Met, met, left, taken}
-use Rattle.nr_mdoc.specs.WrittenLines.{Way, hyphens_stay, Letter, Plain, Escape, is_hyphen, is_letter, are_letters, bytes_of, is_escaped, is_plain, kept, kept_in, kept_letter, written}
+use Rattle.nr_mdoc.specs.Words.{goes_to}
+use Rattle.nr_mdoc.specs.WrittenLines.{Way, hyphens_stay, Letter, Plain, is_escaped, is_held, is_letter, is_plain, is_quotable, kept_first, kept_letter}
 use Rattle.nr_mdoc.proofs.Escapes.{and_left, and_right, is_not, same_byte}
-use Rattle.nr_mdoc.proofs.After.{after, after-append, next-state}
-use Rattle.nr_mdoc.proofs.Meeting.{with_page, Leads, Takes, then_takes, leads_by, takes_by}
-use Rattle.nr_mdoc.proofs.TextSaid.{next-words, or_left, or_right}
-use Rattle.nr_mdoc.proofs.Stepping.{At, Head}
-use Rattle.nr_mdoc.proofs.Ways.{first_last, letter_last, letter_some, plain_hyphen}
+use Rattle.nr_mdoc.proofs.Given.{plain_reads}
+use Rattle.nr_mdoc.proofs.LongWords.{Flushed, flushed}
+use Rattle.nr_mdoc.proofs.Meeting.{with_page, Takes, then_takes, takes_by}
+use Rattle.nr_mdoc.proofs.Outcomes.{takes_plain}
+use Rattle.nr_mdoc.proofs.Stepping.{In, Head, in_as}
+use Rattle.nr_mdoc.proofs.Together.{whole_kept}
+use Rattle.nr_mdoc.proofs.Ways.{plain_hyphen}
+use Rattle.nr_mdoc.proofs.WholeWords.{and_false}
 
--- ---- a byte of a word is kept
+-- ---- what a byte is not
 
 pub not_ending : (b : ℕ) → is_plain b ≡ true → ends_word b ≡ false
 not_ending b h = is_not (ends_word b) (and_left (not (ends_word b)) (not (b == code "\"")) (and_left (not (ends_word b) && not (b == code "\"")) (not (b == code "\\")) h))
@@ -34,200 +40,11 @@ no_quote b h = is_not (b == code "\"") (and_right (not (ends_word b)) (not (b ==
 pub no_escape : (b : ℕ) → is_plain b ≡ true → (b == code "\\") ≡ false
 no_escape b h = is_not (b == code "\\") (and_right (not (ends_word b) && not (b == code "\"")) (not (b == code "\\")) h)
 
-in_word_met : (head : Head) (b : ℕ) (s : State) (word marks : List ℕ) → At head s scans.Word word marks → is_plain b ≡ true
-    → meet b s.page ≡ keep_byte b false s.page
-unfolding meet
-in_word_met head b s word marks at h =
-    let p = s.page in
-    ap (λ (sc : Scan). meet_at sc b p) at.scan_is
-    ∙ ap (λ (t : Bool). if t then met (with_scan (scans.Given false) p) (left acts.Nothing) else if b == code "\\" then met (with_scan scans.Escape p) (taken acts.Nothing) else keep_byte b false p) (not_ending b h)
-    ∙ ap (λ (t : Bool). if t then met (with_scan scans.Escape p) (taken acts.Nothing) else keep_byte b false p) (no_escape b h)
+pub no_end : (b : ℕ) → is_quotable b ≡ true → (b == code "\n") ≡ false
+no_end b h = is_not (b == code "\n") (and_left (not (b == code "\n")) (not (b == code "\\")) h)
 
--- a page that is wider by one, or not
-unfoldable pub widened : Bool → Page → Page
-widened t p = if t then record p { call = record p.call { width = p.call.width + 1 } } else p
-
-pub widened_at : (t : Bool) (head : Head) (s : State) (p : Page) (scan : Scan) (word marks : List ℕ) → At head (with_page p s) scan word marks
-    → At head (with_page (widened t p) s) scan word marks
-unfolding widened
-widened_at true head s p scan word marks at = record {
-  scan_is = at.scan_is;
-  word_is = at.word_is;
-  marks_are = at.marks_are;
-  few = at.few;
-  going = at.going;
-  comment = at.comment;
-  line = at.line;
-  fits = at.fits;
-  way = at.way;
-  free = at.free;
-}
-widened_at false head s p scan word marks at = at
-
--- a byte is taken, and the line is read further so
-record Kept (m : Head) (b : ℕ) (s : State) (scan : Scan) (word marks : List ℕ) : Type 0 where
-  next : State
-  takes : Takes b s next 1 []
-  at : At m next scan word marks
-
--- the word with these bytes more
-longer : (head : Head) (s : State) (bytes word marks : List ℕ) → At head s scans.Word word marks
-    → At head (with_page (with_scan scans.Word (keeping bytes s.page)) s) scans.Word (word ++ bytes) marks
-longer head s bytes word marks at = record {
-  scan_is = refl;
-  word_is = ap (λ (xs : List ℕ). xs ++ bytes) at.word_is;
-  marks_are = at.marks_are;
-  few = at.few;
-  going = at.going;
-  comment = at.comment;
-  line = at.line;
-  fits = at.fits;
-  way = at.way;
-  free = at.free;
-}
-
-widened_scan : (t : Bool) (p : Page) → with_scan scans.Word (widened t p) ≡ widened t (with_scan scans.Word p)
-unfolding widened
-widened_scan true p = refl
-widened_scan false p = refl
-
-pub scan_same : (p : Page) (scan : Scan) → p.scan ≡ scan → p ≡ with_scan scan p
-scan_same p scan e = ap (λ (sc : Scan). with_scan sc p) e
-
-pub room : (word : List ℕ) → length word < 30 → nat_lt (length word) 30 ≡ true
-room word l = grind (arith, nat_tests)
-
--- what is done of a byte that has no room
-keep_rest : ℕ → Page → Met
-keep_rest b p = if is_shown p then turns (scans.Long false false) (left acts.Nothing) p else met (widens p) (taken acts.Nothing)
-
-kept_plain : (head : Head) (b : ℕ) (s : State) (word marks : List ℕ) → At head s scans.Word word marks → length word < 30
-    → meet b s.page ≡ keep b false s.page → Kept head b s scans.Word (word ++ b ∷ []) marks
-unfolding said lay_out widened keep_rest
-kept_plain head b s word marks at l e =
-    let p = s.page in
-    let q = with_scan scans.Word (keeping (b ∷ []) p) in
-    let wide = nat_lt p.call.width 9999 in
-    record {
-      next = with_page (widened wide q) s;
-      takes =
-          takes_by b s (widened wide q) (widened wide q) acts.Nothing acts.Nothing acts.Nothing []
-          (e
-          ∙ ap (λ (t : Bool). if t then met (widens (keeping (b ∷ []) p)) (taken acts.Nothing) else keep_rest b p) (ap (λ (w : List ℕ). nat_lt (length w) 30) at.word_is ∙ room word l)
-          ∙ ap (λ (r : Page). met (widens (keeping (b ∷ []) r)) (taken acts.Nothing)) (scan_same p scans.Word at.scan_is))
-          refl refl;
-      at = widened_at wide head s q scans.Word (word ++ b ∷ []) marks (longer head s (b ∷ []) word marks at);
-    }
-
--- ---- a hyphen in a word
-
--- whether a hyphen behind these bytes of a word is kept as an escape
-is_kept_so : Way → List ℕ → Bool
-is_kept_so way word = not (hyphens_stay way) || ends_in_hyphen word
-
-kept_met : (head : Head) (b : ℕ) (s : State) (word marks : List ℕ) (u v : Bool) → At head s scans.Word word marks → is_plain b ≡ true
-    → is_none word ≡ u → is_kept_so head.way word ≡ v
-    → meet b s.page ≡ (if (b == code "-") && not u && v then keep_escape b false s.page else keep b false s.page)
-unfolding keep_rest is_kept_so
-kept_met head b s word marks u v at h none so =
-    let p = s.page in
-    let m = p.call.taker in
-    in_word_met head b s word marks at h
-    ∙ ap (λ (w : List ℕ). if (b == code "-") && not (is_none w) && (not (looks_up m) || (has_dashes m && ends_in_hyphen w)) then keep_escape b false p else keep b false p) at.word_is
-    ∙ ap (λ (t : Bool). if (b == code "-") && not t && (not (looks_up m) || (has_dashes m && ends_in_hyphen word)) then keep_escape b false p else keep b false p) none
-    ∙ ap (λ (t : Bool). if (b == code "-") && not u && t then keep_escape b false p else keep b false p)
-    (plain_hyphen m (ends_in_hyphen word) at.fits ∙ ap (λ (way : Way). not (hyphens_stay way) || ends_in_hyphen word) at.way ∙ so)
-
-escape_rest : ℕ → Page → Met
-escape_rest b p =
-    if is_shown p then turns (scans.Long false true) (left acts.Nothing) p else turns scans.Word (taken acts.Nothing) (wider b p)
-
-kept_hyphen : (head : Head) (s : State) (word marks : List ℕ) → At head s scans.Word word marks → length word < 30
-    → meet (code "-") s.page ≡ keep_escape (code "-") false s.page → Kept head (code "-") s scans.Word (word ++ codes "\\-") marks
-unfolding said lay_out widened escape_rest
-kept_hyphen head s word marks at l e =
-    let p = s.page in
-    let q = with_scan scans.Word (keeping (codes "\\-") p) in
-    let r = keeping (code "-" ∷ []) (keeping (code "\\" ∷ []) p) in
-    let wide = nat_lt p.call.width 9999 in
-    record {
-      next = with_page (widened wide q) s;
-      takes =
-          takes_by (code "-") s (widened wide q) (widened wide q) acts.Nothing acts.Nothing acts.Nothing []
-          (e
-          ∙ ap (λ (t : Bool). if t then met (with_scan scans.Word (widens r)) (taken acts.Nothing) else escape_rest (code "-") p)
-          (ap (λ (w : List ℕ). nat_lt (length w) 30) at.word_is ∙ room word l)
-          ∙ ap (λ (ws : List ℕ). met (with_scan scans.Word (widens (record p { word = ws }))) (taken acts.Nothing)) (append_assoc p.word (code "\\" ∷ []) (code "-" ∷ []))
-          ∙ ap (λ (v : Page). met v (taken acts.Nothing)) (widened_scan wide (keeping (codes "\\-") p)))
-          refl refl;
-      at = widened_at wide head s q scans.Word (word ++ codes "\\-") marks (longer head s (codes "\\-") word marks at);
-    }
-
--- ---- one byte, and many
-
-kept_by : (t u v : Bool) (head : Head) (b : ℕ) (s : State) (word marks : List ℕ) → At head s scans.Word word marks → is_plain b ≡ true → length word < 30
-    → (b == code "-") ≡ t → is_none word ≡ u → is_kept_so head.way word ≡ v
-    → Kept head b s scans.Word (word ++ (if t && (not u && v) then codes "\\-" else b ∷ [])) marks
-unfolding keep_rest
-kept_by true false true head b s word marks at h l e none so =
-    subst (λ (k : ℕ). Kept head k s scans.Word (word ++ codes "\\-") marks) (same_byte b (code "-") e)
-    (kept_hyphen head s word marks at l (kept_met head (code "-") s word marks false true at refl none so))
-kept_by true false false head b s word marks at h l e none so =
-    let p = s.page in
-    kept_plain head b s word marks at l
-    (kept_met head b s word marks false false at h none so
-    ∙ ap (λ (t : Bool). if t && not false && false then keep_escape b false p else keep b false p) e)
-kept_by true true v head b s word marks at h l e none so =
-    let p = s.page in
-    kept_plain head b s word marks at l
-    (kept_met head b s word marks true v at h none so
-    ∙ ap (λ (t : Bool). if t && not true && v then keep_escape b false p else keep b false p) e)
-kept_by false u v head b s word marks at h l e none so =
-    let p = s.page in
-    kept_plain head b s word marks at l
-    (kept_met head b s word marks u v at h none so
-    ∙ ap (λ (t : Bool). if t && not u && v then keep_escape b false p else keep b false p) e)
-
--- bytes are read further so, and say no word
-pub record Read (m : Head) (s : State) (bs : List ℕ) (scan : Scan) (word marks : List ℕ) : Type 0 where
-  pub next : State
-  pub said : (rest : List ℕ) → words_of (parts_of s (bs ++ rest)) ≡ words_of (parts_of next rest)
-  pub state : after s bs ≡ next
-  pub at : At m next scan word marks
-
-pub word_at : (head : Head) (s : State) (scan : Scan) (word word2 marks : List ℕ) → word ≡ word2 → At head s scan word marks → At head s scan word2 marks
-word_at head s scan word word2 marks e at = subst (λ (w : List ℕ). At head s scan w marks) e at
-
-pub one_enough : 1 ≤ 16
-one_enough = omega arith
-
--- ---- an escape
-
-escaped_met : (head : Head) (s : State) (word marks : List ℕ) → At head s scans.Word word marks
-    → meet (code "\\") s.page ≡ met (with_scan scans.Escape s.page) (taken acts.Nothing)
-unfolding meet
-escaped_met head s word marks at = ap (λ (sc : Scan). meet_at sc (code "\\") s.page) at.scan_is
-
-kept_slash : (head : Head) (s : State) (word marks : List ℕ) → At head s scans.Word word marks → Kept head (code "\\") s scans.Escape word marks
-unfolding said lay_out
-kept_slash head s word marks at = record {
-  next = with_page (with_scan scans.Escape s.page) s;
-  takes =
-      takes_by (code "\\") s (with_scan scans.Escape s.page) (with_scan scans.Escape s.page) acts.Nothing acts.Nothing acts.Nothing []
-      (escaped_met head s word marks at) refl refl;
-  at = record {
-    scan_is = refl;
-    word_is = at.word_is;
-    marks_are = at.marks_are;
-    few = at.few;
-    going = at.going;
-    comment = at.comment;
-    line = at.line;
-    fits = at.fits;
-    way = at.way;
-    free = at.free;
-  };
-}
+pub quotable_slash : (b : ℕ) → is_quotable b ≡ true → (b == code "\\") ≡ false
+quotable_slash b h = is_not (b == code "\\") (and_right (not (b == code "\n")) (not (b == code "\\")) h)
 
 pub no_comment : (b : ℕ) → is_escaped b ≡ true → (b == code "\"") ≡ false
 no_comment b h =
@@ -243,257 +60,433 @@ no_newline b h =
     (and_left (not (b == code "\"") && not (b == code "\n")) (not (b == code "*"))
     (and_left (not (b == code "\"") && not (b == code "\n") && not (b == code "*")) (not (b == code "\\")) h)))
 
-escape_met : (head : Head) (b : ℕ) (s : State) (word marks : List ℕ) → At head s scans.Escape word marks → is_escaped b ≡ true
-    → meet b s.page ≡ keep_escape b false s.page
-unfolding meet
-escape_met head b s word marks at h =
-    let p = s.page in
-    ap (λ (sc : Scan). meet_at sc b p) at.scan_is
-    ∙ ap (λ (t : Bool). if t then comment false p else if b == code "\n" then continued false p else keep_escape b false p) (no_comment b h)
-    ∙ ap (λ (t : Bool). if t then continued false p else keep_escape b false p) (no_newline b h)
+-- ---- pages that are the same but for the word
 
-wider_is : (t u : Bool) (p : Page) → with_scan scans.Word (if t then widened u p else p) ≡ widened (t && u) (with_scan scans.Word p)
+-- a page that is wider by one, or not
+unfoldable pub widened : Bool → Page → Page
+widened t p = if t then record p { call = record p.call { width = p.call.width + 1 } } else p
+
+widened_in : (t : Bool) (going : Bool) (head : Head) (s : State) (p : Page) (scan : Scan) (word marks : List ℕ) → In going head (with_page p s) scan word marks
+    → In going head (with_page (widened t p) s) scan word marks
 unfolding widened
-wider_is true true p = refl
-wider_is true false p = refl
-wider_is false u p = refl
+widened_in true going head s p scan word marks at =
+    in_as going head (with_page p s) (record p { call = record p.call { width = p.call.width + 1 } }) scan scan word word marks at
+    at.scan_is at.word_is refl refl refl refl refl refl refl
+widened_in false going head s p scan word marks at = at
 
-longer_from : (head : Head) (s : State) (scan : Scan) (bytes word marks : List ℕ) → At head s scan word marks
-    → At head (with_page (with_scan scans.Word (keeping bytes s.page)) s) scans.Word (word ++ bytes) marks
-longer_from head s scan bytes word marks at = record {
-  scan_is = refl;
-  word_is = ap (λ (xs : List ℕ). xs ++ bytes) at.word_is;
-  marks_are = at.marks_are;
-  few = at.few;
-  going = at.going;
-  comment = at.comment;
-  line = at.line;
-  fits = at.fits;
-  way = at.way;
-  free = at.free;
-}
+whole_widened : (t : Bool) (p q : Page) → q.call.taker ≡ p.call.taker → q.place ≡ p.place → is_whole (widened t q) ≡ is_whole p
+unfolding widened
+whole_widened true p q e f =
+    whole_kept q.call.taker p (record q { call = record q.call { width = q.call.width + 1 } }) f ∙ ap (λ (m : Macro). whole_for m p) e
+whole_widened false p q e f = whole_kept q.call.taker p q f ∙ ap (λ (m : Macro). whole_for m p) e
 
-kept_escape : (head : Head) (b : ℕ) (s : State) (word marks : List ℕ) → At head s scans.Escape word marks → is_escaped b ≡ true → length word < 30
-    → Kept head b s scans.Word (word ++ code "\\" ∷ b ∷ []) marks
-unfolding said lay_out widened escape_rest
-kept_escape head b s word marks at h l =
-    let p = s.page in
-    let bytes = code "\\" ∷ b ∷ [] in
-    let q = with_scan scans.Word (keeping bytes p) in
-    let r = keeping (b ∷ []) (keeping (code "\\" ∷ []) p) in
-    let wide = not (b == code "&") && nat_lt p.call.width 9999 in
+wider_is : (scan : Scan) (t u : Bool) (p : Page) → with_scan scan (if t then widened u p else p) ≡ widened (t && u) (with_scan scan p)
+unfolding widened
+wider_is scan true true p = refl
+wider_is scan true false p = refl
+wider_is scan false u p = refl
+
+pub scan_same : (p : Page) (scan : Scan) → p.scan ≡ scan → p ≡ with_scan scan p
+scan_same p scan e = ap (λ (sc : Scan). with_scan sc p) e
+
+pub room : (word : List ℕ) → length word < 30 → nat_lt (length word) 30 ≡ true
+room word l = grind (arith, nat_tests)
+
+no_room : (word : List ℕ) → 30 ≤ length word → nat_lt (length word) 30 ≡ false
+no_room word l = grind (arith, nat_tests)
+
+pub one_enough : 1 ≤ 16
+one_enough = omega arith
+
+-- ---- a byte has room
+
+-- it is taken, and the line is read further so
+pub record Kept (going : Bool) (head : Head) (b : ℕ) (s : State) (scan : Scan) (word marks : List ℕ) : Type 0 where
+  pub next : State
+  pub takes : Takes b s next 1 []
+  pub at : In going head next scan word marks
+  pub whole : is_whole next.page ≡ is_whole s.page
+
+keep_rest : Bool → Page → Met
+keep_rest quoted p = if is_shown p then turns (scans.Long (within quoted)) (left acts.Nothing) p else met (widens p) (taken acts.Nothing)
+
+kept_plain : (going quoted : Bool) (head : Head) (b c : ℕ) (s : State) (scan : Scan) (word marks : List ℕ) → In going head s scan word marks → length word < 30
+    → meet b s.page ≡ keep c quoted (with_scan (in_word_of quoted) s.page) → Kept going head b s (in_word_of quoted) (word ++ c ∷ []) marks
+unfolding said lay_out widened keep_rest
+kept_plain going quoted head b c s scan word marks at l e =
+    let p = with_scan (in_word_of quoted) s.page in
+    let q = keeping (c ∷ []) p in
+    let wide = nat_lt p.call.width 9999 in
     record {
       next = with_page (widened wide q) s;
       takes =
           takes_by b s (widened wide q) (widened wide q) acts.Nothing acts.Nothing acts.Nothing []
-          (escape_met head b s word marks at h
-          ∙ ap (λ (t : Bool). if t then met (with_scan scans.Word (wider b r)) (taken acts.Nothing) else escape_rest b p)
-          (ap (λ (w : List ℕ). nat_lt (length w) 30) at.word_is ∙ room word l)
-          ∙ ap (λ (ws : List ℕ). met (with_scan scans.Word (wider b (record p { word = ws }))) (taken acts.Nothing)) (append_assoc p.word (code "\\" ∷ []) (b ∷ []))
-          ∙ ap (λ (v : Page). met v (taken acts.Nothing)) (wider_is (not (b == code "&")) (nat_lt p.call.width 9999) (keeping bytes p)))
+          (e
+          ∙ ap (λ (t : Bool). if t then met (widens q) (taken acts.Nothing) else keep_rest quoted p)
+          (ap (λ (w : List ℕ). nat_lt (length w) 30) at.word_is ∙ room word l))
           refl refl;
-      at = widened_at wide head s q scans.Word (word ++ bytes) marks (longer_from head s scans.Escape bytes word marks at);
+      at =
+          widened_in wide going head s q (in_word_of quoted) (word ++ c ∷ []) marks
+          (in_as going head s q scan (in_word_of quoted) word (word ++ c ∷ []) marks at refl (ap (λ (xs : List ℕ). xs ++ c ∷ []) at.word_is)
+          refl refl refl refl refl refl refl);
+      whole = whole_widened wide s.page q refl refl;
     }
 
--- ---- letters
+escape_rest : ℕ → Bool → Page → Met
+escape_rest c quoted p =
+    if is_shown p then turns (scans.Long (within_escape quoted)) (left acts.Nothing) p
+    else turns (in_word_of quoted) (taken acts.Nothing) (wider c p)
 
-pub some_more : (word bs : List ℕ) → is_none word ≡ false → is_none (word ++ bs) ≡ false
-some_more [] bs e = absurd (let no : true ≡ false = e in cc)
-some_more (x ∷ xs) bs e = grind (arith, nat_tests)
-
-shorter : (way : Way) (behind : Bool) (word : List ℕ) (l : Letter) (ls : List Letter) → length word + length (kept_in way behind (l ∷ ls)) ≤ 30 → length word < 30
-shorter way behind word l ls h =
-    let one : 1 ≤ length (kept_letter way behind l) = letter_some way behind l in
-    let rest = kept_in way (is_hyphen l) ls in
-    let all : length (kept_in way behind (l ∷ ls)) ≡ length (kept_letter way behind l) + length rest = length-append (kept_letter way behind l) rest in
-    omega arith
-
-shorter_then : (way : Way) (behind : Bool) (word : List ℕ) (l : Letter) (ls : List Letter) → length word + length (kept_in way behind (l ∷ ls)) ≤ 30
-    → length (word ++ kept_letter way behind l) + length (kept_in way (is_hyphen l) ls) ≤ 30
-shorter_then way behind word l ls h =
-    let rest = kept_in way (is_hyphen l) ls in
-    let all : length (kept_in way behind (l ∷ ls)) ≡ length (kept_letter way behind l) + length rest = length-append (kept_letter way behind l) rest in
-    let long : length (word ++ kept_letter way behind l) ≡ length word + length (kept_letter way behind l) = length-append word (kept_letter way behind l) in
-    omega arith
-
--- the first byte of a word
-first_at : (t : Bool) (b : ℕ) (head : Head) (s : State) (marks : List ℕ)
-    → At head s scans.Word (if t && false then codes "\\-" else b ∷ []) marks → At head s scans.Word (b ∷ []) marks
-first_at true b head s marks at = at
-first_at false b head s marks at = at
-
--- an escape is read
-read_escape : (b : ℕ) (head : Head) (s : State) (word marks : List ℕ) → At head s scans.Word word marks → is_escaped b ≡ true → length word < 30
-    → Read head s (code "\\" ∷ b ∷ []) scans.Word (word ++ code "\\" ∷ b ∷ []) marks
-read_escape b head s word marks at h l =
-    let slash = kept_slash head s word marks at in
-    let one = kept_escape head b slash.next word marks slash.at h l in
-    record {
-      next = one.next;
-      said = λ rest.
-          next-words (code "\\") (b ∷ rest) s slash.next 1 [] _ one_enough slash.takes refl
-          ∙ next-words b rest slash.next one.next 1 [] _ one_enough one.takes refl;
-      state =
-          next-state (code "\\") (b ∷ []) s slash.next 1 [] one_enough slash.takes
-          ∙ next-state b [] slash.next one.next 1 [] one_enough one.takes;
-      at = one.at;
-    }
-
--- a letter is read behind others
-read_letter : (behind : Bool) (l : Letter) (head : Head) (s : State) (word marks : List ℕ) → At head s scans.Word word marks → is_none word ≡ false
-    → ends_in_hyphen word ≡ behind → is_letter l ≡ true → length word < 30
-    → Read head s (bytes_of l) scans.Word (word ++ kept_letter head.way behind l) marks
-unfolding is_kept_so
-read_letter behind (Plain b) head s word marks at none hyphen h l =
-    let one = kept_by (b == code "-") false (not (hyphens_stay head.way) || behind) head b s word marks at h l refl none
-    (ap (λ (t : Bool). not (hyphens_stay head.way) || t) hyphen) in
-    record {
-      next = one.next;
-      said = λ rest. next-words b rest s one.next 1 [] _ one_enough one.takes refl;
-      state = next-state b [] s one.next 1 [] one_enough one.takes;
-      at = one.at;
-    }
-read_letter behind (Escape b) head s word marks at none hyphen h l = read_escape b head s word marks at h l
-
-read_more : (behind : Bool) (ls : List Letter) (head : Head) (s : State) (word marks : List ℕ) → At head s scans.Word word marks → is_none word ≡ false
-    → ends_in_hyphen word ≡ behind → are_letters ls ≡ true → length word + length (kept_in head.way behind ls) ≤ 30
-    → Read head s (written ls) scans.Word (word ++ kept_in head.way behind ls) marks
-read_more behind [] head s word marks at none hyphen h l =
-    record { next = s; said = λ rest. refl; state = refl; at = word_at head s scans.Word word (word ++ []) marks (sym (append-nil word)) at }
-read_more behind (c ∷ cs) head s word marks at none hyphen h l =
-    let way = head.way in
-    let letter = kept_letter way behind c in
-    let one = read_letter behind c head s word marks at none hyphen (and_left (is_letter c) (are_letters cs) h) (shorter way behind word c cs l) in
-    let later = read_more (is_hyphen c) cs head one.next (word ++ letter) marks one.at (some_more word letter none) (letter_last way behind c word)
-    (and_right (is_letter c) (are_letters cs) h) (shorter_then way behind word c cs l) in
-    record {
-      next = later.next;
-      said = λ rest.
-          ap (λ (xs : List ℕ). words_of (parts_of s xs)) (append_assoc (bytes_of c) (written cs) rest)
-          ∙ one.said (written cs ++ rest) ∙ later.said rest;
-      state = after-append s (bytes_of c) (written cs) ∙ ap (λ (t : State). after t (written cs)) one.state ∙ later.state;
-      at = word_at head later.next scans.Word ((word ++ letter) ++ kept_in way (is_hyphen c) cs) (word ++ kept_in way behind (c ∷ cs)) marks
-          (append_assoc word letter (kept_in way (is_hyphen c) cs)) later.at;
-    }
-
--- ---- a word begins
-
-unfoldable pub between_by : Bool → Bool → Bool → Bool → Bool → Page → Met
-between_by comment blank tab newline quote p =
-    if comment then met (with_scan scans.Dropped p) (left acts.Nothing) else
-    if blank then met p (taken acts.Nothing) else
-    if tab then met p (taken acts.Cell) else
-    if newline then met (with_scan scans.Ends p) (left acts.Nothing) else
-    if quote then word_begins scans.Quoted (taken acts.Nothing) p else word_begins scans.Word (left acts.Nothing) p
-
-between_is : (b : ℕ) (p : Page)
-    → between b p ≡ between_by p.call.comment (b == code " ") (b == code "\t") (b == code "\n") (b == code "\"") p
-unfolding between_by
-between_is b p = refl
-
-pub between_met : (head : Head) (b : ℕ) (s : State) (word marks : List ℕ) → At head s scans.Between word marks
-    → meet b s.page ≡ between_by false (b == code " ") (b == code "\t") (b == code "\n") (b == code "\"") s.page
-unfolding meet
-between_met head b s word marks at =
-    ap (λ (sc : Scan). meet_at sc b s.page) at.scan_is ∙ between_is b s.page
-    ∙ ap (λ (t : Bool). between_by t (b == code " ") (b == code "\t") (b == code "\n") (b == code "\"") s.page) at.comment
-
-pub not_of : (t : Bool) → t ≡ false → not t ≡ true
-not_of t e = ap not e
-
-begun : Page → Page
-begun p = with_scan scans.Word (record p { word = []; call = record p.call { width = 0 } })
-
-begun_leads : (head : Head) (b : ℕ) (s : State) (word marks : List ℕ) → At head s scans.Between word marks → ends_word b ≡ false
-    → (b == code "\"") ≡ false → Leads b s (with_page (begun s.page) s) 1 []
-unfolding between_by begun said lay_out
-begun_leads head b s word marks at no_end quote =
+kept_escape : (going quoted : Bool) (head : Head) (b c : ℕ) (s : State) (scan : Scan) (word marks : List ℕ) → In going head s scan word marks → length word < 30
+    → meet b s.page ≡ keep_escape c quoted s.page → Kept going head b s (in_word_of quoted) (word ++ code "\\" ∷ c ∷ []) marks
+unfolding said lay_out widened escape_rest
+kept_escape going quoted head b c s scan word marks at l e =
     let p = s.page in
-    let blank_or = (b == code " ") || (b == code "\t") in
-    let other = not_of (ends_word b) no_end in
-    let no_blank = not_of blank_or (or_left blank_or (b == code "\n") other) in
-    leads_by b s (begun p) (begun p) acts.Nothing acts.Nothing acts.Nothing []
-    (between_met head b s word marks at
-    ∙ ap (λ (t : Bool). between_by false t (b == code "\t") (b == code "\n") (b == code "\"") p) (or_left (b == code " ") (b == code "\t") no_blank)
-    ∙ ap (λ (t : Bool). between_by false false t (b == code "\n") (b == code "\"") p) (or_right (b == code " ") (b == code "\t") no_blank)
-    ∙ ap (λ (t : Bool). between_by false false false t (b == code "\"") p) (or_right blank_or (b == code "\n") other)
-    ∙ ap (λ (t : Bool). between_by false false false false t p) quote)
-    refl refl
-
-begun_at : (head : Head) (s : State) (word marks : List ℕ) → At head s scans.Between word marks → At head (with_page (begun s.page) s) scans.Word [] marks
-unfolding begun
-begun_at head s word marks at = record {
-  scan_is = refl;
-  word_is = refl;
-  marks_are = at.marks_are;
-  few = at.few;
-  going = at.going;
-  comment = at.comment;
-  line = at.line;
-  fits = at.fits;
-  way = at.way;
-  free = at.free;
-}
-
-two_enough : 1 + 1 ≤ 16
-two_enough = omega arith
-
--- the first letter is read
-read_first : (l : Letter) (head : Head) (s : State) (word marks : List ℕ) → At head s scans.Between word marks → is_letter l ≡ true
-    → Read head s (bytes_of l) scans.Word (bytes_of l) marks
-read_first (Plain b) head s word marks at h =
-    let t = with_page (begun s.page) s in
-    let one = kept_by (b == code "-") true (is_kept_so head.way []) head b t [] marks (begun_at head s word marks at) h (omega arith) refl refl refl in
+    let bytes = code "\\" ∷ c ∷ [] in
+    let here = in_word_of quoted in
+    let q = with_scan here (keeping bytes p) in
+    let r = keeping (c ∷ []) (keeping (code "\\" ∷ []) p) in
+    let wide = not (c == code "&") && nat_lt p.call.width 9999 in
     record {
-      next = one.next;
-      said = λ rest.
-          next-words b rest s one.next (1 + 1) [] _ two_enough
-          (then_takes b s t one.next 1 1 [] [] (begun_leads head b s word marks at (not_ending b h) (no_quote b h)) one.takes) refl;
-      state =
-          next-state b [] s one.next (1 + 1) [] two_enough
-          (then_takes b s t one.next 1 1 [] [] (begun_leads head b s word marks at (not_ending b h) (no_quote b h)) one.takes);
-      at = first_at (b == code "-") b head one.next marks one.at;
+      next = with_page (widened wide q) s;
+      takes =
+          takes_by b s (widened wide q) (widened wide q) acts.Nothing acts.Nothing acts.Nothing []
+          (e
+          ∙ ap (λ (t : Bool). if t then met (with_scan here (wider c r)) (taken acts.Nothing) else escape_rest c quoted p)
+          (ap (λ (w : List ℕ). nat_lt (length w) 30) at.word_is ∙ room word l)
+          ∙ ap (λ (ws : List ℕ). met (with_scan here (wider c (record p { word = ws }))) (taken acts.Nothing)) (append_assoc p.word (code "\\" ∷ []) (c ∷ []))
+          ∙ ap (λ (v : Page). met v (taken acts.Nothing)) (wider_is here (not (c == code "&")) (nat_lt p.call.width 9999) (keeping bytes p)))
+          refl refl;
+      at =
+          widened_in wide going head s q here (word ++ bytes) marks
+          (in_as going head s q scan here word (word ++ bytes) marks at refl (ap (λ (xs : List ℕ). xs ++ bytes) at.word_is)
+          refl refl refl refl refl refl refl);
+      whole = whole_widened wide s.page q refl refl;
     }
-read_first (Escape b) head s word marks at h =
-    let slash = code "\\" in
-    let t = with_page (begun s.page) s in
-    let two = kept_slash head t [] marks (begun_at head s word marks at) in
-    let one = kept_escape head b two.next [] marks two.at h (omega arith) in
+
+-- ---- a byte has no room
+
+shown : (going : Bool) (head : Head) (s : State) (scan : Scan) (word marks : List ℕ) → In going head s scan word marks → is_shown s.page ≡ true
+shown going head s scan word marks at =
+    ap (λ (t : Bool). not t || is_heading s.page.call.taker) (plain_reads s.page.call.taker at.fits)
+
+full_plain : (going quoted : Bool) (head : Head) (b c : ℕ) (s : State) (scan : Scan) (word marks : List ℕ) → In going head s scan word marks → 30 ≤ length word
+    → meet b s.page ≡ keep c quoted (with_scan (in_word_of quoted) s.page)
+    → meet b s.page ≡ met (with_scan (scans.Long (within quoted)) s.page) (left acts.Nothing)
+unfolding keep_rest
+full_plain going quoted head b c s scan word marks at l e =
+    let p = with_scan (in_word_of quoted) s.page in
+    e
+    ∙ ap (λ (t : Bool). if t then met (widens (keeping (c ∷ []) p)) (taken acts.Nothing) else keep_rest quoted p)
+    (ap (λ (w : List ℕ). nat_lt (length w) 30) at.word_is ∙ no_room word l)
+    ∙ ap (λ (t : Bool). if t then turns (scans.Long (within quoted)) (left acts.Nothing) p else met (widens p) (taken acts.Nothing))
+    (shown going head s scan word marks at)
+
+full_escape : (going quoted : Bool) (head : Head) (b c : ℕ) (s : State) (scan : Scan) (word marks : List ℕ) → In going head s scan word marks → 30 ≤ length word
+    → meet b s.page ≡ keep_escape c quoted s.page
+    → meet b s.page ≡ met (with_scan (scans.Long (within_escape quoted)) s.page) (left acts.Nothing)
+unfolding escape_rest
+full_escape going quoted head b c s scan word marks at l e =
+    let p = s.page in
+    let r = keeping (c ∷ []) (keeping (code "\\" ∷ []) p) in
+    e
+    ∙ ap (λ (t : Bool). if t then met (with_scan (in_word_of quoted) (wider c r)) (taken acts.Nothing) else escape_rest c quoted p)
+    (ap (λ (w : List ℕ). nat_lt (length w) 30) at.word_is ∙ no_room word l)
+    ∙ ap (λ (t : Bool). if t then turns (scans.Long (within_escape quoted)) (left acts.Nothing) p else turns (in_word_of quoted) (taken acts.Nothing) (wider c p))
+    (shown going head s scan word marks at)
+
+-- ---- a byte is kept
+
+-- in a few meetings it is taken, and these bytes are kept of it, behind those of the word, or alone where those went out
+pub record Grown (going : Bool) (head : Head) (b : ℕ) (s : State) (scan : Scan) (word marks piece : List ℕ) : Type 0 where
+  pub out : Bool
+  pub next : State
+  pub steps : ℕ
+  pub few : steps ≤ 6
+  pub takes : Takes b s next steps (if out then marks ++ word else [])
+  pub at : In (out || going) head next scan (if out then piece else word ++ piece) (if out then [] else marks)
+  pub whole : is_whole next.page ≡ is_whole s.page
+  pub long : out ≡ true → 30 ≤ length word
+
+takes_as : (b : ℕ) (s t : State) (k : ℕ) (xs ys : List ℕ) → xs ≡ ys → Takes b s t k xs → Takes b s t k ys
+takes_as b s t k xs ys e p = subst (λ (zs : List ℕ). Takes b s t k zs) e p
+
+six : (k : ℕ) → k ≤ 5 → k + 1 ≤ 6
+six k l = omega arith
+
+never_out : (n : ℕ) → false ≡ true → 30 ≤ n
+never_out n e = absurd (let no : false ≡ true = e in cc)
+
+grown_by : (t : Bool) (going : Bool) (inside : Inside) (head : Head) (b : ℕ) (s : State) (scan from : Scan) (word marks piece : List ℕ)
+    → nat_lt (length word) 30 ≡ t → In going head s from word marks → (going ≡ true → marks ≡ [])
+    → (length word < 30 → Kept going head b s scan (word ++ piece) marks)
+    → (30 ≤ length word → meet b s.page ≡ met (with_scan (scans.Long inside) s.page) (left acts.Nothing))
+    → ((f : Flushed head b s inside 5 (marks ++ word)) → Kept true head b f.next scan piece [])
+    → Grown going head b s scan word marks piece
+grown_by true going inside head b s scan from word marks piece e at none fits full then_kept =
+    let one = fits (grind (arith, nat_tests)) in
     record {
+      out = false;
       next = one.next;
-      said = λ rest.
-          next-words slash (b ∷ rest) s two.next (1 + 1) [] _ two_enough
-          (then_takes slash s t two.next 1 1 [] [] (begun_leads head slash s word marks at refl refl) two.takes) refl
-          ∙ next-words b rest two.next one.next 1 [] _ one_enough one.takes refl;
-      state =
-          next-state slash (b ∷ []) s two.next (1 + 1) [] two_enough
-          (then_takes slash s t two.next 1 1 [] [] (begun_leads head slash s word marks at refl refl) two.takes)
-          ∙ next-state b [] two.next one.next 1 [] one_enough one.takes;
+      steps = 1;
+      few = omega arith;
+      takes = one.takes;
       at = one.at;
+      whole = one.whole;
+      long = never_out (length word);
     }
-
-first_some : (l : Letter) → is_none (bytes_of l) ≡ false
-first_some (Plain b) = refl
-first_some (Escape b) = refl
-
-first_room : (way : Way) (l : Letter) (ls : List Letter) → length (kept way (l ∷ ls)) ≤ 30 → length (bytes_of l) + length (kept_in way (is_hyphen l) ls) ≤ 30
-first_room way l ls h =
-    let rest = kept_in way (is_hyphen l) ls in
-    let all : length (kept way (l ∷ ls)) ≡ length (bytes_of l) + length rest = length-append (bytes_of l) rest in
-    omega arith
-
--- a word is read
-pub read_word : (l : Letter) (ls : List Letter) (head : Head) (s : State) (word marks : List ℕ) → At head s scans.Between word marks
-    → are_letters (l ∷ ls) ≡ true → length (kept head.way (l ∷ ls)) ≤ 30 → Read head s (written (l ∷ ls)) scans.Word (kept head.way (l ∷ ls)) marks
-read_word l ls head s word marks at h few =
-    let one = read_first l head s word marks at (and_left (is_letter l) (are_letters ls) h) in
-    let later = read_more (is_hyphen l) ls head one.next (bytes_of l) marks one.at (first_some l) (first_last l)
-    (and_right (is_letter l) (are_letters ls) h) (first_room head.way l ls few) in
+grown_by false going inside head b s scan from word marks piece e at none fits full then_kept =
+    let long : 30 ≤ length word = grind (arith, nat_tests) in
+    let f = flushed going inside head b s from word marks at none long (full long) in
+    let one = then_kept f in
     record {
-      next = later.next;
-      said = λ rest.
-          ap (λ (xs : List ℕ). words_of (parts_of s xs)) (append_assoc (bytes_of l) (written ls) rest)
-          ∙ one.said (written ls ++ rest) ∙ later.said rest;
-      state = after-append s (bytes_of l) (written ls) ∙ ap (λ (t : State). after t (written ls)) one.state ∙ later.state;
-      at = later.at;
+      out = true;
+      next = one.next;
+      steps = f.steps + 1;
+      few = six f.steps f.few;
+      takes =
+          takes_as b s one.next (f.steps + 1) ((marks ++ word) ++ []) (marks ++ word) (append-nil (marks ++ word))
+          (then_takes b s f.next one.next f.steps 1 (marks ++ word) [] f.leads one.takes);
+      at = one.at;
+      whole = one.whole ∙ f.whole;
+      long = λ h. long;
     }
+
+-- ---- what it meets
+
+in_rest : Bool → Bool → ℕ → Page → Met
+in_rest quoted blank b p = if blank then keep_blank p else keep_byte b quoted p
+
+rest_by : Bool → Bool → Bool → ℕ → Page → Met
+rest_by quote newline slash b p =
+    if quote then turns scans.Closing (taken acts.Nothing) p else
+    if newline then turns (scans.Given true) (left acts.Nothing) p else
+    if slash then turns scans.QuotedEscape (taken acts.Nothing) p else in_rest true ((b == code " ") && is_whole p) b p
+
+-- a byte of a word is kept as it is, or as an escape
+plain_met : (quoted going whole : Bool) (head : Head) (b : ℕ) (s : State) (word marks : List ℕ) → In going head s (in_word_of quoted) word marks
+    → (quoted && is_whole s.page) ≡ whole → is_letter quoted (Plain b) ≡ true → (quoted && (b == code "\"")) ≡ false
+    → meet b s.page ≡ in_rest quoted ((b == code " ") && whole) b s.page
+unfolding meet in_rest rest_by
+plain_met false going whole head b s word marks at together h quote =
+    let p = s.page in
+    ap (λ (sc : Scan). meet_at sc b p) at.scan_is
+    ∙ ap (λ (t : Bool). if t then met (with_scan (scans.Given false) p) (left acts.Nothing) else if b == code "\\" then met (with_scan scans.Escape p) (taken acts.Nothing) else keep_byte b false p) (not_ending b h)
+    ∙ ap (λ (t : Bool). if t then met (with_scan scans.Escape p) (taken acts.Nothing) else keep_byte b false p) (no_escape b h)
+    ∙ ap (λ (t : Bool). in_rest false t b p) (sym (and_false (b == code " ") false refl))
+    ∙ ap (λ (t : Bool). in_rest false ((b == code " ") && t) b p) together
+plain_met true going whole head b s word marks at together h quote =
+    let p = s.page in
+    ap (λ (sc : Scan). meet_at sc b p) at.scan_is
+    ∙ ap (λ (t : Bool). rest_by t (b == code "\n") (b == code "\\") b p) quote
+    ∙ ap (λ (t : Bool). rest_by false t (b == code "\\") b p) (no_end b h)
+    ∙ ap (λ (t : Bool). rest_by false false t b p) (quotable_slash b h)
+    ∙ ap (λ (t : Bool). in_rest true ((b == code " ") && t) b p) together
+
+-- whether a hyphen behind these bytes of a word is kept as an escape
+is_kept_so : Way → List ℕ → Bool
+is_kept_so way word = not (hyphens_stay way) || ends_in_hyphen word
+
+byte_rest : Bool → Bool → ℕ → Page → Met
+byte_rest quoted escape b p = if escape then keep_escape b quoted p else keep b quoted p
+
+byte_met : (quoted going : Bool) (head : Head) (b : ℕ) (s : State) (scan : Scan) (word marks : List ℕ) (u v : Bool) → In going head s scan word marks
+    → is_none word ≡ u → is_kept_so head.way word ≡ v
+    → keep_byte b quoted s.page ≡ byte_rest quoted ((b == code "-") && not u && v) b s.page
+unfolding byte_rest is_kept_so
+byte_met quoted going head b s scan word marks u v at none so =
+    let p = s.page in
+    let m = p.call.taker in
+    ap (λ (w : List ℕ). byte_rest quoted ((b == code "-") && not (is_none w) && (not (looks_up m) || (has_dashes m && ends_in_hyphen w))) b p) at.word_is
+    ∙ ap (λ (t : Bool). byte_rest quoted ((b == code "-") && not t && (not (looks_up m) || (has_dashes m && ends_in_hyphen word))) b p) none
+    ∙ ap (λ (t : Bool). byte_rest quoted ((b == code "-") && not u && t) b p)
+    (plain_hyphen m (ends_in_hyphen word) at.fits ∙ ap (λ (way : Way). not (hyphens_stay way) || ends_in_hyphen word) at.way ∙ so)
+
+escape_met : (quoted going : Bool) (head : Head) (b : ℕ) (s : State) (word marks : List ℕ) → In going head s (goes_to (within_escape quoted)) word marks
+    → (b == code "\"") ≡ false → (b == code "\n") ≡ false → meet b s.page ≡ keep_escape b quoted s.page
+unfolding meet
+escape_met false going head b s word marks at quote newline =
+    let p = s.page in
+    ap (λ (sc : Scan). meet_at sc b p) at.scan_is
+    ∙ ap (λ (t : Bool). if t then comment false p else if b == code "\n" then continued false p else keep_escape b false p) quote
+    ∙ ap (λ (t : Bool). if t then continued false p else keep_escape b false p) newline
+escape_met true going head b s word marks at quote newline =
+    let p = s.page in
+    ap (λ (sc : Scan). meet_at sc b p) at.scan_is
+    ∙ ap (λ (t : Bool). if t then comment true p else if b == code "\n" then continued true p else keep_escape b true p) quote
+    ∙ ap (λ (t : Bool). if t then continued true p else keep_escape b true p) newline
+
+-- ---- by what it is
+
+goes_within : (quoted : Bool) → goes_to (within quoted) ≡ in_word_of quoted
+goes_within true = refl
+goes_within false = refl
+
+within_at : (quoted : Bool) (head : Head) (s : State) → In true head s (goes_to (within quoted)) [] [] → In true head s (in_word_of quoted) [] []
+within_at quoted head s at = subst (λ (sc : Scan). In true head s sc [] []) (goes_within quoted) at
+
+plain_scan : (quoted going : Bool) (head : Head) (b : ℕ) (s : State) (word marks : List ℕ) → In going head s (in_word_of quoted) word marks
+    → meet b s.page ≡ keep b quoted s.page → meet b s.page ≡ keep b quoted (with_scan (in_word_of quoted) s.page)
+plain_scan quoted going head b s word marks at e = e ∙ ap (λ (p : Page). keep b quoted p) (scan_same s.page (in_word_of quoted) at.scan_is)
+
+-- a byte that is kept as it is, where it would be so as the first of a word
+grown_plain : (quoted going : Bool) (head : Head) (b : ℕ) (s : State) (word marks : List ℕ) → In going head s (in_word_of quoted) word marks
+    → (going ≡ true → marks ≡ []) → meet b s.page ≡ keep b quoted s.page
+    → ((t : State) → In true head t (in_word_of quoted) [] [] → is_whole t.page ≡ is_whole s.page → meet b t.page ≡ keep b quoted t.page)
+    → Grown going head b s (in_word_of quoted) word marks (b ∷ [])
+grown_plain quoted going head b s word marks at none e again =
+    grown_by (nat_lt (length word) 30) going (within quoted) head b s (in_word_of quoted) (in_word_of quoted) word marks (b ∷ []) refl at none
+    (λ l. kept_plain going quoted head b b s (in_word_of quoted) word marks at l (plain_scan quoted going head b s word marks at e))
+    (λ l. full_plain going quoted head b b s (in_word_of quoted) word marks at l (plain_scan quoted going head b s word marks at e))
+    (λ f.
+    let t = within_at quoted head f.next f.at in
+    kept_plain true quoted head b b f.next (in_word_of quoted) [] [] t (omega arith)
+    (plain_scan quoted true head b f.next [] [] t (again f.next t f.whole)))
+
+-- a byte that is kept as an escape
+grown_escape : (quoted going : Bool) (head : Head) (b : ℕ) (s : State) (scan : Scan) (word marks : List ℕ) → In going head s scan word marks
+    → (going ≡ true → marks ≡ []) → meet b s.page ≡ keep_escape b quoted s.page → (b == code "\"") ≡ false → (b == code "\n") ≡ false
+    → Grown going head b s (in_word_of quoted) word marks (code "\\" ∷ b ∷ [])
+grown_escape quoted going head b s scan word marks at none e quote newline =
+    grown_by (nat_lt (length word) 30) going (within_escape quoted) head b s (in_word_of quoted) scan word marks (code "\\" ∷ b ∷ []) refl at none
+    (λ l. kept_escape going quoted head b b s scan word marks at l e)
+    (λ l. full_escape going quoted head b b s scan word marks at l e)
+    (λ f.
+    kept_escape true quoted head b b f.next (goes_to (within_escape quoted)) [] [] f.at (omega arith)
+    (escape_met quoted true head b f.next [] [] f.at quote newline))
+
+-- a blank that stays with others, between quotes
+blank_met : (going : Bool) (head : Head) (b : ℕ) (s : State) (word marks : List ℕ) → In going head s scans.Quoted word marks → is_whole s.page ≡ true
+    → b ≡ code " " → meet b s.page ≡ keep_blank s.page
+unfolding meet in_rest rest_by
+blank_met going head b s word marks at whole e =
+    let p = s.page in
+    ap (λ (k : ℕ). meet k p) e ∙ ap (λ (sc : Scan). meet_at sc (code " ") p) at.scan_is
+    ∙ ap (λ (t : Bool). in_rest true t (code " ") p) whole
+
+blank_rest : Page → Met
+blank_rest p = turns (scans.Long insides.Quoted) (left acts.Nothing) p
+
+blank_room : (going : Bool) (head : Head) (b : ℕ) (s : State) (word marks : List ℕ) → In going head s scans.Quoted word marks → length word < 30
+    → meet b s.page ≡ keep_blank s.page → meet b s.page ≡ keep_escape (code "~") true s.page
+unfolding blank_rest
+blank_room going head b s word marks at l e =
+    let p = s.page in
+    e ∙ ap (λ (t : Bool). if t then keep_escape (code "~") true p else blank_rest p) (ap (λ (w : List ℕ). nat_lt (length w) 30) at.word_is ∙ room word l)
+
+blank_full : (going : Bool) (head : Head) (b : ℕ) (s : State) (word marks : List ℕ) → In going head s scans.Quoted word marks → 30 ≤ length word
+    → meet b s.page ≡ keep_blank s.page → meet b s.page ≡ met (with_scan (scans.Long insides.Quoted) s.page) (left acts.Nothing)
+unfolding blank_rest
+blank_full going head b s word marks at l e =
+    let p = s.page in
+    e ∙ ap (λ (t : Bool). if t then keep_escape (code "~") true p else blank_rest p) (ap (λ (w : List ℕ). nat_lt (length w) 30) at.word_is ∙ no_room word l)
+
+grown_blank : (going : Bool) (head : Head) (b : ℕ) (s : State) (word marks : List ℕ) → In going head s scans.Quoted word marks
+    → (going ≡ true → marks ≡ []) → is_whole s.page ≡ true → b ≡ code " " → Grown going head b s scans.Quoted word marks (codes "\\~")
+grown_blank going head b s word marks at none whole e =
+    let here = blank_met going head b s word marks at whole e in
+    grown_by (nat_lt (length word) 30) going insides.Quoted head b s scans.Quoted scans.Quoted word marks (codes "\\~") refl at none
+    (λ l. kept_escape going true head b (code "~") s scans.Quoted word marks at l (blank_room going head b s word marks at l here))
+    (λ l. blank_full going head b s word marks at l here)
+    (λ f.
+    kept_escape true true head b (code "~") f.next scans.Quoted [] [] f.at (omega arith)
+    (blank_room true head b f.next [] [] f.at (omega arith) (blank_met true head b f.next [] [] f.at (f.whole ∙ whole) e)))
+
+-- a quote between quotes, behind a quote
+quote_met : (going : Bool) (head : Head) (s : State) (word marks : List ℕ) → In going head s scans.Closing word marks
+    → meet (code "\"") s.page ≡ keep_quote s.page
+unfolding meet
+quote_met going head s word marks at = ap (λ (sc : Scan). meet_at sc (code "\"") s.page) at.scan_is
+
+quote_rest : Bool → Page → Met
+quote_rest full p = if full then turns (scans.Long insides.Closing) (left acts.Nothing) p else keep (code "\"") true (with_scan scans.Quoted p)
+
+quote_room : (going : Bool) (head : Head) (s : State) (word marks : List ℕ) → In going head s scans.Closing word marks → length word < 30
+    → meet (code "\"") s.page ≡ keep (code "\"") true (with_scan scans.Quoted s.page)
+unfolding quote_rest
+quote_room going head s word marks at l =
+    let p = s.page in
+    quote_met going head s word marks at
+    ∙ ap (λ (t : Bool). quote_rest (not t && is_shown p) p) (ap (λ (w : List ℕ). nat_lt (length w) 30) at.word_is ∙ room word l)
+
+quote_full : (going : Bool) (head : Head) (s : State) (word marks : List ℕ) → In going head s scans.Closing word marks → 30 ≤ length word
+    → meet (code "\"") s.page ≡ met (with_scan (scans.Long insides.Closing) s.page) (left acts.Nothing)
+unfolding quote_rest
+quote_full going head s word marks at l =
+    let p = s.page in
+    quote_met going head s word marks at
+    ∙ ap (λ (t : Bool). quote_rest (not t && is_shown p) p) (ap (λ (w : List ℕ). nat_lt (length w) 30) at.word_is ∙ no_room word l)
+    ∙ ap (λ (t : Bool). quote_rest t p) (shown going head s scans.Closing word marks at)
+
+pub grown_quote : (going : Bool) (head : Head) (s : State) (word marks : List ℕ) → In going head s scans.Closing word marks
+    → (going ≡ true → marks ≡ []) → Grown going head (code "\"") s scans.Quoted word marks (codes "\"")
+grown_quote going head s word marks at none =
+    grown_by (nat_lt (length word) 30) going insides.Closing head (code "\"") s scans.Quoted scans.Closing word marks (codes "\"") refl at none
+    (λ l. kept_plain going true head (code "\"") (code "\"") s scans.Closing word marks at l (quote_room going head s word marks at l))
+    (λ l. quote_full going head s word marks at l)
+    (λ f.
+    kept_plain true true head (code "\"") (code "\"") f.next scans.Closing [] [] f.at (omega arith)
+    (quote_room true head f.next [] [] f.at (omega arith)))
+
+-- behind a backslash
+pub grown_escaped : (quoted going : Bool) (head : Head) (b : ℕ) (s : State) (word marks : List ℕ) → In going head s (goes_to (within_escape quoted)) word marks
+    → (going ≡ true → marks ≡ []) → is_escaped b ≡ true → Grown going head b s (in_word_of quoted) word marks (code "\\" ∷ b ∷ [])
+grown_escaped quoted going head b s word marks at none h =
+    grown_escape quoted going head b s (goes_to (within_escape quoted)) word marks at none
+    (escape_met quoted going head b s word marks at (no_comment b h) (no_newline b h)) (no_comment b h) (no_newline b h)
+
+no_first : (t v : Bool) → (t && not true && v) ≡ false
+no_first true v = refl
+no_first false v = refl
+
+held_is : (t v : Bool) → (t && not false && v) ≡ (t && v)
+held_is true v = refl
+held_is false v = refl
+
+-- a byte as it is: a blank that stays with others, a hyphen that is kept as an escape, or another
+grown_as : (t y : Bool) (quoted going whole : Bool) (head : Head) (b : ℕ) (s : State) (word marks : List ℕ) (u v : Bool) → In going head s (in_word_of quoted) word marks
+    → (going ≡ true → marks ≡ []) → (quoted && is_whole s.page) ≡ whole → is_letter quoted (Plain b) ≡ true → (quoted && (b == code "\"")) ≡ false
+    → is_none word ≡ u → is_kept_so head.way word ≡ v → ((b == code " ") && whole) ≡ t → ((b == code "-") && not u && v) ≡ y
+    → Grown going head b s (in_word_of quoted) word marks (if t then codes "\\~" else if y then codes "\\-" else b ∷ [])
+unfolding in_rest byte_rest
+grown_as true y true going whole head b s word marks u v at none together h quote is_first so blank hyphen =
+    grown_blank going head b s word marks at none (together ∙ and_right (b == code " ") whole blank)
+    (sym (same_byte b (code " ") (and_left (b == code " ") whole blank)))
+grown_as true y false going whole head b s word marks u v at none together h quote is_first so blank hyphen =
+    absurd (let no : false ≡ true = together ∙ and_right (b == code " ") whole blank in cc)
+grown_as false true quoted going whole head b s word marks u v at none together h quote is_first so blank hyphen =
+    let is = same_byte b (code "-") (and_left (b == code "-") (not u) (and_left ((b == code "-") && not u) v hyphen)) in
+    subst (λ (k : ℕ). Grown going head b s (in_word_of quoted) word marks (code "\\" ∷ k ∷ [])) (sym is)
+    (grown_escape quoted going head b s (in_word_of quoted) word marks at none
+    (plain_met quoted going whole head b s word marks at together h quote ∙ ap (λ (t : Bool). in_rest quoted t b s.page) blank
+    ∙ byte_met quoted going head b s (in_word_of quoted) word marks u v at is_first so
+    ∙ ap (λ (t : Bool). byte_rest quoted t b s.page) hyphen)
+    (ap (λ (k : ℕ). k == code "\"") (sym is)) (ap (λ (k : ℕ). k == code "\n") (sym is)))
+grown_as false false quoted going whole head b s word marks u v at none together h quote is_first so blank hyphen =
+    grown_plain quoted going head b s word marks at none
+    (plain_met quoted going whole head b s word marks at together h quote ∙ ap (λ (t : Bool). in_rest quoted t b s.page) blank
+    ∙ byte_met quoted going head b s (in_word_of quoted) word marks u v at is_first so
+    ∙ ap (λ (t : Bool). byte_rest quoted t b s.page) hyphen)
+    (λ t at2 same.
+    plain_met quoted true whole head b t [] [] at2 (ap (λ (x : Bool). quoted && x) same ∙ together) h quote
+    ∙ ap (λ (x : Bool). in_rest quoted x b t.page) blank
+    ∙ byte_met quoted true head b t (in_word_of quoted) [] [] true (is_kept_so head.way []) at2 refl refl
+    ∙ ap (λ (x : Bool). byte_rest quoted x b t.page) (no_first (b == code "-") (is_kept_so head.way [])))
+
+-- behind others
+pub grown_behind : (behind quoted going whole : Bool) (head : Head) (b : ℕ) (s : State) (word marks : List ℕ) → In going head s (in_word_of quoted) word marks
+    → (going ≡ true → marks ≡ []) → (quoted && is_whole s.page) ≡ whole → is_letter quoted (Plain b) ≡ true → (quoted && (b == code "\"")) ≡ false
+    → is_none word ≡ false → ends_in_hyphen word ≡ behind → Grown going head b s (in_word_of quoted) word marks (kept_letter head.way whole behind (Plain b))
+unfolding is_kept_so
+grown_behind behind quoted going whole head b s word marks at none together h quote some hyphen =
+    let v = not (hyphens_stay head.way) || behind in
+    grown_as ((b == code " ") && whole) (is_held head.way behind b) quoted going whole head b s word marks false v at none together h quote some
+    (ap (λ (t : Bool). not (hyphens_stay head.way) || t) hyphen) refl (held_is (b == code "-") v)
+
+-- as the first
+pub grown_first : (quoted going whole : Bool) (head : Head) (b : ℕ) (s : State) (word marks : List ℕ) → In going head s (in_word_of quoted) word marks
+    → (going ≡ true → marks ≡ []) → (quoted && is_whole s.page) ≡ whole → is_letter quoted (Plain b) ≡ true → (quoted && (b == code "\"")) ≡ false
+    → is_none word ≡ true → Grown going head b s (in_word_of quoted) word marks (kept_first whole (Plain b))
+grown_first quoted going whole head b s word marks at none together h quote first =
+    grown_as ((b == code " ") && whole) false quoted going whole head b s word marks true (is_kept_so head.way word) at none together h quote first refl refl
+    (no_first (b == code "-") (is_kept_so head.way word))

@@ -12,6 +12,7 @@ mod HeadingLines
 mod Hearing
 mod KeptWords
 mod LinesSaid
+mod LongWords
 mod MacroLines
 mod MarksHeld
 mod Meeting
@@ -19,13 +20,14 @@ mod OtherLines
 mod Outcomes
 mod PartLines
 mod QuotedLines
-mod QuotedWords
+mod ReadWords
 mod Reading
 mod Saying
 mod Stepping
 mod Steps
 mod Taken
 mod TextSaid
+mod Together
 mod Turning
 mod Unchanged
 mod Ways

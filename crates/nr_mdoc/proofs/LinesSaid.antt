@@ -140,7 +140,7 @@ body (CommentLine bs) = codes ".\\\"" ++ bs
 body (TextLine b bs) = b ∷ bs
 body (HeadingLine b bs ws) = codes ".Sh " ++ (b ∷ bs) ++ behind_each ws
 body (MacroLine name ws) = codes "." ++ name ++ behind_each ws
-body (AskingLine name rest) = codes "." ++ name ++ written rest
+body (AskingLine name rest) = codes "." ++ name ++ written false rest
 
 body_written : (l : Line) → written_line l ≡ body l ++ codes "\n"
 body_written EmptyLine = refl

@@ -28,11 +28,12 @@ use Rattle.nr_mdoc.proofs.BlockEnds.{Begun, display_step, list_step}
 use Rattle.nr_mdoc.proofs.PartLines.{book_step, part_step}
 use Rattle.nr_mdoc.proofs.Endings.{ends_quiet, Ended, line_ended}
 use Rattle.nr_mdoc.proofs.Escapes.{and_left, and_right, both, is_not}
-use Rattle.nr_mdoc.proofs.KeptWords.{not_ending, no_escape, not_of, between_by, between_met}
+use Rattle.nr_mdoc.proofs.KeptWords.{not_ending, no_escape, quotable_slash}
 use Rattle.nr_mdoc.proofs.Meeting.{with_page, Leads, Takes, then_takes, leads_by, takes_by}
 use Rattle.nr_mdoc.proofs.Outcomes.{never}
+use Rattle.nr_mdoc.proofs.ReadWords.{not_of, between_by, between_met}
 use Rattle.nr_mdoc.proofs.TextSaid.{next-words, or_left, or_right}
-use Rattle.nr_mdoc.proofs.Stepping.{At, Head, Stepped, out_step}
+use Rattle.nr_mdoc.proofs.Stepping.{At, In, Head, Stepped, in_as, out_step}
 use Rattle.nr_mdoc.proofs.WholeWords.{heads_plain}
 
 -- ---- between words
@@ -92,36 +93,28 @@ over head s word marks at h =
 unfoldable pub given : State → State
 given s = with_page (with_scan (scans.Given false) s.page) s
 
-pub given_at : (head : Head) (s : State) (word marks : List ℕ) → At head s scans.Word word marks → At head (given s) (scans.Given false) word marks
+pub given_at : (going : Bool) (head : Head) (s : State) (word marks : List ℕ) → In going head s scans.Word word marks
+    → In going head (given s) (scans.Given false) word marks
 unfolding given
-given_at head s word marks at = record {
-  scan_is = refl;
-  word_is = at.word_is;
-  marks_are = at.marks_are;
-  few = at.few;
-  going = at.going;
-  comment = at.comment;
-  line = at.line;
-  fits = at.fits;
-  way = at.way;
-  free = at.free;
-}
+given_at going head s word marks at =
+    in_as going head s (with_scan (scans.Given false) s.page) scans.Word (scans.Given false) word word marks at refl at.word_is refl refl refl refl refl refl refl
 
 in_word_rest : ℕ → Page → Met
 in_word_rest b p = if b == code "\\" then met (with_scan scans.Escape p) (taken acts.Nothing) else keep_byte b false p
 
-given_met : (head : Head) (b : ℕ) (s : State) (word marks : List ℕ) → At head s scans.Word word marks → ends_word b ≡ true
+given_met : (going : Bool) (head : Head) (b : ℕ) (s : State) (word marks : List ℕ) → In going head s scans.Word word marks → ends_word b ≡ true
     → meet b s.page ≡ met (with_scan (scans.Given false) s.page) (left acts.Nothing)
 unfolding meet in_word_rest
-given_met head b s word marks at e =
+given_met going head b s word marks at e =
     let p = s.page in
     ap (λ (sc : Scan). meet_at sc b p) at.scan_is ∙ ap (λ (t : Bool). if t then met (with_scan (scans.Given false) p) (left acts.Nothing) else in_word_rest b p) e
 
-pub given_leads : (head : Head) (b : ℕ) (s : State) (word marks : List ℕ) → At head s scans.Word word marks → ends_word b ≡ true → Leads b s (given s) 1 []
+pub given_leads : (going : Bool) (head : Head) (b : ℕ) (s : State) (word marks : List ℕ) → In going head s scans.Word word marks → ends_word b ≡ true
+    → Leads b s (given s) 1 []
 unfolding said lay_out given
-given_leads head b s word marks at e =
+given_leads going head b s word marks at e =
     leads_by b s (with_scan (scans.Given false) s.page) (with_scan (scans.Given false) s.page) acts.Nothing acts.Nothing acts.Nothing []
-    (given_met head b s word marks at e) refl refl
+    (given_met going head b s word marks at e) refl refl
 
 -- a blank ends a word: these bytes of words were said, and the line is read between words
 pub record Said (m : Head) (s : State) (all : List ℕ) : Type 0 where
@@ -142,27 +135,12 @@ sixteen j k l m = omega arith
 
 -- ---- the words of a line
 
-pub word_letters : (way : Way) (l : Letter) (ls : List Letter) → is_word way (l ∷ ls) ≡ true → are_letters (l ∷ ls) ≡ true
-word_letters way l ls h =
-    let word = kept way (l ∷ ls) in
-    and_left (are_letters (l ∷ ls)) (nat_le (length word) 30)
-    (and_left (are_letters (l ∷ ls) && nat_le (length word) 30) (none_or prints_words (called_by false word)) h)
-
-at_most_thirty : (n : ℕ) → nat_le n 30 ≡ true → n ≤ 30
-at_most_thirty n e = grind (arith, nat_tests)
-
-pub word_short : (way : Way) (l : Letter) (ls : List Letter) → is_word way (l ∷ ls) ≡ true → length (kept way (l ∷ ls)) ≤ 30
-word_short way l ls h =
-    let word = kept way (l ∷ ls) in
-    at_most_thirty (length word)
-    (and_right (are_letters (l ∷ ls)) (nat_le (length word) 30)
-    (and_left (are_letters (l ∷ ls) && nat_le (length word) 30) (none_or prints_words (called_by false word)) h))
+pub word_letters : (way : Way) (l : Letter) (ls : List Letter) → is_word way (l ∷ ls) ≡ true → are_letters false (l ∷ ls) ≡ true
+word_letters way l ls h = and_left (are_letters false (l ∷ ls)) (none_or prints_words (called_by false (kept way false (l ∷ ls)))) h
 
 pub word_prints : (way : Way) (l : Letter) (ls : List Letter) → is_word way (l ∷ ls) ≡ true
-    → none_or prints_words (called_by false (kept way (l ∷ ls))) ≡ true
-word_prints way l ls h =
-    let word = kept way (l ∷ ls) in
-    and_right (are_letters (l ∷ ls) && nat_le (length word) 30) (none_or prints_words (called_by false word)) h
+    → none_or prints_words (called_by false (kept way false (l ∷ ls))) ≡ true
+word_prints way l ls h = and_right (are_letters false (l ∷ ls)) (none_or prints_words (called_by false (kept way false (l ∷ ls)))) h
 
 -- what is printed of a word that is kept so
 unfoldable pub of_kept : Way → List ℕ → List ℕ
@@ -361,15 +339,31 @@ pub no_slash : (b : ℕ) → is_escaped b ≡ true → (b == code "\\") ≡ fals
 no_slash b h =
     is_not (b == code "\\") (and_right (not (b == code "\"") && not (b == code "\n") && not (b == code "*")) (not (b == code "\\")) h)
 
-letter_names : (l : Letter) (rest : List ℕ) → is_letter l ≡ true → names_no_string rest ≡ true → names_no_string (bytes_of l ++ rest) ≡ true
-letter_names (Plain b) rest h e =
-    both (not ((b == code "\\") && begins_star rest)) (names_no_string rest) (not_and (b == code "\\") (begins_star rest) (no_escape b h)) e
-letter_names (Escape b) rest h e =
+plain_bytes : Bool → ℕ → List ℕ
+plain_bytes t b = if t then codes "\"\"" else b ∷ []
+
+plain_slash : (quoted : Bool) (b : ℕ) → is_letter quoted (Plain b) ≡ true → (b == code "\\") ≡ false
+plain_slash true b h = quotable_slash b h
+plain_slash false b h = no_escape b h
+
+letter_by : (t : Bool) (b : ℕ) (rest : List ℕ) → (b == code "\\") ≡ false → names_no_string rest ≡ true → names_no_string (plain_bytes t b ++ rest) ≡ true
+unfolding plain_bytes
+letter_by true b rest h e = e
+letter_by false b rest h e =
+    both (not ((b == code "\\") && begins_star rest)) (names_no_string rest) (not_and (b == code "\\") (begins_star rest) h) e
+
+letter_names : (quoted : Bool) (l : Letter) (rest : List ℕ) → is_letter quoted l ≡ true → names_no_string rest ≡ true
+    → names_no_string (bytes_of quoted l ++ rest) ≡ true
+unfolding plain_bytes
+letter_names quoted (Plain b) rest h e = letter_by (quoted && (b == code "\"")) b rest (plain_slash quoted b h) e
+letter_names quoted (Escape b) rest h e =
     both (not (b == code "*")) (not ((b == code "\\") && begins_star rest) && names_no_string rest) (ap not (no_star b h))
     (both (not ((b == code "\\") && begins_star rest)) (names_no_string rest) (not_and (b == code "\\") (begins_star rest) (no_slash b h)) e)
 
-pub letters_names : (ls : List Letter) (rest : List ℕ) → are_letters ls ≡ true → names_no_string rest ≡ true → names_no_string (written ls ++ rest) ≡ true
-letters_names [] rest h e = e
-letters_names (l ∷ ls) rest h e =
-    subst (λ (xs : List ℕ). names_no_string xs ≡ true) (sym (append_assoc (bytes_of l) (written ls) rest))
-    (letter_names l (written ls ++ rest) (and_left (is_letter l) (are_letters ls) h) (letters_names ls rest (and_right (is_letter l) (are_letters ls) h) e))
+pub letters_names : (quoted : Bool) (ls : List Letter) (rest : List ℕ) → are_letters quoted ls ≡ true → names_no_string rest ≡ true
+    → names_no_string (written quoted ls ++ rest) ≡ true
+letters_names quoted [] rest h e = e
+letters_names quoted (l ∷ ls) rest h e =
+    subst (λ (xs : List ℕ). names_no_string xs ≡ true) (sym (append_assoc (bytes_of quoted l) (written quoted ls) rest))
+    (letter_names quoted l (written quoted ls ++ rest) (and_left (is_letter quoted l) (are_letters quoted ls) h)
+    (letters_names quoted ls rest (and_right (is_letter quoted l) (are_letters quoted ls) h) e))

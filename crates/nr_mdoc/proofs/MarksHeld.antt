@@ -15,7 +15,7 @@ use Rattle.nr_mdoc.specs.Reading.{State, said}
 use Rattle.nr_mdoc.specs.Scanning.{meet}
 use Rattle.nr_mdoc.specs.Seeing.{Met, met, left}
 use Rattle.nr_mdoc.specs.WrittenLines.{Usual, way_of}
-use Rattle.nr_mdoc.specs.Words.{begins_anew, closing_mark, holding, is_closing, is_prefix, is_text, mark, mark_as_word, marked_or, parsed, stands, takes_marks, taken_by_same}
+use Rattle.nr_mdoc.specs.Words.{begins_anew, closing_mark, holding, is_closing, is_prefix, is_text, mark, mark_as_word, marked_or, most_marks, parsed, stands, takes_marks, taken_by_same}
 use Rattle.nr_mdoc.proofs.Escapes.{and_left, and_right, is_not}
 use Rattle.nr_mdoc.proofs.Given.{Whole, whole_of, whole_behind, whole_within, given_met}
 use Rattle.nr_mdoc.proofs.Meeting.{with_page, leads_by}
@@ -47,7 +47,7 @@ pub mark_by : Bool → Bool → Bool → ℕ → Page → Met
 mark_by due text full c p =
     if due then stands p else if text then mark_as_word p else if full then met p (left acts.Marks) else met (holding c p) (left acts.Nothing)
 
-pub mark_is : (c : ℕ) (p : Page) → mark c p ≡ mark_by (is_due p) (is_text p) (length p.marks == 32) c p
+pub mark_is : (c : ℕ) (p : Page) → mark c p ≡ mark_by (is_due p) (is_text p) (length p.marks == most_marks) c p
 unfolding mark mark_by
 mark_is c p = refl
 
@@ -93,15 +93,15 @@ held_whole head b c s word marks at e same =
     (ap (λ (xs : List ℕ). marks ++ xs) (sym same))
 
 pub clear_mark : (head : Head) (b c : ℕ) (s : State) (word marks : List ℕ) → At head s (scans.Given false) word marks
-    → closing_mark false word ≡ Some c → is_due s.page ≡ false → is_text s.page ≡ false → meet b s.page ≡ mark_by false false (length s.page.marks == 32) c s.page
+    → closing_mark false word ≡ Some c → is_due s.page ≡ false → is_text s.page ≡ false → meet b s.page ≡ mark_by false false (length s.page.marks == most_marks) c s.page
 clear_mark head b c s word marks at e due text =
     mark_met head b c s word marks at e ∙ mark_is c s.page
-    ∙ ap (λ (t : Bool). mark_by t (is_text s.page) (length s.page.marks == 32) c s.page) due
-    ∙ ap (λ (t : Bool). mark_by false t (length s.page.marks == 32) c s.page) text
+    ∙ ap (λ (t : Bool). mark_by t (is_text s.page) (length s.page.marks == most_marks) c s.page) due
+    ∙ ap (λ (t : Bool). mark_by false t (length s.page.marks == most_marks) c s.page) text
 
 -- marks are full: they are said first
 pub full_whole : (t : Bool) (head : Head) (b c : ℕ) (s : State) (word marks : List ℕ) → At head s (scans.Given false) word marks
-    → closing_mark false word ≡ Some c → is_due s.page ≡ false → is_text s.page ≡ false → (length s.page.marks == 32) ≡ t → Whole head b s 2 (marks ++ word)
+    → closing_mark false word ≡ Some c → is_due s.page ≡ false → is_text s.page ≡ false → (length s.page.marks == most_marks) ≡ t → Whole head b s 2 (marks ++ word)
 unfolding mark_by marks_step
 full_whole true head b c s word marks at e due text full =
     let first = marks_step head b s (scans.Given false) word marks at
@@ -125,10 +125,10 @@ text_whole true head b c s word marks at e due text =
     whole_of head b s 1 2 p.word p.word marks (marks ++ word) two_at_most
     (out_step head b s (mark_as_word p) (with_scan scans.Between p) p.word marks
     (mark_met head b c s word marks at e ∙ mark_is c p
-    ∙ ap (λ (t : Bool). mark_by t (is_text p) (length p.marks == 32) c p) due ∙ ap (λ (t : Bool). mark_by false t (length p.marks == 32) c p) text)
+    ∙ ap (λ (t : Bool). mark_by t (is_text p) (length p.marks == most_marks) c p) due ∙ ap (λ (t : Bool). mark_by false t (length p.marks == most_marks) c p) text)
     (mark_out p at.fits usual) at.marks_are at.few at.going at.comment at.line at.way (λ h. none))
     (ap (λ (xs : List ℕ). p.word ++ xs) none ∙ append-nil p.word ∙ at.word_is ∙ ap (λ (xs : List ℕ). xs ++ word) (sym none))
-text_whole false head b c s word marks at e due text = full_whole (length s.page.marks == 32) head b c s word marks at e due text refl
+text_whole false head b c s word marks at e due text = full_whole (length s.page.marks == most_marks) head b c s word marks at e due text refl
 
 -- ---- a mark comes first
 
@@ -223,7 +223,7 @@ unfolding mark_by
 mark_whole true head b c s word marks at e due =
     let p = s.page in
     let first = stands_step (begins_anew s.page.call.taker) head b s (scans.Given false) word marks at (due_usual p due) refl
-    (mark_met head b c s word marks at e ∙ mark_is c p ∙ ap (λ (t : Bool). mark_by t (is_text p) (length p.marks == 32) c p) due) in
+    (mark_met head b c s word marks at e ∙ mark_is c p ∙ ap (λ (t : Bool). mark_by t (is_text p) (length p.marks == most_marks) c p) due) in
     let t = first.step.next in
     whole_behind head b s t 2 [] (marks ++ word) (marks ++ word) first.step.leads
     (text_whole (is_text t.page) head b c t word marks first.step.at e first.not_due refl)

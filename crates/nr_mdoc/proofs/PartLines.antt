@@ -13,7 +13,7 @@ use Rattle.nr_mdoc.specs.Lines.{book_ends, part_begins}
 use Rattle.nr_mdoc.specs.Options.{none}
 use Rattle.nr_mdoc.specs.OwnLines.{put_head}
 use Rattle.nr_mdoc.specs.Reading.{State, said}
-use Rattle.nr_mdoc.specs.References.{author_head, authors_of, has_part, more_authors, order, put_author_head, put_authors, put_comma, put_part, put_part_begin, put_part_head, put_parts, put_stop, put_title_part, with_listed, with_part}
+use Rattle.nr_mdoc.specs.References.{author_head, authors_of, has_part, more_authors, most_parts, order, put_author_head, put_authors, put_comma, put_part, put_part_begin, put_part_head, put_parts, put_stop, put_title_part, with_listed, with_part}
 use Rattle.nr_mdoc.specs.Scanning.{meet}
 use Rattle.nr_mdoc.specs.Seeing.{met, left, two}
 use Rattle.nr_mdoc.specs.WrittenLines.{way_of}
@@ -98,7 +98,7 @@ unfolding head_page
 part_head_by t letter p e =
     same_if (has_part letter p) p _ _ (head_same (codes ".as %") p)
     (let q = head_page (codes ".ds %") p in
-    same_then p q (with_part letter q) (head_same (codes ".ds %") p) (parts_same (not (length q.parts == 32)) letter q))
+    same_then p q (with_part letter q) (head_same (codes ".ds %") p) (parts_same (not (length q.parts == most_parts)) letter q))
 
 begin_same : (letter : ℕ) (p : Page) → Same p (put_part_begin letter p).page
 begin_same letter p = same_if (letter == code "A") p _ _ (author_same p) (part_head_by (has_part letter p) letter p refl)

@@ -1,14 +1,17 @@
 -- A line of a macro says those of its words that call no macro.
-use Rattle.std.proofs.Common.{◌≡◌, ℕ, ◌+◌, List, [], ◌∷◌, ◌++◌, length, Bool, true, false, not, ◌&&◌, ◌==◌, nat_le, if◌then◌else◌, Option, None, Some, refl, sym, ◌∙◌, ap, subst, append_assoc, append-nil, arith}
+use Rattle.std.proofs.Common.{◌≡◌, ℕ, ◌≤◌, ◌+◌, List, [], ◌∷◌, ◌++◌, length, Bool, true, false, not, ◌&&◌, ◌==◌, nat_le, if◌then◌else◌, Option, None, Some, refl, sym, ◌∙◌, ap, subst, append_assoc, append-nil, arith}
 use Rattle.std.specs.Prelude.{codes}
 use Prim.Native.Char.{code}
 use Rattle.nr_mdoc.specs.declared.acts.Act.TheVariants as acts
+use Rattle.nr_mdoc.specs.declared.acts.Text.TheVariants as texts
 use Rattle.nr_mdoc.specs.declared.macros.Macro.{Macro}
+use Rattle.nr_mdoc.specs.declared.macros.Pair.TheVariants as pairs
+use Rattle.nr_mdoc.specs.declared.page.Behind.TheVariants as behinds
 use Rattle.nr_mdoc.specs.declared.page.Page.{Page}
 use Rattle.nr_mdoc.specs.declared.page.Scan.{Scan}
 use Rattle.nr_mdoc.specs.declared.page.Scan.TheVariants as scans
 use Rattle.nr_mdoc.specs.Calls.{callable, called_by, is_enclosure_due, is_none, leaves, seen_with, with_scan}
-use Rattle.nr_mdoc.specs.Keeping.{keep}
+use Rattle.nr_mdoc.specs.Keeping.{keep_quote}
 use Rattle.nr_mdoc.specs.LayingOut.{lay_out}
 use Rattle.nr_mdoc.specs.Macros.{macro_of}
 use Rattle.nr_mdoc.specs.Options.{option, reads_for}
@@ -18,23 +21,23 @@ use Rattle.nr_mdoc.specs.Scanning.{meet, meet_at, meet_whole, meet_whole_at}
 use Rattle.nr_mdoc.specs.Seeing.{Met, met, left}
 use Rattle.nr_mdoc.specs.Taking.{argument, some_taken, taken_word}
 use Rattle.nr_mdoc.specs.WordLaws.{reads_at, WordsAreSaid}
-use Rattle.nr_mdoc.specs.Words.{closing_mark, ends_long, marked_or, parsed, read_or_called, unmarked}
-use Rattle.nr_mdoc.specs.WrittenLines.{Way, said_of, way_of, way_then, begins_star, each, names_no_string, Letter, is_plain, is_quotable, is_word, kept, kept_quoted, written, heads_words, Word, Bare, Quoted, is_written, are_written, behind_each, line_of, printed_as}
+use Rattle.nr_mdoc.specs.Words.{behind_long, closing_mark, ends_long, marked_or, parsed, read_or_called, unmarked}
+use Rattle.nr_mdoc.specs.WrittenLines.{Way, said_of, unless_called, way_of, way_then, each, names_no_string, Letter, are_letters, is_plain, is_word, kept, written, heads_words, Word, Bare, Quoted, is_written, are_written, behind_each, line_of, printed_as, none_or, prints_words}
 use Rattle.nr_mdoc.proofs.Endings.{ends_quiet, heads_end}
 use Rattle.nr_mdoc.proofs.Escapes.{and_left, and_right, both, line-text}
 use Rattle.nr_mdoc.proofs.Given.{Whole, whole_of, whole_behind, whole_within, plain_reads}
-use Rattle.nr_mdoc.proofs.KeptWords.{read_word}
 use Rattle.nr_mdoc.proofs.After.{after, after-append, next-state, Fresh}
-use Rattle.nr_mdoc.proofs.MacroLines.{head_of, blank_taken, over, five, sixteen, thirteen, one_enough, two_enough, regrouped, of_kept, Said, given, given_at, given_leads, reads_name, name_begun, name_more, name_more_state, macro_step, short_name, letters_names, plain_names, control_taken, word_letters, word_short, word_prints}
+use Rattle.nr_mdoc.proofs.LongWords.{argument_by, argument_is, said_long}
+use Rattle.nr_mdoc.proofs.MacroLines.{head_of, blank_taken, over, five, sixteen, thirteen, one_enough, two_enough, regrouped, of_kept, Said, given, given_at, given_leads, reads_name, name_begun, name_more, name_more_state, macro_step, short_name, letters_names, plain_names, control_taken, word_letters, word_prints}
 use Rattle.nr_mdoc.proofs.MarksHeld.{one_at_most, two_at_most}
 use Rattle.nr_mdoc.proofs.Meeting.{with_page, Leads, then_takes, leads_by}
-use Rattle.nr_mdoc.proofs.Outcomes.{takes_plain, Out}
-use Rattle.nr_mdoc.proofs.QuotedWords.{read_quoted, no_slash}
-use Rattle.nr_mdoc.proofs.Stepping.{At, Head, out_step, leaves_step, marks_step}
+use Rattle.nr_mdoc.proofs.Outcomes.{is_quiet, of_word, takes_plain, Keeps, Out, out, same_page}
+use Rattle.nr_mdoc.proofs.ReadWords.{Read, Spelled, read_bare, read_quoted}
+use Rattle.nr_mdoc.proofs.Stepping.{At, In, Head, in_as, out_step, leaves_step, marks_step}
 use Rattle.nr_mdoc.proofs.Taken.{taken_out}
 use Rattle.nr_mdoc.proofs.TextSaid.{next-words}
 use Rattle.nr_mdoc.proofs.Ways.{opened_usual}
-use Rattle.nr_mdoc.proofs.WholeWords.{behind_head, given_whole, is_none-nil, some_kept}
+use Rattle.nr_mdoc.proofs.WholeWords.{behind_head, called_nothing, given_whole, is_none-nil, some_kept}
 
 -- ---- a word between quotes is given
 
@@ -49,15 +52,6 @@ callable_none (Some m) = refl
 
 called_none : (w : List ℕ) → called_by true w ≡ None
 called_none w = callable_none (macro_of w)
-
-argument_by : Bool → Page → Met
-argument_by due p =
-    let q = with_scan scans.Between p in
-    if due then leaves p else seen_with (some_taken (taken_word q).page) (taken_word q)
-
-argument_is : (p : Page) → argument true p ≡ argument_by (is_enclosure_due p && true) p
-unfolding argument argument_by
-argument_is p = refl
 
 unmarked_by : Bool → Page → Met
 unmarked_by none p = if not none then met p (left acts.Marks) else argument true p
@@ -147,35 +141,61 @@ quoted_whole head b s word marks at = quoted_by (is_none s.page.marks) head b s 
 given_quoted : State → State
 given_quoted s = with_page (with_scan (scans.Given true) s.page) s
 
-quoted_at : (head : Head) (s : State) (word marks : List ℕ) → At head s scans.Closing word marks → At head (given_quoted s) (scans.Given true) word marks
+quoted_at : (going : Bool) (head : Head) (s : State) (word marks : List ℕ) → In going head s scans.Closing word marks
+    → In going head (given_quoted s) (scans.Given true) word marks
 unfolding given_quoted
-quoted_at head s word marks at = record {
-  scan_is = refl;
-  word_is = at.word_is;
-  marks_are = at.marks_are;
-  few = at.few;
-  going = at.going;
-  comment = at.comment;
-  line = at.line;
-  fits = at.fits;
-  way = at.way;
-  free = at.free;
-}
+quoted_at going head s word marks at =
+    in_as going head s (with_scan (scans.Given true) s.page) scans.Closing (scans.Given true) word word marks at refl at.word_is refl refl refl refl refl refl refl
 
-closing_met : (head : Head) (b : ℕ) (s : State) (word marks : List ℕ) → At head s scans.Closing word marks → (b == code "\"") ≡ false
+closing_met : (going : Bool) (head : Head) (b : ℕ) (s : State) (word marks : List ℕ) → In going head s scans.Closing word marks → (b == code "\"") ≡ false
     → meet b s.page ≡ met (with_scan (scans.Given true) s.page) (left acts.Nothing)
 unfolding meet
-closing_met head b s word marks at e =
+closing_met going head b s word marks at e =
     let p = s.page in
     ap (λ (sc : Scan). meet_at sc b p) at.scan_is
-    ∙ ap (λ (t : Bool). if t then keep b true (with_scan scans.Quoted p) else met (with_scan (scans.Given true) p) (left acts.Nothing)) e
+    ∙ ap (λ (t : Bool). if t then keep_quote p else met (with_scan (scans.Given true) p) (left acts.Nothing)) e
 
-quoted_leads : (head : Head) (b : ℕ) (s : State) (word marks : List ℕ) → At head s scans.Closing word marks → (b == code "\"") ≡ false
+quoted_leads : (going : Bool) (head : Head) (b : ℕ) (s : State) (word marks : List ℕ) → In going head s scans.Closing word marks → (b == code "\"") ≡ false
     → Leads b s (given_quoted s) 1 []
 unfolding said lay_out given_quoted
-quoted_leads head b s word marks at e =
+quoted_leads going head b s word marks at e =
     let q = with_scan (scans.Given true) s.page in
-    leads_by b s q q acts.Nothing acts.Nothing acts.Nothing [] (closing_met head b s word marks at e) refl refl
+    leads_by b s q q acts.Nothing acts.Nothing acts.Nothing [] (closing_met going head b s word marks at e) refl refl
+
+-- ---- the last part of a long word is given
+
+long_met : (quoted : Bool) (head : Head) (b : ℕ) (s : State) (word : List ℕ) → In true head s (scans.Given quoted) word [] → meet b s.page ≡ ends_long s.page
+unfolding meet meet_whole
+long_met quoted head b s word at =
+    let p = s.page in
+    ap (λ (sc : Scan). meet_at sc b p) at.scan_is ∙ ap (λ (sc : Scan). meet_whole_at sc b p) at.scan_is
+    ∙ ap (λ (t : Bool). if t then ends_long p else if reads_for p.call.taker then option p else parsed quoted p) at.going
+
+behind_out : (k : _) (p q : Page) → Keeps q p → Out (met p (behind_long k)) q q.word
+unfolding is_quiet of_word
+behind_out behinds.Nothing p q keeps = out p q acts.LastMore acts.Nothing acts.Nothing q.word refl refl refl (append-nil q.word) keeps
+behind_out behinds.Parenthesis p q keeps =
+    out p q acts.LastMore (acts.Close (texts.Opening pairs.Parentheses)) acts.Join q.word refl refl refl (append-nil q.word) keeps
+behind_out behinds.Angle p q keeps =
+    out p q acts.LastMore (acts.Close (texts.Closing (code ">"))) acts.Nothing q.word refl refl refl (append-nil q.word) keeps
+behind_out behinds.Joint p q keeps = out p q acts.LastMore acts.Join acts.Nothing q.word refl refl refl (append-nil q.word) keeps
+
+long_whole : (quoted : Bool) (head : Head) (b : ℕ) (s : State) (word : List ℕ) → In true head s (scans.Given quoted) word [] → Whole head b s 3 word
+long_whole quoted head b s word at =
+    let p = s.page in
+    let q = record p { scan = scans.Between; call = record p.call { going = false; behind = behinds.Nothing } } in
+    whole_of head b s 1 3 q.word q.word [] word (omega arith)
+    (out_step head b s (ends_long p) q q.word [] (long_met quoted head b s word at) (behind_out p.call.behind q q (same_page q at.fits))
+    at.marks_are at.few refl at.comment at.line at.way (λ h. refl))
+    (append-nil q.word ∙ at.word_is)
+
+-- no macro has so long a name
+long_calls : (word : List ℕ) → 30 ≤ length word → called_by false word ≡ None
+long_calls [] l = absurd (omega arith)
+long_calls (a ∷ []) l = absurd (omega arith)
+long_calls (a ∷ b ∷ []) l = absurd (omega arith)
+long_calls (a ∷ b ∷ c ∷ []) l = absurd (omega arith)
+long_calls (a ∷ b ∷ c ∷ d ∷ rest) l = refl
 
 -- ---- what ends a word
 
@@ -216,26 +236,102 @@ behind_of head s g all blank newline w v h =
           e.fresh;
     }
 
-behind_bare : (l : Letter) (ls : List Letter) (head : Head) (s : State) (marks : List ℕ) → At head s scans.Word (kept head.way (l ∷ ls)) marks
-    → ends_quiet head.line ≡ true → is_word head.way (l ∷ ls) ≡ true
-    → Behind (behind_head head (called_by false (kept head.way (l ∷ ls)))) s (marks ++ of_kept head.way (kept head.way (l ∷ ls)))
+behind_bare : (head : Head) (s : State) (word marks : List ℕ) → At head s scans.Word word marks
+    → ends_quiet head.line ≡ true → none_or prints_words (called_by false word) ≡ true
+    → Behind (behind_head head (called_by false word)) s (marks ++ of_kept head.way word)
 unfolding of_kept
-behind_bare l ls head s marks at h f =
-    let word = kept head.way (l ∷ ls) in
-    let inside = given_at head s word marks at in
+behind_bare head s word marks at h f =
+    let inside = given_at false head s word marks at in
     behind_of (behind_head head (called_by false word)) s (given s) (marks ++ of_kept head.way word)
-    (given_leads head (code " ") s word marks at refl) (given_leads head (code "\n") s word marks at refl)
-    (given_whole head (code " ") (given s) word marks inside (word_prints head.way l ls f))
-    (given_whole head (code "\n") (given s) word marks inside (word_prints head.way l ls f)) h
+    (given_leads false head (code " ") s word marks at refl) (given_leads false head (code "\n") s word marks at refl)
+    (given_whole head (code " ") (given s) word marks inside f) (given_whole head (code "\n") (given s) word marks inside f) h
+
+behind_bare_long : (head : Head) (s : State) (word : List ℕ) → In true head s scans.Word word [] → ends_quiet head.line ≡ true
+    → Behind (behind_head head None) s word
+behind_bare_long head s word at h =
+    let inside = given_at true head s word [] at in
+    behind_of (behind_head head None) s (given s) word
+    (given_leads true head (code " ") s word [] at refl) (given_leads true head (code "\n") s word [] at refl)
+    (called_nothing head (code " ") (given s) 3 word (long_whole false head (code " ") (given s) word inside))
+    (called_nothing head (code "\n") (given s) 3 word (long_whole false head (code "\n") (given s) word inside)) h
 
 behind_quoted : (head : Head) (s : State) (word marks : List ℕ) → At head s scans.Closing word marks → ends_quiet head.line ≡ true
     → Behind head s (marks ++ said_of head.way word)
 behind_quoted head s word marks at h =
-    let inside = quoted_at head s word marks at in
+    let inside = quoted_at false head s word marks at in
     behind_of head s (given_quoted s) (marks ++ said_of head.way word)
-    (quoted_leads head (code " ") s word marks at refl) (quoted_leads head (code "\n") s word marks at refl)
+    (quoted_leads false head (code " ") s word marks at refl) (quoted_leads false head (code "\n") s word marks at refl)
     (quoted_whole head (code " ") (given_quoted s) word marks inside)
     (quoted_whole head (code "\n") (given_quoted s) word marks inside) h
+
+behind_quoted_long : (head : Head) (s : State) (word : List ℕ) → In true head s scans.Closing word [] → ends_quiet head.line ≡ true → Behind head s word
+behind_quoted_long head s word at h =
+    let inside = quoted_at true head s word [] at in
+    behind_of head s (given_quoted s) word
+    (quoted_leads true head (code " ") s word [] at refl) (quoted_leads true head (code "\n") s word [] at refl)
+    (long_whole true head (code " ") (given_quoted s) word inside) (long_whole true head (code "\n") (given_quoted s) word inside) h
+
+-- ---- a word was read
+
+-- what was said of it, and what is where it ends
+record Ends (head : Head) (next : State) (xs marks said : List ℕ) : Type 0 where
+  ys : List ℕ
+  behind : Behind head next ys
+  total : xs ++ ys ≡ marks ++ said
+
+all_said : (xs held word marks all said : List ℕ) → xs ++ (held ++ word) ≡ marks ++ all → held ≡ [] → all ≡ said → xs ++ word ≡ marks ++ said
+all_said xs held word marks all said e f g =
+    ap (λ (hs : List ℕ). xs ++ (hs ++ word)) (sym f) ∙ e ∙ ap (λ (zs : List ℕ). marks ++ zs) g
+
+none_said : (xs held word marks : List ℕ) → xs ≡ [] → held ≡ marks → xs ++ (held ++ word) ≡ marks ++ word
+none_said xs held word marks e f = ap (λ (zs : List ℕ). zs ++ (held ++ word)) e ∙ ap (λ (hs : List ℕ). hs ++ word) f
+
+going_at : (t : Bool) (going : Bool) (head : Head) (s : State) (scan : Scan) (word marks : List ℕ) → going ≡ t → In going head s scan word marks
+    → In t head s scan word marks
+going_at t going head s scan word marks e at = subst (λ (g : Bool). In g head s scan word marks) e at
+
+bare_by : (t : Bool) (head : Head) (s : State) (bs marks word : List ℕ) (first hyphen : Bool)
+    (r : Read head false false s scans.Word bs marks word first hyphen) → r.going ≡ t → ends_quiet head.line ≡ true
+    → none_or prints_words (called_by false word) ≡ true
+    → Ends (behind_head head (called_by false word)) r.next r.xs marks (of_kept head.way word)
+unfolding of_kept
+bare_by true head s bs marks word first hyphen r e h f =
+    let long = r.long e in
+    let none = r.clear e in
+    let at = subst (λ (hs : List ℕ). In true head r.next scans.Word r.word hs) none (going_at true r.going head r.next scans.Word r.word r.held e r.at) in
+    record {
+      ys = r.word;
+      behind = subst (λ (o : _). Behind (behind_head head o) r.next r.word) (sym (long_calls word long)) (behind_bare_long head r.next r.word at h);
+      total =
+          all_said r.xs r.held r.word marks word (of_kept head.way word) r.total none
+          (sym (said_long head.way word long) ∙ ap (λ (o : _). unless_called head.way o word) (sym (long_calls word long)));
+    }
+bare_by false head s bs marks word first hyphen r e h f =
+    let at = subst (λ (w : List ℕ). In false head r.next scans.Word w r.held) (r.same e) (going_at false r.going head r.next scans.Word r.word r.held e r.at) in
+    record {
+      ys = r.held ++ of_kept head.way word;
+      behind = behind_bare head r.next word r.held at h f;
+      total = none_said r.xs r.held (of_kept head.way word) marks (r.silent e) (r.same_marks e);
+    }
+
+quoted_end : (t : Bool) (head : Head) (whole : Bool) (s : State) (bs marks word : List ℕ) (first hyphen : Bool)
+    (r : Read head true whole s scans.Closing bs marks word first hyphen) → r.going ≡ t → ends_quiet head.line ≡ true
+    → Ends head r.next r.xs marks (said_of head.way word)
+quoted_end true head whole s bs marks word first hyphen r e h =
+    let none = r.clear e in
+    let at = subst (λ (hs : List ℕ). In true head r.next scans.Closing r.word hs) none (going_at true r.going head r.next scans.Closing r.word r.held e r.at) in
+    record {
+      ys = r.word;
+      behind = behind_quoted_long head r.next r.word at h;
+      total = all_said r.xs r.held r.word marks word (said_of head.way word) r.total none (sym (said_long head.way word (r.long e)));
+    }
+quoted_end false head whole s bs marks word first hyphen r e h =
+    let at = subst (λ (w : List ℕ). In false head r.next scans.Closing w r.held) (r.same e) (going_at false r.going head r.next scans.Closing r.word r.held e r.at) in
+    record {
+      ys = r.held ++ said_of head.way word;
+      behind = behind_quoted head r.next word r.held at h;
+      total = none_said r.xs r.held (said_of head.way word) marks (r.silent e) (r.same_marks e);
+    }
 
 -- ---- the words of a line
 
@@ -244,15 +340,19 @@ pub record Line (s : State) (bs all : List ℕ) (way : Way) (ws : List Word) : T
   pub words : words_of (parts_of s bs) ≡ all ++ printed_as way wholes ws
   pub fresh : Fresh (after s bs)
 
+regroup : (us xs ys vs : List ℕ) → us ++ (xs ++ (ys ++ vs)) ≡ us ++ ((xs ++ ys) ++ vs)
+regroup us xs ys vs = ap (λ (zs : List ℕ). us ++ zs) (sym (append_assoc xs ys vs))
+
 -- a word is read behind a blank, and the others behind it
-then_word : (head : Head) (s : State) (all bs us vs : List ℕ) (ws : List Word) (one : Said head s all) (next : State)
-    → ((rest : List ℕ) → words_of (parts_of one.next (bs ++ rest)) ≡ words_of (parts_of next rest))
-    → words_of (parts_of next (behind_each ws ++ codes "\n")) ≡ one.marks ++ us ++ vs
+then_word : (head : Head) (s : State) (all bs xs ys us vs : List ℕ) (ws : List Word) (one : Said head s all) (next : State)
+    → ((rest : List ℕ) → words_of (parts_of one.next (bs ++ rest)) ≡ xs ++ words_of (parts_of next rest))
+    → words_of (parts_of next (behind_each ws ++ codes "\n")) ≡ ys ++ vs → xs ++ ys ≡ one.marks ++ us
     → words_of (parts_of s (code " " ∷ ((bs ++ behind_each ws) ++ codes "\n"))) ≡ all ++ (us ++ vs)
-then_word head s all bs us vs ws one next said rest =
+then_word head s all bs xs ys us vs ws one next heard rest total =
     one.said ((bs ++ behind_each ws) ++ codes "\n")
-    ∙ ap (λ (xs : List ℕ). one.xs ++ words_of (parts_of one.next xs)) (append_assoc bs (behind_each ws) (codes "\n"))
-    ∙ ap (λ (zs : List ℕ). one.xs ++ zs) (said (behind_each ws ++ codes "\n") ∙ rest)
+    ∙ ap (λ (zs : List ℕ). one.xs ++ words_of (parts_of one.next zs)) (append_assoc bs (behind_each ws) (codes "\n"))
+    ∙ ap (λ (zs : List ℕ). one.xs ++ zs) (heard (behind_each ws ++ codes "\n") ∙ ap (λ (zs : List ℕ). xs ++ zs) rest)
+    ∙ regroup one.xs xs ys vs ∙ ap (λ (zs : List ℕ). one.xs ++ (zs ++ vs)) total
     ∙ regrouped one.xs one.marks all us vs one.total
 
 then_fresh : (head : Head) (s : State) (all bs : List ℕ) (ws : List Word) (one : Said head s all) (next : State) → after one.next bs ≡ next
@@ -272,32 +372,33 @@ in_words [] head s all behind h good = record { wholes = []; words = behind.newl
 in_words (Bare [] ∷ ws) head s all behind h good = absurd (let no : false ≡ true = and_left false (are_written (way_then head.way (Bare [])) ws) good in cc)
 in_words (Bare (l ∷ ls) ∷ ws) head s all behind h good =
     let way = head.way in
-    let word = kept way (l ∷ ls) in
+    let word = kept way false (l ∷ ls) in
     let then_way = way_then way (Bare (l ∷ ls)) in
     let one = behind.blank in
     let here = and_left (is_word way (l ∷ ls)) (are_written then_way ws) good in
-    let r = read_word l ls head one.next one.word one.marks one.at (word_letters way l ls here) (word_short way l ls here) in
-    let rest = in_words ws (behind_head head (called_by false word)) r.next (one.marks ++ of_kept way word) (behind_bare l ls head r.next one.marks r.at h here) h
+    let r = (read_bare l ls head one.next one.word one.marks one.at (word_letters way l ls here)).read in
+    let e = bare_by r.going head one.next (written false (l ∷ ls)) one.marks word _ _ r refl h (word_prints way l ls here) in
+    let rest = in_words ws (behind_head head (called_by false word)) r.next e.ys e.behind h
     (and_right (is_word way (l ∷ ls)) (are_written then_way ws) good) in
     record {
       wholes = rest.wholes;
-      words = then_word head s all (written (l ∷ ls)) (of_kept way word) (printed_as then_way rest.wholes ws) ws one r.next r.said rest.words;
-      fresh = then_fresh head s all (written (l ∷ ls)) ws one r.next r.state rest.fresh;
+      words =
+          then_word head s all (written false (l ∷ ls)) r.xs e.ys (of_kept way word) (printed_as then_way rest.wholes ws) ws one r.next r.said rest.words e.total;
+      fresh = then_fresh head s all (written false (l ∷ ls)) ws one r.next r.state rest.fresh;
     }
-in_words (Quoted bs ∷ ws) head s all behind h good =
+in_words (Quoted ls ∷ ws) head s all behind h good =
     let way = head.way in
     let one = behind.blank in
-    let here = and_left (is_written way (Quoted bs)) (are_written way ws) good in
-    let r = read_quoted bs head one.next one.word one.marks one.at
-    (and_left (each is_quotable bs) (nat_le (length (kept_quoted way true bs)) 30) here)
-    (and_right (each is_quotable bs) (nat_le (length (kept_quoted way true bs)) 30) here) in
-    let word = kept_quoted way r.whole bs in
-    let rest = in_words ws head r.read.next (one.marks ++ said_of way word) (behind_quoted head r.read.next word one.marks r.read.at h) h
-    (and_right (is_written way (Quoted bs)) (are_written way ws) good) in
+    let q = read_quoted ls head one.next one.word one.marks one.at (and_left (are_letters true ls) (are_written way ws) good) in
+    let r = q.spelled.read in
+    let word = kept way q.whole ls in
+    let bytes = code "\"" ∷ written true ls ++ codes "\"" in
+    let e = quoted_end r.going head q.whole one.next bytes one.marks word _ _ r refl h in
+    let rest = in_words ws head r.next e.ys e.behind h (and_right (are_letters true ls) (are_written way ws) good) in
     record {
-      wholes = r.whole ∷ rest.wholes;
-      words = then_word head s all (code "\"" ∷ bs ++ codes "\"") (said_of way word) (printed_as way rest.wholes ws) ws one r.read.next r.read.said rest.words;
-      fresh = then_fresh head s all (code "\"" ∷ bs ++ codes "\"") ws one r.read.next r.read.state rest.fresh;
+      wholes = q.whole ∷ rest.wholes;
+      words = then_word head s all bytes r.xs e.ys (said_of way word) (printed_as way rest.wholes ws) ws one r.next r.said rest.words e.total;
+      fresh = then_fresh head s all bytes ws one r.next r.state rest.fresh;
     }
 
 -- ---- the whole line
@@ -357,25 +458,17 @@ quoted_line (b ∷ bs) ws m s marks f h plain all =
 
 -- ---- no string is named in it
 
-quotable_names : (bs rest : List ℕ) → each is_quotable bs ≡ true → names_no_string rest ≡ true → names_no_string (bs ++ rest) ≡ true
-quotable_names [] rest h e = e
-quotable_names (b ∷ bs) rest h e =
-    both (not ((b == code "\\") && begins_star (bs ++ rest))) (names_no_string (bs ++ rest))
-    (ap (λ (t : Bool). not (t && begins_star (bs ++ rest))) (no_slash b (and_left (is_quotable b) (each is_quotable bs) h)))
-    (quotable_names bs rest (and_right (is_quotable b) (each is_quotable bs) h) e)
-
 pub each_names : (ws : List Word) (way : Way) → are_written way ws ≡ true → names_no_string (behind_each ws) ≡ true
 each_names [] way all = refl
 each_names (Bare [] ∷ ws) way all = absurd (let no : false ≡ true = and_left false (are_written (way_then way (Bare [])) ws) all in cc)
 each_names (Bare (l ∷ ls) ∷ ws) way all =
     let then_way = way_then way (Bare (l ∷ ls)) in
-    letters_names (l ∷ ls) (behind_each ws) (word_letters way l ls (and_left (is_word way (l ∷ ls)) (are_written then_way ws) all))
+    letters_names false (l ∷ ls) (behind_each ws) (word_letters way l ls (and_left (is_word way (l ∷ ls)) (are_written then_way ws) all))
     (each_names ws then_way (and_right (is_word way (l ∷ ls)) (are_written then_way ws) all))
-each_names (Quoted bs ∷ ws) way all =
-    let here = and_left (is_written way (Quoted bs)) (are_written way ws) all in
-    subst (λ (xs : List ℕ). names_no_string xs ≡ true) (sym (append_assoc bs (codes "\"") (behind_each ws)))
-    (quotable_names bs (code "\"" ∷ behind_each ws) (and_left (each is_quotable bs) (nat_le (length (kept_quoted way true bs)) 30) here)
-    (each_names ws way (and_right (is_written way (Quoted bs)) (are_written way ws) all)))
+each_names (Quoted ls ∷ ws) way all =
+    subst (λ (xs : List ℕ). names_no_string xs ≡ true) (sym (append_assoc (written true ls) (codes "\"") (behind_each ws)))
+    (letters_names true ls (code "\"" ∷ behind_each ws) (and_left (are_letters true ls) (are_written way ws) all)
+    (each_names ws way (and_right (are_letters true ls) (are_written way ws) all)))
 
 pub words_are_said : WordsAreSaid
 words_are_said s m name ws marks f h plain all =

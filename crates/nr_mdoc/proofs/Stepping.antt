@@ -1,5 +1,5 @@
 -- One meeting where a line of a macro is read: what is said, and how it is read further.
-use Rattle.std.proofs.Common.{◌≡◌, ℕ, ◌≤◌, List, [], ◌++◌, length, Bool, true, false, refl, sym, ◌∙◌, ap, append-nil}
+use Rattle.std.proofs.Common.{◌≡◌, ℕ, ◌≤◌, List, [], ◌++◌, length, Bool, true, false, refl, sym, ◌∙◌, ap, subst, append-nil}
 use Rattle.nr_mdoc.specs.declared.acts.Act.TheVariants as acts
 use Rattle.nr_mdoc.specs.declared.macros.Macro.{Macro}
 use Rattle.nr_mdoc.specs.declared.page.Page.{Page}
@@ -21,18 +21,39 @@ pub record Head : Type 0 where
   pub line : Macro
   pub way : Way
 
--- so, with this word, and with these marks held back
-pub record At (m : Head) (s : State) (scan : Scan) (word marks : List ℕ) : Type 0 where
+-- so, with this word, or its last part where more than one goes out, and with these marks held back
+pub record In (goes : Bool) (m : Head) (s : State) (scan : Scan) (word marks : List ℕ) : Type 0 where
   pub scan_is : s.page.scan ≡ scan
   pub word_is : s.page.word ≡ word
   pub marks_are : s.page.marks ≡ marks
   pub few : length s.page.closers ≤ 8
-  pub going : s.page.call.going ≡ false
+  pub going : s.page.call.going ≡ goes
   pub comment : s.page.call.comment ≡ false
   pub line : s.page.call.line ≡ m.line
   pub fits : takes_plain s.page.call.taker ≡ true
   pub way : way_of s.page.call.taker ≡ m.way
   pub free : s.page.call.some ≡ false → marks ≡ []
+
+abbrev pub At : Head → State → Scan → List ℕ → List ℕ → Type 0
+At m s scan word marks = In false m s scan word marks
+
+-- so it is read where a page is the same in all that counts
+pub in_as : (going : Bool) (head : Head) (s : State) (p : Page) (scan scan2 : Scan) (word word2 marks : List ℕ) → In going head s scan word marks
+    → p.scan ≡ scan2 → p.word ≡ word2 → p.marks ≡ s.page.marks → p.closers ≡ s.page.closers → p.call.going ≡ s.page.call.going
+    → p.call.comment ≡ s.page.call.comment → p.call.line ≡ s.page.call.line → p.call.taker ≡ s.page.call.taker → p.call.some ≡ s.page.call.some
+    → In going head (with_page p s) scan2 word2 marks
+in_as going head s p scan scan2 word word2 marks at a b c d e f g h i = record {
+  scan_is = a;
+  word_is = b;
+  marks_are = c ∙ at.marks_are;
+  few = subst (λ (cs : List ℕ). length cs ≤ 8) (sym d) at.few;
+  going = e ∙ at.going;
+  comment = f ∙ at.comment;
+  line = g ∙ at.line;
+  fits = ap takes_plain h ∙ at.fits;
+  way = ap way_of h ∙ at.way;
+  free = λ k. at.free (sym i ∙ k);
+}
 
 -- in so many meetings it is read further so, and these bytes of words are said
 pub record Stepped (m : Head) (b : ℕ) (s : State) (k : ℕ) (xs : List ℕ) (scan : Scan) (word marks : List ℕ) : Type 0 where
@@ -59,26 +80,32 @@ out_leads b s m q xs o e =
     leads_by b s m.page (with_lay (out_lays m q xs o).0 m.page) o.x o.y o.z xs (e ∙ ap (met m.page) o.seen) (out_lays m q xs o).1
     (three-words o.x o.y o.z m.page o.quiet_x o.quiet_y o.quiet_z ∙ out_words m q xs o)
 
+-- where a word is read then, or the line is read between words
+pub out_in : (going : Bool) (head : Head) (s : State) (m : Met) (q : Page) (xs marks : List ℕ) (o : Out m q xs)
+    → q.marks ≡ marks → length q.closers ≤ 8 → q.call.going ≡ going → q.call.comment ≡ false → q.call.line ≡ head.line → way_of q.call.taker ≡ head.way
+    → (m.page.call.some ≡ false → marks ≡ []) → In going head (out_next m q xs o s) q.scan q.word marks
+unfolding out_next
+out_in going head s m q xs marks o marks_are few going_is comment line_is way_is free = record {
+  scan_is = o.keeps.scan;
+  word_is = o.keeps.word;
+  marks_are = o.keeps.marks ∙ marks_are;
+  few = o.keeps.few few;
+  going = o.keeps.going ∙ going_is;
+  comment = o.keeps.comment ∙ comment;
+  line = o.keeps.line ∙ line_is;
+  fits = o.keeps.fits;
+  way = o.keeps.way ∙ way_is;
+  free = free;
+}
+
 -- by what is said, with a page before it
 unfoldable pub out_step : (head : Head) (b : ℕ) (s : State) (m : Met) (q : Page) (xs marks : List ℕ) → meet b s.page ≡ m → Out m q xs
     → q.marks ≡ marks → length q.closers ≤ 8 → q.call.going ≡ false → q.call.comment ≡ false → q.call.line ≡ head.line → way_of q.call.taker ≡ head.way
     → (m.page.call.some ≡ false → marks ≡ []) → Stepped head b s 1 xs q.scan q.word marks
-unfolding out_next
 out_step head b s m q xs marks e o marks_are few going comment line_is way_is free = record {
   next = out_next m q xs o s;
   leads = out_leads b s m q xs o e;
-  at = record {
-    scan_is = o.keeps.scan;
-    word_is = o.keeps.word;
-    marks_are = o.keeps.marks ∙ marks_are;
-    few = o.keeps.few few;
-    going = o.keeps.going ∙ going;
-    comment = o.keeps.comment ∙ comment;
-    line = o.keeps.line ∙ line_is;
-    fits = o.keeps.fits;
-    way = o.keeps.way ∙ way_is;
-    free = free;
-  };
+  at = out_in false head s m q xs marks o marks_are few going comment line_is way_is free;
 }
 
 -- what was due was said: no macro takes words then

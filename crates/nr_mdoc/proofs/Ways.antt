@@ -7,13 +7,13 @@ use Prim.Native.Char.{code}
 use Rattle.nr_mdoc.specs.declared.macros.Macro.{Macro}
 use Rattle.nr_mdoc.specs.declared.macros.Macro.TheVariants as macros
 use Rattle.nr_mdoc.specs.declared.page.Page.{Page}
-use Rattle.nr_mdoc.specs.Calls.{is_due, is_due_from, is_enclosure_due, is_opened_by}
+use Rattle.nr_mdoc.specs.Calls.{is_due, is_due_from, is_enclosure_due, is_none, is_opened_by}
 use Rattle.nr_mdoc.specs.Keeping.{ends_in_hyphen, has_dashes, is_title, looks_up}
 use Rattle.nr_mdoc.specs.Options.{reads_for}
 use Rattle.nr_mdoc.specs.Taking.{is_bar, is_opening}
 use Rattle.nr_mdoc.specs.Words.{takes_marks}
-use Rattle.nr_mdoc.specs.WrittenLines.{bytes_of, is_hyphen, kept_letter, Letter, Plain, Escape, prints_otherwise, Way, Usual, Titled, Authors, way_of, way_of_part, said_of, hyphens_stay}
-use Rattle.nr_mdoc.proofs.Escapes.{and_left, and_right, is_not}
+use Rattle.nr_mdoc.specs.WrittenLines.{is_held, is_hyphen, kept_first, kept_letter, Letter, Plain, Escape, prints_otherwise, Way, Usual, Titled, Authors, way_of, way_of_part, said_of, hyphens_stay}
+use Rattle.nr_mdoc.proofs.Escapes.{and_left, and_right, is_not, same_byte}
 use Rattle.nr_mdoc.proofs.Outcomes.{never, takes_plain}
 
 -- ---- macros that take words otherwise are not due
@@ -82,13 +82,22 @@ last_hyphen xs c =
     ∙ ap (λ (k : ℕ). slice_index (xs ++ c ∷ []) k == code "-") (one_less xs c)
     ∙ ap (λ (k : ℕ). k == code "-") (get_or-append_seam xs c [] 0)
 
-plain_by : (t : Bool) (b : ℕ) → 1 ≤ length (if t then codes "\\-" else b ∷ [])
-plain_by true b = omega arith
-plain_by false b = omega arith
+none_by : (t u : Bool) (b : ℕ) → is_none (if t then codes "\\~" else if u then codes "\\-" else b ∷ []) ≡ false
+none_by true u b = refl
+none_by false true b = refl
+none_by false false b = refl
 
-pub letter_some : (way : Way) (behind : Bool) (l : Letter) → 1 ≤ length (kept_letter way behind l)
-letter_some way behind (Plain b) = plain_by ((b == code "-") && (not (hyphens_stay way) || behind)) b
-letter_some way behind (Escape b) = omega arith
+pub letter_some : (way : Way) (whole behind : Bool) (l : Letter) → is_none (kept_letter way whole behind l) ≡ false
+letter_some way whole behind (Plain b) = none_by ((b == code " ") && whole) (is_held way behind b) b
+letter_some way whole behind (Escape b) = refl
+
+first_none : (t : Bool) (b : ℕ) → is_none (if t then codes "\\~" else b ∷ []) ≡ false
+first_none true b = refl
+first_none false b = refl
+
+pub first_some : (whole : Bool) (l : Letter) → is_none (kept_first whole l) ≡ false
+first_some whole (Plain b) = first_none ((b == code " ") && whole) b
+first_some whole (Escape b) = refl
 
 -- a hyphen is the last byte of what is kept where it is the last letter
 pub plain_last : (t v : Bool) (b : ℕ) (word : List ℕ) → (b == code "-") ≡ t → ends_in_hyphen (word ++ (if t && v then codes "\\-" else b ∷ [])) ≡ t
@@ -101,13 +110,32 @@ escape_last : (b : ℕ) (word : List ℕ) → ends_in_hyphen (word ++ code "\\" 
 escape_last b word =
     ap ends_in_hyphen (sym (append_assoc word (code "\\" ∷ []) (b ∷ []))) ∙ last_hyphen (word ++ code "\\" ∷ []) b
 
-pub letter_last : (way : Way) (behind : Bool) (l : Letter) (word : List ℕ) → ends_in_hyphen (word ++ kept_letter way behind l) ≡ is_hyphen l
-letter_last way behind (Plain b) word = plain_last (b == code "-") (not (hyphens_stay way) || behind) b word refl
-letter_last way behind (Escape b) word = escape_last b word
+blank_no_hyphen : (b : ℕ) → (b == code " ") ≡ true → (b == code "-") ≡ false
+blank_no_hyphen b e = ap (λ (k : ℕ). k == code "-") (sym (same_byte b (code " ") e))
 
-pub first_last : (l : Letter) → ends_in_hyphen (bytes_of l) ≡ is_hyphen l
-first_last (Plain b) = last_hyphen [] b
-first_last (Escape b) = escape_last b []
+blank_last : (word : List ℕ) → ends_in_hyphen (word ++ codes "\\~") ≡ false
+blank_last word =
+    ap ends_in_hyphen (sym (append_assoc word (code "\\" ∷ []) (code "~" ∷ []))) ∙ last_hyphen (word ++ code "\\" ∷ []) (code "~")
+
+letter_last_by : (t f v : Bool) (b : ℕ) (word : List ℕ) → (b == code " ") ≡ t
+    → ends_in_hyphen (word ++ (if t && f then codes "\\~" else if (b == code "-") && v then codes "\\-" else b ∷ [])) ≡ (b == code "-")
+letter_last_by true true v b word e = blank_last word ∙ sym (blank_no_hyphen b e)
+letter_last_by true false v b word e = plain_last (b == code "-") v b word refl
+letter_last_by false f v b word e = plain_last (b == code "-") v b word refl
+
+pub letter_last : (way : Way) (whole behind : Bool) (l : Letter) (word : List ℕ) → ends_in_hyphen (word ++ kept_letter way whole behind l) ≡ is_hyphen l
+letter_last way whole behind (Plain b) word = letter_last_by (b == code " ") whole (not (hyphens_stay way) || behind) b word refl
+letter_last way whole behind (Escape b) word = escape_last b word
+
+first_last_by : (t f : Bool) (b : ℕ) (word : List ℕ) → (b == code " ") ≡ t
+    → ends_in_hyphen (word ++ (if t && f then codes "\\~" else b ∷ [])) ≡ (b == code "-")
+first_last_by true true b word e = blank_last word ∙ sym (blank_no_hyphen b e)
+first_last_by true false b word e = last_hyphen word b
+first_last_by false f b word e = last_hyphen word b
+
+pub first_last : (whole : Bool) (l : Letter) (word : List ℕ) → ends_in_hyphen (word ++ kept_first whole l) ≡ is_hyphen l
+first_last whole (Plain b) word = first_last_by (b == code " ") whole b word refl
+first_last whole (Escape b) word = escape_last b word
 
 -- ---- what is said of words that authors have none of
 

@@ -10,12 +10,12 @@ use Rattle.nr_mdoc.specs.declared.page.Scan.TheVariants as scans
 use Rattle.nr_mdoc.specs.declared.seen.Seen.{Seen}
 use Rattle.nr_mdoc.specs.Calls.{called_by, called, calls, call, is_due, is_enclosure_due, is_flag, is_none, joining, leaves, seen_with, with_scan}
 use Rattle.nr_mdoc.specs.Macros.{is_callable}
-use Rattle.nr_mdoc.specs.Options.{reads_for}
+use Rattle.nr_mdoc.specs.Options.{is_heading, reads_for}
 use Rattle.nr_mdoc.specs.Reading.{State}
 use Rattle.nr_mdoc.specs.Scanning.{meet}
 use Rattle.nr_mdoc.specs.Seeing.{Met, met, left, three}
 use Rattle.nr_mdoc.specs.Taking.{argument, is_bar, is_opening, some_taken, taken_word}
-use Rattle.nr_mdoc.specs.WrittenLines.{heads_words, none_or, prints_otherwise, prints_words, said_of, unless_called, Way, Usual, way_behind, way_of}
+use Rattle.nr_mdoc.specs.WrittenLines.{asks, heads_words, none_or, prints_otherwise, prints_words, said_of, unless_called, Way, Usual, way_behind, way_of}
 use Rattle.nr_mdoc.specs.Words.{closing_mark, marked_or, parsed, read_or_called, unmarked}
 use Rattle.nr_mdoc.proofs.Escapes.{and_left, and_right, is_not}
 use Rattle.nr_mdoc.proofs.Given.{Whole, whole_of, whole_behind, whole_within, given_met}
@@ -75,22 +75,25 @@ prints_plain m h =
     both_not (prints_otherwise m) (reads_for m) (is_not (prints_otherwise m) (and_right (is_callable m) (not (prints_otherwise m)) h))
     (callable_reads m (and_left (is_callable m) (not (prints_otherwise m)) h))
 
+heads_reads : (m : Macro) → heads_words m ≡ true → reads_for m ≡ false
+heads_reads macros.Date h = never h
+heads_reads macros.Title h = never h
+heads_reads macros.List h = never h
+heads_reads macros.Display h = never h
+heads_reads macros.FontBegins h = never h
+heads_reads macros.Spacing h = never h
+heads_reads macros.Exits h = never h
+heads_reads macros.Returns h = never h
+heads_reads macros.Section h = never h
+heads_reads m h = refl
+
 pub heads_plain : (m : Macro) → heads_words m ≡ true → takes_plain m ≡ true
 unfolding takes_plain
-heads_plain macros.Describes h = refl
-heads_plain macros.Item h = refl
-heads_plain macros.Subsection h = refl
-heads_plain macros.Line h = refl
-heads_plain macros.LiteralLine h = refl
-heads_plain macros.Paragraph h = refl
-heads_plain macros.Book h = refl
-heads_plain macros.FontEnds h = refl
-heads_plain macros.Breaks h = refl
-heads_plain macros.ListEnds h = refl
-heads_plain macros.DisplayEnds h = refl
-heads_plain macros.BookEnds h = refl
-heads_plain (macros.Part letter) h = refl
-heads_plain m h = prints_plain m h
+heads_plain m h =
+    both_not (prints_otherwise m) (reads_for m)
+    (is_not (prints_otherwise m)
+    (and_left (not (prints_otherwise m)) (not (asks m)) (and_left (not (prints_otherwise m) && not (asks m)) (not (is_heading m)) h)))
+    (heads_reads m h)
 
 none_left : (xs ys : List ℕ) → xs ++ ys ≡ [] → xs ≡ []
 none_left [] ys e = refl
@@ -140,7 +143,7 @@ abbrev pub behind_head : Head → Option Macro → Head
 behind_head head o = record { line = head.line; way = way_behind head.way o }
 
 -- a word that calls nothing
-called_nothing : (head : Head) (b : ℕ) (s : State) (k : ℕ) (all : List ℕ) → Whole head b s k all → Whole (behind_head head None) b s k all
+pub called_nothing : (head : Head) (b : ℕ) (s : State) (k : ℕ) (all : List ℕ) → Whole head b s k all → Whole (behind_head head None) b s k all
 called_nothing head b s k all w = record {
   steps = w.steps;
   few = w.few;

@@ -4,6 +4,8 @@ use Prim.Native.Char.{code}
 use Rattle.nr_mdoc.specs.declared.acts.Act.TheVariants as acts
 use Rattle.nr_mdoc.specs.declared.macros.Macro.{Macro}
 use Rattle.nr_mdoc.specs.declared.macros.Macro.TheVariants as macros
+use Rattle.nr_mdoc.specs.declared.page.Inside.{Inside}
+use Rattle.nr_mdoc.specs.declared.page.Inside.TheVariants as insides
 use Rattle.nr_mdoc.specs.declared.page.Page.{Page}
 use Rattle.nr_mdoc.specs.declared.page.Scan.{Scan}
 use Rattle.nr_mdoc.specs.declared.page.Scan.TheVariants as scans
@@ -31,11 +33,18 @@ widens p =
 abbrev pub keeping : List ℕ → Page → Page
 keeping bytes p = record p { word = p.word ++ bytes }
 
+-- where a byte has no room: in a word, or behind a backslash in it
+abbrev pub within : Bool → Inside
+within quoted = if quoted then insides.Quoted else insides.Word
+
+abbrev pub within_escape : Bool → Inside
+within_escape quoted = if quoted then insides.QuotedEscape else insides.Escape
+
 -- thirty bytes of a word are kept; more go out in parts, or are only counted where the word isn't printed
 abbrev pub keep : ℕ → Bool → Page → Met
 keep b quoted p =
     if nat_lt (length p.word) 30 then met (widens (keeping (b ∷ []) p)) (taken acts.Nothing) else
-    if is_shown p then turns (scans.Long quoted false) (left acts.Nothing) p
+    if is_shown p then turns (scans.Long (within quoted)) (left acts.Nothing) p
     else met (widens p) (taken acts.Nothing)
 
 abbrev pub in_word_of : Bool → Scan
@@ -50,7 +59,7 @@ keep_escape b quoted p =
     if nat_lt (length p.word) 30
     then turns (in_word_of quoted) (taken acts.Nothing)
     (wider b (keeping (b ∷ []) (keeping (code "\\" ∷ []) p))) else
-    if is_shown p then turns (scans.Long quoted true) (left acts.Nothing) p else
+    if is_shown p then turns (scans.Long (within_escape quoted)) (left acts.Nothing) p else
     turns (in_word_of quoted) (taken acts.Nothing) (wider b p)
 
 abbrev pub is_title : ℕ → Bool
@@ -93,6 +102,12 @@ whole_for m p = false
 abbrev pub is_whole : Page → Bool
 is_whole p = whole_for p.call.taker p
 
+-- a blank that stays with what it stands between
+abbrev pub keep_blank : Page → Met
+keep_blank p =
+    if nat_lt (length p.word) 30 then keep_escape (code "~") true p
+    else turns (scans.Long insides.Quoted) (left acts.Nothing) p
+
 abbrev pub in_word : ℕ → Page → Met
 in_word b p =
     if ends_word b then turns (scans.Given false) (left acts.Nothing) p else
@@ -103,13 +118,18 @@ in_quotes b p =
     if b == code "\"" then turns scans.Closing (taken acts.Nothing) p else
     if b == code "\n" then turns (scans.Given true) (left acts.Nothing) p else
     if b == code "\\" then turns scans.QuotedEscape (taken acts.Nothing) p else
-    if (b == code " ") && is_whole p then keep_escape (code "~") true p else keep_byte b true p
+    if (b == code " ") && is_whole p then keep_blank p else keep_byte b true p
 
 -- two quotes within quotes are one
+abbrev pub keep_quote : Page → Met
+keep_quote p =
+    if not (nat_lt (length p.word) 30) && is_shown p
+    then turns (scans.Long insides.Closing) (left acts.Nothing) p
+    else keep (code "\"") true (with_scan scans.Quoted p)
+
 abbrev pub closing : ℕ → Page → Met
 closing b p =
-    if b == code "\"" then keep b true (with_scan scans.Quoted p)
-    else turns (scans.Given true) (left acts.Nothing) p
+    if b == code "\"" then keep_quote p else turns (scans.Given true) (left acts.Nothing) p
 
 -- ---- escapes and comments in words
 

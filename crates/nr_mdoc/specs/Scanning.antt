@@ -181,8 +181,8 @@ asleep front lines b p = asleep_with (front_grows front b) front lines b p
 
 abbrev pub meet_whole_at : Scan → ℕ → Page → Met
 meet_whole_at (scans.Given quoted) b p = given quoted p
-meet_whole_at (scans.Long quoted escape) b p = long quoted escape p
-meet_whole_at (scans.Goes quoted escape) b p = goes_on quoted escape p
+meet_whole_at (scans.Long inside) b p = long inside p
+meet_whole_at (scans.Goes inside) b p = goes_on inside p
 meet_whole_at scans.Rest b p = in_rest b p
 meet_whole_at scans.Passes b p = met p (taken (acts.Byte b))
 meet_whole_at scans.Dropped b p = dropped b p

@@ -9,6 +9,8 @@ use Rattle.nr_mdoc.specs.declared.macros.Macro.TheVariants as macros
 use Rattle.nr_mdoc.specs.declared.macros.Pair.TheVariants as pairs
 use Rattle.nr_mdoc.specs.declared.page.Behind.{Behind}
 use Rattle.nr_mdoc.specs.declared.page.Behind.TheVariants as behinds
+use Rattle.nr_mdoc.specs.declared.page.Inside.{Inside}
+use Rattle.nr_mdoc.specs.declared.page.Inside.TheVariants as insides
 use Rattle.nr_mdoc.specs.declared.page.Page.{Page}
 use Rattle.nr_mdoc.specs.declared.page.Scan.{Scan}
 use Rattle.nr_mdoc.specs.declared.page.Scan.TheVariants as scans
@@ -29,6 +31,10 @@ closing_mark quoted (b ∷ []) = if not quoted && is_closing b then Some b else 
 closing_mark quoted (a ∷ b ∷ rest) = None
 
 -- ---- closing marks are held back, as they may be the last of the line
+
+-- so many of them
+abbrev pub most_marks : ℕ
+most_marks = 32
 
 abbrev pub holding : ℕ → Page → Page
 holding b p =
@@ -75,7 +81,7 @@ unfoldable pub mark : ℕ → Page → Met
 mark b p =
     if is_due p then stands p else
     if is_text p then mark_as_word p else
-    if length p.marks == 32 then met p (left acts.Marks) else met (holding b p) (left acts.Nothing)
+    if length p.marks == most_marks then met p (left acts.Marks) else met (holding b p) (left acts.Nothing)
 
 -- ---- a word is whole
 
@@ -116,21 +122,22 @@ given quoted p =
 abbrev pub fronted : Page → Page
 fronted p = record p { lay = record p.lay { front = true }; call = record p.call { going = true } }
 
-abbrev pub long_begins : Bool → Bool → Page → Met
-long_begins quoted escape p =
-    let m = argument true (fronted p) in seen_with (with_scan (scans.Goes quoted escape) m.page) m
+abbrev pub long_begins : Inside → Page → Met
+long_begins inside p =
+    let m = argument true (fronted p) in seen_with (with_scan (scans.Goes inside) m.page) m
 
-abbrev pub long : Bool → Bool → Page → Met
-long quoted escape p =
-    if p.call.going then met (with_scan (scans.Goes quoted escape) p) (left acts.More) else
+abbrev pub long : Inside → Page → Met
+long inside p =
+    if p.call.going then met (with_scan (scans.Goes inside) p) (left acts.More) else
     if not (is_none p.marks) then met p (left acts.Marks) else
-    if is_enclosure_due p then leaves p else long_begins quoted escape p
+    if is_enclosure_due p then leaves p else long_begins inside p
 
-abbrev pub goes_to : Bool → Bool → Scan
-goes_to false false = scans.Word
-goes_to true false = scans.Quoted
-goes_to false true = scans.Escape
-goes_to true true = scans.QuotedEscape
+abbrev pub goes_to : Inside → Scan
+goes_to insides.Word = scans.Word
+goes_to insides.Escape = scans.Escape
+goes_to insides.Quoted = scans.Quoted
+goes_to insides.QuotedEscape = scans.QuotedEscape
+goes_to insides.Closing = scans.Closing
 
-abbrev pub goes_on : Bool → Bool → Page → Met
-goes_on quoted escape p = met (record p { scan = goes_to quoted escape; word = [] }) (left acts.Nothing)
+abbrev pub goes_on : Inside → Page → Met
+goes_on inside p = met (record p { scan = goes_to inside; word = [] }) (left acts.Nothing)

@@ -8,6 +8,7 @@ use Rattle.nr_mdoc.specs.Calls.{called_by}
 use Rattle.nr_mdoc.specs.Keeping.{ends_word, is_title}
 use Rattle.nr_mdoc.specs.Laying.{is_control}
 use Rattle.nr_mdoc.specs.Macros.{is_callable, macro_of}
+use Rattle.nr_mdoc.specs.Options.{is_heading}
 
 -- ---- text lines
 
@@ -59,7 +60,7 @@ abbrev pub hyphens_stay : Way → Bool
 hyphens_stay Titled = true
 hyphens_stay way = false
 
--- ---- words of a macro's line
+-- ---- words of a macro's line, between quotes or not
 
 -- a letter of a word: a byte, or an escape, which is a backslash and a byte
 pub data Letter : Type 0 where
@@ -70,147 +71,140 @@ pub data Letter : Type 0 where
 abbrev pub is_plain : ℕ → Bool
 is_plain b = not (ends_word b) && not (b == code "\"") && not (b == code "\\")
 
+-- a byte between quotes
+abbrev pub is_quotable : ℕ → Bool
+is_quotable b = not (b == code "\n") && not (b == code "\\")
+
 -- a byte behind a backslash: it begins no comment, goes on with no further line, and names no string
 abbrev pub is_escaped : ℕ → Bool
 is_escaped b = not (b == code "\"") && not (b == code "\n") && not (b == code "*") && not (b == code "\\")
 
-abbrev pub is_letter : Letter → Bool
-is_letter (Plain b) = is_plain b
-is_letter (Escape b) = is_escaped b
+abbrev pub is_letter : Bool → Letter → Bool
+is_letter quoted (Plain b) = if quoted then is_quotable b else is_plain b
+is_letter quoted (Escape b) = is_escaped b
 
-abbrev pub are_letters : List Letter → Bool
-are_letters [] = true
-are_letters (l ∷ ls) = is_letter l && are_letters ls
+abbrev pub are_letters : Bool → List Letter → Bool
+are_letters quoted [] = true
+are_letters quoted (l ∷ ls) = is_letter quoted l && are_letters quoted ls
 
-abbrev pub bytes_of : Letter → List ℕ
-bytes_of (Plain b) = b ∷ []
-bytes_of (Escape b) = code "\\" ∷ b ∷ []
+-- two quotes within quotes are one
+abbrev pub bytes_of : Bool → Letter → List ℕ
+bytes_of quoted (Plain b) = if quoted && (b == code "\"") then codes "\"\"" else b ∷ []
+bytes_of quoted (Escape b) = code "\\" ∷ b ∷ []
 
-abbrev pub written : List Letter → List ℕ
-written [] = []
-written (l ∷ ls) = bytes_of l ++ written ls
+abbrev pub written : Bool → List Letter → List ℕ
+written quoted [] = []
+written quoted (l ∷ ls) = bytes_of quoted l ++ written quoted ls
 
 abbrev pub is_hyphen : Letter → Bool
 is_hyphen (Plain b) = b == code "-"
 is_hyphen (Escape b) = b == code "-"
 
--- A letter of a word as it is kept, behind a hyphen or not: no line is broken after a hyphen in it. Where hyphens stay, it is so
--- for one behind another.
-abbrev pub kept_letter : Way → Bool → Letter → List ℕ
-kept_letter way behind (Plain b) =
-    if (b == code "-") && (not (hyphens_stay way) || behind) then codes "\\-" else b ∷ []
-kept_letter way behind (Escape b) = code "\\" ∷ b ∷ []
+-- Whether a hyphen that is not the first letter of its word, behind a hyphen or not, is kept as an escape, since no line is broken
+-- after it. Where hyphens stay, it is so for one behind another.
+abbrev pub is_held : Way → Bool → ℕ → Bool
+is_held way behind b = (b == code "-") && (not (hyphens_stay way) || behind)
 
-abbrev pub kept_in : Way → Bool → List Letter → List ℕ
-kept_in way behind [] = []
-kept_in way behind (l ∷ ls) = kept_letter way behind l ++ kept_in way (is_hyphen l) ls
+-- a letter as it is kept, behind a hyphen or not, where the blanks of its word stay together or not
+abbrev pub kept_letter : Way → Bool → Bool → Letter → List ℕ
+kept_letter way whole behind (Plain b) =
+    if (b == code " ") && whole then codes "\\~" else if is_held way behind b then codes "\\-" else b ∷ []
+kept_letter way whole behind (Escape b) = code "\\" ∷ b ∷ []
 
-abbrev pub kept : Way → List Letter → List ℕ
-kept way [] = []
-kept way (l ∷ ls) = bytes_of l ++ kept_in way (is_hyphen l) ls
+-- the first letter of a word
+abbrev pub kept_first : Bool → Letter → List ℕ
+kept_first whole (Plain b) = if (b == code " ") && whole then codes "\\~" else b ∷ []
+kept_first whole (Escape b) = code "\\" ∷ b ∷ []
+
+abbrev pub kept_in : Way → Bool → Bool → List Letter → List ℕ
+kept_in way whole behind [] = []
+kept_in way whole behind (l ∷ ls) = kept_letter way whole behind l ++ kept_in way whole (is_hyphen l) ls
+
+-- a word as it is kept, of any length
+abbrev pub kept : Way → Bool → List Letter → List ℕ
+kept way whole [] = []
+kept way whole (l ∷ ls) = kept_first whole l ++ kept_in way whole (is_hyphen l) ls
 
 -- ---- macros whose words are printed as they stand
 
--- names that tables have are printed otherwise
+-- Macros that print their words otherwise, or not at all, by the table of macros: names that tables have, and the system's, which
+-- stands in the title; utilities and functions, of which a sentence is made; lines that print nothing, or pass.
 abbrev pub prints_otherwise : Macro → Bool
 prints_otherwise macros.Att = true
 prints_otherwise macros.Standard = true
 prints_otherwise macros.Library = true
+prints_otherwise macros.System = true
+prints_otherwise macros.Exits = true
+prints_otherwise macros.Returns = true
+prints_otherwise macros.Keeps = true
+prints_otherwise macros.KeepEnds = true
+prints_otherwise macros.Silent = true
+prints_otherwise macros.Table = true
+prints_otherwise macros.TableEnds = true
+prints_otherwise macros.Spaces = true
+prints_otherwise macros.Defines = true
 prints_otherwise m = false
+
+-- macros whose words are read for what they ask: dates, titles, lists and displays, fonts and spacing
+abbrev pub asks : Macro → Bool
+asks macros.Date = true
+asks macros.Title = true
+asks macros.List = true
+asks macros.Display = true
+asks macros.FontBegins = true
+asks macros.Spacing = true
+asks m = false
+
+-- a macro whose line has such words: any other than these, but for headings, whose first word is read otherwise
+abbrev pub heads_words : Macro → Bool
+heads_words m = not (prints_otherwise m) && not (asks m) && not (is_heading m)
 
 -- a macro that words call, and that prints its own as they stand
 abbrev pub prints_words : Macro → Bool
 prints_words m = is_callable m && not (prints_otherwise m)
 
--- a macro whose line has such words: one of these, a description, an item, a subsection, a paragraph, a line that is indented,
--- the beginning of a reference, a part of one, the end of one, of a list, a display or a font, or `.br`
-abbrev pub heads_words : Macro → Bool
-heads_words macros.Describes = true
-heads_words macros.Item = true
-heads_words macros.Subsection = true
-heads_words macros.Line = true
-heads_words macros.LiteralLine = true
-heads_words macros.Paragraph = true
-heads_words macros.Book = true
-heads_words macros.FontEnds = true
-heads_words macros.Breaks = true
-heads_words macros.ListEnds = true
-heads_words macros.DisplayEnds = true
-heads_words macros.BookEnds = true
-heads_words (macros.Part letter) = true
-heads_words m = prints_words m
-
 -- ---- lines of macros
+
+-- a word as it is written, or between quotes, by its letters
+pub data Word : Type 0 where
+  Bare : List Letter → Word
+  Quoted : List Letter → Word
 
 abbrev pub none_or : (Macro → Bool) → Option Macro → Bool
 none_or test None = true
 none_or test (Some m) = test m
 
--- a word of at most thirty bytes, which calls no macro, or one that prints its words as they stand
+-- a word that calls no macro, or one that prints its words as they stand
 abbrev pub is_word : Way → List Letter → Bool
 is_word way [] = false
 is_word way (l ∷ ls) =
-    are_letters (l ∷ ls) && nat_le (length (kept way (l ∷ ls))) 30
-    && none_or prints_words (called_by false (kept way (l ∷ ls)))
+    are_letters false (l ∷ ls) && none_or prints_words (called_by false (kept way false (l ∷ ls)))
+
+abbrev pub is_written : Way → Word → Bool
+is_written way (Bare letters) = is_word way letters
+is_written way (Quoted letters) = are_letters true letters
 
 -- words behind one that calls a macro are taken as that takes them
 abbrev pub way_behind : Way → Option Macro → Way
 way_behind way None = way
 way_behind way (Some m) = way_of m
 
+abbrev pub way_then : Way → Word → Way
+way_then way (Bare letters) = way_behind way (called_by false (kept way false letters))
+way_then way (Quoted letters) = way
+
 -- a word that calls a macro is not printed
 abbrev pub unless_called : Way → Option Macro → List ℕ → List ℕ
 unless_called way None word = said_of way word
 unless_called way (Some m) word = []
-
--- ---- words between quotes
-
--- a word as it is written, or between quotes, by its bytes
-pub data Word : Type 0 where
-  Bare : List Letter → Word
-  Quoted : List ℕ → Word
-
-abbrev pub is_quotable : ℕ → Bool
-is_quotable b = not (b == code "\"") && not (b == code "\n") && not (b == code "\\")
-
--- whether a hyphen that is not the first byte of its word, behind a hyphen or not, is kept as an escape
-abbrev pub is_held : Way → Bool → ℕ → Bool
-is_held way behind b = (b == code "-") && (not (hyphens_stay way) || behind)
-
--- one of its bytes as it is kept, behind a hyphen or not, where its blanks stay together or not
-abbrev pub kept_quotable : Way → Bool → Bool → ℕ → List ℕ
-kept_quotable way whole behind b =
-    if (b == code " ") && whole then codes "\\~" else if is_held way behind b then codes "\\-" else b ∷ []
-
-abbrev pub quoted_in : Way → Bool → Bool → List ℕ → List ℕ
-quoted_in way whole behind [] = []
-quoted_in way whole behind (b ∷ bs) =
-    kept_quotable way whole behind b ++ quoted_in way whole (b == code "-") bs
-
--- its first byte
-abbrev pub kept_first : Bool → ℕ → List ℕ
-kept_first whole b = if (b == code " ") && whole then codes "\\~" else b ∷ []
-
-abbrev pub kept_quoted : Way → Bool → List ℕ → List ℕ
-kept_quoted way whole [] = []
-kept_quoted way whole (b ∷ bs) = kept_first whole b ++ quoted_in way whole (b == code "-") bs
-
-abbrev pub is_written : Way → Word → Bool
-is_written way (Bare letters) = is_word way letters
-is_written way (Quoted bs) = each is_quotable bs && nat_le (length (kept_quoted way true bs)) 30
-
--- words behind a word are taken so
-abbrev pub way_then : Way → Word → Way
-way_then way (Bare letters) = way_behind way (called_by false (kept way letters))
-way_then way (Quoted bs) = way
 
 abbrev pub are_written : Way → List Word → Bool
 are_written way [] = true
 are_written way (w ∷ ws) = is_written way w && are_written (way_then way w) ws
 
 abbrev pub written_word : Word → List ℕ
-written_word (Bare letters) = written letters
-written_word (Quoted bs) = codes "\"" ++ bs ++ codes "\""
+written_word (Bare letters) = written false letters
+written_word (Quoted letters) = codes "\"" ++ written true letters ++ codes "\""
 
 abbrev pub behind_each : List Word → List ℕ
 behind_each [] = []
@@ -227,23 +221,13 @@ heading_of first words = codes ".Sh " ++ first ++ behind_each words ++ codes "\n
 abbrev pub printed_as : Way → List Bool → List Word → List ℕ
 printed_as way wholes [] = []
 printed_as way wholes (Bare letters ∷ ws) =
-    unless_called way (called_by false (kept way letters)) (kept way letters)
-    ++ printed_as (way_then way (Bare letters)) wholes ws
-printed_as way [] (Quoted bs ∷ ws) = said_of way (kept_quoted way false bs) ++ printed_as way [] ws
-printed_as way (whole ∷ wholes) (Quoted bs ∷ ws) =
-    said_of way (kept_quoted way whole bs) ++ printed_as way wholes ws
+    let word = kept way false letters in
+    unless_called way (called_by false word) word ++ printed_as (way_then way (Bare letters)) wholes ws
+printed_as way [] (Quoted letters ∷ ws) = said_of way (kept way false letters) ++ printed_as way [] ws
+printed_as way (whole ∷ wholes) (Quoted letters ∷ ws) =
+    said_of way (kept way whole letters) ++ printed_as way wholes ws
 
 -- ---- lines whose words are read for what they ask
-
--- dates, titles, lists and displays, fonts and spacing: none of their words is printed
-abbrev pub asks : Macro → Bool
-asks macros.Date = true
-asks macros.Title = true
-asks macros.List = true
-asks macros.Display = true
-asks macros.FontBegins = true
-asks macros.Spacing = true
-asks m = false
 
 -- a list or a display
 abbrev pub opens_block : Macro → Bool
@@ -266,7 +250,7 @@ begins_blank (Plain b ∷ ls) = ends_word b
 begins_blank (Escape b ∷ ls) = false
 
 abbrev pub asking_line : List ℕ → List Letter → List ℕ
-asking_line name rest = codes "." ++ name ++ written rest ++ codes "\n"
+asking_line name rest = codes "." ++ name ++ written false rest ++ codes "\n"
 
 -- ---- lines of a page
 

@@ -5,7 +5,7 @@ ghost use Rattle.nr_mdoc.specs.Keeping as specs;
 
 use super::acts::Act;
 use super::macros::Macro;
-use super::page::{Page, Parameters, Scan};
+use super::page::{Inside, Page, Parameters, Scan};
 use super::seen::Seen;
 use nr_units::Name;
 
@@ -53,7 +53,7 @@ impl Page {
         if self.word.len() < MOST_KEPT {
             self.word.push(byte);
         } else if self.is_shown() {
-            return self.turns(Scan::Long(quoted, false), Seen::left(Act::Nothing));
+            return self.turns(Scan::Long(within(quoted)), Seen::left(Act::Nothing));
         }
         self.widens();
         Seen::taken(Act::Nothing)
@@ -99,6 +99,16 @@ impl Page {
         }
     }
 
+    /// A blank is kept, which stays with what it stands between.
+    fn keep_blank(&mut self) -> Seen
+        ensures { met self.new result ≡ specs.keep_blank self.old }
+    {
+        if self.word.len() < MOST_KEPT {
+            return self.keep_escape(b'~', true);
+        }
+        self.turns(Scan::Long(Inside::Quoted), Seen::left(Act::Nothing))
+    }
+
     /// In a word.
     pub(crate) fn in_word(&mut self, byte: u8) -> Seen
         ensures { met self.new result ≡ specs.in_word byte self.old }
@@ -120,9 +130,20 @@ impl Page {
             b'"' => self.turns(Scan::Closing, Seen::taken(Act::Nothing)),
             b'\n' => self.turns(Scan::Given(true), Seen::left(Act::Nothing)),
             b'\\' => self.turns(Scan::QuotedEscape, Seen::taken(Act::Nothing)),
-            b' ' if self.is_whole() => self.keep_escape(b'~', true),
+            b' ' if self.is_whole() => self.keep_blank(),
             _ => self.keep_byte(byte, true),
         }
+    }
+
+    /// A quote between quotes is kept, or what was kept goes out first.
+    fn keep_quote(&mut self) -> Seen
+        ensures { met self.new result ≡ specs.keep_quote self.old }
+    {
+        if self.word.len() >= MOST_KEPT && self.is_shown() {
+            return self.turns(Scan::Long(Inside::Closing), Seen::left(Act::Nothing));
+        }
+        self.scan = Scan::Quoted;
+        self.keep(b'"', true)
     }
 
     /// After a quote that may be the last of its word.
@@ -130,8 +151,7 @@ impl Page {
         ensures { met self.new result ≡ specs.closing byte self.old }
     {
         if byte == b'"' {
-            self.scan = Scan::Quoted;
-            return self.keep(byte, true);
+            return self.keep_quote();
         }
         self.turns(Scan::Given(true), Seen::left(Act::Nothing))
     }
@@ -158,7 +178,7 @@ impl Page {
             self.word.push(b'\\');
             self.word.push(byte);
         } else if self.is_shown() {
-            return self.turns(Scan::Long(quoted, true), Seen::left(Act::Nothing));
+            return self.turns(Scan::Long(within_escape(quoted)), Seen::left(Act::Nothing));
         }
         if byte != b'&' {
             self.widens();
@@ -188,6 +208,24 @@ impl Page {
             b'\n' => self.continued(quoted),
             _ => self.keep_escape(byte, quoted),
         }
+    }
+}
+
+/// In a word between quotes, or not: a byte has no room there.
+fn within(quoted: bool) -> Inside
+    ensures { result ≡ specs.within quoted }
+{
+    if quoted { Inside::Quoted } else { Inside::Word }
+}
+
+/// After a backslash there.
+fn within_escape(quoted: bool) -> Inside
+    ensures { result ≡ specs.within_escape quoted }
+{
+    if quoted {
+        Inside::QuotedEscape
+    } else {
+        Inside::Escape
     }
 }
 

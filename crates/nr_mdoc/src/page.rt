@@ -48,6 +48,21 @@ pub(crate) enum Before {
     Other,
 }
 
+/// Where in a word a byte has no room.
+#[derive(Clone, Copy)]
+pub(crate) enum Inside {
+    /// In a word.
+    Word,
+    /// After a backslash in it.
+    Escape,
+    /// Between quotes.
+    Quoted,
+    /// After a backslash between quotes.
+    QuotedEscape,
+    /// After a quote between quotes.
+    Closing,
+}
+
 /// Where a line is read.
 #[derive(Clone, Copy)]
 pub(crate) enum Scan {
@@ -83,10 +98,10 @@ pub(crate) enum Scan {
     Closing,
     /// A word is whole: between quotes or not.
     Given(bool),
-    /// A word is longer than what is kept of one: between quotes or not, after a backslash or not.
-    Long(bool, bool),
+    /// A word is longer than what is kept of one.
+    Long(Inside),
     /// Its front went out.
-    Goes(bool, bool),
+    Goes(Inside),
     /// The rest of the line passes.
     Rest,
     /// The rest of the line is dropped.

@@ -332,8 +332,8 @@ impl Page {
     {
         match self.scan {
             Scan::Given(quoted) => self.given(quoted),
-            Scan::Long(quoted, escape) => self.long(quoted, escape),
-            Scan::Goes(quoted, escape) => self.goes_on(quoted, escape),
+            Scan::Long(inside) => self.long(inside),
+            Scan::Goes(inside) => self.goes_on(inside),
             Scan::Rest => self.in_rest(byte),
             Scan::Passes => Seen::taken(Act::Byte(byte)),
             Scan::Dropped => self.dropped(byte),

@@ -6,7 +6,7 @@ ghost use Rattle.nr_mdoc.specs.Words as specs;
 use super::acts::{Act, Text};
 use super::calls::called_by;
 use super::macros::{Font, Macro, Pair};
-use super::page::{Behind, Page, Scan};
+use super::page::{Behind, Inside, Page, Scan};
 use super::seen::Seen;
 use nr_units::Name;
 
@@ -161,22 +161,22 @@ impl Page {
     }
 
     /// The front of a long word is read as a word, and more of it comes.
-    fn long_begins(&mut self, quoted: bool, escape: bool) -> Seen
-        ensures { met self.new result ≡ specs.long_begins quoted escape self.old }
+    fn long_begins(&mut self, inside: Inside) -> Seen
+        ensures { met self.new result ≡ specs.long_begins inside self.old }
     {
         self.lay.front = true;
         self.call.going = true;
         let seen = self.argument(true);
-        self.scan = Scan::Goes(quoted, escape);
+        self.scan = Scan::Goes(inside);
         seen
     }
 
     /// A word is longer than what is kept of one: its front goes out, or a further part.
-    pub(crate) fn long(&mut self, quoted: bool, escape: bool) -> Seen
-        ensures { met self.new result ≡ specs.long quoted escape self.old }
+    pub(crate) fn long(&mut self, inside: Inside) -> Seen
+        ensures { met self.new result ≡ specs.long inside self.old }
     {
         if self.call.going {
-            self.scan = Scan::Goes(quoted, escape);
+            self.scan = Scan::Goes(inside);
             return Seen::left(Act::More);
         }
         if !self.marks.is_empty() {
@@ -185,19 +185,20 @@ impl Page {
         if self.is_enclosure_due() {
             return self.leaves();
         }
-        self.long_begins(quoted, escape)
+        self.long_begins(inside)
     }
 
     /// A long word goes on.
-    pub(crate) fn goes_on(&mut self, quoted: bool, escape: bool) -> Seen
-        ensures { met self.new result ≡ specs.goes_on quoted escape self.old }
+    pub(crate) fn goes_on(&mut self, inside: Inside) -> Seen
+        ensures { met self.new result ≡ specs.goes_on inside self.old }
     {
         self.word = Name::new();
-        self.scan = match (quoted, escape) {
-            (false, false) => Scan::Word,
-            (true, false) => Scan::Quoted,
-            (false, true) => Scan::Escape,
-            (true, true) => Scan::QuotedEscape,
+        self.scan = match inside {
+            Inside::Word => Scan::Word,
+            Inside::Escape => Scan::Escape,
+            Inside::Quoted => Scan::Quoted,
+            Inside::QuotedEscape => Scan::QuotedEscape,
+            Inside::Closing => Scan::Closing,
         };
         Seen::left(Act::Nothing)
     }
