@@ -5,7 +5,7 @@ use Rattle.nr_units.specs.declared.cell.Cell.{Cell}
 
 -- a byte that prints, but for the blank, `-` and `\`
 abbrev pub IsPlain : ℕ → Type 0
-IsPlain b = (32 < b) × (b ≢ code "-") × (b ≢ code "\\") × (b ≢ 127)
+IsPlain b = (code " " < b) × (b ≢ code "-") × (b ≢ code "\\") × (b ≢ 127)
 
 abbrev pub run_cell : Bool → ℕ → Cell
 run_cell under b = record { byte = b; under = under }

@@ -7,7 +7,7 @@ use Rattle.nr_settings.specs.Numbers.{first_value, is_zero}
 
 -- one cell each: all bytes but the control bytes
 abbrev pub prints : ℕ → Bool
-prints byte = nat_le 32 byte && not (byte == 127)
+prints byte = nat_le (code " ") byte && not (byte == 127)
 
 -- a byte that prints, as what a tab or leader repeats
 abbrev pub printing : Option ℕ → Option ℕ

@@ -12,7 +12,7 @@ use crate::numbers::is_zero;
 pub fn prints(byte: u8) -> bool
     ensures { result ≡ prints byte }
 {
-    byte >= 32 && byte != 127
+    byte >= b' ' && byte != 127
 }
 
 /// The first byte of a line's arguments, if it prints.

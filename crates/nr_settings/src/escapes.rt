@@ -1,5 +1,6 @@
 //! Escapes as they are measured, and how far each goes (CSTR 54, summary of escape sequences).
 ghost use Rattle.std.specs.Prelude.{◌≡◌, ◌+◌, ◌≤◌, length};
+ghost use Rattle.nr_units.specs.Character.{code};
 ghost use Rattle.nr_settings.specs.Escapes.{escape_of, len_before, escape_name_len, bracketed, is_sign, sign_len, register_len, delimited_len, delimited, digit_len, size_len};
 
 use crate::registers::is_digit;
@@ -80,7 +81,7 @@ pub(crate) fn escape_name_len(text: &[u8], long: bool) -> usize
 
 /// The number of bytes before a `]`.
 pub(crate) fn bracketed_len(text: &[u8]) -> usize
-    ensures value { result ≡ len_before 93 text.now }
+    ensures value { result ≡ len_before (code "]") text.now }
     ensures within { result ≤ length text.now }
 {
     len_before(b']', text)
