@@ -1,5 +1,6 @@
 // Bytes are gathered and go out to a sink many at a time.
 ghost use Rattle.std.specs.Prelude.{◌≡◌, ℕ, ◌+◌, ◌*◌, ◌<◌, ◌≤◌, List, [], ◌∷◌, ◌++◌, length, replicate, false, All, OnOk, OnErr};
+ghost use Rattle.nr_units.specs.Character.{code};
 ghost use Rattle.nr_units.specs.declared.cell.Cell.{Cell as CellValue};
 ghost use Rattle.std.specs.List.{flat_map};
 ghost use Rattle.nr_units.specs.Failures.{put_counted};
@@ -107,7 +108,7 @@ pub(crate) fn write_newlines<W: Sink>(
 ) -> Result<(), Fault>
     requires { 0 < pending.old.room }
     ensures gathers { GathersOrFails (W.held output.old) (W.held output.new) pending.old.items
-        pending.new.items (replicate count 10) result }
+        pending.new.items (replicate count (code "\n")) result }
     ensures failures { W.failures output.new ≡ put_counted (W.failures output.old) result }
     ensures room { pending.new.room ≡ pending.old.room }
 {

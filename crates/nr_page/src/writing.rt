@@ -1,6 +1,7 @@
 // The rows of a page, from the top on.
 ghost use Rattle.std.specs.Prelude.{◌≡◌, ℕ, ◌*◌, ◌≤◌, ◌++◌, length, replicate, OnOk, OnErr};
 ghost use Rattle.std.specs.Io.KnownBytes.{Appends};
+ghost use Rattle.nr_units.specs.Character.{code};
 ghost use Rattle.nr_units.specs.Sink.{AppendsFront};
 ghost use Rattle.nr_units.specs.Failures.{put_counted};
 ghost use Rattle.nr_page.specs.Gathering.{GathersOrFails};
@@ -37,7 +38,7 @@ fn write_row<W: Sink>(
 ) -> Result<(), Fault>
     requires { 3 * RUN ≤ pending.old.room }
     ensures gathers { GathersOrFails (W.held output.old) (W.held output.new) pending.old.items
-        pending.new.items (replicate empty 10 ++ line_bytes cells.now) result }
+        pending.new.items (replicate empty (code "\n") ++ line_bytes cells.now) result }
     ensures failures { W.failures output.new ≡ put_counted (W.failures output.old) result }
     ensures room { pending.new.room ≡ pending.old.room }
 {

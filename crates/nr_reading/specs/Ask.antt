@@ -88,7 +88,7 @@ spoiled a = record a { name = record a.name { bad = true } }
 -- the number of an argument is 1 to 9; another byte gives nothing
 abbrev pub argument_asked : ℕ → Ask → Answer
 argument_asked b a =
-    if nat_le (code "1") b && nat_le b (code "9") then answers.Argument (b - 49) else answers.Ends a
+    if nat_le (code "1") b && nat_le b (code "9") then answers.Argument (b - code "1") else answers.Ends a
 
 -- a name is one byte, or `(` and two, or in brackets where names may be long; a register's may have a sign before it
 abbrev pub answer_first : ℕ → Bool → Ask → Answer

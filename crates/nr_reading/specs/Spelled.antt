@@ -10,7 +10,7 @@ is_blank b = (b == code " ") || (b == code "\t")
 
 -- a blank, a newline or another control byte
 abbrev pub ends_name : ℕ → Bool
-ends_name b = nat_le b 32 || (b == 127)
+ends_name b = nat_le b (code " ") || (b == 127)
 
 abbrev pub nothing_spelled : Spelled
 nothing_spelled = record { bytes = []; bad = false }

@@ -39,4 +39,4 @@ read_string_text b r =
 -- The line and its newline pass into the diversion.
 abbrev pub read_transparent : ℕ → Reading → Step
 read_transparent b r =
-    if b == code "\n" then go (due (dues.Add 10) (to modes.Start r)) else go (due (dues.Add b) r)
+    if b == code "\n" then go (due (dues.Add (code "\n")) (to modes.Start r)) else go (due (dues.Add b) r)

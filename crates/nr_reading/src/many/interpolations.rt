@@ -1,5 +1,6 @@
 //! Interpolations and font escapes that stand whole in a row, met at once.
 ghost use Rattle.std.specs.Prelude.{◌≡◌, ◌+◌, ◌<◌, ◌≤◌, ℕ, length, slice_get, Some, None, IfSome, true};
+ghost use Rattle.nr_units.specs.Character.{code};
 ghost use Rattle.nr_reading.specs.declared.ask.Kind.TheVariants as kinds;
 ghost use Rattle.nr_reading.specs.declared.ask.Sign.TheVariants as signs;
 ghost use Rattle.nr_reading.specs.declared.event.Event.TheVariants as events;
@@ -149,7 +150,7 @@ impl Half {
         ensures lone { result ≡ None → (name : ℕ) → slice_get (I.fronts items.now) (place + before)
             ≡ Some (variants.Byte name) → is_lone_name name ≡ true → ⊥ }
         ensures pair { result ≡ None → (one two : ℕ) → slice_get (I.fronts items.now) (place + before)
-            ≡ Some (variants.Byte 40) → slice_get (I.fronts items.now) (place + (before + 1))
+            ≡ Some (variants.Byte (code "(")) → slice_get (I.fronts items.now) (place + (before + 1))
             ≡ Some (variants.Byte one) →
             slice_get (I.fronts items.now) (place + (before + 2)) ≡ Some (variants.Byte two)
             → is_plain one ≡ true → is_plain two ≡ true → ⊥ }
@@ -240,8 +241,8 @@ impl Half {
         requires due { self.old.reading.due ≡ dues.Look }
         requires start { self.old.reading.mode ≡ modes.Start }
         requires within { place + 1 < length (I.fronts items.now) }
-        requires backslash { slice_get (I.fronts items.now) place ≡ Some (variants.Byte 92) }
-        requires font { slice_get (I.fronts items.now) (place + 1) ≡ Some (variants.Byte 102) }
+        requires backslash { slice_get (I.fronts items.now) place ≡ Some (variants.Byte (code "\\")) }
+        requires font { slice_get (I.fronts items.now) (place + 1) ≡ Some (variants.Byte (code "f")) }
         ensures met { IfSome result (λ run. (h : HalfRead) (n : ℕ)
             → HasMet n (I.fronts items.now) h (quiet place self.old) →
             HasMet (n + run.moves) (I.fronts items.now) h
@@ -280,8 +281,8 @@ impl Half {
         requires plain { interpolates self.old ≡ true }
         requires due { self.old.reading.due ≡ dues.Look }
         requires within { place + 1 < length (I.fronts items.now) }
-        requires backslash { slice_get (I.fronts items.now) place ≡ Some (variants.Byte 92) }
-        requires font { slice_get (I.fronts items.now) (place + 1) ≡ Some (variants.Byte 102) }
+        requires backslash { slice_get (I.fronts items.now) place ≡ Some (variants.Byte (code "\\")) }
+        requires font { slice_get (I.fronts items.now) (place + 1) ≡ Some (variants.Byte (code "f")) }
         ensures met { IfSome result (λ run. (h : HalfRead) (n : ℕ)
             → HasMet n (I.fronts items.now) h (quiet place self.old) →
             HasMet (n + run.moves) (I.fronts items.now) h
@@ -315,7 +316,7 @@ impl Half {
     pub(crate) fn meet_interpolation<I: Items>(&mut self, items: &I, place: usize) -> Option<Run>
         requires due { self.old.reading.due ≡ dues.Look }
         requires within { place < length (I.fronts items.now) }
-        requires backslash { slice_get (I.fronts items.now) place ≡ Some (variants.Byte 92) }
+        requires backslash { slice_get (I.fronts items.now) place ≡ Some (variants.Byte (code "\\")) }
         ensures met { IfSome result (λ run. (h : HalfRead) (n : ℕ)
             → HasMet n (I.fronts items.now) h (quiet place self.old) →
             HasMet (n + run.moves) (I.fronts items.now) h
