@@ -197,6 +197,9 @@ at_text f is =
     let both = idle f.event f.task one.1 in
     record { springs = none_of f.springs one.0; event = both.0; task = both.1; half = two.1; begun = not-true (begins_line (collected f)) all.1 }
 
+pub half_at_text : (f : Formatter) → is_at_text f ≡ true → reads_text f.reader.half ≡ true
+half_at_text f is = let text = at_text f is in text.half
+
 pub text_reads : (f : Formatter) → is_at_text f ≡ true → ReadsNext f
 text_reads f is = let text = at_text f is in record { springs = text.springs; event = text.event; task = text.task }
 

@@ -4,24 +4,17 @@ use Rattle.std.specs.Option.{option_map}
 use Rattle.std.proofs.Common.{◌≡◌, ℕ, ◌<◌, Bool, List, length, Some, ap, ◌∙◌, arith}
 use Rattle.std.proofs.lemmas.Option.{slice_get-map, slice_get-get_or}
 use Rattle.nr_reading.specs.declared.front.Front.TheVariants as fronts
-use Rattle.nr_reading.specs.Many.Interpolations.{IsFont, IsName}
-use Rattle.nr_reading.specs.Many.Interpolations.{Lone as RowLone, Pair as RowPair}
-use Rattle.nr_input.specs.Many.Fonts.{BeginsFont, NamesFont, Lone, Pair}
+use Rattle.nr_reading.specs.Many.Interpolations.{IsFont}
+use Rattle.nr_input.specs.Many.Fonts.{BeginsFont}
 
 -- the byte stands there in the row
 byte_there : (bs : List ℕ) (k : ℕ) → k < length bs → slice_get (map fronts.Byte bs) k ≡ Some (fronts.Byte (slice_index bs k))
 byte_there bs k less = slice_get-map fronts.Byte bs k ∙ ap (option_map fronts.Byte) (slice_get-get_or bs k 0 less)
-
--- a name among the bytes is one of the row
-name_there : (in_line : Bool) (bs : List ℕ) → 2 < length bs → NamesFont in_line bs → IsName in_line (map fronts.Byte bs) 2
-name_there in_line bs some (Lone lone) = RowLone (slice_index bs 2) (byte_there bs 2 some) lone
-name_there in_line bs some (Pair line all opens one two) =
-    RowPair (slice_index bs 3) (slice_index bs 4) line (byte_there bs 2 some ∙ ap (λ b. Some (fronts.Byte b)) opens) (byte_there bs 3 (omega (arith, all))) (byte_there bs 4 all) one two
 
 -- a row of such bytes has the font escape in front
 pub is_font : (in_line : Bool) (bs : List ℕ) → BeginsFont in_line bs → IsFont in_line (map fronts.Byte bs)
 is_font in_line bs begins = record {
   backslash = byte_there bs 0 (omega (arith, begins.some)) ∙ ap (λ b. Some (fronts.Byte b)) begins.backslash;
   letter = byte_there bs 1 (omega (arith, begins.some)) ∙ ap (λ b. Some (fronts.Byte b)) begins.letter;
-  name = name_there in_line bs begins.some begins.name;
+  name = begins.name;
 }

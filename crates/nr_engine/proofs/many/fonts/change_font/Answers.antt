@@ -1,4 +1,4 @@
-use Rattle.std.proofs.Common.{◌≡◌, ◌+◌, sym, ap, ◌∙◌, subst, arith}
+use Rattle.std.proofs.Common.{◌≡◌, ◌+◌, refl, sym, ap, ◌∙◌, subst, arith}
 use Rattle.nr_reading.proofs.InText.{in_text}
 use Rattle.nr_input.specs.declared.reader.Reader.{Reader}
 use Rattle.nr_formatter.specs.Moves.{font_set}
@@ -6,7 +6,7 @@ use Rattle.nr_formatter.specs.Many.Runs.{is_in_line}
 use Rattle.nr_formatter.specs.declared.formatter.Formatter.{Formatter}
 use Rattle.nr_formatter.proofs.PlainText.{in_line}
 use Rattle.nr_engine.specs.Many.Running.{PutsText}
-use Rattle.nr_engine.proofs.FontEscapes.{font_put, line_font, puts_font, text_reads}
+use Rattle.nr_engine.proofs.FontEscapes.{font_put, half_at_text, line_font, puts_font, text_reads}
 use Rattle.nr_engine.proofs.many.fonts.change_font.Goals as goal
 
 pub returns-in-Some-clause-in_line : goal.returns-in-Some-clause-in_line
@@ -45,3 +45,7 @@ returns-in-Some-clause-at_start c = λ start.
       line = λ some. ap is_in_line is ∙ line_font h f c.requires.text met.behind;
       left = λ none. absurd (omega (arith, none, met.least));
     }
+
+pub returns-in-None-clause-longest : goal.returns-in-None-clause-longest
+returns-in-None-clause-longest c =
+    λ zero shown begins. c.in-None.ensures.longest refl (half_at_text c.args.formatter.now c.requires.text) shown begins
