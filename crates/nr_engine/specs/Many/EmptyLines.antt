@@ -10,7 +10,7 @@ use Rattle.nr_engine.specs.Many.Running.{HasNext}
 -- so many newlines of the source come next at the beginning of a line
 pub record NewlinesNext (n : ℕ) (e : Shape) (supply : Option Supply) : Type 0 where
   pub at_line : is_at_line e.formatter.reader.half ≡ true
-  pub has : HasNext (replicate n 10) e supply
+  pub has : HasNext (replicate n (code "\n")) e supply
 
 -- the first n of these bytes at hand are newlines that come next so, and none of them is the 2^40th byte
 pub record NewlinesAtHand (bs : List ℕ) (n : ℕ) (e : Shape) (supply : Option Supply) : Type 0 where

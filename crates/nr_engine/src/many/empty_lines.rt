@@ -1,5 +1,6 @@
 //! Empty lines: many moves in one call.
 ghost use Rattle.std.specs.Prelude.{◌≡◌, ◌≢◌, ◌+◌, ◌-◌, ◌<◌, ◌≤◌, ◌^◌, true, [], length, take, replicate, slice_index};
+ghost use Rattle.nr_units.specs.Character.{code};
 ghost use Rattle.nr_reading.specs.declared.event.Event.TheVariants as events;
 ghost use Rattle.nr_input.specs.Many.AtHand.{is_unseen};
 ghost use Rattle.nr_formatter.specs.Many.EmptyLines.{is_at_line};
@@ -14,8 +15,8 @@ use nr_units::source::Source;
 /// How many newlines these bytes begin with.
 fn count_newlines(bytes: &[u8]) -> usize
     ensures front { result ≤ length bytes.now }
-    ensures newlines { take result bytes.now ≡ replicate result 10 }
-    ensures stops { result < length bytes.now → slice_index bytes.now result ≢ 10 }
+    ensures newlines { take result bytes.now ≡ replicate result (code "\n") }
+    ensures stops { result < length bytes.now → slice_index bytes.now result ≢ code "\n" }
 {
     let mut count = 0;
     for byte in bytes {
@@ -36,7 +37,7 @@ impl Engine {
             self.now.place.taken + length (R.at_hand input.now) < 2 ^ 40
             → is_at_line self.now.formatter.reader.half ≡ true →
             result < most → result < length (R.at_hand input.now)
-            → slice_index (R.at_hand input.now) result ≢ 10 }
+            → slice_index (R.at_hand input.now) result ≢ code "\n" }
     {
         if !self.formatter.is_at_line() {
             return 0;

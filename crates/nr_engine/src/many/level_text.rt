@@ -1,5 +1,6 @@
 //! Words of levels: many moves in one call.
 ghost use Rattle.std.specs.Prelude.{◌≡◌, ◌+◌, ◌*◌, ◌≤◌, length, true};
+ghost use Rattle.nr_units.specs.Character.{code};
 ghost use Rattle.nr_store.specs.Store.{shown};
 ghost use Rattle.nr_store.specs.Windows.{rest_of};
 ghost use Rattle.nr_store.specs.declared.element.Element.TheVariants as elements;
@@ -25,7 +26,7 @@ const LONGEST_LINE: usize = 128;
 /// was.
 #[inline(always)]
 fn put_level_newline(formatter: &mut Formatter) -> usize
-    requires next { shown formatter.old.store.levels ≡ shows.Item (elements.Byte 10) }
+    requires next { shown formatter.old.store.levels ≡ shows.Item (elements.Byte (code "\n")) }
     ensures puts { MakesInText result formatter.old formatter.new }
     ensures few { result ≤ 5 }
     ensures ends { EndsLine formatter.old formatter.new }

@@ -1,5 +1,6 @@
 //! Bytes in the midst of a text line that go to its word and do not end it. (CSTR 54, sections 4 and 9.)
 ghost use Rattle.std.specs.Prelude.{◌≡◌, true, OnOk, OnErr};
+ghost use Rattle.nr_units.specs.Character.{code};
 ghost use Rattle.nr_fill.specs.Line.{afforded};
 ghost use Rattle.nr_formatter.specs.Many.CellBytes.{goes_to_word, byte_put, AfterCellByte};
 ghost use Rattle.nr_formatter.specs.Many.Runs.{is_in_line};
@@ -23,8 +24,8 @@ impl Formatter {
 
     /// A tab goes to the next stop.
     fn add_tab(&mut self) -> Result<(), LineCells>
-        ensures result { result ≡ afforded (byte_put 9 self.old).line }
-        ensures ok { OnOk result (self.new ≡ byte_put 9 self.old) }
+        ensures result { result ≡ afforded (byte_put (code "\t") self.old).line }
+        ensures ok { OnOk result (self.new ≡ byte_put (code "\t") self.old) }
         ensures err { OnErr result (self.new ≡ self.old) }
     {
         let margins = self.settings.indents.margins();

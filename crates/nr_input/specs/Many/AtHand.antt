@@ -1,4 +1,5 @@
 -- Bytes that the source has at hand, taken many at once.
+use Prim.Native.Char.{code}
 use Rattle.std.specs.Prelude.{◌≡◌, ℕ, ◌+◌, ◌<◌, ◌^◌, ◌==◌, Bool, true, false, not, List, length, take}
 use Rattle.nr_units.specs.Source.{MayGiveAll, skipped}
 use Rattle.nr_input.specs.declared.place.Ahead.{Ahead}
@@ -17,4 +18,4 @@ pub record ComeNext (bs : List ℕ) (c : Coming) : Type 0 where
 
 -- after the next n bytes, of which this is the last
 abbrev pub behind_last : ℕ → ℕ → Coming → Coming
-behind_last last n c = record { supply = skipped n c.supply; taken = c.taken + n; inside = not (last == 10) }
+behind_last last n c = record { supply = skipped n c.supply; taken = c.taken + n; inside = not (last == code "\n") }

@@ -126,4 +126,4 @@ behind_run n c =
 
 -- so many bytes were taken, and this was the last
 abbrev pub passed_run : ℕ → ℕ → Reached → Reached
-passed_run last n p = record { ahead = Unseen; taken = p.taken + n; inside = not (last == 10) }
+passed_run last n p = record { ahead = Unseen; taken = p.taken + n; inside = not (last == code "\n") }

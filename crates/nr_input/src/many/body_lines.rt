@@ -1,5 +1,6 @@
 //! The lines of a definition that the source has at hand: many moves at once.
 ghost use Rattle.std.specs.Prelude.{◌≡◌, ◌+◌, ◌*◌, ◌<◌, ◌≤◌, All, length, take, slice_index, true, false};
+ghost use Rattle.nr_units.specs.Character.{code};
 ghost use Rattle.nr_store.specs.Store.{charge_of};
 ghost use Rattle.nr_reading.specs.declared.mode.Mode.TheVariants as modes;
 ghost use Rattle.nr_reading.specs.Definitions.{in_body};
@@ -55,7 +56,7 @@ fn is_in_body(half: &Half) -> bool
 #[inline(always)]
 pub(crate) fn text_bytes(bytes: &[u8]) -> usize
     ensures front { result ≤ length bytes.now }
-    ensures plain { All (IsPlain 10) (take result bytes.now) }
+    ensures plain { All (IsPlain (code "\n")) (take result bytes.now) }
 {
     for place in 0..bytes.len() {
         if !is_plain(b'\n', bytes[place]) {
@@ -80,7 +81,7 @@ fn line_bytes(bytes: &[u8]) -> usize
 // Whether these bytes begin like the line that ends the definition.
 #[inline(always)]
 fn is_like_last(defining: &Defining, bytes: &[u8]) -> bool
-    ensures { result ≡ false → 0 < length bytes.now → slice_index bytes.now 0 ≡ 46
+    ensures { result ≡ false → 0 < length bytes.now → slice_index bytes.now 0 ≡ code "."
         → IsOther bytes.now defining.now }
 {
     if bytes.is_empty() || bytes[0] != b'.' {
@@ -96,7 +97,7 @@ fn is_like_last(defining: &Defining, bytes: &[u8]) -> bool
 #[inline(always)]
 fn may_end(half: &Half, bytes: &[u8]) -> bool
     ensures { result ≡ false → half.now.reading.mode ≡ modes.BodyStart 0 → 0 < length bytes.now
-        → slice_index bytes.now 0 ≡ 46
+        → slice_index bytes.now 0 ≡ code "."
         → IsOther bytes.now half.now.notes.defining }
 {
     match half.reading.mode {
@@ -123,8 +124,8 @@ fn backslashes_at(bytes: &[u8], place: usize) -> usize
     requires { place ≤ length bytes.now }
     ensures few { result ≤ 1 }
     ensures within { 0 < result → place + 1 < length bytes.now }
-    ensures first { 0 < result → slice_index bytes.now place ≡ 92 }
-    ensures second { 0 < result → slice_index bytes.now (place + 1) ≡ 92 }
+    ensures first { 0 < result → slice_index bytes.now place ≡ code "\\" }
+    ensures second { 0 < result → slice_index bytes.now (place + 1) ≡ code "\\" }
 {
     if bytes.len() - place < 2 || bytes[place] != b'\\' || bytes[place + 1] != b'\\' {
         return 0;

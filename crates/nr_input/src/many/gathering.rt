@@ -1,5 +1,6 @@
 //! The bytes of a text line of levels, gathered with those of the arguments, registers and strings that are spliced between them.
 ghost use Rattle.std.specs.Prelude.{◌≡◌, ℕ, ◌+◌, ◌-◌, ◌<◌, ◌≤◌, ◌^◌, [], length, map, take, drop, slice_get, false, true, Option, None, Some, IfSome};
+ghost use Rattle.nr_units.specs.Character.{code};
 ghost use Rattle.nr_symbol_tables.specs.Table.{find};
 ghost use Rattle.nr_store.specs.Store.{charge_of, shown, words};
 ghost use Rattle.nr_store.specs.Windows.{rest_of, left_times};
@@ -128,7 +129,7 @@ fn has_byte<I: Items>(row: &I, place: usize, byte: u8) -> bool
 // Whether a newline is in front of a row, or with `closes` after the `\}` that it begins with.
 #[inline(always)]
 fn has_newline<I: Items>(row: &I, closes: bool) -> bool
-    ensures { result ≡ is_byte 10 (slice_get (I.fronts row.now) (brace_items closes)) }
+    ensures { result ≡ is_byte (code "\n") (slice_get (I.fronts row.now) (brace_items closes)) }
 {
     if closes {
         return has_byte(row, 2, b'\n');
@@ -486,7 +487,7 @@ pub fn leave<K: Copy>(
     requires within { taken ≤ length bytes.now }
     ensures leaves { Leaves goes result (take taken bytes.now) store.old reader.old store.new reader.new }
     ensures next { goes ≡ true → gathered.now.ends ≡ true → taken ≡ length bytes.now
-        → shown store.new.levels ≡ shows.Item (elements.Byte 10) }
+        → shown store.new.levels ≡ shows.Item (elements.Byte (code "\n")) }
     ensures few { result ≤ 66 }
 {
     if !goes || taken < gathered.count {

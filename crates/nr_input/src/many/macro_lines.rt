@@ -1,5 +1,6 @@
 //! The arguments of a macro that the source has at hand: many moves at once.
 ghost use Rattle.std.specs.Prelude.{◌≡◌, ◌≢◌, ◌+◌, ◌*◌, ◌^◌, ◌<◌, ◌≤◌, ℕ, List, All, length, map, take, slice_index, true, false};
+ghost use Rattle.nr_units.specs.Character.{code};
 ghost use Rattle.nr_reading.specs.declared.front.Front.TheVariants as variants;
 ghost use Rattle.nr_reading.specs.Many.InArgument.{is_in_argument};
 ghost use Rattle.nr_reading.specs.Many.Passing.{quiet};
@@ -49,8 +50,8 @@ fn is_before_argument(half: &Half) -> bool
 #[inline(always)]
 fn space_count(bytes: &[u8]) -> usize
     ensures front { result ≤ length bytes.now }
-    ensures spaces { All (λ byte. byte ≡ 32) (take result bytes.now) }
-    ensures stops { result < length bytes.now → slice_index bytes.now result ≢ 32 }
+    ensures spaces { All (λ byte. byte ≡ code " ") (take result bytes.now) }
+    ensures stops { result < length bytes.now → slice_index bytes.now result ≢ code " " }
 {
     let mut count = 0;
     for byte in bytes {
@@ -133,8 +134,8 @@ fn end_behind(half: &mut Half, taken: usize, moves: usize) -> Passed
 // Whether a quote in an argument ends it, by the byte after the quote: that is read next, and begins no escape.
 #[inline(always)]
 fn closes(next: u8) -> bool
-    ensures quote { result ≡ true → next ≢ 34 }
-    ensures escape { result ≡ true → next ≢ 92 }
+    ensures quote { result ≡ true → next ≢ code "\"" }
+    ensures escape { result ≡ true → next ≢ code "\\" }
 {
     next != b'"' && next != b'\\'
 }
