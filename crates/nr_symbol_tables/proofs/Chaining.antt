@@ -1,4 +1,5 @@
 -- Lemmas on hyphenation words in their chains.
+use Prim.Native.Char.{code}
 use Rattle.std.proofs.Common.{◌≡◌, ◌≢◌, ℕ, zero, suc, ◌+◌, ◌-◌, ◌<◌, ◌≤◌, List, [], ◌∷◌, ◌++◌, length, get_or, replicate, refl, ap, sym, subst, ◌∙◌, inl, inr, eqb, arith, length-append}
 use Rattle.std.proofs.Math.ListN.{set}
 use Rattle.std.specs.Prelude.{Bool, true, false, not, ◌&&◌, ◌||◌, max, Option, None, Some, map, find, unwrap_or, reverse}
@@ -156,31 +157,31 @@ module _ (row : List Linked) (latest bytes : List ℕ) (h : IsChained (kinds row
 -- ---- whether bytes are a word, perhaps with an `s` more
 
 module _ (bytes : List ℕ) (w : Word) where
-  not_given : (w.letters ≡ bytes → length w.letters ≢ 0 → ⊥) → (w.letters ++ 115 ∷ [] ≡ bytes → length w.letters ≢ 0 → ⊥) → is_given bytes w ≡ false
+  not_given : (w.letters ≡ bytes → length w.letters ≢ 0 → ⊥) → (w.letters ++ code "s" ∷ [] ≡ bytes → length w.letters ≢ 0 → ⊥) → is_given bytes w ≡ false
   not_given whole longer = elim (cases_Bool (eqb (length w.letters) 0)) [
-    | inl none ↦ ap (λ t. not t && (bytes_eq bytes w.letters || bytes_eq bytes (w.letters ++ 115 ∷ []))) none
+    | inl none ↦ ap (λ t. not t && (bytes_eq bytes w.letters || bytes_eq bytes (w.letters ++ code "s" ∷ []))) none
     | inr some ↦ (
         let apart : length w.letters ≢ 0 = λ e. (let hit : eqb (length w.letters) 0 ≡ true = ap (λ n. eqb n 0) e in let wrong : true ≡ false = sym hit ∙ some in cc) in
         elim (cases_Bool (bytes_eq bytes w.letters)) [
           | inl same ↦ absurd (whole (sym ((bytes_eq-Decides bytes w.letters).0 same)) apart)
-          | inr other ↦ elim (cases_Bool (bytes_eq bytes (w.letters ++ 115 ∷ []))) [
-            | inl same ↦ absurd (longer (sym ((bytes_eq-Decides bytes (w.letters ++ 115 ∷ [])).0 same)) apart)
-            | inr none ↦ ap (λ t. not t && (bytes_eq bytes w.letters || bytes_eq bytes (w.letters ++ 115 ∷ []))) some ∙ ap (λ t. t || bytes_eq bytes (w.letters ++ 115 ∷ [])) other ∙ none
+          | inr other ↦ elim (cases_Bool (bytes_eq bytes (w.letters ++ code "s" ∷ []))) [
+            | inl same ↦ absurd (longer (sym ((bytes_eq-Decides bytes (w.letters ++ code "s" ∷ [])).0 same)) apart)
+            | inr none ↦ ap (λ t. not t && (bytes_eq bytes w.letters || bytes_eq bytes (w.letters ++ code "s" ∷ []))) some ∙ ap (λ t. t || bytes_eq bytes (w.letters ++ code "s" ∷ [])) other ∙ none
           ]
         ])
   ]
 
   given_whole : length w.letters ≢ 0 → w.letters ≡ bytes → is_given bytes w ≡ true
   given_whole some is =
-      ap (λ t. not t && (bytes_eq bytes w.letters || bytes_eq bytes (w.letters ++ 115 ∷ []))) (ne_eqb (length w.letters) 0 some)
-      ∙ ap (λ t. t || bytes_eq bytes (w.letters ++ 115 ∷ [])) ((bytes_eq-Decides bytes w.letters).1 (sym is))
+      ap (λ t. not t && (bytes_eq bytes w.letters || bytes_eq bytes (w.letters ++ code "s" ∷ []))) (ne_eqb (length w.letters) 0 some)
+      ∙ ap (λ t. t || bytes_eq bytes (w.letters ++ code "s" ∷ [])) ((bytes_eq-Decides bytes w.letters).1 (sym is))
 
-  given_longer : length w.letters ≢ 0 → w.letters ++ 115 ∷ [] ≡ bytes → is_given bytes w ≡ true
+  given_longer : length w.letters ≢ 0 → w.letters ++ code "s" ∷ [] ≡ bytes → is_given bytes w ≡ true
   given_longer some is = elim (cases_Bool (bytes_eq bytes w.letters)) [
     | inl same ↦ given_whole some (sym ((bytes_eq-Decides bytes w.letters).0 same))
     | inr other ↦
-        ap (λ t. not t && (bytes_eq bytes w.letters || bytes_eq bytes (w.letters ++ 115 ∷ []))) (ne_eqb (length w.letters) 0 some)
-        ∙ ap (λ t. t || bytes_eq bytes (w.letters ++ 115 ∷ [])) other ∙ (bytes_eq-Decides bytes (w.letters ++ 115 ∷ [])).1 (sym is)
+        ap (λ t. not t && (bytes_eq bytes w.letters || bytes_eq bytes (w.letters ++ code "s" ∷ []))) (ne_eqb (length w.letters) 0 some)
+        ∙ ap (λ t. t || bytes_eq bytes (w.letters ++ code "s" ∷ [])) other ∙ (bytes_eq-Decides bytes (w.letters ++ code "s" ∷ [])).1 (sym is)
   ]
 
 -- no bytes are no word
@@ -190,27 +191,27 @@ latest_none bytes ws none = record {
   is = λ some. absurd (omega arith);
   last = λ k above below. not_given bytes (word_at ws k)
       (λ same some. (let long : length (word_at ws k).letters ≡ length bytes = ap length same in some (omega arith)))
-      (λ same some. (let long : length ((word_at ws k).letters ++ 115 ∷ []) ≡ length bytes = ap length same in let more = length-append (word_at ws k).letters (115 ∷ []) in absurd (omega arith)));
+      (λ same some. (let long : length ((word_at ws k).letters ++ code "s" ∷ []) ≡ length bytes = ap length same in let more = length-append (word_at ws k).letters (code "s" ∷ []) in absurd (omega arith)));
 }
 
 -- bytes that don't end with an `s`, or are one byte
-pub latest_whole : (bytes : List ℕ) (ws : List Word) (at : ℕ) → 0 < length bytes → (length bytes ≢ 1 → get_or bytes (length bytes - 1) 0 ≢ 115) → IsLatest bytes ws at → IsLatestGiven bytes ws at
+pub latest_whole : (bytes : List ℕ) (ws : List Word) (at : ℕ) → 0 < length bytes → (length bytes ≢ 1 → get_or bytes (length bytes - 1) 0 ≢ code "s") → IsLatest bytes ws at → IsLatestGiven bytes ws at
 latest_whole bytes ws at some ends h = record {
   within = h.within;
   is = λ found. (let same = h.is found in given_whole bytes (word_at ws (at - 1)) (λ none. (let long : length (word_at ws (at - 1)).letters ≡ length bytes = ap length same in absurd (omega arith))) same);
   last = λ k above below. not_given bytes (word_at ws k) (λ same more. h.last k above below same)
       (λ same more. (
       let letters : List ℕ = (word_at ws k).letters in
-      let long : length letters + 1 ≡ length bytes = sym (length-append letters (115 ∷ [])) ∙ ap length same in
-      let last_is : get_or bytes (length bytes - 1) 0 ≡ 115 = ap (λ bs. get_or bs (length bytes - 1) 0) (sym same) ∙ last_at letters 115 (length bytes - 1) (omega arith) in
+      let long : length letters + 1 ≡ length bytes = sym (length-append letters (code "s" ∷ [])) ∙ ap length same in
+      let last_is : get_or bytes (length bytes - 1) 0 ≡ code "s" = ap (λ bs. get_or bs (length bytes - 1) 0) (sym same) ∙ last_at letters (code "s") (length bytes - 1) (omega arith) in
       ends (λ one. more (omega arith)) last_is));
 }
 
 -- bytes that end with an `s`, and more before it
-pub latest_of_both : (bytes front : List ℕ) (ws : List Word) (at before : ℕ) → bytes ≡ front ++ 115 ∷ [] → 0 < length front → IsLatest bytes ws at → IsLatest front ws before → IsLatestGiven bytes ws (max at before)
+pub latest_of_both : (bytes front : List ℕ) (ws : List Word) (at before : ℕ) → bytes ≡ front ++ code "s" ∷ [] → 0 < length front → IsLatest bytes ws at → IsLatest front ws before → IsLatestGiven bytes ws (max at before)
 latest_of_both bytes front ws at before is some h g =
-    let long : length bytes ≡ length front + 1 = ap length is ∙ length-append front (115 ∷ []) in
-    let ends : (letters : List ℕ) → letters ++ 115 ∷ [] ≡ bytes → letters ≡ front = λ letters same. append_cancel_right letters front (115 ∷ []) (same ∙ is) in
+    let long : length bytes ≡ length front + 1 = ap length is ∙ length-append front (code "s" ∷ []) in
+    let ends : (letters : List ℕ) → letters ++ code "s" ∷ [] ≡ bytes → letters ≡ front = λ letters same. append_cancel_right letters front (code "s" ∷ []) (same ∙ is) in
     record {
       within = (let a = h.within in let b = g.within in omega arith);
       is = λ found. elim (cases_lt at before) [
@@ -218,7 +219,7 @@ latest_of_both bytes front ws at before is some h g =
             let most : max at before ≡ before = omega arith in
             let same = g.is (let e : 0 < before = omega arith in e) in
             subst (λ m. is_given bytes (word_at ws (m - 1)) ≡ true) (sym most)
-            (given_longer bytes (word_at ws (before - 1)) (λ none. (let length_is : length (word_at ws (before - 1)).letters ≡ length front = ap length same in absurd (omega arith))) (ap (λ l. l ++ 115 ∷ []) same ∙ sym is)))
+            (given_longer bytes (word_at ws (before - 1)) (λ none. (let length_is : length (word_at ws (before - 1)).letters ≡ length front = ap length same in absurd (omega arith))) (ap (λ l. l ++ code "s" ∷ []) same ∙ sym is)))
         | inr higher ↦ (
             let most : max at before ≡ at = omega arith in
             let same = h.is (let e : 0 < at = omega arith in e) in

@@ -1,4 +1,5 @@
 -- Lemmas on hyphenation words.
+use Prim.Native.Char.{code}
 use Rattle.std.proofs.Common.{◌≡◌, ℕ, ◌+◌, ◌-◌, ◌<◌, ◌≤◌, true, false, List, [], ◌∷◌, ◌++◌, length, map, take, drop, get_or, reverse, refl, ap, sym, ◌∙◌, inl, inr, eqb, arith, append_assoc, length-append}
 use Rattle.std.specs.Prelude.{Bool, cond}
 use Rattle.std.specs.List.{prefix_len, suffix_len}
@@ -11,28 +12,28 @@ use Rattle.nr_symbol_tables.specs.declared.word.HyphenationWord.{HyphenationWord
 
 -- ---- the letters and the places of a prefix
 
-letters_at_minus : (b : ℕ) (bs : List ℕ) → eqb b 45 ≡ true → letters_of (b ∷ bs) ≡ letters_of bs
-letters_at_minus b bs minus = cond-true (eqb b 45) _ _ minus
+letters_at_minus : (b : ℕ) (bs : List ℕ) → eqb b (code "-") ≡ true → letters_of (b ∷ bs) ≡ letters_of bs
+letters_at_minus b bs minus = cond-true (eqb b (code "-")) _ _ minus
 
-letters_at_other : (b : ℕ) (bs : List ℕ) → eqb b 45 ≡ false → letters_of (b ∷ bs) ≡ b ∷ letters_of bs
-letters_at_other b bs other = cond-false (eqb b 45) _ _ other
+letters_at_other : (b : ℕ) (bs : List ℕ) → eqb b (code "-") ≡ false → letters_of (b ∷ bs) ≡ b ∷ letters_of bs
+letters_at_other b bs other = cond-false (eqb b (code "-")) _ _ other
 
-points_at_minus : (place b : ℕ) (bs : List ℕ) → eqb b 45 ≡ true → points_from place (b ∷ bs) ≡ place ∷ points_from place bs
-points_at_minus place b bs minus = cond-true (eqb b 45) _ _ minus
+points_at_minus : (place b : ℕ) (bs : List ℕ) → eqb b (code "-") ≡ true → points_from place (b ∷ bs) ≡ place ∷ points_from place bs
+points_at_minus place b bs minus = cond-true (eqb b (code "-")) _ _ minus
 
-points_at_other : (place b : ℕ) (bs : List ℕ) → eqb b 45 ≡ false → points_from place (b ∷ bs) ≡ points_from (place + 1) bs
-points_at_other place b bs other = cond-false (eqb b 45) _ _ other
+points_at_other : (place b : ℕ) (bs : List ℕ) → eqb b (code "-") ≡ false → points_from place (b ∷ bs) ≡ points_from (place + 1) bs
+points_at_other place b bs other = cond-false (eqb b (code "-")) _ _ other
 
 pub letters_of-append : (xs ys : List ℕ) → letters_of (xs ++ ys) ≡ letters_of xs ++ letters_of ys
 letters_of-append [] ys = refl
-letters_of-append (x ∷ xs) ys = elim (cases_Bool (eqb x 45)) [
+letters_of-append (x ∷ xs) ys = elim (cases_Bool (eqb x (code "-"))) [
   | inl minus ↦ letters_at_minus x (xs ++ ys) minus ∙ letters_of-append xs ys ∙ ap (λ l. l ++ letters_of ys) (sym (letters_at_minus x xs minus))
   | inr other ↦ letters_at_other x (xs ++ ys) other ∙ ap (λ l. x ∷ l) (letters_of-append xs ys) ∙ ap (λ l. l ++ letters_of ys) (sym (letters_at_other x xs other))
 ]
 
 pub points_from-append : (place : ℕ) (xs ys : List ℕ) → points_from place (xs ++ ys) ≡ points_from place xs ++ points_from (place + length (letters_of xs)) ys
 points_from-append place [] ys = ap (λ n. points_from n ys) (let e : place ≡ place + 0 = omega arith in e)
-points_from-append place (x ∷ xs) ys = elim (cases_Bool (eqb x 45)) [
+points_from-append place (x ∷ xs) ys = elim (cases_Bool (eqb x (code "-"))) [
   | inl minus ↦
       let same : place + length (letters_of xs) ≡ place + length (letters_of (x ∷ xs)) = ap (λ l. place + length l) (sym (letters_at_minus x xs minus)) in
       points_at_minus place x (xs ++ ys) minus ∙ ap (λ l. place ∷ l) (points_from-append place xs ys) ∙ ap (λ l. l ++ points_from (place + length (letters_of xs)) ys) (sym (points_at_minus place x xs minus))
@@ -47,7 +48,7 @@ points_from-append place (x ∷ xs) ys = elim (cases_Bool (eqb x 45)) [
 -- each byte is a letter, or a minus sign
 pub length-parts : (place : ℕ) (xs : List ℕ) → length (letters_of xs) + length (points_from place xs) ≡ length xs
 length-parts place [] = refl
-length-parts place (x ∷ xs) = elim (cases_Bool (eqb x 45)) [
+length-parts place (x ∷ xs) = elim (cases_Bool (eqb x (code "-"))) [
   | inl minus ↦
       let rest = length-parts place xs in
       let letters : length (letters_of (x ∷ xs)) ≡ length (letters_of xs) = ap length (letters_at_minus x xs minus) in
@@ -66,10 +67,10 @@ module _ (xs : List ℕ) (i d : ℕ) (below : i < length xs) where
   abbrev x : ℕ
   x = get_or xs i d
 
-  pub letters_minus : eqb x 45 ≡ true → letters_of (take (i + 1) xs) ≡ letters_of (take i xs) ++ []
+  pub letters_minus : eqb x (code "-") ≡ true → letters_of (take (i + 1) xs) ≡ letters_of (take i xs) ++ []
   letters_minus minus = ap letters_of (take_more xs i d below) ∙ letters_of-append (take i xs) (x ∷ []) ∙ ap (λ l. letters_of (take i xs) ++ l) (letters_at_minus x [] minus)
 
-  pub letters_other : eqb x 45 ≡ false → letters_of (take (i + 1) xs) ≡ letters_of (take i xs) ++ x ∷ []
+  pub letters_other : eqb x (code "-") ≡ false → letters_of (take (i + 1) xs) ≡ letters_of (take i xs) ++ x ∷ []
   letters_other other = ap letters_of (take_more xs i d below) ∙ letters_of-append (take i xs) (x ∷ []) ∙ ap (λ l. letters_of (take i xs) ++ l) (letters_at_other x [] other)
 
   points_one : points_from 0 (take (i + 1) xs) ≡ points_from 0 (take i xs) ++ points_from (length (letters_of (take i xs))) (x ∷ [])
@@ -77,14 +78,14 @@ module _ (xs : List ℕ) (i d : ℕ) (below : i < length xs) where
       ap (points_from 0) (take_more xs i d below) ∙ points_from-append 0 (take i xs) (x ∷ [])
       ∙ ap (λ n. points_from 0 (take i xs) ++ points_from n (x ∷ [])) (let e : 0 + length (letters_of (take i xs)) ≡ length (letters_of (take i xs)) = omega arith in e)
 
-  pub points_minus : eqb x 45 ≡ true → points_from 0 (take (i + 1) xs) ≡ points_from 0 (take i xs) ++ length (letters_of (take i xs)) ∷ []
+  pub points_minus : eqb x (code "-") ≡ true → points_from 0 (take (i + 1) xs) ≡ points_from 0 (take i xs) ++ length (letters_of (take i xs)) ∷ []
   points_minus minus = points_one ∙ ap (λ l. points_from 0 (take i xs) ++ l) (points_at_minus (length (letters_of (take i xs))) x [] minus)
 
-  pub points_other : eqb x 45 ≡ false → points_from 0 (take (i + 1) xs) ≡ points_from 0 (take i xs) ++ []
+  pub points_other : eqb x (code "-") ≡ false → points_from 0 (take (i + 1) xs) ≡ points_from 0 (take i xs) ++ []
   points_other other = points_one ∙ ap (λ l. points_from 0 (take i xs) ++ l) (points_at_other (length (letters_of (take i xs))) x [] other)
 
   -- a place of a prefix is one of all
-  pub points_fit : eqb x 45 ≡ true → length (points_from 0 (take i xs)) + 1 ≤ length (points_from 0 xs)
+  pub points_fit : eqb x (code "-") ≡ true → length (points_from 0 (take i xs)) + 1 ≤ length (points_from 0 xs)
   points_fit minus =
       let ys = take (i + 1) xs in
       let zs = drop (i + 1) xs in

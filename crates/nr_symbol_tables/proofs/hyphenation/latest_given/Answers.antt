@@ -1,3 +1,4 @@
+use Prim.Native.Char.{code}
 use Rattle.std.proofs.Common.{◌≡◌, ℕ, ◌+◌, ◌-◌, ◌<◌, [], ◌∷◌, ◌++◌, false, length, take, get_or, ap, sym, ◌∙◌, arith}
 use Rattle.std.proofs.lemmas.List.{get_or-map, length-map, length-take-le, take_all, take_more, take-map}
 use Rattle.nr_units.specs.declared.cell.Cell.{Cell}
@@ -42,7 +43,7 @@ returns c =
     let two = c.if-len-eq1.false in
     let front = bytes_of (take n cells) in
     let front_long : length front ≡ n = length-map (take n cells) byte ∙ length-take-le n cells (omega arith) in
-    let last : get_or bytes n 0 ≡ 115 = get_or-map byte cells n nothing 0 (omega arith) ∙ c.if-cells-len-ne115.false in
-    let is : bytes ≡ front ++ 115 ∷ [] =
+    let last : get_or bytes n 0 ≡ code "s" = get_or-map byte cells n nothing 0 (omega arith) ∙ c.if-cells-len-ne115.false in
+    let is : bytes ≡ front ++ code "s" ∷ [] =
     sym (take_all (n + 1) bytes (omega arith)) ∙ take_more bytes n 0 (omega arith) ∙ ap (λ l. l ++ get_or bytes n 0 ∷ []) (take-map byte n cells) ∙ ap (λ b. front ++ b ∷ []) last in
     rw c.max.ensures (latest_of_both bytes front ws c.latest_with-whole.result c.latest_with.result is (omega arith) c.latest_with-whole.ensures c.latest_with.ensures)

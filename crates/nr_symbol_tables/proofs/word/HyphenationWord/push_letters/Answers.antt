@@ -1,3 +1,4 @@
+use Prim.Native.Char.{code}
 use Rattle.std.proofs.Common.{[], ◌∷◌, ◌+◌, take, get_or, sym, subst, arith}
 use Rattle.std.proofs.lemmas.Bool.{eq-eqb, ne_eqb}
 use Rattle.nr_symbol_tables.specs.Word.{letters_of}
@@ -20,8 +21,8 @@ loop-byte-preserved c =
     elim c.if-byte-ne45.branch [
       | then-byte-ne45 w ↦
           subst (λ new. IsLonger c.args.self.now new (letters_of (take (i + 1) xs))) (sym w.self-is)
-          (longer_more c.args.self.now c.loop-byte.self w.push.new.self (letters_of (take i xs)) (get_or xs i 0 ∷ []) (letters_of (take (i + 1) xs)) c.loop-byte.invariant w.push.ensures (letters_other xs i 0 below (ne_eqb (get_or xs i 0) 45 w.if-byte-ne45.true)))
+          (longer_more c.args.self.now c.loop-byte.self w.push.new.self (letters_of (take i xs)) (get_or xs i 0 ∷ []) (letters_of (take (i + 1) xs)) c.loop-byte.invariant w.push.ensures (letters_other xs i 0 below (ne_eqb (get_or xs i 0) (code "-") w.if-byte-ne45.true)))
       | else-byte-ne45 w ↦
           subst (λ new. IsLonger c.args.self.now new (letters_of (take (i + 1) xs))) (sym w.self-is)
-          (longer_along c.args.self.now c.loop-byte.self (letters_of (take i xs)) (letters_of (take (i + 1) xs)) c.loop-byte.invariant (letters_minus xs i 0 below (eq-eqb (get_or xs i 0) 45 w.if-byte-ne45.false)))
+          (longer_along c.args.self.now c.loop-byte.self (letters_of (take i xs)) (letters_of (take (i + 1) xs)) c.loop-byte.invariant (letters_minus xs i 0 below (eq-eqb (get_or xs i 0) (code "-") w.if-byte-ne45.false)))
     ]

@@ -1,3 +1,4 @@
+use Prim.Native.Char.{code}
 use Rattle.std.proofs.Common.{[], ◌∷◌, ◌+◌, ◌++◌, length, take, get_or, ap, sym, ◌∙◌, subst, arith, length-append}
 use Rattle.std.proofs.lemmas.Bool.{eq-eqb, ne_eqb}
 use Rattle.std.proofs.lemmas.List.{append-nil}
@@ -9,7 +10,7 @@ use Rattle.nr_symbol_tables.proofs.word.HyphenationWord.push_places.Goals as goa
 
 pub push-requires : goal.push-requires
 push-requires c =
-    let fit = points_fit c.args.given.now c.loop-byte.byte-index 0 c.loop-byte-test.true (eq-eqb _ 45 c.if-byte-eq45.true) in
+    let fit = points_fit c.args.given.now c.loop-byte.byte-index 0 c.loop-byte-test.true (eq-eqb _ (code "-") c.if-byte-eq45.true) in
     let len = c.loop-byte.invariant.longer.len in
     omega arith
 
@@ -26,7 +27,7 @@ loop-byte-preserved c =
     let before = c.loop-byte.invariant.place in
     elim c.if-byte-eq45.branch [
       | then-byte-eq45 w ↦
-          let minus = eq-eqb (get_or xs i 0) 45 w.if-byte-eq45.true in
+          let minus = eq-eqb (get_or xs i 0) (code "-") w.if-byte-eq45.true in
           let same = ap length (letters_minus xs i 0 below minus ∙ append-nil (letters_of (take i xs))) in
           record {
             place = w.place-is ∙ before ∙ sym same;
@@ -35,7 +36,7 @@ loop-byte-preserved c =
                 (points_minus xs i 0 below minus ∙ ap (λ n. points_from 0 (take i xs) ++ n ∷ []) (sym before)));
           }
       | else-byte-eq45 w ↦
-          let other = ne_eqb (get_or xs i 0) 45 w.if-byte-eq45.false in
+          let other = ne_eqb (get_or xs i 0) (code "-") w.if-byte-eq45.false in
           let more = ap length (letters_other xs i 0 below other) ∙ length-append (letters_of (take i xs)) (get_or xs i 0 ∷ []) in
           record {
             place = let is = w.place-is in omega arith;
