@@ -1,4 +1,5 @@
 -- Digits, and a scale's letter after them, are the longest prefix that is an expression, and their value is its.
+use Prim.Native.Char.{code}
 use Rattle.std.specs.Prelude.{Bool, IfSome, nat_eq, nat_lt, unwrap_or}
 use Rattle.std.specs.Ordering.{int_eq}
 use Rattle.std.proofs.Common.{◌≡◌, ℕ, zero, suc, ◌+◌, ◌-◌, ◌*◌, ◌/◌, ◌<◌, ◌≤◌, true, false, Option, None, Some, List, [], ◌∷◌, length, drop, get_or, ℤ, pos, unsigned_abs, arith, refl, ap, sym, subst, ◌∙◌}
@@ -33,20 +34,20 @@ reads_first text = record {
 whole_same : (w d v e : ℕ) → capped (capped (w * 10) + d) ≡ capped (capped (v * 10) + e) → more_whole w d ≡ more_whole v e
 whole_same w d v e same = rw same refl
 
-digit_on : (c : Ctx) (s : Scan) (k : ℕ) (longest : Read) (i n b : ℕ) (bs : List ℕ) → BeginsOperand s → (i ≡ 0 → n ≡ 0) → n ≤ 999 → 48 ≤ b → b ≤ 57
-    → read_on c (behind_digits s i n) k longest (b ∷ bs) ≡ read_on c (behind_digits s (suc i) (10 * n + (b - 48))) (k + 1) longest bs
+digit_on : (c : Ctx) (s : Scan) (k : ℕ) (longest : Read) (i n b : ℕ) (bs : List ℕ) → BeginsOperand s → (i ≡ 0 → n ≡ 0) → n ≤ 999 → code "0" ≤ b → b ≤ code "9"
+    → read_on c (behind_digits s i n) k longest (b ∷ bs) ≡ read_on c (behind_digits s (suc i) (10 * n + (b - code "0"))) (k + 1) longest bs
 digit_on c s k longest zero n b bs begins first small low high =
     let none : n ≡ 0 = first refl in
-    let same : b - 48 ≡ 10 * n + (b - 48) = omega (arith, none) in
+    let same : b - code "0" ≡ 10 * n + (b - code "0") = omega (arith, none) in
     begins.takes c k longest b bs low high ∙ ap (λ m. read_on c (whole s m) (k + 1) longest bs) same
 digit_on c s k longest (suc i) n b bs begins first small low high =
     let m : ℕ = capped (capped (0 * 10) + n) in
-    let same : capped (capped (m * 10) + (b - 48)) ≡ capped (capped (0 * 10) + (10 * n + (b - 48))) = omega (arith, small, high) in
-    let step : read_on c (whole s n) k longest (b ∷ bs) ≡ read_on c (outermost (in_mode s.level (more_whole m (b - 48)))) (k + 1) longest bs = rw (le-leb 48 b low, le-leb b 57 high) refl in
-    step ∙ ap (λ x. read_on c (outermost (in_mode s.level x)) (k + 1) longest bs) (whole_same m (b - 48) 0 (10 * n + (b - 48)) same)
+    let same : capped (capped (m * 10) + (b - code "0")) ≡ capped (capped (0 * 10) + (10 * n + (b - code "0"))) = omega (arith, small, high) in
+    let step : read_on c (whole s n) k longest (b ∷ bs) ≡ read_on c (outermost (in_mode s.level (more_whole m (b - code "0")))) (k + 1) longest bs = rw (le-leb (code "0") b low, le-leb b (code "9") high) refl in
+    step ∙ ap (λ x. read_on c (outermost (in_mode s.level x)) (k + 1) longest bs) (whole_same m (b - code "0") 0 (10 * n + (b - code "0")) same)
 
-pub digit_more : (text : List ℕ) (i n : ℕ) → i < length text → 48 ≤ get_or text i 0 → get_or text i 0 ≤ 57 → n ≤ 999 → ReadsDigits text i n
-    → ReadsDigits text (i + 1) (10 * n + (get_or text i 0 - 48))
+pub digit_more : (text : List ℕ) (i n : ℕ) → i < length text → code "0" ≤ get_or text i 0 → get_or text i 0 ≤ code "9" → n ≤ 999 → ReadsDigits text i n
+    → ReadsDigits text (i + 1) (10 * n + (get_or text i 0 - code "0"))
 digit_more text i n inside low high small reads =
     let b : ℕ = get_or text i 0 in
     let next : suc i ≡ i + 1 = omega arith in
@@ -55,18 +56,18 @@ digit_more text i n inside low high small reads =
       most = omega (arith, small, high);
       known = λ c s begins k l longest at.
           let place : k + i + 1 ≡ l = omega (arith, at) in
-          subst (λ m. read_on c s k longest text ≡ read_on c (behind_digits s m (10 * n + (b - 48))) l longest (drop m text)) next
+          subst (λ m. read_on c s k longest text ≡ read_on c (behind_digits s m (10 * n + (b - code "0"))) l longest (drop m text)) next
           (reads.known c s begins k (k + i) longest refl ∙ ap (read_on c (behind_digits s i n) (k + i) longest) (drop-cons text i 0 inside)
           ∙ digit_on c s (k + i) longest i n b (drop (suc i) text) begins reads.first small low high
-          ∙ ap (λ m. read_on c (behind_digits s (suc i) (10 * n + (b - 48))) m longest (drop (suc i) text)) place);
+          ∙ ap (λ m. read_on c (behind_digits s (suc i) (10 * n + (b - code "0"))) m longest (drop (suc i) text)) place);
     }
 
 -- at the beginning of a text
 begins_text : BeginsOperand start
 begins_text = record {
   takes = λ c k longest b bs low high.
-      let same : capped (capped (0 * 10) + (b - 48)) ≡ b - 48 = omega (arith, high) in
-      rw (le-leb 48 b low, le-leb b 57 high, same) refl;
+      let same : capped (capped (0 * 10) + (b - code "0")) ≡ b - code "0" = omega (arith, high) in
+      rw (le-leb (code "0") b low, le-leb b (code "9") high, same) refl;
 }
 
 -- of a whole text
@@ -174,9 +175,9 @@ pub data Sign : Type 0 where
   ByEqual : Sign
 
 abbrev pub byte_of : Sign → ℕ
-byte_of ByLess = 60
-byte_of ByGreater = 62
-byte_of ByEqual = 61
+byte_of ByLess = code "<"
+byte_of ByGreater = code ">"
+byte_of ByEqual = code "="
 
 -- whether the comparison holds
 abbrev pub compared : Sign → ℕ → ℕ → Bool
@@ -200,13 +201,13 @@ sign_on c ByEqual i n bs = refl
 
 begins_right : (c : Ctx) (sign : Sign) (n : ℕ) → BeginsOperand (behind_sign c n sign)
 begins_right c ByLess n = record {
-  takes = λ d k longest b bs low high. let same : capped (capped (0 * 10) + (b - 48)) ≡ b - 48 = omega (arith, high) in rw (le-leb 48 b low, le-leb b 57 high, same) refl;
+  takes = λ d k longest b bs low high. let same : capped (capped (0 * 10) + (b - code "0")) ≡ b - code "0" = omega (arith, high) in rw (le-leb (code "0") b low, le-leb b (code "9") high, same) refl;
 }
 begins_right c ByGreater n = record {
-  takes = λ d k longest b bs low high. let same : capped (capped (0 * 10) + (b - 48)) ≡ b - 48 = omega (arith, high) in rw (le-leb 48 b low, le-leb b 57 high, same) refl;
+  takes = λ d k longest b bs low high. let same : capped (capped (0 * 10) + (b - code "0")) ≡ b - code "0" = omega (arith, high) in rw (le-leb (code "0") b low, le-leb b (code "9") high, same) refl;
 }
 begins_right c ByEqual n = record {
-  takes = λ d k longest b bs low high. let same : capped (capped (0 * 10) + (b - 48)) ≡ b - 48 = omega (arith, high) in rw (le-leb 48 b low, le-leb b 57 high, same) refl;
+  takes = λ d k longest b bs low high. let same : capped (capped (0 * 10) + (b - code "0")) ≡ b - code "0" = omega (arith, high) in rw (le-leb (code "0") b low, le-leb b (code "9") high, same) refl;
 }
 
 -- so many units
