@@ -1,4 +1,5 @@
 -- Cells laid over a text, one after another.
+use Prim.Native.Char.{code}
 use Rattle.std.specs.Prelude.{Result, Ok, Err, IsOk, IsErr}
 use Rattle.std.proofs.Common.{◌≡◌, ◌≢◌, eq-eqb, ne_eqb, ℕ, zero, suc, ◌+◌, ◌≤◌, ◌<◌, max, min, List, [], ◌∷◌, ◌++◌, length, take, drop, set, true, false, inl, inr, refl, sym, ap, ◌∙◌, arith, append-nil}
 use Rattle.std.proofs.lemmas.Bool.{cases_lt}
@@ -80,20 +81,20 @@ ok_unless (Err e) h = absurd (h refl)
 
 -- a cell that is not blank was written over one of the text
 pub laid-other : (p q r : Texts Cell) (id i : ℕ) (cells : List Cell) (cell : Cell) → IsOpen p id → q ≡ with_text p id (overlaid (text p id) (take i cells))
-    → r ≡ with_text q id (set (text q id) i cell) → i < length (text p id) → i < length cells → cell ≡ cell_or_blank cells i → cell.byte ≢ 32
+    → r ≡ with_text q id (set (text q id) i cell) → i < length (text p id) → i < length cells → cell ≡ cell_or_blank cells i → cell.byte ≢ code " "
     → r ≡ with_text p id (overlaid (text p id) (take (i + 1) cells))
 laid-other p q r id i cells cell is_open first second low within cell_is other =
     let written = text_of_written p q id (overlaid (text p id) (take i cells)) is_open first in
-    let shows : is_blank (cell_or_blank cells i) ≡ false = rw (← cell_is) (ne_eqb cell.byte 32 other) in
+    let shows : is_blank (cell_or_blank cells i) ≡ false = rw (← cell_is) (ne_eqb cell.byte (code " ") other) in
     with_text-again p q r id (overlaid (text p id) (take i cells)) (set (text q id) i cell) (within_of_open p id is_open) first second
     ∙ ap (with_text p id) (ap (λ xs. set xs i cell) written ∙ ap (set (overlaid (text p id) (take i cells)) i) cell_is ∙ sym (overlaid-take_other (text p id) cells i low within shows))
 
 -- a blank was left out
 pub laid-blank : (p q : Texts Cell) (id i : ℕ) (cells : List Cell) (cell : Cell) → q ≡ with_text p id (overlaid (text p id) (take i cells))
-    → i < length (text p id) → i < length cells → cell ≡ cell_or_blank cells i → cell.byte ≡ 32
+    → i < length (text p id) → i < length cells → cell ≡ cell_or_blank cells i → cell.byte ≡ code " "
     → q ≡ with_text p id (overlaid (text p id) (take (i + 1) cells))
 laid-blank p q id i cells cell first low within cell_is nothing =
-    let hides : is_blank (cell_or_blank cells i) ≡ true = rw (← cell_is) (eq-eqb cell.byte 32 nothing) in
+    let hides : is_blank (cell_or_blank cells i) ≡ true = rw (← cell_is) (eq-eqb cell.byte (code " ") nothing) in
     first ∙ ap (with_text p id) (sym (overlaid-take_blank (text p id) cells i low within hides))
 
 -- the cells after those of the text were added

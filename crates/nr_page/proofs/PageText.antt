@@ -1,4 +1,5 @@
 -- The bytes of rows.
+use Prim.Native.Char.{code}
 use Rattle.std.proofs.Common.{◌≡◌, ℕ, zero, suc, ◌+◌, ◌-◌, ◌≤◌, ◌<◌, max, List, [], ◌∷◌, ◌++◌, length, map, take, replicate, Bool, true, false, not, ◌==◌, refl, sym, ap, ◌∙◌, arith, zero-add, add-zero, suc-add, append-nil, append_assoc, inl, inr}
 use Rattle.std.specs.List.{filter, flat_map, fold, range_with_len, prefix_len, suffix_len}
 use Rattle.std.proofs.Math.Nat.{le-max_left, le-max_right, max-eq_right}
@@ -90,7 +91,7 @@ row_cells-same xs ys row same =
     ∙ trimmed-columns (cell_at ys row) m n (cell_at-past ys row)
 
 pub row_bytes-same : (xs ys : List Placed) (row : ℕ) → ShowsSame xs ys → row_bytes xs row ≡ row_bytes ys row
-row_bytes-same xs ys row same = ap (λ cells. flat_map cell_bytes cells ++ 10 ∷ []) (row_cells-same xs ys row same)
+row_bytes-same xs ys row same = ap (λ cells. flat_map cell_bytes cells ++ code "\n" ∷ []) (row_cells-same xs ys row same)
 
 pub rows_bytes-same : (xs ys : List Placed) (row n : ℕ) → ShowsSame xs ys → rows_bytes xs row n ≡ rows_bytes ys row n
 rows_bytes-same xs ys row zero same = refl
@@ -107,17 +108,17 @@ page_bytes_is lines page rows count holds is =
 
 -- what lines of one row show
 abbrev own_bytes : List Placed → List ℕ
-own_bytes lines = flat_map cell_bytes (trimmed (map (λ column. last_shown (cells_at lines column)) (range_with_len 0 (column_count lines)))) ++ 10 ∷ []
+own_bytes lines = flat_map cell_bytes (trimmed (map (λ column. last_shown (cells_at lines column)) (range_with_len 0 (column_count lines)))) ++ code "\n" ∷ []
 
 pub row_bytes-alone : (lines : List Placed) (line : Placed) (row : ℕ) → on_row lines row ≡ line ∷ [] → row_bytes lines row ≡ line_bytes line.cells
 row_bytes-alone lines line row alone = ap own_bytes alone
 
-pub row_bytes-none : (lines : List Placed) (row : ℕ) → on_row lines row ≡ [] → row_bytes lines row ≡ 10 ∷ []
+pub row_bytes-none : (lines : List Placed) (row : ℕ) → on_row lines row ≡ [] → row_bytes lines row ≡ code "\n" ∷ []
 row_bytes-none lines row none = ap own_bytes none
 
-blank_bytes : (byte : ℕ) (under : Bool) → (byte == 32) ≡ true → cell_bytes (record { byte = byte; under = under }) ≡ 32 ∷ []
-blank_bytes byte true h = rw (eqb-true byte 32 h)
-blank_bytes byte false h = rw (eqb-true byte 32 h)
+blank_bytes : (byte : ℕ) (under : Bool) → (byte == code " ") ≡ true → cell_bytes (record { byte = byte; under = under }) ≡ code " " ∷ []
+blank_bytes byte true h = rw (eqb-true byte (code " ") h)
+blank_bytes byte false h = rw (eqb-true byte (code " ") h)
 
 -- a blank is written as a blank, underlined or not
 cell_bytes-covered : (cell : Cell) → cell_bytes (covered blank cell) ≡ cell_bytes cell
@@ -143,7 +144,7 @@ flat_map-cell_bytes (x ∷ xs) (y ∷ ys) long h =
     let rest = flat_map-cell_bytes xs ys (omega arith) (λ k less. h (suc k) (omega arith)) in
     rw (here, rest)
 
-pub line_bytes-trimmed : (cells : List Cell) (size : ℕ) → IsTrimmed cells size → size ≤ length cells → line_bytes cells ≡ flat_map cell_bytes (take size cells) ++ 10 ∷ []
+pub line_bytes-trimmed : (cells : List Cell) (size : ℕ) → IsTrimmed cells size → size ≤ length cells → line_bytes cells ≡ flat_map cell_bytes (take size cells) ++ code "\n" ∷ []
 line_bytes-trimmed cells size own short =
     let line : Placed = record { row = 0; cells = cells } in
     let f : ℕ → Cell = λ column. cell_at (line ∷ []) 0 column in
@@ -168,8 +169,8 @@ line_bytes-trimmed cells size own short =
     ap cell_bytes (get_or-take size all k blank low ∙ at k (omega arith) ∙ shown k)
     ∙ cell_bytes-covered (cell_or_blank cells k)
     ∙ ap cell_bytes (sym (get_or-take size cells k blank low))) in
-    ap (λ k. flat_map cell_bytes (trimmed (map (cell_at (line ∷ []) 0) (range_with_len 0 k))) ++ 10 ∷ []) count
-    ∙ ap (λ bs. bs ++ 10 ∷ []) bytes
+    ap (λ k. flat_map cell_bytes (trimmed (map (cell_at (line ∷ []) 0) (range_with_len 0 k))) ++ code "\n" ∷ []) count
+    ∙ ap (λ bs. bs ++ code "\n" ∷ []) bytes
 
 -- ---- rows after rows
 
@@ -179,7 +180,7 @@ rows_bytes-add lines row n m =
     ∙ flat_map-append (row_bytes lines) (range_with_len row n) (range_with_len (row + n) m)
 
 -- rows without lines
-pub rows_bytes-none : (lines : List Placed) (row n : ℕ) → ((r : ℕ) → row ≤ r → r < row + n → on_row lines r ≡ []) → rows_bytes lines row n ≡ replicate n 10
+pub rows_bytes-none : (lines : List Placed) (row n : ℕ) → ((r : ℕ) → row ≤ r → r < row + n → on_row lines r ≡ []) → rows_bytes lines row n ≡ replicate n (code "\n")
 rows_bytes-none lines row zero h = refl
 rows_bytes-none lines row (suc n) h =
     let here = row_bytes-none lines row (h row (omega arith) (omega arith)) in
@@ -188,16 +189,16 @@ rows_bytes-none lines row (suc n) h =
 
 -- the rows down to the next that has a line
 pub rows_bytes-next : (lines : List Placed) (done number : ℕ) (cells : List Cell) → done ≤ number → ((r : ℕ) → done ≤ r → r < number → on_row lines r ≡ []) → row_bytes lines number ≡ line_bytes cells
-    → rows_bytes lines 0 (number + 1) ≡ rows_bytes lines 0 done ++ (replicate (number - done) 10 ++ line_bytes cells)
+    → rows_bytes lines 0 (number + 1) ≡ rows_bytes lines 0 done ++ (replicate (number - done) (code "\n") ++ line_bytes cells)
 rows_bytes-next lines done number cells le none shown =
     let sum : done + (number - done) ≡ number = omega arith in
-    let gap : rows_bytes lines done (number - done) ≡ replicate (number - done) 10 = rows_bytes-none lines done (number - done) (λ r from to. none r from (omega arith)) in
-    let before : rows_bytes lines 0 number ≡ rows_bytes lines 0 done ++ replicate (number - done) 10
+    let gap : rows_bytes lines done (number - done) ≡ replicate (number - done) (code "\n") = rows_bytes-none lines done (number - done) (λ r from to. none r from (omega arith)) in
+    let before : rows_bytes lines 0 number ≡ rows_bytes lines 0 done ++ replicate (number - done) (code "\n")
     = ap (rows_bytes lines 0) (sym sum) ∙ rows_bytes-add lines 0 done (number - done)
     ∙ rw (zero-add done) (ap (λ l. rows_bytes lines 0 done ++ l) gap) in
     rows_bytes-add lines 0 number 1
     ∙ rw (zero-add number, append-nil (row_bytes lines number), before, shown)
-    (append_assoc (rows_bytes lines 0 done) (replicate (number - done) 10) (line_bytes cells))
+    (append_assoc (rows_bytes lines 0 done) (replicate (number - done) (code "\n")) (line_bytes cells))
 
 -- the rows up to a place, and those after it
 pub rows_bytes-front : (lines : List Placed) (n all : ℕ) → n ≤ all → rows_bytes lines 0 all ≡ rows_bytes lines 0 n ++ rows_bytes lines n (all - n)

@@ -1,3 +1,4 @@
+use Prim.Native.Char.{code}
 use Rattle.std.proofs.Common.{arith, ◌∙◌, [], ◌∷◌}
 use Rattle.std.proofs.lemmas.Result.{err_from_is_err_and}
 use Rattle.nr_page.proofs.Fronts.{Gathers-both, Gathers-front, replicate-more, replicate-front}
@@ -6,11 +7,11 @@ use Rattle.nr_page.proofs.gathering.write_newlines.Goals as goal
 pub returns-in_err-make_room-clause-gathers : goal.returns-in_err-make_room-clause-gathers
 returns-in_err-make_room-clause-gathers g c =
     let z = err_from_is_err_and c.from_residual.result c.from_residual.ensures.1 in
-    rw z.1 (Gathers-front _ _ _ _ _ _ [] _ _ c.loop-line.invariant.gathers c.in_err-make_room.ensures.gathers (replicate-front c.loop-line._line c.args.count 10 (omega arith)))
+    rw z.1 (Gathers-front _ _ _ _ _ _ [] _ _ c.loop-line.invariant.gathers c.in_err-make_room.ensures.gathers (replicate-front c.loop-line._line c.args.count (code "\n") (omega arith)))
 
 pub loop-line-preserved : goal.loop-line-preserved
 loop-line-preserved g c = record {
-  gathers = Gathers-both _ (10 ∷ []) _ c.loop-line.invariant.gathers c.in_ok-make_room.ensures.gathers c.push.ensures.items (replicate-more c.loop-line._line 10);
+  gathers = Gathers-both _ (code "\n" ∷ []) _ c.loop-line.invariant.gathers c.in_ok-make_room.ensures.gathers c.push.ensures.items (replicate-more c.loop-line._line (code "\n"));
   failures = c.in_ok-make_room.ensures.failures ∙ c.loop-line.invariant.failures;
   room = c.push.ensures.room ∙ c.in_ok-make_room.ensures.room ∙ c.loop-line.invariant.room;
 }

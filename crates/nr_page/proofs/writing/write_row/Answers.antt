@@ -1,3 +1,4 @@
+use Prim.Native.Char.{code}
 use Rattle.std.proofs.Common.{◌++◌, [], ◌∷◌, take, replicate, sym, ap, ◌∙◌, append_assoc}
 use Rattle.std.proofs.lemmas.Result.{err_from_is_err_and}
 use Rattle.std.specs.List.{flat_map}
@@ -10,7 +11,7 @@ use Rattle.nr_page.proofs.writing.write_row.Goals as goal
 pub returns-in_err-write_newlines-clause-gathers : goal.returns-in_err-write_newlines-clause-gathers
 returns-in_err-write_newlines-clause-gathers g c =
     let z = err_from_is_err_and c.from_residual.result c.from_residual.ensures.1 in
-    rw z.1 (front_of_more _ _ c.args.pending.now.items (replicate c.args.empty 10) (line_bytes c.args.cells.now) c.in_err-write_newlines.ensures.gathers)
+    rw z.1 (front_of_more _ _ c.args.pending.now.items (replicate c.args.empty (code "\n")) (line_bytes c.args.cells.now) c.in_err-write_newlines.ensures.gathers)
 
 pub returns-in_err-write_cells-clause-gathers : goal.returns-in_err-write_cells-clause-gathers
 returns-in_err-write_cells-clause-gathers g c =
@@ -18,8 +19,8 @@ returns-in_err-write_cells-clause-gathers g c =
     let size = c.trimmed_len.result in
     let own = flat_map cell_bytes (take size c.args.cells.now) in
     let line = line_bytes-trimmed c.args.cells.now size c.trimmed_len.ensures.trimmed c.trimmed_len.ensures.within in
-    rw z.1 (Gathers-front _ _ _ _ _ _ _ (10 ∷ []) _ c.in_ok-write_newlines.ensures.gathers c.in_err-write_cells.ensures.gathers
-    (ap (λ bs. replicate c.args.empty 10 ++ bs) line ∙ sym (append_assoc (replicate c.args.empty 10) own (10 ∷ []))))
+    rw z.1 (Gathers-front _ _ _ _ _ _ _ (code "\n" ∷ []) _ c.in_ok-write_newlines.ensures.gathers c.in_err-write_cells.ensures.gathers
+    (ap (λ bs. replicate c.args.empty (code "\n") ++ bs) line ∙ sym (append_assoc (replicate c.args.empty (code "\n")) own (code "\n" ∷ []))))
 
 pub returns-clause-gathers : goal.returns-clause-gathers
 returns-clause-gathers g c =
@@ -27,4 +28,4 @@ returns-clause-gathers g c =
     let own = flat_map cell_bytes (take size c.args.cells.now) in
     let line = line_bytes-trimmed c.args.cells.now size c.trimmed_len.ensures.trimmed c.trimmed_len.ensures.within in
     GathersOrFails-last _ _ _ _ _ _ _ _ _ c.write_newlines-2.result (Gathers-append c.in_ok-write_newlines.ensures.gathers c.in_ok-write_cells.ensures.gathers) c.write_newlines-2.ensures.gathers
-    (ap (λ bs. replicate c.args.empty 10 ++ bs) line ∙ sym (append_assoc (replicate c.args.empty 10) own (10 ∷ [])))
+    (ap (λ bs. replicate c.args.empty (code "\n") ++ bs) line ∙ sym (append_assoc (replicate c.args.empty (code "\n")) own (code "\n" ∷ [])))
