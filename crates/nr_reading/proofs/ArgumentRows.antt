@@ -1,4 +1,5 @@
 -- The arguments of macros in a row of items.
+use Prim.Native.Char.{code}
 use Rattle.std.specs.Prelude.{◌==◌}
 use Rattle.std.proofs.Common.{◌≡◌, ℕ, true, false, refl, sym, subst}
 use Rattle.nr_reading.specs.declared.event.Event.TheVariants as events
@@ -23,39 +24,39 @@ with_due m x h = record h { reading = record h.reading { mode = m; due = x } }
 -- ---- before an argument
 
 -- after the blanks the arguments begin
-pub meet-arguments_begin : (b : ℕ) (h : Half) → h.reading.mode ≡ modes.MacroBlanks → reads_next h ≡ true → (b == 92) ≡ false → is_blank b ≡ false → MeetsByte b h (in_mode modes.MacroGap h) events.Nothing false
+pub meet-arguments_begin : (b : ℕ) (h : Half) → h.reading.mode ≡ modes.MacroBlanks → reads_next h ≡ true → (b == code "\\") ≡ false → is_blank b ≡ false → MeetsByte b h (in_mode modes.MacroGap h) events.Nothing false
 meet-arguments_begin b h mode next plain other = subst (λ (k : Half). MeetsByte b k (in_mode modes.MacroGap k) events.Nothing false) (sym (standing modes.MacroBlanks h mode next)) (rw (plain, other) refl)
 
-pub meet-space : (h : Half) → h.reading.mode ≡ modes.MacroGap → reads_next h ≡ true → MeetsByte 32 h h events.Nothing true
-meet-space h mode next = subst (λ (k : Half). MeetsByte 32 k k events.Nothing true) (sym (standing modes.MacroGap h mode next)) refl
+pub meet-space : (h : Half) → h.reading.mode ≡ modes.MacroGap → reads_next h ≡ true → MeetsByte (code " ") h h events.Nothing true
+meet-space h mode next = subst (λ (k : Half). MeetsByte (code " ") k k events.Nothing true) (sym (standing modes.MacroGap h mode next)) refl
 
-pub meet-opening_quote : (h : Half) → h.reading.mode ≡ modes.MacroGap → reads_next h ≡ true → MeetsByte 34 h (in_mode modes.Quoted h) events.Nothing true
-meet-opening_quote h mode next = subst (λ (k : Half). MeetsByte 34 k (in_mode modes.Quoted k) events.Nothing true) (sym (standing modes.MacroGap h mode next)) refl
+pub meet-opening_quote : (h : Half) → h.reading.mode ≡ modes.MacroGap → reads_next h ≡ true → MeetsByte (code "\"") h (in_mode modes.Quoted h) events.Nothing true
+meet-opening_quote h mode next = subst (λ (k : Half). MeetsByte (code "\"") k (in_mode modes.Quoted k) events.Nothing true) (sym (standing modes.MacroGap h mode next)) refl
 
-pub meet-line_end : (h : Half) → h.reading.mode ≡ modes.MacroGap → reads_next h ≡ true → MeetsByte 10 h (with_due modes.Start dues.Call h) events.Nothing true
-meet-line_end h mode next = subst (λ (k : Half). MeetsByte 10 k (with_due modes.Start dues.Call k) events.Nothing true) (sym (standing modes.MacroGap h mode next)) refl
+pub meet-line_end : (h : Half) → h.reading.mode ≡ modes.MacroGap → reads_next h ≡ true → MeetsByte (code "\n") h (with_due modes.Start dues.Call h) events.Nothing true
+meet-line_end h mode next = subst (λ (k : Half). MeetsByte (code "\n") k (with_due modes.Start dues.Call k) events.Nothing true) (sym (standing modes.MacroGap h mode next)) refl
 
-pub meet-first_byte : (b : ℕ) (h : Half) → h.reading.mode ≡ modes.MacroGap → reads_next h ≡ true → (b == 92) ≡ false → (b == 32) ≡ false → (b == 34) ≡ false → (b == 10) ≡ false → MeetsByte b h (with_due modes.Word (dues.Put b) h) events.Nothing true
+pub meet-first_byte : (b : ℕ) (h : Half) → h.reading.mode ≡ modes.MacroGap → reads_next h ≡ true → (b == code "\\") ≡ false → (b == code " ") ≡ false → (b == code "\"") ≡ false → (b == code "\n") ≡ false → MeetsByte b h (with_due modes.Word (dues.Put b) h) events.Nothing true
 meet-first_byte b h mode next plain space quote newline =
     subst (λ (k : Half). MeetsByte b k (with_due modes.Word (dues.Put b) k) events.Nothing true) (sym (standing modes.MacroGap h mode next)) (rw (plain, newline, space, quote) refl)
 
 -- ---- the end of an argument
 
-pub meet-word_end : (h : Half) → h.reading.mode ≡ modes.Word → reads_next h ≡ true → MeetsByte 10 h (with_due modes.MacroGap dues.EndArgument h) events.Nothing false
-meet-word_end h mode next = subst (λ (k : Half). MeetsByte 10 k (with_due modes.MacroGap dues.EndArgument k) events.Nothing false) (sym (standing modes.Word h mode next)) refl
+pub meet-word_end : (h : Half) → h.reading.mode ≡ modes.Word → reads_next h ≡ true → MeetsByte (code "\n") h (with_due modes.MacroGap dues.EndArgument h) events.Nothing false
+meet-word_end h mode next = subst (λ (k : Half). MeetsByte (code "\n") k (with_due modes.MacroGap dues.EndArgument k) events.Nothing false) (sym (standing modes.Word h mode next)) refl
 
-pub meet-word_space : (h : Half) → h.reading.mode ≡ modes.Word → reads_next h ≡ true → MeetsByte 32 h (with_due modes.MacroGap dues.EndArgument h) events.Nothing true
-meet-word_space h mode next = subst (λ (k : Half). MeetsByte 32 k (with_due modes.MacroGap dues.EndArgument k) events.Nothing true) (sym (standing modes.Word h mode next)) refl
+pub meet-word_space : (h : Half) → h.reading.mode ≡ modes.Word → reads_next h ≡ true → MeetsByte (code " ") h (with_due modes.MacroGap dues.EndArgument h) events.Nothing true
+meet-word_space h mode next = subst (λ (k : Half). MeetsByte (code " ") k (with_due modes.MacroGap dues.EndArgument k) events.Nothing true) (sym (standing modes.Word h mode next)) refl
 
 -- ---- a quoted argument
 
-pub meet-closing_quote : (h : Half) → h.reading.mode ≡ modes.Quoted → reads_next h ≡ true → MeetsByte 34 h (in_mode modes.Quote h) events.Nothing true
-meet-closing_quote h mode next = subst (λ (k : Half). MeetsByte 34 k (in_mode modes.Quote k) events.Nothing true) (sym (standing modes.Quoted h mode next)) refl
+pub meet-closing_quote : (h : Half) → h.reading.mode ≡ modes.Quoted → reads_next h ≡ true → MeetsByte (code "\"") h (in_mode modes.Quote h) events.Nothing true
+meet-closing_quote h mode next = subst (λ (k : Half). MeetsByte (code "\"") k (in_mode modes.Quote k) events.Nothing true) (sym (standing modes.Quoted h mode next)) refl
 
-pub meet-quoted_byte : (b : ℕ) (h : Half) → h.reading.mode ≡ modes.Quoted → reads_next h ≡ true → is_plain b ≡ true → (b == 34) ≡ false → MeetsByte b h (record h { reading = record h.reading { due = dues.Put b } }) events.Nothing true
+pub meet-quoted_byte : (b : ℕ) (h : Half) → h.reading.mode ≡ modes.Quoted → reads_next h ≡ true → is_plain b ≡ true → (b == code "\"") ≡ false → MeetsByte b h (record h { reading = record h.reading { due = dues.Put b } }) events.Nothing true
 meet-quoted_byte b h mode next plain quote =
     let apart : (c : ℕ) → is_plain c ≡ false → (b == c) ≡ false = λ c. apart_from is_plain b c plain in
-    subst (λ (k : Half). MeetsByte b k (record k { reading = record k.reading { due = dues.Put b } }) events.Nothing true) (sym (standing modes.Quoted h mode next)) (rw (apart 92 refl, apart 10 refl, quote) refl)
+    subst (λ (k : Half). MeetsByte b k (record k { reading = record k.reading { due = dues.Put b } }) events.Nothing true) (sym (standing modes.Quoted h mode next)) (rw (apart (code "\\") refl, apart (code "\n") refl, quote) refl)
 
-pub meet-behind_quote : (b : ℕ) (h : Half) → h.reading.mode ≡ modes.Quote → reads_next h ≡ true → (b == 92) ≡ false → (b == 34) ≡ false → MeetsByte b h (with_due modes.MacroGap dues.EndArgument h) events.Nothing false
+pub meet-behind_quote : (b : ℕ) (h : Half) → h.reading.mode ≡ modes.Quote → reads_next h ≡ true → (b == code "\\") ≡ false → (b == code "\"") ≡ false → MeetsByte b h (with_due modes.MacroGap dues.EndArgument h) events.Nothing false
 meet-behind_quote b h mode next plain quote = subst (λ (k : Half). MeetsByte b k (with_due modes.MacroGap dues.EndArgument k) events.Nothing false) (sym (standing modes.Quote h mode next)) (rw (plain, quote) refl)

@@ -1,4 +1,5 @@
 -- Elements that come to an escape whose argument is half read pay for what it answers.
+use Prim.Native.Char.{code}
 use Rattle.std.specs.Prelude.{◌&&◌, ◌||◌, not, nat_le}
 use Rattle.std.proofs.Common.{◌≡◌, ℕ, ◌+◌, ◌-◌, ◌*◌, ◌≤◌, ◌==◌, Bool, true, false, if◌then◌else◌, List, ◌∷◌, refl, arith}
 use Rattle.std.proofs.lemmas.List.Sums.{sum_by-cons}
@@ -61,24 +62,24 @@ asking k s n = record { kind = k; stage = s; name = n }
 
 byte_answers : (s : Stage) (b : ℕ) (long : Bool) (k : Kind) (n : Spelled) → Affords (asking k s n) (answer_byte b long s (asking k s n))
 byte_answers stages.First b long k n =
-    either (is_argument k) (either (nat_le 49 b && nat_le b 57) (record { pays = omega arith }) (record { pays = omega arith }))
-    (either (b == 40) (record { pays = omega arith })
-    (either ((b == 91) && long) (record { pays = omega arith })
-    (either ((b == 43) && is_unsigned k) (record { pays = omega arith })
-    (either ((b == 45) && is_unsigned k) (record { pays = omega arith }) (record { pays = omega arith })))))
+    either (is_argument k) (either (nat_le (code "1") b && nat_le b (code "9")) (record { pays = omega arith }) (record { pays = omega arith }))
+    (either (b == code "(") (record { pays = omega arith })
+    (either ((b == code "[") && long) (record { pays = omega arith })
+    (either ((b == code "+") && is_unsigned k) (record { pays = omega arith })
+    (either ((b == code "-") && is_unsigned k) (record { pays = omega arith }) (record { pays = omega arith })))))
 byte_answers stages.Two b long k n = either (is_empty n.bytes) (record { pays = omega arith }) (record { pays = omega arith })
 byte_answers stages.Bracket b long k n =
-    either (b == 93) (record { pays = omega arith }) (either (is_blank b) (record { pays = omega arith }) (record { pays = omega arith }))
+    either (b == code "]") (record { pays = omega arith }) (either (is_blank b) (record { pays = omega arith }) (record { pays = omega arith }))
 byte_answers stages.Delimiter b long k n = record { pays = omega arith }
 byte_answers (stages.Inside d) b long k n = either (b == d) (record { pays = omega arith }) (record { pays = omega arith })
-byte_answers stages.Sign b long k n = either ((b == 43) || (b == 45)) (record { pays = omega arith }) (record { pays = omega arith })
+byte_answers stages.Sign b long k n = either ((b == code "+") || (b == code "-")) (record { pays = omega arith }) (record { pays = omega arith })
 byte_answers (stages.Digit signed) b long k n =
     either (not (is_digit b)) (record { pays = omega arith })
-    (either (not signed && nat_le 49 b && nat_le b 51) (record { pays = omega arith }) (record { pays = omega arith }))
+    (either (not signed && nat_le (code "1") b && nat_le b (code "3")) (record { pays = omega arith }) (record { pays = omega arith }))
 byte_answers stages.Second b long k n = either (is_digit b) (record { pays = omega arith }) (record { pays = omega arith })
 
 pub answer_answers : (b : ℕ) (long : Bool) (a : Ask) → Affords a (answer b long a)
-answer_answers b long a = either (b == 10) (record { pays = omega arith }) (byte_answers a.stage b long a.kind a.name)
+answer_answers b long a = either (b == code "\n") (record { pays = omega arith }) (byte_answers a.stage b long a.kind a.name)
 
 -- ---- where it has ended, what it splices and what it tells weigh 367
 

@@ -1,4 +1,5 @@
 -- The name of a control line, met at once.
+use Prim.Native.Char.{code}
 use Rattle.std.specs.Prelude.{slice_get, ◌==◌, ◌||◌, nat_le}
 use Rattle.std.specs.Int.{from_bool}
 use Rattle.std.proofs.lemmas.Bool.{leb-false, ne_eqb}
@@ -27,15 +28,15 @@ use Rattle.nr_reading.proofs.Weighing.{at}
 pub record GoesOn (b : ℕ) : Type 0 where
   pub ends : ends_name b ≡ false
   pub blank : is_blank b ≡ false
-  pub escape : (b == 92) ≡ false
+  pub escape : (b == code "\\") ≡ false
 
 -- a blank ends a name
 apart_blank : (b : ℕ) → ends_name b ≡ false → is_blank b ≡ false
 apart_blank b is =
-    let two = none_of (nat_le b 32) (b == 127) is in
-    let above : 32 < b = leb-false b 32 two.0 in
-    let not_space : (b == 32) ≡ false = ne_eqb b 32 (λ e. omega (arith, above, e)) in
-    let not_tab : (b == 9) ≡ false = ne_eqb b 9 (λ e. omega (arith, above, e)) in
+    let two = none_of (nat_le b (code " ")) (b == 127) is in
+    let above : code " " < b = leb-false b (code " ") two.0 in
+    let not_space : (b == code " ") ≡ false = ne_eqb b (code " ") (λ e. omega (arith, above, e)) in
+    let not_tab : (b == code "\t") ≡ false = ne_eqb b (code "\t") (λ e. omega (arith, above, e)) in
     rw (not_space, not_tab) refl
   where
     none_of : (x y : Bool) → (x || y) ≡ false → (x ≡ false) × (y ≡ false)
@@ -44,7 +45,7 @@ apart_blank b is =
     none_of true y is = absurd (let wrong : true ≡ false = is in cc)
 
 pub goes_on : (b : ℕ) → goes_on_name b ≡ true → GoesOn b
-goes_on b is = let two = neither (ends_name b) (b == 92) is in record { ends = two.0; blank = apart_blank b two.0; escape = two.1 }
+goes_on b is = let two = neither (ends_name b) (b == code "\\") is in record { ends = two.0; blank = apart_blank b two.0; escape = two.1 }
 
 -- the byte is met, and nothing told
 abbrev Meets : ℕ → Half → Half → Bool → Type 0
@@ -74,7 +75,7 @@ module _ (c : Bool) (s : Signs) (d : Texts) (o : Notes) where
 
   meets_end : (b : ℕ) (n : Bool) (name : Spelled) → ends_name b ≡ true
       → Meets b (half_at (at modes.Name escapes.Plain c n) s [] d (record o { name = name })) (half_at (record (at modes.Name escapes.Plain c n) { due = dues.Seek }) s [] d (record o { name = name })) false
-  meets_end b n name ends = rw (apart_from ends_name b 92 ends refl, ends) refl
+  meets_end b n name ends = rw (apart_from ends_name b (code "\\") ends refl, ends) refl
 
 -- the sign and the first byte of the name that come at a place of a row
 module _ (fs : List Front) (place n : ℕ) (h : Half) (sign a : ℕ) (quiets : Bool) (start : h.reading.mode ≡ modes.Start) (next : reads_next h ≡ true) (within : place + 3 ≤ length fs)

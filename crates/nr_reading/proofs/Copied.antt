@@ -1,4 +1,5 @@
 -- Copied elements pay for what the reader makes of them: 8 for one that is taken, whether it is the item in front or a `\`.
+use Prim.Native.Char.{code}
 use Rattle.std.specs.Prelude.{nat_lt, ◌&&◌, ◌||◌, not, length, slice_index}
 use Rattle.std.proofs.Common.{◌≡◌, ℕ, ◌+◌, ◌≤◌, ◌==◌, Bool, true, false, if◌then◌else◌, None, Some, refl, arith}
 use Rattle.std.proofs.lemmas.Bool.{ltb-false, eqb-false}
@@ -57,10 +58,10 @@ name_hears b long name e c n =
     (either (completes long name) (record { pays = omega arith; blanks = refl; escape = refl; tells = refl }) (record { pays = omega arith; blanks = refl; escape = refl; tells = refl }))
 
 drop_hears : (b : ℕ) (e : Escape) (c n : Bool) (s : Signs) (o : Notes) → Hears (at modes.Drop e c n) 8 (read_by modes.Drop b s o (at modes.Drop e c n))
-drop_hears b e c n s o = either (b == 10) (record { pays = omega arith; blanks = refl; escape = refl; tells = refl }) (record { pays = omega arith; blanks = refl; escape = refl; tells = refl })
+drop_hears b e c n s o = either (b == code "\n") (record { pays = omega arith; blanks = refl; escape = refl; tells = refl }) (record { pays = omega arith; blanks = refl; escape = refl; tells = refl })
 
 title_rest_hears : (b : ℕ) (e : Escape) (c n : Bool) (s : Signs) (o : Notes) → Hears (at modes.TitleRest e c n) 8 (read_by modes.TitleRest b s o (at modes.TitleRest e c n))
-title_rest_hears b e c n s o = either (b == 10) (record { pays = omega arith; blanks = refl; escape = refl; tells = refl }) (record { pays = omega arith; blanks = refl; escape = refl; tells = refl })
+title_rest_hears b e c n s o = either (b == code "\n") (record { pays = omega arith; blanks = refl; escape = refl; tells = refl }) (record { pays = omega arith; blanks = refl; escape = refl; tells = refl })
 
 request_blanks_hears : (b : ℕ) (e : Escape) (c n : Bool) (s : Signs) (o : Notes) → Hears (at modes.RequestBlanks e c n) 8 (read_by modes.RequestBlanks b s o (at modes.RequestBlanks e c n))
 request_blanks_hears b e c n s o =
@@ -68,7 +69,7 @@ request_blanks_hears b e c n s o =
 
 request_line_hears : (b : ℕ) (e : Escape) (c n : Bool) (s : Signs) (o : Notes) → Hears (at modes.RequestLine e c n) 8 (read_by modes.RequestLine b s o (at modes.RequestLine e c n))
 request_line_hears b e c n s o =
-    either (b == 10) (record { pays = omega arith; blanks = refl; escape = refl; tells = refl }) (record { pays = omega arith; blanks = refl; escape = refl; tells = refl })
+    either (b == code "\n") (record { pays = omega arith; blanks = refl; escape = refl; tells = refl }) (record { pays = omega arith; blanks = refl; escape = refl; tells = refl })
 
 macro_blanks_hears : (b : ℕ) (e : Escape) (c n : Bool) (s : Signs) (o : Notes) → Hears (at modes.MacroBlanks e c n) 8 (read_by modes.MacroBlanks b s o (at modes.MacroBlanks e c n))
 macro_blanks_hears b e c n s o =
@@ -76,22 +77,22 @@ macro_blanks_hears b e c n s o =
 
 macro_gap_hears : (b : ℕ) (e : Escape) (c n : Bool) → Hears (at modes.MacroGap e c n) 8 (read_macro_gap b (at modes.MacroGap e c n))
 macro_gap_hears b e c n =
-    either (b == 10) (record { pays = omega arith; blanks = refl; escape = refl; tells = refl })
-    (either (b == 32) (record { pays = omega arith; blanks = refl; escape = refl; tells = refl })
-    (either (b == 34) (record { pays = omega arith; blanks = refl; escape = refl; tells = refl }) (record { pays = omega arith; blanks = refl; escape = refl; tells = refl })))
+    either (b == code "\n") (record { pays = omega arith; blanks = refl; escape = refl; tells = refl })
+    (either (b == code " ") (record { pays = omega arith; blanks = refl; escape = refl; tells = refl })
+    (either (b == code "\"") (record { pays = omega arith; blanks = refl; escape = refl; tells = refl }) (record { pays = omega arith; blanks = refl; escape = refl; tells = refl })))
 
 word_hears : (b : ℕ) (e : Escape) (c n : Bool) → Hears (at modes.Word e c n) 8 (read_word b (at modes.Word e c n))
 word_hears b e c n =
-    either (b == 10) (record { pays = omega arith; blanks = refl; escape = refl; tells = refl })
-    (either (b == 32) (record { pays = omega arith; blanks = refl; escape = refl; tells = refl }) (record { pays = omega arith; blanks = refl; escape = refl; tells = refl }))
+    either (b == code "\n") (record { pays = omega arith; blanks = refl; escape = refl; tells = refl })
+    (either (b == code " ") (record { pays = omega arith; blanks = refl; escape = refl; tells = refl }) (record { pays = omega arith; blanks = refl; escape = refl; tells = refl }))
 
 quoted_hears : (b : ℕ) (e : Escape) (c n : Bool) → Hears (at modes.Quoted e c n) 8 (read_quoted b (at modes.Quoted e c n))
 quoted_hears b e c n =
-    either (b == 10) (record { pays = omega arith; blanks = refl; escape = refl; tells = refl })
-    (either (b == 34) (record { pays = omega arith; blanks = refl; escape = refl; tells = refl }) (record { pays = omega arith; blanks = refl; escape = refl; tells = refl }))
+    either (b == code "\n") (record { pays = omega arith; blanks = refl; escape = refl; tells = refl })
+    (either (b == code "\"") (record { pays = omega arith; blanks = refl; escape = refl; tells = refl }) (record { pays = omega arith; blanks = refl; escape = refl; tells = refl }))
 
 quote_hears : (b : ℕ) (e : Escape) (c n : Bool) (s : Signs) (o : Notes) → Hears (at modes.Quote e c n) 8 (read_by modes.Quote b s o (at modes.Quote e c n))
-quote_hears b e c n s o = either (b == 34) (record { pays = omega arith; blanks = refl; escape = refl; tells = refl }) (record { pays = omega arith; blanks = refl; escape = refl; tells = refl })
+quote_hears b e c n s o = either (b == code "\"") (record { pays = omega arith; blanks = refl; escape = refl; tells = refl }) (record { pays = omega arith; blanks = refl; escape = refl; tells = refl })
 
 -- ---- strings, transparent lines
 
@@ -113,13 +114,13 @@ string_name_hears b long name e c n =
 string_blanks_hears : (b : ℕ) (e : Escape) (c n : Bool) → Hears (at modes.StringBlanks e c n) 8 (read_string_blanks b (at modes.StringBlanks e c n))
 string_blanks_hears b e c n =
     either (is_blank b) (record { pays = omega arith; blanks = refl; escape = refl; tells = refl })
-    (either (b == 34) (record { pays = omega arith; blanks = refl; escape = refl; tells = refl }) (record { pays = omega arith; blanks = refl; escape = refl; tells = refl }))
+    (either (b == code "\"") (record { pays = omega arith; blanks = refl; escape = refl; tells = refl }) (record { pays = omega arith; blanks = refl; escape = refl; tells = refl }))
 
 string_text_hears : (b : ℕ) (e : Escape) (c n : Bool) (s : Signs) (o : Notes) → Hears (at modes.StringText e c n) 8 (read_by modes.StringText b s o (at modes.StringText e c n))
-string_text_hears b e c n s o = either (b == 10) (record { pays = omega arith; blanks = refl; escape = refl; tells = refl }) (record { pays = omega arith; blanks = refl; escape = refl; tells = refl })
+string_text_hears b e c n s o = either (b == code "\n") (record { pays = omega arith; blanks = refl; escape = refl; tells = refl }) (record { pays = omega arith; blanks = refl; escape = refl; tells = refl })
 
 transparent_hears : (b : ℕ) (e : Escape) (c n : Bool) (s : Signs) (o : Notes) → Hears (at modes.Transparent e c n) 8 (read_by modes.Transparent b s o (at modes.Transparent e c n))
-transparent_hears b e c n s o = either (b == 10) (record { pays = omega arith; blanks = refl; escape = refl; tells = refl }) (record { pays = omega arith; blanks = refl; escape = refl; tells = refl })
+transparent_hears b e c n s o = either (b == code "\n") (record { pays = omega arith; blanks = refl; escape = refl; tells = refl }) (record { pays = omega arith; blanks = refl; escape = refl; tells = refl })
 
 -- ---- definitions
 
@@ -140,7 +141,7 @@ released_hears held false true b e c n = record { pays = omega arith; blanks = r
 released_hears held false false b e c n = record { pays = omega arith; blanks = refl; escape = refl; tells = refl }
 
 not_last_hears : (b : ℕ) (d : Defining) (held : ℕ) (e : Escape) (c n : Bool) → Hears (at (modes.BodyStart held) e c n) 8 (not_last b d held (at (modes.BodyStart held) e c n))
-not_last_hears b d held e c n = either (held == 0) (kept_hears held d.keeps (b == 10) b e c n) (released_hears held d.keeps (b == 10) b e c n)
+not_last_hears b d held e c n = either (held == 0) (kept_hears held d.keeps (b == code "\n") b e c n) (released_hears held d.keeps (b == code "\n") b e c n)
 
 nearer_hears : (held : ℕ) (ends : Bool) (e : Escape) (c n : Bool)
     → let r = at (modes.BodyStart held) e c n in Hears r 8 (go (to (if ends then modes.BodyEnd else modes.BodyStart (held + 1)) r))
@@ -151,7 +152,7 @@ body_start_hears : (b : ℕ) (d : Defining) (held : ℕ) (e : Escape) (c n : Boo
 body_start_hears b d held e c n =
     tested (nat_lt held (length (last_line d)))
     (λ less. either (b == slice_index (last_line d) held) (nearer_hears held ((held + 1 == length (last_line d)) && not (ends_whole d)) e c n) (not_last_hears b d held e c n))
-    (λ whole. either ((b == 10) || is_blank b) (record { pays = omega (arith, ltb-false held (length (last_line d)) whole); blanks = refl; escape = refl; tells = refl }) (not_last_hears b d held e c n))
+    (λ whole. either ((b == code "\n") || is_blank b) (record { pays = omega (arith, ltb-false held (length (last_line d)) whole); blanks = refl; escape = refl; tells = refl }) (not_last_hears b d held e c n))
 
 body_hears : (b : ℕ) (keeps ends : Bool) (e : Escape) (c n : Bool)
     → let r = at modes.Body e c n in Hears r 8 (go (due (if keeps then dues.Add b else dues.Look) (to (if ends then modes.BodyStart 0 else modes.Body) r)))
@@ -161,36 +162,36 @@ body_hears b false true e c n = record { pays = omega arith; blanks = refl; esca
 body_hears b false false e c n = record { pays = omega arith; blanks = refl; escape = refl; tells = refl }
 
 body_end_hears : (b : ℕ) (e : Escape) (c n : Bool) (s : Signs) (o : Notes) → Hears (at modes.BodyEnd e c n) 8 (read_by modes.BodyEnd b s o (at modes.BodyEnd e c n))
-body_end_hears b e c n s o = either (b == 10) (record { pays = omega arith; blanks = refl; escape = refl; tells = refl }) (record { pays = omega arith; blanks = refl; escape = refl; tells = refl })
+body_end_hears b e c n s o = either (b == code "\n") (record { pays = omega arith; blanks = refl; escape = refl; tells = refl }) (record { pays = omega arith; blanks = refl; escape = refl; tells = refl })
 
 -- ---- conditions
 
 condition_byte_hears : (b : ℕ) (e : Escape) (c n : Bool) → Hears (at modes.Condition e c n) 8 (read_condition_byte b (at modes.Condition e c n))
 condition_byte_hears b e c n =
-    either (b == 111) (record { pays = omega arith; blanks = refl; escape = refl; tells = refl })
-    (either (b == 101) (record { pays = omega arith; blanks = refl; escape = refl; tells = refl })
-    (either (b == 116) (record { pays = omega arith; blanks = refl; escape = refl; tells = refl })
-    (either (b == 110) (record { pays = omega arith; blanks = refl; escape = refl; tells = refl })
+    either (b == code "o") (record { pays = omega arith; blanks = refl; escape = refl; tells = refl })
+    (either (b == code "e") (record { pays = omega arith; blanks = refl; escape = refl; tells = refl })
+    (either (b == code "t") (record { pays = omega arith; blanks = refl; escape = refl; tells = refl })
+    (either (b == code "n") (record { pays = omega arith; blanks = refl; escape = refl; tells = refl })
     (either (begins_number b) (record { pays = omega arith; blanks = refl; escape = refl; tells = refl }) (record { pays = omega arith; blanks = refl; escape = refl; tells = refl })))))
 
 condition_hears : (b : ℕ) (negated : Bool) (e : Escape) (c n : Bool) → Hears (at modes.Condition e c n) 8 (read_condition b negated (at modes.Condition e c n))
 condition_hears b negated e c n =
-    either (b == 10) (record { pays = omega arith; blanks = refl; escape = refl; tells = refl })
+    either (b == code "\n") (record { pays = omega arith; blanks = refl; escape = refl; tells = refl })
     (either (is_blank b) (either negated (record { pays = omega arith; blanks = refl; escape = refl; tells = refl }) (record { pays = omega arith; blanks = refl; escape = refl; tells = refl }))
-    (either ((b == 33) && not negated) (record { pays = omega arith; blanks = refl; escape = refl; tells = refl }) (condition_byte_hears b e c n)))
+    (either ((b == code "!") && not negated) (record { pays = omega arith; blanks = refl; escape = refl; tells = refl }) (condition_byte_hears b e c n)))
 
 number_hears : (b k : ℕ) (e : Escape) (c n : Bool) → Hears (at (modes.Number k) e c n) 8 (read_number b k (at (modes.Number k) e c n))
 number_hears b k e c n =
-    either ((b == 10) || ((k == 0) && (is_blank b || (b == 92)))) (record { pays = omega arith; blanks = refl; escape = refl; tells = refl }) (record { pays = omega arith; blanks = refl; escape = refl; tells = refl })
+    either ((b == code "\n") || ((k == 0) && (is_blank b || (b == code "\\")))) (record { pays = omega arith; blanks = refl; escape = refl; tells = refl }) (record { pays = omega arith; blanks = refl; escape = refl; tells = refl })
 
 first_hears : (b d : ℕ) (x : Condition) (e : Escape) (c n : Bool) → Hears (at (modes.First d) e c n) 8 (read_first b d x (at (modes.First d) e c n))
 first_hears b d x e c n =
-    either (b == 10) (record { pays = omega arith; blanks = refl; escape = refl; tells = refl })
+    either (b == code "\n") (record { pays = omega arith; blanks = refl; escape = refl; tells = refl })
     (either (b == d) (record { pays = omega arith; blanks = refl; escape = refl; tells = refl }) (record { pays = omega arith; blanks = refl; escape = refl; tells = refl }))
 
 second_hears : (b d : ℕ) (x : Condition) (e : Escape) (c n : Bool) → Hears (at (modes.Second d) e c n) 8 (read_second b d x (at (modes.Second d) e c n))
 second_hears b d x e c n =
-    either (b == 10) (record { pays = omega arith; blanks = refl; escape = refl; tells = refl })
+    either (b == code "\n") (record { pays = omega arith; blanks = refl; escape = refl; tells = refl })
     (either (b == d) (record { pays = omega arith; blanks = refl; escape = refl; tells = refl }) (record { pays = omega arith; blanks = refl; escape = refl; tells = refl }))
 
 -- ---- all modes
@@ -212,7 +213,7 @@ read_hears modes.StringName b s o e c n is = string_name_hears b s.long o.name e
 read_hears modes.StringBlanks b s o e c n is = string_blanks_hears b e c n
 read_hears modes.StringText b s o e c n is = string_text_hears b e c n s o
 read_hears (modes.BodyStart held) b s o e c n is = body_start_hears b o.defining held e c n
-read_hears modes.Body b s o e c n is = body_hears b o.defining.keeps (b == 10) e c n
+read_hears modes.Body b s o e c n is = body_hears b o.defining.keeps (b == code "\n") e c n
 read_hears modes.BodyEnd b s o e c n is = body_end_hears b e c n s o
 read_hears modes.Condition b s o e c n is = condition_hears b o.condition.negated e c n
 read_hears (modes.Number k) b s o e c n is = number_hears b k e c n
@@ -223,7 +224,7 @@ read_hears m b s o e c n is = let wrong : ⊥ = cc in absurd wrong
 
 -- ---- where the line ends, nothing is taken
 
-kept_end : (keeps : Bool) (e : Escape) (c n : Bool) → let r = at modes.Body e c n in Hears r 0 (go (due (if keeps then dues.Add 10 else dues.Look) (to (modes.BodyStart 0) r)))
+kept_end : (keeps : Bool) (e : Escape) (c n : Bool) → let r = at modes.Body e c n in Hears r 0 (go (due (if keeps then dues.Add (code "\n") else dues.Look) (to (modes.BodyStart 0) r)))
 kept_end true e c n = record { pays = omega arith; blanks = refl; escape = refl; tells = refl }
 kept_end false e c n = record { pays = omega arith; blanks = refl; escape = refl; tells = refl }
 

@@ -1,4 +1,5 @@
 -- Items after a `\` pay for what comes of them.
+use Prim.Native.Char.{code}
 use Rattle.std.specs.Prelude.{◌||◌}
 use Rattle.std.proofs.Common.{◌≡◌, ℕ, ◌==◌, Bool, true, false, if◌then◌else◌, Option, None, Some, refl, arith}
 use Rattle.nr_reading.specs.declared.ask.Ask.{Ask}
@@ -39,16 +40,16 @@ one_of false p q = q
 
 event_behind-tells : (b : ℕ) (titled : Bool) → Tells (event_behind b titled)
 event_behind-tells b titled =
-    one_of ((b == 92) || (b == 101)) (record { tells = refl })
-    (one_of (b == 38) (record { tells = refl })
-    (one_of ((b == 32) || (b == 48)) (record { tells = refl })
+    one_of ((b == code "\\") || (b == code "e")) (record { tells = refl })
+    (one_of (b == code "&") (record { tells = refl })
+    (one_of ((b == code " ") || (b == code "0")) (record { tells = refl })
     (one_of (is_nothing b) (record { tells = refl })
     (one_of (is_plain b) (record { tells = refl })
-    (one_of (b == 37) (record { tells = refl })
-    (one_of (b == 112) (record { tells = refl })
-    (one_of (b == 97) (record { tells = refl })
-    (one_of (b == 116) (record { tells = refl })
-    (one_of (b == 9) (record { tells = refl })
+    (one_of (b == code "%") (record { tells = refl })
+    (one_of (b == code "p") (record { tells = refl })
+    (one_of (b == code "a") (record { tells = refl })
+    (one_of (b == code "t") (record { tells = refl })
+    (one_of (b == code "\t") (record { tells = refl })
     (one_of (b == 1) (record { tells = refl })
     (one_of titled (record { tells = refl }) (record { tells = refl }))))))))))))
 
@@ -56,7 +57,7 @@ event_behind-tells b titled =
 
 text_escape_pays : (b : ℕ) (o : Option Ask) (c n : Bool) → Pays (at modes.Text escapes.Begun c n) 256 (escape_in_text b o (at modes.Text escapes.Begun c n))
 text_escape_pays b (Some a) c n = record { pays = omega (arith, weight_of_stage-le a.stage); tells = refl }
-text_escape_pays b None c n = last (b == 99) (event_behind b false) (event_behind-tells b false).tells
+text_escape_pays b None c n = last (b == code "c") (event_behind b false) (event_behind-tells b false).tells
   where
     last : (t : Bool) (e : Event) → is_lead e ≡ false → Pays (at modes.Text escapes.Begun c n) 256 (tell e (plain (to (if t then modes.Interrupted else modes.Text) (at modes.Text escapes.Begun c n))))
     last true e unled = record { pays = omega (arith, cost_of_event-le e); tells = unled }
@@ -77,8 +78,8 @@ diverted_escape_pays b None c n = record { pays = omega (arith, cost_of_event-le
 -- ---- by the mode
 
 escape_by_pays : (b : ℕ) (long : Bool) (m : Mode) (c n : Bool) → is_direct m ≡ true → reads_escapes m ≡ true → Pays (at m escapes.Begun c n) 256 (escape_by b long m (at m escapes.Begun c n))
-escape_by_pays b long modes.Start c n is own = either (b == 33) (record { pays = omega arith; tells = refl }) (record { pays = omega arith; tells = refl })
-escape_by_pays b long modes.Diverting c n is own = either (b == 33) (record { pays = omega arith; tells = refl }) (record { pays = omega arith; tells = refl })
+escape_by_pays b long modes.Start c n is own = either (b == code "!") (record { pays = omega arith; tells = refl }) (record { pays = omega arith; tells = refl })
+escape_by_pays b long modes.Diverting c n is own = either (b == code "!") (record { pays = omega arith; tells = refl }) (record { pays = omega arith; tells = refl })
 escape_by_pays b long (modes.Leading k) c n is own = record { pays = omega arith; tells = refl }
 escape_by_pays b long modes.Continued c n is own = record { pays = omega arith; tells = refl }
 escape_by_pays b long modes.Interrupted c n is own = record { pays = omega arith; tells = refl }
@@ -91,7 +92,7 @@ escape_by_pays b long m c n is own = let wrong : ⊥ = cc in absurd wrong
 spliced_or_pays : (b : ℕ) (o : Option Kind) (long : Bool) (m : Mode) (c n : Bool) → is_direct m ≡ true → reads_escapes m ≡ true → Pays (at m escapes.Begun c n) 256 (spliced_or b o long (at m escapes.Begun c n))
 spliced_or_pays b (Some k) long m c n is own = record { pays = omega (arith, weight_of_stage-le (first_stage k), weight_of_backslash-ge m); tells = refl }
 spliced_or_pays b None long m c n is own =
-    either (b == 10) (record { pays = omega arith; tells = refl }) (either (b == 34) (record { pays = omega arith; tells = refl }) (escape_by_pays b long m c n is own))
+    either (b == code "\n") (record { pays = omega arith; tells = refl }) (either (b == code "\"") (record { pays = omega arith; tells = refl }) (escape_by_pays b long m c n is own))
 
 lone_escape_pays : (m : Mode) (c n : Bool) → is_direct m ≡ true → reads_escapes m ≡ true → (w : ℕ) → Pays (at m escapes.Begun c n) w (lone_escape m (at m escapes.Begun c n))
 lone_escape_pays modes.Start c n is own w = record { pays = omega arith; tells = refl }
@@ -115,7 +116,7 @@ escaped_pays fronts.Over long m c n is own = lone_escape_pays m c n is own 0
 
 accepted_escape_pays : (f : Front) (c n : Bool) → Pays (at modes.Accepted escapes.Begun c n) (worth_of_front f) (accepted_escape f (at modes.Accepted escapes.Begun c n))
 accepted_escape_pays fronts.Mark c n = record { pays = omega arith; tells = refl }
-accepted_escape_pays (fronts.Byte b) c n = either (b == 123) (record { pays = omega arith; tells = refl }) (record { pays = omega arith; tells = refl })
+accepted_escape_pays (fronts.Byte b) c n = either (b == code "{") (record { pays = omega arith; tells = refl }) (record { pays = omega arith; tells = refl })
 accepted_escape_pays (fronts.Cell x) c n = record { pays = omega arith; tells = refl }
 accepted_escape_pays (fronts.LineEnd h) c n = record { pays = omega arith; tells = refl }
 accepted_escape_pays fronts.Resume c n = record { pays = omega arith; tells = refl }
@@ -143,7 +144,7 @@ uncommented m c n w x p = record { pays = p.pays; tells = p.tells }
 comment_pays : (f : Front) (s : Signs) (m : Mode) (c n : Bool) → is_direct m ≡ true → Pays (at m escapes.Comment c n) (worth_of_front f) (direct f s (at m escapes.Comment c n))
 comment_pays fronts.Mark s m c n is = record { pays = omega arith; tells = refl }
 comment_pays (fronts.Byte b) s m c n is =
-    either (b == 10) (uncommented m c n 256 (unescaped m (fronts.Byte b) s (at m escapes.Plain c n)) (unescaped_pays m (fronts.Byte b) s c n is)) (record { pays = omega arith; tells = refl })
+    either (b == code "\n") (uncommented m c n 256 (unescaped m (fronts.Byte b) s (at m escapes.Plain c n)) (unescaped_pays m (fronts.Byte b) s c n is)) (record { pays = omega arith; tells = refl })
 comment_pays (fronts.Cell x) s m c n is = record { pays = omega arith; tells = refl }
 comment_pays (fronts.LineEnd h) s m c n is =
     uncommented m c n 256 (unescaped m (fronts.LineEnd h) s (at m escapes.Plain c n)) (unescaped_pays m (fronts.LineEnd h) s c n is)

@@ -1,4 +1,5 @@
 -- A byte that stands for itself in the midst of a macro's argument.
+use Prim.Native.Char.{code}
 use Rattle.std.proofs.Common.{◌≡◌, ℕ, true, false, List, [], ◌∷◌, refl, ap, sym, ◌∙◌}
 use Rattle.std.proofs.lemmas.Bool.{ne_eqb}
 use Rattle.nr_reading.specs.declared.ask.Ask.{Ask}
@@ -34,8 +35,8 @@ idle m e d asks is = absurd (let wrong : false ≡ true = is in cc)
 -- the byte is to be added, and nothing else changes
 taken_by : (m : Mode) (e : Escape) (d : Due) (asks : List Ask) (b : ℕ) (h : Half) → is_in_argument_at m e d asks ≡ true → IsPlain (ending_of m) b → h.reading.mode ≡ m → h.reading.escape ≡ escapes.Plain → h.asks ≡ []
     → meet (fronts.Byte b) h ≡ record { half = putting b (record h { reading = record h.reading { escape = escapes.Plain } }); event = events.Nothing; takes = true }
-taken_by modes.Word e d asks b h is plain mode escape none = rw (none, mode, escape, ne_eqb b 92 plain.2, ne_eqb b 10 plain.1, ne_eqb b 32 plain.0) refl
-taken_by modes.Quoted e d asks b h is plain mode escape none = rw (none, mode, escape, ne_eqb b 92 plain.2, ne_eqb b 10 plain.1, ne_eqb b 34 plain.0) refl
+taken_by modes.Word e d asks b h is plain mode escape none = rw (none, mode, escape, ne_eqb b (code "\\") plain.2, ne_eqb b (code "\n") plain.1, ne_eqb b (code " ") plain.0) refl
+taken_by modes.Quoted e d asks b h is plain mode escape none = rw (none, mode, escape, ne_eqb b (code "\\") plain.2, ne_eqb b (code "\n") plain.1, ne_eqb b (code "\"") plain.0) refl
 taken_by m e d asks b h is plain mode escape none = absurd (let wrong : false ≡ true = is in cc)
 
 -- nothing is due in the midst of an argument

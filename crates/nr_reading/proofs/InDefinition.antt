@@ -1,4 +1,5 @@
 -- A byte that stands for itself in the midst of a text that is being defined.
+use Prim.Native.Char.{code}
 use Rattle.std.proofs.Common.{◌≡◌, ℕ, Bool, true, false, List, [], ◌∷◌, refl, ap, sym, ◌∙◌}
 use Rattle.std.proofs.lemmas.Bool.{ne_eqb}
 use Rattle.nr_reading.specs.declared.ask.Ask.{Ask}
@@ -31,8 +32,8 @@ idle keeps m e d asks is = absurd (let wrong : false ≡ true = is in cc)
 -- the byte is to be added, and nothing else changes
 taken_by : (keeps : Bool) (m : Mode) (e : Escape) (d : Due) (asks : List Ask) (b : ℕ) (h : Half) → is_in_definition_at keeps m e d asks ≡ true → IsPlain (ending_of m) b → h.notes.defining.keeps ≡ keeps → h.reading.mode ≡ m → h.reading.escape ≡ escapes.Plain → h.asks ≡ []
     → meet (fronts.Byte b) h ≡ record { half = adding b (record h { reading = record h.reading { mode = m; escape = escapes.Plain } }); event = events.Nothing; takes = true }
-taken_by keeps modes.StringText e d asks b h is plain kept mode escape none = rw (none, mode, escape, ne_eqb b 92 plain.2, ne_eqb b 10 plain.0) refl
-taken_by true modes.Body e d asks b h is plain kept mode escape none = rw (none, mode, escape, kept, ne_eqb b 92 plain.2, ne_eqb b 10 plain.0) refl
+taken_by keeps modes.StringText e d asks b h is plain kept mode escape none = rw (none, mode, escape, ne_eqb b (code "\\") plain.2, ne_eqb b (code "\n") plain.0) refl
+taken_by true modes.Body e d asks b h is plain kept mode escape none = rw (none, mode, escape, kept, ne_eqb b (code "\\") plain.2, ne_eqb b (code "\n") plain.0) refl
 taken_by false modes.Body escapes.Plain dues.Look asks b h is plain kept mode escape none = absurd (let wrong : false ≡ true = is in cc)
 taken_by keeps m e d asks b h is plain kept mode escape none = absurd (let wrong : false ≡ true = is in cc)
 

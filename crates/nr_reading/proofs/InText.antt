@@ -1,4 +1,5 @@
 -- A byte that stands for itself in the midst of a text line, and the newline that ends the line.
+use Prim.Native.Char.{code}
 use Rattle.std.proofs.Common.{◌≡◌, ℕ, true, false, List, [], ◌∷◌, refl}
 use Rattle.std.specs.Prelude.{◌==◌}
 use Rattle.nr_reading.specs.declared.ask.Ask.{Ask}
@@ -26,11 +27,11 @@ in_text h is =
     record { mode = all.0; escape = all.1; due = all.2; asks = all.3 }
 
 -- it is taken and told, and nothing else changes
-pub meet-plain : (b : ℕ) (h : Half) → IsInText h → (b == 10) ≡ false → (b == 92) ≡ false → meet (fronts.Byte b) h ≡ record { half = h; event = events.Byte b; takes = true }
+pub meet-plain : (b : ℕ) (h : Half) → IsInText h → (b == code "\n") ≡ false → (b == code "\\") ≡ false → meet (fronts.Byte b) h ≡ record { half = h; event = events.Byte b; takes = true }
 meet-plain b h is newline escape = rw (is.asks, is.mode, is.escape, newline, escape) refl
 
 -- it is taken and told, and the text has ended
-pub meet-newline : (h : Half) → IsInText h → meet (fronts.Byte 10) h ≡ record { half = text_ended h; event = events.EndLine; takes = true }
+pub meet-newline : (h : Half) → IsInText h → meet (fronts.Byte (code "\n")) h ≡ record { half = text_ended h; event = events.EndLine; takes = true }
 meet-newline h is = rw (is.asks, is.mode, is.escape) refl
 
 -- a line begins next then

@@ -1,4 +1,5 @@
 -- Interpolations that stand whole in a row, met at once.
+use Prim.Native.Char.{code}
 use Rattle.std.specs.Prelude.{slice_get, ◌==◌, ◌||◌, not}
 use Rattle.std.proofs.Common.{◌≡◌, ℕ, ◌+◌, ◌-◌, ◌<◌, ◌≤◌, Bool, true, false, if◌then◌else◌, List, [], ◌∷◌, length, Some, inl, inr, refl, sym, subst, ap, ◌∙◌, arith}
 use Rattle.std.proofs.lemmas.Bool.{cases_Bool, and_parts, not-true, le-leb, ne_eqb}
@@ -44,25 +45,25 @@ Tells b h k e = meet (fronts.Byte b) h ≡ record { half = k; event = e; takes =
 
 -- a byte that begins no escape, and ends no line
 pub record IsApart (b : ℕ) : Type 0 where
-  pub escape : (b == 92) ≡ false
-  pub newline : (b == 10) ≡ false
+  pub escape : (b == code "\\") ≡ false
+  pub newline : (b == code "\n") ≡ false
 
 pub apart : (b : ℕ) → is_plain b ≡ true → IsApart b
-apart b is = let two = neither (b == 92) (b == 10) is in record { escape = two.0; newline = two.1 }
+apart b is = let two = neither (b == code "\\") (b == code "\n") is in record { escape = two.0; newline = two.1 }
 
 -- a byte that is a name of its own
 pub record IsLone (b : ℕ) : Type 0 where
-  pub escape : (b == 92) ≡ false
-  pub newline : (b == 10) ≡ false
-  pub two : (b == 40) ≡ false
-  pub bracket : (b == 91) ≡ false
-  pub plus : (b == 43) ≡ false
-  pub minus : (b == 45) ≡ false
+  pub escape : (b == code "\\") ≡ false
+  pub newline : (b == code "\n") ≡ false
+  pub two : (b == code "(") ≡ false
+  pub bracket : (b == code "[") ≡ false
+  pub plus : (b == code "+") ≡ false
+  pub minus : (b == code "-") ≡ false
 
 pub lone : (b : ℕ) → is_lone_name b ≡ true → IsLone b
-lone b is = by (b == 92) (b == 10) (b == 40) (b == 91) (b == 43) (b == 45) refl refl refl refl refl refl is
+lone b is = by (b == code "\\") (b == code "\n") (b == code "(") (b == code "[") (b == code "+") (b == code "-") refl refl refl refl refl refl is
   where
-    by : (u v w x y z : Bool) → (b == 92) ≡ u → (b == 10) ≡ v → (b == 40) ≡ w → (b == 91) ≡ x → (b == 43) ≡ y → (b == 45) ≡ z → not (u || v || w || x || y || z) ≡ true → IsLone b
+    by : (u v w x y z : Bool) → (b == code "\\") ≡ u → (b == code "\n") ≡ v → (b == code "(") ≡ w → (b == code "[") ≡ x → (b == code "+") ≡ y → (b == code "-") ≡ z → not (u || v || w || x || y || z) ≡ true → IsLone b
     by false false false false false false p q r s t u is = record { escape = p; newline = q; two = r; bracket = s; plus = t; minus = u }
     by u v w x y z p q r s t o is = absurd (let wrong : false ≡ true = is in cc)
 
@@ -79,59 +80,59 @@ module _ (c n : Bool) (s : Signs) (d : Texts) (o : Notes) where
   abbrev asking_half : Mode → Ask → Half
   asking_half m a = half_at (at m escapes.Plain c n) s (a ∷ []) d o
 
-  copied_backslash : (m : Mode) → is_direct m ≡ false → Tells 92 (plain_half m) (escaped_half m) events.Nothing
+  copied_backslash : (m : Mode) → is_direct m ≡ false → Tells (code "\\") (plain_half m) (escaped_half m) events.Nothing
   copied_backslash m copied = rw copied refl
 
-  backslash : (m : Mode) → interpolates_in m s ≡ true → Tells 92 (plain_half m) (escaped_half m) events.Nothing
+  backslash : (m : Mode) → interpolates_in m s ≡ true → Tells (code "\\") (plain_half m) (escaped_half m) events.Nothing
   backslash modes.Text is = refl
-  backslash modes.Start is = let two = neither (92 == s.control) (92 == s.no_break) is in rw (two.0, two.1) refl
+  backslash modes.Start is = let two = neither (code "\\" == s.control) (code "\\" == s.no_break) is in rw (two.0, two.1) refl
   backslash m is = copied_backslash m (not-true (is_direct m) is)
 
-  copied_argument : (m : Mode) → is_direct m ≡ false → Tells 36 (escaped_half m) (asking_half m (begun_ask kinds.Argument)) events.Nothing
+  copied_argument : (m : Mode) → is_direct m ≡ false → Tells (code "$") (escaped_half m) (asking_half m (begun_ask kinds.Argument)) events.Nothing
   copied_argument m copied = elim (cases_Bool (reads_name m)) [ inl name ↦ rw (copied, name) refl | inr other ↦ rw (copied, other) refl ]
 
-  copied_register : (m : Mode) → is_direct m ≡ false → Tells 110 (escaped_half m) (asking_half m (begun_ask (kinds.Register signs.None))) events.Nothing
+  copied_register : (m : Mode) → is_direct m ≡ false → Tells (code "n") (escaped_half m) (asking_half m (begun_ask (kinds.Register signs.None))) events.Nothing
   copied_register m copied = elim (cases_Bool (reads_name m)) [ inl name ↦ rw (copied, name) refl | inr other ↦ rw (copied, other) refl ]
 
-  copied_string : (m : Mode) → is_direct m ≡ false → Tells 42 (escaped_half m) (asking_half m (begun_ask kinds.String)) events.Nothing
+  copied_string : (m : Mode) → is_direct m ≡ false → Tells (code "*") (escaped_half m) (asking_half m (begun_ask kinds.String)) events.Nothing
   copied_string m copied = elim (cases_Bool (reads_name m)) [ inl name ↦ rw (copied, name) refl | inr other ↦ rw (copied, other) refl ]
 
-  argument_asked : (m : Mode) → interpolates_in m s ≡ true → Tells 36 (escaped_half m) (asking_half m (begun_ask kinds.Argument)) events.Nothing
+  argument_asked : (m : Mode) → interpolates_in m s ≡ true → Tells (code "$") (escaped_half m) (asking_half m (begun_ask kinds.Argument)) events.Nothing
   argument_asked modes.Text is = refl
   argument_asked modes.Start is = refl
   argument_asked m is = copied_argument m (not-true (is_direct m) is)
 
-  register_asked : (m : Mode) → interpolates_in m s ≡ true → Tells 110 (escaped_half m) (asking_half m (begun_ask (kinds.Register signs.None))) events.Nothing
+  register_asked : (m : Mode) → interpolates_in m s ≡ true → Tells (code "n") (escaped_half m) (asking_half m (begun_ask (kinds.Register signs.None))) events.Nothing
   register_asked modes.Text is = refl
   register_asked modes.Start is = refl
   register_asked m is = copied_register m (not-true (is_direct m) is)
 
-  string_asked : (m : Mode) → interpolates_in m s ≡ true → Tells 42 (escaped_half m) (asking_half m (begun_ask kinds.String)) events.Nothing
+  string_asked : (m : Mode) → interpolates_in m s ≡ true → Tells (code "*") (escaped_half m) (asking_half m (begun_ask kinds.String)) events.Nothing
   string_asked modes.Text is = refl
   string_asked modes.Start is = refl
   string_asked m is = copied_string m (not-true (is_direct m) is)
 
-  font_asked : (m : Mode) → m ≡ modes.Text → Tells 102 (escaped_half m) (asking_half m (begun_ask kinds.Font)) events.Nothing
+  font_asked : (m : Mode) → m ≡ modes.Text → Tells (code "f") (escaped_half m) (asking_half m (begun_ask kinds.Font)) events.Nothing
   font_asked m is = rw is refl
 
   -- at a line's beginning it begins the text first
-  font_begins : (m : Mode) → m ≡ modes.Start → meet (fronts.Byte 102) (escaped_half m) ≡ record { half = half_at (at modes.Text escapes.Begun false n) s [] d o; event = events.Nothing; takes = false }
+  font_begins : (m : Mode) → m ≡ modes.Start → meet (fronts.Byte (code "f")) (escaped_half m) ≡ record { half = half_at (at modes.Text escapes.Begun false n) s [] d o; event = events.Nothing; takes = false }
   font_begins m is = rw is refl
 
   -- ---- what is asked for
 
   -- the number of an argument
-  number_ends : (b : ℕ) (m : Mode) → 49 ≤ b → b ≤ 57 → Tells b (asking_half m (begun_ask kinds.Argument)) (half_at (record (at m escapes.Plain c n) { due = dues.Argument (b - 49) }) s [] d o) events.Nothing
+  number_ends : (b : ℕ) (m : Mode) → code "1" ≤ b → b ≤ code "9" → Tells b (asking_half m (begun_ask kinds.Argument)) (half_at (record (at m escapes.Plain c n) { due = dues.Argument (b - code "1") }) s [] d o) events.Nothing
   number_ends b m least most =
-      let escape : (b == 92) ≡ false = ne_eqb b 92 (λ e. omega (arith, e, most)) in
-      let newline : (b == 10) ≡ false = ne_eqb b 10 (λ e. omega (arith, e, least)) in
-      rw (escape, newline, le-leb 49 b least, le-leb b 57 most) refl
+      let escape : (b == code "\\") ≡ false = ne_eqb b (code "\\") (λ e. omega (arith, e, most)) in
+      let newline : (b == code "\n") ≡ false = ne_eqb b (code "\n") (λ e. omega (arith, e, least)) in
+      rw (escape, newline, le-leb (code "1") b least, le-leb b (code "9") most) refl
 
   -- a register's sign
-  plus_read : (m : Mode) → Tells 43 (asking_half m (begun_ask (kinds.Register signs.None))) (asking_half m (begun_ask (kinds.Register signs.Plus))) events.Nothing
+  plus_read : (m : Mode) → Tells (code "+") (asking_half m (begun_ask (kinds.Register signs.None))) (asking_half m (begun_ask (kinds.Register signs.Plus))) events.Nothing
   plus_read m = elim (cases_Bool s.long) [ inl long ↦ rw long refl | inr short ↦ rw short refl ]
 
-  minus_read : (m : Mode) → Tells 45 (asking_half m (begun_ask (kinds.Register signs.None))) (asking_half m (begun_ask (kinds.Register signs.Minus))) events.Nothing
+  minus_read : (m : Mode) → Tells (code "-") (asking_half m (begun_ask (kinds.Register signs.None))) (asking_half m (begun_ask (kinds.Register signs.Minus))) events.Nothing
   minus_read m = elim (cases_Bool s.long) [ inl long ↦ rw long refl | inr short ↦ rw short refl ]
 
   -- a name of one byte
@@ -142,7 +143,7 @@ module _ (c n : Bool) (s : Signs) (d : Texts) (o : Notes) where
   lone_ends k b m is byte = absurd (let wrong : false ≡ true = is in cc)
 
   -- one of two
-  two_begin : (k : Kind) (m : Mode) → is_named k ≡ true → Tells 40 (asking_half m (begun_ask k)) (asking_half m (at_stage stages.Two (begun_ask k))) events.Nothing
+  two_begin : (k : Kind) (m : Mode) → is_named k ≡ true → Tells (code "(") (asking_half m (begun_ask k)) (asking_half m (at_stage stages.Two (begun_ask k))) events.Nothing
   two_begin kinds.String m is = refl
   two_begin kinds.Font m is = refl
   two_begin (kinds.Register s) m is = refl
@@ -222,40 +223,40 @@ module _ (fs : List Front) (place : ℕ) (j : Half) (is : interpolates j ≡ tru
   in_mode = (plainly j is look).1
 
   -- the `\` and the byte after it
-  asked : (k : Kind) (b : ℕ) → place + 1 < length fs → slice_get fs place ≡ Some (fronts.Byte 92) → slice_get fs (place + 1) ≡ Some (fronts.Byte b) → Tells b escaped_there (asking_there (begun_ask k)) events.Nothing
+  asked : (k : Kind) (b : ℕ) → place + 1 < length fs → slice_get fs place ≡ Some (fronts.Byte (code "\\")) → slice_get fs (place + 1) ≡ Some (fronts.Byte b) → Tells b escaped_there (asking_there (begun_ask k)) events.Nothing
       → (h : Half) (m : ℕ) → HasMet m fs h (quiet place j) → HasMet (m + 2) fs h (quiet (place + 2) (begun k j))
   asked k b within first second tells = λ h m has.
-      let one = tells_more m place 92 fs h there escaped_there events.Nothing (subst (λ (x : Half). HasMet m fs h (quiet place x)) j_is has) (omega (arith, within)) refl first (backslash c n j.signs j.delimited j.notes j.reading.mode in_mode) in
+      let one = tells_more m place (code "\\") fs h there escaped_there events.Nothing (subst (λ (x : Half). HasMet m fs h (quiet place x)) j_is has) (omega (arith, within)) refl first (backslash c n j.signs j.delimited j.notes j.reading.mode in_mode) in
       let two = tells_more (m + 1) (place + 1) b fs h escaped_there (asking_there (begun_ask k)) events.Nothing one within refl second tells in
       recount (m + 1 + 1) (m + 2) (place + 1 + 1) (place + 2) (asking_there (begun_ask k)) (begun k j) events.Nothing fs h two (omega arith) (omega arith) (ap (begun k) (sym j_is))
 
-  pub argument_met : place + 1 < length fs → slice_get fs place ≡ Some (fronts.Byte 92) → slice_get fs (place + 1) ≡ Some (fronts.Byte 36)
+  pub argument_met : place + 1 < length fs → slice_get fs place ≡ Some (fronts.Byte (code "\\")) → slice_get fs (place + 1) ≡ Some (fronts.Byte (code "$"))
       → (h : Half) (m : ℕ) → HasMet m fs h (quiet place j) → HasMet (m + 2) fs h (quiet (place + 2) (begun kinds.Argument j))
-  argument_met within first second = asked kinds.Argument 36 within first second (argument_asked c n j.signs j.delimited j.notes j.reading.mode in_mode)
+  argument_met within first second = asked kinds.Argument (code "$") within first second (argument_asked c n j.signs j.delimited j.notes j.reading.mode in_mode)
 
-  pub register_met : place + 1 < length fs → slice_get fs place ≡ Some (fronts.Byte 92) → slice_get fs (place + 1) ≡ Some (fronts.Byte 110)
+  pub register_met : place + 1 < length fs → slice_get fs place ≡ Some (fronts.Byte (code "\\")) → slice_get fs (place + 1) ≡ Some (fronts.Byte (code "n"))
       → (h : Half) (m : ℕ) → HasMet m fs h (quiet place j) → HasMet (m + 2) fs h (quiet (place + 2) (begun (kinds.Register signs.None) j))
-  register_met within first second = asked (kinds.Register signs.None) 110 within first second (register_asked c n j.signs j.delimited j.notes j.reading.mode in_mode)
+  register_met within first second = asked (kinds.Register signs.None) (code "n") within first second (register_asked c n j.signs j.delimited j.notes j.reading.mode in_mode)
 
-  pub string_met : place + 1 < length fs → slice_get fs place ≡ Some (fronts.Byte 92) → slice_get fs (place + 1) ≡ Some (fronts.Byte 42)
+  pub string_met : place + 1 < length fs → slice_get fs place ≡ Some (fronts.Byte (code "\\")) → slice_get fs (place + 1) ≡ Some (fronts.Byte (code "*"))
       → (h : Half) (m : ℕ) → HasMet m fs h (quiet place j) → HasMet (m + 2) fs h (quiet (place + 2) (begun kinds.String j))
-  string_met within first second = asked kinds.String 42 within first second (string_asked c n j.signs j.delimited j.notes j.reading.mode in_mode)
+  string_met within first second = asked kinds.String (code "*") within first second (string_asked c n j.signs j.delimited j.notes j.reading.mode in_mode)
 
-  pub font_met : j.reading.mode ≡ modes.Text → place + 1 < length fs → slice_get fs place ≡ Some (fronts.Byte 92) → slice_get fs (place + 1) ≡ Some (fronts.Byte 102)
+  pub font_met : j.reading.mode ≡ modes.Text → place + 1 < length fs → slice_get fs place ≡ Some (fronts.Byte (code "\\")) → slice_get fs (place + 1) ≡ Some (fronts.Byte (code "f"))
       → (h : Half) (m : ℕ) → HasMet m fs h (quiet place j) → HasMet (m + 2) fs h (quiet (place + 2) (begun kinds.Font j))
-  font_met text within first second = asked kinds.Font 102 within first second (font_asked c n j.signs j.delimited j.notes j.reading.mode text)
+  font_met text within first second = asked kinds.Font (code "f") within first second (font_asked c n j.signs j.delimited j.notes j.reading.mode text)
 
   -- a font escape whose name is one byte, where it begins the text of a line
-  pub font_begun : j.reading.mode ≡ modes.Start → (b : ℕ) → place + 2 < length fs → slice_get fs place ≡ Some (fronts.Byte 92) → slice_get fs (place + 1) ≡ Some (fronts.Byte 102) → slice_get fs (place + 2) ≡ Some (fronts.Byte b) → IsLone b
+  pub font_begun : j.reading.mode ≡ modes.Start → (b : ℕ) → place + 2 < length fs → slice_get fs place ≡ Some (fronts.Byte (code "\\")) → slice_get fs (place + 1) ≡ Some (fronts.Byte (code "f")) → slice_get fs (place + 2) ≡ Some (fronts.Byte b) → IsLone b
       → (h : Half) (m : ℕ) → HasMet m fs h (quiet place j) → HasMet (m + 4) fs h (record { taken = place + 3; half = named kinds.Font (b ∷ []) (text_begun j); event = events.Font })
   font_begun start b within first second third byte = λ h m has.
       let began : Half = escaped_half false n j.signs j.delimited j.notes modes.Text in
       let waits : Half = asking_half false n j.signs j.delimited j.notes modes.Text (begun_ask kinds.Font) in
       let ended : Half = named kinds.Font (b ∷ []) (plain_half false n j.signs j.delimited j.notes modes.Text) in
       let at_b : place + 1 + 1 ≡ place + 2 = omega arith in
-      let one = tells_more m place 92 fs h there escaped_there events.Nothing (subst (λ (x : Half). HasMet m fs h (quiet place x)) j_is has) (omega (arith, within)) refl first (backslash c n j.signs j.delimited j.notes j.reading.mode in_mode) in
-      let two = left_once (m + 1) (place + 1) 102 fs h escaped_there began one (omega (arith, within)) refl second (font_begins c n j.signs j.delimited j.notes j.reading.mode start) in
-      let three = tells_more (m + 1 + 1) (place + 1) 102 fs h began waits events.Nothing two (omega (arith, within)) refl second (font_asked false n j.signs j.delimited j.notes modes.Text refl) in
+      let one = tells_more m place (code "\\") fs h there escaped_there events.Nothing (subst (λ (x : Half). HasMet m fs h (quiet place x)) j_is has) (omega (arith, within)) refl first (backslash c n j.signs j.delimited j.notes j.reading.mode in_mode) in
+      let two = left_once (m + 1) (place + 1) (code "f") fs h escaped_there began one (omega (arith, within)) refl second (font_begins c n j.signs j.delimited j.notes j.reading.mode start) in
+      let three = tells_more (m + 1 + 1) (place + 1) (code "f") fs h began waits events.Nothing two (omega (arith, within)) refl second (font_asked false n j.signs j.delimited j.notes modes.Text refl) in
       let four = tells_more (m + 1 + 1 + 1) (place + 1 + 1) b fs h waits ended events.Font three (omega (arith, within)) refl (ap (slice_get fs) at_b ∙ third) (lone_ends false n j.signs j.delimited j.notes kinds.Font b modes.Text refl byte) in
       recount (m + 1 + 1 + 1 + 1) (m + 4) (place + 1 + 1 + 1) (place + 3) ended (named kinds.Font (b ∷ []) (text_begun j)) events.Font fs h four (omega arith) (omega arith)
       (ap (λ (x : Half). named kinds.Font (b ∷ []) (text_begun x)) (sym j_is))
@@ -268,23 +269,23 @@ module _ (fs : List Front) (place : ℕ) (j : Half) (is : interpolates j ≡ tru
       (subst (λ (x : Half). HasMet (m + before) fs h (quiet (place + before) x)) (ap (begun k) j_is) has) within refl next tells in
       recount (m + before + 1) (m + (before + 1)) (place + before + 1) (place + (before + 1)) (asking_there (begun_ask k')) (begun k' j) events.Nothing fs h one (omega arith) (omega arith) (ap (begun k') (sym j_is))
 
-  pub plus_met : place + 2 < length fs → slice_get fs (place + 2) ≡ Some (fronts.Byte 43)
+  pub plus_met : place + 2 < length fs → slice_get fs (place + 2) ≡ Some (fronts.Byte (code "+"))
       → (h : Half) (m : ℕ) → HasMet (m + 2) fs h (quiet (place + 2) (begun (kinds.Register signs.None) j)) → HasMet (m + 3) fs h (quiet (place + 3) (begun (kinds.Register signs.Plus) j))
-  plus_met within next = ask_more (kinds.Register signs.None) (kinds.Register signs.Plus) 2 43 within next (plus_read c n j.signs j.delimited j.notes j.reading.mode)
+  plus_met within next = ask_more (kinds.Register signs.None) (kinds.Register signs.Plus) 2 (code "+") within next (plus_read c n j.signs j.delimited j.notes j.reading.mode)
 
-  pub minus_met : place + 2 < length fs → slice_get fs (place + 2) ≡ Some (fronts.Byte 45)
+  pub minus_met : place + 2 < length fs → slice_get fs (place + 2) ≡ Some (fronts.Byte (code "-"))
       → (h : Half) (m : ℕ) → HasMet (m + 2) fs h (quiet (place + 2) (begun (kinds.Register signs.None) j)) → HasMet (m + 3) fs h (quiet (place + 3) (begun (kinds.Register signs.Minus) j))
-  minus_met within next = ask_more (kinds.Register signs.None) (kinds.Register signs.Minus) 2 45 within next (minus_read c n j.signs j.delimited j.notes j.reading.mode)
+  minus_met within next = ask_more (kinds.Register signs.None) (kinds.Register signs.Minus) 2 (code "-") within next (minus_read c n j.signs j.delimited j.notes j.reading.mode)
 
-  pub number_met : (b : ℕ) → place + 2 < length fs → slice_get fs (place + 2) ≡ Some (fronts.Byte b) → 49 ≤ b → b ≤ 57
-      → (h : Half) (m : ℕ) → HasMet (m + 2) fs h (quiet (place + 2) (begun kinds.Argument j)) → HasMet (m + 3) fs h (quiet (place + 3) (record j { reading = record j.reading { due = dues.Argument (b - 49) } }))
+  pub number_met : (b : ℕ) → place + 2 < length fs → slice_get fs (place + 2) ≡ Some (fronts.Byte b) → code "1" ≤ b → b ≤ code "9"
+      → (h : Half) (m : ℕ) → HasMet (m + 2) fs h (quiet (place + 2) (begun kinds.Argument j)) → HasMet (m + 3) fs h (quiet (place + 3) (record j { reading = record j.reading { due = dues.Argument (b - code "1") } }))
   number_met b within next least most = λ h m has.
-      let ended : Half = record there { reading = record there.reading { due = dues.Argument (b - 49) } } in
+      let ended : Half = record there { reading = record there.reading { due = dues.Argument (b - code "1") } } in
       let one = tells_more (m + 2) (place + 2) b fs h (asking_there (begun_ask kinds.Argument)) ended events.Nothing
       (subst (λ (x : Half). HasMet (m + 2) fs h (quiet (place + 2) x)) (ap (begun kinds.Argument) j_is) has) within refl next
       (number_ends c n j.signs j.delimited j.notes b j.reading.mode least most) in
       recount (m + 2 + 1) (m + 3) (place + 2 + 1) (place + 3) ended _ events.Nothing fs h one (omega arith) (omega arith)
-      (ap (λ (x : Half). let y : Half = record x { reading = record x.reading { due = dues.Argument (b - 49) } } in y) (sym j_is))
+      (ap (λ (x : Half). let y : Half = record x { reading = record x.reading { due = dues.Argument (b - code "1") } } in y) (sym j_is))
 
   -- a name
   module _ (k : Kind) (before : ℕ) (kind : is_named k ≡ true) where
@@ -300,7 +301,7 @@ module _ (fs : List Front) (place : ℕ) (j : Half) (is : interpolates j ≡ tru
         recount (m + before + 1) (m + (before + 1)) (place + before + 1) (place + (before + 1)) (named k (b ∷ []) there) (named k (b ∷ []) j) (event_of k (b ∷ [])) fs h one (omega arith) (omega arith)
         (ap (named k (b ∷ [])) (sym j_is))
 
-    pub pair_met : (a b : ℕ) → place + (before + 2) < length fs → slice_get fs (place + before) ≡ Some (fronts.Byte 40) → slice_get fs (place + (before + 1)) ≡ Some (fronts.Byte a) → slice_get fs (place + (before + 2)) ≡ Some (fronts.Byte b) → IsApart a → IsApart b
+    pub pair_met : (a b : ℕ) → place + (before + 2) < length fs → slice_get fs (place + before) ≡ Some (fronts.Byte (code "(")) → slice_get fs (place + (before + 1)) ≡ Some (fronts.Byte a) → slice_get fs (place + (before + 2)) ≡ Some (fronts.Byte b) → IsApart a → IsApart b
         → (h : Half) (m : ℕ) → HasMet (m + before) fs h (quiet (place + before) (begun k j))
         → HasMet (m + (before + 3)) fs h (record { taken = place + (before + 3); half = named k (a ∷ b ∷ []) j; event = event_of k (a ∷ b ∷ []) })
     pair_met a b within first second third apart_a apart_b = λ h m has.
@@ -308,7 +309,7 @@ module _ (fs : List Front) (place : ℕ) (j : Half) (is : interpolates j ≡ tru
         let x2 = asking_there (with_byte a (at_stage stages.Two (begun_ask k))) in
         let at_a : place + before + 1 ≡ place + (before + 1) = omega arith in
         let at_b : place + before + 1 + 1 ≡ place + (before + 2) = omega arith in
-        let one = tells_more (m + before) (place + before) 40 fs h (asking_there (begun_ask k)) x1 events.Nothing (begun_there h m has) (omega (arith, within)) refl first (two_begin c n j.signs j.delimited j.notes k j.reading.mode kind) in
+        let one = tells_more (m + before) (place + before) (code "(") fs h (asking_there (begun_ask k)) x1 events.Nothing (begun_there h m has) (omega (arith, within)) refl first (two_begin c n j.signs j.delimited j.notes k j.reading.mode kind) in
         let two = tells_more (m + before + 1) (place + before + 1) a fs h x1 x2 events.Nothing one (omega (arith, within)) refl (ap (slice_get fs) at_a ∙ second) (first_read c n j.signs j.delimited j.notes k a j.reading.mode kind apart_a) in
         let three = tells_more (m + before + 1 + 1) (place + before + 1 + 1) b fs h x2 (named k (a ∷ b ∷ []) there) (event_of k (a ∷ b ∷ [])) two (omega (arith, within)) refl
         (ap (slice_get fs) at_b ∙ third) (second_ends c n j.signs j.delimited j.notes k a b j.reading.mode kind apart_b) in

@@ -1,4 +1,5 @@
 -- The byte that begins the text of a line.
+use Prim.Native.Char.{code}
 use Rattle.std.proofs.Common.{◌≡◌, ℕ, Bool, true, false, List, [], ◌∷◌, refl}
 use Rattle.std.specs.Prelude.{◌==◌, ◌||◌}
 use Rattle.nr_reading.specs.declared.ask.Ask.{Ask}
@@ -44,7 +45,7 @@ pub no_control : (b : ℕ) (s : Signs) → begins_control b s ≡ false → ((b 
 no_control b s is = either (b == s.control) (b == s.no_break) is
 
 -- it is taken and told, and the text has begun
-pub meet-first : (b : ℕ) (h : Half) → IsBeforeLine h → begins_control b h.signs ≡ false → (b == 10) ≡ false → (b == 92) ≡ false → (b == 32) ≡ false
+pub meet-first : (b : ℕ) (h : Half) → IsBeforeLine h → begins_control b h.signs ≡ false → (b == code "\n") ≡ false → (b == code "\\") ≡ false → (b == code " ") ≡ false
     → meet (fronts.Byte b) h ≡ record { half = text_begun h; event = events.Byte b; takes = true }
 meet-first b h is control newline escape blank =
     let none = no_control b h.signs control in

@@ -1,4 +1,5 @@
 -- The beginnings of lines in a row of items.
+use Prim.Native.Char.{code}
 use Rattle.std.specs.Prelude.{◌==◌, ◌||◌, not}
 use Rattle.std.proofs.Common.{◌≡◌, ℕ, Bool, true, false, refl, sym, subst}
 use Rattle.nr_reading.specs.declared.event.Event.TheVariants as events
@@ -11,16 +12,16 @@ use Rattle.nr_reading.proofs.Rows.{MeetsByte, standing}
 
 -- a byte that begins the text of a line
 record BeginsText (b : ℕ) (s : Signs) : Type 0 where
-  escape : (b == 92) ≡ false
-  newline : (b == 10) ≡ false
-  blank : (b == 32) ≡ false
+  escape : (b == code "\\") ≡ false
+  newline : (b == code "\n") ≡ false
+  blank : (b == code " ") ≡ false
   control : (b == s.control) ≡ false
   no_break : (b == s.no_break) ≡ false
 
 begins : (b : ℕ) (s : Signs) → begins_text b s ≡ true → BeginsText b s
-begins b s is = by (b == 92) (b == 10) (b == 32) (b == s.control) (b == s.no_break) refl refl refl refl refl is
+begins b s is = by (b == code "\\") (b == code "\n") (b == code " ") (b == s.control) (b == s.no_break) refl refl refl refl refl is
   where
-    by : (u v w x y : Bool) → (b == 92) ≡ u → (b == 10) ≡ v → (b == 32) ≡ w → (b == s.control) ≡ x → (b == s.no_break) ≡ y → not (u || v || w || (x || y)) ≡ true → BeginsText b s
+    by : (u v w x y : Bool) → (b == code "\\") ≡ u → (b == code "\n") ≡ v → (b == code " ") ≡ w → (b == s.control) ≡ x → (b == s.no_break) ≡ y → not (u || v || w || (x || y)) ≡ true → BeginsText b s
     by false false false false false p q r s t is = record { escape = p; newline = q; blank = r; control = s; no_break = t }
     by u v w x y p q r s t is = absurd (let wrong : false ≡ true = is in cc)
 

@@ -1,4 +1,5 @@
 -- The newest escape that is half read, or that there is none.
+use Prim.Native.Char.{code}
 use Rattle.std.specs.Prelude.{slice_get, ◌==◌}
 use Rattle.std.proofs.Common.{◌≡◌, ℕ, Bool, true, false, List, [], ◌∷◌, None, Some, refl, ap}
 use Rattle.nr_reading.specs.declared.ask.Ask.{Ask}
@@ -27,5 +28,5 @@ parts [] escapes.Begun is = absurd (let wrong : false ≡ true = is in cc)
 parts [] escapes.Comment is = absurd (let wrong : false ≡ true = is in cc)
 parts (a ∷ asks) e is = absurd (let wrong : false ≡ true = is in cc)
 
-pub meet-copied : (b : ℕ) (h : Half) → reads_plainly h ≡ true → is_direct h.reading.mode ≡ false → (b == 92) ≡ false → meet (fronts.Byte b) h ≡ met_copied true (read b h.signs h.notes h.reading) h
+pub meet-copied : (b : ℕ) (h : Half) → reads_plainly h ≡ true → is_direct h.reading.mode ≡ false → (b == code "\\") ≡ false → meet (fronts.Byte b) h ≡ met_copied true (read b h.signs h.notes h.reading) h
 meet-copied b h is copied plain = let all = parts h.asks h.reading.escape is in rw (all.0, all.1, copied, plain) refl

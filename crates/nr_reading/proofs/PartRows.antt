@@ -1,4 +1,5 @@
 -- The parts after conditions in a row of items.
+use Prim.Native.Char.{code}
 use Rattle.std.specs.Prelude.{◌==◌, slice_get}
 use Rattle.std.proofs.Common.{◌≡◌, ℕ, ◌+◌, ◌<◌, Bool, true, false, List, [], length, Some, Option, refl, sym, subst, ap, arith}
 use Rattle.std.proofs.lemmas.Bool.{eqb-true, and_parts}
@@ -22,28 +23,28 @@ use Rattle.nr_reading.proofs.Weighing.{at}
 pub meet-part_begins : (b : ℕ) (h : Half) → h.reading.mode ≡ modes.Accepted → reads_next h ≡ true → is_plain b ≡ true → is_blank b ≡ false → MeetsByte b h (record h { reading = record h.reading { mode = modes.Start } }) events.Nothing false
 meet-part_begins b h mode next plain other =
     let apart : (c : ℕ) → is_plain c ≡ false → (b == c) ≡ false = λ c. apart_from is_plain b c plain in
-    subst (λ (k : Half). MeetsByte b k (record k { reading = record k.reading { mode = modes.Start } }) events.Nothing false) (sym (standing modes.Accepted h mode next)) (rw (other, apart 10 refl, apart 92 refl) refl)
+    subst (λ (k : Half). MeetsByte b k (record k { reading = record k.reading { mode = modes.Start } }) events.Nothing false) (sym (standing modes.Accepted h mode next)) (rw (other, apart (code "\n") refl, apart (code "\\") refl) refl)
 
 byte_stands : (b : ℕ) (o : Option Front) → is_byte b o ≡ true → o ≡ Some (fronts.Byte b)
 byte_stands b (Some (fronts.Byte c)) is = ap (λ n. Some (fronts.Byte n)) (eqb-true c b is)
 byte_stands b o is = absurd (let wrong : false ≡ true = is in cc)
 
 -- the two bytes of an opening brace
-pub brace_stands : (place : ℕ) (fs : List Front) → opens_at place fs ≡ true → (slice_get fs place ≡ Some (fronts.Byte 92)) × (slice_get fs (place + 1) ≡ Some (fronts.Byte 123))
+pub brace_stands : (place : ℕ) (fs : List Front) → opens_at place fs ≡ true → (slice_get fs place ≡ Some (fronts.Byte (code "\\"))) × (slice_get fs (place + 1) ≡ Some (fronts.Byte (code "{")))
 brace_stands place fs is =
-    let two = and_parts (is_byte 92 (slice_get fs place)) (is_byte 123 (slice_get fs (place + 1))) is in
-    (byte_stands 92 (slice_get fs place) two.0, byte_stands 123 (slice_get fs (place + 1)) two.1)
+    let two = and_parts (is_byte (code "\\") (slice_get fs place)) (is_byte (code "{") (slice_get fs (place + 1))) is in
+    (byte_stands (code "\\") (slice_get fs place) two.0, byte_stands (code "{") (slice_get fs (place + 1)) two.1)
 
 -- `\{`, and after it a line begins
-pub opened : (fs : List Front) (place b : ℕ) (h : Half) → h.reading.mode ≡ modes.Accepted → reads_next h ≡ true → place + 2 < length fs → slice_get fs place ≡ Some (fronts.Byte 92) → slice_get fs (place + 1) ≡ Some (fronts.Byte 123)
+pub opened : (fs : List Front) (place b : ℕ) (h : Half) → h.reading.mode ≡ modes.Accepted → reads_next h ≡ true → place + 2 < length fs → slice_get fs place ≡ Some (fronts.Byte (code "\\")) → slice_get fs (place + 1) ≡ Some (fronts.Byte (code "{"))
     → slice_get fs (place + 2) ≡ Some (fronts.Byte b) → is_plain b ≡ true → is_blank b ≡ false → LeadsOn fs place place h (place + 2) (place + 3) (record h { reading = record h.reading { mode = modes.Start } })
 opened fs place b h mode next within first second third plain other =
     let k : Half = half_at (at modes.Accepted escapes.Plain h.reading.continued h.reading.no_break) h.signs [] h.delimited h.notes in
     let begun : Half = half_at (at modes.Accepted escapes.Begun h.reading.continued h.reading.no_break) h.signs [] h.delimited h.notes in
     let same : h ≡ k = standing modes.Accepted h mode next in
     let here : LeadsOn fs place place h place place k = subst (λ (x : Half). LeadsOn fs place place h place place x) same (stays fs place place h) in
-    let one = taken_more fs place place place place 92 h k begun here (omega (arith, within)) refl first refl in
-    let two = taken_more fs place place (place + 1) (place + 1) 123 h begun k one (omega (arith, within)) refl second refl in
+    let one = taken_more fs place place place place (code "\\") h k begun here (omega (arith, within)) refl first refl in
+    let two = taken_more fs place place (place + 1) (place + 1) (code "{") h begun k one (omega (arith, within)) refl second refl in
     let behind = recount fs place place (place + 1 + 1) (place + 2) (place + 1 + 1) (place + 2) h h (subst (λ (x : Half). LeadsOn fs place place h (place + 1 + 1) (place + 1 + 1) x) (sym same) two) (omega arith) (omega arith) in
     let three = left_more fs place place (place + 2) (place + 2) b h h (record h { reading = record h.reading { mode = modes.Start } }) behind within (looks h next) third (meet-part_begins b h mode next plain other) in
     recount fs place place (place + 2) (place + 2) (place + 2 + 1) (place + 3) h (record h { reading = record h.reading { mode = modes.Start } }) three refl (omega arith)
@@ -51,19 +52,19 @@ opened fs place b h mode next within first second third plain other =
 -- ---- a rejected part
 
 -- a byte that is neither `\` nor the newline at its end does nothing
-pub meet-dropped : (b count : ℕ) (h : Half) → h.reading.mode ≡ modes.Skip count → reads_next h ≡ true → (b == 92) ≡ false → ((b ≡ 10) → (count == 0) ≡ false) → MeetsByte b h h events.Nothing true
-meet-dropped b count h mode next plain goes = subst (λ (k : Half). MeetsByte b k k events.Nothing true) (sym (standing (modes.Skip count) h mode next)) (by (b == 10) refl)
+pub meet-dropped : (b count : ℕ) (h : Half) → h.reading.mode ≡ modes.Skip count → reads_next h ≡ true → (b == code "\\") ≡ false → ((b ≡ code "\n") → (count == 0) ≡ false) → MeetsByte b h h events.Nothing true
+meet-dropped b count h mode next plain goes = subst (λ (k : Half). MeetsByte b k k events.Nothing true) (sym (standing (modes.Skip count) h mode next)) (by (b == code "\n") refl)
   where
-    by : (x : Bool) → (b == 10) ≡ x → let k = half_at (at (modes.Skip count) escapes.Plain h.reading.continued h.reading.no_break) h.signs [] h.delimited h.notes in MeetsByte b k k events.Nothing true
-    by true is = rw (is, goes (eqb-true b 10 is)) refl
+    by : (x : Bool) → (b == code "\n") ≡ x → let k = half_at (at (modes.Skip count) escapes.Plain h.reading.continued h.reading.no_break) h.signs [] h.delimited h.notes in MeetsByte b k k events.Nothing true
+    by true is = rw (is, goes (eqb-true b (code "\n") is)) refl
     by false is = rw (is, plain) refl
 
 -- the newline at its end
-pub meet-rejected_end : (count : ℕ) (h : Half) → h.reading.mode ≡ modes.Skip count → reads_next h ≡ true → count ≡ 0 → MeetsByte 10 h (record h { reading = record h.reading { mode = modes.Start } }) events.Nothing true
-meet-rejected_end count h mode next none = subst (λ (k : Half). MeetsByte 10 k (record k { reading = record k.reading { mode = modes.Start } }) events.Nothing true) (sym (standing (modes.Skip count) h mode next)) (rw none refl)
+pub meet-rejected_end : (count : ℕ) (h : Half) → h.reading.mode ≡ modes.Skip count → reads_next h ≡ true → count ≡ 0 → MeetsByte (code "\n") h (record h { reading = record h.reading { mode = modes.Start } }) events.Nothing true
+meet-rejected_end count h mode next none = subst (λ (k : Half). MeetsByte (code "\n") k (record k { reading = record k.reading { mode = modes.Start } }) events.Nothing true) (sym (standing (modes.Skip count) h mode next)) (rw none refl)
 
 -- `\` and the byte after it
-pub skipped : (fs : List Front) (from made to moves b count left : ℕ) (old h : Half) → LeadsOn fs from made old to moves h → h.reading.mode ≡ modes.Skip count → reads_next h ≡ true → to + 1 < length fs → slice_get fs to ≡ Some (fronts.Byte 92) → slice_get fs (to + 1) ≡ Some (fronts.Byte b)
+pub skipped : (fs : List Front) (from made to moves b count left : ℕ) (old h : Half) → LeadsOn fs from made old to moves h → h.reading.mode ≡ modes.Skip count → reads_next h ≡ true → to + 1 < length fs → slice_get fs to ≡ Some (fronts.Byte (code "\\")) → slice_get fs (to + 1) ≡ Some (fronts.Byte b)
     → left ≡ braces b count → LeadsOn fs from made old (to + 1 + 1) (moves + 1 + 1) (record h { reading = record h.reading { mode = modes.Skip left } })
 skipped fs from made to moves b count left old h leads mode next within first second is =
     let c = h.reading.continued in
@@ -72,7 +73,7 @@ skipped fs from made to moves b count left old h leads mode next within first se
     let begun : Half = half_at (at (modes.Skip count) escapes.Begun c n) h.signs [] h.delimited h.notes in
     let new : Half = half_at (at (modes.Skip (braces b count)) escapes.Plain c n) h.signs [] h.delimited h.notes in
     let same : h ≡ k = standing (modes.Skip count) h mode next in
-    let one = taken_more fs from made to moves 92 old k begun (subst (λ (x : Half). LeadsOn fs from made old to moves x) same leads) (omega (arith, within)) refl first refl in
+    let one = taken_more fs from made to moves (code "\\") old k begun (subst (λ (x : Half). LeadsOn fs from made old to moves x) same leads) (omega (arith, within)) refl first refl in
     let two = taken_more fs from made (to + 1) (moves + 1) b old begun new one within refl second refl in
     subst (λ d. LeadsOn fs from made old (to + 1 + 1) (moves + 1 + 1) (record h { reading = record h.reading { mode = modes.Skip d } })) (sym is)
     (subst (λ (x : Half). LeadsOn fs from made old (to + 1 + 1) (moves + 1 + 1) (record x { reading = record x.reading { mode = modes.Skip (braces b count) } })) (sym same) two)

@@ -1,4 +1,5 @@
 -- Each item that meets what is half read pays for what comes of it.
+use Prim.Native.Char.{code}
 use Rattle.std.specs.Prelude.{sum_by, ◌&&◌, nat_lt, length}
 use Rattle.std.proofs.Common.{◌≡◌, ℕ, ◌+◌, ◌≤◌, ◌==◌, Bool, true, false, if◌then◌else◌, List, [], ◌∷◌, refl, sym, subst, ap, ◌∙◌, arith}
 use Rattle.std.proofs.lemmas.List.Sums.{sum_by-cons}
@@ -152,10 +153,10 @@ item_met [] b m e c n s d o copied = hears true (read b s o (at m e c n)) m e c 
 item_met (a ∷ asks) b m e c n s d o copied = front_meets (answer b s.long a) a asks m e c n s d o (answer_answers b s.long a)
 
 backslash_met : (asks : List Ask) (m : Mode) (c n : Bool) (s : Signs) (d : Texts) (o : Notes) (w : ℕ) → IsCopied asks m
-    → let h = half_at (at m escapes.Begun c n) s asks d o in Meets h w (hear_by asks false 92 h)
+    → let h = half_at (at m escapes.Begun c n) s asks d o in Meets h w (hear_by asks false (code "\\") h)
 backslash_met [] m c n s d o w copied =
-    hears false (read 92 s o (at m escapes.Begun c n)) m escapes.Begun c n s d o 8 w copied (read_hears m 92 s o escapes.Begun c n copied) (omega arith)
-backslash_met (a ∷ asks) m c n s d o w copied = backslash_meets (answer 92 s.long a) a asks m c n s d o w (answer_answers 92 s.long a)
+    hears false (read (code "\\") s o (at m escapes.Begun c n)) m escapes.Begun c n s d o 8 w copied (read_hears m 92 s o escapes.Begun c n copied) (omega arith)
+backslash_met (a ∷ asks) m c n s d o w copied = backslash_meets (answer (code "\\") s.long a) a asks m c n s d o w (answer_answers 92 s.long a)
 
 over_met : (asks : List Ask) (m : Mode) (e : Escape) (c n : Bool) (s : Signs) (d : Texts) (o : Notes) (w : ℕ) → IsCopied asks m
     → let h = half_at (at m e c n) s asks d o in Meets h w (over_by asks h)
@@ -201,15 +202,15 @@ escaped_offers : (b : ℕ) (argument : Bool) (asks : List Ask) (m : Mode) (c n :
     → Offers (half_at (at m escapes.Begun c n) s asks d o) 256 (escaped b argument)
 escaped_offers b argument asks m c n s d o copied =
     let e = escapes.Begun in
-    either (b == 92) (byte_offers 92 asks m e c n s d o copied)
-    (either (b == 46) (byte_offers 46 asks m e c n s d o copied)
-    (either (b == 116) (byte_offers 9 asks m e c n s d o copied)
-    (either (b == 97) (byte_offers 1 asks m e c n s d o copied)
-    (either (b == 10) (skip_offers escapes.Plain asks m e c n s d o)
-    (either (b == 34) (skip_offers escapes.Comment asks m e c n s d o)
-    (either (b == 42) (begin_offers kinds.String asks m c n s d o)
-    (either (b == 36) (begin_offers kinds.Argument asks m c n s d o)
-    (either (b == 110) (begin_offers (kinds.Register signs.None) asks m c n s d o)
+    either (b == code "\\") (byte_offers (code "\\") asks m e c n s d o copied)
+    (either (b == code ".") (byte_offers (code ".") asks m e c n s d o copied)
+    (either (b == code "t") (byte_offers (code "\t") asks m e c n s d o copied)
+    (either (b == code "a") (byte_offers 1 asks m e c n s d o copied)
+    (either (b == code "\n") (skip_offers escapes.Plain asks m e c n s d o)
+    (either (b == code "\"") (skip_offers escapes.Comment asks m e c n s d o)
+    (either (b == code "*") (begin_offers kinds.String asks m c n s d o)
+    (either (b == code "$") (begin_offers kinds.Argument asks m c n s d o)
+    (either (b == code "n") (begin_offers (kinds.Register signs.None) asks m c n s d o)
     (either ((b == 119) && argument) (begin_offers kinds.Width asks m c n s d o) (backslash_offers asks m c n s d o 256 copied))))))))))
 
 mark_offers : (asks : List Ask) (m : Mode) (e : Escape) (c n : Bool) (s : Signs) (d : Texts) (o : Notes) → Offers (half_at (at m e c n) s asks d o) 1 (offers.Skip e)
@@ -219,16 +220,16 @@ offer_offers : (f : Front) (argument : Bool) (asks : List Ask) (m : Mode) (e : E
     → Offers (half_at (at m e c n) s asks d o) (worth_of_front f) (offer f e argument)
 offer_offers fronts.Mark argument asks m e c n s d o copied = mark_offers asks m e c n s d o
 offer_offers (fronts.Byte b) argument asks m escapes.Plain c n s d o copied =
-    either (b == 92) (skip_offers escapes.Begun asks m escapes.Plain c n s d o) (byte_offers b asks m escapes.Plain c n s d o copied)
+    either (b == code "\\") (skip_offers escapes.Begun asks m escapes.Plain c n s d o) (byte_offers b asks m escapes.Plain c n s d o copied)
 offer_offers (fronts.Byte b) argument asks m escapes.Begun c n s d o copied = escaped_offers b argument asks m c n s d o copied
 offer_offers (fronts.Byte b) argument asks m escapes.Comment c n s d o copied =
-    either (b == 10) (byte_offers 10 asks m escapes.Comment c n s d o copied) (skip_offers escapes.Comment asks m escapes.Comment c n s d o)
+    either (b == code "\n") (byte_offers (code "\n") asks m escapes.Comment c n s d o copied) (skip_offers escapes.Comment asks m escapes.Comment c n s d o)
 offer_offers (fronts.Cell x) argument asks m escapes.Plain c n s d o copied = byte_offers x.byte asks m escapes.Plain c n s d o copied
 offer_offers (fronts.Cell x) argument asks m escapes.Begun c n s d o copied = backslash_offers asks m c n s d o 256 copied
 offer_offers (fronts.Cell x) argument asks m escapes.Comment c n s d o copied = skip_offers escapes.Comment asks m escapes.Comment c n s d o
-offer_offers (fronts.LineEnd h) argument asks m escapes.Plain c n s d o copied = byte_offers 10 asks m escapes.Plain c n s d o copied
+offer_offers (fronts.LineEnd h) argument asks m escapes.Plain c n s d o copied = byte_offers (code "\n") asks m escapes.Plain c n s d o copied
 offer_offers (fronts.LineEnd h) argument asks m escapes.Begun c n s d o copied = backslash_offers asks m c n s d o 256 copied
-offer_offers (fronts.LineEnd h) argument asks m escapes.Comment c n s d o copied = byte_offers 10 asks m escapes.Comment c n s d o copied
+offer_offers (fronts.LineEnd h) argument asks m escapes.Comment c n s d o copied = byte_offers (code "\n") asks m escapes.Comment c n s d o copied
 offer_offers fronts.Resume argument asks m escapes.Plain c n s d o copied = over_offers asks m escapes.Plain c n s d o 1 copied
 offer_offers fronts.Resume argument asks m escapes.Begun c n s d o copied = backslash_offers asks m c n s d o 1 copied
 offer_offers fronts.Resume argument asks m escapes.Comment c n s d o copied = over_offers asks m escapes.Comment c n s d o 1 copied

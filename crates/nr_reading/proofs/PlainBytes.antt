@@ -1,4 +1,5 @@
 -- Bytes that are met many at once.
+use Prim.Native.Char.{code}
 use Rattle.std.specs.Prelude.{slice_get, ◌==◌, ◌&&◌, ◌||◌, not}
 use Rattle.std.proofs.Common.{◌≡◌, ℕ, ◌+◌, ◌<◌, Bool, true, false, List, [], ◌∷◌, length, Some, refl, sym, subst, ap₂, ◌∙◌}
 use Rattle.nr_reading.specs.declared.ask.Ask.{Ask}
@@ -42,8 +43,8 @@ goes_more fs to b old half new goes within some look same is = record {
 -- ---- one plain byte
 
 record IsApart (b : ℕ) : Type 0 where
-  escape : (b == 92) ≡ false
-  newline : (b == 10) ≡ false
+  escape : (b == code "\\") ≡ false
+  newline : (b == code "\n") ≡ false
 
 -- of two facts none holds
 pub neither : (x y : Bool) → not (x || y) ≡ true → (x ≡ false) × (y ≡ false)
@@ -52,7 +53,7 @@ neither false true is = let wrong : ⊥ = cc in absurd wrong
 neither true y is = let wrong : ⊥ = cc in absurd wrong
 
 apart : (b : ℕ) → is_plain b ≡ true → IsApart b
-apart b is = let two = neither (b == 92) (b == 10) is in record { escape = two.0; newline = two.1 }
+apart b is = let two = neither (b == code "\\") (b == code "\n") is in record { escape = two.0; newline = two.1 }
 
 both : (x y : Bool) → (x && y) ≡ true → (x ≡ true) × (y ≡ true)
 both true true is = (refl, refl)

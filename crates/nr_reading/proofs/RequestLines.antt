@@ -1,4 +1,5 @@
 -- The line of a request, met at once.
+use Prim.Native.Char.{code}
 use Rattle.std.specs.Prelude.{slice_get, map, drop, All, ◌==◌, nat_lt}
 use Rattle.std.specs.Int.{from_bool}
 use Rattle.std.specs.Option.{option_map}
@@ -40,8 +41,8 @@ abbrev Meets : ℕ → Half → Half → Event → Bool → Type 0
 Meets b h k e takes = meet (fronts.Byte b) h ≡ record { half = k; event = e; takes = takes }
 
 -- a blank begins no escape
-blank_apart : (b : ℕ) → is_blank b ≡ true → (b == 92) ≡ false
-blank_apart b is = ne_eqb b 92 (λ e. let wrong : false ≡ true = subst (λ x. is_blank x ≡ true) e is in absurd cc)
+blank_apart : (b : ℕ) → is_blank b ≡ true → (b == code "\\") ≡ false
+blank_apart b is = ne_eqb b (code "\\") (λ e. let wrong : false ≡ true = subst (λ x. is_blank x ≡ true) e is in absurd cc)
 
 module _ (c n : Bool) (s : Signs) (d : Texts) (o : Notes) where
   -- before the line's arguments, and in them, so much being noted
@@ -57,13 +58,13 @@ module _ (c n : Bool) (s : Signs) (d : Texts) (o : Notes) where
   meets_blank : (b : ℕ) → is_blank b ≡ true → Meets b before before events.Nothing true
   meets_blank b blank = rw (blank_apart b blank, blank) refl
 
-  meets_other : (b : ℕ) → is_blank b ≡ false → (b == 92) ≡ false → Meets b before (within []) events.Nothing false
+  meets_other : (b : ℕ) → is_blank b ≡ false → (b == code "\\") ≡ false → Meets b before (within []) events.Nothing false
   meets_other b other apart = rw (apart, other) refl
 
-  meets_plain : (b : ℕ) (line : List ℕ) → (b == 92) ≡ false → (b == 10) ≡ false → Meets b (within line) (within (kept b line)) events.Nothing true
+  meets_plain : (b : ℕ) (line : List ℕ) → (b == code "\\") ≡ false → (b == code "\n") ≡ false → Meets b (within line) (within (kept b line)) events.Nothing true
   meets_plain b line apart goes_on = rw (apart, goes_on) refl
 
-  meets_newline : (line : List ℕ) → Meets 10 (within line) (behind line) events.Request true
+  meets_newline : (line : List ℕ) → Meets (code "\n") (within line) (behind line) events.Request true
   meets_newline line = refl
 
 -- ---- what is kept of a line
@@ -115,7 +116,7 @@ module _ (bs : List ℕ) (c n : Bool) (s : Signs) (d : Texts) (o : Notes) where
 
   -- after k blanks the arguments begin, of which so many bytes are noted
   module _ (k : ℕ) (line : List ℕ) (begins : HasMet (k + 1) fs (before c n s d o) (quiet k (within c n s d o []))) (fits : k + length line ≤ length bs) (same : (i : ℕ) → i < length line → get_or bs (k + i) 0 ≡ get_or line i 0)
-      (plain : (i : ℕ) → i < length line → IsPlain 10 (get_or line i 0)) where
+      (plain : (i : ℕ) → i < length line → IsPlain (code "\n") (get_or line i 0)) where
     noted : (i : ℕ) → i ≤ length line → HasMet (k + 1 + i) fs (before c n s d o) (quiet (k + i) (within c n s d o (take 256 (take i line))))
     noted zero few = let one : k + 1 ≡ k + 1 + 0 = omega arith in let none : k ≡ k + 0 = omega arith in
         subst (λ m. HasMet m fs (before c n s d o) (quiet (k + 0) (within c n s d o []))) one (subst (λ m. HasMet (k + 1) fs (before c n s d o) (quiet m (within c n s d o []))) none begins)
@@ -132,22 +133,22 @@ module _ (bs : List ℕ) (c n : Bool) (s : Signs) (d : Texts) (o : Notes) where
         (more (k + 1 + i) (k + i) (get_or line i 0) events.Nothing true fs (before c n s d o) (within c n s d o (take 256 (take i line))) (within c n s d o (kept (get_or line i 0) (take 256 (take i line))))
         (noted i (omega (arith, few))) (omega (arith, few, fits, length-map bs fronts.Byte)) refl
         (got (k + i) (omega (arith, few, fits)) ∙ ap (λ b. Some (fronts.Byte b)) (same i less))
-        (meets_plain c n s d o (get_or line i 0) (take 256 (take i line)) (ne_eqb _ 92 p.2) (ne_eqb _ 10 p.1))))))
+        (meets_plain c n s d o (get_or line i 0) (take 256 (take i line)) (ne_eqb _ (code "\\") p.2) (ne_eqb _ (code "\n") p.1))))))
 
-    ended : k + length line < length bs → get_or bs (k + length line) 0 ≡ 10
+    ended : k + length line < length bs → get_or bs (k + length line) 0 ≡ code "\n"
         → HasMet (k + length line + 2) fs (before c n s d o) (record { taken = k + length line + 1; half = behind c n s d o (take 256 line); event = events.Request })
     ended less is =
         let moves : k + 1 + length line + 1 ≡ k + length line + 2 = omega arith in
         let whole : take (length line) line ≡ line = take_all (length line) line (omega arith) in
         subst (λ m. HasMet m fs (before c n s d o) (record { taken = k + length line + 1; half = behind c n s d o (take 256 line); event = events.Request })) moves
         (subst (λ l. HasMet (k + 1 + length line + 1) fs (before c n s d o) (record { taken = k + length line + 1; half = behind c n s d o (take 256 l); event = events.Request })) whole
-        (more (k + 1 + length line) (k + length line) 10 events.Request true fs (before c n s d o) (within c n s d o (take 256 (take (length line) line))) (behind c n s d o (take 256 (take (length line) line)))
+        (more (k + 1 + length line) (k + length line) (code "\n") events.Request true fs (before c n s d o) (within c n s d o (take 256 (take (length line) line))) (behind c n s d o (take 256 (take (length line) line)))
         (noted (length line) (omega arith)) (omega (arith, less, length-map bs fronts.Byte)) refl
         (got (k + length line) less ∙ ap (λ b. Some (fronts.Byte b)) is)
         (meets_newline c n s d o (take 256 (take (length line) line)))))
 
   -- the arguments begin with a byte that is no blank, and begins no escape
-  begun : (k : ℕ) → k < length bs → ((i : ℕ) → i < k → is_blank (get_or bs i 0) ≡ true) → is_blank (get_or bs k 0) ≡ false → (get_or bs k 0 == 92) ≡ false
+  begun : (k : ℕ) → k < length bs → ((i : ℕ) → i < k → is_blank (get_or bs i 0) ≡ true) → is_blank (get_or bs k 0) ≡ false → (get_or bs k 0 == code "\\") ≡ false
       → HasMet (k + 1) fs (before c n s d o) (quiet k (within c n s d o []))
   begun k less all other apart =
       let none : k + 0 ≡ k = omega arith in
@@ -172,20 +173,20 @@ begins h blanks next = by h.reading.due h.asks h.reading.escape h.reading.mode n
 -- k blanks come, then the line's arguments, and a newline
 pub request-line-met : (bs : List ℕ) (k : ℕ) (line : List ℕ) (h : Half) → h.reading.mode ≡ modes.RequestBlanks → reads_next h ≡ true → k + length line < length bs
     → ((i : ℕ) → i < k → is_blank (get_or bs i 0) ≡ true) → is_blank (get_or bs k 0) ≡ false
-    → ((i : ℕ) → i < length line → get_or bs (k + i) 0 ≡ get_or line i 0) → ((i : ℕ) → i < length line → IsPlain 10 (get_or line i 0)) → get_or bs (k + length line) 0 ≡ 10
+    → ((i : ℕ) → i < length line → get_or bs (k + i) 0 ≡ get_or line i 0) → ((i : ℕ) → i < length line → IsPlain (code "\n") (get_or line i 0)) → get_or bs (k + length line) 0 ≡ code "\n"
     → HasMet (k + length line + 2) (map fronts.Byte bs) h (record { taken = k + length line + 1; half = behind_request_line line h; event = events.Request })
 request-line-met bs k line h blanks next less all other same plain newline =
     let c = h.reading.continued in
     let n = h.reading.no_break in
     let is_h = begins h blanks next in
-    let apart : (get_or bs k 0 == 92) ≡ false = ne_eqb (get_or bs k 0) 92 (first line same plain newline) in
+    let apart : (get_or bs k 0 == code "\\") ≡ false = ne_eqb (get_or bs k 0) (code "\\") (first line same plain newline) in
     subst (λ (j : Half). HasMet (k + length line + 2) (map fronts.Byte bs) j (record { taken = k + length line + 1; half = behind_request_line line j; event = events.Request })) (sym is_h)
     (ended bs c n h.signs h.delimited h.notes k line (begun bs c n h.signs h.delimited h.notes k (omega (arith, less)) all other apart) (omega (arith, less)) same plain less newline)
   where
-    first : (l : List ℕ) → ((i : ℕ) → i < length l → get_or bs (k + i) 0 ≡ get_or l i 0) → ((i : ℕ) → i < length l → IsPlain 10 (get_or l i 0)) → get_or bs (k + length l) 0 ≡ 10 → get_or bs k 0 ≡ 92 → ⊥
+    first : (l : List ℕ) → ((i : ℕ) → i < length l → get_or bs (k + i) 0 ≡ get_or l i 0) → ((i : ℕ) → i < length l → IsPlain (code "\n") (get_or l i 0)) → get_or bs (k + length l) 0 ≡ code "\n" → get_or bs k 0 ≡ code "\\" → ⊥
     first [] same plain newline e =
         let none : k + 0 ≡ k = omega arith in
-        let wrong : 92 ≡ 10 = sym e ∙ ap (λ m. get_or bs m 0) (sym none) ∙ newline in absurd (omega (arith, wrong))
+        let wrong : code "\\" ≡ code "\n" = sym e ∙ ap (λ m. get_or bs m 0) (sym none) ∙ newline in absurd (omega (arith, wrong))
     first (b ∷ l) same plain newline e =
         let none : k + 0 ≡ k = omega arith in
         (plain 0 (omega arith)).2 (sym (same 0 (omega arith)) ∙ ap (λ m. get_or bs m 0) none ∙ e)
@@ -193,7 +194,7 @@ request-line-met bs k line h blanks next less all other same plain newline =
 -- the same of what lies near, as the program finds it
 pub line-at-hand : (bs rest : List ℕ) (m k count : ℕ) (h : Half) → rest ≡ drop k (take m bs) → h.reading.mode ≡ modes.RequestBlanks → reads_next h ≡ true → k ≤ length (take m bs)
     → All (λ b. is_blank b ≡ true) (take k (take m bs)) → (k < length (take m bs) → is_blank (get_or (take m bs) k 0) ≡ false)
-    → All (IsPlain 10) (take count rest) → count < length rest → get_or rest count 0 ≡ 10
+    → All (IsPlain (code "\n")) (take count rest) → count < length rest → get_or rest count 0 ≡ code "\n"
     → HasMet (k + count + 2) (map fronts.Byte bs) h (record { taken = k + count + 1; half = behind_request_line (take count rest) h; event = events.Request })
 line-at-hand bs rest m k count h is blanks next front all stops plain inside newline =
     let near = take m bs in
@@ -212,5 +213,5 @@ line-at-hand bs rest m k count h is blanks next front all stops plain inside new
     (All-get_or (λ b. is_blank b ≡ true) (take k near) i 0 (omega (arith, less, below, length-take k near)) all))
     (ap is_blank (sym (in_near k below)) ∙ stops below)
     (λ i less. sym (in_rest i (omega (arith, less, long, inside))) ∙ sym (get_or-take count rest i 0 (omega (arith, less, long))))
-    (λ i less. All-get_or (IsPlain 10) line i 0 less plain)
+    (λ i less. All-get_or (IsPlain (code "\n")) line i 0 less plain)
     (ap (λ i. get_or bs (k + i) 0) long ∙ sym (in_rest count inside) ∙ newline))

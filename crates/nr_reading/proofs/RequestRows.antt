@@ -1,4 +1,5 @@
 -- The lines of requests in a row of items.
+use Prim.Native.Char.{code}
 use Rattle.std.specs.Prelude.{◌==◌}
 use Rattle.std.proofs.Common.{◌≡◌, ℕ, true, false, refl, sym, subst}
 use Rattle.nr_reading.specs.declared.event.Event.TheVariants as events
@@ -12,16 +13,16 @@ use Rattle.nr_reading.specs.Spelled.{is_blank}
 use Rattle.nr_reading.proofs.Rows.{MeetsByte, standing}
 
 -- the first byte after the blanks is left to the line
-pub meet-line_begins : (b : ℕ) (o : Notes) (h : Half) → h.reading.mode ≡ modes.RequestBlanks → reads_next h ≡ true → (b == 92) ≡ false → is_blank b ≡ false → o ≡ noted notes.NewLine h.notes
+pub meet-line_begins : (b : ℕ) (o : Notes) (h : Half) → h.reading.mode ≡ modes.RequestBlanks → reads_next h ≡ true → (b == code "\\") ≡ false → is_blank b ≡ false → o ≡ noted notes.NewLine h.notes
     → MeetsByte b h (record h { reading = record h.reading { mode = modes.RequestLine }; notes = o }) events.Nothing false
 meet-line_begins b o h mode next plain other is =
     subst (λ (x : Notes). MeetsByte b h (record h { reading = record h.reading { mode = modes.RequestLine }; notes = x }) events.Nothing false) (sym is)
     (subst (λ (k : Half). MeetsByte b k (record k { reading = record k.reading { mode = modes.RequestLine }; notes = noted notes.NewLine k.notes }) events.Nothing false) (sym (standing modes.RequestBlanks h mode next)) (rw (plain, other) refl))
 
-pub meet-line_byte : (b : ℕ) (o : Notes) (h : Half) → h.reading.mode ≡ modes.RequestLine → reads_next h ≡ true → (b == 92) ≡ false → (b == 10) ≡ false → o ≡ noted (notes.Line b) h.notes → MeetsByte b h (record h { notes = o }) events.Nothing true
+pub meet-line_byte : (b : ℕ) (o : Notes) (h : Half) → h.reading.mode ≡ modes.RequestLine → reads_next h ≡ true → (b == code "\\") ≡ false → (b == code "\n") ≡ false → o ≡ noted (notes.Line b) h.notes → MeetsByte b h (record h { notes = o }) events.Nothing true
 meet-line_byte b o h mode next plain other is =
     subst (λ (x : Notes). MeetsByte b h (record h { notes = x }) events.Nothing true) (sym is)
     (subst (λ (k : Half). MeetsByte b k (record k { notes = noted (notes.Line b) k.notes }) events.Nothing true) (sym (standing modes.RequestLine h mode next)) (rw (plain, other) refl))
 
-pub meet-line_end : (h : Half) → h.reading.mode ≡ modes.RequestLine → reads_next h ≡ true → MeetsByte 10 h (record h { reading = record h.reading { mode = modes.Start } }) events.Request true
-meet-line_end h mode next = subst (λ (k : Half). MeetsByte 10 k (record k { reading = record k.reading { mode = modes.Start } }) events.Request true) (sym (standing modes.RequestLine h mode next)) refl
+pub meet-line_end : (h : Half) → h.reading.mode ≡ modes.RequestLine → reads_next h ≡ true → MeetsByte (code "\n") h (record h { reading = record h.reading { mode = modes.Start } }) events.Request true
+meet-line_end h mode next = subst (λ (k : Half). MeetsByte (code "\n") k (record k { reading = record k.reading { mode = modes.Start } }) events.Request true) (sym (standing modes.RequestLine h mode next)) refl

@@ -1,4 +1,5 @@
 -- Rows of items, met from a place on.
+use Prim.Native.Char.{code}
 use Rattle.std.specs.Prelude.{slice_get, ◌==◌, ◌||◌, not}
 use Rattle.std.specs.Int.{from_bool}
 use Rattle.std.proofs.lemmas.Bool.{ne_eqb, not-true, eqb-true}
@@ -145,12 +146,12 @@ recount fs from made to to' moves moves' old new leads place count = subst (λ m
 -- ---- blanks
 
 -- one literal blank or the other
-blank_is : (b : ℕ) → is_blank b ≡ true → (b ≡ 32) ⊎ (b ≡ 9)
-blank_is b is = by (b == 32) (b == 9) refl refl is
+blank_is : (b : ℕ) → is_blank b ≡ true → (b ≡ code " ") ⊎ (b ≡ code "\t")
+blank_is b is = by (b == code " ") (b == code "\t") refl refl is
   where
-    by : (x y : Bool) → (b == 32) ≡ x → (b == 9) ≡ y → (x || y) ≡ true → (b ≡ 32) ⊎ (b ≡ 9)
-    by true y p q is = inl (eqb-true b 32 p)
-    by false true p q is = inr (eqb-true b 9 q)
+    by : (x y : Bool) → (b == code " ") ≡ x → (b == code "\t") ≡ y → (x || y) ≡ true → (b ≡ code " ") ⊎ (b ≡ code "\t")
+    by true y p q is = inl (eqb-true b (code " ") p)
+    by false true p q is = inr (eqb-true b (code "\t") q)
     by false false p q is = absurd (let wrong : false ≡ true = is in cc)
 
 module _ (c n : Bool) (s : Signs) (d : Texts) (o : Notes) where

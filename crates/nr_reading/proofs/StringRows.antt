@@ -1,4 +1,5 @@
 -- The definitions of strings in a row of items.
+use Prim.Native.Char.{code}
 use Rattle.std.specs.Prelude.{slice_get, ◌==◌}
 use Rattle.std.specs.Int.{from_bool}
 use Rattle.std.proofs.Common.{◌≡◌, ℕ, ◌+◌, ◌<◌, Bool, true, false, List, [], length, Some, refl, sym, subst, ap, ◌∙◌, arith}
@@ -44,7 +45,7 @@ module _ (fs : List Front) (from made to moves : ℕ) (old h : Half) (leads : Le
       taken_more fs from made to (moves + 1) a old (naming nothing_spelled) (naming (spelled a nothing_spelled)) one (omega (arith, within)) refl first (meets_first h.signs.long refl)
 
   -- a name of one byte
-  pub lone_named : (b == 92) ≡ false → ends_name b ≡ true → LeadsOn fs from made old (to + 1) (moves + 1 + 1 + 1) (behind_name (spelled a nothing_spelled) h)
+  pub lone_named : (b == code "\\") ≡ false → ends_name b ≡ true → LeadsOn fs from made old (to + 1) (moves + 1 + 1 + 1) (behind_name (spelled a nothing_spelled) h)
   lone_named plain ends =
       subst (λ (x : Half). LeadsOn fs from made old (to + 1) (moves + 1 + 1 + 1) (behind_name (spelled a nothing_spelled) x)) (sym same)
       (left_more fs from made (to + 1) (moves + 1 + 1) b old (naming (spelled a nothing_spelled)) (behind_name (spelled a nothing_spelled) there) begun within refl second (rw (plain, ends) refl))
@@ -67,7 +68,7 @@ module _ (fs : List Front) (from made to moves : ℕ) (old h : Half) (leads : Le
       subst (λ (x : Half). LeadsOn fs from made old (to + 2) (moves + (3 + 1)) (behind_name name x)) (sym same)
       (recount fs from made (to + 1 + 1) (to + 2) (moves + 1 + 1 + 1 + 1) (moves + (3 + 1)) old (behind_name name there)
       (left_more fs from made (to + 1 + 1) (moves + 1 + 1 + 1) end.byte old (naming name) (behind_name name there) two (omega (arith, end.within)) refl (ap (slice_get fs) at_end ∙ end.stands)
-      (rw (apart_from ends_name end.byte 92 end.ends refl, end.ends) refl)) at_end (omega arith))
+      (rw (apart_from ends_name end.byte (code "\\") end.ends refl, end.ends) refl)) at_end (omega arith))
 
 -- ---- the text
 
@@ -75,14 +76,14 @@ module _ (fs : List Front) (from made to moves : ℕ) (old h : Half) (leads : Le
 abbrev pub begun_text : Half → Half
 begun_text h = record h { reading = record h.reading { mode = modes.StringText; due = dues.Begin } }
 
-pub meet-quote : (h : Half) → h.reading.mode ≡ modes.StringBlanks → reads_next h ≡ true → MeetsByte 34 h (begun_text h) events.Nothing true
-meet-quote h mode next = subst (λ (k : Half). MeetsByte 34 k (begun_text k) events.Nothing true) (sym (standing modes.StringBlanks h mode next)) refl
+pub meet-quote : (h : Half) → h.reading.mode ≡ modes.StringBlanks → reads_next h ≡ true → MeetsByte (code "\"") h (begun_text h) events.Nothing true
+meet-quote h mode next = subst (λ (k : Half). MeetsByte (code "\"") k (begun_text k) events.Nothing true) (sym (standing modes.StringBlanks h mode next)) refl
 
-pub meet-text_begins : (b : ℕ) (h : Half) → h.reading.mode ≡ modes.StringBlanks → reads_next h ≡ true → (b == 92) ≡ false → is_blank b ≡ false → (b == 34) ≡ false → MeetsByte b h (begun_text h) events.Nothing false
+pub meet-text_begins : (b : ℕ) (h : Half) → h.reading.mode ≡ modes.StringBlanks → reads_next h ≡ true → (b == code "\\") ≡ false → is_blank b ≡ false → (b == code "\"") ≡ false → MeetsByte b h (begun_text h) events.Nothing false
 meet-text_begins b h mode next plain blank quote = subst (λ (k : Half). MeetsByte b k (begun_text k) events.Nothing false) (sym (standing modes.StringBlanks h mode next)) (rw (plain, blank, quote) refl)
 
-pub meet-text_byte : (b : ℕ) (h : Half) → h.reading.mode ≡ modes.StringText → reads_next h ≡ true → (b == 92) ≡ false → (b == 10) ≡ false → MeetsByte b h (record h { reading = record h.reading { due = dues.Add b } }) events.Nothing true
+pub meet-text_byte : (b : ℕ) (h : Half) → h.reading.mode ≡ modes.StringText → reads_next h ≡ true → (b == code "\\") ≡ false → (b == code "\n") ≡ false → MeetsByte b h (record h { reading = record h.reading { due = dues.Add b } }) events.Nothing true
 meet-text_byte b h mode next plain newline = subst (λ (k : Half). MeetsByte b k (record k { reading = record k.reading { due = dues.Add b } }) events.Nothing true) (sym (standing modes.StringText h mode next)) (rw (plain, newline) refl)
 
-pub meet-text_end : (h : Half) → h.reading.mode ≡ modes.StringText → reads_next h ≡ true → MeetsByte 10 h (record h { reading = record h.reading { mode = modes.Start; due = dues.Define } }) events.Nothing true
-meet-text_end h mode next = subst (λ (k : Half). MeetsByte 10 k (record k { reading = record k.reading { mode = modes.Start; due = dues.Define } }) events.Nothing true) (sym (standing modes.StringText h mode next)) refl
+pub meet-text_end : (h : Half) → h.reading.mode ≡ modes.StringText → reads_next h ≡ true → MeetsByte (code "\n") h (record h { reading = record h.reading { mode = modes.Start; due = dues.Define } }) events.Nothing true
+meet-text_end h mode next = subst (λ (k : Half). MeetsByte (code "\n") k (record k { reading = record k.reading { mode = modes.Start; due = dues.Define } }) events.Nothing true) (sym (standing modes.StringText h mode next)) refl

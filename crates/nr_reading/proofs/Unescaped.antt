@@ -1,4 +1,5 @@
 -- Items that are read as they are pay for what comes of them.
+use Prim.Native.Char.{code}
 use Rattle.std.proofs.Common.{◌≡◌, ℕ, ◌==◌, Bool, true, false, if◌then◌else◌, refl, arith}
 use Rattle.nr_reading.specs.declared.event.Event.TheVariants as events
 use Rattle.nr_reading.specs.declared.front.Front.{Front}
@@ -29,39 +30,39 @@ start_byte_pays : (b : ℕ) (s : Signs) (m : Mode) (c n : Bool) → Pays (at m e
 start_byte_pays b s m c n =
     either (b == s.control) (record { pays = omega arith; tells = refl })
     (either (b == s.no_break) (record { pays = omega arith; tells = refl })
-    (either (b == 10) (start_newline_pays m c n)
-    (either (b == 92) (record { pays = omega (arith, weight_of_backslash-le m); tells = refl })
-    (either (b == 32) (start_blank_pays m c n) (record { pays = omega arith; tells = refl })))))
+    (either (b == code "\n") (start_newline_pays m c n)
+    (either (b == code "\\") (record { pays = omega (arith, weight_of_backslash-le m); tells = refl })
+    (either (b == code " ") (start_blank_pays m c n) (record { pays = omega arith; tells = refl })))))
 
 leading_byte_pays : (b k : ℕ) (c n : Bool) → Pays (at (modes.Leading k) escapes.Plain c n) 256 (leading_byte b k (at (modes.Leading k) escapes.Plain c n))
 leading_byte_pays b k c n =
-    either (b == 10) (record { pays = omega arith; tells = refl })
-    (either (b == 32) (record { pays = omega arith; tells = refl })
-    (either (b == 92) (record { pays = omega arith; tells = refl }) (record { pays = omega arith; tells = refl })))
+    either (b == code "\n") (record { pays = omega arith; tells = refl })
+    (either (b == code " ") (record { pays = omega arith; tells = refl })
+    (either (b == code "\\") (record { pays = omega arith; tells = refl }) (record { pays = omega arith; tells = refl })))
 
 continued_byte_pays : (b : ℕ) (c n : Bool) → Pays (at modes.Continued escapes.Plain c n) 256 (continued_byte b (at modes.Continued escapes.Plain c n))
 continued_byte_pays b c n =
-    either (b == 10) (record { pays = omega arith; tells = refl })
-    (either (b == 32) (record { pays = omega arith; tells = refl })
-    (either (b == 92) (record { pays = omega arith; tells = refl }) (record { pays = omega arith; tells = refl })))
+    either (b == code "\n") (record { pays = omega arith; tells = refl })
+    (either (b == code " ") (record { pays = omega arith; tells = refl })
+    (either (b == code "\\") (record { pays = omega arith; tells = refl }) (record { pays = omega arith; tells = refl })))
 
 text_byte_pays : (b : ℕ) (c n : Bool) → Pays (at modes.Text escapes.Plain c n) 256 (text_byte b (at modes.Text escapes.Plain c n))
 text_byte_pays b c n =
-    either (b == 10) (record { pays = omega arith; tells = refl }) (either (b == 92) (record { pays = omega arith; tells = refl }) (record { pays = omega arith; tells = refl }))
+    either (b == code "\n") (record { pays = omega arith; tells = refl }) (either (b == code "\\") (record { pays = omega arith; tells = refl }) (record { pays = omega arith; tells = refl }))
 
 interrupted_byte_pays : (b : ℕ) (c n : Bool) → Pays (at modes.Interrupted escapes.Plain c n) 256 (text_byte b (at modes.Interrupted escapes.Plain c n))
 interrupted_byte_pays b c n =
-    either (b == 10) (record { pays = omega arith; tells = refl }) (either (b == 92) (record { pays = omega arith; tells = refl }) (record { pays = omega arith; tells = refl }))
+    either (b == code "\n") (record { pays = omega arith; tells = refl }) (either (b == code "\\") (record { pays = omega arith; tells = refl }) (record { pays = omega arith; tells = refl }))
 
 before_title_byte_pays : (b : ℕ) (c n : Bool) → Pays (at modes.TitleBefore escapes.Plain c n) 256 (before_title_byte b (at modes.TitleBefore escapes.Plain c n))
 before_title_byte_pays b c n =
-    either (b == 10) (record { pays = omega arith; tells = refl })
-    (either (b == 92) (record { pays = omega arith; tells = refl }) (either (is_blank b) (record { pays = omega arith; tells = refl }) (record { pays = omega arith; tells = refl })))
+    either (b == code "\n") (record { pays = omega arith; tells = refl })
+    (either (b == code "\\") (record { pays = omega arith; tells = refl }) (either (is_blank b) (record { pays = omega arith; tells = refl }) (record { pays = omega arith; tells = refl })))
 
 title_byte_pays : (b d k : ℕ) (c n : Bool) → Pays (at (modes.Title d k) escapes.Plain c n) 256 (title_byte b d k (at (modes.Title d k) escapes.Plain c n))
 title_byte_pays b d k c n =
-    either (b == 10) (record { pays = omega arith; tells = refl })
-    (either (b == 92) (record { pays = omega arith; tells = refl })
+    either (b == code "\n") (record { pays = omega arith; tells = refl })
+    (either (b == code "\\") (record { pays = omega arith; tells = refl })
     (either (b == d) (part (k == 0) (k == 1)) (record { pays = omega arith; tells = refl })))
   where
     part : (first second : Bool)
@@ -73,13 +74,13 @@ title_byte_pays b d k c n =
 accepted_byte_pays : (b : ℕ) (c n : Bool) → Pays (at modes.Accepted escapes.Plain c n) 256 (accepted_byte b (at modes.Accepted escapes.Plain c n))
 accepted_byte_pays b c n =
     either (is_blank b) (record { pays = omega arith; tells = refl })
-    (either (b == 10) (record { pays = omega arith; tells = refl }) (either (b == 92) (record { pays = omega arith; tells = refl }) (record { pays = omega arith; tells = refl })))
+    (either (b == code "\n") (record { pays = omega arith; tells = refl }) (either (b == code "\\") (record { pays = omega arith; tells = refl }) (record { pays = omega arith; tells = refl })))
 
 behind_newline_pays : (k : ℕ) (c n : Bool) → Pays (at (modes.Skip k) escapes.Plain c n) 256 (behind_newline k (at (modes.Skip k) escapes.Plain c n))
 behind_newline_pays k c n = either (k == 0) (record { pays = omega arith; tells = refl }) (record { pays = omega arith; tells = refl })
 
 skip_byte_pays : (b k : ℕ) (c n : Bool) → Pays (at (modes.Skip k) escapes.Plain c n) 256 (skip_byte b k (at (modes.Skip k) escapes.Plain c n))
-skip_byte_pays b k c n = either (b == 10) (behind_newline_pays k c n) (either (b == 92) (record { pays = omega arith; tells = refl }) (record { pays = omega arith; tells = refl }))
+skip_byte_pays b k c n = either (b == code "\n") (behind_newline_pays k c n) (either (b == code "\\") (record { pays = omega arith; tells = refl }) (record { pays = omega arith; tells = refl }))
 
 -- ---- by the mode
 

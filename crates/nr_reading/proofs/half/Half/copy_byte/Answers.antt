@@ -1,3 +1,4 @@
+use Prim.Native.Char.{code}
 use Rattle.std.proofs.Common.{true, sym, ap, ◌∙◌}
 use Rattle.std.proofs.lemmas.Bool.{ne_eqb}
 use Rattle.nr_reading.specs.declared.half.Half.{Half}
@@ -12,4 +13,4 @@ returns c =
     let s = c.read-said.result in
     c.settle.ensures ∙ ap (λ (k : Half). settled s.takes true s.event k) c.note.ensures
     ∙ ap (λ (t : Step). met_copied true t h) c.read-said.ensures
-    ∙ sym (meet-copied c.args.byte h c.requires.plain c.requires.copied (ne_eqb c.args.byte 92 c.if-byte-eq92.false))
+    ∙ sym (meet-copied c.args.byte h c.requires.plain c.requires.copied (ne_eqb c.args.byte (code "\\") c.if-byte-eq92.false))

@@ -1,3 +1,4 @@
+use Prim.Native.Char.{code}
 use Rattle.std.proofs.Common.{◌+◌, ◌-◌, Some, refl, ap, ◌∙◌, arith}
 use Rattle.std.proofs.lemmas.Bool.{ne_eqb}
 use Rattle.nr_reading.specs.declared.event.Event.TheVariants as events
@@ -13,7 +14,7 @@ returns-then-byte-eq10 g c =
     let k = c.loop-place.self in
     let i = c.loop-place.invariant in
     let place = c.loop-place.place in
-    taken_last (g.I.Items.fronts c.args.items.now) c.args.from c.args.made place (c.args.made + (place - c.args.from)) 10 c.args.self.now k
+    taken_last (g.I.Items.fronts c.args.items.now) c.args.from c.args.made place (c.args.made + (place - c.args.from)) (code "\n") c.args.self.now k
     (record k { reading = record k.reading { mode = modes.Start } }) events.Request i.leads (omega arith) (looks k i.next) (c.in-Some.ensures.value ∙ ap (λ b. Some (fronts.Byte b)) c.if-byte-eq10.true)
     (meet-line_end k i.mode i.next) (omega arith) (λ silent due. let wrong : ⊥ = cc in wrong)
 
@@ -27,7 +28,7 @@ loop-place-preserved g c =
       leads =
           recount (g.I.Items.fronts c.args.items.now) c.args.from c.args.made (place + 1) (place + 1) (c.args.made + (place - c.args.from) + 1) (c.args.made + (place + 1 - c.args.from)) c.args.self.now new
           (taken_more (g.I.Items.fronts c.args.items.now) c.args.from c.args.made place (c.args.made + (place - c.args.from)) c.in-Some.byte c.args.self.now k new i.leads (omega arith) (looks k i.next) c.in-Some.ensures.value
-          (meet-line_byte c.in-Some.byte c.note.new.self k i.mode i.next (ne_eqb c.in-Some.byte 92 c.if-byte-eq92.false) (ne_eqb c.in-Some.byte 10 c.if-byte-eq10.false) c.note.ensures))
+          (meet-line_byte c.in-Some.byte c.note.new.self k i.mode i.next (ne_eqb c.in-Some.byte (code "\\") c.if-byte-eq92.false) (ne_eqb c.in-Some.byte (code "\n") c.if-byte-eq10.false) c.note.ensures))
           refl (omega arith);
       front = omega arith;
       mode = i.mode;

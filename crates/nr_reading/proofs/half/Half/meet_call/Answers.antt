@@ -1,3 +1,4 @@
+use Prim.Native.Char.{code}
 use Rattle.std.proofs.Common.{◌+◌, sym, ◌∙◌}
 use Rattle.std.proofs.lemmas.Bool.{ne_eqb}
 use Rattle.nr_reading.specs.declared.mode.Mode.TheVariants as modes
@@ -12,5 +13,5 @@ returns g c =
     let place = c.pass_first_blanks-place.result in
     rest_behind fs 0 0 place (place + 1) h (in_mode modes.MacroGap h) c.meet_argument.new.self c.meet_argument.new.run
     (left_more fs 0 0 place place c.in-Some.byte h h (in_mode modes.MacroGap h) c.pass_first_blanks-place.ensures.leads c.in-Some.ensures.within (looks h c.requires.next) c.in-Some.ensures.value
-    (meet-arguments_begin c.in-Some.byte h c.requires.mode c.requires.next (ne_eqb c.in-Some.byte 92 c.if-byte-eq92.false) (sym c.is_blank.ensures ∙ c.if-is_blank.false)))
+    (meet-arguments_begin c.in-Some.byte h c.requires.mode c.requires.next (ne_eqb c.in-Some.byte (code "\\") c.if-byte-eq92.false) (sym c.is_blank.ensures ∙ c.if-is_blank.false)))
     c.meet_argument.ensures

@@ -1,3 +1,4 @@
+use Prim.Native.Char.{code}
 use Rattle.std.proofs.Common.{◌≡◌, ◌+◌, ◌≤◌, true, length, refl, sym, ◌∙◌, arith}
 use Rattle.std.proofs.lemmas.Bool.{false≢true, ne_eqb}
 use Rattle.nr_reading.specs.Many.ControlNames.{NameEnds, goes_on_name}
@@ -22,7 +23,7 @@ returns-clause-met g c = λ n.
     let place = c.args.place in
     let second = c.in-Some-byte-2.second in
     let within : place + 3 ≤ length fs = omega (arith, c.if-count-lt3.false, c.if-place-count.false, c.count.ensures, c.count-else-count-lt3.ensures) in
-    let goes : goes_on_name second ≡ true = rw (sym c.ends_name.ensures ∙ c.if-ends_name.false, ne_eqb second 92 c.if-second-eq92.false) refl in
+    let goes : goes_on_name second ≡ true = rw (sym c.ends_name.ensures ∙ c.if-ends_name.false, ne_eqb second (code "\\") c.if-second-eq92.false) refl in
     let ends : h.signs.long ≡ true → NameEnds fs (place + 3) = λ is. elim c.else-long.branch [
       | else-long-via-then-long+else-not-name_ends w ↦ w.name_ends.ensures w.if-not-name_ends.false
       | else-long-via-else-long w ↦ absurd (false≢true (sym w.if-long.false ∙ is))

@@ -1,3 +1,4 @@
+use Prim.Native.Char.{code}
 use Rattle.std.specs.Prelude.{◌==◌}
 use Rattle.std.proofs.Common.{◌≡◌, ◌+◌, false, Some, refl, ap, ◌∙◌, arith}
 use Rattle.std.proofs.lemmas.Bool.{ne_eqb}
@@ -35,7 +36,7 @@ returns-then-level-eq0 g c =
     let place = c.loop-place.place in
     let new : Half = record k { reading = record k.reading { mode = modes.Start } } in
     rest_behind fs 0 0 (place + 1) (place + 1) c.args.self.now new c.meet_beginning.new.self c.meet_beginning.new.run
-    (taken_more fs 0 0 place place 10 c.args.self.now k new i.leads (omega arith) (looks k i.next) (c.in-Some.ensures.value ∙ ap (λ b. Some (fronts.Byte b)) c.if-byte-eq10.true)
+    (taken_more fs 0 0 place place (code "\n") c.args.self.now k new i.leads (omega arith) (looks k i.next) (c.in-Some.ensures.value ∙ ap (λ b. Some (fronts.Byte b)) c.if-byte-eq10.true)
     (meet-rejected_end c.loop-place.level k i.mode i.next c.if-level-eq0.true))
     c.meet_beginning.ensures
 
@@ -45,12 +46,12 @@ loop-place-preserved g c =
     let k = c.loop-place.self in
     let i = c.loop-place.invariant in
     let place = c.loop-place.place in
-    let goes : (c.in-Some.byte ≡ 10) → (c.loop-place.level == 0) ≡ false = λ e. elim c.else-byte-eq10.branch [
+    let goes : (c.in-Some.byte ≡ code "\n") → (c.loop-place.level == 0) ≡ false = λ e. elim c.else-byte-eq10.branch [
       | else-byte-eq10-via-then-byte-eq10+else-level-eq0 w ↦ ne_eqb c.loop-place.level 0 w.if-level-eq0.false
       | else-byte-eq10-via-else-byte-eq10 w ↦ absurd (w.if-byte-eq10.false e)
     ] in
     record {
-      leads = taken_more fs 0 0 place place c.in-Some.byte c.args.self.now k k i.leads (omega arith) (looks k i.next) c.in-Some.ensures.value (meet-dropped c.in-Some.byte c.loop-place.level k i.mode i.next (ne_eqb c.in-Some.byte 92 c.if-byte-eq92.false) goes);
+      leads = taken_more fs 0 0 place place c.in-Some.byte c.args.self.now k k i.leads (omega arith) (looks k i.next) c.in-Some.ensures.value (meet-dropped c.in-Some.byte c.loop-place.level k i.mode i.next (ne_eqb c.in-Some.byte (code "\\") c.if-byte-eq92.false) goes);
       mode = i.mode;
       next = i.next;
       few = omega arith;

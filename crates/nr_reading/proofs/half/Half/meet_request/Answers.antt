@@ -1,3 +1,4 @@
+use Prim.Native.Char.{code}
 use Rattle.std.proofs.Common.{◌+◌, sym, ◌∙◌}
 use Rattle.std.proofs.lemmas.Bool.{ne_eqb}
 use Rattle.nr_reading.specs.declared.half.Half.{Half}
@@ -14,5 +15,5 @@ returns g c =
     let new : Half = record h { reading = record h.reading { mode = modes.RequestLine }; notes = c.note.new.self } in
     rest_behind fs 0 0 place (place + 1) h new c.meet_arguments.new.self c.meet_arguments.new.run
     (left_more fs 0 0 place place c.in-Some.byte h h new c.pass_first_blanks-place.ensures.leads c.in-Some.ensures.within (looks h c.requires.next) c.in-Some.ensures.value
-    (meet-line_begins c.in-Some.byte c.note.new.self h c.requires.mode c.requires.next (ne_eqb c.in-Some.byte 92 c.if-byte-eq92.false) (sym c.is_blank.ensures ∙ c.if-is_blank.false) c.note.ensures))
+    (meet-line_begins c.in-Some.byte c.note.new.self h c.requires.mode c.requires.next (ne_eqb c.in-Some.byte (code "\\") c.if-byte-eq92.false) (sym c.is_blank.ensures ∙ c.if-is_blank.false) c.note.ensures))
     c.meet_arguments.ensures

@@ -1,3 +1,4 @@
+use Prim.Native.Char.{code}
 use Rattle.std.proofs.Common.{◌≡◌, ◌<◌, ◌+◌, ◌-◌, length, length-drop, take, drop, map, get_or, subst, sym, ◌∙◌, arith}
 use Rattle.std.proofs.lemmas.Bool.{false≢true}
 use Rattle.std.proofs.lemmas.List.{take_all}
@@ -21,7 +22,7 @@ returns-clause-met c =
     let rest = take (length near - k) (drop k near) in
     let rest_is : rest ≡ drop k near = take_all (length near - k) (drop k near) (omega (arith, length-drop k near)) in
     let inside : count < length rest = omega (arith, c.if-count-rest.false, c.plain_count-count.ensures.front) in
-    let newline : get_or rest count 0 ≡ 10 = omega (arith, c.if-rest-count-ne10.false) in
+    let newline : get_or rest count 0 ≡ code "\n" = omega (arith, c.if-rest-count-ne10.false) in
     subst (λ (j : Half). HasMet (k + count + 2) (map fronts.Byte bs) h (record { taken = k + count + 1; half = j; event = events.Request })) (sym c.end_request_line.ensures)
     (line-at-hand bs rest c.min.result k count h rest_is blanks (sym c.reads_next.ensures ∙ c.if-not-reads_next.false) c.blank_count-blanks.ensures.front c.blank_count-blanks.ensures.blanks c.blank_count-blanks.ensures.stops
     c.plain_count-count.ensures.plain inside newline)

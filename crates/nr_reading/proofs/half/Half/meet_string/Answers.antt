@@ -1,3 +1,4 @@
+use Prim.Native.Char.{code}
 use Rattle.std.specs.Int.{from_bool}
 use Rattle.std.proofs.Common.{◌≡◌, ◌+◌, true, refl, sym, subst, ap, ◌∙◌, arith}
 use Rattle.std.proofs.lemmas.Bool.{false≢true, ne_eqb}
@@ -24,7 +25,7 @@ returns-then-ends_name g c =
     (subst (λ (k : Half). LeadsOn fs 0 0 h (place + 1) (place + 3) k) (sym mid)
     (recount fs 0 0 (place + 1) (place + 1) (place + 1 + 1 + 1) (place + 3) h (behind_name (spelled first nothing_spelled) h)
     (lone_named fs 0 0 place place h h c.pass_first_blanks-place.ensures.leads c.requires.mode c.requires.next first c.in-Some-byte_of.second c.in-Some-byte_of.ensures.within c.in-Some.ensures.value c.in-Some-byte_of.ensures.value
-    (sym c.goes_on_name.ensures ∙ c.if-not-goes_on_name.false) (ne_eqb c.in-Some-byte_of.second 92 c.if-second-eq92.false) (sym c.ends_name.ensures ∙ c.if-ends_name.true))
+    (sym c.goes_on_name.ensures ∙ c.if-not-goes_on_name.false) (ne_eqb c.in-Some-byte_of.second (code "\\") c.if-second-eq92.false) (sym c.ends_name.ensures ∙ c.if-ends_name.true))
     refl (omega arith)))
     c.meet_string_blanks.ensures
 
@@ -37,7 +38,7 @@ returns g c =
     let second = c.in-Some-byte_of.second in
     let name : c.with.result ≡ spelled second (spelled first nothing_spelled) = c.with.ensures ∙ ap (spelled second) (c.with-lone.ensures ∙ ap (spelled first) c.new.ensures) in
     let mid : c.take_string_name-2.new.self ≡ behind_name (spelled second (spelled first nothing_spelled)) h = c.take_string_name-2.ensures ∙ ap (λ (n : Spelled). behind_name n h) name in
-    let goes : goes_on_name second ≡ true = rw (sym c.ends_name.ensures ∙ c.if-ends_name.false, ne_eqb second 92 c.if-second-eq92.false) refl in
+    let goes : goes_on_name second ≡ true = rw (sym c.ends_name.ensures ∙ c.if-ends_name.false, ne_eqb second (code "\\") c.if-second-eq92.false) refl in
     let moves = place + 3 + c.from.result in
     let ends : h.signs.long ≡ true → NameEnds fs (place + 2) = λ is. elim c.else-long.branch [
       | else-long-via-then-long+else-not-name_ends w ↦ w.name_ends.ensures w.if-not-name_ends.false

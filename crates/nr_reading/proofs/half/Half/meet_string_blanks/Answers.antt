@@ -1,3 +1,4 @@
+use Prim.Native.Char.{code}
 use Rattle.std.proofs.Common.{◌+◌, ◌-◌, Some, ap, sym, ◌∙◌, arith}
 use Rattle.std.proofs.lemmas.Bool.{ne_eqb}
 use Rattle.nr_reading.specs.declared.event.Event.TheVariants as events
@@ -11,7 +12,7 @@ returns-then-byte-eq34 g c =
     let fs = g.I.Items.fronts c.args.items.now in
     let h = c.args.self.now in
     let place = c.pass_blanks-place.result in
-    taken_last fs c.args.from c.args.made place (c.args.made + (place - c.args.from)) 34 h h (begun_text h) events.Nothing (c.pass_blanks-place.ensures.leads c.args.made) c.in-Some.ensures.within (looks h c.requires.next)
+    taken_last fs c.args.from c.args.made place (c.args.made + (place - c.args.from)) (code "\"") h h (begun_text h) events.Nothing (c.pass_blanks-place.ensures.leads c.args.made) c.in-Some.ensures.within (looks h c.requires.next)
     (c.in-Some.ensures.value ∙ ap (λ b. Some (fronts.Byte b)) c.if-byte-eq34.true) (meet-quote h c.requires.mode c.requires.next) (omega arith) (λ silent due. let wrong : ⊥ = cc in wrong)
 
 pub returns : goal.returns
@@ -20,7 +21,7 @@ returns g c =
     let h = c.args.self.now in
     let place = c.pass_blanks-place.result in
     left_last fs c.args.from c.args.made place (c.args.made + (place - c.args.from)) c.in-Some.byte h h (begun_text h) events.Nothing (c.pass_blanks-place.ensures.leads c.args.made) c.in-Some.ensures.within (looks h c.requires.next) c.in-Some.ensures.value
-    (meet-text_begins c.in-Some.byte h c.requires.mode c.requires.next (ne_eqb c.in-Some.byte 92 c.if-byte-eq92.false) (sym c.is_blank.ensures ∙ c.if-is_blank.false) (ne_eqb c.in-Some.byte 34 c.if-byte-eq34.false)) (omega arith) (λ silent due. let wrong : ⊥ = cc in wrong)
+    (meet-text_begins c.in-Some.byte h c.requires.mode c.requires.next (ne_eqb c.in-Some.byte (code "\\") c.if-byte-eq92.false) (sym c.is_blank.ensures ∙ c.if-is_blank.false) (ne_eqb c.in-Some.byte (code "\"") c.if-byte-eq34.false)) (omega arith) (λ silent due. let wrong : ⊥ = cc in wrong)
 
 pub returns-in_default : goal.returns-in_default
 returns-in_default g c =

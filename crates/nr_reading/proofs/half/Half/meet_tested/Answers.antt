@@ -1,3 +1,4 @@
+use Prim.Native.Char.{code}
 use Rattle.std.proofs.Common.{◌+◌, ◌-◌, refl, sym, ◌∙◌, arith}
 use Rattle.std.proofs.lemmas.Bool.{ne_eqb}
 use Rattle.nr_reading.specs.declared.event.Event.TheVariants as events
@@ -14,7 +15,7 @@ returns-then-ends_number g c =
     let i = c.loop-place.invariant in
     left_last (g.I.Items.fronts c.args.items.now) c.args.from c.args.made c.loop-place.place (c.args.made + (c.loop-place.place - c.args.from)) c.in-Some.byte c.args.self.now k
     (record k { reading = record k.reading { mode = modes.Skip 0 } }) (events.Judge questions.Number) i.leads (omega arith) (looks k i.next) c.in-Some.ensures.value
-    (meet-number_end c.in-Some.byte c.loop-place.level k i.mode i.next (ne_eqb c.in-Some.byte 92 c.if-byte-eq92.false) (sym c.ends_number.ensures ∙ c.if-ends_number.true)) (omega arith) (λ silent due. let wrong : ⊥ = cc in wrong)
+    (meet-number_end c.in-Some.byte c.loop-place.level k i.mode i.next (ne_eqb c.in-Some.byte (code "\\") c.if-byte-eq92.false) (sym c.ends_number.ensures ∙ c.if-ends_number.true)) (omega arith) (λ silent due. let wrong : ⊥ = cc in wrong)
 
 pub loop-place-preserved-then-is_digit_or_relation : goal.loop-place-preserved-then-is_digit_or_relation
 loop-place-preserved-then-is_digit_or_relation g c =
@@ -43,7 +44,7 @@ loop-place-preserved g c =
       leads =
           recount (g.I.Items.fronts c.args.items.now) c.args.from c.args.made (place + 1) (place + 1) (c.args.made + (place - c.args.from) + 1) (c.args.made + (place + 1 - c.args.from)) c.args.self.now new
           (taken_more (g.I.Items.fronts c.args.items.now) c.args.from c.args.made place (c.args.made + (place - c.args.from)) c.in-Some.byte c.args.self.now k new i.leads (omega arith) (looks k i.next) c.in-Some.ensures.value
-          (meet-number_byte c.in-Some.byte c.loop-place.level c.parentheses-level.result c.note-in-loop-place.new.self k i.mode i.next (ne_eqb c.in-Some.byte 92 c.if-byte-eq92.false) (sym c.ends_number.ensures ∙ c.if-ends_number.false) c.parentheses-level.ensures c.note-in-loop-place.ensures))
+          (meet-number_byte c.in-Some.byte c.loop-place.level c.parentheses-level.result c.note-in-loop-place.new.self k i.mode i.next (ne_eqb c.in-Some.byte (code "\\") c.if-byte-eq92.false) (sym c.ends_number.ensures ∙ c.if-ends_number.false) c.parentheses-level.ensures c.note-in-loop-place.ensures))
           refl (omega arith);
       front = omega arith;
       mode = refl;

@@ -1,3 +1,4 @@
+use Prim.Native.Char.{code}
 use Rattle.std.proofs.Common.{Some, ap, ◌∙◌, arith}
 use Rattle.nr_reading.specs.declared.event.Event.TheVariants as events
 use Rattle.nr_reading.specs.declared.front.Front.TheVariants as fronts
@@ -11,12 +12,12 @@ pub returns-in-Some-eq10 : goal.returns-in-Some-eq10
 returns-in-Some-eq10 g c =
     let fs = g.I.Items.fronts c.args.items.now in
     let h = c.args.self.now in
-    left_last fs 0 0 0 0 10 h h (with_due modes.MacroGap dues.EndArgument h) events.Nothing (stays fs 0 0 h) c.in-Some-eq10.ensures.within (looks h c.requires.next) (c.in-Some-eq10.ensures.value ∙ ap (λ b. Some (fronts.Byte b)) c.in-Some-eq10.field-0-test)
+    left_last fs 0 0 0 0 (code "\n") h h (with_due modes.MacroGap dues.EndArgument h) events.Nothing (stays fs 0 0 h) c.in-Some-eq10.ensures.within (looks h c.requires.next) (c.in-Some-eq10.ensures.value ∙ ap (λ b. Some (fronts.Byte b)) c.in-Some-eq10.field-0-test)
     (meet-word_end h c.requires.mode c.requires.next) (omega arith) (λ silent due. let wrong : ⊥ = cc in wrong)
 
 pub returns-in-Some-eq32 : goal.returns-in-Some-eq32
 returns-in-Some-eq32 g c =
     let fs = g.I.Items.fronts c.args.items.now in
     let h = c.args.self.now in
-    taken_last fs 0 0 0 0 32 h h (with_due modes.MacroGap dues.EndArgument h) events.Nothing (stays fs 0 0 h) c.in-Some-eq32.ensures.within (looks h c.requires.next) (c.in-Some-eq32.ensures.value ∙ ap (λ b. Some (fronts.Byte b)) c.in-Some-eq32.field-0-test)
+    taken_last fs 0 0 0 0 (code " ") h h (with_due modes.MacroGap dues.EndArgument h) events.Nothing (stays fs 0 0 h) c.in-Some-eq32.ensures.within (looks h c.requires.next) (c.in-Some-eq32.ensures.value ∙ ap (λ b. Some (fronts.Byte b)) c.in-Some-eq32.field-0-test)
     (meet-word_space h c.requires.mode c.requires.next) (omega arith) (λ silent due. let wrong : ⊥ = cc in wrong)
