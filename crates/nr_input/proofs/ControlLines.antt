@@ -1,4 +1,5 @@
 -- A control line of the source: its name, what it calls, and the line of a request, as moves of the machine that reads.
+use Prim.Native.Char.{code}
 use Rattle.std.specs.Prelude.{map, drop, not, ◌⊎◌}
 use Rattle.std.proofs.Common.{◌≡◌, ℕ, zero, suc, ◌+◌, ◌-◌, ◌<◌, ◌≤◌, ◌==◌, Bool, false, List, [], length, take, Option, Ok, Result, inl, inr, refl, ap, ap₂, sym, ◌∙◌, subst, length-drop, arith}
 use Rattle.std.proofs.lemmas.Bool.{cases_lt}
@@ -227,7 +228,7 @@ pub inside_on : (t n : ℕ) (bs : List ℕ) (inside : Bool) → 0 < n → inside
 inside_on t zero bs inside some = absurd (omega (arith, some))
 inside_on t (suc n) bs inside some =
     let next : suc (t + n) ≡ t + suc n = omega arith in
-    ap (λ b. not (b == 10)) (get_or-drop t bs n 0) ∙ ap (λ k. inside_behind k bs inside) next
+    ap (λ b. not (b == code "\n")) (get_or-drop t bs n 0) ∙ ap (λ k. inside_behind k bs inside) next
 
 pub run_on : (t n : ℕ) (c : Coming) → 0 < n → behind_run n (behind_run t c) ≡ behind_run (t + n) c
 run_on t n c some =

@@ -1,4 +1,5 @@
 -- The rest of a line that does nothing, as moves of the machine that reads and what they cost.
+use Prim.Native.Char.{code}
 use Rattle.std.specs.Prelude.{map, take, slice_index}
 use Rattle.std.proofs.Common.{◌≡◌, ◌≢◌, ℕ, zero, suc, ◌+◌, ◌<◌, ◌≤◌, true, false, List, length, All, Some, refl, ap, sym, ◌∙◌, subst, add-one, arith}
 use Rattle.std.proofs.lemmas.Bool.{ne_eqb}
@@ -28,13 +29,13 @@ dropping_by modes.Drop h is mode = record { mode = mode; idle = idle h.reading.d
 dropping_by m h is mode = absurd (let wrong : false ≡ true = is in cc)
 
 -- a byte does nothing, and the newline ends the line
-meets_plain : (b : ℕ) (h : Half) → b ≢ 92 → b ≢ 10 → Meets b (half_in modes.Drop h) (half_in modes.Drop h) true
-meets_plain b h apart other = rw (ne_eqb b 92 apart, ne_eqb b 10 other) refl
+meets_plain : (b : ℕ) (h : Half) → b ≢ code "\\" → b ≢ code "\n" → Meets b (half_in modes.Drop h) (half_in modes.Drop h) true
+meets_plain b h apart other = rw (ne_eqb b (code "\\") apart, ne_eqb b (code "\n") other) refl
 
-meets_newline : (h : Half) → Meets 10 (half_in modes.Drop h) (half_in modes.Start h) true
+meets_newline : (h : Half) → Meets (code "\n") (half_in modes.Drop h) (half_in modes.Start h) true
 meets_newline h = refl
 
-module _ (n : ℕ) (bs : List ℕ) (h : Half) (less : n < length bs) (plain : All (IsPlain 10) (take n bs)) (newline : slice_index bs n ≡ 10) where
+module _ (n : ℕ) (bs : List ℕ) (h : Half) (less : n < length bs) (plain : All (IsPlain (code "\n")) (take n bs)) (newline : slice_index bs n ≡ code "\n") where
   abbrev fs : List Front
   fs = map fronts.Byte bs
 
@@ -42,16 +43,16 @@ module _ (n : ℕ) (bs : List ℕ) (h : Half) (less : n < length bs) (plain : Al
   plain_met zero few = nothing_met fs (half_in modes.Drop h)
   plain_met (suc k) few =
       let d = half_in modes.Drop h in
-      let byte = plain_at n k 10 bs (omega (arith, few)) (omega (arith, less)) plain in
+      let byte = plain_at n k (code "\n") bs (omega (arith, few)) (omega (arith, less)) plain in
       subst (λ j. HasMet j fs d (quiet j d)) (add-one k)
       (met_byte k k (slice_index bs k) true fs d d d (plain_met k (omega (arith, few))) (omega (arith, few, less, length-map bs fronts.Byte)) refl (byte_there bs k (omega (arith, few, less))) (meets_plain (slice_index bs k) h byte.2 byte.0))
 
   pub line_met : HasMet (n + 1) fs (half_in modes.Drop h) (quiet (n + 1) (half_in modes.Start h))
   line_met =
       let d = half_in modes.Drop h in
-      met_byte n n 10 true fs d d (half_in modes.Start h) (plain_met n (omega arith)) (omega (arith, less, length-map bs fronts.Byte)) refl (byte_there bs n less ∙ ap (λ c. Some (fronts.Byte c)) newline) (meets_newline h)
+      met_byte n n (code "\n") true fs d d (half_in modes.Start h) (plain_met n (omega arith)) (omega (arith, less, length-map bs fronts.Byte)) refl (byte_there bs n less ∙ ap (λ c. Some (fronts.Byte c)) newline) (meets_newline h)
 
-pub dropped_reads : {K : Type 0} (n : ℕ) (bs : List ℕ) (v : Stored K) (r : Reader) → is_dropping r.half ≡ true → n < length bs → All (IsPlain 10) (take n bs) → slice_index bs n ≡ 10
+pub dropped_reads : {K : Type 0} (n : ℕ) (bs : List ℕ) (v : Stored K) (r : Reader) → is_dropping r.half ≡ true → n < length bs → All (IsPlain (code "\n")) (take n bs) → slice_index bs n ≡ code "\n"
     → ReadsOn (n + 1) (n + 1) bs v r v (record r { half = record r.half { reading = record r.half.reading { mode = modes.Start } } })
 dropped_reads n bs v r is less plain newline =
     let i = dropping_by r.half.reading.mode r.half is refl in

@@ -1,4 +1,5 @@
 -- What comes before an argument of a macro and what it begins with, met byte by byte.
+use Prim.Native.Char.{code}
 use Rattle.std.specs.Prelude.{slice_get, map}
 use Rattle.std.specs.Int.{from_bool}
 use Rattle.std.specs.Option.{option_map}
@@ -68,29 +69,29 @@ pub idle_before : (h : Half) → is_before_argument h ≡ true → IsIdle h.read
 idle_before h is = before_idle h.reading.mode h is
 
 space_by : (m : Mode) (h : Half) → is_before_argument_in m h ≡ true → h.reading.mode ≡ m → h.asks ≡ [] → h.reading.escape ≡ escapes.Plain
-    → meet (fronts.Byte 32) h ≡ record { half = record h { reading = record h.reading { escape = escapes.Plain } }; event = events.Nothing; takes = true }
+    → meet (fronts.Byte (code " ")) h ≡ record { half = record h { reading = record h.reading { escape = escapes.Plain } }; event = events.Nothing; takes = true }
 space_by modes.MacroBlanks h is mode none escape = rw (none, mode, escape) refl
 space_by modes.MacroGap h is mode none escape = rw (none, mode, escape) refl
 space_by m h is mode none escape = absurd (let wrong : false ≡ true = is in cc)
 
 -- a space does nothing
-pub meets_space : (h : Half) → is_before_argument h ≡ true → Meets 32 h h true
+pub meets_space : (h : Half) → is_before_argument h ≡ true → Meets (code " ") h h true
 meets_space h is =
     let i = idle_before h is in
     space_by h.reading.mode h is refl i.asks_none i.escape
     ∙ ap (λ e. record { half = record h { reading = record h.reading { escape = e } }; event = events.Nothing; takes = true }) (sym i.escape)
 
-spaces_met : (bs : List ℕ) (h : Half) (k : ℕ) → is_before_argument h ≡ true → k ≤ length bs → ((i : ℕ) → i < k → get_or bs i 0 ≡ 32) → HasMet k (map fronts.Byte bs) h (quiet k h)
+spaces_met : (bs : List ℕ) (h : Half) (k : ℕ) → is_before_argument h ≡ true → k ≤ length bs → ((i : ℕ) → i < k → get_or bs i 0 ≡ code " ") → HasMet k (map fronts.Byte bs) h (quiet k h)
 spaces_met bs h zero is few all = nothing_met (map fronts.Byte bs) h
 spaces_met bs h (suc k) is few all =
     subst (λ j. HasMet j (map fronts.Byte bs) h (quiet j h)) (add-one k)
-    (met_byte k k 32 true (map fronts.Byte bs) h h h (spaces_met bs h k is (omega (arith, few)) (λ i less. all i (omega (arith, less)))) (omega (arith, few, length-map bs fronts.Byte)) (idle_before h is).due
+    (met_byte k k (code " ") true (map fronts.Byte bs) h h h (spaces_met bs h k is (omega (arith, few)) (λ i less. all i (omega (arith, less)))) (omega (arith, few, length-map bs fronts.Byte)) (idle_before h is).due
     (byte_there bs k (omega (arith, few)) ∙ ap (λ b. Some (fronts.Byte b)) (all k (omega arith))) (meets_space h is))
 
 -- the spaces in front
-pub spaces_passed : (bs : List ℕ) (h : Half) (k : ℕ) → is_before_argument h ≡ true → k ≤ length bs → All (λ b. b ≡ 32) (take k bs) → HasMet k (map fronts.Byte bs) h (quiet k h)
+pub spaces_passed : (bs : List ℕ) (h : Half) (k : ℕ) → is_before_argument h ≡ true → k ≤ length bs → All (λ b. b ≡ code " ") (take k bs) → HasMet k (map fronts.Byte bs) h (quiet k h)
 spaces_passed bs h k is few all =
-    spaces_met bs h k is few (λ i less. sym (get_or-take k bs i 0 less) ∙ All-get_or (λ b. b ≡ 32) (take k bs) i 0 (omega (arith, less, few, length-take k bs)) all)
+    spaces_met bs h k is few (λ i less. sym (get_or-take k bs i 0 less) ∙ All-get_or (λ b. b ≡ code " ") (take k bs) i 0 (omega (arith, less, few, length-take k bs)) all)
 
 -- ---- what an argument begins with
 
@@ -109,13 +110,13 @@ is_half_in m h mode i =
     ∙ ap (λ (x : List Ask). with_reading m escapes.Plain dues.Look x h) i.asks_none
 
 -- a byte that is no blank stays after the blanks
-leaves_blanks : (b : ℕ) (h : Half) → (b == 92) ≡ false → (b == 32) ≡ false → (b == 9) ≡ false → Meets b (half_in modes.MacroBlanks h) (half_in modes.MacroGap h) false
+leaves_blanks : (b : ℕ) (h : Half) → (b == code "\\") ≡ false → (b == code " ") ≡ false → (b == code "\t") ≡ false → Meets b (half_in modes.MacroBlanks h) (half_in modes.MacroGap h) false
 leaves_blanks b h apart other tab = rw (apart, other, tab) refl
 
-begins_argument : (b : ℕ) (h : Half) → (b == 92) ≡ false → (b == 32) ≡ false → Meets b (half_in modes.MacroGap h) (begun_with b (half_in modes.MacroGap h)) true
-begins_argument b h apart other = elim (cases_Bool (b == 10)) [
+begins_argument : (b : ℕ) (h : Half) → (b == code "\\") ≡ false → (b == code " ") ≡ false → Meets b (half_in modes.MacroGap h) (begun_with b (half_in modes.MacroGap h)) true
+begins_argument b h apart other = elim (cases_Bool (b == code "\n")) [
   | inl newline ↦ rw (apart, newline) refl
-  | inr more ↦ elim (cases_Bool (b == 34)) [
+  | inr more ↦ elim (cases_Bool (b == code "\"")) [
     | inl quote ↦ rw (apart, more, other, quote) refl
     | inr plain ↦ rw (apart, more, other, plain) refl
   ]
@@ -123,15 +124,15 @@ begins_argument b h apart other = elim (cases_Bool (b == 10)) [
 
 -- the mode before it is of no account
 begun_alike : (b : ℕ) (h : Half) → h ≡ half_in modes.MacroBlanks h → begun_with b (half_in modes.MacroGap h) ≡ begun_with b h
-begun_alike b h e = elim (cases_Bool (b == 10)) [
+begun_alike b h e = elim (cases_Bool (b == code "\n")) [
   | inl newline ↦ rw newline (ap (λ (j : Half). record j { reading = record j.reading { mode = modes.Start; due = dues.Call } }) (sym e))
-  | inr more ↦ elim (cases_Bool (b == 34)) [
+  | inr more ↦ elim (cases_Bool (b == code "\"")) [
     | inl quote ↦ rw (more, quote) (ap (λ (j : Half). record j { reading = record j.reading { mode = modes.Quoted } }) (sym e))
     | inr plain ↦ rw (more, plain) (ap (λ (j : Half). record j { reading = record j.reading { mode = modes.Word; due = dues.Put b } }) (sym e))
   ]
 ]
 
-module _ (bs : List ℕ) (h : Half) (k : ℕ) (before : is_before_argument h ≡ true) (less : k < length bs) (spaces : All (λ b. b ≡ 32) (take k bs)) (apart : get_or bs k 0 ≢ 92) (tab : get_or bs k 0 ≢ 9) (other : get_or bs k 0 ≢ 32) where
+module _ (bs : List ℕ) (h : Half) (k : ℕ) (before : is_before_argument h ≡ true) (less : k < length bs) (spaces : All (λ b. b ≡ code " ") (take k bs)) (apart : get_or bs k 0 ≢ code "\\") (tab : get_or bs k 0 ≢ code "\t") (other : get_or bs k 0 ≢ code " ") where
   abbrev b : ℕ
   b = get_or bs k 0
 
@@ -151,7 +152,7 @@ module _ (bs : List ℕ) (h : Half) (k : ℕ) (before : is_before_argument h ≡
       let none : k + 1 ≡ k + 0 + 1 = omega arith in
       subst (λ n. HasMet n fs h (quiet (k + 1) (begun_with b h))) none
       (met_byte k k b true fs h h (begun_with b h) passed long (idle_before h before).due (byte_there bs k less)
-      (subst (λ (j : Half). Meets b j (begun_with b j) true) (sym e) (begins_argument b h (ne_eqb b 92 apart) (ne_eqb b 32 other))))
+      (subst (λ (j : Half). Meets b j (begun_with b j) true) (sym e) (begins_argument b h (ne_eqb b (code "\\") apart) (ne_eqb b (code " ") other))))
   begun_by modes.MacroBlanks mode is =
       let e = is_half_in modes.MacroBlanks h mode (idle_before h before) in
       let gap = half_in modes.MacroGap h in
@@ -159,10 +160,10 @@ module _ (bs : List ℕ) (h : Half) (k : ℕ) (before : is_before_argument h ≡
       let left : HasMet (k + 1) fs h (quiet k gap) =
       subst (λ n. HasMet (k + 1) fs h (quiet n gap)) same
       (met_byte k k b false fs h h gap passed long (idle_before h before).due (byte_there bs k less)
-      (subst (λ (j : Half). Meets b j gap false) (sym e) (leaves_blanks b h (ne_eqb b 92 apart) (ne_eqb b 32 other) (ne_eqb b 9 tab)))) in
+      (subst (λ (j : Half). Meets b j gap false) (sym e) (leaves_blanks b h (ne_eqb b (code "\\") apart) (ne_eqb b (code " ") other) (ne_eqb b (code "\t") tab)))) in
       let ends : begun_with b gap ≡ begun_with b h = begun_alike b h e in
       subst (λ (j : Half). HasMet (k + 1 + 1) fs h (quiet (k + 1) j)) ends
-      (met_byte (k + 1) k b true fs h gap (begun_with b gap) left long refl (byte_there bs k less) (begins_argument b h (ne_eqb b 92 apart) (ne_eqb b 32 other)))
+      (met_byte (k + 1) k b true fs h gap (begun_with b gap) left long refl (byte_there bs k less) (begins_argument b h (ne_eqb b (code "\\") apart) (ne_eqb b (code " ") other)))
   begun_by m mode is = absurd (let wrong : false ≡ true = is in cc)
 
   pub begun_met : HasMet (k + blanks_left h.reading.mode + 1) fs h (quiet (k + 1) (begun_with b h))

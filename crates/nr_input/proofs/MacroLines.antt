@@ -1,4 +1,5 @@
 -- The arguments of a macro in a line of the source, part by part, as moves of the machine that reads and what they cost.
+use Prim.Native.Char.{code}
 use Rattle.std.specs.Prelude.{map, drop, take, slice_index, not}
 use Rattle.std.proofs.Common.{◌≡◌, ◌==◌, ℕ, zero, suc, ◌+◌, ◌-◌, ◌*◌, ◌<◌, ◌≤◌, Bool, true, false, List, [], length, All, Option, Some, Ok, Err, inl, inr, refl, ap, ap₂, sym, ◌∙◌, subst, length-drop, arith}
 use Rattle.std.proofs.lemmas.Bool.{cases_lt}
@@ -147,9 +148,9 @@ module _ {K : Type 0} (n t : ℕ) (bs : List ℕ) (v : Stored K) (r : Reader) (k
         (subst (λ (d : Coming). HoldsComing d p supply) (ap (λ j. behind_run j c) zero_taken ∙ behind_none c) holds)
   ]
 
-  inside_there : (t : ℕ) (p : Reached) → 0 < t → not (slice_index bs (t - 1) == 10) ≡ inside_behind t bs p.inside
+  inside_there : (t : ℕ) (p : Reached) → 0 < t → not (slice_index bs (t - 1) == code "\n") ≡ inside_behind t bs p.inside
   inside_there zero p some = absurd (omega (arith, some))
-  inside_there (suc j) p some = let same : suc j - 1 ≡ j = omega arith in ap (λ i. not (slice_index bs i == 10)) same
+  inside_there (suc j) p some = let same : suc j - 1 ≡ j = omega arith in ap (λ i. not (slice_index bs i == code "\n")) same
 
   met_pays : r.burst ≡ 0 → (p : Reached) → PaysAll n v p r events.Nothing v (reached_behind t bs p) (record r { half = k })
   met_pays still p = elim (cases_lt 0 t) [
@@ -238,9 +239,9 @@ module _ {K : Type 0} (n : ℕ) (bs : List ℕ) (v w : Stored K) (r : Reader) (a
         (source_added_pays Argument n last (take n bs) v w p (passed_run last n p) r some added refl));
   }
     where
-      inside_at : (n : ℕ) (p : Reached) → 0 < n → not (slice_index bs (n - 1) == 10) ≡ inside_behind n bs p.inside
+      inside_at : (n : ℕ) (p : Reached) → 0 < n → not (slice_index bs (n - 1) == code "\n") ≡ inside_behind n bs p.inside
       inside_at zero p some = absurd (omega (arith, some))
-      inside_at (suc j) p some = let same : suc j - 1 ≡ j = omega arith in ap (λ i. not (slice_index bs i == 10)) same
+      inside_at (suc j) p some = let same : suc j - 1 ≡ j = omega arith in ap (λ i. not (slice_index bs i == code "\n")) same
 
   pub reads_added : ReadsOn (2 * n) n bs v r w r
   reads_added = elim (cases_lt 0 n) [
@@ -289,12 +290,12 @@ module _ {K : Type 0} (n t k : ℕ) (bs : List ℕ) (v w : Stored K) (r s : Read
   pub line_read : v.levels ≡ [] → (c : Coming) (p : Reached) (supply : Option Supply) → ComeNext bs c → HoldsComing (behind_run t c) p supply → HasRead n (situation v c r) events.Nothing w s p supply
   line_read none c p supply next holds = reads.reads none still c p supply (come_front k bs c next) holds
 
-  inside_of : (t : ℕ) (p : Reached) → 0 < t → t ≤ length (take k bs) → inside_behind t (take k bs) p.inside ≡ not (slice_index bs (t - 1) == 10)
+  inside_of : (t : ℕ) (p : Reached) → 0 < t → t ≤ length (take k bs) → inside_behind t (take k bs) p.inside ≡ not (slice_index bs (t - 1) == code "\n")
   inside_of zero p some few = absurd (omega (arith, some))
   inside_of (suc j) p some few =
       let same : suc j - 1 ≡ j = omega arith in
       let below : j < k = omega (arith, few, length-take k bs) in
-      ap (λ b. not (b == 10)) (get_or-take k bs j 0 below) ∙ ap (λ i. not (slice_index bs i == 10)) (sym same)
+      ap (λ b. not (b == code "\n")) (get_or-take k bs j 0 below) ∙ ap (λ i. not (slice_index bs i == code "\n")) (sym same)
 
   pub line_paid : 0 < t → (p q : Reached) → q ≡ passed_run (slice_index bs (t - 1)) t p → PaysAll n v p r events.Nothing w q s
   line_paid some p q is =

@@ -1,4 +1,5 @@
 -- Bytes of the source that are added one by one to what is stored, as those who read them say it.
+use Prim.Native.Char.{code}
 use Rattle.std.specs.Prelude.{map, slice_index, not}
 use Rattle.std.specs.Option.{option_map}
 use Rattle.std.proofs.Common.{◌≡◌, ℕ, suc, ◌+◌, ◌*◌, ◌<◌, ◌≤◌, ◌==◌, true, List, [], ◌∷◌, length, take, All, Option, refl, ap, sym, ◌∙◌, zero, subst, arith}
@@ -92,7 +93,7 @@ some_pays (suc k) last v w q r some levels limit diversions = record {
   pays = λ worth enough.
       let items = ap items_left levels in
       let worths = ap (λ n. expansions_worth r.most 0 n) limit in
-      omega (arith, enough, items, worths, worth_more worth q.taken k, pays_each worth k (omega (arith, enough)), newline_left-le (not (last == 10)));
+      omega (arith, enough, items, worths, worth_more worth q.taken k, pays_each worth k (omega (arith, enough)), newline_left-le (not (last == code "\n")));
   tells = refl;
 }
 

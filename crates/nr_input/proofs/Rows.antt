@@ -1,4 +1,5 @@
 -- Items in a row, met one after another, as moves of the machine that reads.
+use Prim.Native.Char.{code}
 use Rattle.std.specs.Prelude.{not, map, slice_get, slice_index}
 use Rattle.std.specs.Option.{option_map}
 use Rattle.std.proofs.Common.{◌≡◌, ℕ, zero, suc, ◌+◌, ◌-◌, ◌<◌, ◌==◌, Bool, true, false, if◌then◌else◌, List, [], ◌∷◌, length, drop, get_or, Option, Some, refl, ap, ap₂, sym, ◌∙◌, subst, arith}
@@ -143,13 +144,13 @@ coming_at bs f taken inside = record { supply = record { bytes = bs; faults = f 
 
 -- after one byte more
 behind_one : (b n : ℕ) (c : Coming) → slice_index c.supply.bytes n ≡ b
-    → coming_at (drop (suc n) c.supply.bytes) (one_later (later n c.supply.faults)) (c.taken + n + 1) (not (b == 10)) ≡ behind_run (n + 1) c
+    → coming_at (drop (suc n) c.supply.bytes) (one_later (later n c.supply.faults)) (c.taken + n + 1) (not (b == code "\n")) ≡ behind_run (n + 1) c
 behind_one b n c is =
     let count : suc n ≡ n + 1 = omega arith in
     let taken : c.taken + n + 1 ≡ c.taken + suc n = omega arith in
-    ap (λ (f : Faults). coming_at (drop (suc n) c.supply.bytes) f (c.taken + n + 1) (not (b == 10))) (one_later-later n c.supply.faults)
-    ∙ ap (λ (t : ℕ). coming_at (drop (suc n) c.supply.bytes) (later (suc n) c.supply.faults) t (not (b == 10))) taken
-    ∙ ap (λ (x : ℕ). coming_at (drop (suc n) c.supply.bytes) (later (suc n) c.supply.faults) (c.taken + suc n) (not (x == 10))) (sym is)
+    ap (λ (f : Faults). coming_at (drop (suc n) c.supply.bytes) f (c.taken + n + 1) (not (b == code "\n"))) (one_later-later n c.supply.faults)
+    ∙ ap (λ (t : ℕ). coming_at (drop (suc n) c.supply.bytes) (later (suc n) c.supply.faults) t (not (b == code "\n"))) taken
+    ∙ ap (λ (x : ℕ). coming_at (drop (suc n) c.supply.bytes) (later (suc n) c.supply.faults) (c.taken + suc n) (not (x == code "\n"))) (sym is)
     ∙ ap (λ k. behind_run k c) count
 
 module _ {K : Type 0} (v : Stored K) (c : Coming) (r : Reader) (bs : List ℕ) (none : v.levels ≡ []) (next : ComeNext bs c) where
@@ -174,7 +175,7 @@ module _ {K : Type 0} (v : Stored K) (c : Coming) (r : Reader) (bs : List ℕ) (
 
   abbrev behind_byte : Bool → ℕ → ℕ → List ℕ → Reader → Half → Situation K
   behind_byte true n b ys q k =
-      situation v (coming_at ys (one_later (later n c.supply.faults)) (c.taken + n + 1) (not (b == 10))) (record q { half = k; burst = burst_past (c.taken + n) (c.taken + n + 1) q.burst })
+      situation v (coming_at ys (one_later (later n c.supply.faults)) (c.taken + n + 1) (not (b == code "\n"))) (record q { half = k; burst = burst_past (c.taken + n) (c.taken + n + 1) q.burst })
   behind_byte false n b ys q k = situation v (before n b ys) (record q { half = k })
 
   met_source : (n b : ℕ) (ys : List ℕ) (q : Reader) (k : Half) (e : Event) (takes : Bool)

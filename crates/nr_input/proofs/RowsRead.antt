@@ -1,4 +1,5 @@
 -- Many moves over a row, as those who read it say it.
+use Prim.Native.Char.{code}
 use Rattle.std.specs.Prelude.{not, map, slice_get, slice_index}
 use Rattle.std.proofs.Common.{◌≡◌, ℕ, zero, suc, ◌+◌, ◌-◌, ◌*◌, ◌<◌, ◌≤◌, ◌==◌, Bool, true, false, List, [], ◌∷◌, length, drop, Option, None, Some, refl, ap, sym, ◌∙◌, subst, arith, length-drop}
 use Rattle.std.proofs.lemmas.Bool.{eq-eqb, ne_eqb}
@@ -172,7 +173,7 @@ module _ {K : Type 0} (n : ℕ) (fs : List Front) (v : Stored K) (q : Reached) (
           less,
           worth_more worth q.taken k,
           pays_each worth k (omega (arith, enough)),
-          newline_left-le (not (last == 10)),
+          newline_left-le (not (last == code "\n")),
         );
     tells = met.tells;
   }
@@ -232,7 +233,7 @@ holds_behind : (k : ℕ) (bs : List ℕ) (c : Coming) (q : Reached) (supply supp
     → HoldsComing (behind_run (suc k) c) (passed_run (slice_index bs k) (suc k) q) supply'
 holds_behind k bs c q supply supply' less unseen next holds skips = record {
   taken = let taken = holds.taken in omega (arith, taken);
-  inside = ap (λ (b : ℕ). not (b == 10)) (ap (λ (ys : List ℕ). slice_index ys k) (sym next.bytes) ∙ get_or-take (length bs) c.supply.bytes k 0 less);
+  inside = ap (λ (b : ℕ). not (b == code "\n")) (ap (λ (ys : List ℕ). slice_index ys k) (sym next.bytes) ∙ get_or-take (length bs) c.supply.bytes k 0 less);
   stands = supply_behind q.ahead (suc k) c supply supply' unseen holds.stands skips;
 }
 

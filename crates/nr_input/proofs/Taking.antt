@@ -1,4 +1,5 @@
 -- An item that is looked at pays for what comes of it.
+use Prim.Native.Char.{code}
 use Rattle.std.specs.Prelude.{not}
 use Rattle.std.proofs.Common.{◌≡◌, ℕ, ◌+◌, ◌*◌, ◌≤◌, ◌==◌, Bool, true, false, List, [], ◌∷◌, Option, refl, ap, subst, arith}
 use Rattle.std.proofs.lemmas.Bool.{eq-eqb}
@@ -76,7 +77,7 @@ source_pays {K} (aheads.Byte b) v p q r k e stays empty paid =
       most = refl;
       pays = λ worth enough.
           let also : worth * (q.taken + 1) ≡ worth * (p.taken + 1) = ap (λ n. worth * (n + 1)) taken in
-          omega (arith, no_items v.levels empty, newline_left-le (not (b == 10)), expansions_worth-le r.most (burst_past q.taken (q.taken + 1) r.burst) v.limit);
+          omega (arith, no_items v.levels empty, newline_left-le (not (b == code "\n")), expansions_worth-le r.most (burst_past q.taken (q.taken + 1) r.burst) v.limit);
       lead = leads K e _ paid.tells;
     }
 source_pays {K} aheads.End v p q r k e stays empty paid = end_pays q.inside paid.pays (ap newline_left stays.inside)

@@ -1,4 +1,5 @@
 -- A closing brace after the bytes that are gathered of a text line, as moves of the machine that reads.
+use Prim.Native.Char.{code}
 use Rattle.std.specs.Prelude.{map, slice_get}
 use Rattle.std.specs.Option.{option_map}
 use Rattle.std.proofs.Common.{◌≡◌, ℕ, suc, ◌+◌, ◌≤◌, Bool, true, false, List, length, drop, Option, None, Some, refl, ap, sym, ◌∙◌, subst, arith}
@@ -51,16 +52,16 @@ module _ (items : ℕ) (fs : List Front) (rest : List Element) (row : fs ≡ dro
   -- so it is with the brace
   pub has_brace : begins_with_brace fs ≡ true → HasBrace items rest
   has_brace begins =
-      let both = and_parts (is_byte 92 (slice_get fs 0)) (is_byte 125 (slice_get fs 1)) begins in
+      let both = and_parts (is_byte (code "\\") (slice_get fs 0)) (is_byte (code "}") (slice_get fs 1)) begins in
       let here : items ≡ items + 0 = omega arith in
       let next : suc items ≡ items + 1 = omega arith in
-      (ap (slice_get rest) here ∙ byte_shown 0 92 both.0, ap (slice_get rest) next ∙ byte_shown 1 125 both.1)
+      (ap (slice_get rest) here ∙ byte_shown 0 (code "\\") both.0, ap (slice_get rest) next ∙ byte_shown 1 (code "}") both.1)
 
   pub brace_begins : HasBrace items rest → begins_with_brace fs ≡ true
   brace_begins brace =
       let here : items + 0 ≡ items = omega arith in
       let next : items + 1 ≡ suc items = omega arith in
-      and_from (is_byte 92 (slice_get fs 0)) (is_byte 125 (slice_get fs 1)) (shown_byte 0 92 (ap (slice_get rest) here ∙ brace.0)) (shown_byte 1 125 (ap (slice_get rest) next ∙ brace.1))
+      and_from (is_byte (code "\\") (slice_get fs 0)) (is_byte (code "}") (slice_get fs 1)) (shown_byte 0 (code "\\") (ap (slice_get rest) here ∙ brace.0)) (shown_byte 1 (code "}") (ap (slice_get rest) next ∙ brace.1))
 
 -- ---- what is half read is as before after it
 
@@ -69,19 +70,19 @@ abbrev with_escape : Escape → Half → Half
 with_escape e h = record h { reading = record h.reading { escape = e } }
 
 -- an escape begins
-begins : (h : Half) → IsInText h → MeetsByte 92 h (with_escape escapes.Begun h) events.Nothing true
+begins : (h : Half) → IsInText h → MeetsByte (code "\\") h (with_escape escapes.Begun h) events.Nothing true
 begins h is = rw (is.asks, is.mode, is.escape) refl
 
 -- and ends again
-ends : (h : Half) → IsInText h → MeetsByte 125 (with_escape escapes.Begun h) (with_escape escapes.Plain h) events.Nothing true
+ends : (h : Half) → IsInText h → MeetsByte (code "}") (with_escape escapes.Begun h) (with_escape escapes.Plain h) events.Nothing true
 ends h is = rw (is.asks, is.mode) refl
 
 -- both are met
-brace_met : (fs : List Front) (h : Half) → IsInText h → slice_get fs 0 ≡ Some (fronts.Byte 92) → slice_get fs 1 ≡ Some (fronts.Byte 125) → HasMet 2 fs h (quiet 2 h)
+brace_met : (fs : List Front) (h : Half) → IsInText h → slice_get fs 0 ≡ Some (fronts.Byte (code "\\")) → slice_get fs 1 ≡ Some (fronts.Byte (code "}")) → HasMet 2 fs h (quiet 2 h)
 brace_met fs h is first second =
-    let within = slice_get_within fs 1 (fronts.Byte 125) second in
-    let one = taken_more fs 0 0 0 0 92 h h (with_escape escapes.Begun h) (stays fs 0 0 h) (omega (arith, within)) is.due first (begins h is) in
-    let two = taken_more fs 0 0 1 1 125 h (with_escape escapes.Begun h) (with_escape escapes.Plain h) one (omega (arith, within)) is.due second (ends h is) in
+    let within = slice_get_within fs 1 (fronts.Byte (code "}")) second in
+    let one = taken_more fs 0 0 0 0 (code "\\") h h (with_escape escapes.Begun h) (stays fs 0 0 h) (omega (arith, within)) is.due first (begins h is) in
+    let two = taken_more fs 0 0 1 1 (code "}") h (with_escape escapes.Begun h) (with_escape escapes.Plain h) one (omega (arith, within)) is.due second (ends h is) in
     subst (λ (e : Escape). HasMet 2 fs h (quiet 2 (with_escape e h))) (sym is.escape) (two.met h (nothing_met fs h))
 
 -- ---- it is taken in two moves
@@ -89,7 +90,7 @@ brace_met fs h is first second =
 module _ {K : Type 0} (x : Stored K) (q : Reader) (text : is_in_text q.half ≡ true) (brace : HasBrace 0 (rest_of x.levels)) where
   -- the level has both
   brace_within : 2 ≤ length (rest_of x.levels)
-  brace_within = let within = slice_get_within (rest_of x.levels) 1 (elements.Byte 125) brace.1 in omega (arith, within)
+  brace_within = let within = slice_get_within (rest_of x.levels) 1 (elements.Byte (code "}")) brace.1 in omega (arith, within)
 
   met : HasMet 2 (map element_front (rest_of x.levels)) q.half (quiet 2 q.half)
   met =
@@ -140,5 +141,5 @@ module _ {K : Type 0} (bytes : List ℕ) (items moves : ℕ) (splices : List Spl
 
   -- the level has as many items
   pub behind_within : (closes : Bool) → (closes ≡ true → HasBrace items (rest_of v.levels)) → items + brace_items closes ≤ length (rest_of v.levels)
-  behind_within true brace = let within = slice_get_within (rest_of v.levels) (suc items) (elements.Byte 125) (brace refl).1 in omega (arith, within)
+  behind_within true brace = let within = slice_get_within (rest_of v.levels) (suc items) (elements.Byte (code "}")) (brace refl).1 in omega (arith, within)
   behind_within false brace = let within = gathered.there in omega (arith, within)

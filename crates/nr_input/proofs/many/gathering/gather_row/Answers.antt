@@ -1,3 +1,4 @@
+use Prim.Native.Char.{code}
 use Rattle.std.specs.Prelude.{map}
 use Rattle.std.proofs.Common.{◌∙◌, ◌≡◌, drop, take, refl, ap, sym, arith}
 use Rattle.std.proofs.lemmas.List.{length-take-le}
@@ -47,7 +48,7 @@ returns-clause-gathered g c =
       count = sym (length-take-le there.count chunk c.gather_escapes-rest.ensures.count);
       gathered = c.gather_escapes-rest.ensures.gathered;
       closes = λ yes. has_brace there.items fs rest row (sym c.meets_brace-gathered.ensures.brace ∙ yes);
-      ends = λ yes. byte_shown there.items fs rest row (brace_items c.meets_brace-gathered.result) 10 (sym c.has_newline-gathered.ensures ∙ yes);
+      ends = λ yes. byte_shown there.items fs rest row (brace_items c.meets_brace-gathered.result) (code "\n") (sym c.has_newline-gathered.ensures ∙ yes);
     }
 
 pub returns-clause-most : goal.returns-clause-most
@@ -59,5 +60,5 @@ returns-clause-most g c =
     record {
       stops = c.gather_escapes-rest.ensures.stops;
       closes = λ brace. c.meets_brace-gathered.ensures.brace ∙ brace_begins there.items fs rest row brace;
-      ends = λ shown. c.has_newline-gathered.ensures ∙ shown_byte there.items fs rest row (brace_items c.meets_brace-gathered.result) 10 shown;
+      ends = λ shown. c.has_newline-gathered.ensures ∙ shown_byte there.items fs rest row (brace_items c.meets_brace-gathered.result) (code "\n") shown;
     }

@@ -1,3 +1,4 @@
+use Prim.Native.Char.{code}
 use Rattle.std.proofs.Common.{◌≡◌, ◌+◌, take, arith}
 use Rattle.std.proofs.lemmas.List.{take_all}
 use Rattle.nr_input.specs.Many.Gathering.{brace_items}
@@ -16,7 +17,7 @@ returns-clause-next g c = λ goes ends all.
     let is = c.requires.gathered in
     let gathered = c.args.gathered.now in
     let within = behind_within c.args.bytes.now gathered.items gathered.moves gathered.splices c.args.store.now c.args.reader.now is.gathered c.requires.text gathered.closes is.closes in
-    rw (c.skip.ensures, c.brace-brace.ensures) (shown_behind (gathered.items + brace_items gathered.closes) 10 c.args.store.now within (is.ends ends))
+    rw (c.skip.ensures, c.brace-brace.ensures) (shown_behind (gathered.items + brace_items gathered.closes) (code "\n") c.args.store.now within (is.ends ends))
 
 pub returns-clause-leaves : goal.returns-clause-leaves
 returns-clause-leaves g c =
