@@ -1,4 +1,5 @@
 -- A byte that goes to the word of a text line and does not end it.
+use Prim.Native.Char.{code}
 use Rattle.std.proofs.Common.{◌≡◌, ℕ, ◌+◌, ◌-◌, ◌≤◌, Bool, true, false, Option, None, Some, refl, sym, subst, arith}
 use Rattle.std.specs.Prelude.{◌==◌, ◌&&◌, if◌then◌else◌, not, unwrap_or}
 use Rattle.std.proofs.lemmas.Bool.{cond_both, eqb-true}
@@ -25,33 +26,33 @@ not_true false is = refl
 
 -- which byte it is
 pub data CellByte (b : ℕ) (f : Formatter) : Type 0 where
-  Blank : b ≡ 32 → is_filling f ≡ false → CellByte b f
-  Tab : b ≡ 9 → reads_a_field f ≡ false → CellByte b f
-  Dash : b ≡ 45 → CellByte b f
+  Blank : b ≡ code " " → is_filling f ≡ false → CellByte b f
+  Tab : b ≡ code "\t" → reads_a_field f ≡ false → CellByte b f
+  Dash : b ≡ code "-" → CellByte b f
 
 pub cell_byte : (b : ℕ) (f : Formatter) → goes_to_word b f ≡ true → CellByte b f
-cell_byte b f goes = by_blank (b == 32) refl goes
+cell_byte b f goes = by_blank (b == code " ") refl goes
   where
-    by_tab : (x : Bool) → (b == 9) ≡ x → (if x then not (reads_a_field f) else b == 45) ≡ true → CellByte b f
-    by_tab true is other = Tab (eqb-true b 9 is) (not_true (reads_a_field f) other)
-    by_tab false is other = Dash (eqb-true b 45 other)
+    by_tab : (x : Bool) → (b == code "\t") ≡ x → (if x then not (reads_a_field f) else b == code "-") ≡ true → CellByte b f
+    by_tab true is other = Tab (eqb-true b (code "\t") is) (not_true (reads_a_field f) other)
+    by_tab false is other = Dash (eqb-true b (code "-") other)
 
-    by_blank : (x : Bool) → (b == 32) ≡ x → (if x then not (is_filling f) else (if b == 9 then not (reads_a_field f) else b == 45)) ≡ true → CellByte b f
-    by_blank true is other = Blank (eqb-true b 32 is) (not_true (is_filling f) other)
-    by_blank false is other = by_tab (b == 9) refl other
+    by_blank : (x : Bool) → (b == code " ") ≡ x → (if x then not (is_filling f) else (if b == code "\t" then not (reads_a_field f) else b == code "-")) ≡ true → CellByte b f
+    by_blank true is other = Blank (eqb-true b (code " ") is) (not_true (is_filling f) other)
+    by_blank false is other = by_tab (b == code "\t") refl other
 
 -- ---- it is heard
 
 module _ (f : Formatter) (mode : f.reader.half.reading.mode ≡ modes.Text) (begun : begins_line (collected f) ≡ false) where
-  heard_blank : is_filling f ≡ false → heard (events.Byte 32) f ≡ done (byte_put 32 f)
+  heard_blank : is_filling f ≡ false → heard (events.Byte (code " ")) f ≡ done (byte_put (code " ") f)
   unfolding text_byte blank
   heard_blank filling = rw (mode, filling, begun) refl
 
-  heard_tab : reads_a_field f ≡ false → heard (events.Byte 9) f ≡ done (byte_put 9 f)
+  heard_tab : reads_a_field f ≡ false → heard (events.Byte (code "\t")) f ≡ done (byte_put (code "\t") f)
   unfolding text_byte tab
   heard_tab field = rw (mode, field, begun) refl
 
-  heard_hyphen : heard (events.Byte 45) f ≡ done (byte_put 45 f)
+  heard_hyphen : heard (events.Byte (code "-")) f ≡ done (byte_put (code "-") f)
   unfolding text_byte
   heard_hyphen = rw (mode, begun) refl
 
@@ -82,16 +83,16 @@ begun-to_stop m aligned fill c (Some s) =
 pub begun-byte : (b : ℕ) (f : Formatter) → begins_line (byte_added b f) ≡ false
 begun-byte b f =
     let c = collected f in
-    cond_both (b == 32) _ _ (λ d. begins_line d ≡ false) (λ _. and_false (is_nil c.pieces))
-    (λ _. cond_both (b == 9) _ _ (λ d. begins_line d ≡ false)
-    (λ _. begun-to_stop (margins f) (not f.settings.filling.fill) (cell (unwrap_or f.settings.tabs.tab 32) f) c (first_beyond (column c) f.settings.tabs.stops))
+    cond_both (b == code " ") _ _ (λ d. begins_line d ≡ false) (λ _. and_false (is_nil c.pieces))
+    (λ _. cond_both (b == code "\t") _ _ (λ d. begins_line d ≡ false)
+    (λ _. begun-to_stop (margins f) (not f.settings.filling.fill) (cell (unwrap_or f.settings.tabs.tab (code " ")) f) c (first_beyond (column c) f.settings.tabs.stops))
     (λ _. and_false (is_nil c.pieces)))
 
 -- it may add 176
 pub weight-byte : (b : ℕ) (f : Formatter) → weight_of_line (byte_added b f) ≤ weight_of_line (collected f) + 176
 weight-byte b f =
     let c = collected f in
-    cond_both (b == 32) _ _ (λ d. weight_of_line d ≤ weight_of_line c + 176) (λ _. omega (arith, weight-add_blank (margins f) c))
-    (λ _. cond_both (b == 9) _ _ (λ d. weight_of_line d ≤ weight_of_line c + 176)
-    (λ _. weight-tabbed (margins f) f.settings.tabs.stops (not f.settings.filling.fill) (cell (unwrap_or f.settings.tabs.tab 32) f) c)
+    cond_both (b == code " ") _ _ (λ d. weight_of_line d ≤ weight_of_line c + 176) (λ _. omega (arith, weight-add_blank (margins f) c))
+    (λ _. cond_both (b == code "\t") _ _ (λ d. weight_of_line d ≤ weight_of_line c + 176)
+    (λ _. weight-tabbed (margins f) f.settings.tabs.stops (not f.settings.filling.fill) (cell (unwrap_or f.settings.tabs.tab (code " ")) f) c)
     (λ _. omega (arith, weight-add_cell (margins f) Hyphen (cell b f) c)))

@@ -1,4 +1,5 @@
 -- Empty lines that go down the open page: each is a break at which nothing is collected, and the space of one line.
+use Prim.Native.Char.{code}
 use Rattle.std.proofs.Common.{◌≡◌, ℕ, zero, suc, ◌+◌, ◌-◌, ◌*◌, ◌/◌, ◌<◌, ◌≤◌, ◌<ℤ◌, ℤ, pos, negsuc, Bool, true, false, ◌&&◌, List, [], ◌∷◌, Option, None, Some, min, refl, sym, ap, ◌∙◌, arith}
 use Rattle.std.specs.Prelude.{◌==◌, is_none, not, nat_lt, int_le, unsigned_abs, if◌then◌else◌, IfSome}
 use Rattle.std.proofs.lemmas.Bool.{and_parts, lt-ltb, ltb-true, not-true}
@@ -215,12 +216,12 @@ pub at_line : (h : Half) → is_at_line h ≡ true → IsAtLine h
 at_line h is =
     let all = and_parts (is_at_line_by h.reading.mode h.reading.escape h.reading.due h.asks) (ends_lines h.signs) is in
     let reading = at_line_by h.reading.mode h.reading.escape h.reading.due h.asks all.0 in
-    let signs = and_parts (not (h.signs.control == 10)) (not (h.signs.no_break == 10)) all.1 in
+    let signs = and_parts (not (h.signs.control == code "\n")) (not (h.signs.no_break == code "\n")) all.1 in
     record {
       mode = reading.0;
       escape = reading.1;
       due = reading.2;
       asks = reading.3;
-      control = not-true (h.signs.control == 10) signs.0;
-      no_break = not-true (h.signs.no_break == 10) signs.1;
+      control = not-true (h.signs.control == code "\n") signs.0;
+      no_break = not-true (h.signs.no_break == code "\n") signs.1;
     }

@@ -1,4 +1,5 @@
 -- The registers that are given are those that the reader takes for given.
+use Prim.Native.Char.{code}
 use Rattle.std.specs.Prelude.{◌≡◌, ℕ, List, [], ◌∷◌, Bool, true, false, is_some, ◌==◌, ◌||◌, ◌&&◌, if◌then◌else◌, None, Some, refl}
 use Rattle.nr_reading.specs.Ask.{is_given}
 use Rattle.nr_formatter.specs.BuiltIn.{given_named, dotted}
@@ -29,6 +30,6 @@ of_more false = refl
 -- a name has a built-in register where the reader says that it is given
 pub is_some-given_named : (name : List ℕ) → is_some (given_named name) ≡ is_given name
 is_some-given_named [] = refl
-is_some-given_named (a ∷ []) = of_one (a == 46) (a == 37)
-is_some-given_named (a ∷ b ∷ []) = of_two (dotted b) (a == 46) (a == 110 && b == 108) (a == 100) (b == 110) (b == 108)
-is_some-given_named (a ∷ b ∷ c ∷ more) = of_more (a == 46)
+is_some-given_named (a ∷ []) = of_one (a == code ".") (a == code "%")
+is_some-given_named (a ∷ b ∷ []) = of_two (dotted b) (a == code ".") (a == code "n" && b == code "l") (a == code "d") (b == code "n") (b == code "l")
+is_some-given_named (a ∷ b ∷ c ∷ more) = of_more (a == code ".")

@@ -1,4 +1,5 @@
 -- What is held of a row that goes into a diversion, once more cells came.
+use Prim.Native.Char.{code}
 use Rattle.std.proofs.Common.{◌≡◌, ℕ, ◌+◌, ◌-◌, ◌^◌, ◌<◌, min, ◌&&◌, Bool, true, false, if◌then◌else◌, List, [], ◌∷◌, ◌++◌, length, map, take, replicate, Result, Err, refl, ap, ap₂, sym, ◌∙◌, append_assoc, subst, arith, length-append, inl, inr}
 use Rattle.std.specs.List.{list_any}
 use Rattle.std.specs.Prelude.{◌==◌, get_or}
@@ -66,15 +67,15 @@ pub ends_one : (cell : Cell) → is_blank cell ≡ false → EndsRow (cell ∷ [
 ends_one cell some = record { plain_is = ap (λ (x : Cell). x ∷ []) (plain-some cell some); all_written = ends_behind [] cell some }
 
 -- a blank that is not underlined is a blank
-plain_under : (under : Bool) (byte : ℕ) → (under && (byte == 32)) ≡ false → plain (record { byte = byte; under = under }) ≡ record { byte = byte; under = under }
-plain_under under byte none = by_blank (byte == 32) refl none
+plain_under : (under : Bool) (byte : ℕ) → (under && (byte == code " ")) ≡ false → plain (record { byte = byte; under = under }) ≡ record { byte = byte; under = under }
+plain_under under byte none = by_blank (byte == code " ") refl none
   where
-    by_under : (u : Bool) → byte ≡ 32 → (u && true) ≡ false → ◌≡◌ {A = Cell} blank (record { byte = byte; under = u })
+    by_under : (u : Bool) → byte ≡ code " " → (u && true) ≡ false → ◌≡◌ {A = Cell} blank (record { byte = byte; under = u })
     by_under true is other = absurd (let wrong : true ≡ false = other in cc)
     by_under false is other = ap (λ n. record { byte = n; under = false }) (sym is)
 
-    by_blank : (b : Bool) → (byte == 32) ≡ b → (under && b) ≡ false → (if b then blank else record { byte = byte; under = under }) ≡ record { byte = byte; under = under }
-    by_blank true is other = by_under under (eqb-true byte 32 is) other
+    by_blank : (b : Bool) → (byte == code " ") ≡ b → (under && b) ≡ false → (if b then blank else record { byte = byte; under = under }) ≡ record { byte = byte; under = under }
+    by_blank true is other = by_under under (eqb-true byte (code " ") is) other
     by_blank false is other = refl
 
 plain_cells : (cells : List Cell) → list_any is_under_blank cells ≡ false → map plain cells ≡ cells
@@ -84,7 +85,7 @@ plain_cells (cell ∷ cells) none =
     ap₂ (λ (x : Cell) (xs : List Cell). x ∷ xs) (plain_under cell.under cell.byte parts.0) (plain_cells cells parts.1)
 
 -- the last of these cells is no blank, and no blank of them is underlined
-pub ends_row : (cells : List Cell) (d : Cell) → 0 < length cells → list_any is_under_blank cells ≡ false → ((get_or cells (length cells - 1) d).byte ≡ 32 → ⊥) → EndsRow cells
+pub ends_row : (cells : List Cell) (d : Cell) → 0 < length cells → list_any is_under_blank cells ≡ false → ((get_or cells (length cells - 1) d).byte ≡ code " " → ⊥) → EndsRow cells
 ends_row cells d some none last =
     let n = length cells - 1 in
     let cell = get_or cells n d in
@@ -92,7 +93,7 @@ ends_row cells d some none last =
     let all : cells ≡ take n cells ++ cell ∷ [] = sym (take_all (n + 1) cells (omega (arith, one))) ∙ take_more cells n d (omega (arith, some)) in
     record {
       plain_is = plain_cells cells none;
-      all_written = λ xs. subst (λ (zs : List Cell). trimmed (xs ++ zs) ≡ xs ++ zs) (sym all) (ends_behind (take n cells) cell (ne_eqb cell.byte 32 last) xs);
+      all_written = λ xs. subst (λ (zs : List Cell). trimmed (xs ++ zs) ≡ xs ++ zs) (sym all) (ends_behind (take n cells) cell (ne_eqb cell.byte (code " ") last) xs);
     }
 
 -- the row up to such cells

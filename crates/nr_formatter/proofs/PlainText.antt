@@ -1,4 +1,5 @@
 -- Runs of bytes that stand for themselves, byte by byte.
+use Prim.Native.Char.{code}
 use Rattle.std.proofs.Common.{◌≡◌, ℕ, ◌+◌, ◌*◌, ◌≤◌, Bool, true, false, ◌&&◌, List, [], ◌∷◌, length, Option, None, Some, refl, sym, ap, ◌∙◌, arith, length-append, ◌++◌}
 use Rattle.std.specs.Prelude.{◌==◌, if◌then◌else◌, nat_lt, not, is_none}
 use Rattle.std.proofs.lemmas.Bool.{ne_eqb, le-leb, lt-ltb}
@@ -29,17 +30,17 @@ use Rattle.nr_formatter.specs.Weights.{weight_of_line}
 use Rattle.nr_formatter.proofs.LineWeights.{weight-add_cell}
 
 plain_prints : (b : ℕ) → IsPlain b → prints b ≡ true
-plain_prints b plain = rw (le-leb 32 b (omega (arith, plain.0)), ne_eqb b 127 plain.3) refl
+plain_prints b plain = rw (le-leb (code " ") b (omega (arith, plain.0)), ne_eqb b 127 plain.3) refl
 
 -- a plain byte is heard as a cell of its word
 pub heard-plain : (b : ℕ) (f : Formatter) → IsPlain b → f.reader.half.reading.mode ≡ modes.Text → begins_line (collected f) ≡ false
     → heard (events.Byte b) f ≡ done (run_put (b ∷ []) f)
 unfolding text_byte
 heard-plain b f plain mode begun =
-    let blank : (b == 32) ≡ false = ne_eqb b 32 (λ e. omega (arith, plain.0, e)) in
-    let tab : (b == 9) ≡ false = ne_eqb b 9 (λ e. omega (arith, plain.0, e)) in
+    let blank : (b == code " ") ≡ false = ne_eqb b (code " ") (λ e. omega (arith, plain.0, e)) in
+    let tab : (b == code "\t") ≡ false = ne_eqb b (code "\t") (λ e. omega (arith, plain.0, e)) in
     let leader : (b == 1) ≡ false = ne_eqb b 1 (λ e. omega (arith, plain.0, e)) in
-    let hyphen : (b == 45) ≡ false = ne_eqb b 45 plain.1 in
+    let hyphen : (b == code "-") ≡ false = ne_eqb b (code "-") plain.1 in
     rw (mode, blank, tab, leader, plain_prints b plain, hyphen, begun) refl
 
 -- ---- the line
@@ -137,7 +138,7 @@ pub pointed-plain : (f : Formatter) → is_filling f ≡ true → f.store.words 
 unfolding pointed
 pointed-plain f filling words = rw (filling, words) (either_way (f.settings.hyphenation.on && may_hyphenate (collected f)) (collected f))
 
-blank_heard : (f : Formatter) → EndsWord f → f.reader.half.reading.mode ≡ modes.Text → heard (events.Byte 32) f ≡ gap_blank f
+blank_heard : (f : Formatter) → EndsWord f → f.reader.half.reading.mode ≡ modes.Text → heard (events.Byte (code " ")) f ≡ gap_blank f
 unfolding text_byte blank
 blank_heard f ends mode = rw (mode, ends.filling, ends.field) refl
 
@@ -153,7 +154,7 @@ gap_behind-is : (f : Formatter) → EndsWord f → gap_behind (collected f) f �
 gap_behind-is f ends = rw (ends.word, ends.breaks) refl
 
 -- the blank is heard as the word's end
-pub heard-gap : (f : Formatter) → EndsWord f → f.reader.half.reading.mode ≡ modes.Text → heard (events.Byte 32) f ≡ done (gap_flows f)
+pub heard-gap : (f : Formatter) → EndsWord f → f.reader.half.reading.mode ≡ modes.Text → heard (events.Byte (code " ")) f ≡ done (gap_flows f)
 heard-gap f ends mode =
     blank_heard f ends mode ∙ ap (λ c. gap_behind c f) (pointed-plain f ends.filling ends.words) ∙ gap_behind-is f ends
 

@@ -1,4 +1,5 @@
 -- What may still come falls with each move that hears text, in a text line and in a title.
+use Prim.Native.Char.{code}
 use Rattle.std.proofs.Common.{◌≡◌, ◌≤◌, ◌==◌, ℕ, ◌+◌, true, not, List, [], ◌∷◌, replicate, Option, None, Some, unwrap_or, refl, ap, arith}
 use Rattle.std.proofs.lemmas.Bool.{cond_both}
 use Rattle.nr_units.specs.declared.cell.Cell.{Cell}
@@ -71,24 +72,24 @@ falls-tab : (filler : Option ℕ) (f : Formatter) → 177 ≤ weight_of_event f.
 unfolding tab
 falls-tab filler f is =
     cond_both (reads_a_field f) _ _ (λ g. Falls 1 0 f g) (falls-field_ended f)
-    (λ _. falls-heard 176 f _ refl is refl refl refl refl (omega (arith, weight-tabbed (margins f) f.settings.tabs.stops (not f.settings.filling.fill) (cell (unwrap_or filler 32) f) (collected f))))
+    (λ _. falls-heard 176 f _ refl is refl refl refl refl (omega (arith, weight-tabbed (margins f) f.settings.tabs.stops (not f.settings.filling.fill) (cell (unwrap_or filler (code " ")) f) (collected f))))
 
 falls-text_byte : (b : ℕ) (f : Formatter) → 177 ≤ weight_of_event f.event → Falls 1 0 f (text_byte b f)
 unfolding text_byte
 falls-text_byte b f is =
-    cond_both (b == 32) _ _ (λ g. Falls 1 0 f g) (λ _. falls-blank f is)
-    (λ _. cond_both (b == 9) _ _ (λ g. Falls 1 0 f g) (λ _. falls-tab f.settings.tabs.tab f is)
+    cond_both (b == code " ") _ _ (λ g. Falls 1 0 f g) (λ _. falls-blank f is)
+    (λ _. cond_both (b == code "\t") _ _ (λ g. Falls 1 0 f g) (λ _. falls-tab f.settings.tabs.tab f is)
     (λ _. cond_both (b == 1) _ _ (λ g. Falls 1 0 f g) (λ _. falls-tab f.settings.tabs.leader f is)
     (λ _. cond_both (prints b) _ _ (λ g. Falls 1 0 f g) (λ _. falls-put (cell b f) (behind_of b) f is) (λ _. falls-done f (omega arith)))))
 
 -- ---- escapes
 
 falls-dash : (f : Formatter) → 366 ≤ weight_of_event f.event → Falls 1 0 f (dash f)
-falls-dash f is = falls-heard_for 190 175 f (dash f) refl is refl refl (omega arith) (omega arith) (omega (arith, weight-add_cell (margins f) Letter (cell 45 f) (collected f)))
+falls-dash f is = falls-heard_for 190 175 f (dash f) refl is refl refl (omega arith) (omega arith) (omega (arith, weight-add_cell (margins f) Letter (cell (code "-") f) (collected f)))
 
 falls-special_at : (s : Option Special) (f : Formatter) → 366 ≤ weight_of_event f.event → Falls 1 0 f (special_at s f)
 falls-special_at None f is = falls-done f (omega arith)
-falls-special_at (Some specials.Hyphen) f is = falls-put (cell 45 f) Hyphen f (omega arith)
+falls-special_at (Some specials.Hyphen) f is = falls-put (cell (code "-") f) Hyphen f (omega arith)
 falls-special_at (Some specials.Dash) f is = falls-dash f is
 falls-special_at (Some s) f is = falls-put (cell (byte_of s) f) Letter f (omega arith)
 
@@ -133,11 +134,11 @@ falls-text events.Lead f heard is = falls-blank_cell f (rw heard (omega arith))
 falls-text (events.Byte b) f heard is = falls-text_byte b f (rw heard (omega arith))
 falls-text (events.Cell x) f heard is = falls-put x Letter f (rw heard (omega arith))
 falls-text (events.Plain b) f heard is = falls-put (cell b f) Letter f (rw heard (omega arith))
-falls-text events.Fixed f heard is = falls-put (cell 32 f) Letter f (rw heard (omega arith))
+falls-text events.Fixed f heard is = falls-put (cell (code " ") f) Letter f (rw heard (omega arith))
 falls-text events.Tab f heard is = falls-tab f.settings.tabs.tab f (rw heard (omega arith))
 falls-text events.Leader f heard is = falls-tab f.settings.tabs.leader f (rw heard (omega arith))
 falls-text events.Special f heard is = falls-special f (rw heard (omega arith))
-falls-text events.Horizontal f heard is = falls-cells 32 (motion_cells f) f (rw heard (omega arith))
+falls-text events.Horizontal f heard is = falls-cells (code " ") (motion_cells f) f (rw heard (omega arith))
 falls-text events.Rule f heard is = falls-cells (rule_cells f).byte (rule_cells f).cells f (rw heard (omega arith))
 falls-text events.EndLine f heard is = falls-line_end afters.Line f (rw heard (omega arith))
 falls-text events.EndContinued f heard is = falls-line_end afters.Continued f (rw heard (omega arith))
@@ -163,10 +164,10 @@ falls-title_special (Some s) f is = falls-titled (cell (byte_of s) f ∷ []) f (
 pub falls-title : (e : Event) (f : Formatter) → f.event ≡ e → is_text e ≡ true → Falls 1 0 f (title e f)
 falls-title (events.Byte b) f heard is = falls-titled (title_byte b f) f (rw heard (omega arith))
 falls-title (events.Plain b) f heard is = falls-titled (printed b f) f (rw heard (omega arith))
-falls-title events.Fixed f heard is = falls-titled (cell 32 f ∷ []) f (rw heard (omega arith))
+falls-title events.Fixed f heard is = falls-titled (cell (code " ") f ∷ []) f (rw heard (omega arith))
 falls-title (events.Cell x) f heard is = falls-titled (x ∷ []) f (rw heard (omega arith))
 falls-title events.Special f heard is = falls-title_special (special_of (asked f)) f (rw heard (omega arith))
-falls-title events.Horizontal f heard is = falls-titled (replicate (motion_cells f) (cell 32 f)) f (rw heard (omega arith))
+falls-title events.Horizontal f heard is = falls-titled (replicate (motion_cells f) (cell (code " ") f)) f (rw heard (omega arith))
 falls-title events.Rule f heard is = falls-titled (replicate (rule_cells f).cells (cell (rule_cells f).byte f)) f (rw heard (omega arith))
 falls-title e f heard is = falls-done f (some_left e f heard is)
 
@@ -180,4 +181,4 @@ falls-title_dash_end f event task =
 pub falls-dash_end : (f : Formatter) → f.event ≡ events.Nothing → f.task ≡ tasks.Dash → Falls 1 0 f (dash_end f)
 falls-dash_end f event task =
     let agenda : weight_of_agenda f.event f.task f.step ≡ 190 = rw (event, task) refl in
-    falls-work 1 0 f (dash_end f) refl (omega arith) (omega (arith, weight-add_cell (margins f) Dash (cell 45 f) (collected f)))
+    falls-work 1 0 f (dash_end f) refl (omega arith) (omega (arith, weight-add_cell (margins f) Dash (cell (code "-") f) (collected f)))

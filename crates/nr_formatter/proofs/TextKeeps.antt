@@ -1,4 +1,5 @@
 -- Text and titles change the line and what is under way, but nothing that is stored or half read.
+use Prim.Native.Char.{code}
 use Rattle.std.proofs.Common.{◌≡◌, ◌≤◌, ◌==◌, ℕ, Bool, length, subst, sym, true, false, if◌then◌else◌, Option, None, Some, refl, ◌∙◌}
 use Rattle.std.specs.Prelude.{not}
 use Rattle.nr_fill.specs.Line.{afforded}
@@ -43,7 +44,7 @@ keeps-tab filler f = keeps-if (reads_a_field f) f _ _ (record { store = refl; re
 keeps-text_byte : (b : ℕ) (f : Formatter) → Keeps f (text_byte b f)
 unfolding text_byte
 keeps-text_byte b f =
-    keeps-if (b == 32) f _ _ (keeps-blank f) (keeps-if (b == 9) f _ _ (keeps-tab f.settings.tabs.tab f)
+    keeps-if (b == code " ") f _ _ (keeps-blank f) (keeps-if (b == code "\t") f _ _ (keeps-tab f.settings.tabs.tab f)
     (keeps-if (b == 1) f _ _ (keeps-tab f.settings.tabs.leader f) (keeps-if (prints b) f _ _ (record { store = refl; reader = refl; limit = refl }) (record { store = refl; reader = refl; limit = refl }))))
 
 keeps-special_at : (s : Option Special) (f : Formatter) → Keeps f (special_at s f)
