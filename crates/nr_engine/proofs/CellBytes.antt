@@ -1,4 +1,5 @@
 -- A byte of the source that goes to the word and does not end it: two moves.
+use Prim.Native.Char.{code}
 use Rattle.std.proofs.Common.{◌≡◌, ℕ, ◌+◌, ◌<◌, ◌≤◌, true, false, List, [], ◌∷◌, length, drop, Option, refl, sym, ap, ◌∙◌, subst, arith}
 use Rattle.std.specs.Prelude.{◌==◌, slice_index}
 use Rattle.std.specs.Option.{option_map}
@@ -29,12 +30,12 @@ use Rattle.nr_engine.proofs.PlainText.{IsTyping, behind_byte, behind_many, goes_
 use Rattle.nr_engine.proofs.TextAtHand.{first_left, holds_inside, puts_byte, puts_on, some_left}
 
 -- such a byte is no newline, and begins no escape
-pub no_newline : (b : ℕ) (f : Formatter) → CellByte b f → (b == 10) ≡ false
+pub no_newline : (b : ℕ) (f : Formatter) → CellByte b f → (b == code "\n") ≡ false
 no_newline b f (Blank is filling) = rw is refl
 no_newline b f (Tab is field) = rw is refl
 no_newline b f (Dash is) = rw is refl
 
-pub no_escape : (b : ℕ) (f : Formatter) → CellByte b f → (b == 92) ≡ false
+pub no_escape : (b : ℕ) (f : Formatter) → CellByte b f → (b == code "\\") ≡ false
 no_escape b f (Blank is filling) = rw is refl
 no_escape b f (Tab is field) = rw is refl
 no_escape b f (Dash is) = rw is refl
@@ -88,7 +89,7 @@ module _ (b : ℕ) (bs : List ℕ) (e : Shape) (supply supply' : Option Supply) 
   makes_byte = record { makes = made_byte; limit = refl; most = refl; limits = refl; spends = (let saves = saves_byte b e in omega (arith, saves)) }
 
 -- the same place, written in another way
-place_inside : (b : ℕ) (e : Shape) → (b == 10) ≡ false → gone_shape (byte_put b) e ≡ record e { formatter = byte_put b (unburst e.formatter); place = passed_run b 1 e.place }
+place_inside : (b : ℕ) (e : Shape) → (b == code "\n") ≡ false → gone_shape (byte_put b) e ≡ record e { formatter = byte_put b (unburst e.formatter); place = passed_run b 1 e.place }
 place_inside b e is = rw is refl
 
 -- ---- text at hand

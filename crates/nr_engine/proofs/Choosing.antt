@@ -1,4 +1,5 @@
 -- The options take effect.
+use Prim.Native.Char.{code}
 use Rattle.std.proofs.Common.{◌≡◌, ℕ, ◌+◌, ◌≤◌, ◌<◌, Bool, true, false, List, [], ◌∷◌, length, Option, None, Some, Ok, Err, refl, sym, ap, ◌∙◌, subst, arith}
 use Rattle.std.specs.Prelude.{ℤ, ◌==◌, if◌then◌else◌}
 use Rattle.std.specs.Prelude.{map, drop, get_or}
@@ -58,7 +59,7 @@ by_byte false false name n f = by_written (set_to n None (register_of (find name
 
 chosen : (c : Choice) (f : Formatter) → Chosen f (choose c f)
 chosen (First n) f = by_first (is_held n) n f
-chosen (Register name n) f = by_byte (name == 37) (name == 46) (name ∷ []) n f
+chosen (Register name n) f = by_byte (name == code "%") (name == code ".") (name ∷ []) n f
 
 weighs_so : (rs : List (Named Numbered)) (n : ℤ) (p : Reached) (f : Formatter) → weight p (set_so rs n f) ≡ weight p f
 unfolding weight owed steps_left

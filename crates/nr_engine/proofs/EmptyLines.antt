@@ -1,4 +1,5 @@
 -- Empty lines that are at hand: three moves for the one that was read, and four for each after it.
+use Prim.Native.Char.{code}
 use Rattle.std.proofs.Common.{◌≡◌, ℕ, zero, suc, ◌+◌, ◌*◌, ◌<◌, ◌≤◌, ◌^◌, true, false, List, [], ◌∷◌, length, take, drop, replicate, Option, None, refl, sym, ap, ◌∙◌, subst, arith}
 use Rattle.std.specs.Prelude.{◌==◌}
 use Rattle.std.proofs.lemmas.Bool.{eqb-false, lt-ltb, ne_eqb}
@@ -136,21 +137,21 @@ told_empty t = record t { formatter = record t.formatter { event = events.Empty 
 
 -- after it
 abbrev behind_newline : State → State
-behind_newline s = record s { coming = behind_last 10 1 s.coming; formatter = unburst s.formatter }
+behind_newline s = record s { coming = behind_last (code "\n") 1 s.coming; formatter = unburst s.formatter }
 
 -- after so many of them, which went down
 abbrev lines_down : ℕ → State → State
-lines_down n s = record s { coming = behind_last 10 n s.coming; formatter = unburst (gone_down n s.formatter) }
+lines_down n s = record s { coming = behind_last (code "\n") n s.coming; formatter = unburst (gone_down n s.formatter) }
 
 -- the same the other way round
-other : (n : ℕ) → (n == 10) ≡ false → (10 == n) ≡ false
-other n is = ne_eqb 10 n (λ e. eqb-false n 10 is (sym e))
+other : (n : ℕ) → (n == code "\n") ≡ false → (code "\n" == n) ≡ false
+other n is = ne_eqb (code "\n") n (λ e. eqb-false n (code "\n") is (sym e))
 
 -- it is an empty line, and nothing else changes
-meet-newline : (h : Half) → IsAtLine h → h.reading.continued ≡ false → meet (fronts.Byte 10) h ≡ record { half = h; event = events.Empty; takes = true }
+meet-newline : (h : Half) → IsAtLine h → h.reading.continued ≡ false → meet (fronts.Byte (code "\n")) h ≡ record { half = h; event = events.Empty; takes = true }
 meet-newline h is continued = rw (is.asks, is.mode, is.escape, other h.signs.control is.control, other h.signs.no_break is.no_break, continued) refl
 
-module _ (rest : List ℕ) (s : State) (chosen : s.chosen ≡ []) (start : IsStarting s.formatter) (within : IsWithin s) (next : s.coming.supply.bytes ≡ 10 ∷ rest)
+module _ (rest : List ℕ) (s : State) (chosen : s.chosen ≡ []) (start : IsStarting s.formatter) (within : IsWithin s) (next : s.coming.supply.bytes ≡ code "\n" ∷ rest)
     (gives : MayGive s.coming.supply.faults) (few : s.coming.taken + 1 < 2 ^ 40) where
   further : (s.coming.taken + 1 == s.coming.taken) ≡ false
   further = ne_eqb (s.coming.taken + 1) s.coming.taken (λ e. omega (arith, e))
@@ -162,7 +163,7 @@ module _ (rest : List ℕ) (s : State) (chosen : s.chosen ≡ []) (start : IsSta
   meets = rw (start.levels, next, meet-newline s.formatter.reader.half start.half start.continued) refl
 
   takes : met_at (record { half = s.formatter.reader.half; event = events.Empty; takes = true }) (situation_of s)
-      ≡ record { situation = situation s.formatter.store (behind_last 10 1 s.coming) (record s.formatter.reader { burst = 0 }); told = tells.Event events.Empty }
+      ≡ record { situation = situation s.formatter.store (behind_last (code "\n") 1 s.coming) (record s.formatter.reader { burst = 0 }); told = tells.Event events.Empty }
   takes = rw (start.levels, next, further, later-one s.coming.supply.faults) refl
 
   reads : step s ≡ told_empty (behind_newline s)
@@ -182,13 +183,13 @@ module _ (rest : List ℕ) (s : State) (chosen : s.chosen ≡ []) (start : IsSta
       let t = told_empty (behind_newline s) in
       glides-add s 1 3 t (lines_down 1 s) (glides-one s t goes reads) (glides_empty t chosen refl
       (room_kept 1 s.formatter (record s.formatter.reader { burst = 0 }) events.Empty room)
-      (within_kept s (behind_last 10 1 s.coming) t.formatter refl refl (omega arith) within))
+      (within_kept s (behind_last (code "\n") 1 s.coming) t.formatter refl refl (omega arith) within))
 
 -- ---- many newlines
 
 -- within the limits as before
 within_lines : (n : ℕ) (s : State) → IsWithin s → IsWithin (lines_down n s)
-within_lines n s within = within_kept s (behind_last 10 n s.coming) (lines_down n s).formatter refl refl (omega arith) within
+within_lines n s within = within_kept s (behind_last (code "\n") n s.coming) (lines_down n s).formatter refl refl (omega arith) within
 
 -- after a line that went down another begins
 starting_on : (f : Formatter) → IsAtLine f.reader.half → f.springs ≡ None → f.store.levels ≡ [] → IsStarting (gone_down 1 f)
@@ -229,7 +230,7 @@ abbrev coming_of : List ℕ → Faults → ℕ → Coming
 coming_of bs f n = record { supply = record { bytes = bs; faults = f }; taken = n; inside = false }
 
 -- after a newline and then others
-behind-more : (n : ℕ) (c : Coming) → behind_last 10 n (behind_last 10 1 c) ≡ behind_last 10 (suc n) c
+behind-more : (n : ℕ) (c : Coming) → behind_last (code "\n") n (behind_last (code "\n") 1 c) ≡ behind_last (code "\n") (suc n) c
 behind-more n c =
     let counts : c.taken + 1 + n ≡ c.taken + suc n = omega arith in
     ap (λ bs. coming_of bs (later n (later 1 c.supply.faults)) (c.taken + 1 + n)) (drop-more n c.supply.bytes)
@@ -241,11 +242,11 @@ lines-more : (n : ℕ) (s : State) → lines_down n (lines_down 1 s) ≡ lines_d
 lines-more n s =
     let counts : 1 + n ≡ suc n = omega arith in
     ap (λ c. record s { coming = c; formatter = unburst (gone_down n (gone_down 1 s.formatter)) }) (behind-more n s.coming)
-    ∙ ap (λ f. record s { coming = behind_last 10 (suc n) s.coming; formatter = unburst f }) (lines_gone 1 n s.formatter)
-    ∙ ap (λ k. record s { coming = behind_last 10 (suc n) s.coming; formatter = unburst (gone_down k s.formatter) }) counts
+    ∙ ap (λ f. record s { coming = behind_last (code "\n") (suc n) s.coming; formatter = unburst f }) (lines_gone 1 n s.formatter)
+    ∙ ap (λ k. record s { coming = behind_last (code "\n") (suc n) s.coming; formatter = unburst (gone_down k s.formatter) }) counts
 
 -- the others come next
-next_more : (bs rest : List ℕ) (c : Coming) → c.supply.bytes ≡ 10 ∷ rest → take (length bs) rest ≡ bs → ComeNext (10 ∷ bs) c → ComeNext bs (behind_last 10 1 c)
+next_more : (bs rest : List ℕ) (c : Coming) → c.supply.bytes ≡ code "\n" ∷ rest → take (length bs) rest ≡ bs → ComeNext (code "\n" ∷ bs) c → ComeNext bs (behind_last (code "\n") 1 c)
 next_more bs rest c is others next = record {
   bytes = rw is others;
   faults = may_give_more (length bs) c.supply.faults next.faults;
@@ -253,14 +254,14 @@ next_more bs rest c is others next = record {
 }
 
 -- four moves for each
-glides_lines : (n : ℕ) (s : State) → s.chosen ≡ [] → IsStarting s.formatter → IsWithin s → HasRoom (suc n) s.formatter → ComeNext (replicate (suc n) 10) s.coming
+glides_lines : (n : ℕ) (s : State) → s.chosen ≡ [] → IsStarting s.formatter → IsWithin s → HasRoom (suc n) s.formatter → ComeNext (replicate (suc n) (code "\n")) s.coming
     → Glides s (4 * suc n) (lines_down (suc n) s)
 glides_lines zero s chosen start within room next =
-    let front = front_more s.coming.supply.bytes 10 [] next.bytes in
+    let front = front_more s.coming.supply.bytes (code "\n") [] next.bytes in
     glides_newline front.0 s chosen start within front.1 (may_give_one 0 s.coming.supply.faults next.faults) (omega (arith, next.few)) room
 glides_lines (suc n) s chosen start within room next =
-    let bs : List ℕ = replicate (suc n) 10 in
-    let front = front_more s.coming.supply.bytes 10 bs next.bytes in
+    let bs : List ℕ = replicate (suc n) (code "\n") in
+    let front = front_more s.coming.supply.bytes (code "\n") bs next.bytes in
     let one = glides_newline front.0 s chosen start within front.1 (may_give_one (length bs) s.coming.supply.faults next.faults) (omega (arith, next.few)) (room_first (suc n) s.formatter (room_more (suc n) s.formatter room)) in
     let f = s.formatter in
     let more = glides_lines n (lines_down 1 s) chosen (starting_unburst (gone_down 1 f) (starting_on f start.half start.springs start.levels)) (within_lines 1 s within)
@@ -278,7 +279,7 @@ down_shape e = record e { formatter = gone_down 1 e.formatter }
 
 -- so many newlines were read, and their lines went down
 abbrev pub lines_shape : ℕ → Shape → Shape
-lines_shape n e = record e { formatter = unburst (gone_down n e.formatter); place = passed_run 10 n e.place }
+lines_shape n e = record e { formatter = unburst (gone_down n e.formatter); place = passed_run (code "\n") n e.place }
 
 -- the moves of the line that was read
 made_empty : (e : Shape) (supply : Option Supply) (held : Option (List ℕ)) (s : State) → Stands [] supply s e → e.formatter.event ≡ events.Empty → HasRoom 1 e.formatter
@@ -308,8 +309,8 @@ makes_empty e supply empty room =
 
 -- the moves of the others
 made_lines : (n : ℕ) (e : Shape) (supply supply' : Option Supply) (held : Option (List ℕ)) (s : State) → Stands [] supply s e → IsStarting e.formatter → HasRoom (suc n) e.formatter
-    → ((c : Coming) → HoldsComing c e.place supply → ComeNext (replicate (suc n) 10) c)
-    → ((c : Coming) → HoldsComing c e.place supply → HoldsComing (behind_last 10 (suc n) c) (passed_run 10 (suc n) e.place) supply')
+    → ((c : Coming) → HoldsComing c e.place supply → ComeNext (replicate (suc n) (code "\n")) c)
+    → ((c : Coming) → HoldsComing c e.place supply → HoldsComing (behind_last (code "\n") (suc n) c) (passed_run (code "\n") (suc n) e.place) supply')
     → Made [] (at e s) (4 * suc n) (lines_shape (suc n) e) supply' held held
 made_lines n e supply supply' held s h start room next behind =
     let t = lines_down (suc n) (at e s) in
@@ -338,8 +339,8 @@ spends_lines n e start room =
 
 -- newlines that come next
 makes_lines : (n : ℕ) (e : Shape) (supply supply' : Option Supply) → 0 < n → IsStarting e.formatter → HasRoom n e.formatter
-    → ((c : Coming) → HoldsComing c e.place supply → ComeNext (replicate n 10) c)
-    → ((c : Coming) → HoldsComing c e.place supply → HoldsComing (behind_last 10 n c) (passed_run 10 n e.place) supply')
+    → ((c : Coming) → HoldsComing c e.place supply → ComeNext (replicate n (code "\n")) c)
+    → ((c : Coming) → HoldsComing c e.place supply → HoldsComing (behind_last (code "\n") n c) (passed_run (code "\n") n e.place) supply')
     → Makes (4 * n) e (lines_shape n e) supply supply'
 makes_lines zero e supply supply' some start room next behind = absurd (omega (arith, some))
 makes_lines (suc n) e supply supply' some start room next behind = record {
@@ -352,7 +353,7 @@ makes_lines (suc n) e supply supply' some start room next behind = record {
 
 -- and the newlines after it
 pub makes_more : (n : ℕ) (e : Shape) (supply supply' : Option Supply) → e.formatter.event ≡ events.Empty → 0 < n → HasRoom (1 + n) e.formatter → NewlinesNext n e supply
-    → ((c : Coming) → HoldsComing c e.place supply → HoldsComing (behind_last 10 n c) (passed_run 10 n e.place) supply')
+    → ((c : Coming) → HoldsComing c e.place supply → HoldsComing (behind_last (code "\n") n c) (passed_run (code "\n") n e.place) supply')
     → Makes (3 + 4 * n) e (lines_shape n (down_shape e)) supply supply'
 makes_more n e supply supply' empty some room next behind =
     let f = e.formatter in

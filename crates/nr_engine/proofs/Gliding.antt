@@ -1,4 +1,5 @@
 -- Many moves, and a byte that was read and is heard: as a cell of the word, or as the blank after it.
+use Prim.Native.Char.{code}
 use Rattle.std.proofs.Common.{◌≡◌, ℕ, ◌+◌, Bool, true, false, [], ◌∷◌, Option, None, refl, sym, ap, ◌∙◌, subst, arith}
 use Rattle.std.specs.Prelude.{if◌then◌else◌}
 use Rattle.nr_fill.specs.Piece.{is_nil}
@@ -85,7 +86,7 @@ module _ (s t : State) (b : ℕ) (chosen : t.chosen ≡ []) (line : IsInLine t.f
   glides_plain plain within = glides_heard (made_of (run_put (b ∷ [])) t) (step_plain plain) within
 
 -- the same for a blank after a word
-module _ (s t : State) (chosen : t.chosen ≡ []) (line : IsInLine t.formatter) (goes : Goes s) (reads : step s ≡ told 32 t) (gap : IsGap t.formatter) (within : IsWithin t) where
+module _ (s t : State) (chosen : t.chosen ≡ []) (line : IsInLine t.formatter) (goes : Goes s) (reads : step s ≡ told (code " ") t) (gap : IsGap t.formatter) (within : IsWithin t) where
   -- what the blank makes of the line is within the limits
   pub within_gap : IsWithin (made_of gap_put t)
   within_gap = record {
@@ -99,15 +100,15 @@ module _ (s t : State) (chosen : t.chosen ≡ []) (line : IsInLine t.formatter) 
     page = within.page;
   }
 
-  step_gap : step (told 32 t) ≡ made_of gap_flows t
+  step_gap : step (told (code " ") t) ≡ made_of gap_flows t
   step_gap =
-      step-hear (told 32 t) (events.Byte 32) chosen line.springs refl
-      ∙ ap (λ f. record t { formatter = f }) (heard-gap (told 32 t).formatter (ends_word (told 32 t).formatter gap.plain) (text s t 32 chosen line goes reads).mode)
+      step-hear (told (code " ") t) (events.Byte (code " ")) chosen line.springs refl
+      ∙ ap (λ f. record t { formatter = f }) (heard-gap (told (code " ") t).formatter (ends_word (told (code " ") t).formatter gap.plain) (text s t (code " ") chosen line goes reads).mode)
       ∙ ap (λ e. record t { formatter = record (gap_flows t.formatter) { event = e } }) (sym line.event)
 
   -- the word ends
   pub glides_flows : Glides s 2 (made_of gap_flows t)
-  glides_flows = glides_heard s t 32 chosen line goes reads (made_of gap_flows t) step_gap within_flows
+  glides_flows = glides_heard s t (code " ") chosen line goes reads (made_of gap_flows t) step_gap within_flows
 
   step_flowed : fits_line (gapped (collected t.formatter)) ≡ true → step (made_of gap_flows t) ≡ made_of gap_put t
   step_flowed fits =

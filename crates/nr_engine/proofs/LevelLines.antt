@@ -1,4 +1,5 @@
 -- Words that come of levels, put and taken, with the newline that ends their line.
+use Prim.Native.Char.{code}
 use Rattle.std.proofs.Common.{◌≡◌, ℕ, ◌+◌, Bool, true, false, List, length, take, refl, sym, ap, ◌∙◌, subst, arith}
 use Rattle.nr_store.specs.Laws.{left_times-run}
 use Rattle.nr_store.specs.Store.{Stored, shown}
@@ -177,10 +178,10 @@ module _ (bs : List ℕ) (taken moves besides : ℕ) (goes : Bool) (f g : Format
 -- ---- the newline
 
 -- it is taken
-skipped : (f g : Formatter) (v : Stored Resume) → shown f.store.levels ≡ shows.Item (elements.Byte 10) → g.store ≡ f.store → v ≡ left_times 1 g.store → v ≡ run_left 1 f.store
-skipped f g v shows same is = is ∙ ap (left_times 1) same ∙ left_is f.store 10 shows
+skipped : (f g : Formatter) (v : Stored Resume) → shown f.store.levels ≡ shows.Item (elements.Byte (code "\n")) → g.store ≡ f.store → v ≡ left_times 1 g.store → v ≡ run_left 1 f.store
+skipped f g v shows same is = is ∙ ap (left_times 1) same ∙ left_is f.store (code "\n") shows
 
-module _ (f g : Formatter) (v : Stored Resume) (newline : IsNewline f) (shows : shown f.store.levels ≡ shows.Item (elements.Byte 10)) (taken : v ≡ left_times 1 g.store) where
+module _ (f g : Formatter) (v : Stored Resume) (newline : IsNewline f) (shows : shown f.store.levels ≡ shows.Item (elements.Byte (code "\n"))) (taken : v ≡ left_times 1 g.store) where
   -- the line that is collected is full
   pub text_ended : g ≡ newline_flows f → MakesInText 2 f (record g { store = v })
   text_ended is = λ e.

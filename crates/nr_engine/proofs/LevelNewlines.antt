@@ -1,4 +1,5 @@
 -- The newline that ends a text line, where it comes next of the newest level.
+use Prim.Native.Char.{code}
 use Rattle.std.proofs.Common.{◌≡◌, ℕ, ◌+◌, ◌*◌, ◌≤◌, true, false, List, [], ◌∷◌, length, Option, refl, sym, ap, ◌∙◌, subst, arith}
 use Rattle.std.proofs.lemmas.Bool.{eq-eqb}
 use Rattle.nr_units.specs.Source.{Supply}
@@ -41,7 +42,7 @@ use Rattle.nr_engine.proofs.PlainNewlines.{IsLineEnd, ended, ends_line, hears, l
 use Rattle.nr_engine.proofs.RereadCells.{items_fewer}
 
 module _ (e : Shape) (supply : Option Supply) (held : Option (List ℕ)) (s : State) (h : Stands [] supply s e) (newline : IsNewline e.formatter)
-    (l : Reading Resume) (ls : List (Level Resume)) (xs : List Element) (levels_is : e.formatter.store.levels ≡ Read (record l { rest = elements.Byte 10 ∷ xs }) ∷ ls) where
+    (l : Reading Resume) (ls : List (Level Resume)) (xs : List Element) (levels_is : e.formatter.store.levels ≡ Read (record l { rest = elements.Byte (code "\n") ∷ xs }) ∷ ls) where
   line : IsInLine e.formatter
   line = in_line e.formatter newline.line
 
@@ -50,7 +51,7 @@ module _ (e : Shape) (supply : Option Supply) (held : Option (List ℕ)) (s : St
 
   -- before the newline, and with it taken
   abbrev from : State
-  from = at_text l ls (elements.Byte 10 ∷ xs) (at e s)
+  from = at_text l ls (elements.Byte (code "\n") ∷ xs) (at e s)
 
   abbrev there : State
   there = at_text l ls xs (at e s)
@@ -64,7 +65,7 @@ module _ (e : Shape) (supply : Option Supply) (held : Option (List ℕ)) (s : St
 
   -- ---- it is read
 
-  looks : input_move (situation_of from) ≡ met_at (meet (fronts.Byte 10) e.formatter.reader.half) (situation_of from)
+  looks : input_move (situation_of from) ≡ met_at (meet (fronts.Byte (code "\n")) e.formatter.reader.half) (situation_of from)
   looks = rw half.due refl
 
   takes : met_at (record { half = text_ended e.formatter.reader.half; event = events.EndLine; takes = true }) (situation_of from)
@@ -99,7 +100,7 @@ module _ (e : Shape) (supply : Option Supply) (held : Option (List ℕ)) (s : St
       }
 
   within_there : IsWithin there
-  within_there = within_text l ls (elements.Byte 10 ∷ xs) xs [] (at e s) (subst IsWithin (sym start_is) h.within) h.within.formatter.line
+  within_there = within_text l ls (elements.Byte (code "\n") ∷ xs) xs [] (at e s) (subst IsWithin (sym start_is) h.within) h.within.formatter.line
 
   within_behind : IsWithin behind
   within_behind = record {
@@ -157,12 +158,12 @@ flows_spends e line few =
 -- ---- the engine
 
 -- the newline comes next of the newest level
-module _ (e : Shape) (supply : Option Supply) (newline : IsNewline e.formatter) (next : shown e.formatter.store.levels ≡ shows.Item (elements.Byte 10)) where
-  there_is : Showing e.formatter.store.levels (elements.Byte 10)
-  there_is = showing e.formatter.store.levels (elements.Byte 10) next
+module _ (e : Shape) (supply : Option Supply) (newline : IsNewline e.formatter) (next : shown e.formatter.store.levels ≡ shows.Item (elements.Byte (code "\n"))) where
+  there_is : Showing e.formatter.store.levels (elements.Byte (code "\n"))
+  there_is = showing e.formatter.store.levels (elements.Byte (code "\n")) next
 
   few : 1 ≤ length (rest_of e.formatter.store.levels)
-  few = one_left e.formatter.store.levels (elements.Byte 10) there_is
+  few = one_left e.formatter.store.levels (elements.Byte (code "\n")) there_is
 
   -- the line that is collected is full
   pub makes_ended : Makes 2 e (level_gone newline_flows e) supply supply

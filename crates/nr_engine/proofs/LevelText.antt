@@ -1,4 +1,5 @@
 -- A byte of the newest level in a text line that has begun: two moves a plain byte, and two or three a blank after a word.
+use Prim.Native.Char.{code}
 use Rattle.std.proofs.Common.{◌≡◌, ℕ, ◌+◌, ◌*◌, ◌≤◌, true, false, List, [], ◌∷◌, length, Option, refl, sym, ap, ◌∙◌, subst, arith}
 use Rattle.std.specs.Prelude.{◌==◌}
 use Rattle.std.proofs.lemmas.Bool.{eq-eqb}
@@ -59,12 +60,12 @@ module _ (l : Reading Resume) (ls : List (Level Resume)) (b : ℕ) (xs : List El
       ≡ record { situation = situation (at_text l ls xs s).formatter.store s.coming s.formatter.reader; told = tells.Event (events.Byte b) }
   takes = rw (eq-eqb s.coming.taken s.coming.taken refl) refl
 
-  read_is : IsInText s.formatter.reader.half → (b == 10) ≡ false → (b == 92) ≡ false → read (at_text l ls (elements.Byte b ∷ xs) s) ≡ told b (at_text l ls xs s)
+  read_is : IsInText s.formatter.reader.half → (b == code "\n") ≡ false → (b == code "\\") ≡ false → read (at_text l ls (elements.Byte b ∷ xs) s) ≡ told b (at_text l ls xs s)
   read_is half newline escape =
       ap (λ m. with_situation m (at_text l ls (elements.Byte b ∷ xs) s))
       (looks half ∙ ap (λ m. met_at m (situation_of (at_text l ls (elements.Byte b ∷ xs) s))) (meet-plain b s.formatter.reader.half half newline escape) ∙ takes)
 
-  pub reads_byte : s.chosen ≡ [] → IsInLine s.formatter → (b == 10) ≡ false → (b == 92) ≡ false → step (at_text l ls (elements.Byte b ∷ xs) s) ≡ told b (at_text l ls xs s)
+  pub reads_byte : s.chosen ≡ [] → IsInLine s.formatter → (b == code "\n") ≡ false → (b == code "\\") ≡ false → step (at_text l ls (elements.Byte b ∷ xs) s) ≡ told b (at_text l ls xs s)
   reads_byte chosen line newline escape =
       step-read (at_text l ls (elements.Byte b ∷ xs) s) chosen line.springs line.event line.task ∙ read_is (in_text s.formatter.reader.half line.half) newline escape
 
@@ -190,24 +191,24 @@ makes_plain b e supply is plain fits shows = record {
 -- ---- a blank after a word
 
 module _ (e : Shape) (supply : Option Supply) (held : Option (List ℕ)) (s : State) (h : Stands [] supply s e) (is : is_in_line e.formatter ≡ true) (gap : IsGap e.formatter)
-    (l : Reading Resume) (ls : List (Level Resume)) (xs : List Element) (levels_is : e.formatter.store.levels ≡ Read (record l { rest = elements.Byte 32 ∷ xs }) ∷ ls) where
-  start_is : at_text l ls (elements.Byte 32 ∷ xs) (at e s) ≡ at e s
+    (l : Reading Resume) (ls : List (Level Resume)) (xs : List Element) (levels_is : e.formatter.store.levels ≡ Read (record l { rest = elements.Byte (code " ") ∷ xs }) ∷ ls) where
+  start_is : at_text l ls (elements.Byte (code " ") ∷ xs) (at e s) ≡ at e s
   start_is = ap (λ v. record (at e s) { formatter = record e.formatter { store = record e.formatter.store { levels = v } } }) (sym levels_is)
 
   line_in : IsInLine (at_text l ls xs (at e s)).formatter
   line_in = line_there l ls xs (at e s) (in_line e.formatter is)
 
-  goes_blank : Goes (at_text l ls (elements.Byte 32 ∷ xs) (at e s))
-  goes_blank = goes_byte l ls 32 xs (at e s) h.chosen_is (in_line e.formatter is)
+  goes_blank : Goes (at_text l ls (elements.Byte (code " ") ∷ xs) (at e s))
+  goes_blank = goes_byte l ls (code " ") xs (at e s) h.chosen_is (in_line e.formatter is)
 
-  reads_blank : step (at_text l ls (elements.Byte 32 ∷ xs) (at e s)) ≡ told 32 (at_text l ls xs (at e s))
-  reads_blank = reads_byte l ls 32 xs (at e s) h.chosen_is (in_line e.formatter is) refl refl
+  reads_blank : step (at_text l ls (elements.Byte (code " ") ∷ xs) (at e s)) ≡ told (code " ") (at_text l ls xs (at e s))
+  reads_blank = reads_byte l ls (code " ") xs (at e s) h.chosen_is (in_line e.formatter is) refl refl
 
   gap_there : IsGap (at_text l ls xs (at e s)).formatter
   gap_there = record { plain = gap.plain; within = gap.within }
 
   within_there : IsWithin (at_text l ls xs (at e s))
-  within_there = within_text l ls (elements.Byte 32 ∷ xs) xs [] (at e s) (subst IsWithin (sym start_is) h.within) h.within.formatter.line
+  within_there = within_text l ls (elements.Byte (code " ") ∷ xs) xs [] (at e s) (subst IsWithin (sym start_is) h.within) h.within.formatter.line
 
   formatter_is : (g : Formatter → Formatter) → (level_gone g e).formatter ≡ g (at_text l ls xs (at e s)).formatter
   formatter_is g = ap (λ v. g (record e.formatter { store = record e.formatter.store { levels = v } })) (ap (levels_behind 1) levels_is)
@@ -215,16 +216,16 @@ module _ (e : Shape) (supply : Option Supply) (held : Option (List ℕ)) (s : St
   made_flows : Made [] (at e s) 2 (level_gone gap_flows e) supply held held
   made_flows =
       made_glided 2 e (gap_flows (at_text l ls xs (at e s)).formatter) (level_gone gap_flows e).formatter supply held s h (formatter_is gap_flows)
-      (within_flows (at_text l ls (elements.Byte 32 ∷ xs) (at e s)) (at_text l ls xs (at e s)) h.chosen_is line_in goes_blank reads_blank gap_there within_there)
+      (within_flows (at_text l ls (elements.Byte (code " ") ∷ xs) (at e s)) (at_text l ls xs (at e s)) h.chosen_is line_in goes_blank reads_blank gap_there within_there)
       (subst (λ t. Glides t 2 (made_of gap_flows (at_text l ls xs (at e s)))) start_is
-      (glides_flows (at_text l ls (elements.Byte 32 ∷ xs) (at e s)) (at_text l ls xs (at e s)) h.chosen_is line_in goes_blank reads_blank gap_there within_there))
+      (glides_flows (at_text l ls (elements.Byte (code " ") ∷ xs) (at e s)) (at_text l ls xs (at e s)) h.chosen_is line_in goes_blank reads_blank gap_there within_there))
 
   made_put : fits_line (gapped (collected e.formatter)) ≡ true → Made [] (at e s) 3 (level_gone gap_put e) supply held held
   made_put fits =
       made_glided 3 e (gap_put (at_text l ls xs (at e s)).formatter) (level_gone gap_put e).formatter supply held s h (formatter_is gap_put)
-      (within_gap (at_text l ls (elements.Byte 32 ∷ xs) (at e s)) (at_text l ls xs (at e s)) h.chosen_is line_in goes_blank reads_blank gap_there within_there)
+      (within_gap (at_text l ls (elements.Byte (code " ") ∷ xs) (at e s)) (at_text l ls xs (at e s)) h.chosen_is line_in goes_blank reads_blank gap_there within_there)
       (subst (λ t. Glides t 3 (made_of gap_put (at_text l ls xs (at e s)))) start_is
-      (glides_gap (at_text l ls (elements.Byte 32 ∷ xs) (at e s)) (at_text l ls xs (at e s)) h.chosen_is line_in goes_blank reads_blank gap_there within_there fits))
+      (glides_gap (at_text l ls (elements.Byte (code " ") ∷ xs) (at e s)) (at_text l ls xs (at e s)) h.chosen_is line_in goes_blank reads_blank gap_there within_there fits))
 
 gap_spends : (e : Shape) → 1 ≤ length (rest_of e.formatter.store.levels) → weight (level_gone gap_put e) + 3 + worth e * e.place.taken ≤ weight e + worth e * e.place.taken
 unfolding weights.weight weights.steps_left weights.owed
@@ -241,9 +242,9 @@ flows_spends e event task few =
     omega (arith, before, owed_before, behind, owed_behind, items_fewer 1 e.formatter.store.levels few, weight-gap (collected e.formatter))
 
 -- a blank that comes next of the newest level
-module _ (e : Shape) (supply : Option Supply) (is : is_in_line e.formatter ≡ true) (gap : IsGap e.formatter) (blank : shown e.formatter.store.levels ≡ shows.Item (elements.Byte 32)) where
-  there : Showing e.formatter.store.levels (elements.Byte 32)
-  there = showing e.formatter.store.levels (elements.Byte 32) blank
+module _ (e : Shape) (supply : Option Supply) (is : is_in_line e.formatter ≡ true) (gap : IsGap e.formatter) (blank : shown e.formatter.store.levels ≡ shows.Item (elements.Byte (code " "))) where
+  there : Showing e.formatter.store.levels (elements.Byte (code " "))
+  there = showing e.formatter.store.levels (elements.Byte (code " ")) blank
 
   pub makes_flows : Makes 2 e (level_gone gap_flows e) supply supply
   makes_flows =
@@ -253,7 +254,7 @@ module _ (e : Shape) (supply : Option Supply) (is : is_in_line e.formatter ≡ t
         limit = refl;
         most = refl;
         limits = refl;
-        spends = flows_spends e line.event line.task (one_left e.formatter.store.levels (elements.Byte 32) there);
+        spends = flows_spends e line.event line.task (one_left e.formatter.store.levels (elements.Byte (code " ")) there);
       }
 
   pub makes_gap : fits_line (gapped (collected e.formatter)) ≡ true → Makes 3 e (level_gone gap_put e) supply supply
@@ -262,5 +263,5 @@ module _ (e : Shape) (supply : Option Supply) (is : is_in_line e.formatter ≡ t
     limit = refl;
     most = refl;
     limits = refl;
-    spends = gap_spends e (one_left e.formatter.store.levels (elements.Byte 32) there);
+    spends = gap_spends e (one_left e.formatter.store.levels (elements.Byte (code " ")) there);
   }

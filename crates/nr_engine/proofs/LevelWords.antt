@@ -1,4 +1,5 @@
 -- Words that come of levels, in a text line that has begun.
+use Prim.Native.Char.{code}
 use Rattle.std.proofs.Common.{◌≡◌, ℕ, zero, suc, ◌+◌, ◌*◌, ◌<◌, ◌≤◌, true, List, [], ◌∷◌, length, take, drop, Option, refl, sym, ap, ◌∙◌, subst, arith, length-drop, length-take-le}
 use Rattle.std.specs.Prelude.{slice_index}
 use Rattle.std.proofs.Math.Seq.{drop-cons, take-add}
@@ -100,13 +101,13 @@ puts_plain b f line plain fits = λ v r is shows e. record {
 gap_further : (f : Formatter) (v : Stored Resume) (r : Reader) → IsFurther f v r → IsGap f → IsGap (with_read v r f)
 gap_further f v r is gap = subst IsGap (further_is f v r is) (record { plain = gap.plain; within = gap.within })
 
-puts_flows : (f : Formatter) → is_in_line f ≡ true → IsGap f → Puts 32 2 f (gap_flows f)
+puts_flows : (f : Formatter) → is_in_line f ≡ true → IsGap f → Puts (code " ") 2 f (gap_flows f)
 puts_flows f line gap = λ v r is shows e. record {
   makes = λ supply. makes_flows (record e { formatter = with_read v r f }) supply (line_further f v r is line) (gap_further f v r is gap) shows;
   place = refl;
 }
 
-puts_gap : (f : Formatter) → is_in_line f ≡ true → IsGap f → fits_line (gapped (collected f)) ≡ true → Puts 32 3 f (gap_put f)
+puts_gap : (f : Formatter) → is_in_line f ≡ true → IsGap f → fits_line (gapped (collected f)) ≡ true → Puts (code " ") 3 f (gap_put f)
 puts_gap f line gap fits = λ v r is shows e. record {
   makes = λ supply. makes_gap (record e { formatter = with_read v r f }) supply (line_further f v r is line) (gap_further f v r is gap) shows fits;
   place = refl;
@@ -200,18 +201,18 @@ module _ (t m b k : ℕ) (bs : List ℕ) (f g h : Formatter) (puts : PutsOfFlow 
       (subst (λ xs. Flows xs k g h) (sym (one_behind t b bs below is)) (flows_one b k g h line put))
 
 -- and after it comes a blank
-module _ (t m : ℕ) (bs : List ℕ) (f g : Formatter) (puts : PutsOfFlow bs t m f g) (line : is_in_line g ≡ true) (below : t < length bs) (blank : slice_index bs t ≡ 32) (gap : IsGap g) where
+module _ (t m : ℕ) (bs : List ℕ) (f g : Formatter) (puts : PutsOfFlow bs t m f g) (line : is_in_line g ≡ true) (below : t < length bs) (blank : slice_index bs t ≡ code " ") (gap : IsGap g) where
   -- the line is full then
   pub flow_flows : (h : Formatter) → h ≡ gap_flows g → PutsOfFlow bs (t + 1) (m + 2) f h
   flow_flows h is =
       subst (λ (x : Formatter). PutsOfFlow bs (t + 1) (m + 2) f x) (sym is)
-      (flow_one t m 32 2 bs f g (gap_flows g) puts line below blank (omega arith) refl refl gap.within (puts_flows g line gap))
+      (flow_one t m (code " ") 2 bs f g (gap_flows g) puts line below blank (omega arith) refl refl gap.within (puts_flows g line gap))
 
   -- or it is not
   pub flow_gap : (h : Formatter) → fits_line (gapped (collected g)) ≡ true → h ≡ gap_put g → PutsOfFlow bs (t + 1) (m + 3) f h
   flow_gap h fits is =
       subst (λ (x : Formatter). PutsOfFlow bs (t + 1) (m + 3) f x) (sym is)
-      (flow_one t m 32 3 bs f g (gap_put g) puts line below blank (omega arith) refl refl gap.within (puts_gap g line gap fits))
+      (flow_one t m (code " ") 3 bs f g (gap_put g) puts line below blank (omega arith) refl refl gap.within (puts_gap g line gap fits))
 
 -- and after it comes a byte that goes to the word and does not end it
 pub flow_byte : (t m b : ℕ) (bs : List ℕ) (f g h : Formatter) → PutsOfFlow bs t m f g → t < length bs → slice_index bs t ≡ b → IsCellByte b g → h ≡ byte_put b g

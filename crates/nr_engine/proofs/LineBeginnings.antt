@@ -1,4 +1,5 @@
 -- A text line from its beginning: the byte that begins its text is read as in the midst of it.
+use Prim.Native.Char.{code}
 use Rattle.std.proofs.Common.{◌≡◌, ℕ, zero, suc, ◌+◌, ◌<◌, ◌≤◌, ◌^◌, Bool, true, false, ◌&&◌, List, [], ◌∷◌, Option, refl, sym, ap, ◌∙◌, subst, arith}
 use Rattle.std.specs.Prelude.{◌==◌, is_none, not, slice_index}
 use Rattle.std.proofs.lemmas.Bool.{ne_eqb}
@@ -73,8 +74,8 @@ abbrev begun : State → State
 begun s = plainly text_begun s
 
 -- a plain byte is no blank
-blank : (b : ℕ) → IsPlain b → (b == 32) ≡ false
-blank b plain = ne_eqb b 32 (λ e. omega (arith, plain.0, e))
+blank : (b : ℕ) → IsPlain b → (b == code " ") ≡ false
+blank b plain = ne_eqb b (code " ") (λ e. omega (arith, plain.0, e))
 
 -- it is read at a line's beginning as in the midst of the line
 module _ (b : ℕ) (rest : List ℕ) (s : State) (typing : IsTyping (begun s)) (half : IsBeforeLine s.formatter.reader.half) (plain : IsPlain b)

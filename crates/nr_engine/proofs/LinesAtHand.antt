@@ -1,4 +1,5 @@
 -- Lines of the source that are at hand: the newline that ends one, and the text of the next after it.
+use Prim.Native.Char.{code}
 use Rattle.std.proofs.Common.{◌≡◌, ◌≢◌, ℕ, zero, suc, ◌+◌, ◌-◌, ◌*◌, ◌<◌, ◌≤◌, Bool, true, false, List, [], ◌∷◌, length, drop, Option, refl, sym, ap, ◌∙◌, subst, arith, length-drop}
 use Rattle.std.specs.Prelude.{◌&&◌, is_none, not, slice_index}
 use Rattle.std.specs.Option.{option_map}
@@ -38,7 +39,7 @@ use Rattle.nr_engine.proofs.Travelling.{makes-add, worth_same}
 
 -- ---- the newline
 
-module _ (bs : List ℕ) (f : Formatter) (some : 0 < length bs) (is_newline : slice_index bs 0 ≡ 10) (newline : IsNewline f) where
+module _ (bs : List ℕ) (f : Formatter) (some : 0 < length bs) (is_newline : slice_index bs 0 ≡ code "\n") (newline : IsNewline f) where
   -- it is so whatever was spliced before it
   newline_there : (e : Shape) → unburst e.formatter ≡ unburst f → IsNewline e.formatter
   newline_there e is =
@@ -47,36 +48,36 @@ module _ (bs : List ℕ) (f : Formatter) (some : 0 < length bs) (is_newline : sl
       record { line = there.line; plain = there.plain; trap = there.trap; underlined = there.underlined; within = there.within }
 
   -- it comes next
-  newline_next : (e : Shape) (supply : Option Supply) → HasNext bs e supply → (c : Coming) → HoldsComing c e.place supply → ComeNext (10 ∷ (first_of bs 10 some is_newline).0) c
-  newline_next e supply has c h = subst (λ xs. ComeNext xs c) (first_of bs 10 some is_newline).1 (has.next c h)
+  newline_next : (e : Shape) (supply : Option Supply) → HasNext bs e supply → (c : Coming) → HoldsComing c e.place supply → ComeNext (code "\n" ∷ (first_of bs (code "\n") some is_newline).0) c
+  newline_next e supply has c h = subst (λ xs. ComeNext xs c) (first_of bs (code "\n") some is_newline).1 (has.next c h)
 
   -- the line that is collected is full then
   puts_newline_flows : PutsText bs 1 2 f (newline_flows f)
   puts_newline_flows =
-      puts_byte 10 2 bs f newline_flows some is_newline (omega arith) (omega arith) refl refl
-      (λ e supply is has. makes_newline_flows (first_of bs 10 some is_newline).0 e supply (option_map (skipped 1) supply) has.levels (newline_there e is) (newline_next e supply has)
-      (λ c h. holds_behind 10 1 c e.place supply has.unseen h))
+      puts_byte (code "\n") 2 bs f newline_flows some is_newline (omega arith) (omega arith) refl refl
+      (λ e supply is has. makes_newline_flows (first_of bs (code "\n") some is_newline).0 e supply (option_map (skipped 1) supply) has.levels (newline_there e is) (newline_next e supply has)
+      (λ c h. holds_behind (code "\n") 1 c e.place supply has.unseen h))
       (λ e is. saves_newline_flows e (in_line e.formatter (newline_there e is).line))
 
   -- or it is not
   puts_newline : fits_line (line_gapped (collected f)) ≡ true → PutsText bs 1 5 f (newline_put f)
   puts_newline fits =
-      puts_byte 10 5 bs f newline_put some is_newline (omega arith) (omega arith) refl refl
-      (λ e supply is has. makes_newline (first_of bs 10 some is_newline).0 e supply (option_map (skipped 1) supply) has.levels (newline_there e is) (newline_next e supply has)
-      (λ c h. holds_behind 10 1 c e.place supply has.unseen h) (ap (λ (x : Formatter). fits_line (line_gapped (collected x))) is ∙ fits))
+      puts_byte (code "\n") 5 bs f newline_put some is_newline (omega arith) (omega arith) refl refl
+      (λ e supply is has. makes_newline (first_of bs (code "\n") some is_newline).0 e supply (option_map (skipped 1) supply) has.levels (newline_there e is) (newline_next e supply has)
+      (λ c h. holds_behind (code "\n") 1 c e.place supply has.unseen h) (ap (λ (x : Formatter). fits_line (line_gapped (collected x))) is ∙ fits))
       (λ e is. saves_newline e (in_line e.formatter (newline_there e is).line))
 
 -- after some text comes such a newline
-module _ (t m : ℕ) (bs : List ℕ) (f g : Formatter) (puts : PutsText bs t m f g) (below : t < length bs) (is_newline : slice_index bs t ≡ 10) (newline : IsNewline g) where
+module _ (t m : ℕ) (bs : List ℕ) (f g : Formatter) (puts : PutsText bs t m f g) (below : t < length bs) (is_newline : slice_index bs t ≡ code "\n") (newline : IsNewline g) where
   -- the line that is collected is full then
   pub line_flows : (h : Formatter) → h ≡ newline_flows g → PutsText bs (t + 1) (m + 2) f h
   line_flows h is =
-      puts_on t m 1 2 bs f g h puts (subst (λ (x : Formatter). PutsText (drop t bs) 1 2 g x) (sym is) (puts_newline_flows (drop t bs) g (some_left t bs below) (first_left t 10 bs is_newline) newline))
+      puts_on t m 1 2 bs f g h puts (subst (λ (x : Formatter). PutsText (drop t bs) 1 2 g x) (sym is) (puts_newline_flows (drop t bs) g (some_left t bs below) (first_left t (code "\n") bs is_newline) newline))
 
   -- or it is not
   pub line_ends : (h : Formatter) → fits_line (line_gapped (collected g)) ≡ true → h ≡ newline_put g → PutsText bs (t + 1) (m + 5) f h
   line_ends h fits is =
-      puts_on t m 1 5 bs f g h puts (subst (λ (x : Formatter). PutsText (drop t bs) 1 5 g x) (sym is) (puts_newline (drop t bs) g (some_left t bs below) (first_left t 10 bs is_newline) newline fits))
+      puts_on t m 1 5 bs f g h puts (subst (λ (x : Formatter). PutsText (drop t bs) 1 5 g x) (sym is) (puts_newline (drop t bs) g (some_left t bs below) (first_left t (code "\n") bs is_newline) newline fits))
 
 -- after it a line begins
 pub line_before : (g h : Formatter) → IsNewline g → h ≡ newline_put g → IsBeforeLine h.reader.half
@@ -195,7 +196,7 @@ words_behind t n bs f longest =
 
 -- after the words of a line comes no plain newline, and no font escape
 pub longest_line : (bs : List ℕ) (t m : ℕ) (f : Formatter) → t ≤ m → m ≤ 5 * t → LongestWords bs t f → (is_at_text f ≡ true → is_in_line f ≡ true)
-    → (t < length bs → slice_index bs t ≡ 10 → IsNewline f → ⊥) → (is_in_line f ≡ true → BeginsFont (is_in_text f.reader.half) (drop t bs) → ⊥) → Longest bs t m f
+    → (t < length bs → slice_index bs t ≡ code "\n" → IsNewline f → ⊥) → (is_in_line f ≡ true → BeginsFont (is_in_text f.reader.half) (drop t bs) → ⊥) → Longest bs t m f
 longest_line bs t m f least most words line newline font = record {
   least = least;
   most = most;
@@ -218,7 +219,7 @@ longest_out bs t m f least most out begins font = record {
 }
 
 -- where no `\` comes next no font escape does
-pub no_font : (t : ℕ) (bs : List ℕ) (in_line : Bool) → (t < length bs → slice_index bs t ≡ 92 → ⊥) → BeginsFont in_line (drop t bs) → ⊥
+pub no_font : (t : ℕ) (bs : List ℕ) (in_line : Bool) → (t < length bs → slice_index bs t ≡ code "\\" → ⊥) → BeginsFont in_line (drop t bs) → ⊥
 no_font t bs in_line other begins =
     let left : length (drop t bs) ≡ length bs - t = length-drop t bs in
     let some = begins.some in

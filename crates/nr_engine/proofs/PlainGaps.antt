@@ -1,4 +1,5 @@
 -- A blank after a word: two moves where the line is full, and else three.
+use Prim.Native.Char.{code}
 use Rattle.std.proofs.Common.{◌≡◌, ℕ, ◌+◌, ◌<◌, ◌^◌, true, false, List, [], ◌∷◌, length, Option, refl, ap, arith}
 use Rattle.std.specs.Prelude.{get_or}
 use Rattle.nr_units.specs.Source.{Supply, MayGive}
@@ -29,14 +30,14 @@ use Rattle.nr_engine.proofs.Working.{holds_of}
 -- the blank of the source is read
 record IsBlankNext (s : State) : Type 0 where
   goes : Goes s
-  reads : step s ≡ told 32 (behind_byte s)
+  reads : step s ≡ told (code " ") (behind_byte s)
   gap : IsGap (behind_byte s).formatter
   within : IsWithin (behind_byte s)
 
-blank_next : (rest : List ℕ) (s : State) → IsTyping s → IsGap s.formatter → s.coming.supply.bytes ≡ 32 ∷ rest → MayGive s.coming.supply.faults → s.coming.taken + 1 < 2 ^ 40 → IsBlankNext s
+blank_next : (rest : List ℕ) (s : State) → IsTyping s → IsGap s.formatter → s.coming.supply.bytes ≡ code " " ∷ rest → MayGive s.coming.supply.faults → s.coming.taken + 1 < 2 ^ 40 → IsBlankNext s
 blank_next rest s typing gap next gives few = record {
-  goes = goes_byte 32 rest s typing refl refl next gives few;
-  reads = reads_byte 32 rest s typing refl refl next gives few;
+  goes = goes_byte (code " ") rest s typing refl refl next gives few;
+  reads = reads_byte (code " ") rest s typing refl refl next gives few;
   gap = record { plain = gap.plain; within = gap.within };
   within = record {
     formatter = record { stored = typing.within.formatter.stored; depth = typing.within.formatter.depth; line = typing.within.formatter.line; burst = omega arith };
@@ -103,11 +104,11 @@ saves_put e =
     )
 
 module _ (bs : List ℕ) (e : Shape) (supply supply' : Option Supply) (is : is_in_line e.formatter ≡ true) (levels : e.formatter.store.levels ≡ []) (gap : IsGap e.formatter)
-    (next : (c : Coming) → HoldsComing c e.place supply → ComeNext (32 ∷ bs) c)
+    (next : (c : Coming) → HoldsComing c e.place supply → ComeNext (code " " ∷ bs) c)
     (behind : (c : Coming) → HoldsComing c e.place supply → HoldsComing (behind_many 1 c) (passed_many 1 e.place) supply') where
   blank : (s : State) → Stands [] supply s e → IsBlankNext (at e s)
   blank s h =
-      let x = first 32 bs s.coming (next s.coming h.coming) in
+      let x = first (code " ") bs s.coming (next s.coming h.coming) in
       blank_next x.rest (at e s) (stands_typing supply s e h is levels) gap x.is x.gives x.few
 
   line_in : (s : State) → Stands [] supply s e → IsInLine (behind_byte (at e s)).formatter

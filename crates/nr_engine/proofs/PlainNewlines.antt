@@ -1,4 +1,5 @@
 -- The newline that ends a text line of which lines are filled: two moves where the line that is collected is full, and else five.
+use Prim.Native.Char.{code}
 use Rattle.std.proofs.Common.{◌≡◌, ℕ, ◌+◌, ◌<◌, ◌≤◌, ◌^◌, true, false, List, [], ◌∷◌, None, Option, refl, sym, ap, ◌∙◌, subst, arith}
 use Rattle.std.specs.Prelude.{◌==◌}
 use Rattle.std.proofs.lemmas.Bool.{ne_eqb}
@@ -55,13 +56,13 @@ ended f = record f { reader = on_half text_ended f.reader }
 
 -- after the newline
 abbrev behind_line : State → State
-behind_line s = record s { coming = behind_last 10 1 s.coming; formatter = unburst (ended s.formatter) }
+behind_line s = record s { coming = behind_last (code "\n") 1 s.coming; formatter = unburst (ended s.formatter) }
 
 -- the end of the line is told
 abbrev pub told_line : State → State
 told_line t = record t { formatter = record t.formatter { event = events.EndLine } }
 
-module _ (rest : List ℕ) (s : State) (typing : IsTyping s) (next : s.coming.supply.bytes ≡ 10 ∷ rest) (gives : MayGive s.coming.supply.faults) (few : s.coming.taken + 1 < 2 ^ 40) where
+module _ (rest : List ℕ) (s : State) (typing : IsTyping s) (next : s.coming.supply.bytes ≡ code "\n" ∷ rest) (gives : MayGive s.coming.supply.faults) (few : s.coming.taken + 1 < 2 ^ 40) where
   half : IsInText s.formatter.reader.half
   half = in_text s.formatter.reader.half typing.line.half
 
@@ -79,7 +80,7 @@ module _ (rest : List ℕ) (s : State) (typing : IsTyping s) (next : s.coming.su
 
   -- it is taken and told
   takes : met_at (record { half = text_ended s.formatter.reader.half; event = events.EndLine; takes = true }) (situation_of s)
-      ≡ record { situation = situation s.formatter.store (behind_last 10 1 s.coming) (record s.formatter.reader { half = text_ended s.formatter.reader.half; burst = 0 }); told = tells.Event events.EndLine }
+      ≡ record { situation = situation s.formatter.store (behind_last (code "\n") 1 s.coming) (record s.formatter.reader { half = text_ended s.formatter.reader.half; burst = 0 }); told = tells.Event events.EndLine }
   takes = rw (typing.levels, next, further, later-one s.coming.supply.faults) refl
 
   -- this is the first move
@@ -169,10 +170,10 @@ module _ (t : State) (chosen : t.chosen ≡ []) (end : IsLineEnd t.formatter) (w
 
 -- the source after the newline, and this made of the formatter
 abbrev pub ended_shape : (Formatter → Formatter) → Shape → Shape
-ended_shape g e = record e { formatter = g (unburst e.formatter); place = passed_run 10 1 e.place }
+ended_shape g e = record e { formatter = g (unburst e.formatter); place = passed_run (code "\n") 1 e.place }
 
 abbrev ended_state : (Formatter → Formatter) → State → State
-ended_state g s = record s { coming = behind_last 10 1 s.coming; formatter = g (unburst s.formatter) }
+ended_state g s = record s { coming = behind_last (code "\n") 1 s.coming; formatter = g (unburst s.formatter) }
 
 -- the text has ended after such a newline
 line_end : (s : State) → IsTyping s → IsNewline s.formatter → IsLineEnd (behind_line s).formatter
@@ -197,16 +198,16 @@ within_behind s typing = record {
 
 -- where the moves lead
 leads_flows : (s : State) → s.formatter.event ≡ events.Nothing → plainly line_flows (behind_line s) ≡ ended_state newline_flows s
-leads_flows s event = ap (λ v. record s { coming = behind_last 10 1 s.coming; formatter = record (newline_flows (unburst s.formatter)) { event = v } }) (sym event)
+leads_flows s event = ap (λ v. record s { coming = behind_last (code "\n") 1 s.coming; formatter = record (newline_flows (unburst s.formatter)) { event = v } }) (sym event)
 
 leads_put : (s : State) → s.formatter.event ≡ events.Nothing → s.formatter.task ≡ tasks.Read → plainly (line_put tasks.Read) (behind_line s) ≡ ended_state newline_put s
 leads_put s event task =
-    ap (λ v. record s { coming = behind_last 10 1 s.coming; formatter = record (newline_put (unburst s.formatter)) { event = v; task = tasks.Read } }) (sym event)
-    ∙ ap (λ v. record s { coming = behind_last 10 1 s.coming; formatter = record (newline_put (unburst s.formatter)) { task = v } }) (sym task)
+    ap (λ v. record s { coming = behind_last (code "\n") 1 s.coming; formatter = record (newline_put (unburst s.formatter)) { event = v; task = tasks.Read } }) (sym event)
+    ∙ ap (λ v. record s { coming = behind_last (code "\n") 1 s.coming; formatter = record (newline_put (unburst s.formatter)) { task = v } }) (sym task)
 
 -- the moves lead where the engine stands
 made_line : (n : ℕ) (g : Formatter → Formatter) (e : Shape) (supply supply' : Option Supply) (held : Option (List ℕ)) (s : State) → Stands [] supply s e
-    → HoldsComing (behind_last 10 1 s.coming) (passed_run 10 1 e.place) supply' → IsWithin (ended_state g (at e s)) → Glides (at e s) n (ended_state g (at e s))
+    → HoldsComing (behind_last (code "\n") 1 s.coming) (passed_run (code "\n") 1 e.place) supply' → IsWithin (ended_state g (at e s)) → Glides (at e s) n (ended_state g (at e s))
     → Made [] (at e s) n (ended_shape g e) supply' held held
 made_line n g e supply supply' held s h behind within glides =
     let holds : Holds [] supply' (ended_state g (at e s)) (ended_shape g e) =
@@ -272,8 +273,8 @@ saves_newline e line =
     )
 
 module _ (bs : List ℕ) (e : Shape) (supply supply' : Option Supply) (levels : e.formatter.store.levels ≡ []) (newline : IsNewline e.formatter)
-    (next : (c : Coming) → HoldsComing c e.place supply → ComeNext (10 ∷ bs) c)
-    (behind : (c : Coming) → HoldsComing c e.place supply → HoldsComing (behind_last 10 1 c) (passed_run 10 1 e.place) supply') where
+    (next : (c : Coming) → HoldsComing c e.place supply → ComeNext (code "\n" ∷ bs) c)
+    (behind : (c : Coming) → HoldsComing c e.place supply → HoldsComing (behind_last (code "\n") 1 c) (passed_run (code "\n") 1 e.place) supply') where
   -- the newline comes next in a line that has begun
   typing : (s : State) → Stands [] supply s e → IsTyping (at e s)
   typing s h = stands_typing supply s e h newline.line levels
@@ -284,7 +285,7 @@ module _ (bs : List ℕ) (e : Shape) (supply supply' : Option Supply) (levels : 
   -- it is read
   glides_read : (s : State) → Stands [] supply s e → Glides (at e s) 1 (told_line (behind_line (at e s)))
   glides_read s h =
-      let x = first 10 bs s.coming (next s.coming h.coming) in
+      let x = first (code "\n") bs s.coming (next s.coming h.coming) in
       glides-one (at e s) (told_line (behind_line (at e s))) (goes_line x.rest (at e s) (typing s h) x.is x.gives x.few) (reads_line x.rest (at e s) (typing s h) x.is x.gives x.few)
 
   made_flows : (held : Option (List ℕ)) (s : State) → Stands [] supply s e → Made [] (at e s) 2 (ended_shape newline_flows e) supply' held held

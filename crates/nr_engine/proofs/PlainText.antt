@@ -1,4 +1,5 @@
 -- Runs of plain bytes in a text line that has begun: two moves a byte.
+use Prim.Native.Char.{code}
 use Rattle.std.proofs.Common.{◌≡◌, ℕ, zero, suc, ◌+◌, ◌*◌, ◌<◌, ◌≤◌, ◌^◌, true, false, List, [], ◌∷◌, length, take, drop, Option, refl, sym, ap, ◌∙◌, subst, arith, take-take, length-take-le}
 use Rattle.std.specs.Prelude.{◌==◌, All}
 use Rattle.std.proofs.lemmas.Bool.{ne_eqb}
@@ -103,13 +104,13 @@ pub record IsTyping (s : State) : Type 0 where
   pub levels : s.formatter.store.levels ≡ []
   pub within : IsWithin s
 
-pub newline : (b : ℕ) → IsPlain b → (b == 10) ≡ false
-newline b plain = ne_eqb b 10 (λ e. omega (arith, plain.0, e))
+pub newline : (b : ℕ) → IsPlain b → (b == code "\n") ≡ false
+newline b plain = ne_eqb b (code "\n") (λ e. omega (arith, plain.0, e))
 
-pub escape : (b : ℕ) → IsPlain b → (b == 92) ≡ false
-escape b plain = ne_eqb b 92 plain.2
+pub escape : (b : ℕ) → IsPlain b → (b == code "\\") ≡ false
+escape b plain = ne_eqb b (code "\\") plain.2
 
-module _ (b : ℕ) (rest : List ℕ) (s : State) (typing : IsTyping s) (line : (b == 10) ≡ false) (plain : (b == 92) ≡ false) (next : s.coming.supply.bytes ≡ b ∷ rest)
+module _ (b : ℕ) (rest : List ℕ) (s : State) (typing : IsTyping s) (line : (b == code "\n") ≡ false) (plain : (b == code "\\") ≡ false) (next : s.coming.supply.bytes ≡ b ∷ rest)
     (gives : MayGive s.coming.supply.faults) (few : s.coming.taken + 1 < 2 ^ 40) where
   half : IsInText s.formatter.reader.half
   half = in_text s.formatter.reader.half typing.line.half

@@ -1,4 +1,5 @@
 -- Text of the source that is at hand: runs of plain bytes, and the blanks after them.
+use Prim.Native.Char.{code}
 use Rattle.std.proofs.Common.{◌≡◌, ℕ, zero, suc, ◌+◌, ◌-◌, ◌*◌, ◌<◌, ◌≤◌, Bool, true, false, List, [], ◌∷◌, ◌++◌, length, take, drop, Option, None, Some, refl, sym, ap, ◌∙◌, subst, arith, length-drop, length-take-le}
 use Rattle.std.specs.Prelude.{◌==◌, is_none, not, slice_index}
 use Rattle.std.specs.Option.{option_map}
@@ -62,7 +63,7 @@ before last n k p (Some q) unseen h =
     let stands : Some (skipped n q) ≡ Some k.supply = h.stands in
     let supply : k.supply ≡ skipped n q = cc in
     let taken : k.taken ≡ p.taken + n = sym h.taken in
-    let inside : k.inside ≡ not (last == 10) = sym h.inside in
+    let inside : k.inside ≡ not (last == code "\n") = sym h.inside in
     record {
       coming = coming;
       holds = record { taken = refl; inside = refl; stands = supply_held coming p.ahead unseen };
@@ -99,7 +100,7 @@ passed_on t n bs p some =
     ap (λ k. record (passed_run (slice_index (drop t bs) (n - 1)) n p) { taken = k }) counts ∙ ap (λ b. passed_run b (t + n) p) last
 
 -- a byte that is no newline is the last
-pub passed_inside : (b n : ℕ) (p : Reached) → (b == 10) ≡ false → passed_many n p ≡ passed_run b n p
+pub passed_inside : (b n : ℕ) (p : Reached) → (b == code "\n") ≡ false → passed_many n p ≡ passed_run b n p
 passed_inside b n p is = rw is refl
 
 pub holds_inside : (n : ℕ) (c : Coming) (p : Reached) (supply : Option Supply) → is_unseen p.ahead ≡ true → HoldsComing c p supply
@@ -214,10 +215,10 @@ puts_on (suc t) m (suc n) k bs f g h a b =
     }
 
 -- the last byte of a run is no newline
-last_inside : (n : ℕ) (bs : List ℕ) → n ≤ length bs → ArePlain (take n bs) → 0 < n → (slice_index bs (n - 1) == 10) ≡ false
+last_inside : (n : ℕ) (bs : List ℕ) → n ≤ length bs → ArePlain (take n bs) → 0 < n → (slice_index bs (n - 1) == code "\n") ≡ false
 last_inside n bs front plain some =
     let below : n - 1 < n = omega (arith, some) in
-    subst (λ b. (b == 10) ≡ false) (get_or-take n bs (n - 1) 0 below) (newline (slice_index (take n bs) (n - 1)) (plain (n - 1) 0 (omega (arith, below, length-take-le n bs front))))
+    subst (λ b. (b == code "\n") ≡ false) (get_or-take n bs (n - 1) 0 below) (newline (slice_index (take n bs) (n - 1)) (plain (n - 1) 0 (omega (arith, below, length-take-le n bs front))))
 
 -- a run of plain bytes
 puts_run : (n : ℕ) (bs : List ℕ) (f : Formatter) → is_in_line f ≡ true → n ≤ length bs → ArePlain (take n bs)
@@ -268,7 +269,7 @@ puts_byte b m bs f put some first least most same store makes saves =
     }
 
 -- a blank that does nothing but end its word
-module _ (bs : List ℕ) (f : Formatter) (line : is_in_line f ≡ true) (some : 0 < length bs) (blank : slice_index bs 0 ≡ 32) (gap : IsGap f) where
+module _ (bs : List ℕ) (f : Formatter) (line : is_in_line f ≡ true) (some : 0 < length bs) (blank : slice_index bs 0 ≡ code " ") (gap : IsGap f) where
   -- it is so whatever was spliced before it
   gap_there : (e : Shape) → unburst e.formatter ≡ unburst f → IsGap e.formatter
   gap_there e is =
@@ -277,22 +278,22 @@ module _ (bs : List ℕ) (f : Formatter) (line : is_in_line f ≡ true) (some : 
       record { plain = there.plain; within = there.within }
 
   -- it comes next
-  blank_next : (e : Shape) (supply : Option Supply) → HasNext bs e supply → (c : Coming) → HoldsComing c e.place supply → ComeNext (32 ∷ (first_of bs 32 some blank).0) c
-  blank_next e supply has c h = subst (λ xs. ComeNext xs c) (first_of bs 32 some blank).1 (has.next c h)
+  blank_next : (e : Shape) (supply : Option Supply) → HasNext bs e supply → (c : Coming) → HoldsComing c e.place supply → ComeNext (code " " ∷ (first_of bs (code " ") some blank).0) c
+  blank_next e supply has c h = subst (λ xs. ComeNext xs c) (first_of bs (code " ") some blank).1 (has.next c h)
 
   -- the line is full then
   puts_flows : PutsText bs 1 2 f (gap_flows f)
   puts_flows =
-      puts_byte 32 2 bs f gap_flows some blank (omega arith) (omega arith) refl refl
-      (λ e supply is has. makes_flows (first_of bs 32 some blank).0 e supply (option_map (skipped 1) supply) (ap is_in_line is ∙ line) has.levels (gap_there e is) (blank_next e supply has)
+      puts_byte (code " ") 2 bs f gap_flows some blank (omega arith) (omega arith) refl refl
+      (λ e supply is has. makes_flows (first_of bs (code " ") some blank).0 e supply (option_map (skipped 1) supply) (ap is_in_line is ∙ line) has.levels (gap_there e is) (blank_next e supply has)
       (λ c h. holds_inside 1 c e.place supply has.unseen h))
       (λ e is. let there = in_line e.formatter (ap is_in_line is ∙ line) in saves_flows e there.event there.task)
 
   -- or it is not
   puts_gap : fits_line (gapped (collected f)) ≡ true → PutsText bs 1 3 f (gap_put f)
   puts_gap fits =
-      puts_byte 32 3 bs f gap_put some blank (omega arith) (omega arith) refl refl
-      (λ e supply is has. makes_put (first_of bs 32 some blank).0 e supply (option_map (skipped 1) supply) (ap is_in_line is ∙ line) has.levels (gap_there e is) (blank_next e supply has)
+      puts_byte (code " ") 3 bs f gap_put some blank (omega arith) (omega arith) refl refl
+      (λ e supply is has. makes_put (first_of bs (code " ") some blank).0 e supply (option_map (skipped 1) supply) (ap is_in_line is ∙ line) has.levels (gap_there e is) (blank_next e supply has)
       (λ c h. holds_inside 1 c e.place supply has.unseen h) (ap (λ (x : Formatter). fits_line (gapped (collected x))) is ∙ fits))
       (λ e is. saves_put e)
 
@@ -331,17 +332,17 @@ pub turn_line : (bs : List ℕ) (g h : Formatter) → is_in_line g ≡ true → 
 turn_line bs g h line is = ap is_in_line is ∙ line_run bs g line
 
 -- and after it comes a blank
-module _ (t m : ℕ) (bs : List ℕ) (f g : Formatter) (puts : PutsText bs t m f g) (line : is_in_line g ≡ true) (below : t < length bs) (blank : slice_index bs t ≡ 32)
+module _ (t m : ℕ) (bs : List ℕ) (f g : Formatter) (puts : PutsText bs t m f g) (line : is_in_line g ≡ true) (below : t < length bs) (blank : slice_index bs t ≡ code " ")
     (gap : IsGap g) where
   -- the line is full then
   pub turn_flows : (h : Formatter) → h ≡ gap_flows g → PutsText bs (t + 1) (m + 2) f h
   turn_flows h is =
-      puts_on t m 1 2 bs f g h puts (subst (λ (x : Formatter). PutsText (drop t bs) 1 2 g x) (sym is) (puts_flows (drop t bs) g line (some_left t bs below) (first_left t 32 bs blank) gap))
+      puts_on t m 1 2 bs f g h puts (subst (λ (x : Formatter). PutsText (drop t bs) 1 2 g x) (sym is) (puts_flows (drop t bs) g line (some_left t bs below) (first_left t (code " ") bs blank) gap))
 
   -- or it is not
   pub turn_gap : (h : Formatter) → fits_line (gapped (collected g)) ≡ true → h ≡ gap_put g → PutsText bs (t + 1) (m + 3) f h
   turn_gap h fits is =
-      puts_on t m 1 3 bs f g h puts (subst (λ (x : Formatter). PutsText (drop t bs) 1 3 g x) (sym is) (puts_gap (drop t bs) g line (some_left t bs below) (first_left t 32 bs blank) gap fits))
+      puts_on t m 1 3 bs f g h puts (subst (λ (x : Formatter). PutsText (drop t bs) 1 3 g x) (sym is) (puts_gap (drop t bs) g line (some_left t bs below) (first_left t (code " ") bs blank) gap fits))
 
   -- and the next item is read in a line that has begun
   pub turn_on : (h : Formatter) → h ≡ gap_put g → is_in_line h ≡ true

@@ -1,3 +1,4 @@
+use Prim.Native.Char.{code}
 use Rattle.std.proofs.Common.{◌≡◌, ◌+◌, ◌*◌, ◌<◌, ◌≤◌, refl, ap, ◌∙◌, subst, sym, arith}
 use Rattle.nr_input.specs.Many.AtHand.{behind_last}
 use Rattle.nr_input.specs.Place.{HoldsComing}
@@ -38,7 +39,7 @@ returns-clause-reads g c =
       makes = rw (taken.reader, taken.place, is)
           (subst (λ k. Makes k e (lines_shape n (down_shape e)) old new) moves
           (makes_more n e old new c.requires.empty some (room_below (1 + n) f (omega arith) fits) (c.newlines_next-count.ensures.next.next some)
-          (λ k h. subst (λ q. HoldsComing (behind_last 10 n k) q new) taken.place (taken.coming k h))));
+          (λ k h. subst (λ q. HoldsComing (behind_last (code "\n") n k) q new) taken.place (taken.coming k h))));
       failures = taken.failures;
       unfailed = λ u. rw taken.place refl;
     }

@@ -1,3 +1,4 @@
+use Prim.Native.Char.{code}
 use Rattle.std.proofs.Common.{◌≡◌, ◌+◌, ◌*◌, ◌<◌, true, length, take, refl, sym, ap, ◌∙◌, subst, arith}
 use Rattle.std.specs.Prelude.{slice_index}
 use Rattle.nr_formatter.specs.Many.Runs.{is_in_line, manner_of, run_put}
@@ -36,8 +37,8 @@ line c = turn_line (take c.put_word-word.result.count (rest_of c.loop-formatter.
 
 -- a blank stands after it
 blank : (c : After-put_word-word) → c.put_word-word.result.count < length (rest_of c.loop-formatter.taken c.args.bytes.now)
-    → slice_index (rest_of c.loop-formatter.taken c.args.bytes.now) c.put_word-word.result.count ≡ 32
-    → (c.loop-formatter.taken + c.put_word-word.result.count < length c.args.bytes.now) × (slice_index c.args.bytes.now (c.loop-formatter.taken + c.put_word-word.result.count) ≡ 32)
+    → slice_index (rest_of c.loop-formatter.taken c.args.bytes.now) c.put_word-word.result.count ≡ code " "
+    → (c.loop-formatter.taken + c.put_word-word.result.count < length c.args.bytes.now) × (slice_index c.args.bytes.now (c.loop-formatter.taken + c.put_word-word.result.count) ≡ code " ")
 blank c below is =
     let t = c.loop-formatter.taken in
     let bs = c.args.bytes.now in

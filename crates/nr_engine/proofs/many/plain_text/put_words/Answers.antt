@@ -1,3 +1,4 @@
+use Prim.Native.Char.{code}
 use Rattle.std.proofs.Common.{◌≡◌, ℕ, ◌+◌, ◌<◌, List, length, drop, refl, sym, ap, ◌∙◌, subst, arith}
 use Rattle.std.specs.Prelude.{slice_index}
 use Rattle.std.proofs.lemmas.List.{take_rest}
@@ -76,7 +77,7 @@ returns-in-Flows-clause-puts c =
     let h = (goal.at.returns-in-Flows-clause-puts c).After-put_line_words-line in
     let flows = c.in-Flows.ensures.is in
     let below : taken h < length (all h) = omega (arith, (puts h).front, c.if-taken-bytes.false) in
-    let newline : slice_index (all h) (taken h) ≡ 10 = omega (arith, c.if-bytes-taken-ne10.false) in
+    let newline : slice_index (all h) (taken h) ≡ code "\n" = omega (arith, c.if-bytes-taken-ne10.false) in
     line_flows (taken h) (moves h) (all h) c.args.formatter.now (behind h) (puts h) below newline flows.0 c.put_newline.new.self flows.1
 
 pub returns-in-Flows-clause-longest : goal.returns-in-Flows-clause-longest
@@ -135,7 +136,7 @@ returns-then-font-eq0-2-clause-puts c =
     let h = (goal.at.returns-then-font-eq0-2-clause-puts c).After-put_line_words-line in
     let reads = c.in-Reads.ensures.is in
     let below : taken h < length (all h) = omega (arith, (puts h).front, c.if-taken-bytes.false) in
-    let newline : slice_index (all h) (taken h) ≡ 10 = omega (arith, c.if-bytes-taken-ne10.false) in
+    let newline : slice_index (all h) (taken h) ≡ code "\n" = omega (arith, c.if-bytes-taken-ne10.false) in
     let none : c.begin_font-font.result ≡ 0 = omega (arith, c.if-font-eq0-2.true) in
     subst (λ (x : Formatter). PutsText (all h) (taken h + 1) (moves h + 5) c.args.formatter.now x) (sym (c.begin_font-font.ensures.puts.left none ∙ c.if-not-begin_text.ensures.1))
     (line_ends (taken h) (moves h) (all h) c.args.formatter.now (behind h) (puts h) below newline reads.0 c.put_newline.new.self reads.1 reads.2)
@@ -163,7 +164,7 @@ loop-taken-preserved-then-not-begin_text c =
     let font = c.begin_font-font.result in
     let new = c.begin_font-font.new.formatter in
     let below : taken h < length (all h) = omega (arith, (puts h).front, c.if-taken-bytes.false) in
-    let newline : slice_index (all h) (taken h) ≡ 10 = omega (arith, c.if-bytes-taken-ne10.false) in
+    let newline : slice_index (all h) (taken h) ≡ code "\n" = omega (arith, c.if-bytes-taken-ne10.false) in
     let ends = line_ends (taken h) (moves h) (all h) f (behind h) (puts h) below newline reads.0 g reads.1 reads.2 in
     let some : 0 < font = omega (arith, c.if-font-eq0-2.false) in
     let put : PutsText (drop (taken h + 1) (all h)) font (font + 2) g new =
@@ -185,7 +186,7 @@ loop-taken-preserved c =
     let f = c.args.formatter.now in
     let begins = c.if-not-begin_text.ensures in
     let below : taken h < length (all h) = omega (arith, (puts h).front, c.if-taken-bytes.false) in
-    let newline : slice_index (all h) (taken h) ≡ 10 = omega (arith, c.if-bytes-taken-ne10.false) in
+    let newline : slice_index (all h) (taken h) ≡ code "\n" = omega (arith, c.if-bytes-taken-ne10.false) in
     let ends = line_ends (taken h) (moves h) (all h) f (behind h) (puts h) below newline reads.0 g reads.1 reads.2 in
     let at = line_at_text (behind h) g reads.0 reads.2 in
     let half = line_before (behind h) g reads.0 reads.2 in
