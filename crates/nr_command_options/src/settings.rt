@@ -1,5 +1,6 @@
 //! What one option of the command line sets.
 ghost use Rattle.std.specs.Prelude.{◌≡◌, ◌≢◌, ℕ, ◌<◌, List, ◌∷◌, IfSome, IfNone, true};
+ghost use Rattle.nr_units.specs.Character.{code};
 ghost use Rattle.nr_command_options.specs.Settings.{hyphen};
 ghost use Rattle.nr_command_options.specs.Words.{is_option};
 ghost use Rattle.nr_command_options.specs.Job.{Reads, ReadsOption};
@@ -81,7 +82,7 @@ fn letter_and_value(word: &str) -> Option<(u8, &str)>
 
 /// `-olist`.
 fn read_pages(value: &str) -> Option<Setting<'_>>
-    ensures { Reads 111 value.now result }
+    ensures { Reads (code "o") value.now result }
 {
     match Select::parse(value.as_bytes()) {
         Ok(select) => Some(Setting::Select(select)),
@@ -91,7 +92,7 @@ fn read_pages(value: &str) -> Option<Setting<'_>>
 
 /// `-nN`.
 fn read_first(value: &str) -> Option<Setting<'_>>
-    ensures { Reads 110 value.now result }
+    ensures { Reads (code "n") value.now result }
 {
     let number = read_number(value, LARGEST_NUMBER)?;
     Some(Setting::First(number as u32))
@@ -99,10 +100,10 @@ fn read_first(value: &str) -> Option<Setting<'_>>
 
 /// `-raN`.
 fn read_register(value: &str) -> Option<Setting<'_>>
-    ensures { Reads 114 value.now result }
+    ensures { Reads (code "r") value.now result }
 {
     let (name, number) = split_ascii(value)?;
-    if name < 33 || name > 126 {
+    if name < b'!' || name > b'~' {
         return None;
     }
     let number = read_integer(number)?;
@@ -111,7 +112,7 @@ fn read_register(value: &str) -> Option<Setting<'_>>
 
 /// `-mname`.
 fn read_macros(value: &str) -> Option<Setting<'_>>
-    ensures { Reads 109 value.now result }
+    ensures { Reads (code "m") value.now result }
 {
     if value.is_empty() {
         return None;
@@ -121,7 +122,7 @@ fn read_macros(value: &str) -> Option<Setting<'_>>
 
 /// `-Mdir`.
 fn read_folder(value: &str) -> Option<Setting<'_>>
-    ensures { Reads 77 value.now result }
+    ensures { Reads (code "M") value.now result }
 {
     if value.is_empty() {
         return None;
@@ -131,7 +132,7 @@ fn read_folder(value: &str) -> Option<Setting<'_>>
 
 /// `-i`.
 fn read_input(value: &str) -> Option<Setting<'_>>
-    ensures { Reads 105 value.now result }
+    ensures { Reads (code "i") value.now result }
 {
     if value.is_empty() {
         Some(Setting::Input)
@@ -142,7 +143,7 @@ fn read_input(value: &str) -> Option<Setting<'_>>
 
 /// `-LsN`, `-LdN`, `-LpN` and `-LxN`.
 fn read_limit(value: &str) -> Option<Setting<'_>>
-    ensures { Reads 76 value.now result }
+    ensures { Reads (code "L") value.now result }
 {
     let (letter, number) = split_ascii(value)?;
     let limit = match letter {

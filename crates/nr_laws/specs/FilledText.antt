@@ -62,8 +62,8 @@ missing rows = (66 - rows % 66) % 66
 -- the bytes of the rows, on pages of 66
 abbrev pub text_of : List (List Cell) → List ℕ
 text_of rows =
-    flat_map (λ (row : List Cell). flat_map cell_bytes row ++ 10 ∷ []) rows
-    ++ replicate (missing (length rows)) 10
+    flat_map (λ (row : List Cell). flat_map cell_bytes row ++ code "\n" ∷ []) rows
+    ++ replicate (missing (length rows)) (code "\n")
 
 -- Such text is filled: its rows are cut from the pieces of all of it.
 abbrev pub FilledTextIsRows : Type 0

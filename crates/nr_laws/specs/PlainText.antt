@@ -18,9 +18,9 @@ is_ink b = not (b == code " ") && not (b == code "\n")
 abbrev pub squeezed : List ℕ → List ℕ
 squeezed bs = filter is_ink bs
 
--- a newline, or of 32 to 126 but no `\`
+-- a newline, or of a blank to `~` but no `\`
 abbrev pub is_plain_byte : ℕ → Bool
-is_plain_byte b = b == code "\n" || (nat_le 32 b && nat_le b 126 && not (b == code "\\"))
+is_plain_byte b = b == code "\n" || (nat_le (code " ") b && nat_le b (code "~") && not (b == code "\\"))
 
 -- `.` or `'`
 abbrev pub is_sign : ℕ → Bool
