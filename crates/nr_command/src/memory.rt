@@ -4,7 +4,7 @@ ghost use Rattle.nr_units.specs.Failures.{counted};
 ghost use Rattle.nr_command.specs.Memory.{Taking, Bytes, Room, DeskUnder};
 ghost use Rattle.nr_command.specs.Opening.{Asks};
 
-use nr_engine::{Desk, Limits};
+use nr_engine::{CountedAlloc, Desk, Limits};
 use nr_units::source::next_count;
 use std::alloc::{AllocError, Global};
 
@@ -81,7 +81,7 @@ impl Memory for Heap {
     }
 
     fn desk(&mut self, limits: Limits) -> Result<Desk, AllocError> {
-        let taken = Desk::new(self.alloc, limits);
+        let taken = Desk::new(&mut CountedAlloc::new(self.alloc), limits);
         counted(&mut self.refusals, taken)
     }
 }

@@ -2,7 +2,7 @@
 // allocations that are refused.
 
 use nr_command::run_over;
-use nr_engine::{Buffered, Desk, Limits, Options, Source, ToWriter};
+use nr_engine::{Buffered, CountedAlloc, Desk, Limits, Options, Source, ToWriter};
 use nr_units::fakes::{Script, Shut, Slate};
 use std::alloc::Global;
 use std::process::Abort;
@@ -42,7 +42,7 @@ fn expect(
     line: &[u8],
 ) {
     let limits = Limits::new(1024, 4, 100, 10).unwrap();
-    let desk = Desk::new(alloc, limits);
+    let desk = Desk::new(&mut CountedAlloc::new(alloc), limits);
     assert!(rt; desk.is_ok());
     let mut out = [0; 80];
     let mut errors = Slate::over(&mut out);
@@ -111,7 +111,7 @@ fn flush_fault_alone(rt: HostRuntime) {
 #[test]
 fn every_allocation_refused(rt: HostRuntime) {
     let text = b".pl 2v\nhello\n".as_slice();
-    let desk = Desk::new(rt.alloc(), Limits::default());
+    let desk = Desk::new(&mut CountedAlloc::new(rt.alloc()), Limits::default());
     let refused = desk.is_err();
     let mut input = Script::new(text);
     let mut room = [0; 10];
@@ -141,7 +141,7 @@ fn every_allocation_refused(rt: HostRuntime) {
 #[test]
 fn writer_that_takes_no_byte(rt: HostRuntime) {
     let limits = Limits::new(1024, 4, 100, 10).unwrap();
-    let desk = Desk::new(rt.alloc(), limits);
+    let desk = Desk::new(&mut CountedAlloc::new(rt.alloc()), limits);
     assert!(rt; desk.is_ok());
     let mut input = Script::new(TITLED);
     let mut room = [0u8; 1];
@@ -187,7 +187,7 @@ fn plain_run<R: Source>(
     output: &mut Slate<'_>,
 ) -> u8 {
     let limits = Limits::new(1024, 4, 100, 10).unwrap();
-    let desk = Desk::new(alloc, limits);
+    let desk = Desk::new(&mut CountedAlloc::new(alloc), limits);
     assert!(rt; desk.is_ok());
     let mut errors = Shut::new();
     let status = run_over(desk, &Options::plain(), input, output, &mut errors);

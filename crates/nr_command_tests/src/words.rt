@@ -5,7 +5,7 @@ ghost use Rattle.nr_units.specs.Failures.{counted as counted_value};
 use nr_command::{Heap, Memory, Opener, run_words};
 use nr_command_line::fakes::Page;
 use nr_command_options::{Input, MacroFile};
-use nr_engine::{Buffered, Desk, Limits, ToWriter};
+use nr_engine::{Buffered, CountedAlloc, Desk, Limits, ToWriter};
 use nr_units::source::next_count;
 use std::alloc::{AllocError, Global};
 use std::io;
@@ -115,7 +115,7 @@ impl Memory for Scarce {
         if self.refuses() {
             return counted(&mut self.refusals, Err(AllocError));
         }
-        let taken = Desk::new(self.alloc, limits);
+        let taken = Desk::new(&mut CountedAlloc::new(self.alloc), limits);
         counted(&mut self.refusals, taken)
     }
 }

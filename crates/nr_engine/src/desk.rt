@@ -7,8 +7,9 @@ use crate::lengths::Sizes;
 use nr_fill::line::Line;
 use nr_options::Limits;
 use nr_page::page::room;
+use nr_rooms::CountedAlloc;
 use nr_store::memory::Room;
-use std::alloc::{AllocError, Global};
+use std::alloc::AllocError;
 use std::marker::Model;
 
 /// The lengths that the limits ask for.
@@ -72,8 +73,9 @@ pub struct Work<'a> {
 
 impl Desk {
     /// Takes all memory that runs under these limits need: `AllocError` where there is not so much.
-    pub fn new(alloc: Global, limits: Limits) -> Result<Desk, AllocError>
+    pub fn new(alloc: &mut CountedAlloc, limits: Limits) -> Result<Desk, AllocError>
         ensures limits { IfOk result (λ desk. desk ≡ limits) }
+        ensures taken { IfOk result (λ desk. alloc.new ≡ alloc.old + sum_of (sizes_of limits)) }
     {
         Ok(Desk {
             limits,

@@ -26,6 +26,7 @@ pub use lengths::Sizes;
 pub use nr_options::{Limit, Limits, MOST_REGISTERS, Options};
 pub use nr_page::page::WriteFault;
 pub use nr_page::{BadList, Select};
+pub use nr_rooms::CountedAlloc;
 pub use nr_units::buffered::Buffered;
 pub use nr_units::over_std::{FromReader, ToWriter};
 pub use nr_units::sink::Sink;

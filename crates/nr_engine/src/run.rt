@@ -17,10 +17,11 @@ use nr_input::{Gathered, Place};
 use nr_options::{Limits, Options};
 use nr_page::Select;
 use nr_page::page::Page;
+use nr_rooms::CountedAlloc;
 use nr_units::Name;
 use nr_units::sink::Sink;
 use nr_units::source::Source;
-use std::alloc::{AllocError, Global};
+use std::alloc::AllocError;
 
 /// The greatest number that a register holds, and without its sign the least.
 const GREATEST: u64 = 2_147_483_647;
@@ -32,12 +33,14 @@ impl Engine {
     ghost use Rattle.nr_engine.specs.Machine.{first_set};
     ghost use Rattle.nr_engine.specs.Holding.{shape, weight, worth};
     ghost use Rattle.nr_engine.specs.Limits.{limits_of, limits_under};
+    ghost use Rattle.nr_engine.specs.Desk.{sizes_of, sum_of};
     ghost use Rattle.nr_engine.specs.Many.Running.{Chooses, ChoosesAll, IsNew, Travels};
 
     /// Nothing is read yet, and nothing placed: `AllocError` where there is no memory for what the limits allow. No other call
     /// allocates.
-    pub(crate) fn new(alloc: Global, limits: Limits) -> Result<Engine, AllocError>
-        ensures { IfOk result (λ engine. limits_of (shape engine) ≡ limits_under limits) }
+    pub(crate) fn new(alloc: &mut CountedAlloc, limits: Limits) -> Result<Engine, AllocError>
+        ensures limits { IfOk result (λ engine. limits_of (shape engine) ≡ limits_under limits) }
+        ensures taken { IfOk result (λ engine. alloc.new ≡ alloc.old + sum_of (sizes_of limits)) }
     {
         Ok(Engine {
             formatter: Formatter::new(

@@ -6,7 +6,7 @@
 //! It stands on nr_units, nr_characters, nr_engine and nr_tables. To read: this file, `limits`, `tables`.
 #![tactic(auto)]
 
-use nr_engine::{Buffered, Desk, Limits, Options, Outcome, Sink, Source, format};
+use nr_engine::{Buffered, CountedAlloc, Desk, Limits, Options, Outcome, Sink, Source, format};
 use nr_units::fakes::Slate;
 use std::alloc::{AllocError, Global};
 use std::fs;
@@ -34,7 +34,7 @@ fn main(rt: HostRuntime) -> anyhow::Result<()> {
 
 /// How many of the rows under the limits by default pass. One desk serves them all.
 fn plain_rows<R: Files + AllocGlobal + Print>(rt: &R) -> anyhow::Result<u64> {
-    let mut desk = Desk::new(rt.alloc(), Limits::default())?;
+    let mut desk = Desk::new(&mut CountedAlloc::new(rt.alloc()), Limits::default())?;
     plain_rows_at(rt, &mut desk)
 }
 
@@ -73,14 +73,14 @@ fn passes_under<R: Files + AllocGlobal + Print>(
     name: &str,
     end: &str,
 ) -> anyhow::Result<bool> {
-    let mut desk = Desk::new(rt.alloc(), limits)?;
+    let mut desk = Desk::new(&mut CountedAlloc::new(rt.alloc()), limits)?;
     passes(rt, &mut desk, name, end)
 }
 
 /// How many of the rows of tables pass.
 fn rows_of_tables<R: Files + AllocGlobal + Print>(rt: &R) -> anyhow::Result<u64> {
     let mut turner = Turner::new(rt.alloc())?;
-    let mut desk = Desk::new(rt.alloc(), Limits::default())?;
+    let mut desk = Desk::new(&mut CountedAlloc::new(rt.alloc()), Limits::default())?;
     rows_of_tables_at(rt, &mut desk, &mut turner)
 }
 

@@ -1,6 +1,6 @@
 // How a row with a fault of its own is run.
 
-use nr_engine::{Desk, Limits, Options, Outcome, Sink, format};
+use nr_engine::{CountedAlloc, Desk, Limits, Options, Outcome, Sink, format};
 use nr_units::fakes::Slate;
 use nr_units::source::Source;
 use std::alloc::Global;
@@ -48,7 +48,7 @@ fn is_same(one: &[u8], other: &[u8]) -> bool {
 pub(crate) fn desk_under(alloc: Global, four: Four) -> Result<Desk, Fail> {
     let (stored, depth, cells, expansions) = four;
     let limits = Limits::new(stored, depth, cells, expansions).ok_or("limits out of range")?;
-    Ok(Desk::new(alloc, limits)?)
+    Ok(Desk::new(&mut CountedAlloc::new(alloc), limits)?)
 }
 
 /// Formats on what the desk lends.

@@ -1,5 +1,5 @@
 //! The collected line. (CSTR 54, section 4.)
-ghost use Rattle.std.specs.Prelude.{◌≡◌, ◌+◌, ◌<◌, ◌≤◌, ◌^◌, ◌↔◌, IsTrue, not, is_none, length, Some, IfOk};
+ghost use Rattle.std.specs.Prelude.{◌*◌, ◌≡◌, ◌+◌, ◌<◌, ◌≤◌, ◌^◌, ◌↔◌, IsTrue, not, is_none, length, Some, IfOk};
 ghost use Rattle.nr_fill.specs.Cutting.{fits, pieces_width};
 ghost use Rattle.nr_fill.specs.Piece.{nothing_collected, begins_line, is_nil, line_cells, text_cells, word_or_new, word_pieces, cells_of_word, may_hyphenate, reads_field};
 ghost use Rattle.nr_fill.specs.Tabs.{column};
@@ -9,8 +9,9 @@ use crate::piece::Join;
 use crate::piece_row::PieceRow;
 use crate::stops::Pending;
 use crate::title::TitleState;
+use nr_rooms::CountedAlloc;
 use nr_units::cell::Cell;
-use std::alloc::{AllocError, Global};
+use std::alloc::AllocError;
 use std::marker::Model;
 
 /// The widest gap, in cells, and the widest line.
@@ -109,9 +110,10 @@ impl Line {
 
     /// A line with nothing collected: `AllocError` where there is no memory for it. `limit` is what its measure may come to.
     /// No other call allocates.
-    pub fn new(alloc: Global, limit: usize) -> Result<Line, AllocError>
+    pub fn new(alloc: &mut CountedAlloc, limit: usize) -> Result<Line, AllocError>
         requires { limit < 2 ^ 32 }
-        ensures { IfOk result (λ made. made ≡ record { collected = nothing_collected; limit = limit }) }
+        ensures made { IfOk result (λ made. made ≡ record { collected = nothing_collected; limit = limit }) }
+        ensures taken { IfOk result (λ made. alloc.new ≡ alloc.old + 2 * limit) }
     {
         Ok(Line {
             row: PieceRow::new(alloc, limit, limit)?,

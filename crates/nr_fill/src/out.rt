@@ -13,9 +13,9 @@ use crate::cells::CellSink;
 use crate::measured::{Extent, written_behind, written_len};
 use crate::piece::PieceSlot;
 use crate::setting::Extra;
-use nr_rooms::FixedVec;
+use nr_rooms::{CountedAlloc, FixedVec};
 use nr_units::cell::Cell;
-use std::alloc::{AllocError, Global};
+use std::alloc::AllocError;
 use std::marker::Model;
 
 /// A row of cells, with room for a number of them that stays. Cells for which it has no room are only counted: how many there are,
@@ -47,9 +47,10 @@ impl Model for Out {
 
 impl Out {
     /// A row with no cells, and room for so many: `AllocError` where there is no memory for them. No other call allocates.
-    pub fn new(alloc: Global, room: usize) -> Result<Out, AllocError>
+    pub fn new(alloc: &mut CountedAlloc, room: usize) -> Result<Out, AllocError>
         requires { room < 2 ^ 32 }
-        ensures { IfOk result (λ made. made ≡ row_of room []) }
+        ensures made { IfOk result (λ made. made ≡ row_of room []) }
+        ensures taken { IfOk result (λ made. alloc.new ≡ alloc.old + room) }
     {
         Ok(Out {
             cells: FixedVec::new(alloc, room)?,

@@ -15,8 +15,9 @@ use crate::measured::Extent;
 use crate::piece::{Join, PieceSlot};
 use crate::queue::Queue;
 use crate::setting::Extra;
+use nr_rooms::CountedAlloc;
 use nr_units::cell::Cell;
-use std::alloc::{AllocError, Global};
+use std::alloc::AllocError;
 use std::marker::Model;
 
 /// The cells of all pieces stand in one vector one after another, after them those of the piece that is being read and
@@ -44,15 +45,20 @@ impl Model for PieceRow {
 
 impl PieceRow {
     /// No pieces and no cells, and room for so many of each: `AllocError` where there is no memory for them.
-    pub(crate) fn new(alloc: Global, cells: usize, pieces: usize) -> Result<PieceRow, AllocError>
+    pub(crate) fn new(
+        alloc: &mut CountedAlloc,
+        cells: usize,
+        pieces: usize,
+    ) -> Result<PieceRow, AllocError>
         requires small { cells < 2 ^ 32 }
         requires same { pieces ≡ cells }
-        ensures { IfOk result (λ made. made ≡ record {
+        ensures made { IfOk result (λ made. made ≡ record {
           pieces = [];
           last = [];
           title = [];
           room = min pieces cells;
         }) }
+        ensures taken { IfOk result (λ made. alloc.new ≡ alloc.old + cells + pieces) }
     {
         Ok(PieceRow {
             cells: Queue::new(alloc, cells)?,

@@ -3,9 +3,9 @@ ghost use Rattle.std.specs.Prelude.{◌≡◌, ◌+◌, ◌-◌, ◌<◌, ◌≤
 ghost use Rattle.nr_fill.specs.Plain.{IsPlain, run_cell};
 
 use crate::plain::set_plain;
-use nr_rooms::ReservedVec;
+use nr_rooms::{CountedAlloc, ReservedVec};
 use nr_units::cell::Cell;
-use std::alloc::{AllocError, Global};
+use std::alloc::AllocError;
 use std::marker::Model;
 
 /// Items, and room for a number of them that stays; `new` is the only call that allocates. A front that is taken away stays
@@ -131,8 +131,9 @@ impl Queue<Cell> {
 
 impl<T: Copy> Queue<T> {
     /// No items, and room for so many: `AllocError` where there is no memory for them.
-    pub(crate) fn new(alloc: Global, room: usize) -> Result<Queue<T>, AllocError>
-        ensures { IfOk result (λ made. made ≡ record { items = []; room = room }) }
+    pub(crate) fn new(alloc: &mut CountedAlloc, room: usize) -> Result<Queue<T>, AllocError>
+        ensures made { IfOk result (λ made. made ≡ record { items = []; room = room }) }
+        ensures taken { IfOk result (λ made. alloc.new ≡ alloc.old + room) }
     {
         let slots = ReservedVec::new(alloc, room)?;
         Ok(Queue {

@@ -1,6 +1,7 @@
 //! The formatter between two moves: everything but the source, the lines on the page and the output.
-ghost use Rattle.std.specs.Prelude.{◌≡◌, ◌<◌, ◌^◌, IfOk};
+ghost use Rattle.std.specs.Prelude.{◌+◌, ◌*◌, ◌≡◌, ◌<◌, ◌^◌, IfOk};
 ghost use Rattle.nr_fill.specs.Piece.{nothing_collected};
+ghost use Rattle.nr_store.specs.Memory.{elements_in, rooms_of};
 ghost use Rattle.nr_store.specs.Request.{request_names};
 ghost use Rattle.nr_store.specs.Store.{nothing};
 ghost use Rattle.nr_formatter.specs.Beginning.{first_formatter, with_first};
@@ -10,10 +11,11 @@ use crate::paper::{Given, Outlet, Paper};
 use crate::tasks::{Resume, Step, Task};
 use nr_fill::line::Line;
 use nr_input::{Event, Reader};
+use nr_rooms::CountedAlloc;
 use nr_settings::Settings;
 use nr_store::Store;
 use nr_units::Name;
-use std::alloc::{AllocError, Global};
+use std::alloc::AllocError;
 
 /// An input line trap. (CSTR 54, section 7.5)
 #[derive(Clone, Copy)]
@@ -54,15 +56,17 @@ impl Formatter {
     /// Nothing is read yet. There may be at most so many splices and springs after one byte of the input, and so much may be
     /// stored, in so many levels, and collected: `AllocError` where there is no memory for that. No other call allocates.
     pub fn new(
-        alloc: Global,
+        alloc: &mut CountedAlloc,
         stored: u32,
         deepest: u32,
         cells: usize,
         most: u64,
     ) -> Result<Formatter, AllocError>
         requires { cells < 2 ^ 32 }
-        ensures { IfOk result (λ made. made ≡ first_formatter (nothing request_names stored deepest)
+        ensures made { IfOk result (λ made. made ≡ first_formatter (nothing request_names stored deepest)
             (record { collected = nothing_collected; limit = cells }) most) }
+        ensures taken { IfOk result (λ made.
+            alloc.new ≡ alloc.old + elements_in (rooms_of stored deepest) + 2 * cells) }
     {
         Ok(Formatter {
             reader: Reader::new(most),

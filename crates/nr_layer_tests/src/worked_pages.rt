@@ -2,6 +2,7 @@
 ghost use Rattle.std.specs.Prelude.{◌≤◌, length};
 
 use nr_page::page::{Page, PageCells};
+use nr_rooms::CountedAlloc;
 use nr_units::cell::Cell;
 use nr_units::fakes::Slate;
 use std::test::Fail;
@@ -205,7 +206,7 @@ fn place_all(page: &mut Page, lines: &[(u32, &[u8])]) -> Result<(), PageCells> {
 
 #[test]
 fn writes_pages(rt: HostRuntime) -> Result<(), Fail> {
-    let mut page = Page::new(rt.alloc(), 200)?;
+    let mut page = Page::new(&mut CountedAlloc::new(rt.alloc()), 200)?;
     for case in &CASES {
         assert!(rt; place_all(&mut page, case.lines).is_ok(), "{}", case.name);
         let mut out = [0; 100];
@@ -226,7 +227,7 @@ fn writes_pages(rt: HostRuntime) -> Result<(), Fail> {
 #[test]
 fn keeps_the_limit(rt: HostRuntime) -> Result<(), Fail> {
     for (limit, second, bytes) in [(6, false, b"abc\n"), (7, true, b"xyc\n")] {
-        let mut page = Page::new(rt.alloc(), limit)?;
+        let mut page = Page::new(&mut CountedAlloc::new(rt.alloc()), limit)?;
         assert!(rt; page.is_empty());
         assert!(rt; place_all(&mut page, &[(0, b"abc")]).is_ok());
         assert_eq!(rt; page.charge(), 4);

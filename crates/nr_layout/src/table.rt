@@ -6,7 +6,7 @@ ghost use Rattle.nr_layout.specs.Table as specs;
 
 use super::places::Place;
 use super::signs::Signs;
-use nr_rooms::FixedVec;
+use nr_rooms::{CountedAlloc, FixedVec};
 use std::alloc::{AllocError, Global};
 
 /// The greatest number of columns.
@@ -318,19 +318,20 @@ impl Table {
         let rows = most / COLUMNS + 2;
         let items = rows * 2 + 2 * LINES;
         let cells = rows.saturating_mul(COLUMNS);
+        let mut alloc = CountedAlloc::new(alloc);
         Ok(Table {
             looks: Looks::plain(),
             signs,
-            text: FixedVec::new(alloc, text)?,
-            keys: FixedVec::new(alloc, COLUMNS * LINES)?,
-            lines: FixedVec::new(alloc, LINES)?,
-            fields: FixedVec::new(alloc, text)?,
-            rows: FixedVec::new(alloc, rows)?,
-            items: FixedVec::new(alloc, items)?,
-            cells: FixedVec::new(alloc, cells)?,
-            grid: FixedVec::new(alloc, cells)?,
-            columns: FixedVec::new(alloc, COLUMNS)?,
-            steps: FixedVec::new(alloc, items * 4)?,
+            text: FixedVec::new(&mut alloc, text)?,
+            keys: FixedVec::new(&mut alloc, COLUMNS * LINES)?,
+            lines: FixedVec::new(&mut alloc, LINES)?,
+            fields: FixedVec::new(&mut alloc, text)?,
+            rows: FixedVec::new(&mut alloc, rows)?,
+            items: FixedVec::new(&mut alloc, items)?,
+            cells: FixedVec::new(&mut alloc, cells)?,
+            grid: FixedVec::new(&mut alloc, cells)?,
+            columns: FixedVec::new(&mut alloc, COLUMNS)?,
+            steps: FixedVec::new(&mut alloc, items * 4)?,
             open: Open::Nothing,
             next_line: 0,
             row_from: 0,

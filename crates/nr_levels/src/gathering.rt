@@ -2,8 +2,8 @@
 ghost use Rattle.std.specs.Prelude.{◌≡◌, ◌==◌, ◌+◌, ◌^◌, ◌<◌, ◌≤◌, length, map, IfOk};
 ghost use Rattle.nr_levels.specs.Gathering.{joined, none_gathered, gathered_len, with_byte, with_bytes, with_end};
 
-use nr_rooms::FixedVec;
-use std::alloc::{AllocError, Global};
+use nr_rooms::{CountedAlloc, FixedVec};
+use std::alloc::AllocError;
 use std::marker::Model;
 
 /// How many arguments a macro has at most.
@@ -36,9 +36,10 @@ impl Model for Gathering {
 
 impl Gathering {
     /// No arguments, and room for so many bytes: `AllocError` where there is no memory for them.
-    pub fn new(alloc: Global, room: usize) -> Result<Gathering, AllocError>
+    pub fn new(alloc: &mut CountedAlloc, room: usize) -> Result<Gathering, AllocError>
         requires { room < 2 ^ 32 }
-        ensures { IfOk result (λ made. made ≡ record { gathered = none_gathered; room = room }) }
+        ensures made { IfOk result (λ made. made ≡ record { gathered = none_gathered; room = room }) }
+        ensures taken { IfOk result (λ made. alloc.new ≡ alloc.old + room) }
     {
         Ok(Gathering {
             bytes: FixedVec::new(alloc, room)?,

@@ -11,8 +11,8 @@ use crate::frame::{Frame, Next, Reads, Rest, Span};
 use crate::spans::{push_spans, span_of};
 use crate::stack::Stack;
 use nr_pool::Id;
-use nr_rooms::FixedVec;
-use std::alloc::{AllocError, Global};
+use nr_rooms::{CountedAlloc, FixedVec};
+use std::alloc::AllocError;
 use std::marker::Model;
 
 /// The levels that are open, the newest first, with room for a number of them that stays. Bytes that a level brings
@@ -67,14 +67,16 @@ fn keep<K: Copy>(modes: &mut Stack<K>, mode: Option<K>) -> bool
 impl<K: Copy> Levels<K> {
     /// No levels, with room for `most` of them, and for the bytes of levels that are charged `room` together: `AllocError`
     /// where there is no memory for them.
-    pub fn new(alloc: Global, room: usize, most: usize) -> Result<Levels<K>, AllocError>
+    pub fn new(alloc: &mut CountedAlloc, room: usize, most: usize) -> Result<Levels<K>, AllocError>
         requires { room < 2 ^ 32 }
-        ensures { IfOk result (λ made. made ≡ record {
+        ensures made { IfOk result (λ made. made ≡ record {
           levels = [];
           arguments = [];
           room = room;
           most = most;
         }) }
+        ensures taken { IfOk result (λ made.
+            alloc.new ≡ alloc.old + 2 * most + room + 9 * min most (room / 16)) }
     {
         Ok(Levels {
             frames: Stack::new(alloc, most)?,

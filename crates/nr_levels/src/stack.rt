@@ -1,9 +1,9 @@
 //! A stack for which room is taken once.
-ghost use Rattle.std.specs.Prelude.{◌≡◌, ◌==◌, ◌<◌, ◌≤◌, [], ◌∷◌, length, drop, slice_get, Some, IfOk};
+ghost use Rattle.std.specs.Prelude.{◌+◌, ◌≡◌, ◌==◌, ◌<◌, ◌≤◌, [], ◌∷◌, length, drop, slice_get, Some, IfOk};
 
 use crate::frame::Frame;
-use nr_rooms::ReservedVec;
-use std::alloc::{AllocError, Global};
+use nr_rooms::{CountedAlloc, ReservedVec};
+use std::alloc::AllocError;
 use std::marker::Model;
 
 /// Items, and room for a number of them that stays; `new` is the only call that allocates. A clause sees the last that
@@ -27,8 +27,9 @@ impl<T: Copy> Model for Stack<T> {
 
 impl<T: Copy> Stack<T> {
     /// No items, and room for so many: `AllocError` where there is no memory for them.
-    pub fn new(alloc: Global, room: usize) -> Result<Stack<T>, AllocError>
-        ensures { IfOk result (λ made. made ≡ record { items = []; room = room }) }
+    pub fn new(alloc: &mut CountedAlloc, room: usize) -> Result<Stack<T>, AllocError>
+        ensures made { IfOk result (λ made. made ≡ record { items = []; room = room }) }
+        ensures taken { IfOk result (λ made. alloc.new ≡ alloc.old + room) }
     {
         let items = ReservedVec::new(alloc, room)?;
         Ok(Stack { items, room })

@@ -1,8 +1,8 @@
 // A list that grows at any place, for which room is taken once.
 ghost use Rattle.std.specs.Prelude.{◌≡◌, ℕ, ◌+◌, ◌<◌, ◌≤◌, List, [], ◌++◌, length, take, drop, insert, slice_get, slice_set, Some, IfOk};
 
-use nr_rooms::ReservedVec;
-use std::alloc::{AllocError, Global};
+use nr_rooms::{CountedAlloc, ReservedVec};
+use std::alloc::AllocError;
 use std::marker::Model;
 
 /// Items, and room for a number of them that stays, with a gap among them where the last one was put: to put one beside it
@@ -34,8 +34,9 @@ impl<T: Copy> Model for GapVec<T> {
 
 impl<T: Copy> GapVec<T> {
     /// No items, and room for so many: `AllocError` where there is no memory for them.
-    pub(crate) fn new(alloc: Global, room: usize) -> Result<GapVec<T>, AllocError>
-        ensures { IfOk result (λ made. made ≡ record { items = []; room = room }) }
+    pub(crate) fn new(alloc: &mut CountedAlloc, room: usize) -> Result<GapVec<T>, AllocError>
+        ensures made { IfOk result (λ made. made ≡ record { items = []; room = room }) }
+        ensures taken { IfOk result (λ made. alloc.new ≡ alloc.old + room) }
     {
         let slots = ReservedVec::new(alloc, room)?;
         Ok(GapVec {

@@ -1,5 +1,5 @@
 //! The open page.
-ghost use Rattle.std.specs.Prelude.{◌≡◌, ℕ, ◌+◌, ◌/◌, ◌^◌, ◌<◌, ◌≤◌, ◌↔◌, List, [], ◌∷◌, ◌++◌, length, OnOk, OnErr, IsErr, IsTrue, IfOk};
+ghost use Rattle.std.specs.Prelude.{◌*◌, ◌≡◌, ℕ, ◌+◌, ◌/◌, ◌^◌, ◌<◌, ◌≤◌, ◌↔◌, List, [], ◌∷◌, ◌++◌, length, OnOk, OnErr, IsErr, IsTrue, IfOk};
 ghost use Rattle.nr_page.specs.Grid.{Placed, page_charge};
 ghost use Rattle.nr_page.specs.Page.{Holds};
 ghost use Rattle.std.specs.Io.KnownBytes.{Appends};
@@ -12,10 +12,11 @@ use crate::placing::put;
 use crate::row::RowSlot;
 use crate::writing::write_all;
 use nr_pool::Pool;
+use nr_rooms::CountedAlloc;
 use nr_units::cell::Cell;
 use nr_units::sink::Sink;
 use nr_units::source::Fault;
-use std::alloc::{AllocError, Global};
+use std::alloc::AllocError;
 use std::marker::Model;
 
 /// Placing the line would pass the limit of the page's charge.
@@ -78,10 +79,11 @@ impl Model for Page {
 
 impl Page {
     /// An empty page: `AllocError` where there is not the memory that `room` tells.
-    pub fn new(alloc: Global, limit: usize) -> Result<Page, AllocError>
+    pub fn new(alloc: &mut CountedAlloc, limit: usize) -> Result<Page, AllocError>
         requires in_range { limit < 2 ^ 32 }
         ensures empty { IfOk result (λ page. Holds [] page) }
         ensures limit { IfOk result (λ page. page.limit ≡ limit) }
+        ensures taken { IfOk result (λ page. alloc.new ≡ alloc.old + limit + 2 * (limit / 2)) }
     {
         let room = room(limit);
         Ok(Page {

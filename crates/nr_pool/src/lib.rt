@@ -10,8 +10,8 @@ ghost use Rattle.nr_pool.specs.Texts.{IsOpen, text, holders, used, no_text, open
 
 pub use crate::slot::Slot;
 use crate::slot::{bring_last, remove_text, spare_of};
-use nr_rooms::ReservedVec;
-use std::alloc::{AllocError, Global};
+use nr_rooms::{CountedAlloc, ReservedVec};
+use std::alloc::AllocError;
 use std::marker::Model;
 
 mod slot;
@@ -88,11 +88,16 @@ impl Id {
 impl<T: Copy> Pool<T> {
     /// A pool with no texts, and room for so many elements in so many texts: `AllocError` where there is no memory for
     /// them. A slot counts in 32 bits, so there are fewer than 2^32 of each.
-    pub fn new(alloc: Global, capacity: usize, most: usize) -> Result<Pool<T>, AllocError>
+    pub fn new(
+        alloc: &mut CountedAlloc,
+        capacity: usize,
+        most: usize,
+    ) -> Result<Pool<T>, AllocError>
         requires elements_fit { capacity < 2 ^ 32 }
         requires slots_fit { most < 2 ^ 32 }
         ensures capacity { IfOk result (λ made. made.capacity ≡ capacity) }
         ensures empty { IfOk result (λ made. made.texts ≡ replicate most no_text) }
+        ensures taken { IfOk result (λ made. alloc.new ≡ alloc.old + capacity + most) }
     {
         let elements = ReservedVec::new(alloc, capacity)?;
         let slots = ReservedVec::new(alloc, most)?;

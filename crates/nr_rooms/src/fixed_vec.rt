@@ -2,8 +2,9 @@
 ghost use Rattle.std.specs.Prelude.{◌≡◌, ◌+◌, ◌<◌, ◌≤◌, [], ◌∷◌, ◌++◌, length, take, replicate, slice_get, slice_set, Some, IfOk};
 ghost use Rattle.std.specs.List.{insert, remove};
 
+use crate::counted_alloc::CountedAlloc;
 use crate::reserved_vec::ReservedVec;
-use std::alloc::{AllocError, Global};
+use std::alloc::AllocError;
 use std::marker::Model;
 
 /// How many items are copied at once where no more than so many are added.
@@ -36,8 +37,9 @@ impl<T: Copy> Model for FixedVec<T> {
 
 impl<T: Copy> FixedVec<T> {
     /// No items, and room for so many: `AllocError` where there is no memory for them.
-    pub fn new(alloc: Global, room: usize) -> Result<FixedVec<T>, AllocError>
-        ensures { IfOk result (λ made. made ≡ record { items = []; room = room }) }
+    pub fn new(alloc: &mut CountedAlloc, room: usize) -> Result<FixedVec<T>, AllocError>
+        ensures made { IfOk result (λ made. made ≡ record { items = []; room = room }) }
+        ensures taken { IfOk result (λ made. alloc.new ≡ alloc.old + room) }
     {
         let slots = ReservedVec::new(alloc, room)?;
         Ok(FixedVec {

@@ -3,7 +3,8 @@ ghost use Rattle.std.specs.Prelude.{◌≡◌, ◌+◌, ◌-◌, ◌==◌, ◌<�
 ghost use Rattle.std.specs.List.{CopiedTo, SameBelow, SameFrom, copy_within};
 ghost use Rattle.std.specs.Borrow.{sem};
 
-use std::alloc::{AllocError, Global};
+use crate::counted_alloc::CountedAlloc;
+use std::alloc::AllocError;
 use std::marker::Model;
 use std::ops::{Index, IndexMut, Range};
 
@@ -32,10 +33,11 @@ impl<T: Copy> ReservedVec<T> {
     ghost use Rattle.nr_rooms.specs.Lends.{lends_slice};
 
     /// No items, and room for so many: `AllocError` where there is no memory for them.
-    pub fn new(alloc: Global, room: usize) -> Result<ReservedVec<T>, AllocError>
-        ensures { IfOk result (λ made. made ≡ record { items = []; room = room }) }
+    pub fn new(alloc: &mut CountedAlloc, room: usize) -> Result<ReservedVec<T>, AllocError>
+        ensures made { IfOk result (λ made. made ≡ record { items = []; room = room }) }
+        ensures taken { IfOk result (λ made. alloc.new ≡ alloc.old + room) }
     {
-        let items = Vec::with_capacity(alloc, room)?;
+        let items = alloc.vector(room)?;
         Ok(ReservedVec { items })
     }
 

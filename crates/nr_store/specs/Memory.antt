@@ -20,3 +20,9 @@ rooms_of limit deepest = record {
   words = limit / 16 + 1;
   kinds = 1280;
 }
+
+-- the elements of all
+abbrev pub elements_in : Room → ℕ
+elements_in r =
+    r.elements + r.slots + r.names + r.drafts + r.frames + r.modes + r.bytes + r.places + r.gathering
+    + r.registers + r.traps + r.trap_order + r.words + r.kinds

@@ -1,13 +1,13 @@
 //! Hyphenation words, found by their letters.
-ghost use Rattle.std.specs.Prelude.{◌≡◌, ◌<◌, ◌∷◌, [], length, map, IfOk, slice_set};
+ghost use Rattle.std.specs.Prelude.{◌+◌, ◌≡◌, ◌<◌, ◌∷◌, [], length, map, IfOk, slice_set};
 ghost use Rattle.nr_symbol_tables.specs.Word.{bytes_of, points_of};
 ghost use Rattle.nr_symbol_tables.specs.Given.{word_in};
 ghost use Rattle.nr_symbol_tables.specs.Hyphenation.{kind, kinds, earliers, words_in, IsChained, IsLatest, IsLatestGiven};
 
 use crate::word::{HyphenationWord, stem};
-use nr_rooms::FixedVec;
+use nr_rooms::{CountedAlloc, FixedVec};
 use nr_units::cell::Cell;
-use std::alloc::{AllocError, Global};
+use std::alloc::AllocError;
 use std::marker::Model;
 
 /// How many kinds of words there are.
@@ -114,12 +114,13 @@ impl Model for HyphenationWords {
 
 impl HyphenationWords {
     /// No words, and room for so many: `AllocError` where there is no memory for them.
-    pub fn new(alloc: Global, room: usize) -> Result<HyphenationWords, AllocError>
-        ensures { IfOk result (λ made. made ≡ record { items = []; room = room }) }
+    pub fn new(alloc: &mut CountedAlloc, room: usize) -> Result<HyphenationWords, AllocError>
+        ensures made { IfOk result (λ made. made ≡ record { items = []; room = room }) }
+        ensures taken { IfOk result (λ made. alloc.new ≡ alloc.old + room + 256) }
     {
         Ok(HyphenationWords {
             row: FixedVec::new(alloc, room)?,
-            latest: Box::new(alloc, [0; KINDS])?,
+            latest: alloc.boxed([0; KINDS])?,
         })
     }
 

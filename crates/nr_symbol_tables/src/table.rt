@@ -1,11 +1,11 @@
 //! A table of what has a name.
-ghost use Rattle.std.specs.Prelude.{◌≡◌, ◌<◌, ◌≤◌, ◌-◌, ◌↔◌, length, map, [], None, IfOk, IsTrue, slice_set};
+ghost use Rattle.std.specs.Prelude.{◌+◌, ◌≡◌, ◌<◌, ◌≤◌, ◌-◌, ◌↔◌, length, map, [], None, IfOk, IsTrue, slice_set};
 ghost use Rattle.nr_symbol_tables.specs.Table.{find, put, without};
 ghost use Rattle.nr_symbol_tables.specs.Rows.{named, names, kind, long_kind, kinds, earliers, IsPlace, AreChains, IsLink, IsLed};
 
-use nr_rooms::FixedVec;
+use nr_rooms::{CountedAlloc, FixedVec};
 use nr_units::Name;
-use std::alloc::{AllocError, Global};
+use std::alloc::AllocError;
 use std::marker::Model;
 
 /// How many kinds of names there are.
@@ -167,12 +167,13 @@ impl<V: Copy> Model for Table<V> {
 
 impl<V: Copy> Table<V> {
     /// No names, and room for so many: `AllocError` where there is no memory for them. No other call allocates.
-    pub fn new(alloc: Global, room: usize) -> Result<Table<V>, AllocError>
-        ensures { IfOk result (λ made. made ≡ record { entries = []; room = room }) }
+    pub fn new(alloc: &mut CountedAlloc, room: usize) -> Result<Table<V>, AllocError>
+        ensures made { IfOk result (λ made. made ≡ record { entries = []; room = room }) }
+        ensures taken { IfOk result (λ made. alloc.new ≡ alloc.old + room + 512) }
     {
         Ok(Table {
             entries: FixedVec::new(alloc, room)?,
-            latest: Box::new(alloc, [0; KINDS])?,
+            latest: alloc.boxed([0; KINDS])?,
         })
     }
 

@@ -11,7 +11,7 @@ use super::drawing::signs_of;
 use super::press::Press;
 use nr_characters::Table as Characters;
 use nr_layout::{Out, Table};
-use nr_rooms::FixedVec;
+use nr_rooms::{CountedAlloc, FixedVec};
 use nr_tbl::{Complaint, Limits, Outcome, Reader, read_page};
 use nr_units::sink::Sink;
 use nr_units::slice_vec::SliceVec;
@@ -81,7 +81,7 @@ impl Rooms {
         Ok(Rooms {
             reader: Reader::new(alloc, limits, cells)?,
             table: Table::new(alloc, limits.formats, limits.row, signs_of(characters))?,
-            pending: FixedVec::new(alloc, PENDING)?,
+            pending: FixedVec::new(&mut CountedAlloc::new(alloc), PENDING)?,
         })
     }
 }

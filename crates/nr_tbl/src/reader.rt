@@ -15,7 +15,7 @@ use super::complaint::Kind;
 use super::passing::{Lines, free_lines, line_len};
 use super::state::{Mode, State};
 use super::telling::{Setter, Tell};
-use nr_rooms::FixedVec;
+use nr_rooms::{CountedAlloc, FixedVec};
 use std::alloc::{AllocError, Global};
 use std::marker::Model;
 
@@ -67,7 +67,7 @@ impl Reader {
         ensures line { IfOk result (λ made. made.state.measure.line ≡ cells) }
     {
         let room = limits.formats.max(limits.row).saturating_add(1);
-        let kept = FixedVec::new(alloc, room)?;
+        let kept = FixedVec::new(&mut CountedAlloc::new(alloc), room)?;
         Ok(Reader {
             state: State::new(cells),
             limits: Limits {

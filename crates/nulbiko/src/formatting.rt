@@ -10,7 +10,7 @@ use super::told::{
     DONE, FULL, LIMIT, OUT_OF_MEMORY, OUT_OF_RANGE, Report, TOO_LONG, UNREADABLE, code_within,
     count_told,
 };
-use nr_engine::{Desk, Limits, Measure, Options, Outcome, format};
+use nr_engine::{CountedAlloc, Desk, Limits, Measure, Options, Outcome, format};
 use std::alloc::{AllocError, Global};
 
 /// The four limits.
@@ -132,7 +132,7 @@ fn format_text(
     ensures not_memory { IfOk result (λ code. code ≢ 5) }
     ensures untouched { OnErr result ((output.new ≡ output.old) × (told.new ≡ told.old)) }
 {
-    let mut desk = Desk::new(alloc, limits)?;
+    let mut desk = Desk::new(&mut CountedAlloc::new(alloc), limits)?;
     run_desk(alloc, &mut desk, first, input, output, told)
 }
 

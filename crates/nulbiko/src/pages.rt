@@ -2,7 +2,7 @@
 ghost use Rattle.std.specs.Prelude.{◌≡◌, [], length, take, min, Some, IfOk};
 ghost use Rattle.nr_units.specs.Failures.{no_failures};
 
-use nr_rooms::FixedVec;
+use nr_rooms::{CountedAlloc, FixedVec};
 use nr_units::sink::Sink;
 use nr_units::source::{Fault, next_count};
 use std::alloc::{AllocError, Global};
@@ -22,7 +22,7 @@ impl Pages {
         ensures failures { IfOk result (λ pages. ⟦<Pages as Sink>⟧.failures pages ≡ no_failures) }
     {
         Ok(Pages {
-            bytes: FixedVec::new(alloc, room)?,
+            bytes: FixedVec::new(&mut CountedAlloc::new(alloc), room)?,
             passed_on: false,
             failed_puts: 0,
         })

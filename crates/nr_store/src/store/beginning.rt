@@ -2,6 +2,7 @@
 ghost use Rattle.std.specs.Prelude.{◌≡◌, ◌+◌, ◌≤◌, length, IfOk};
 ghost use Rattle.nr_store.specs.declared.request.TheConstants.{REQUESTS};
 ghost use Rattle.nr_store.specs.Store.{nothing};
+ghost use Rattle.nr_store.specs.Memory.{rooms_of, elements_in};
 ghost use Rattle.nr_store.specs.Request.{request_names, with_senses};
 
 use crate::memory::Room;
@@ -10,9 +11,10 @@ use crate::request::{REQUESTS, Request};
 use crate::store::Store;
 use nr_levels::{Gathering, Levels, Stack};
 use nr_pool::Pool;
+use nr_rooms::CountedAlloc;
 use nr_symbol_tables::{HyphenationWords, Table, Traps};
 use nr_units::Name;
-use std::alloc::{AllocError, Global};
+use std::alloc::AllocError;
 
 // Puts these requests under their names.
 fn name_requests(names: &mut Table<Sense>, requests: &[(u8, u8, Request)])
@@ -28,8 +30,9 @@ fn name_requests(names: &mut Table<Sense>, requests: &[(u8, u8, Request)])
 impl<K: Copy> Store<K> {
     /// A store under this limit, with room for so many levels, and with the requests under their names and nothing else:
     /// `AllocError` where there is not the memory that `Room::of` tells.
-    pub fn new(alloc: Global, limit: u32, deepest: u32) -> Result<Store<K>, AllocError>
-        ensures { IfOk result (λ made. made ≡ nothing request_names limit deepest) }
+    pub fn new(alloc: &mut CountedAlloc, limit: u32, deepest: u32) -> Result<Store<K>, AllocError>
+        ensures made { IfOk result (λ made. made ≡ nothing request_names limit deepest) }
+        ensures taken { IfOk result (λ made. alloc.new ≡ alloc.old + elements_in (rooms_of limit deepest)) }
     {
         let room = Room::of(limit, deepest);
         let mut names = Table::new(alloc, room.names)?;

@@ -9,6 +9,7 @@ use Rattle.nr_levels.specs.Gathering.{Gathering, none_gathered}
 use Rattle.nr_store.specs.declared.element.Element.{Element}
 use Rattle.nr_store.specs.declared.memory.Room.{Room}
 use Rattle.nr_store.specs.declared.request.TheConstants.{REQUESTS}
+use Rattle.nr_store.specs.Memory.{elements_in}
 use Rattle.nr_store.specs.Store.{charge_beside}
 use Rattle.nr_store.specs.Request.{with_senses}
 use Rattle.nr_store.specs.Holders.{beside_of}
@@ -31,29 +32,49 @@ invariant_of-result-2 g c =
     let words_is = ap (λ (x : Room). x.words) room_is in
     let empty = c.in_ok-new.ensures.empty in
     let capacity = c.in_ok-new.ensures.capacity in
-    let before = c.in_ok-names.ensures in
+    let before = c.in_ok-names.ensures.made in
     let named = ap (λ (t : Table _). t.entries) c.name_requests.ensures ∙ ap (λ (t : Table _). with_senses REQUESTS t.entries) before in
     let room = ap (λ (t : Table _). t.room) c.name_requests.ensures ∙ ap (λ (t : Table _). t.room) before in
-    let drafts_room = ap (λ (v : Items _). v.room) c.in_ok-new-2.ensures in
-    let levels_room = ap (λ (v : Levels _). v.room) c.in_ok-new-3.ensures in
-    let gathering_room = ap (λ (v : Gathering). v.room) c.in_ok-new-4.ensures in
-    let registers_room = ap (λ (v : Table _). v.room) c.in_ok-new-5.ensures in
-    let traps_room = ap (λ (v : Items _). v.room) c.in_ok-new-6.ensures in
-    let words_room = ap (λ (v : Items _). v.room) c.in_ok-new-7.ensures in
+    let drafts_room = ap (λ (v : Items _). v.room) c.in_ok-new-2.ensures.made in
+    let levels_room = ap (λ (v : Levels _). v.room) c.in_ok-new-3.ensures.made in
+    let gathering_room = ap (λ (v : Gathering). v.room) c.in_ok-new-4.ensures.made in
+    let registers_room = ap (λ (v : Table _). v.room) c.in_ok-new-5.ensures.made in
+    let traps_room = ap (λ (v : Items _). v.room) c.in_ok-new-6.ensures.made in
+    let words_room = ap (λ (v : Items _). v.room) c.in_ok-new-7.ensures.made in
     let texts : length c.in_ok-new.field-0.texts ≡ n = ap length empty ∙ length-replicate n (no_text {T = Element}) in
-    let no_words = ap (λ (v : Items _). charge_beside none_gathered [] [] (map word_in v.items)) c.in_ok-new-7.ensures in
-    let no_gathered = ap (λ (v : Gathering). charge_beside v.gathered [] [] []) c.in_ok-new-4.ensures in
-    let no_registers = ap (λ (v : Table _). length v.entries) c.in_ok-new-5.ensures in
-    let no_traps = ap (λ (v : Items _). length v.items) c.in_ok-new-6.ensures in
+    let no_words = ap (λ (v : Items _). charge_beside none_gathered [] [] (map word_in v.items)) c.in_ok-new-7.ensures.made in
+    let no_gathered = ap (λ (v : Gathering). charge_beside v.gathered [] [] []) c.in_ok-new-4.ensures.made in
+    let no_registers = ap (λ (v : Table _). length v.entries) c.in_ok-new-5.ensures.made in
+    let no_traps = ap (λ (v : Items _). length v.items) c.in_ok-new-6.ensures.made in
     let fits = c.ranges.limit.fits in
     rw c.names.view_is (begins_empty c.in_ok-new.field-0 c.name_requests.new.names c.in_ok-new-2.field-0 c.in_ok-new-3.field-0 (beside_of c.in_ok-new-4.field-0 c.in_ok-new-5.field-0 c.in_ok-new-6.field-0 c.in_ok-new-7.field-0) c.args.limit n empty named
-    (ap (λ (v : Items _). v.items) c.in_ok-new-2.ensures) (ap (λ (v : Levels _). v.levels) c.in_ok-new-3.ensures) (omega arith)
+    (ap (λ (v : Items _). v.items) c.in_ok-new-2.ensures.made) (ap (λ (v : Levels _). v.levels) c.in_ok-new-3.ensures.made) (omega arith)
     (omega arith) (omega arith) (omega arith) (omega arith) (omega arith) (omega arith) (record { gathering = omega arith; registers = omega arith; traps = omega arith; words = omega arith }))
 
-pub returns : goal.returns
-returns g c =
-    let before = c.in_ok-names.ensures in
+pub returns-clause-made : goal.returns-clause-made
+returns-clause-made g c =
+    let before = c.in_ok-names.ensures.made in
     let named = ap (λ (t : Table _). t.entries) c.names.view_is ∙ ap (λ (t : Table _). t.entries) c.name_requests.ensures ∙ ap (λ (t : Table _). with_senses REQUESTS t.entries) before in
     begun c.in_ok-new.field-0 _ c.in_ok-new-2.field-0 c.in_ok-new-3.field-0 c.in_ok-new-4.field-0 c.in_ok-new-5.field-0 c.in_ok-new-6.field-0 c.in_ok-new-7.field-0 c.args.limit _ c.args.deepest named
-    (ap (λ (v : Items _). v.items) c.in_ok-new-2.ensures) (c.in_ok-new-3.ensures ∙ ap (λ (x : Room). record { levels = []; arguments = []; room = x.bytes; most = x.frames }) c.of-room.ensures)
-    (ap (λ (v : Gathering). v.gathered) c.in_ok-new-4.ensures) (ap (λ (v : Table _). v.entries) c.in_ok-new-5.ensures) (ap (λ (v : Items _). v.items) c.in_ok-new-6.ensures) (ap (λ (v : Items _). v.items) c.in_ok-new-7.ensures)
+    (ap (λ (v : Items _). v.items) c.in_ok-new-2.ensures.made) (c.in_ok-new-3.ensures.made ∙ ap (λ (x : Room). record { levels = []; arguments = []; room = x.bytes; most = x.frames }) c.of-room.ensures)
+    (ap (λ (v : Gathering). v.gathered) c.in_ok-new-4.ensures.made) (ap (λ (v : Table _). v.entries) c.in_ok-new-5.ensures.made) (ap (λ (v : Items _). v.items) c.in_ok-new-6.ensures.made) (ap (λ (v : Items _). v.items) c.in_ok-new-7.ensures.made)
+
+pub returns-clause-taken : goal.returns-clause-taken
+returns-clause-taken g c =
+    let rooms = ap (λ (x : Room). elements_in x) c.of-room.ensures in
+    let kinds = ap (λ (x : Room). x.kinds) c.of-room.ensures in
+    let frames = ap (λ (x : Room). x.frames) c.of-room.ensures in
+    let modes = ap (λ (x : Room). x.modes) c.of-room.ensures in
+    let bytes = ap (λ (x : Room). x.bytes) c.of-room.ensures in
+    let places = ap (λ (x : Room). x.places) c.of-room.ensures in
+    let traps = ap (λ (x : Room). x.traps) c.of-room.ensures in
+    let order = ap (λ (x : Room). x.trap_order) c.of-room.ensures in
+    let names_taken = c.in_ok-names.ensures.taken in
+    let pool_taken = c.in_ok-new.ensures.taken in
+    let drafts_taken = c.in_ok-new-2.ensures.taken in
+    let levels_taken = c.in_ok-new-3.ensures.taken in
+    let gathering_taken = c.in_ok-new-4.ensures.taken in
+    let registers_taken = c.in_ok-new-5.ensures.taken in
+    let traps_taken = c.in_ok-new-6.ensures.taken in
+    let words_taken = c.in_ok-new-7.ensures.taken in
+    omega arith
