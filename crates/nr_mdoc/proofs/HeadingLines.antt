@@ -1,62 +1,54 @@
 -- A heading says its words.
-use Rattle.std.proofs.Common.{◌≡◌, ℕ, ◌≤◌, ◌<◌, ◌+◌, List, [], ◌∷◌, ◌++◌, length, Bool, true, false, not, ◌&&◌, ◌||◌, ◌==◌, nat_lt, nat_le, if◌then◌else◌, refl, sym, ◌∙◌, ap, subst, append_assoc, append-nil, length-append, arith}
-use Rattle.std.proofs.lemmas.Bool.Decides.{nat_tests}
+use Rattle.std.proofs.Common.{◌≡◌, ℕ, ◌≤◌, ◌+◌, List, [], ◌∷◌, ◌++◌, length, Bool, true, false, ◌&&◌, ◌==◌, if◌then◌else◌, refl, sym, ◌∙◌, ap, subst, append_assoc, append-nil, arith}
 use Rattle.std.specs.Prelude.{codes}
 use Prim.Native.Char.{code}
 use Rattle.nr_mdoc.specs.declared.acts.Act.TheVariants as acts
 use Rattle.nr_mdoc.specs.declared.macros.Font.TheVariants.{Roman}
 use Rattle.nr_mdoc.specs.declared.macros.Macro.{Macro}
 use Rattle.nr_mdoc.specs.declared.macros.Macro.TheVariants as macros
-use Rattle.nr_mdoc.specs.declared.page.Inside.TheVariants as insides
 use Rattle.nr_mdoc.specs.declared.page.Page.{Page}
 use Rattle.nr_mdoc.specs.declared.page.Scan.{Scan}
 use Rattle.nr_mdoc.specs.declared.page.Scan.TheVariants as scans
 use Rattle.nr_mdoc.specs.declared.seen.Seen.{Seen}
-use Rattle.nr_mdoc.specs.Calls.{is_none, with_scan}
-use Rattle.nr_mdoc.specs.Keeping.{ends_in_hyphen, ends_word, has_dashes, keep, keep_byte, keep_escape, keeping, looks_up, turns, widens}
+use Rattle.nr_mdoc.specs.Calls.{with_scan}
+use Rattle.nr_mdoc.specs.Keeping.{is_whole, whole_for}
 use Rattle.nr_mdoc.specs.LayingOut.{lay_out}
 use Rattle.nr_mdoc.specs.Lines.{begins, in_section}
 use Rattle.nr_mdoc.specs.Macros.{letters_macro}
-use Rattle.nr_mdoc.specs.Options.{enters, is_shown, option, option_for, option_word, reads_for}
+use Rattle.nr_mdoc.specs.Options.{enters, option, option_for, option_word, reads_for}
 use Rattle.nr_mdoc.specs.Reading.{State, said}
 use Rattle.nr_mdoc.specs.Saying.{parts_of, words_of}
-use Rattle.nr_mdoc.specs.Scanning.{meet, meet_at, meet_whole}
+use Rattle.nr_mdoc.specs.Scanning.{meet, meet_at, meet_whole, meet_whole_at}
 use Rattle.nr_mdoc.specs.Seeing.{Met, met, left, taken, three}
 use Rattle.nr_mdoc.specs.WordLaws.{reads_at, HeadingsAreSaid}
-use Rattle.nr_mdoc.specs.Words.{ends_long, parsed}
-use Rattle.nr_mdoc.specs.WrittenLines.{Usual, way_of, each, is_plain, names_no_string, Word, are_written, behind_each, heading_of}
+use Rattle.nr_mdoc.specs.Words.{ends_long, parsed, taken_behind}
+use Rattle.nr_mdoc.specs.WrittenLines.{Usual, Headed, way_of, names_no_string, Letter, are_letters, kept, written, Word, Bare, Quoted, is_first, headed, are_written, behind_each, line_of, printed_as, written_word}
 use Rattle.nr_mdoc.proofs.After.{after, after-append, next-state, Fresh}
-use Rattle.nr_mdoc.proofs.Escapes.{and_left, and_right, line-text}
+use Rattle.nr_mdoc.proofs.Escapes.{line-text}
 use Rattle.nr_mdoc.proofs.Given.{Whole, whole_of}
-use Rattle.nr_mdoc.proofs.KeptWords.{no_escape, no_quote, not_ending, one_enough, room, scan_same, widened}
-use Rattle.nr_mdoc.proofs.MacroLines.{head_of, beginning, control_taken, macro_met, name_begun, name_taken, plain_names, reads_name, two_enough}
+use Rattle.nr_mdoc.proofs.LongWords.{the_heading}
+use Rattle.nr_mdoc.proofs.MacroLines.{beginning, control_taken, given, given_at, given_leads, letters_names, macro_met, name_begun, name_taken, one_enough, reads_name, two_enough}
 use Rattle.nr_mdoc.proofs.Meeting.{with_page, Leads, Takes, then_takes, leads_by, takes_by}
 use Rattle.nr_mdoc.proofs.Outcomes.{takes_plain, Keeps}
-use Rattle.nr_mdoc.proofs.QuotedLines.{each_names, Behind, behind_of, in_words, Line}
-use Rattle.nr_mdoc.proofs.ReadWords.{not_of, between_by}
-use Rattle.nr_mdoc.proofs.Stepping.{out_step}
+use Rattle.nr_mdoc.proofs.QuotedLines.{each_names, given_quoted, long_whole, quoted_at, quoted_leads, Behind, behind_of, in_words, Line}
+use Rattle.nr_mdoc.proofs.ReadWords.{Read, between_by, between_met, read_bare, read_quoted}
+use Rattle.nr_mdoc.proofs.Stepping.{Head, In, Manner, out_step}
 use Rattle.nr_mdoc.proofs.Taken.{said_in}
-use Rattle.nr_mdoc.proofs.TextSaid.{next-words, or_left, or_right}
-use Rattle.nr_mdoc.proofs.WholeWords.{and_false}
-
--- ---- where the first word of a heading is read
-
-record Heads (s : State) (scan : Scan) (word : List ℕ) : Type 0 where
-  scan_is : s.page.scan ≡ scan
-  word_is : s.page.word ≡ word
-  marks_are : s.page.marks ≡ []
-  few : length s.page.closers ≤ 8
-  going : s.page.call.going ≡ false
-  comment : s.page.call.comment ≡ false
-  line : s.page.call.line ≡ macros.Section
-  taker : s.page.call.taker ≡ macros.Section
+use Rattle.nr_mdoc.proofs.TextSaid.{next-words}
 
 -- ---- the heading begins
+
+-- its first word is read so, and the others so
+abbrev heads : Manner
+heads = record { line = macros.Section; way = Headed; plain = false }
+
+abbrev behind_heads : Head
+behind_heads = record { line = macros.Section; way = Usual }
 
 record Begun (s : State) : Type 0 where
   next : State
   leads : Leads (code " ") (reads_name (codes "Sh") s) next 1 []
-  heads : Heads next scans.Between (codes "Sh")
+  at : In false heads next scans.Between (codes "Sh") []
 
 section_seen : Bool → Seen
 section_seen t = if t then left acts.Section else three acts.Title acts.TitleEnds acts.Section
@@ -78,163 +70,46 @@ begun_by true s none e =
     record {
       next = with_page (said (three acts.Section acts.Nothing acts.Nothing) p).page (reads_name (codes "Sh") s);
       leads = leads_by (code " ") (reads_name (codes "Sh") s) p _ acts.Section acts.Nothing acts.Nothing [] (section_met true s e) refl refl;
-      heads = record { scan_is = refl; word_is = refl; marks_are = none; few = nothing_few; going = refl; comment = refl; line = refl; taker = refl };
+      at = record {
+        scan_is = refl;
+        word_is = refl;
+        marks_are = none;
+        few = nothing_few;
+        going = refl;
+        comment = refl;
+        line = refl;
+        fits = refl;
+        way = refl;
+        free = λ h. refl;
+      };
     }
 begun_by false s none e =
     let p = heading s in
     record {
       next = with_page (said (three acts.Title acts.TitleEnds acts.Section) p).page (reads_name (codes "Sh") s);
       leads = leads_by (code " ") (reads_name (codes "Sh") s) p _ acts.Title acts.TitleEnds acts.Section [] (section_met false s e) refl refl;
-      heads = record { scan_is = refl; word_is = refl; marks_are = none; few = nothing_few; going = refl; comment = refl; line = refl; taker = refl };
+      at = record {
+        scan_is = refl;
+        word_is = refl;
+        marks_are = none;
+        few = nothing_few;
+        going = refl;
+        comment = refl;
+        line = refl;
+        fits = refl;
+        way = refl;
+        free = λ h. refl;
+      };
     }
 
--- ---- its first word
-
-between_met : (b : ℕ) (s : State) (word : List ℕ) → Heads s scans.Between word
-    → meet b s.page ≡ between_by false (b == code " ") (b == code "\t") (b == code "\n") (b == code "\"") s.page
-unfolding meet between_by
-between_met b s word at =
-    ap (λ (sc : Scan). meet_at sc b s.page) at.scan_is
-    ∙ ap (λ (t : Bool). between_by t (b == code " ") (b == code "\t") (b == code "\n") (b == code "\"") s.page) at.comment
-
-blank_taken : (s : State) (word : List ℕ) → Heads s scans.Between word → Takes (code " ") s s 1 []
+blank_taken : (s : State) (word : List ℕ) → In false heads s scans.Between word [] → Takes (code " ") s s 1 []
 unfolding said lay_out between_by
 blank_taken s word at =
-    takes_by (code " ") s s.page s.page acts.Nothing acts.Nothing acts.Nothing [] (between_met (code " ") s word at) refl refl
+    takes_by (code " ") s s.page s.page acts.Nothing acts.Nothing acts.Nothing [] (between_met heads (code " ") s word [] at) refl refl
 
-opened : Page → Page
-opened p = with_scan scans.Word (record p { word = []; call = record p.call { width = 0 } })
+-- ---- its first word is whole
 
-opened_leads : (b : ℕ) (s : State) (word : List ℕ) → Heads s scans.Between word → is_plain b ≡ true → Leads b s (with_page (opened s.page) s) 1 []
-unfolding between_by opened said lay_out
-opened_leads b s word at h =
-    let p = s.page in
-    let blank_or = (b == code " ") || (b == code "\t") in
-    let other = not_of (ends_word b) (not_ending b h) in
-    let no_blank = not_of blank_or (or_left blank_or (b == code "\n") other) in
-    leads_by b s (opened p) (opened p) acts.Nothing acts.Nothing acts.Nothing []
-    (between_met b s word at
-    ∙ ap (λ (t : Bool). between_by false t (b == code "\t") (b == code "\n") (b == code "\"") p) (or_left (b == code " ") (b == code "\t") no_blank)
-    ∙ ap (λ (t : Bool). between_by false false t (b == code "\n") (b == code "\"") p) (or_right (b == code " ") (b == code "\t") no_blank)
-    ∙ ap (λ (t : Bool). between_by false false false t (b == code "\"") p) (or_right blank_or (b == code "\n") other)
-    ∙ ap (λ (t : Bool). between_by false false false false t p) (no_quote b h))
-    refl refl
-
-opened_heads : (s : State) (word : List ℕ) → Heads s scans.Between word → Heads (with_page (opened s.page) s) scans.Word []
-unfolding opened
-opened_heads s word at = record {
-  scan_is = refl;
-  word_is = refl;
-  marks_are = at.marks_are;
-  few = at.few;
-  going = at.going;
-  comment = at.comment;
-  line = at.line;
-  taker = at.taker;
-}
-
-in_word_met : (b : ℕ) (s : State) (word : List ℕ) → Heads s scans.Word word → is_plain b ≡ true → meet b s.page ≡ keep b false s.page
-unfolding meet
-in_word_met b s word at h =
-    let p = s.page in
-    ap (λ (sc : Scan). meet_at sc b p) at.scan_is
-    ∙ ap (λ (t : Bool). if t then met (with_scan (scans.Given false) p) (left acts.Nothing) else if b == code "\\" then met (with_scan scans.Escape p) (taken acts.Nothing) else keep_byte b false p) (not_ending b h)
-    ∙ ap (λ (t : Bool). if t then met (with_scan scans.Escape p) (taken acts.Nothing) else keep_byte b false p) (no_escape b h)
-    ∙ ap (λ (m : Macro). if (b == code "-") && not (is_none p.word) && (not (looks_up m) || (has_dashes m && ends_in_hyphen p.word)) then keep_escape b false p else keep b false p) at.taker
-    ∙ ap (λ (t : Bool). if t then keep_escape b false p else keep b false p) (and_false ((b == code "-") && not (is_none p.word)) false refl)
-
-record Kept (b : ℕ) (s : State) (word : List ℕ) : Type 0 where
-  next : State
-  takes : Takes b s next 1 []
-  heads : Heads next scans.Word word
-
-widened_heads : (t : Bool) (s : State) (p : Page) (scan : Scan) (word : List ℕ) → Heads (with_page p s) scan word → Heads (with_page (widened t p) s) scan word
-unfolding widened
-widened_heads true s p scan word at = record {
-  scan_is = at.scan_is;
-  word_is = at.word_is;
-  marks_are = at.marks_are;
-  few = at.few;
-  going = at.going;
-  comment = at.comment;
-  line = at.line;
-  taker = at.taker;
-}
-widened_heads false s p scan word at = at
-
-longer : (s : State) (bytes word : List ℕ) → Heads s scans.Word word → Heads (with_page (with_scan scans.Word (keeping bytes s.page)) s) scans.Word (word ++ bytes)
-longer s bytes word at = record {
-  scan_is = refl;
-  word_is = ap (λ (xs : List ℕ). xs ++ bytes) at.word_is;
-  marks_are = at.marks_are;
-  few = at.few;
-  going = at.going;
-  comment = at.comment;
-  line = at.line;
-  taker = at.taker;
-}
-
-keep_rest : ℕ → Page → Met
-keep_rest b p = if is_shown p then turns (scans.Long insides.Word) (left acts.Nothing) p else met (widens p) (taken acts.Nothing)
-
-kept_byte : (b : ℕ) (s : State) (word : List ℕ) → Heads s scans.Word word → is_plain b ≡ true → length word < 30 → Kept b s (word ++ b ∷ [])
-unfolding said lay_out widened keep_rest
-kept_byte b s word at h l =
-    let p = s.page in
-    let q = with_scan scans.Word (keeping (b ∷ []) p) in
-    let wide = nat_lt p.call.width 9999 in
-    record {
-      next = with_page (widened wide q) s;
-      takes =
-          takes_by b s (widened wide q) (widened wide q) acts.Nothing acts.Nothing acts.Nothing []
-          (in_word_met b s word at h
-          ∙ ap (λ (t : Bool). if t then met (widens (keeping (b ∷ []) p)) (taken acts.Nothing) else keep_rest b p) (ap (λ (w : List ℕ). nat_lt (length w) 30) at.word_is ∙ room word l)
-          ∙ ap (λ (r : Page). met (widens (keeping (b ∷ []) r)) (taken acts.Nothing)) (scan_same p scans.Word at.scan_is))
-          refl refl;
-      heads = widened_heads wide s q scans.Word (word ++ b ∷ []) (longer s (b ∷ []) word at);
-    }
-
-heads_at : (s : State) {word word2 : List ℕ} → word ≡ word2 → Heads s scans.Word word → Heads s scans.Word word2
-heads_at s e at = subst (λ (w : List ℕ). Heads s scans.Word w) e at
-
-record Read (s : State) (bs word : List ℕ) : Type 0 where
-  next : State
-  said : (rest : List ℕ) → words_of (parts_of s (bs ++ rest)) ≡ words_of (parts_of next rest)
-  state : after s bs ≡ next
-  heads : Heads next scans.Word word
-
-read_more : (bs : List ℕ) (s : State) (word : List ℕ) → Heads s scans.Word word → each is_plain bs ≡ true → length word + length bs ≤ 30
-    → Read s bs (word ++ bs)
-read_more [] s word at h l =
-    record { next = s; said = λ rest. refl; state = refl; heads = heads_at s (sym (append-nil word)) at }
-read_more (b ∷ bs) s word at h l =
-    let one = kept_byte b s word at (and_left (is_plain b) (each is_plain bs) h) (omega arith) in
-    let later = read_more bs one.next (word ++ b ∷ []) one.heads (and_right (is_plain b) (each is_plain bs) h)
-    (let longer_by : length (word ++ b ∷ []) ≡ length word + length (b ∷ []) = length-append word (b ∷ []) in omega arith) in
-    record {
-      next = later.next;
-      said = λ rest. next-words b (bs ++ rest) s one.next 1 [] _ one_enough one.takes refl ∙ later.said rest;
-      state = next-state b bs s one.next 1 [] one_enough one.takes ∙ later.state;
-      heads = heads_at later.next (append_assoc word (b ∷ []) bs) later.heads;
-    }
-
--- ---- the word is whole
-
-given : State → State
-given s = with_page (with_scan (scans.Given false) s.page) s
-
-in_word_rest : ℕ → Page → Met
-in_word_rest b p = if b == code "\\" then met (with_scan scans.Escape p) (taken acts.Nothing) else keep_byte b false p
-
-given_leads : (b : ℕ) (s : State) (word : List ℕ) → Heads s scans.Word word → ends_word b ≡ true → Leads b s (given s) 1 []
-unfolding said lay_out given meet in_word_rest
-given_leads b s word at e =
-    let p = s.page in
-    leads_by b s (with_scan (scans.Given false) p) (with_scan (scans.Given false) p) acts.Nothing acts.Nothing acts.Nothing []
-    (ap (λ (sc : Scan). meet_at sc b p) at.scan_is ∙ ap (λ (t : Bool). if t then met (with_scan (scans.Given false) p) (left acts.Nothing) else in_word_rest b p) e)
-    refl refl
-
--- behind the first word others are read as they are on lines of other macros
+-- behind it others are read as they are on lines of other macros
 behind_first : Page → Page
 behind_first p =
     let q = enters (with_scan scans.Between p) in record q { call = record q.call { taker = macros.Words Roman; some = true } }
@@ -243,64 +118,124 @@ given_by : Macro → Page → Met
 given_by m p =
     let o = option_for m (with_scan scans.Between p) in met (record o.page { call = record o.page.call { some = true } }) o.seen
 
-heading_met : (b : ℕ) (s : State) (word : List ℕ) → Heads s scans.Word word
-    → meet b (given s).page ≡ met (behind_first (given s).page) (three (acts.Word Roman) acts.Nothing acts.Nothing)
-unfolding meet meet_whole given behind_first option_word given_by
-heading_met b s word at =
-    let p = with_scan (scans.Given false) s.page in
-    ap (λ (t : Bool). if t then ends_long p else if reads_for p.call.taker then option p else parsed false p) at.going
-    ∙ ap (λ (m : Macro). if reads_for m then given_by m p else parsed false p) at.taker
+heading_met : (quoted : Bool) (b : ℕ) (s : State) (word : List ℕ) → In false heads s (scans.Given quoted) word []
+    → meet b s.page ≡ met (behind_first s.page) (three (acts.Word Roman) acts.Nothing acts.Nothing)
+unfolding meet meet_whole behind_first option_word given_by
+heading_met quoted b s word at =
+    let p = s.page in
+    ap (λ (sc : Scan). meet_at sc b p) at.scan_is ∙ ap (λ (sc : Scan). meet_whole_at sc b p) at.scan_is
+    ∙ ap (λ (t : Bool). if t then ends_long p else if reads_for p.call.taker then option p else parsed quoted p) at.going
+    ∙ ap (λ (m : Macro). if reads_for m then given_by m p else parsed quoted p) (the_heading p.call.taker at.fits)
 
-first_whole : (b : ℕ) (s : State) (word : List ℕ) → Heads s scans.Word word → Whole (head_of macros.Section) b (given s) 3 word
-unfolding given behind_first takes_plain
-first_whole b s word at =
-    let p = (given s).page in
-    let q = with_scan scans.Between p in
+short_whole : (quoted : Bool) (b : ℕ) (s : State) (word : List ℕ) → In false heads s (scans.Given quoted) word [] → Whole behind_heads b s 3 word
+unfolding behind_first takes_plain
+short_whole quoted b s word at =
+    let p = s.page in
+    let q = record p { scan = scans.Between; call = record p.call { taker = macros.Words Roman } } in
     let keeps : Keeps q (behind_first p) =
-    record { scan = refl; word = refl; marks = refl; few = λ l. l; going = refl; comment = refl; line = refl; fits = refl; way = ap way_of (sym at.taker) } in
-    whole_of (head_of macros.Section) b (given s) 1 3 q.word q.word [] word (omega arith)
-    (out_step (head_of macros.Section) b (given s) (met (behind_first p) (three (acts.Word Roman) acts.Nothing acts.Nothing)) q q.word [] (heading_met b s word at)
-    (said_in Roman (behind_first p) q keeps) at.marks_are at.few at.going at.comment at.line (ap way_of at.taker) (λ h. refl))
+    record { scan = refl; word = refl; marks = refl; few = λ l. l; going = refl; comment = refl; line = refl; fits = refl; way = refl } in
+    whole_of behind_heads b s 1 3 q.word q.word [] word (omega arith)
+    (out_step behind_heads b s (met (behind_first p) (three (acts.Word Roman) acts.Nothing acts.Nothing)) q q.word [] (heading_met quoted b s word at)
+    (said_in Roman (behind_first p) q keeps) at.marks_are at.few at.going at.comment at.line refl (λ h. refl))
     (append-nil q.word ∙ at.word_is)
 
-first_behind : (s : State) (word : List ℕ) → Heads s scans.Word word → Behind (head_of macros.Section) s word
-first_behind s word at =
-    behind_of (head_of macros.Section) s (given s) word (given_leads (code " ") s word at refl) (given_leads (code "\n") s word at refl)
-    (first_whole (code " ") s word at) (first_whole (code "\n") s word at) refl
+last_whole : (quoted : Bool) (b : ℕ) (s : State) (word : List ℕ) → In true heads s (scans.Given quoted) word [] → Whole behind_heads b s 3 word
+unfolding takes_plain
+last_whole quoted b s word at =
+    let is = the_heading s.page.call.taker at.fits in
+    long_whole quoted heads behind_heads b s word at refl (ap (λ (m : Macro). takes_plain (taken_behind m)) is) (ap (λ (m : Macro). way_of (taken_behind m)) is)
+
+first_whole : (going quoted : Bool) (b : ℕ) (s : State) (word : List ℕ) → In going heads s (scans.Given quoted) word [] → Whole behind_heads b s 3 word
+first_whole true quoted b s word at = last_whole quoted b s word at
+first_whole false quoted b s word at = short_whole quoted b s word at
+
+bare_behind : (going : Bool) (s : State) (word : List ℕ) → In going heads s scans.Word word [] → Behind behind_heads s word
+bare_behind going s word at =
+    let inside = given_at going heads s word [] at in
+    behind_of behind_heads s (given s) word
+    (given_leads going heads (code " ") s word [] at refl) (given_leads going heads (code "\n") s word [] at refl)
+    (first_whole going false (code " ") (given s) word inside) (first_whole going false (code "\n") (given s) word inside) refl
+
+quoted_behind : (going : Bool) (s : State) (word : List ℕ) → In going heads s scans.Closing word [] → Behind behind_heads s word
+quoted_behind going s word at =
+    let inside = quoted_at going heads s word [] at in
+    behind_of behind_heads s (given_quoted s) word
+    (quoted_leads going heads (code " ") s word [] at refl) (quoted_leads going heads (code "\n") s word [] at refl)
+    (first_whole going true (code " ") (given_quoted s) word inside) (first_whole going true (code "\n") (given_quoted s) word inside) refl
+
+-- no marks are held back
+none_held : (going : Bool) (held : List ℕ) → (going ≡ true → held ≡ []) → (going ≡ false → held ≡ []) → held ≡ []
+none_held true held f g = f refl
+none_held false held f g = g refl
+
+clear_at : (going : Bool) (s : State) (scan : Scan) (word held : List ℕ) → held ≡ [] → In going heads s scan word held → In going heads s scan word []
+clear_at going s scan word held e at = subst (λ (hs : List ℕ). In going heads s scan word hs) e at
+
+-- what is said of it
+record First (s : State) (bs all : List ℕ) : Type 0 where
+  next : State
+  xs : List ℕ
+  ys : List ℕ
+  said : (rest : List ℕ) → words_of (parts_of s (bs ++ rest)) ≡ xs ++ words_of (parts_of next rest)
+  state : after s bs ≡ next
+  behind : Behind behind_heads next ys
+  total : xs ++ ys ≡ all
+
+first_total : (xs held word all : List ℕ) → xs ++ (held ++ word) ≡ all → held ≡ [] → xs ++ word ≡ all
+first_total xs held word all e f = ap (λ (hs : List ℕ). xs ++ (hs ++ word)) (sym f) ∙ e
+
+first_bare : (s : State) (bs all : List ℕ) (first hyphen : Bool) → Read heads false false s scans.Word bs [] all first hyphen → First s bs all
+first_bare s bs all first hyphen r =
+    let none = none_held r.going r.held r.clear r.same_marks in
+    record {
+      next = r.next;
+      xs = r.xs;
+      ys = r.word;
+      said = r.said;
+      state = r.state;
+      behind = bare_behind r.going r.next r.word (clear_at r.going r.next scans.Word r.word r.held none r.at);
+      total = first_total r.xs r.held r.word all r.total none;
+    }
+
+no_whole : (p : Page) → p.call.taker ≡ macros.Section → is_whole p ≡ false
+no_whole p e = ap (λ (m : Macro). whole_for m p) e
+
+first_quoted : (s : State) (bs : List ℕ) (ls : List Letter) (whole first hyphen : Bool) → Read heads true whole s scans.Closing bs [] (kept Headed whole ls) first hyphen
+    → First s bs (kept Headed false ls)
+first_quoted s bs ls whole first hyphen r =
+    let none = none_held r.going r.held r.clear r.same_marks in
+    let apart : whole ≡ false = sym r.together ∙ no_whole r.next.page (the_heading r.next.page.call.taker r.at.fits) in
+    record {
+      next = r.next;
+      xs = r.xs;
+      ys = r.word;
+      said = r.said;
+      state = r.state;
+      behind = quoted_behind r.going r.next r.word (clear_at r.going r.next scans.Closing r.word r.held none r.at);
+      total = first_total r.xs r.held r.word (kept Headed whole ls) r.total none ∙ ap (λ (t : Bool). kept Headed t ls) apart;
+    }
+
+first_word : (w : Word) (s : State) (word : List ℕ) → In false heads s scans.Between word [] → is_first w ≡ true → First s (written_word w) (headed w)
+first_word (Bare []) s word at h = absurd (let no : false ≡ true = h in cc)
+first_word (Bare (l ∷ ls)) s word at h =
+    let all = read_bare l ls heads s word [] at h in first_bare s (written false (l ∷ ls)) (kept Headed false (l ∷ ls)) all.first all.hyphen all.read
+first_word (Quoted ls) s word at h =
+    let q = read_quoted ls heads s word [] at h in
+    first_quoted s (code "\"" ∷ written true ls ++ codes "\"") ls q.whole q.spelled.first q.spelled.hyphen q.spelled.read
 
 -- ---- the whole line
 
-at_most_thirty : (n : ℕ) → nat_le n 30 ≡ true → n ≤ 30
-at_most_thirty n e = grind (arith, nat_tests)
-
-first_words : (b : ℕ) (bs : List ℕ) (s : State) (word : List ℕ) → Heads s scans.Between word → each is_plain (b ∷ bs) ≡ true → length (b ∷ bs) ≤ 30 → Read s (b ∷ bs) (b ∷ bs)
-first_words b bs s word at h l =
-    let t = with_page (opened s.page) s in
-    let plain = and_left (is_plain b) (each is_plain bs) h in
-    let one = kept_byte b t [] (opened_heads s word at) plain (omega arith) in
-    let later = read_more bs one.next (b ∷ []) one.heads (and_right (is_plain b) (each is_plain bs) h) (omega arith) in
-    record {
-      next = later.next;
-      said = λ rest.
-          next-words b (bs ++ rest) s one.next (1 + 1) [] _ two_enough
-          (then_takes b s t one.next 1 1 [] [] (opened_leads b s word at plain) one.takes) refl ∙ later.said rest;
-      state =
-          next-state b bs s one.next (1 + 1) [] two_enough
-          (then_takes b s t one.next 1 1 [] [] (opened_leads b s word at plain) one.takes) ∙ later.state;
-      heads = later.heads;
-    }
-
-pub heading_line : (b : ℕ) (bs : List ℕ) (ws : List Word) (s : State) → s.page.marks ≡ [] → each is_plain (b ∷ bs) ≡ true
-    → nat_le (length (b ∷ bs)) 30 ≡ true → are_written Usual ws ≡ true
-    → Line (reads_at scans.Start s) (heading_of (b ∷ bs) ws) (b ∷ bs) Usual ws
-heading_line b bs ws s none h l all =
+pub heading_line : (w : Word) (ws : List Word) (s : State) → s.page.marks ≡ [] → is_first w ≡ true → are_written Usual ws ≡ true
+    → Line (reads_at scans.Start s) (line_of (codes "Sh") (w ∷ ws)) (headed w) Usual ws
+heading_line w ws s none h all =
     let start = reads_at scans.Start s in
     let line = begun_by s.page.place.titled s none refl in
-    let first = first_words b bs line.next (codes "Sh") line.heads h (at_most_thirty (length (b ∷ bs)) l) in
-    let rest = in_words ws (head_of macros.Section) first.next (b ∷ bs) (first_behind first.next (b ∷ bs) first.heads) refl all in
+    let first = first_word w line.next (codes "Sh") line.at h in
+    let rest = in_words ws behind_heads first.next first.ys first.behind refl all in
     let behind = behind_each ws ++ codes "\n" in
-    let words = (b ∷ bs ++ behind_each ws) ++ codes "\n" in
-    let takes = then_takes (code " ") (reads_name (codes "Sh") s) line.next line.next 1 1 [] [] line.leads (blank_taken line.next (codes "Sh") line.heads) in
+    let bytes = written_word w in
+    let words = (bytes ++ behind_each ws) ++ codes "\n" in
+    let takes = then_takes (code " ") (reads_name (codes "Sh") s) line.next line.next 1 1 [] [] line.leads (blank_taken line.next (codes "Sh") line.at) in
     let begins = name_begun (code "S") s refl in
     let goes_on = name_taken (code "h") (codes "S") s refl (omega arith) in
     record {
@@ -310,29 +245,35 @@ heading_line b bs ws s none h l all =
           ∙ next-words (code "S") (codes "h " ++ words) (reads_at scans.Control s) (reads_name (codes "S") s) 1 [] _ one_enough begins refl
           ∙ next-words (code "h") (codes " " ++ words) (reads_name (codes "S") s) (reads_name (codes "Sh") s) 1 [] _ one_enough goes_on refl
           ∙ next-words (code " ") words (reads_name (codes "Sh") s) line.next (1 + 1) ([] ++ []) _ two_enough takes refl
-          ∙ ap (λ (xs : List ℕ). words_of (parts_of line.next xs)) (append_assoc (b ∷ bs) (behind_each ws) (codes "\n"))
-          ∙ first.said behind ∙ rest.words;
+          ∙ ap (λ (xs : List ℕ). words_of (parts_of line.next xs)) (append_assoc bytes (behind_each ws) (codes "\n"))
+          ∙ first.said behind ∙ ap (λ (zs : List ℕ). first.xs ++ zs) rest.words
+          ∙ sym (append_assoc first.xs first.ys (printed_as Usual rest.wholes ws))
+          ∙ ap (λ (zs : List ℕ). zs ++ printed_as Usual rest.wholes ws) first.total;
       fresh =
           subst Fresh
           (sym (next-state (code ".") (codes "Sh " ++ words) start (reads_at scans.Control s) 1 [] one_enough (control_taken s)
           ∙ next-state (code "S") (codes "h " ++ words) (reads_at scans.Control s) (reads_name (codes "S") s) 1 [] one_enough begins
           ∙ next-state (code "h") (codes " " ++ words) (reads_name (codes "S") s) (reads_name (codes "Sh") s) 1 [] one_enough goes_on
           ∙ next-state (code " ") words (reads_name (codes "Sh") s) line.next (1 + 1) ([] ++ []) two_enough takes
-          ∙ ap (λ (xs : List ℕ). after line.next xs) (append_assoc (b ∷ bs) (behind_each ws) (codes "\n"))
-          ∙ after-append line.next (b ∷ bs) behind ∙ ap (λ (t : State). after t behind) first.state))
+          ∙ ap (λ (xs : List ℕ). after line.next xs) (append_assoc bytes (behind_each ws) (codes "\n"))
+          ∙ after-append line.next bytes behind ∙ ap (λ (t : State). after t behind) first.state))
           rest.fresh;
     }
 
-pub heading_names : (b : ℕ) (bs : List ℕ) (ws : List Word) → each is_plain (b ∷ bs) ≡ true → are_written Usual ws ≡ true
-    → names_no_string (codes ".Sh " ++ (b ∷ bs) ++ behind_each ws) ≡ true
-heading_names b bs ws h all = plain_names (b ∷ bs) (behind_each ws) h (each_names ws Usual all)
+pub heading_names : (w : Word) (ws : List Word) → is_first w ≡ true → are_written Usual ws ≡ true
+    → names_no_string (codes "." ++ codes "Sh" ++ behind_each (w ∷ ws)) ≡ true
+heading_names (Bare []) ws h all = absurd (let no : false ≡ true = h in cc)
+heading_names (Bare (l ∷ ls)) ws h all = letters_names false (l ∷ ls) (behind_each ws) h (each_names ws Usual all)
+heading_names (Quoted ls) ws h all =
+    subst (λ (xs : List ℕ). names_no_string xs ≡ true) (sym (append_assoc (written true ls) (codes "\"") (behind_each ws)))
+    (letters_names true ls (code "\"" ∷ behind_each ws) h (each_names ws Usual all))
 
 pub headings_are_said : HeadingsAreSaid
-headings_are_said s b bs ws none h l all =
-    let line = heading_line b bs ws s none h l all in (
+headings_are_said s w ws none h all =
+    let line = heading_line w ws s none h all in (
       line.wholes,
       record {
-        text = line-text (codes ".Sh " ++ (b ∷ bs) ++ behind_each ws) (reads_at scans.Start s) refl (heading_names b bs ws h all);
+        text = line-text (codes "." ++ codes "Sh" ++ behind_each (w ∷ ws)) (reads_at scans.Start s) refl (heading_names w ws h all);
         words = line.words;
       },
     )

@@ -13,18 +13,18 @@ use Rattle.nr_mdoc.specs.declared.page.Scan.TheVariants as scans
 use Rattle.nr_mdoc.specs.Calls.{is_none, with_scan}
 use Rattle.nr_mdoc.specs.Keeping.{comment, continued, ends_in_hyphen, ends_word, has_dashes, in_word_of, is_whole, keep, keep_blank, keep_byte, keep_escape, keep_quote, keeping, looks_up, turns, whole_for, widens, wider, within, within_escape}
 use Rattle.nr_mdoc.specs.LayingOut.{lay_out}
-use Rattle.nr_mdoc.specs.Options.{is_heading, is_shown}
+use Rattle.nr_mdoc.specs.Options.{is_heading, is_shown, reads_for}
 use Rattle.nr_mdoc.specs.Reading.{State, said}
 use Rattle.nr_mdoc.specs.Scanning.{meet, meet_at}
 use Rattle.nr_mdoc.specs.Seeing.{Met, met, left, taken}
 use Rattle.nr_mdoc.specs.Words.{goes_to}
-use Rattle.nr_mdoc.specs.WrittenLines.{Way, hyphens_stay, Letter, Plain, is_escaped, is_held, is_letter, is_plain, is_quotable, kept_first, kept_letter}
+use Rattle.nr_mdoc.specs.WrittenLines.{Way, holds_hyphen, Letter, Plain, is_escaped, is_held, is_letter, is_plain, is_quotable, kept_first, kept_letter}
 use Rattle.nr_mdoc.proofs.Escapes.{and_left, and_right, is_not, same_byte}
 use Rattle.nr_mdoc.proofs.Given.{plain_reads}
 use Rattle.nr_mdoc.proofs.LongWords.{Flushed, flushed}
 use Rattle.nr_mdoc.proofs.Meeting.{with_page, Takes, then_takes, takes_by}
-use Rattle.nr_mdoc.proofs.Outcomes.{takes_plain}
-use Rattle.nr_mdoc.proofs.Stepping.{In, Head, in_as}
+use Rattle.nr_mdoc.proofs.Outcomes.{takes_as}
+use Rattle.nr_mdoc.proofs.Stepping.{In, Manner, in_as}
 use Rattle.nr_mdoc.proofs.Together.{whole_kept}
 use Rattle.nr_mdoc.proofs.Ways.{plain_hyphen}
 use Rattle.nr_mdoc.proofs.WholeWords.{and_false}
@@ -66,7 +66,7 @@ no_newline b h =
 unfoldable pub widened : Bool → Page → Page
 widened t p = if t then record p { call = record p.call { width = p.call.width + 1 } } else p
 
-widened_in : (t : Bool) (going : Bool) (head : Head) (s : State) (p : Page) (scan : Scan) (word marks : List ℕ) → In going head (with_page p s) scan word marks
+widened_in : (t : Bool) (going : Bool) (head : Manner) (s : State) (p : Page) (scan : Scan) (word marks : List ℕ) → In going head (with_page p s) scan word marks
     → In going head (with_page (widened t p) s) scan word marks
 unfolding widened
 widened_in true going head s p scan word marks at =
@@ -101,7 +101,7 @@ one_enough = omega arith
 -- ---- a byte has room
 
 -- it is taken, and the line is read further so
-pub record Kept (going : Bool) (head : Head) (b : ℕ) (s : State) (scan : Scan) (word marks : List ℕ) : Type 0 where
+pub record Kept (going : Bool) (head : Manner) (b : ℕ) (s : State) (scan : Scan) (word marks : List ℕ) : Type 0 where
   pub next : State
   pub takes : Takes b s next 1 []
   pub at : In going head next scan word marks
@@ -110,7 +110,7 @@ pub record Kept (going : Bool) (head : Head) (b : ℕ) (s : State) (scan : Scan)
 keep_rest : Bool → Page → Met
 keep_rest quoted p = if is_shown p then turns (scans.Long (within quoted)) (left acts.Nothing) p else met (widens p) (taken acts.Nothing)
 
-kept_plain : (going quoted : Bool) (head : Head) (b c : ℕ) (s : State) (scan : Scan) (word marks : List ℕ) → In going head s scan word marks → length word < 30
+kept_plain : (going quoted : Bool) (head : Manner) (b c : ℕ) (s : State) (scan : Scan) (word marks : List ℕ) → In going head s scan word marks → length word < 30
     → meet b s.page ≡ keep c quoted (with_scan (in_word_of quoted) s.page) → Kept going head b s (in_word_of quoted) (word ++ c ∷ []) marks
 unfolding said lay_out widened keep_rest
 kept_plain going quoted head b c s scan word marks at l e =
@@ -137,7 +137,7 @@ escape_rest c quoted p =
     if is_shown p then turns (scans.Long (within_escape quoted)) (left acts.Nothing) p
     else turns (in_word_of quoted) (taken acts.Nothing) (wider c p)
 
-kept_escape : (going quoted : Bool) (head : Head) (b c : ℕ) (s : State) (scan : Scan) (word marks : List ℕ) → In going head s scan word marks → length word < 30
+kept_escape : (going quoted : Bool) (head : Manner) (b c : ℕ) (s : State) (scan : Scan) (word marks : List ℕ) → In going head s scan word marks → length word < 30
     → meet b s.page ≡ keep_escape c quoted s.page → Kept going head b s (in_word_of quoted) (word ++ code "\\" ∷ c ∷ []) marks
 unfolding said lay_out widened escape_rest
 kept_escape going quoted head b c s scan word marks at l e =
@@ -166,11 +166,19 @@ kept_escape going quoted head b c s scan word marks at l e =
 
 -- ---- a byte has no room
 
-shown : (going : Bool) (head : Head) (s : State) (scan : Scan) (word marks : List ℕ) → In going head s scan word marks → is_shown s.page ≡ true
-shown going head s scan word marks at =
-    ap (λ (t : Bool). not t || is_heading s.page.call.taker) (plain_reads s.page.call.taker at.fits)
+or_true : (t : Bool) → (t || true) ≡ true
+or_true true = refl
+or_true false = refl
 
-full_plain : (going quoted : Bool) (head : Head) (b c : ℕ) (s : State) (scan : Scan) (word marks : List ℕ) → In going head s scan word marks → 30 ≤ length word
+shown_by : (plain : Bool) (m : Macro) → takes_as plain m ≡ true → (not (reads_for m) || is_heading m) ≡ true
+shown_by true m h = ap (λ (t : Bool). not t || is_heading m) (plain_reads m h)
+shown_by false m h = ap (λ (t : Bool). not (reads_for m) || t) h ∙ or_true (not (reads_for m))
+
+shown : (going : Bool) (head : Manner) (s : State) (scan : Scan) (word marks : List ℕ) → In going head s scan word marks → is_shown s.page ≡ true
+shown going head s scan word marks at =
+    shown_by head.plain s.page.call.taker at.fits
+
+full_plain : (going quoted : Bool) (head : Manner) (b c : ℕ) (s : State) (scan : Scan) (word marks : List ℕ) → In going head s scan word marks → 30 ≤ length word
     → meet b s.page ≡ keep c quoted (with_scan (in_word_of quoted) s.page)
     → meet b s.page ≡ met (with_scan (scans.Long (within quoted)) s.page) (left acts.Nothing)
 unfolding keep_rest
@@ -182,7 +190,7 @@ full_plain going quoted head b c s scan word marks at l e =
     ∙ ap (λ (t : Bool). if t then turns (scans.Long (within quoted)) (left acts.Nothing) p else met (widens p) (taken acts.Nothing))
     (shown going head s scan word marks at)
 
-full_escape : (going quoted : Bool) (head : Head) (b c : ℕ) (s : State) (scan : Scan) (word marks : List ℕ) → In going head s scan word marks → 30 ≤ length word
+full_escape : (going quoted : Bool) (head : Manner) (b c : ℕ) (s : State) (scan : Scan) (word marks : List ℕ) → In going head s scan word marks → 30 ≤ length word
     → meet b s.page ≡ keep_escape c quoted s.page
     → meet b s.page ≡ met (with_scan (scans.Long (within_escape quoted)) s.page) (left acts.Nothing)
 unfolding escape_rest
@@ -198,7 +206,7 @@ full_escape going quoted head b c s scan word marks at l e =
 -- ---- a byte is kept
 
 -- in a few meetings it is taken, and these bytes are kept of it, behind those of the word, or alone where those went out
-pub record Grown (going : Bool) (head : Head) (b : ℕ) (s : State) (scan : Scan) (word marks piece : List ℕ) : Type 0 where
+pub record Grown (going : Bool) (head : Manner) (b : ℕ) (s : State) (scan : Scan) (word marks piece : List ℕ) : Type 0 where
   pub out : Bool
   pub next : State
   pub steps : ℕ
@@ -208,8 +216,8 @@ pub record Grown (going : Bool) (head : Head) (b : ℕ) (s : State) (scan : Scan
   pub whole : is_whole next.page ≡ is_whole s.page
   pub long : out ≡ true → 30 ≤ length word
 
-takes_as : (b : ℕ) (s t : State) (k : ℕ) (xs ys : List ℕ) → xs ≡ ys → Takes b s t k xs → Takes b s t k ys
-takes_as b s t k xs ys e p = subst (λ (zs : List ℕ). Takes b s t k zs) e p
+taken_as : (b : ℕ) (s t : State) (k : ℕ) (xs ys : List ℕ) → xs ≡ ys → Takes b s t k xs → Takes b s t k ys
+taken_as b s t k xs ys e p = subst (λ (zs : List ℕ). Takes b s t k zs) e p
 
 six : (k : ℕ) → k ≤ 5 → k + 1 ≤ 6
 six k l = omega arith
@@ -217,7 +225,7 @@ six k l = omega arith
 never_out : (n : ℕ) → false ≡ true → 30 ≤ n
 never_out n e = absurd (let no : false ≡ true = e in cc)
 
-grown_by : (t : Bool) (going : Bool) (inside : Inside) (head : Head) (b : ℕ) (s : State) (scan from : Scan) (word marks piece : List ℕ)
+grown_by : (t : Bool) (going : Bool) (inside : Inside) (head : Manner) (b : ℕ) (s : State) (scan from : Scan) (word marks piece : List ℕ)
     → nat_lt (length word) 30 ≡ t → In going head s from word marks → (going ≡ true → marks ≡ [])
     → (length word < 30 → Kept going head b s scan (word ++ piece) marks)
     → (30 ≤ length word → meet b s.page ≡ met (with_scan (scans.Long inside) s.page) (left acts.Nothing))
@@ -245,7 +253,7 @@ grown_by false going inside head b s scan from word marks piece e at none fits f
       steps = f.steps + 1;
       few = six f.steps f.few;
       takes =
-          takes_as b s one.next (f.steps + 1) ((marks ++ word) ++ []) (marks ++ word) (append-nil (marks ++ word))
+          taken_as b s one.next (f.steps + 1) ((marks ++ word) ++ []) (marks ++ word) (append-nil (marks ++ word))
           (then_takes b s f.next one.next f.steps 1 (marks ++ word) [] f.leads one.takes);
       at = one.at;
       whole = one.whole ∙ f.whole;
@@ -264,7 +272,7 @@ rest_by quote newline slash b p =
     if slash then turns scans.QuotedEscape (taken acts.Nothing) p else in_rest true ((b == code " ") && is_whole p) b p
 
 -- a byte of a word is kept as it is, or as an escape
-plain_met : (quoted going whole : Bool) (head : Head) (b : ℕ) (s : State) (word marks : List ℕ) → In going head s (in_word_of quoted) word marks
+plain_met : (quoted going whole : Bool) (head : Manner) (b : ℕ) (s : State) (word marks : List ℕ) → In going head s (in_word_of quoted) word marks
     → (quoted && is_whole s.page) ≡ whole → is_letter quoted (Plain b) ≡ true → (quoted && (b == code "\"")) ≡ false
     → meet b s.page ≡ in_rest quoted ((b == code " ") && whole) b s.page
 unfolding meet in_rest rest_by
@@ -285,12 +293,12 @@ plain_met true going whole head b s word marks at together h quote =
 
 -- whether a hyphen behind these bytes of a word is kept as an escape
 is_kept_so : Way → List ℕ → Bool
-is_kept_so way word = not (hyphens_stay way) || ends_in_hyphen word
+is_kept_so way word = holds_hyphen way (ends_in_hyphen word)
 
 byte_rest : Bool → Bool → ℕ → Page → Met
 byte_rest quoted escape b p = if escape then keep_escape b quoted p else keep b quoted p
 
-byte_met : (quoted going : Bool) (head : Head) (b : ℕ) (s : State) (scan : Scan) (word marks : List ℕ) (u v : Bool) → In going head s scan word marks
+byte_met : (quoted going : Bool) (head : Manner) (b : ℕ) (s : State) (scan : Scan) (word marks : List ℕ) (u v : Bool) → In going head s scan word marks
     → is_none word ≡ u → is_kept_so head.way word ≡ v
     → keep_byte b quoted s.page ≡ byte_rest quoted ((b == code "-") && not u && v) b s.page
 unfolding byte_rest is_kept_so
@@ -300,9 +308,9 @@ byte_met quoted going head b s scan word marks u v at none so =
     ap (λ (w : List ℕ). byte_rest quoted ((b == code "-") && not (is_none w) && (not (looks_up m) || (has_dashes m && ends_in_hyphen w))) b p) at.word_is
     ∙ ap (λ (t : Bool). byte_rest quoted ((b == code "-") && not t && (not (looks_up m) || (has_dashes m && ends_in_hyphen word))) b p) none
     ∙ ap (λ (t : Bool). byte_rest quoted ((b == code "-") && not u && t) b p)
-    (plain_hyphen m (ends_in_hyphen word) at.fits ∙ ap (λ (way : Way). not (hyphens_stay way) || ends_in_hyphen word) at.way ∙ so)
+    (plain_hyphen head.plain m (ends_in_hyphen word) at.fits ∙ ap (λ (way : Way). holds_hyphen way (ends_in_hyphen word)) at.way ∙ so)
 
-escape_met : (quoted going : Bool) (head : Head) (b : ℕ) (s : State) (word marks : List ℕ) → In going head s (goes_to (within_escape quoted)) word marks
+escape_met : (quoted going : Bool) (head : Manner) (b : ℕ) (s : State) (word marks : List ℕ) → In going head s (goes_to (within_escape quoted)) word marks
     → (b == code "\"") ≡ false → (b == code "\n") ≡ false → meet b s.page ≡ keep_escape b quoted s.page
 unfolding meet
 escape_met false going head b s word marks at quote newline =
@@ -322,15 +330,15 @@ goes_within : (quoted : Bool) → goes_to (within quoted) ≡ in_word_of quoted
 goes_within true = refl
 goes_within false = refl
 
-within_at : (quoted : Bool) (head : Head) (s : State) → In true head s (goes_to (within quoted)) [] [] → In true head s (in_word_of quoted) [] []
+within_at : (quoted : Bool) (head : Manner) (s : State) → In true head s (goes_to (within quoted)) [] [] → In true head s (in_word_of quoted) [] []
 within_at quoted head s at = subst (λ (sc : Scan). In true head s sc [] []) (goes_within quoted) at
 
-plain_scan : (quoted going : Bool) (head : Head) (b : ℕ) (s : State) (word marks : List ℕ) → In going head s (in_word_of quoted) word marks
+plain_scan : (quoted going : Bool) (head : Manner) (b : ℕ) (s : State) (word marks : List ℕ) → In going head s (in_word_of quoted) word marks
     → meet b s.page ≡ keep b quoted s.page → meet b s.page ≡ keep b quoted (with_scan (in_word_of quoted) s.page)
 plain_scan quoted going head b s word marks at e = e ∙ ap (λ (p : Page). keep b quoted p) (scan_same s.page (in_word_of quoted) at.scan_is)
 
 -- a byte that is kept as it is, where it would be so as the first of a word
-grown_plain : (quoted going : Bool) (head : Head) (b : ℕ) (s : State) (word marks : List ℕ) → In going head s (in_word_of quoted) word marks
+grown_plain : (quoted going : Bool) (head : Manner) (b : ℕ) (s : State) (word marks : List ℕ) → In going head s (in_word_of quoted) word marks
     → (going ≡ true → marks ≡ []) → meet b s.page ≡ keep b quoted s.page
     → ((t : State) → In true head t (in_word_of quoted) [] [] → is_whole t.page ≡ is_whole s.page → meet b t.page ≡ keep b quoted t.page)
     → Grown going head b s (in_word_of quoted) word marks (b ∷ [])
@@ -344,7 +352,7 @@ grown_plain quoted going head b s word marks at none e again =
     (plain_scan quoted true head b f.next [] [] t (again f.next t f.whole)))
 
 -- a byte that is kept as an escape
-grown_escape : (quoted going : Bool) (head : Head) (b : ℕ) (s : State) (scan : Scan) (word marks : List ℕ) → In going head s scan word marks
+grown_escape : (quoted going : Bool) (head : Manner) (b : ℕ) (s : State) (scan : Scan) (word marks : List ℕ) → In going head s scan word marks
     → (going ≡ true → marks ≡ []) → meet b s.page ≡ keep_escape b quoted s.page → (b == code "\"") ≡ false → (b == code "\n") ≡ false
     → Grown going head b s (in_word_of quoted) word marks (code "\\" ∷ b ∷ [])
 grown_escape quoted going head b s scan word marks at none e quote newline =
@@ -356,7 +364,7 @@ grown_escape quoted going head b s scan word marks at none e quote newline =
     (escape_met quoted true head b f.next [] [] f.at quote newline))
 
 -- a blank that stays with others, between quotes
-blank_met : (going : Bool) (head : Head) (b : ℕ) (s : State) (word marks : List ℕ) → In going head s scans.Quoted word marks → is_whole s.page ≡ true
+blank_met : (going : Bool) (head : Manner) (b : ℕ) (s : State) (word marks : List ℕ) → In going head s scans.Quoted word marks → is_whole s.page ≡ true
     → b ≡ code " " → meet b s.page ≡ keep_blank s.page
 unfolding meet in_rest rest_by
 blank_met going head b s word marks at whole e =
@@ -367,21 +375,21 @@ blank_met going head b s word marks at whole e =
 blank_rest : Page → Met
 blank_rest p = turns (scans.Long insides.Quoted) (left acts.Nothing) p
 
-blank_room : (going : Bool) (head : Head) (b : ℕ) (s : State) (word marks : List ℕ) → In going head s scans.Quoted word marks → length word < 30
+blank_room : (going : Bool) (head : Manner) (b : ℕ) (s : State) (word marks : List ℕ) → In going head s scans.Quoted word marks → length word < 30
     → meet b s.page ≡ keep_blank s.page → meet b s.page ≡ keep_escape (code "~") true s.page
 unfolding blank_rest
 blank_room going head b s word marks at l e =
     let p = s.page in
     e ∙ ap (λ (t : Bool). if t then keep_escape (code "~") true p else blank_rest p) (ap (λ (w : List ℕ). nat_lt (length w) 30) at.word_is ∙ room word l)
 
-blank_full : (going : Bool) (head : Head) (b : ℕ) (s : State) (word marks : List ℕ) → In going head s scans.Quoted word marks → 30 ≤ length word
+blank_full : (going : Bool) (head : Manner) (b : ℕ) (s : State) (word marks : List ℕ) → In going head s scans.Quoted word marks → 30 ≤ length word
     → meet b s.page ≡ keep_blank s.page → meet b s.page ≡ met (with_scan (scans.Long insides.Quoted) s.page) (left acts.Nothing)
 unfolding blank_rest
 blank_full going head b s word marks at l e =
     let p = s.page in
     e ∙ ap (λ (t : Bool). if t then keep_escape (code "~") true p else blank_rest p) (ap (λ (w : List ℕ). nat_lt (length w) 30) at.word_is ∙ no_room word l)
 
-grown_blank : (going : Bool) (head : Head) (b : ℕ) (s : State) (word marks : List ℕ) → In going head s scans.Quoted word marks
+grown_blank : (going : Bool) (head : Manner) (b : ℕ) (s : State) (word marks : List ℕ) → In going head s scans.Quoted word marks
     → (going ≡ true → marks ≡ []) → is_whole s.page ≡ true → b ≡ code " " → Grown going head b s scans.Quoted word marks (codes "\\~")
 grown_blank going head b s word marks at none whole e =
     let here = blank_met going head b s word marks at whole e in
@@ -393,7 +401,7 @@ grown_blank going head b s word marks at none whole e =
     (blank_room true head b f.next [] [] f.at (omega arith) (blank_met true head b f.next [] [] f.at (f.whole ∙ whole) e)))
 
 -- a quote between quotes, behind a quote
-quote_met : (going : Bool) (head : Head) (s : State) (word marks : List ℕ) → In going head s scans.Closing word marks
+quote_met : (going : Bool) (head : Manner) (s : State) (word marks : List ℕ) → In going head s scans.Closing word marks
     → meet (code "\"") s.page ≡ keep_quote s.page
 unfolding meet
 quote_met going head s word marks at = ap (λ (sc : Scan). meet_at sc (code "\"") s.page) at.scan_is
@@ -401,7 +409,7 @@ quote_met going head s word marks at = ap (λ (sc : Scan). meet_at sc (code "\""
 quote_rest : Bool → Page → Met
 quote_rest full p = if full then turns (scans.Long insides.Closing) (left acts.Nothing) p else keep (code "\"") true (with_scan scans.Quoted p)
 
-quote_room : (going : Bool) (head : Head) (s : State) (word marks : List ℕ) → In going head s scans.Closing word marks → length word < 30
+quote_room : (going : Bool) (head : Manner) (s : State) (word marks : List ℕ) → In going head s scans.Closing word marks → length word < 30
     → meet (code "\"") s.page ≡ keep (code "\"") true (with_scan scans.Quoted s.page)
 unfolding quote_rest
 quote_room going head s word marks at l =
@@ -409,7 +417,7 @@ quote_room going head s word marks at l =
     quote_met going head s word marks at
     ∙ ap (λ (t : Bool). quote_rest (not t && is_shown p) p) (ap (λ (w : List ℕ). nat_lt (length w) 30) at.word_is ∙ room word l)
 
-quote_full : (going : Bool) (head : Head) (s : State) (word marks : List ℕ) → In going head s scans.Closing word marks → 30 ≤ length word
+quote_full : (going : Bool) (head : Manner) (s : State) (word marks : List ℕ) → In going head s scans.Closing word marks → 30 ≤ length word
     → meet (code "\"") s.page ≡ met (with_scan (scans.Long insides.Closing) s.page) (left acts.Nothing)
 unfolding quote_rest
 quote_full going head s word marks at l =
@@ -418,7 +426,7 @@ quote_full going head s word marks at l =
     ∙ ap (λ (t : Bool). quote_rest (not t && is_shown p) p) (ap (λ (w : List ℕ). nat_lt (length w) 30) at.word_is ∙ no_room word l)
     ∙ ap (λ (t : Bool). quote_rest t p) (shown going head s scans.Closing word marks at)
 
-pub grown_quote : (going : Bool) (head : Head) (s : State) (word marks : List ℕ) → In going head s scans.Closing word marks
+pub grown_quote : (going : Bool) (head : Manner) (s : State) (word marks : List ℕ) → In going head s scans.Closing word marks
     → (going ≡ true → marks ≡ []) → Grown going head (code "\"") s scans.Quoted word marks (codes "\"")
 grown_quote going head s word marks at none =
     grown_by (nat_lt (length word) 30) going insides.Closing head (code "\"") s scans.Quoted scans.Closing word marks (codes "\"") refl at none
@@ -429,7 +437,7 @@ grown_quote going head s word marks at none =
     (quote_room true head f.next [] [] f.at (omega arith)))
 
 -- behind a backslash
-pub grown_escaped : (quoted going : Bool) (head : Head) (b : ℕ) (s : State) (word marks : List ℕ) → In going head s (goes_to (within_escape quoted)) word marks
+pub grown_escaped : (quoted going : Bool) (head : Manner) (b : ℕ) (s : State) (word marks : List ℕ) → In going head s (goes_to (within_escape quoted)) word marks
     → (going ≡ true → marks ≡ []) → is_escaped b ≡ true → Grown going head b s (in_word_of quoted) word marks (code "\\" ∷ b ∷ [])
 grown_escaped quoted going head b s word marks at none h =
     grown_escape quoted going head b s (goes_to (within_escape quoted)) word marks at none
@@ -444,7 +452,7 @@ held_is true v = refl
 held_is false v = refl
 
 -- a byte as it is: a blank that stays with others, a hyphen that is kept as an escape, or another
-grown_as : (t y : Bool) (quoted going whole : Bool) (head : Head) (b : ℕ) (s : State) (word marks : List ℕ) (u v : Bool) → In going head s (in_word_of quoted) word marks
+grown_as : (t y : Bool) (quoted going whole : Bool) (head : Manner) (b : ℕ) (s : State) (word marks : List ℕ) (u v : Bool) → In going head s (in_word_of quoted) word marks
     → (going ≡ true → marks ≡ []) → (quoted && is_whole s.page) ≡ whole → is_letter quoted (Plain b) ≡ true → (quoted && (b == code "\"")) ≡ false
     → is_none word ≡ u → is_kept_so head.way word ≡ v → ((b == code " ") && whole) ≡ t → ((b == code "-") && not u && v) ≡ y
     → Grown going head b s (in_word_of quoted) word marks (if t then codes "\\~" else if y then codes "\\-" else b ∷ [])
@@ -474,17 +482,17 @@ grown_as false false quoted going whole head b s word marks u v at none together
     ∙ ap (λ (x : Bool). byte_rest quoted x b t.page) (no_first (b == code "-") (is_kept_so head.way [])))
 
 -- behind others
-pub grown_behind : (behind quoted going whole : Bool) (head : Head) (b : ℕ) (s : State) (word marks : List ℕ) → In going head s (in_word_of quoted) word marks
+pub grown_behind : (behind quoted going whole : Bool) (head : Manner) (b : ℕ) (s : State) (word marks : List ℕ) → In going head s (in_word_of quoted) word marks
     → (going ≡ true → marks ≡ []) → (quoted && is_whole s.page) ≡ whole → is_letter quoted (Plain b) ≡ true → (quoted && (b == code "\"")) ≡ false
     → is_none word ≡ false → ends_in_hyphen word ≡ behind → Grown going head b s (in_word_of quoted) word marks (kept_letter head.way whole behind (Plain b))
 unfolding is_kept_so
 grown_behind behind quoted going whole head b s word marks at none together h quote some hyphen =
-    let v = not (hyphens_stay head.way) || behind in
+    let v = holds_hyphen head.way behind in
     grown_as ((b == code " ") && whole) (is_held head.way behind b) quoted going whole head b s word marks false v at none together h quote some
-    (ap (λ (t : Bool). not (hyphens_stay head.way) || t) hyphen) refl (held_is (b == code "-") v)
+    (ap (holds_hyphen head.way) hyphen) refl (held_is (b == code "-") v)
 
 -- as the first
-pub grown_first : (quoted going whole : Bool) (head : Head) (b : ℕ) (s : State) (word marks : List ℕ) → In going head s (in_word_of quoted) word marks
+pub grown_first : (quoted going whole : Bool) (head : Manner) (b : ℕ) (s : State) (word marks : List ℕ) → In going head s (in_word_of quoted) word marks
     → (going ≡ true → marks ≡ []) → (quoted && is_whole s.page) ≡ whole → is_letter quoted (Plain b) ≡ true → (quoted && (b == code "\"")) ≡ false
     → is_none word ≡ true → Grown going head b s (in_word_of quoted) word marks (kept_first whole (Plain b))
 grown_first quoted going whole head b s word marks at none together h quote first =

@@ -12,7 +12,7 @@ use Rattle.nr_mdoc.specs.Macros.{macro_of}
 use Rattle.nr_mdoc.specs.Reading.{State, fed}
 use Rattle.nr_mdoc.specs.Saying.{parts_of, text_of, words_of}
 use Rattle.nr_mdoc.specs.WordLaws.{begins_block, has_room, opens_some, reads_at, LinesAreSaid}
-use Rattle.nr_mdoc.specs.WrittenLines.{Usual, way_named, printed_as, begins_star, begins_text, each, is_plain, is_text, names_no_string, Word, are_written, behind_each, Line, EmptyLine, CommentLine, TextLine, HeadingLine, MacroLine, AskingLine, asks_some, are_asking, begins_blank, written, Letter, heads_some, is_line, are_lines, written_line, written_lines, printed_line, printed_lines}
+use Rattle.nr_mdoc.specs.WrittenLines.{Usual, is_first, way_named, printed_as, begins_star, begins_text, each, is_plain, is_text, names_no_string, Word, are_written, behind_each, Line, EmptyLine, CommentLine, TextLine, HeadingLine, MacroLine, AskingLine, asks_some, are_asking, begins_blank, written, Letter, heads_some, is_line, are_lines, written_line, written_lines, printed_line, printed_lines}
 use Rattle.nr_mdoc.proofs.After.{after, after-pending, words-append, Fresh}
 use Rattle.nr_mdoc.proofs.AskingLines.{asking_said, line_names}
 use Rattle.nr_mdoc.proofs.Escapes.{and_left, and_right, both, line-text}
@@ -85,11 +85,8 @@ line_said (TextLine b bs) s none h room =
         fresh = text_fresh b bs s none first rest;
       };
     }
-line_said (HeadingLine b bs ws) s none h room =
-    let front = and_left (each is_plain (b ∷ bs) && nat_le (length (b ∷ bs)) 30) (are_written Usual ws) h in
-    let line = heading_line b bs ws s none (and_left (each is_plain (b ∷ bs)) (nat_le (length (b ∷ bs)) 30) front)
-    (and_right (each is_plain (b ∷ bs)) (nat_le (length (b ∷ bs)) 30) front)
-    (and_right (each is_plain (b ∷ bs) && nat_le (length (b ∷ bs)) 30) (are_written Usual ws) h) in
+line_said (HeadingLine w ws) s none h room =
+    let line = heading_line w ws s none (and_left (is_first w) (are_written Usual ws) h) (and_right (is_first w) (are_written Usual ws) h) in
     record { wholes = line.wholes; said = record { words = line.words; fresh = line.fresh } }
 line_said (MacroLine name ws) s none h room =
     let written = are_written (way_named (macro_of name)) ws in
@@ -138,7 +135,7 @@ abbrev body : Line → List ℕ
 body EmptyLine = []
 body (CommentLine bs) = codes ".\\\"" ++ bs
 body (TextLine b bs) = b ∷ bs
-body (HeadingLine b bs ws) = codes ".Sh " ++ (b ∷ bs) ++ behind_each ws
+body (HeadingLine w ws) = codes "." ++ codes "Sh" ++ behind_each (w ∷ ws)
 body (MacroLine name ws) = codes "." ++ name ++ behind_each ws
 body (AskingLine name rest) = codes "." ++ name ++ written false rest
 
@@ -146,7 +143,7 @@ body_written : (l : Line) → written_line l ≡ body l ++ codes "\n"
 body_written EmptyLine = refl
 body_written (CommentLine bs) = refl
 body_written (TextLine b bs) = refl
-body_written (HeadingLine b bs ws) = refl
+body_written (HeadingLine w ws) = refl
 body_written (MacroLine name ws) = refl
 body_written (AskingLine name rest) = refl
 
@@ -154,11 +151,7 @@ body_names : (l : Line) → is_line l ≡ true → names_no_string (body l) ≡ 
 body_names EmptyLine h = refl
 body_names (CommentLine bs) h = and_right (each is_text bs) (names_no_string bs) h
 body_names (TextLine b bs) h = and_right (begins_text b && each is_text bs) (names_no_string (b ∷ bs)) h
-body_names (HeadingLine b bs ws) h =
-    heading_names b bs ws
-    (and_left (each is_plain (b ∷ bs)) (nat_le (length (b ∷ bs)) 30)
-    (and_left (each is_plain (b ∷ bs) && nat_le (length (b ∷ bs)) 30) (are_written Usual ws) h))
-    (and_right (each is_plain (b ∷ bs) && nat_le (length (b ∷ bs)) 30) (are_written Usual ws) h)
+body_names (HeadingLine w ws) h = heading_names w ws (and_left (is_first w) (are_written Usual ws) h) (and_right (is_first w) (are_written Usual ws) h)
 body_names (MacroLine name ws) h =
     let way = way_named (macro_of name) in
     plain_names name (behind_each ws)

@@ -4,6 +4,7 @@ use Rattle.std.proofs.lemmas.Slice.Eq.{bytes_eq-Decides}
 use Rattle.std.specs.Prelude.{codes}
 use Rattle.std.specs.Str.{bytes_eq}
 use Rattle.nr_mdoc.specs.declared.acts.Act.TheVariants as acts
+use Rattle.nr_mdoc.specs.declared.macros.Font.TheVariants.{Roman}
 use Rattle.nr_mdoc.specs.declared.macros.Macro.{Macro}
 use Rattle.nr_mdoc.specs.declared.macros.Macro.TheVariants as macros
 use Rattle.nr_mdoc.specs.declared.page.Inside.{Inside}
@@ -17,20 +18,21 @@ use Rattle.nr_mdoc.specs.LayingOut.{lay_out}
 use Rattle.nr_mdoc.specs.Reading.{State, said}
 use Rattle.nr_mdoc.specs.Scanning.{meet, meet_at, meet_whole, meet_whole_at}
 use Rattle.nr_mdoc.specs.Seeing.{Met, met, left}
-use Rattle.nr_mdoc.specs.Taking.{argument, some_taken, taken_word}
+use Rattle.nr_mdoc.specs.Options.{is_heading}
+use Rattle.nr_mdoc.specs.Taking.{argument, some_taken, taken_alone_by, taken_by, taken_word}
 use Rattle.nr_mdoc.specs.Words.{fronted, goes_on, goes_to, long_begins}
-use Rattle.nr_mdoc.specs.WrittenLines.{Way, Usual, Titled, Authors, said_of, way_of}
+use Rattle.nr_mdoc.specs.WrittenLines.{Way, Usual, Titled, Authors, Headed, said_of, way_of}
 use Rattle.nr_mdoc.proofs.Escapes.{and_left}
 use Rattle.nr_mdoc.proofs.Meeting.{with_page, Leads, then_leads, leads_by}
 use Rattle.nr_mdoc.proofs.Outcomes.{never, takes_plain, Out, leaves_out}
-use Rattle.nr_mdoc.proofs.Stepping.{At, In, Head, in_as, out_in, out_leads, out_next, out_lays, marks_step, no_more_enclosed}
+use Rattle.nr_mdoc.proofs.Stepping.{At, In, Head, Manner, plainly, in_as, out_in, out_leads, out_next, out_lays, no_more_enclosed}
 use Rattle.nr_mdoc.proofs.Taken.{taken_out}
 use Rattle.nr_mdoc.proofs.Together.{same_whole, taken_whole}
 use Rattle.nr_mdoc.proofs.Ways.{opened_usual}
 use Rattle.nr_mdoc.proofs.WholeWords.{is_none-nil}
 
 -- in so many meetings all that was kept of the word went out, which goes on
-pub record Flushed (head : Head) (b : ℕ) (s : State) (inside : Inside) (k : ℕ) (all : List ℕ) : Type 0 where
+pub record Flushed (head : Manner) (b : ℕ) (s : State) (inside : Inside) (k : ℕ) (all : List ℕ) : Type 0 where
   pub next : State
   pub steps : ℕ
   pub few : steps ≤ k
@@ -41,7 +43,7 @@ pub record Flushed (head : Head) (b : ℕ) (s : State) (inside : Inside) (k : �
 one_more : (i k : ℕ) → i ≤ k → 1 + i ≤ 1 + k
 one_more i k l = omega arith
 
-flushed_behind : (head : Head) (b : ℕ) (s t : State) (inside : Inside) (k : ℕ) (xs ys : List ℕ) → Leads b s t 1 xs
+flushed_behind : (head : Manner) (b : ℕ) (s t : State) (inside : Inside) (k : ℕ) (xs ys : List ℕ) → Leads b s t 1 xs
     → is_whole t.page ≡ is_whole s.page → Flushed head b t inside k ys → Flushed head b s inside (1 + k) (xs ++ ys)
 flushed_behind head b s t inside k xs ys leads whole f = record {
   next = f.next;
@@ -52,23 +54,23 @@ flushed_behind head b s t inside k xs ys leads whole f = record {
   whole = f.whole ∙ whole;
 }
 
-flushed_as : (head : Head) (b : ℕ) (s : State) (inside : Inside) (k : ℕ) (xs ys : List ℕ) → xs ≡ ys → Flushed head b s inside k xs → Flushed head b s inside k ys
+flushed_as : (head : Manner) (b : ℕ) (s : State) (inside : Inside) (k : ℕ) (xs ys : List ℕ) → xs ≡ ys → Flushed head b s inside k xs → Flushed head b s inside k ys
 flushed_as head b s inside k xs ys e f = subst (λ (zs : List ℕ). Flushed head b s inside k zs) e f
 
-flushed_within : (head : Head) (b : ℕ) (s : State) (inside : Inside) (j k : ℕ) (all : List ℕ) → j ≤ k → Flushed head b s inside j all
+flushed_within : (head : Manner) (b : ℕ) (s : State) (inside : Inside) (j k : ℕ) (all : List ℕ) → j ≤ k → Flushed head b s inside j all
     → Flushed head b s inside k all
 flushed_within head b s inside j k all l f =
     record { next = f.next; steps = f.steps; few = (let few = f.few in omega arith); leads = f.leads; at = f.at; whole = f.whole }
 
 -- ---- its front went out
 
-goes_met : (inside : Inside) (head : Head) (b : ℕ) (s : State) (word : List ℕ) → In true head s (scans.Goes inside) word []
+goes_met : (inside : Inside) (head : Manner) (b : ℕ) (s : State) (word : List ℕ) → In true head s (scans.Goes inside) word []
     → meet b s.page ≡ goes_on inside s.page
 unfolding meet meet_whole
 goes_met inside head b s word at =
     ap (λ (sc : Scan). meet_at sc b s.page) at.scan_is ∙ ap (λ (sc : Scan). meet_whole_at sc b s.page) at.scan_is
 
-went : (inside : Inside) (head : Head) (b : ℕ) (s : State) (word : List ℕ) → In true head s (scans.Goes inside) word [] → Flushed head b s inside 1 []
+went : (inside : Inside) (head : Manner) (b : ℕ) (s : State) (word : List ℕ) → In true head s (scans.Goes inside) word [] → Flushed head b s inside 1 []
 unfolding said lay_out
 went inside head b s word at =
     let q = record s.page { scan = goes_to inside; word = [] } in
@@ -90,7 +92,7 @@ long_rest inside p =
 long_by : Inside → Bool → Page → Met
 long_by inside going p = if going then met (with_scan (scans.Goes inside) p) (left acts.More) else long_rest inside p
 
-long_met : (going : Bool) (inside : Inside) (head : Head) (b : ℕ) (s : State) (word marks : List ℕ) → In going head s (scans.Long inside) word marks
+long_met : (going : Bool) (inside : Inside) (head : Manner) (b : ℕ) (s : State) (word marks : List ℕ) → In going head s (scans.Long inside) word marks
     → meet b s.page ≡ long_by inside going s.page
 unfolding meet meet_whole long_by long_rest
 long_met going inside head b s word marks at =
@@ -99,7 +101,7 @@ long_met going inside head b s word marks at =
     ∙ ap (λ (t : Bool). long_by inside t p) at.going
 
 -- a further part
-more : (inside : Inside) (head : Head) (b : ℕ) (s : State) (word : List ℕ) → In true head s (scans.Long inside) word [] → Flushed head b s inside 2 word
+more : (inside : Inside) (head : Manner) (b : ℕ) (s : State) (word : List ℕ) → In true head s (scans.Long inside) word [] → Flushed head b s inside 2 word
 unfolding said lay_out long_by
 more inside head b s word at =
     let p = with_scan (scans.Goes inside) s.page in
@@ -180,17 +182,18 @@ not_option word option l m false e = e
 pub said_long : (way : Way) (word : List ℕ) → 30 ≤ length word → said_of way word ≡ word
 said_long Usual word l = refl
 said_long Titled word l = refl
+said_long Headed word l = refl
 said_long Authors word l =
     ap (λ (t : Bool). if t then [] else if bytes_eq word (codes "-nosplit") then [] else word)
     (not_option word (codes "-split") l (omega arith) (bytes_eq word (codes "-split")) refl)
     ∙ ap (λ (t : Bool). if t then [] else word) (not_option word (codes "-nosplit") l (omega arith) (bytes_eq word (codes "-nosplit")) refl)
 
-in_word_as : (going : Bool) (head : Head) (s : State) (scan : Scan) (word word2 marks : List ℕ) → word ≡ word2 → In going head s scan word marks
+in_word_as : (going : Bool) (head : Manner) (s : State) (scan : Scan) (word word2 marks : List ℕ) → word ≡ word2 → In going head s scan word marks
     → In going head s scan word2 marks
 in_word_as going head s scan word word2 marks e at = subst (λ (w : List ℕ). In going head s scan w marks) e at
 
 begun : (inside : Inside) (head : Head) (b : ℕ) (s : State) (word : List ℕ) → At head s (scans.Long inside) word [] → 30 ≤ length word
-    → meet b s.page ≡ long_begins inside s.page → is_enclosure_due s.page ≡ false → Flushed head b s inside 2 word
+    → meet b s.page ≡ long_begins inside s.page → is_enclosure_due s.page ≡ false → Flushed (plainly head) b s inside 2 word
 unfolding heads out_next
 begun inside head b s word at l e due =
     let p = s.page in
@@ -201,13 +204,57 @@ begun inside head b s word at l e due =
     let t = out_next m q xs o s in
     let all : xs ≡ word =
     ap (said_of (way_of p.call.taker)) at.word_is ∙ said_long (way_of p.call.taker) word l in
-    flushed_as head b s inside 2 (xs ++ []) word (append-nil xs ∙ all)
-    (flushed_behind head b s t inside 1 xs []
+    flushed_as (plainly head) b s inside 2 (xs ++ []) word (append-nil xs ∙ all)
+    (flushed_behind (plainly head) b s t inside 1 xs []
     (out_leads b s m q xs o (e ∙ begins_is inside p due))
     (begun_whole inside (out_lays m q xs o).0 p)
-    (went inside head b t word
-    (in_word_as true head t (scans.Goes inside) p.word word [] at.word_is
+    (went inside (plainly head) b t word
+    (in_word_as true (plainly head) t (scans.Goes inside) p.word word [] at.word_is
     (out_in true head s m q xs [] o at.marks_are at.few refl at.comment at.line at.way (λ h. refl)))))
+
+-- of the first word of a heading
+pub the_heading : (m : Macro) → is_heading m ≡ true → m ≡ macros.Section
+the_heading macros.Section h = refl
+the_heading m h = never h
+
+heading_page : Inside → Page → Page
+heading_page inside p = with_scan (scans.Goes inside) (some_taken (with_scan scans.Between (fronted p)))
+
+heading_begins : (inside : Inside) (p : Page) → p.call.taker ≡ macros.Section
+    → begun_by inside false p ≡ met (heading_page inside p) (left (acts.Word Roman))
+unfolding begun_by argument_by heading_page taken_word
+heading_begins inside p e =
+    let q = with_scan scans.Between (fronted p) in
+    let shape = λ (m : Met). met (with_scan (scans.Goes inside) (some_taken m.page)) m.seen in
+    ap (λ (m : Macro). shape (taken_by m q)) e ∙ ap (λ (m : Macro). shape (taken_alone_by m q)) e
+
+heading_due : (p : Page) → p.call.taker ≡ macros.Section → is_enclosure_due p ≡ false
+heading_due p e = ap (λ (m : Macro). is_opened_by m && not p.call.some) e
+
+begun_heading : (inside : Inside) (head : Manner) (b : ℕ) (s : State) (word : List ℕ) → In false head s (scans.Long inside) word []
+    → meet b s.page ≡ long_begins inside s.page → s.page.call.taker ≡ macros.Section → Flushed head b s inside 2 word
+unfolding said lay_out heading_page
+begun_heading inside head b s word at e is =
+    let p = s.page in
+    let q = heading_page inside p in
+    let t = (said (left (acts.Word Roman)) q).page in
+    flushed_as head b s inside 2 (word ++ []) word (append-nil word)
+    (flushed_behind head b s (with_page t s) inside 1 word []
+    (leads_by b s q t (acts.Word Roman) acts.Nothing acts.Nothing word (e ∙ begins_is inside p (heading_due p is) ∙ heading_begins inside p is) refl
+    (append-nil p.word ∙ at.word_is))
+    (same_whole p t refl refl)
+    (went inside head b (with_page t s) word (record {
+      scan_is = refl;
+      word_is = at.word_is;
+      marks_are = at.marks_are;
+      few = at.few;
+      going = refl;
+      comment = at.comment;
+      line = at.line;
+      fits = at.fits;
+      way = at.way;
+      free = λ h. refl;
+    })))
 
 -- ---- what comes before it
 
@@ -220,7 +267,7 @@ left_whole : (l : _) (p : Page) → is_enclosure_due p ≡ true → is_whole (wi
 unfolding leaves
 left_whole l p h = opened_apart p.call.taker p (and_left (is_opened_by p.call.taker) (not p.call.some) h)
 
-clear_met : (inside : Inside) (head : Head) (b : ℕ) (s : State) (word : List ℕ) (t : Bool) → At head s (scans.Long inside) word []
+clear_met : (inside : Inside) (head : Manner) (b : ℕ) (s : State) (word : List ℕ) (t : Bool) → In false head s (scans.Long inside) word []
     → is_enclosure_due s.page ≡ t → meet b s.page ≡ (if t then leaves s.page else long_begins inside s.page)
 unfolding long_by long_rest
 clear_met inside head b s word t at e =
@@ -229,10 +276,10 @@ clear_met inside head b s word t at e =
     ∙ ap (λ (xs : List ℕ). if not (is_none xs) then met p (left acts.Marks) else if is_enclosure_due p then leaves p else long_begins inside p) at.marks_are
     ∙ ap (λ (u : Bool). if u then leaves p else long_begins inside p) e
 
-clear : (t : Bool) (inside : Inside) (head : Head) (b : ℕ) (s : State) (word : List ℕ) → At head s (scans.Long inside) word [] → 30 ≤ length word
-    → is_enclosure_due s.page ≡ t → Flushed head b s inside 3 word
+clear_plain : (t : Bool) (inside : Inside) (head : Head) (b : ℕ) (s : State) (word : List ℕ) → At head s (scans.Long inside) word [] → 30 ≤ length word
+    → is_enclosure_due s.page ≡ t → Flushed (plainly head) b s inside 3 word
 unfolding out_next
-clear true inside head b s word at l due =
+clear_plain true inside head b s word at l due =
     let p = s.page in
     let o = leaves_out p at.fits (opened_usual p due) in
     let t = out_next (leaves p) p [] o s in
@@ -249,35 +296,64 @@ clear true inside head b s word at l due =
       way = o.keeps.way ∙ at.way;
       free = λ h. refl;
     } in
-    flushed_behind head b s t inside 2 [] word
-    (out_leads b s (leaves p) p [] o (clear_met inside head b s word true at due))
+    flushed_behind (plainly head) b s t inside 2 [] word
+    (out_leads b s (leaves p) p [] o (clear_met inside (plainly head) b s word true at due))
     (left_whole l2 p due)
-    (begun inside head b t word inner l (clear_met inside head b t word false inner (no_more_enclosed l2 p)) (no_more_enclosed l2 p))
-clear false inside head b s word at l due =
-    flushed_within head b s inside 2 3 word (omega arith) (begun inside head b s word at l (clear_met inside head b s word false at due) due)
+    (begun inside head b t word inner l (clear_met inside (plainly head) b t word false inner (no_more_enclosed l2 p)) (no_more_enclosed l2 p))
+clear_plain false inside head b s word at l due =
+    flushed_within (plainly head) b s inside 2 3 word (omega arith) (begun inside head b s word at l (clear_met inside (plainly head) b s word false at due) due)
 
-first_by : (t : Bool) (inside : Inside) (head : Head) (b : ℕ) (s : State) (word marks : List ℕ) → At head s (scans.Long inside) word marks → 30 ≤ length word
+clear_by : (plain : Bool) (line : Macro) (way : Way) (inside : Inside) (b : ℕ) (s : State) (word : List ℕ)
+    → In false (record { line = line; way = way; plain = plain }) s (scans.Long inside) word [] → 30 ≤ length word
+    → Flushed (record { line = line; way = way; plain = plain }) b s inside 3 word
+clear_by true line way inside b s word at l = clear_plain (is_enclosure_due s.page) inside (record { line = line; way = way }) b s word at l refl
+clear_by false line way inside b s word at l =
+    let head : Manner = record { line = line; way = way; plain = false } in
+    let is = the_heading s.page.call.taker at.fits in
+    flushed_within head b s inside 2 3 word (omega arith)
+    (begun_heading inside head b s word at (clear_met inside head b s word false at (heading_due s.page is)) is)
+
+clear : (inside : Inside) (head : Manner) (b : ℕ) (s : State) (word : List ℕ) → In false head s (scans.Long inside) word [] → 30 ≤ length word
+    → Flushed head b s inside 3 word
+clear inside head b s word at l = clear_by head.plain head.line head.way inside b s word at l
+
+first_by : (t : Bool) (inside : Inside) (head : Manner) (b : ℕ) (s : State) (word marks : List ℕ) → In false head s (scans.Long inside) word marks → 30 ≤ length word
     → is_none s.page.marks ≡ t → Flushed head b s inside 4 (marks ++ word)
-unfolding long_by long_rest marks_step
+unfolding said lay_out long_by long_rest
 first_by true inside head b s word marks at l none =
     let no_marks : marks ≡ [] = sym at.marks_are ∙ is_none-nil s.page.marks none in
-    let alone : At head s (scans.Long inside) word [] = subst (λ (xs : List ℕ). At head s (scans.Long inside) word xs) no_marks at in
+    let alone : In false head s (scans.Long inside) word [] = subst (λ (xs : List ℕ). In false head s (scans.Long inside) word xs) no_marks at in
     flushed_as head b s inside 4 word (marks ++ word) (ap (λ (xs : List ℕ). xs ++ word) (sym no_marks))
-    (flushed_within head b s inside 3 4 word (omega arith) (clear (is_enclosure_due s.page) inside head b s word alone l refl))
+    (flushed_within head b s inside 3 4 word (omega arith) (clear inside head b s word alone l))
 first_by false inside head b s word marks at l none =
     let p = s.page in
-    let first = marks_step head b s (scans.Long inside) word marks at
+    let q = without_marks (was_put p) in
+    let t = with_page q s in
+    flushed_behind head b s t inside 3 marks word
+    (leads_by b s p q acts.Marks acts.Nothing acts.Nothing marks
     (long_met false inside head b s word marks at
-    ∙ ap (λ (t : Bool). if not t then met p (left acts.Marks) else if is_enclosure_due p then leaves p else long_begins inside p) none) in
-    let t = with_page (without_marks (was_put p)) s in
-    flushed_behind head b s t inside 3 marks word first.leads (same_whole p t.page refl refl)
-    (clear (is_enclosure_due t.page) inside head b t word first.at l refl)
+    ∙ ap (λ (t : Bool). if not t then met p (left acts.Marks) else if is_enclosure_due p then leaves p else long_begins inside p) none)
+    refl (append-nil p.marks ∙ at.marks_are))
+    (same_whole p q refl refl)
+    (clear inside head b t word
+    (record {
+      scan_is = at.scan_is;
+      word_is = at.word_is;
+      marks_are = refl;
+      few = at.few;
+      going = at.going;
+      comment = at.comment;
+      line = at.line;
+      fits = at.fits;
+      way = at.way;
+      free = λ h. refl;
+    }) l)
 
-no_marks_then : (inside : Inside) (head : Head) (b : ℕ) (s : State) (word marks : List ℕ) → marks ≡ [] → Flushed head b s inside 4 word
+no_marks_then : (inside : Inside) (head : Manner) (b : ℕ) (s : State) (word marks : List ℕ) → marks ≡ [] → Flushed head b s inside 4 word
     → Flushed head b s inside 4 (marks ++ word)
 no_marks_then inside head b s word marks e f = flushed_as head b s inside 4 word (marks ++ word) (ap (λ (xs : List ℕ). xs ++ word) (sym e)) f
 
-flushed_by : (going : Bool) (inside : Inside) (head : Head) (b : ℕ) (s : State) (word marks : List ℕ) → In going head s (scans.Long inside) word marks
+flushed_by : (going : Bool) (inside : Inside) (head : Manner) (b : ℕ) (s : State) (word marks : List ℕ) → In going head s (scans.Long inside) word marks
     → (going ≡ true → marks ≡ []) → 30 ≤ length word → Flushed head b s inside 4 (marks ++ word)
 flushed_by true inside head b s word marks at none l =
     no_marks_then inside head b s word marks (none refl)
@@ -286,7 +362,7 @@ flushed_by true inside head b s word marks at none l =
 flushed_by false inside head b s word marks at none l = first_by (is_none s.page.marks) inside head b s word marks at l refl
 
 -- what was kept goes out, the marks before it first
-pub flushed : (going : Bool) (inside : Inside) (head : Head) (b : ℕ) (s : State) (scan : Scan) (word marks : List ℕ) → In going head s scan word marks
+pub flushed : (going : Bool) (inside : Inside) (head : Manner) (b : ℕ) (s : State) (scan : Scan) (word marks : List ℕ) → In going head s scan word marks
     → (going ≡ true → marks ≡ []) → 30 ≤ length word → meet b s.page ≡ met (with_scan (scans.Long inside) s.page) (left acts.Nothing)
     → Flushed head b s inside 5 (marks ++ word)
 unfolding said lay_out

@@ -33,14 +33,14 @@ use Rattle.nr_mdoc.proofs.Meeting.{with_page, Leads, Takes, then_takes, leads_by
 use Rattle.nr_mdoc.proofs.Outcomes.{never}
 use Rattle.nr_mdoc.proofs.ReadWords.{not_of, between_by, between_met}
 use Rattle.nr_mdoc.proofs.TextSaid.{next-words, or_left, or_right}
-use Rattle.nr_mdoc.proofs.Stepping.{At, In, Head, Stepped, in_as, out_step}
+use Rattle.nr_mdoc.proofs.Stepping.{At, In, Head, Manner, plainly, Stepped, in_as, out_step}
 use Rattle.nr_mdoc.proofs.WholeWords.{heads_plain}
 
 -- ---- between words
 
 blank_met : (head : Head) (s : State) (word marks : List ℕ) → At head s scans.Between word marks → meet (code " ") s.page ≡ met s.page (taken acts.Nothing)
 unfolding between_by
-blank_met head s word marks at = between_met head (code " ") s word marks at
+blank_met head s word marks at = between_met (plainly head) (code " ") s word marks at
 
 pub blank_taken : (head : Head) (s : State) (word marks : List ℕ) → At head s scans.Between word marks → Takes (code " ") s s 1 []
 unfolding said lay_out
@@ -50,7 +50,7 @@ blank_taken head s word marks at =
 newline_met : (head : Head) (s : State) (word marks : List ℕ) → At head s scans.Between word marks
     → meet (code "\n") s.page ≡ met (with_scan scans.Ends s.page) (left acts.Nothing)
 unfolding between_by
-newline_met head s word marks at = between_met head (code "\n") s word marks at
+newline_met head s word marks at = between_met (plainly head) (code "\n") s word marks at
 
 at_end : State → State
 at_end s = with_page (with_scan scans.Ends s.page) s
@@ -93,7 +93,7 @@ over head s word marks at h =
 unfoldable pub given : State → State
 given s = with_page (with_scan (scans.Given false) s.page) s
 
-pub given_at : (going : Bool) (head : Head) (s : State) (word marks : List ℕ) → In going head s scans.Word word marks
+pub given_at : (going : Bool) (head : Manner) (s : State) (word marks : List ℕ) → In going head s scans.Word word marks
     → In going head (given s) (scans.Given false) word marks
 unfolding given
 given_at going head s word marks at =
@@ -102,14 +102,14 @@ given_at going head s word marks at =
 in_word_rest : ℕ → Page → Met
 in_word_rest b p = if b == code "\\" then met (with_scan scans.Escape p) (taken acts.Nothing) else keep_byte b false p
 
-given_met : (going : Bool) (head : Head) (b : ℕ) (s : State) (word marks : List ℕ) → In going head s scans.Word word marks → ends_word b ≡ true
+given_met : (going : Bool) (head : Manner) (b : ℕ) (s : State) (word marks : List ℕ) → In going head s scans.Word word marks → ends_word b ≡ true
     → meet b s.page ≡ met (with_scan (scans.Given false) s.page) (left acts.Nothing)
 unfolding meet in_word_rest
 given_met going head b s word marks at e =
     let p = s.page in
     ap (λ (sc : Scan). meet_at sc b p) at.scan_is ∙ ap (λ (t : Bool). if t then met (with_scan (scans.Given false) p) (left acts.Nothing) else in_word_rest b p) e
 
-pub given_leads : (going : Bool) (head : Head) (b : ℕ) (s : State) (word marks : List ℕ) → In going head s scans.Word word marks → ends_word b ≡ true
+pub given_leads : (going : Bool) (head : Manner) (b : ℕ) (s : State) (word marks : List ℕ) → In going head s scans.Word word marks → ends_word b ≡ true
     → Leads b s (given s) 1 []
 unfolding said lay_out given
 given_leads going head b s word marks at e =

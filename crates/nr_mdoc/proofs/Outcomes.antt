@@ -17,7 +17,7 @@ use Rattle.nr_mdoc.specs.declared.seen.Seen.{Seen}
 use Rattle.nr_mdoc.specs.Calls.{is_synopsis, heads_line, after_name, takes_no_more, due_from, due, leaves, function_closes}
 use Rattle.nr_mdoc.specs.Laying.{laid, with_lay}
 use Rattle.nr_mdoc.specs.LayingOut.{lay_out}
-use Rattle.nr_mdoc.specs.Options.{reads_for}
+use Rattle.nr_mdoc.specs.Options.{is_heading, reads_for}
 use Rattle.nr_mdoc.specs.OwnLines.{fresh, was_sized}
 use Rattle.nr_mdoc.specs.Reading.{said}
 use Rattle.nr_mdoc.specs.Saying.{part_of, parts_seen, words_of}
@@ -158,6 +158,11 @@ three-words x y z p i j k =
 -- a macro that prints its words as they stand
 unfoldable pub takes_plain : Macro → Bool
 takes_plain m = not (prints_otherwise m) && not (reads_for m)
+
+-- or, where the first word of a heading is read, that
+abbrev pub takes_as : Bool → Macro → Bool
+takes_as true m = takes_plain m
+takes_as false m = is_heading m
 
 pub record Keeps (q p : Page) : Type 0 where
   pub scan : p.scan ≡ q.scan

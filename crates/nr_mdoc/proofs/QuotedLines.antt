@@ -4,7 +4,9 @@ use Rattle.std.specs.Prelude.{codes}
 use Prim.Native.Char.{code}
 use Rattle.nr_mdoc.specs.declared.acts.Act.TheVariants as acts
 use Rattle.nr_mdoc.specs.declared.acts.Text.TheVariants as texts
+use Rattle.nr_mdoc.specs.declared.macros.Font.TheVariants.{Roman}
 use Rattle.nr_mdoc.specs.declared.macros.Macro.{Macro}
+use Rattle.nr_mdoc.specs.declared.macros.Macro.TheVariants as macros
 use Rattle.nr_mdoc.specs.declared.macros.Pair.TheVariants as pairs
 use Rattle.nr_mdoc.specs.declared.page.Behind.TheVariants as behinds
 use Rattle.nr_mdoc.specs.declared.page.Page.{Page}
@@ -21,7 +23,7 @@ use Rattle.nr_mdoc.specs.Scanning.{meet, meet_at, meet_whole, meet_whole_at}
 use Rattle.nr_mdoc.specs.Seeing.{Met, met, left}
 use Rattle.nr_mdoc.specs.Taking.{argument, some_taken, taken_word}
 use Rattle.nr_mdoc.specs.WordLaws.{reads_at, WordsAreSaid}
-use Rattle.nr_mdoc.specs.Words.{behind_long, closing_mark, ends_long, marked_or, parsed, read_or_called, unmarked}
+use Rattle.nr_mdoc.specs.Words.{behind_long, closing_mark, ends_long, marked_or, parsed, read_or_called, taken_behind, unmarked}
 use Rattle.nr_mdoc.specs.WrittenLines.{Way, said_of, unless_called, way_of, way_then, each, names_no_string, Letter, are_letters, is_plain, is_word, kept, written, heads_words, Word, Bare, Quoted, is_written, are_written, behind_each, line_of, printed_as, none_or, prints_words}
 use Rattle.nr_mdoc.proofs.Endings.{ends_quiet, heads_end}
 use Rattle.nr_mdoc.proofs.Escapes.{and_left, and_right, both, line-text}
@@ -31,9 +33,9 @@ use Rattle.nr_mdoc.proofs.LongWords.{argument_by, argument_is, said_long}
 use Rattle.nr_mdoc.proofs.MacroLines.{head_of, blank_taken, over, five, sixteen, thirteen, one_enough, two_enough, regrouped, of_kept, Said, given, given_at, given_leads, reads_name, name_begun, name_more, name_more_state, macro_step, short_name, letters_names, plain_names, control_taken, word_letters, word_prints}
 use Rattle.nr_mdoc.proofs.MarksHeld.{one_at_most, two_at_most}
 use Rattle.nr_mdoc.proofs.Meeting.{with_page, Leads, then_takes, leads_by}
-use Rattle.nr_mdoc.proofs.Outcomes.{is_quiet, of_word, takes_plain, Keeps, Out, out, same_page}
+use Rattle.nr_mdoc.proofs.Outcomes.{is_quiet, of_word, never, takes_plain, Keeps, Out, out, same_page}
 use Rattle.nr_mdoc.proofs.ReadWords.{Read, Spelled, read_bare, read_quoted}
-use Rattle.nr_mdoc.proofs.Stepping.{At, In, Head, in_as, out_step, leaves_step, marks_step}
+use Rattle.nr_mdoc.proofs.Stepping.{At, In, Head, Manner, plainly, in_as, out_step, leaves_step, marks_step}
 use Rattle.nr_mdoc.proofs.Taken.{taken_out}
 use Rattle.nr_mdoc.proofs.TextSaid.{next-words}
 use Rattle.nr_mdoc.proofs.Ways.{opened_usual}
@@ -138,16 +140,16 @@ quoted_whole head b s word marks at = quoted_by (is_none s.page.marks) head b s 
 
 -- ---- behind its last quote
 
-given_quoted : State → State
+unfoldable pub given_quoted : State → State
 given_quoted s = with_page (with_scan (scans.Given true) s.page) s
 
-quoted_at : (going : Bool) (head : Head) (s : State) (word marks : List ℕ) → In going head s scans.Closing word marks
+pub quoted_at : (going : Bool) (head : Manner) (s : State) (word marks : List ℕ) → In going head s scans.Closing word marks
     → In going head (given_quoted s) (scans.Given true) word marks
 unfolding given_quoted
 quoted_at going head s word marks at =
     in_as going head s (with_scan (scans.Given true) s.page) scans.Closing (scans.Given true) word word marks at refl at.word_is refl refl refl refl refl refl refl
 
-closing_met : (going : Bool) (head : Head) (b : ℕ) (s : State) (word marks : List ℕ) → In going head s scans.Closing word marks → (b == code "\"") ≡ false
+closing_met : (going : Bool) (head : Manner) (b : ℕ) (s : State) (word marks : List ℕ) → In going head s scans.Closing word marks → (b == code "\"") ≡ false
     → meet b s.page ≡ met (with_scan (scans.Given true) s.page) (left acts.Nothing)
 unfolding meet
 closing_met going head b s word marks at e =
@@ -155,7 +157,7 @@ closing_met going head b s word marks at e =
     ap (λ (sc : Scan). meet_at sc b p) at.scan_is
     ∙ ap (λ (t : Bool). if t then keep_quote p else met (with_scan (scans.Given true) p) (left acts.Nothing)) e
 
-quoted_leads : (going : Bool) (head : Head) (b : ℕ) (s : State) (word marks : List ℕ) → In going head s scans.Closing word marks → (b == code "\"") ≡ false
+pub quoted_leads : (going : Bool) (head : Manner) (b : ℕ) (s : State) (word marks : List ℕ) → In going head s scans.Closing word marks → (b == code "\"") ≡ false
     → Leads b s (given_quoted s) 1 []
 unfolding said lay_out given_quoted
 quoted_leads going head b s word marks at e =
@@ -164,7 +166,7 @@ quoted_leads going head b s word marks at e =
 
 -- ---- the last part of a long word is given
 
-long_met : (quoted : Bool) (head : Head) (b : ℕ) (s : State) (word : List ℕ) → In true head s (scans.Given quoted) word [] → meet b s.page ≡ ends_long s.page
+long_met : (quoted : Bool) (head : Manner) (b : ℕ) (s : State) (word : List ℕ) → In true head s (scans.Given quoted) word [] → meet b s.page ≡ ends_long s.page
 unfolding meet meet_whole
 long_met quoted head b s word at =
     let p = s.page in
@@ -180,14 +182,33 @@ behind_out behinds.Angle p q keeps =
     out p q acts.LastMore (acts.Close (texts.Closing (code ">"))) acts.Nothing q.word refl refl refl (append-nil q.word) keeps
 behind_out behinds.Joint p q keeps = out p q acts.LastMore acts.Join acts.Nothing q.word refl refl refl (append-nil q.word) keeps
 
-long_whole : (quoted : Bool) (head : Head) (b : ℕ) (s : State) (word : List ℕ) → In true head s (scans.Given quoted) word [] → Whole head b s 3 word
-long_whole quoted head b s word at =
+behind_plain : (m : Macro) → takes_plain m ≡ true → takes_plain (taken_behind m) ≡ true
+unfolding takes_plain
+behind_plain macros.Section h = refl
+behind_plain m h = h
+
+behind_way : (m : Macro) → takes_plain m ≡ true → way_of (taken_behind m) ≡ way_of m
+unfolding takes_plain
+behind_way macros.Section h = never h
+behind_way m h = refl
+
+-- the macro that takes the words behind it takes them so
+pub long_whole : (quoted : Bool) (head : Manner) (after : Head) (b : ℕ) (s : State) (word : List ℕ) → In true head s (scans.Given quoted) word []
+    → head.line ≡ after.line → takes_plain (taken_behind s.page.call.taker) ≡ true → way_of (taken_behind s.page.call.taker) ≡ after.way
+    → Whole after b s 3 word
+long_whole quoted head after b s word at line fits way =
     let p = s.page in
-    let q = record p { scan = scans.Between; call = record p.call { going = false; behind = behinds.Nothing } } in
-    whole_of head b s 1 3 q.word q.word [] word (omega arith)
-    (out_step head b s (ends_long p) q q.word [] (long_met quoted head b s word at) (behind_out p.call.behind q q (same_page q at.fits))
-    at.marks_are at.few refl at.comment at.line at.way (λ h. refl))
+    let q = record p { scan = scans.Between; call = record p.call { going = false; behind = behinds.Nothing; taker = taken_behind p.call.taker } } in
+    whole_of after b s 1 3 q.word q.word [] word (omega arith)
+    (out_step after b s (ends_long p) q q.word [] (long_met quoted head b s word at) (behind_out p.call.behind q q (same_page q fits))
+    at.marks_are at.few refl at.comment (at.line ∙ line) way (λ h. refl))
     (append-nil q.word ∙ at.word_is)
+
+plain_whole : (quoted : Bool) (head : Head) (b : ℕ) (s : State) (word : List ℕ) → In true (plainly head) s (scans.Given quoted) word []
+    → Whole head b s 3 word
+plain_whole quoted head b s word at =
+    let m = s.page.call.taker in
+    long_whole quoted (plainly head) head b s word at refl (behind_plain m at.fits) (behind_way m at.fits ∙ at.way)
 
 -- no macro has so long a name
 long_calls : (word : List ℕ) → 30 ≤ length word → called_by false word ≡ None
@@ -241,35 +262,35 @@ behind_bare : (head : Head) (s : State) (word marks : List ℕ) → At head s sc
     → Behind (behind_head head (called_by false word)) s (marks ++ of_kept head.way word)
 unfolding of_kept
 behind_bare head s word marks at h f =
-    let inside = given_at false head s word marks at in
+    let inside = given_at false (plainly head) s word marks at in
     behind_of (behind_head head (called_by false word)) s (given s) (marks ++ of_kept head.way word)
-    (given_leads false head (code " ") s word marks at refl) (given_leads false head (code "\n") s word marks at refl)
+    (given_leads false (plainly head) (code " ") s word marks at refl) (given_leads false (plainly head) (code "\n") s word marks at refl)
     (given_whole head (code " ") (given s) word marks inside f) (given_whole head (code "\n") (given s) word marks inside f) h
 
-behind_bare_long : (head : Head) (s : State) (word : List ℕ) → In true head s scans.Word word [] → ends_quiet head.line ≡ true
+behind_bare_long : (head : Head) (s : State) (word : List ℕ) → In true (plainly head) s scans.Word word [] → ends_quiet head.line ≡ true
     → Behind (behind_head head None) s word
 behind_bare_long head s word at h =
-    let inside = given_at true head s word [] at in
+    let inside = given_at true (plainly head) s word [] at in
     behind_of (behind_head head None) s (given s) word
-    (given_leads true head (code " ") s word [] at refl) (given_leads true head (code "\n") s word [] at refl)
-    (called_nothing head (code " ") (given s) 3 word (long_whole false head (code " ") (given s) word inside))
-    (called_nothing head (code "\n") (given s) 3 word (long_whole false head (code "\n") (given s) word inside)) h
+    (given_leads true (plainly head) (code " ") s word [] at refl) (given_leads true (plainly head) (code "\n") s word [] at refl)
+    (called_nothing head (code " ") (given s) 3 word (plain_whole false head (code " ") (given s) word inside))
+    (called_nothing head (code "\n") (given s) 3 word (plain_whole false head (code "\n") (given s) word inside)) h
 
 behind_quoted : (head : Head) (s : State) (word marks : List ℕ) → At head s scans.Closing word marks → ends_quiet head.line ≡ true
     → Behind head s (marks ++ said_of head.way word)
 behind_quoted head s word marks at h =
-    let inside = quoted_at false head s word marks at in
+    let inside = quoted_at false (plainly head) s word marks at in
     behind_of head s (given_quoted s) (marks ++ said_of head.way word)
-    (quoted_leads false head (code " ") s word marks at refl) (quoted_leads false head (code "\n") s word marks at refl)
+    (quoted_leads false (plainly head) (code " ") s word marks at refl) (quoted_leads false (plainly head) (code "\n") s word marks at refl)
     (quoted_whole head (code " ") (given_quoted s) word marks inside)
     (quoted_whole head (code "\n") (given_quoted s) word marks inside) h
 
-behind_quoted_long : (head : Head) (s : State) (word : List ℕ) → In true head s scans.Closing word [] → ends_quiet head.line ≡ true → Behind head s word
+behind_quoted_long : (head : Head) (s : State) (word : List ℕ) → In true (plainly head) s scans.Closing word [] → ends_quiet head.line ≡ true → Behind head s word
 behind_quoted_long head s word at h =
-    let inside = quoted_at true head s word [] at in
+    let inside = quoted_at true (plainly head) s word [] at in
     behind_of head s (given_quoted s) word
-    (quoted_leads true head (code " ") s word [] at refl) (quoted_leads true head (code "\n") s word [] at refl)
-    (long_whole true head (code " ") (given_quoted s) word inside) (long_whole true head (code "\n") (given_quoted s) word inside) h
+    (quoted_leads true (plainly head) (code " ") s word [] at refl) (quoted_leads true (plainly head) (code "\n") s word [] at refl)
+    (plain_whole true head (code " ") (given_quoted s) word inside) (plain_whole true head (code "\n") (given_quoted s) word inside) h
 
 -- ---- a word was read
 
@@ -286,19 +307,19 @@ all_said xs held word marks all said e f g =
 none_said : (xs held word marks : List ℕ) → xs ≡ [] → held ≡ marks → xs ++ (held ++ word) ≡ marks ++ word
 none_said xs held word marks e f = ap (λ (zs : List ℕ). zs ++ (held ++ word)) e ∙ ap (λ (hs : List ℕ). hs ++ word) f
 
-going_at : (t : Bool) (going : Bool) (head : Head) (s : State) (scan : Scan) (word marks : List ℕ) → going ≡ t → In going head s scan word marks
+going_at : (t : Bool) (going : Bool) (head : Manner) (s : State) (scan : Scan) (word marks : List ℕ) → going ≡ t → In going head s scan word marks
     → In t head s scan word marks
 going_at t going head s scan word marks e at = subst (λ (g : Bool). In g head s scan word marks) e at
 
 bare_by : (t : Bool) (head : Head) (s : State) (bs marks word : List ℕ) (first hyphen : Bool)
-    (r : Read head false false s scans.Word bs marks word first hyphen) → r.going ≡ t → ends_quiet head.line ≡ true
+    (r : Read (plainly head) false false s scans.Word bs marks word first hyphen) → r.going ≡ t → ends_quiet head.line ≡ true
     → none_or prints_words (called_by false word) ≡ true
     → Ends (behind_head head (called_by false word)) r.next r.xs marks (of_kept head.way word)
 unfolding of_kept
 bare_by true head s bs marks word first hyphen r e h f =
     let long = r.long e in
     let none = r.clear e in
-    let at = subst (λ (hs : List ℕ). In true head r.next scans.Word r.word hs) none (going_at true r.going head r.next scans.Word r.word r.held e r.at) in
+    let at = subst (λ (hs : List ℕ). In true (plainly head) r.next scans.Word r.word hs) none (going_at true r.going (plainly head) r.next scans.Word r.word r.held e r.at) in
     record {
       ys = r.word;
       behind = subst (λ (o : _). Behind (behind_head head o) r.next r.word) (sym (long_calls word long)) (behind_bare_long head r.next r.word at h);
@@ -307,7 +328,7 @@ bare_by true head s bs marks word first hyphen r e h f =
           (sym (said_long head.way word long) ∙ ap (λ (o : _). unless_called head.way o word) (sym (long_calls word long)));
     }
 bare_by false head s bs marks word first hyphen r e h f =
-    let at = subst (λ (w : List ℕ). In false head r.next scans.Word w r.held) (r.same e) (going_at false r.going head r.next scans.Word r.word r.held e r.at) in
+    let at = subst (λ (w : List ℕ). In false (plainly head) r.next scans.Word w r.held) (r.same e) (going_at false r.going (plainly head) r.next scans.Word r.word r.held e r.at) in
     record {
       ys = r.held ++ of_kept head.way word;
       behind = behind_bare head r.next word r.held at h f;
@@ -315,18 +336,18 @@ bare_by false head s bs marks word first hyphen r e h f =
     }
 
 quoted_end : (t : Bool) (head : Head) (whole : Bool) (s : State) (bs marks word : List ℕ) (first hyphen : Bool)
-    (r : Read head true whole s scans.Closing bs marks word first hyphen) → r.going ≡ t → ends_quiet head.line ≡ true
+    (r : Read (plainly head) true whole s scans.Closing bs marks word first hyphen) → r.going ≡ t → ends_quiet head.line ≡ true
     → Ends head r.next r.xs marks (said_of head.way word)
 quoted_end true head whole s bs marks word first hyphen r e h =
     let none = r.clear e in
-    let at = subst (λ (hs : List ℕ). In true head r.next scans.Closing r.word hs) none (going_at true r.going head r.next scans.Closing r.word r.held e r.at) in
+    let at = subst (λ (hs : List ℕ). In true (plainly head) r.next scans.Closing r.word hs) none (going_at true r.going (plainly head) r.next scans.Closing r.word r.held e r.at) in
     record {
       ys = r.word;
       behind = behind_quoted_long head r.next r.word at h;
       total = all_said r.xs r.held r.word marks word (said_of head.way word) r.total none (sym (said_long head.way word (r.long e)));
     }
 quoted_end false head whole s bs marks word first hyphen r e h =
-    let at = subst (λ (w : List ℕ). In false head r.next scans.Closing w r.held) (r.same e) (going_at false r.going head r.next scans.Closing r.word r.held e r.at) in
+    let at = subst (λ (w : List ℕ). In false (plainly head) r.next scans.Closing w r.held) (r.same e) (going_at false r.going (plainly head) r.next scans.Closing r.word r.held e r.at) in
     record {
       ys = r.held ++ said_of head.way word;
       behind = behind_quoted head r.next word r.held at h;
@@ -376,7 +397,7 @@ in_words (Bare (l ∷ ls) ∷ ws) head s all behind h good =
     let then_way = way_then way (Bare (l ∷ ls)) in
     let one = behind.blank in
     let here = and_left (is_word way (l ∷ ls)) (are_written then_way ws) good in
-    let r = (read_bare l ls head one.next one.word one.marks one.at (word_letters way l ls here)).read in
+    let r = (read_bare l ls (plainly head) one.next one.word one.marks one.at (word_letters way l ls here)).read in
     let e = bare_by r.going head one.next (written false (l ∷ ls)) one.marks word _ _ r refl h (word_prints way l ls here) in
     let rest = in_words ws (behind_head head (called_by false word)) r.next e.ys e.behind h
     (and_right (is_word way (l ∷ ls)) (are_written then_way ws) good) in
@@ -389,7 +410,7 @@ in_words (Bare (l ∷ ls) ∷ ws) head s all behind h good =
 in_words (Quoted ls ∷ ws) head s all behind h good =
     let way = head.way in
     let one = behind.blank in
-    let q = read_quoted ls head one.next one.word one.marks one.at (and_left (are_letters true ls) (are_written way ws) good) in
+    let q = read_quoted ls (plainly head) one.next one.word one.marks one.at (and_left (are_letters true ls) (are_written way ws) good) in
     let r = q.spelled.read in
     let word = kept way q.whole ls in
     let bytes = code "\"" ∷ written true ls ++ codes "\"" in

@@ -20,14 +20,14 @@ use Rattle.nr_mdoc.proofs.Escapes.{and_left, and_right, same_byte}
 use Rattle.nr_mdoc.proofs.After.{after, after-append, next-state}
 use Rattle.nr_mdoc.proofs.KeptWords.{Grown, grown_behind, grown_escaped, grown_first, grown_quote, no_escape, no_quote, not_ending}
 use Rattle.nr_mdoc.proofs.Meeting.{with_page, Leads, Takes, then_takes, leads_by, takes_by}
-use Rattle.nr_mdoc.proofs.Stepping.{At, In, Head, in_as}
+use Rattle.nr_mdoc.proofs.Stepping.{In, Manner, in_as}
 use Rattle.nr_mdoc.proofs.TextSaid.{next-words, or_left, or_right}
 use Rattle.nr_mdoc.proofs.Together.{same_whole}
 use Rattle.nr_mdoc.proofs.Ways.{first_last, first_some, letter_last, letter_some}
 
 -- So many bytes of a word were read: what was said meanwhile, what is kept of it, and the marks that are held back. `first` is that
 -- nothing is kept yet, and `hyphen` that a hyphen was the last.
-pub record Read (head : Head) (quoted whole : Bool) (s : State) (scan : Scan) (bs marks all : List ℕ) (first hyphen : Bool) : Type 0 where
+pub record Read (head : Manner) (quoted whole : Bool) (s : State) (scan : Scan) (bs marks all : List ℕ) (first hyphen : Bool) : Type 0 where
   pub going : Bool
   pub next : State
   pub xs : List ℕ
@@ -100,7 +100,7 @@ few_enough : (k : ℕ) → k ≤ 6 → k ≤ 16
 few_enough k l = omega arith
 
 -- what was read and a byte behind it
-then_byte : (head : Head) (quoted whole : Bool) (s : State) (scan scan2 : Scan) (b : ℕ) (bs marks all piece : List ℕ) (first hyphen y : Bool)
+then_byte : (head : Manner) (quoted whole : Bool) (s : State) (scan scan2 : Scan) (b : ℕ) (bs marks all piece : List ℕ) (first hyphen y : Bool)
     (r : Read head quoted whole s scan bs marks all first hyphen) (g : Grown r.going head b r.next scan2 r.word r.held piece)
     → is_none piece ≡ false → ((w : List ℕ) → ends_in_hyphen (w ++ piece) ≡ y)
     → Read head quoted whole s scan2 (bs ++ b ∷ []) marks (all ++ piece) false y
@@ -132,7 +132,7 @@ then_byte head quoted whole s scan scan2 b bs marks all piece first hyphen y r g
     }
 
 -- a byte of which nothing is kept
-then_scan : (head : Head) (quoted whole : Bool) (s t : State) (scan scan2 : Scan) (b : ℕ) (bs marks all : List ℕ) (first hyphen : Bool)
+then_scan : (head : Manner) (quoted whole : Bool) (s t : State) (scan scan2 : Scan) (b : ℕ) (bs marks all : List ℕ) (first hyphen : Bool)
     (r : Read head quoted whole s scan bs marks all first hyphen) → Takes b r.next t 1 [] → In r.going head t scan2 r.word r.held
     → is_whole t.page ≡ is_whole r.next.page → Read head quoted whole s scan2 (bs ++ b ∷ []) marks all first hyphen
 then_scan head quoted whole s t scan scan2 b bs marks all first hyphen r takes at same = record {
@@ -157,7 +157,7 @@ then_scan head quoted whole s t scan scan2 b bs marks all first hyphen r takes a
   is_hyphen = r.is_hyphen;
 }
 
-read_as : (head : Head) (quoted whole : Bool) (s : State) (scan : Scan) (bs bs2 marks all all2 : List ℕ) (first hyphen : Bool) → bs ≡ bs2 → all ≡ all2
+read_as : (head : Manner) (quoted whole : Bool) (s : State) (scan : Scan) (bs bs2 marks all all2 : List ℕ) (first hyphen : Bool) → bs ≡ bs2 → all ≡ all2
     → Read head quoted whole s scan bs marks all first hyphen → Read head quoted whole s scan bs2 marks all2 first hyphen
 read_as head quoted whole s scan bs bs2 marks all all2 first hyphen e f r =
     subst (λ (ys : List ℕ). Read head quoted whole s scan bs2 marks ys first hyphen) f
@@ -165,13 +165,13 @@ read_as head quoted whole s scan bs bs2 marks all all2 first hyphen e f r =
 
 -- ---- a backslash, and a quote between quotes
 
-slash_met : (quoted going : Bool) (head : Head) (s : State) (word marks : List ℕ) → In going head s (in_word_of quoted) word marks
+slash_met : (quoted going : Bool) (head : Manner) (s : State) (word marks : List ℕ) → In going head s (in_word_of quoted) word marks
     → meet (code "\\") s.page ≡ met (with_scan (goes_to (within_escape quoted)) s.page) (taken acts.Nothing)
 unfolding meet
 slash_met true going head s word marks at = ap (λ (sc : Scan). meet_at sc (code "\\") s.page) at.scan_is
 slash_met false going head s word marks at = ap (λ (sc : Scan). meet_at sc (code "\\") s.page) at.scan_is
 
-then_slash : (head : Head) (quoted whole : Bool) (s : State) (bs marks all : List ℕ) (first hyphen : Bool)
+then_slash : (head : Manner) (quoted whole : Bool) (s : State) (bs marks all : List ℕ) (first hyphen : Bool)
     → Read head quoted whole s (in_word_of quoted) bs marks all first hyphen
     → Read head quoted whole s (goes_to (within_escape quoted)) (bs ++ codes "\\") marks all first hyphen
 unfolding said lay_out
@@ -184,12 +184,12 @@ then_slash head quoted whole s bs marks all first hyphen r =
     (in_as r.going head r.next q (in_word_of quoted) scan r.word r.word r.held r.at refl r.at.word_is refl refl refl refl refl refl refl)
     (same_whole p q refl refl)
 
-closing_met : (going : Bool) (head : Head) (s : State) (word marks : List ℕ) → In going head s scans.Quoted word marks
+closing_met : (going : Bool) (head : Manner) (s : State) (word marks : List ℕ) → In going head s scans.Quoted word marks
     → meet (code "\"") s.page ≡ met (with_scan scans.Closing s.page) (taken acts.Nothing)
 unfolding meet
 closing_met going head s word marks at = ap (λ (sc : Scan). meet_at sc (code "\"") s.page) at.scan_is
 
-then_quote : (head : Head) (whole : Bool) (s : State) (bs marks all : List ℕ) (first hyphen : Bool)
+then_quote : (head : Manner) (whole : Bool) (s : State) (bs marks all : List ℕ) (first hyphen : Bool)
     → Read head true whole s scans.Quoted bs marks all first hyphen → Read head true whole s scans.Closing (bs ++ codes "\"") marks all first hyphen
 unfolding said lay_out
 then_quote head whole s bs marks all first hyphen r =
@@ -203,7 +203,7 @@ then_quote head whole s bs marks all first hyphen r =
 -- ---- a letter more
 
 -- an escape
-then_escape : (b : ℕ) (head : Head) (quoted whole : Bool) (s : State) (bs marks all : List ℕ) (first hyphen : Bool)
+then_escape : (b : ℕ) (head : Manner) (quoted whole : Bool) (s : State) (bs marks all : List ℕ) (first hyphen : Bool)
     → Read head quoted whole s (in_word_of quoted) bs marks all first hyphen → is_letter quoted (Escape b) ≡ true
     → Read head quoted whole s (in_word_of quoted) (bs ++ bytes_of quoted (Escape b)) marks (all ++ code "\\" ∷ b ∷ []) false (b == code "-")
 then_escape b head quoted whole s bs marks all first hyphen r h =
@@ -216,7 +216,7 @@ then_escape b head quoted whole s bs marks all first hyphen r h =
     (λ w. letter_last head.way whole false (Escape b) w))
 
 -- two quotes
-then_two : (head : Head) (whole : Bool) (s : State) (bs marks all : List ℕ) (first hyphen : Bool) → Read head true whole s scans.Quoted bs marks all first hyphen
+then_two : (head : Manner) (whole : Bool) (s : State) (bs marks all : List ℕ) (first hyphen : Bool) → Read head true whole s scans.Quoted bs marks all first hyphen
     → Read head true whole s scans.Quoted (bs ++ codes "\"\"") marks (all ++ codes "\"") false false
 then_two head whole s bs marks all first hyphen r =
     let one = then_quote head whole s bs marks all first hyphen r in
@@ -230,7 +230,7 @@ then_two head whole s bs marks all first hyphen r =
 plain_bytes : Bool → ℕ → List ℕ
 plain_bytes t b = if t then codes "\"\"" else b ∷ []
 
-behind_by : (t : Bool) (b : ℕ) (behind : Bool) (head : Head) (quoted whole : Bool) (s : State) (bs marks all : List ℕ)
+behind_by : (t : Bool) (b : ℕ) (behind : Bool) (head : Manner) (quoted whole : Bool) (s : State) (bs marks all : List ℕ)
     → Read head quoted whole s (in_word_of quoted) bs marks all false behind → is_letter quoted (Plain b) ≡ true → (quoted && (b == code "\"")) ≡ t
     → Read head quoted whole s (in_word_of quoted) (bs ++ plain_bytes t b) marks (all ++ kept_letter head.way whole behind (Plain b)) false (b == code "-")
 unfolding plain_bytes
@@ -243,14 +243,14 @@ behind_by false b behind head quoted whole s bs marks all r h e =
     (grown_behind behind quoted r.going whole head b r.next r.word r.held r.at r.clear r.together h e r.is_first r.is_hyphen)
     (letter_some head.way whole behind (Plain b)) (λ w. letter_last head.way whole behind (Plain b) w)
 
-letter_behind : (l : Letter) (behind : Bool) (head : Head) (quoted whole : Bool) (s : State) (bs marks all : List ℕ)
+letter_behind : (l : Letter) (behind : Bool) (head : Manner) (quoted whole : Bool) (s : State) (bs marks all : List ℕ)
     → Read head quoted whole s (in_word_of quoted) bs marks all false behind → is_letter quoted l ≡ true
     → Read head quoted whole s (in_word_of quoted) (bs ++ bytes_of quoted l) marks (all ++ kept_letter head.way whole behind l) false (is_hyphen l)
 unfolding plain_bytes
 letter_behind (Plain b) behind head quoted whole s bs marks all r h = behind_by (quoted && (b == code "\"")) b behind head quoted whole s bs marks all r h refl
 letter_behind (Escape b) behind head quoted whole s bs marks all r h = then_escape b head quoted whole s bs marks all false behind r h
 
-first_plain : (t : Bool) (b : ℕ) (hyphen : Bool) (head : Head) (quoted whole : Bool) (s : State) (bs marks all : List ℕ)
+first_plain : (t : Bool) (b : ℕ) (hyphen : Bool) (head : Manner) (quoted whole : Bool) (s : State) (bs marks all : List ℕ)
     → Read head quoted whole s (in_word_of quoted) bs marks all true hyphen → is_letter quoted (Plain b) ≡ true → (quoted && (b == code "\"")) ≡ t
     → Read head quoted whole s (in_word_of quoted) (bs ++ plain_bytes t b) marks (all ++ kept_first whole (Plain b)) false (b == code "-")
 unfolding plain_bytes
@@ -263,7 +263,7 @@ first_plain false b hyphen head quoted whole s bs marks all r h e =
     (grown_first quoted r.going whole head b r.next r.word r.held r.at r.clear r.together h e r.is_first)
     (first_some whole (Plain b)) (λ w. first_last whole (Plain b) w)
 
-letter_first : (l : Letter) (hyphen : Bool) (head : Head) (quoted whole : Bool) (s : State) (bs marks all : List ℕ)
+letter_first : (l : Letter) (hyphen : Bool) (head : Manner) (quoted whole : Bool) (s : State) (bs marks all : List ℕ)
     → Read head quoted whole s (in_word_of quoted) bs marks all true hyphen → is_letter quoted l ≡ true
     → Read head quoted whole s (in_word_of quoted) (bs ++ bytes_of quoted l) marks (all ++ kept_first whole l) false (is_hyphen l)
 unfolding plain_bytes
@@ -273,17 +273,17 @@ letter_first (Escape b) hyphen head quoted whole s bs marks all r h = then_escap
 -- ---- all letters
 
 -- a word was read
-pub record Spelled (head : Head) (quoted whole : Bool) (s : State) (scan : Scan) (bs marks all : List ℕ) : Type 0 where
+pub record Spelled (head : Manner) (quoted whole : Bool) (s : State) (scan : Scan) (bs marks all : List ℕ) : Type 0 where
   pub first : Bool
   pub hyphen : Bool
   pub read : Read head quoted whole s scan bs marks all first hyphen
 
-spelled_as : (head : Head) (quoted whole : Bool) (s : State) (scan : Scan) (bs bs2 marks all all2 : List ℕ) → bs ≡ bs2 → all ≡ all2
+spelled_as : (head : Manner) (quoted whole : Bool) (s : State) (scan : Scan) (bs bs2 marks all all2 : List ℕ) → bs ≡ bs2 → all ≡ all2
     → Spelled head quoted whole s scan bs marks all → Spelled head quoted whole s scan bs2 marks all2
 spelled_as head quoted whole s scan bs bs2 marks all all2 e f w =
     record { first = w.first; hyphen = w.hyphen; read = read_as head quoted whole s scan bs bs2 marks all all2 w.first w.hyphen e f w.read }
 
-letters_behind : (ls : List Letter) (behind : Bool) (head : Head) (quoted whole : Bool) (s : State) (bs marks all : List ℕ)
+letters_behind : (ls : List Letter) (behind : Bool) (head : Manner) (quoted whole : Bool) (s : State) (bs marks all : List ℕ)
     → Read head quoted whole s (in_word_of quoted) bs marks all false behind → are_letters quoted ls ≡ true
     → Spelled head quoted whole s (in_word_of quoted) (bs ++ written quoted ls) marks (all ++ kept_in head.way whole behind ls)
 letters_behind [] behind head quoted whole s bs marks all r h = record {
@@ -315,7 +315,7 @@ between_is : (b : ℕ) (p : Page)
 unfolding between_by
 between_is b p = refl
 
-pub between_met : (head : Head) (b : ℕ) (s : State) (word marks : List ℕ) → At head s scans.Between word marks
+pub between_met : (head : Manner) (b : ℕ) (s : State) (word marks : List ℕ) → In false head s scans.Between word marks
     → meet b s.page ≡ between_by false (b == code " ") (b == code "\t") (b == code "\n") (b == code "\"") s.page
 unfolding meet
 between_met head b s word marks at =
@@ -328,7 +328,7 @@ not_of t e = ap not e
 begun : Bool → Page → Page
 begun quoted p = with_scan (in_word_of quoted) (record p { word = []; call = record p.call { width = 0 } })
 
-begun_leads : (head : Head) (b : ℕ) (s : State) (word marks : List ℕ) → At head s scans.Between word marks → ends_word b ≡ false
+begun_leads : (head : Manner) (b : ℕ) (s : State) (word marks : List ℕ) → In false head s scans.Between word marks → ends_word b ≡ false
     → (b == code "\"") ≡ false → Leads b s (with_page (begun false s.page) s) 1 []
 unfolding between_by begun said lay_out
 begun_leads head b s word marks at no_end quote =
@@ -344,15 +344,15 @@ begun_leads head b s word marks at no_end quote =
     ∙ ap (λ (t : Bool). between_by false false false false t p) quote)
     refl refl
 
-begun_at : (quoted : Bool) (head : Head) (s : State) (word marks : List ℕ) → At head s scans.Between word marks
-    → At head (with_page (begun quoted s.page) s) (in_word_of quoted) [] marks
+begun_at : (quoted : Bool) (head : Manner) (s : State) (word marks : List ℕ) → In false head s scans.Between word marks
+    → In false head (with_page (begun quoted s.page) s) (in_word_of quoted) [] marks
 unfolding begun
 begun_at quoted head s word marks at =
     in_as false head s (begun quoted s.page) scans.Between (in_word_of quoted) word [] marks at refl refl refl refl refl refl refl refl refl
 
 -- of a word so much was read, at its beginning
-opened : (head : Head) (quoted whole : Bool) (s t : State) (k : ℕ) (scan : Scan) (b : ℕ) (marks : List ℕ) → k ≤ 16 → Takes b s t k []
-    → At head t scan [] marks → (quoted && is_whole t.page) ≡ whole → Read head quoted whole s scan (b ∷ []) marks [] true false
+opened : (head : Manner) (quoted whole : Bool) (s t : State) (k : ℕ) (scan : Scan) (b : ℕ) (marks : List ℕ) → k ≤ 16 → Takes b s t k []
+    → In false head t scan [] marks → (quoted && is_whole t.page) ≡ whole → Read head quoted whole s scan (b ∷ []) marks [] true false
 opened head quoted whole s t k scan b marks few takes at together = record {
   going = false;
   next = t;
@@ -377,7 +377,7 @@ seven : (k : ℕ) → k ≤ 6 → 1 + k ≤ 16
 seven k l = omega arith
 
 -- the first letter, not between quotes
-bare_first : (l : Letter) (head : Head) (s : State) (word marks : List ℕ) → At head s scans.Between word marks → is_letter false l ≡ true
+bare_first : (l : Letter) (head : Manner) (s : State) (word marks : List ℕ) → In false head s scans.Between word marks → is_letter false l ≡ true
     → Read head false false s scans.Word (bytes_of false l) marks (kept_first false l) false (is_hyphen l)
 unfolding begun said lay_out
 bare_first (Plain b) head s word marks at h =
@@ -421,7 +421,7 @@ bare_first (Escape b) head s word marks at h =
     (grown_escaped false start.going head b start.next start.word start.held start.at start.clear h) refl
     (λ w. letter_last head.way false false (Escape b) w)
 
-pub read_bare : (l : Letter) (ls : List Letter) (head : Head) (s : State) (word marks : List ℕ) → At head s scans.Between word marks
+pub read_bare : (l : Letter) (ls : List Letter) (head : Manner) (s : State) (word marks : List ℕ) → In false head s scans.Between word marks
     → are_letters false (l ∷ ls) ≡ true → Spelled head false false s scans.Word (written false (l ∷ ls)) marks (kept head.way false (l ∷ ls))
 read_bare l ls head s word marks at h =
     letters_behind ls (is_hyphen l) head false false s (bytes_of false l) marks (kept_first false l)
@@ -429,12 +429,12 @@ read_bare l ls head s word marks at h =
 
 -- ---- a word between quotes
 
-begun_takes : (head : Head) (s : State) (word marks : List ℕ) → At head s scans.Between word marks → Takes (code "\"") s (with_page (begun true s.page) s) 1 []
+begun_takes : (head : Manner) (s : State) (word marks : List ℕ) → In false head s scans.Between word marks → Takes (code "\"") s (with_page (begun true s.page) s) 1 []
 unfolding between_by begun said lay_out
 begun_takes head s word marks at =
     takes_by (code "\"") s (begun true s.page) (begun true s.page) acts.Nothing acts.Nothing acts.Nothing [] (between_met head (code "\"") s word marks at) refl refl
 
-letters_quoted : (ls : List Letter) (head : Head) (whole : Bool) (s : State) (marks : List ℕ) → Read head true whole s scans.Quoted (codes "\"") marks [] true false
+letters_quoted : (ls : List Letter) (head : Manner) (whole : Bool) (s : State) (marks : List ℕ) → Read head true whole s scans.Quoted (codes "\"") marks [] true false
     → are_letters true ls ≡ true → Spelled head true whole s scans.Quoted (code "\"" ∷ written true ls) marks (kept head.way whole ls)
 letters_quoted [] head whole s marks r h = record { first = true; hyphen = false; read = r }
 letters_quoted (l ∷ ls) head whole s marks r h =
@@ -444,11 +444,11 @@ letters_quoted (l ∷ ls) head whole s marks r h =
     (and_right (is_letter true l) (are_letters true ls) h)
 
 -- its blanks stay together or not
-pub record Quoted (head : Head) (s : State) (ls : List Letter) (marks : List ℕ) : Type 0 where
+pub record Quoted (head : Manner) (s : State) (ls : List Letter) (marks : List ℕ) : Type 0 where
   pub whole : Bool
   pub spelled : Spelled head true whole s scans.Closing (code "\"" ∷ written true ls ++ codes "\"") marks (kept head.way whole ls)
 
-pub read_quoted : (ls : List Letter) (head : Head) (s : State) (word marks : List ℕ) → At head s scans.Between word marks → are_letters true ls ≡ true
+pub read_quoted : (ls : List Letter) (head : Manner) (s : State) (word marks : List ℕ) → In false head s scans.Between word marks → are_letters true ls ≡ true
     → Quoted head s ls marks
 read_quoted ls head s word marks at h =
     let t = with_page (begun true s.page) s in

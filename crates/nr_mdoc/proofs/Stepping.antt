@@ -12,7 +12,7 @@ use Rattle.nr_mdoc.specs.Scanning.{meet}
 use Rattle.nr_mdoc.specs.Seeing.{Met, met, left, three}
 use Rattle.nr_mdoc.specs.WrittenLines.{Way, Usual, way_of}
 use Rattle.nr_mdoc.proofs.Meeting.{with_page, Leads, leads_by}
-use Rattle.nr_mdoc.proofs.Outcomes.{of_word, never, Lays, three-page, three-words, takes_plain, Out, leaves_out}
+use Rattle.nr_mdoc.proofs.Outcomes.{of_word, never, Lays, three-page, three-words, takes_as, Out, leaves_out}
 
 -- ---- where a line of a macro is read
 
@@ -21,8 +21,17 @@ pub record Head : Type 0 where
   pub line : Macro
   pub way : Way
 
+-- the same, and whether its words are read as such, or the first of a heading
+pub record Manner : Type 0 where
+  pub line : Macro
+  pub way : Way
+  pub plain : Bool
+
+abbrev pub plainly : Head → Manner
+plainly head = record { line = head.line; way = head.way; plain = true }
+
 -- so, with this word, or its last part where more than one goes out, and with these marks held back
-pub record In (goes : Bool) (m : Head) (s : State) (scan : Scan) (word marks : List ℕ) : Type 0 where
+pub record In (goes : Bool) (m : Manner) (s : State) (scan : Scan) (word marks : List ℕ) : Type 0 where
   pub scan_is : s.page.scan ≡ scan
   pub word_is : s.page.word ≡ word
   pub marks_are : s.page.marks ≡ marks
@@ -30,15 +39,15 @@ pub record In (goes : Bool) (m : Head) (s : State) (scan : Scan) (word marks : L
   pub going : s.page.call.going ≡ goes
   pub comment : s.page.call.comment ≡ false
   pub line : s.page.call.line ≡ m.line
-  pub fits : takes_plain s.page.call.taker ≡ true
+  pub fits : takes_as m.plain s.page.call.taker ≡ true
   pub way : way_of s.page.call.taker ≡ m.way
   pub free : s.page.call.some ≡ false → marks ≡ []
 
 abbrev pub At : Head → State → Scan → List ℕ → List ℕ → Type 0
-At m s scan word marks = In false m s scan word marks
+At m s scan word marks = In false (plainly m) s scan word marks
 
 -- so it is read where a page is the same in all that counts
-pub in_as : (going : Bool) (head : Head) (s : State) (p : Page) (scan scan2 : Scan) (word word2 marks : List ℕ) → In going head s scan word marks
+pub in_as : (going : Bool) (head : Manner) (s : State) (p : Page) (scan scan2 : Scan) (word word2 marks : List ℕ) → In going head s scan word marks
     → p.scan ≡ scan2 → p.word ≡ word2 → p.marks ≡ s.page.marks → p.closers ≡ s.page.closers → p.call.going ≡ s.page.call.going
     → p.call.comment ≡ s.page.call.comment → p.call.line ≡ s.page.call.line → p.call.taker ≡ s.page.call.taker → p.call.some ≡ s.page.call.some
     → In going head (with_page p s) scan2 word2 marks
@@ -50,7 +59,7 @@ in_as going head s p scan scan2 word word2 marks at a b c d e f g h i = record {
   going = e ∙ at.going;
   comment = f ∙ at.comment;
   line = g ∙ at.line;
-  fits = ap takes_plain h ∙ at.fits;
+  fits = ap (takes_as head.plain) h ∙ at.fits;
   way = ap way_of h ∙ at.way;
   free = λ k. at.free (sym i ∙ k);
 }
@@ -83,7 +92,7 @@ out_leads b s m q xs o e =
 -- where a word is read then, or the line is read between words
 pub out_in : (going : Bool) (head : Head) (s : State) (m : Met) (q : Page) (xs marks : List ℕ) (o : Out m q xs)
     → q.marks ≡ marks → length q.closers ≤ 8 → q.call.going ≡ going → q.call.comment ≡ false → q.call.line ≡ head.line → way_of q.call.taker ≡ head.way
-    → (m.page.call.some ≡ false → marks ≡ []) → In going head (out_next m q xs o s) q.scan q.word marks
+    → (m.page.call.some ≡ false → marks ≡ []) → In going (plainly head) (out_next m q xs o s) q.scan q.word marks
 unfolding out_next
 out_in going head s m q xs marks o marks_are few going_is comment line_is way_is free = record {
   scan_is = o.keeps.scan;

@@ -311,6 +311,7 @@ taken_by_out macros.Name q e h f = named_out q f
 taken_by_out macros.Parameter q e h f = parameter_out q f
 taken_by_out macros.Reference q e h f = reference_out q f (usual_is macros.Reference q e refl)
 taken_by_out macros.Author q e h f = author_out q f
+taken_by_out macros.Section q e h f = never h
 taken_by_out macros.Describes q e h f = subst (λ (k : Macro). Out (taken_alone_by k q) q q.word) (sym e) (said_in Roman q q (same_page q f))
 taken_by_out macros.Link q e h f = link_out q f (usual_is macros.Link q e refl)
 taken_by_out macros.Function q e h f = function_out q f

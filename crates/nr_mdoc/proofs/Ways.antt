@@ -9,12 +9,12 @@ use Rattle.nr_mdoc.specs.declared.macros.Macro.TheVariants as macros
 use Rattle.nr_mdoc.specs.declared.page.Page.{Page}
 use Rattle.nr_mdoc.specs.Calls.{is_due, is_due_from, is_enclosure_due, is_none, is_opened_by}
 use Rattle.nr_mdoc.specs.Keeping.{ends_in_hyphen, has_dashes, is_title, looks_up}
-use Rattle.nr_mdoc.specs.Options.{reads_for}
+use Rattle.nr_mdoc.specs.Options.{is_heading, reads_for}
 use Rattle.nr_mdoc.specs.Taking.{is_bar, is_opening}
 use Rattle.nr_mdoc.specs.Words.{takes_marks}
-use Rattle.nr_mdoc.specs.WrittenLines.{is_held, is_hyphen, kept_first, kept_letter, Letter, Plain, Escape, prints_otherwise, Way, Usual, Titled, Authors, way_of, way_of_part, said_of, hyphens_stay}
+use Rattle.nr_mdoc.specs.WrittenLines.{is_held, is_hyphen, kept_first, kept_letter, Letter, Plain, Escape, prints_otherwise, Way, Usual, Titled, Authors, Headed, way_of, way_of_part, said_of, holds_hyphen}
 use Rattle.nr_mdoc.proofs.Escapes.{and_left, and_right, is_not, same_byte}
-use Rattle.nr_mdoc.proofs.Outcomes.{never, takes_plain}
+use Rattle.nr_mdoc.proofs.Outcomes.{never, takes_as, takes_plain}
 
 -- ---- macros that take words otherwise are not due
 
@@ -22,6 +22,7 @@ due_from_usual : (m : Macro) (some named : Bool) → is_due_from m some named �
 due_from_usual macros.Describes some named h = never h
 due_from_usual (macros.Part letter) some named h = never h
 due_from_usual macros.Author some named h = never h
+due_from_usual macros.Section some named h = never h
 due_from_usual m some named h = refl
 
 pub due_usual : (p : Page) → is_due p ≡ true → way_of p.call.taker ≡ Usual
@@ -31,6 +32,7 @@ opened_by_usual : (m : Macro) → is_opened_by m ≡ true → way_of m ≡ Usual
 opened_by_usual macros.Describes h = never h
 opened_by_usual (macros.Part letter) h = never h
 opened_by_usual macros.Author h = never h
+opened_by_usual macros.Section h = never h
 opened_by_usual m h = refl
 
 pub opened_usual : (p : Page) → is_enclosure_due p ≡ true → way_of p.call.taker ≡ Usual
@@ -40,35 +42,39 @@ pub marks_usual : (m : Macro) → takes_marks m ≡ true → way_of m ≡ Usual
 marks_usual macros.Describes h = never h
 marks_usual (macros.Part letter) h = never h
 marks_usual macros.Author h = never h
+marks_usual macros.Section h = never h
 marks_usual m h = refl
 
 -- ---- hyphens
 
-part_looks : (t : Bool) → t ≡ hyphens_stay (way_of_part t)
-part_looks true = refl
-part_looks false = refl
+part_holds : (t dash : Bool) → (not t || dash) ≡ holds_hyphen (way_of_part t) dash
+part_holds true dash = refl
+part_holds false dash = refl
 
-looks_by : (m : Macro) → prints_otherwise m ≡ false → reads_for m ≡ false → looks_up m ≡ hyphens_stay (way_of m)
-looks_by macros.Standard h e = never (sym h)
-looks_by macros.Describes h e = refl
-looks_by (macros.Part letter) h e = part_looks (is_title letter)
-looks_by macros.Author h e = refl
-looks_by m h e = e
+usual_holds : (t dash : Bool) → t ≡ false → (not t || dash) ≡ true
+usual_holds t dash e = ap (λ (u : Bool). not u || dash) e
 
-pub plain_looks : (m : Macro) → takes_plain m ≡ true → looks_up m ≡ hyphens_stay (way_of m)
-unfolding takes_plain
-plain_looks m h =
-    looks_by m (is_not (prints_otherwise m) (and_left (not (prints_otherwise m)) (not (reads_for m)) h))
-    (is_not (reads_for m) (and_right (not (prints_otherwise m)) (not (reads_for m)) h))
+holds_by : (m : Macro) (dash : Bool) → prints_otherwise m ≡ false → reads_for m ≡ false
+    → (not (looks_up m) || (has_dashes m && dash)) ≡ holds_hyphen (way_of m) dash
+holds_by macros.Standard dash h e = never (sym h)
+holds_by macros.Describes dash h e = refl
+holds_by (macros.Part letter) dash h e = part_holds (is_title letter) dash
+holds_by macros.Author dash h e = refl
+holds_by macros.Section dash h e = never (sym e)
+holds_by m dash h e = usual_holds (reads_for m) (has_dashes m && dash) e
+
+heading_holds : (m : Macro) (dash : Bool) → is_heading m ≡ true → (not (looks_up m) || (has_dashes m && dash)) ≡ holds_hyphen (way_of m) dash
+heading_holds macros.Section dash h = refl
+heading_holds m dash h = never h
 
 -- whether a hyphen is kept as an escape
-hyphen_by : (m : Macro) (dash : Bool) → takes_plain m ≡ true → (not (hyphens_stay (way_of m)) || (has_dashes m && dash)) ≡ (not (hyphens_stay (way_of m)) || dash)
-hyphen_by macros.Describes dash h = refl
-hyphen_by (macros.Part letter) dash h = refl
-hyphen_by m dash h = refl
-
-pub plain_hyphen : (m : Macro) (dash : Bool) → takes_plain m ≡ true → (not (looks_up m) || (has_dashes m && dash)) ≡ (not (hyphens_stay (way_of m)) || dash)
-plain_hyphen m dash h = ap (λ (t : Bool). not t || (has_dashes m && dash)) (plain_looks m h) ∙ hyphen_by m dash h
+pub plain_hyphen : (plain : Bool) (m : Macro) (dash : Bool) → takes_as plain m ≡ true
+    → (not (looks_up m) || (has_dashes m && dash)) ≡ holds_hyphen (way_of m) dash
+unfolding takes_plain
+plain_hyphen true m dash h =
+    holds_by m dash (is_not (prints_otherwise m) (and_left (not (prints_otherwise m)) (not (reads_for m)) h))
+    (is_not (reads_for m) (and_right (not (prints_otherwise m)) (not (reads_for m)) h))
+plain_hyphen false m dash h = heading_holds m dash h
 
 one_less : (xs : List ℕ) (c : ℕ) → length (xs ++ c ∷ []) - 1 ≡ length xs
 one_less xs c = rw (length-append xs (c ∷ [])) (omega arith)
@@ -124,7 +130,7 @@ letter_last_by true false v b word e = plain_last (b == code "-") v b word refl
 letter_last_by false f v b word e = plain_last (b == code "-") v b word refl
 
 pub letter_last : (way : Way) (whole behind : Bool) (l : Letter) (word : List ℕ) → ends_in_hyphen (word ++ kept_letter way whole behind l) ≡ is_hyphen l
-letter_last way whole behind (Plain b) word = letter_last_by (b == code " ") whole (not (hyphens_stay way) || behind) b word refl
+letter_last way whole behind (Plain b) word = letter_last_by (b == code " ") whole (holds_hyphen way behind) b word refl
 letter_last way whole behind (Escape b) word = escape_last b word
 
 first_last_by : (t f : Bool) (b : ℕ) (word : List ℕ) → (b == code " ") ≡ t
@@ -147,6 +153,7 @@ pub said_one : (way : Way) (c : ℕ) → c ∷ [] ≡ said_of way (c ∷ [])
 said_one Usual c = refl
 said_one Titled c = refl
 said_one Authors c = one_said (c == code "-") c
+said_one Headed c = refl
 
 pub said_bar : (way : Way) (word : List ℕ) → is_bar word ≡ true → word ≡ said_of way word
 said_bar way [] h = never h

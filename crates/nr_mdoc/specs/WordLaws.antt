@@ -1,5 +1,5 @@
 -- What is said of the words of lines and of the enclosures that a line opened, in any state of the page.
-use Rattle.std.specs.Prelude.{◌≡◌, ℕ, ◌+◌, List, [], ◌∷◌, ◌++◌, length, reverse, Bool, nat_le, nat_lt, true, false, not, ◌&&◌, ◌||◌, if◌then◌else◌, codes, Option, None, Some}
+use Rattle.std.specs.Prelude.{◌≡◌, ℕ, ◌+◌, List, [], ◌∷◌, ◌++◌, length, reverse, Bool, nat_lt, true, false, not, ◌&&◌, ◌||◌, if◌then◌else◌, codes, Option, None, Some}
 use Rattle.nr_mdoc.specs.declared.acts.Act.TheVariants as acts
 use Rattle.nr_mdoc.specs.declared.acts.Text.TheVariants as texts
 use Rattle.nr_mdoc.specs.declared.macros.Macro.{Macro}
@@ -14,7 +14,7 @@ use Rattle.nr_mdoc.specs.Lines.{ends_joined}
 use Rattle.nr_mdoc.specs.Macros.{macro_of}
 use Rattle.nr_mdoc.specs.Reading.{State, behind, fed, heard_in}
 use Rattle.nr_mdoc.specs.Saying.{parts_of, state_behind, text_of, words_of}
-use Rattle.nr_mdoc.specs.WrittenLines.{each, names_no_string, is_text, begins_text, is_plain, heads_words, Usual, way_of, Word, are_written, heading_of, line_of, printed_as, opens_block, Line, AskingLine, are_lines, written_line, written_lines, printed_lines}
+use Rattle.nr_mdoc.specs.WrittenLines.{each, names_no_string, is_text, begins_text, is_plain, heads_words, Usual, way_of, Word, are_written, is_first, headed, line_of, printed_as, opens_block, Line, AskingLine, are_lines, written_line, written_lines, printed_lines}
 
 -- ---- words
 
@@ -47,10 +47,11 @@ WordsAreSaid =
 -- and a heading, whose first word calls nothing, and keeps its hyphens
 abbrev pub HeadingsAreSaid : Type 0
 HeadingsAreSaid =
-    (s : State) (b : ℕ) (bs : List ℕ) (words : List Word) → s.page.marks ≡ [] →
-    each is_plain (b ∷ bs) ≡ true → nat_le (length (b ∷ bs)) 30 ≡ true → are_written Usual words ≡ true →
+    (s : State) (first : Word) (words : List Word) → s.page.marks ≡ [] →
+    is_first first ≡ true → are_written Usual words ≡ true →
     (wholes : List Bool) ×
-    Says (reads_at scans.Start s) (heading_of (b ∷ bs) words) ((b ∷ bs) ++ printed_as Usual wholes words)
+    Says (reads_at scans.Start s) (line_of (codes "Sh") (first ∷ words))
+    (headed first ++ printed_as Usual wholes words)
 
 -- fewer than sixty-four lists and displays are open around the innermost where one of these lines begins another
 abbrev pub opens_some : Option Macro → Bool

@@ -108,9 +108,22 @@ behind_long behinds.Parenthesis = three acts.LastMore (acts.Close (texts.Opening
 behind_long behinds.Angle = two acts.LastMore (acts.Close (texts.Closing (code ">")))
 behind_long behinds.Joint = two acts.LastMore acts.Join
 
+-- behind the first word of a heading others are read as they are on other lines
+abbrev pub taken_behind : Macro → Macro
+taken_behind macros.Section = macros.Words Roman
+taken_behind m = m
+
 abbrev pub ends_long : Page → Met
 ends_long p =
-    met (record p { scan = scans.Between; call = record p.call { going = false; behind = behinds.Nothing } })
+    met
+    (record p {
+      scan = scans.Between;
+      call = record p.call {
+        going = false;
+        behind = behinds.Nothing;
+        taker = taken_behind p.call.taker;
+      };
+    })
     (behind_long p.call.behind)
 
 abbrev pub given : Bool → Page → Met

@@ -1,5 +1,5 @@
 -- Lines as they are written: text lines, and lines of macros with their words.
-use Rattle.std.specs.Prelude.{ℕ, List, [], ◌∷◌, ◌++◌, length, Bool, true, false, not, ◌==◌, ◌&&◌, ◌||◌, nat_le, if◌then◌else◌, codes, Option, None, Some}
+use Rattle.std.specs.Prelude.{ℕ, List, [], ◌∷◌, ◌++◌, Bool, true, false, not, ◌==◌, ◌&&◌, ◌||◌, if◌then◌else◌, codes, Option, None, Some}
 use Rattle.std.specs.Str.{bytes_eq}
 use Prim.Native.Char.{code}
 use Rattle.nr_mdoc.specs.declared.macros.Macro.{Macro}
@@ -35,11 +35,13 @@ begins_text b = not (is_control b) && not (ends_word b)
 
 -- ---- how a macro takes its words
 
--- as they are, but for their hyphens; as a description or a title, whose hyphens stay; or as authors, among whom are options
+-- as they are, but for their hyphens; as a description or a title, whose hyphens stay; as authors, among whom are options; or as
+-- the first of a heading, as it is
 pub data Way : Type 0 where
   Usual : Way
   Titled : Way
   Authors : Way
+  Headed : Way
 
 abbrev pub way_of_part : Bool → Way
 way_of_part title = if title then Titled else Usual
@@ -48,6 +50,7 @@ abbrev pub way_of : Macro → Way
 way_of macros.Describes = Titled
 way_of (macros.Part letter) = way_of_part (is_title letter)
 way_of macros.Author = Authors
+way_of macros.Section = Headed
 way_of m = Usual
 
 -- what is said of a word: the options of `.An` are not printed
@@ -56,9 +59,12 @@ said_of Authors word =
     if bytes_eq word (codes "-split") then [] else if bytes_eq word (codes "-nosplit") then [] else word
 said_of way word = word
 
-abbrev pub hyphens_stay : Way → Bool
-hyphens_stay Titled = true
-hyphens_stay way = false
+-- Whether a hyphen that is not the first letter of its word, behind a hyphen or not, is kept as an escape, since no line is broken
+-- after it. In titles it is so for one behind another.
+abbrev pub holds_hyphen : Way → Bool → Bool
+holds_hyphen Titled behind = behind
+holds_hyphen Headed behind = false
+holds_hyphen way behind = true
 
 -- ---- words of a macro's line, between quotes or not
 
@@ -100,10 +106,8 @@ abbrev pub is_hyphen : Letter → Bool
 is_hyphen (Plain b) = b == code "-"
 is_hyphen (Escape b) = b == code "-"
 
--- Whether a hyphen that is not the first letter of its word, behind a hyphen or not, is kept as an escape, since no line is broken
--- after it. Where hyphens stay, it is so for one behind another.
 abbrev pub is_held : Way → Bool → ℕ → Bool
-is_held way behind b = (b == code "-") && (not (hyphens_stay way) || behind)
+is_held way behind b = (b == code "-") && holds_hyphen way behind
 
 -- a letter as it is kept, behind a hyphen or not, where the blanks of its word stay together or not
 abbrev pub kept_letter : Way → Bool → Bool → Letter → List ℕ
@@ -213,9 +217,15 @@ behind_each (w ∷ ws) = codes " " ++ written_word w ++ behind_each ws
 abbrev pub line_of : List ℕ → List Word → List ℕ
 line_of name words = codes "." ++ name ++ behind_each words ++ codes "\n"
 
--- a heading, by its first word and the others
-abbrev pub heading_of : List ℕ → List Word → List ℕ
-heading_of first words = codes ".Sh " ++ first ++ behind_each words ++ codes "\n"
+-- a heading, by its words, of which the first calls nothing
+abbrev pub is_first : Word → Bool
+is_first (Bare []) = false
+is_first (Bare letters) = are_letters false letters
+is_first (Quoted letters) = are_letters true letters
+
+abbrev pub headed : Word → List ℕ
+headed (Bare letters) = kept Headed false letters
+headed (Quoted letters) = kept Headed false letters
 
 -- what they say, where the blanks of these words between quotes stay together
 abbrev pub printed_as : Way → List Bool → List Word → List ℕ
@@ -254,14 +264,13 @@ asking_line name rest = codes "." ++ name ++ written false rest ++ codes "\n"
 
 -- ---- lines of a page
 
--- an empty line, a comment, by its bytes, a text line, by its first byte and the others, a heading, by the first byte of its
--- first word, the others, and its further words, a line of a macro, by its name and its words, or one that asks, by its name
--- and what stands behind it
+-- an empty line, a comment, by its bytes, a text line, by its first byte and the others, a heading, by its first word and the
+-- others, a line of a macro, by its name and its words, or one that asks, by its name and what stands behind it
 pub data Line : Type 0 where
   EmptyLine : Line
   CommentLine : List ℕ → Line
   TextLine : ℕ → List ℕ → Line
-  HeadingLine : ℕ → List ℕ → List Word → Line
+  HeadingLine : Word → List Word → Line
   MacroLine : List ℕ → List Word → Line
   AskingLine : List ℕ → List Letter → Line
 
@@ -281,8 +290,7 @@ abbrev pub is_line : Line → Bool
 is_line EmptyLine = true
 is_line (CommentLine bs) = each is_text bs && names_no_string bs
 is_line (TextLine b bs) = begins_text b && each is_text bs && names_no_string (b ∷ bs)
-is_line (HeadingLine b bs words) =
-    each is_plain (b ∷ bs) && nat_le (length (b ∷ bs)) 30 && are_written Usual words
+is_line (HeadingLine first words) = is_first first && are_written Usual words
 is_line (MacroLine name words) =
     heads_some (macro_of name) && each is_plain name && are_written (way_named (macro_of name)) words
 is_line (AskingLine name rest) =
@@ -296,7 +304,7 @@ abbrev pub written_line : Line → List ℕ
 written_line EmptyLine = codes "\n"
 written_line (CommentLine bs) = codes ".\\\"" ++ bs ++ codes "\n"
 written_line (TextLine b bs) = b ∷ bs ++ codes "\n"
-written_line (HeadingLine b bs words) = heading_of (b ∷ bs) words
+written_line (HeadingLine first words) = line_of (codes "Sh") (first ∷ words)
 written_line (MacroLine name words) = line_of name words
 written_line (AskingLine name rest) = asking_line name rest
 
@@ -309,7 +317,7 @@ abbrev pub printed_line : List Bool → Line → List ℕ
 printed_line wholes EmptyLine = []
 printed_line wholes (CommentLine bs) = []
 printed_line wholes (TextLine b bs) = b ∷ bs
-printed_line wholes (HeadingLine b bs words) = (b ∷ bs) ++ printed_as Usual wholes words
+printed_line wholes (HeadingLine first words) = headed first ++ printed_as Usual wholes words
 printed_line wholes (MacroLine name words) = printed_as (way_named (macro_of name)) wholes words
 printed_line wholes (AskingLine name rest) = []
 

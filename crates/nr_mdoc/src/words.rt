@@ -41,6 +41,16 @@ fn begins_anew(called: Macro) -> bool
     )
 }
 
+/// What takes the words behind a long one: those behind the first of a heading are read as on other lines.
+fn taken_behind(taker: Macro) -> Macro
+    ensures { result ≡ specs.taken_behind taker }
+{
+    match taker {
+        Macro::Section => Macro::Words(Font::Roman),
+        _ => taker,
+    }
+}
+
 /// The last part of a long word, and what stands behind it.
 fn behind_long(behind: Behind) -> Seen
     ensures { result ≡ specs.behind_long behind }
@@ -157,6 +167,7 @@ impl Page {
         self.scan = Scan::Between;
         let behind = self.call.behind;
         self.call.behind = Behind::Nothing;
+        self.call.taker = taken_behind(self.call.taker);
         behind_long(behind)
     }
 
