@@ -18,7 +18,8 @@ use Rattle.nr_preconv.specs.Half.{Met, taken, is_plain, without_escape, in_text}
 use Rattle.nr_preconv.specs.Hyphens.{placed}
 use Rattle.nr_preconv.specs.Words.{begins_word}
 use Rattle.nr_preconv.specs.Saying.{bytes_of, sent}
-use Rattle.nr_preconv.specs.Escapes.{in_escape, waits, made_way, letter}
+use Rattle.nr_preconv.specs.Letters.{waits, made_way, letter}
+use Rattle.nr_preconv.specs.Escapes.{in_escape}
 use Rattle.nr_preconv.specs.Lines.{in_line, takes_escape, passing}
 use Rattle.nr_preconv.specs.Meeting.{meet, plain_byte, beginning, is_raw}
 use Rattle.nr_preconv.specs.Reading.{Told, told, behind, then_told, heard, heard_in, heard_byte, with_half, pending_with, read, fed, is_lead, stray, Passes}

@@ -11,7 +11,7 @@ use Rattle.nr_preconv.specs.Numbers.{begins_number}
 use Rattle.nr_preconv.specs.Beginnings.{is_known}
 use Rattle.nr_preconv.specs.Half.{Met, taken, left}
 use Rattle.nr_preconv.specs.Hyphens.{saying}
-use Rattle.nr_preconv.specs.Escapes.{with_byte}
+use Rattle.nr_preconv.specs.Endings.{with_byte}
 
 abbrev pub is_gap : ℕ → Bool
 is_gap b = (b == code " ") || (b == code "\t")

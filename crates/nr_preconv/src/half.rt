@@ -1,6 +1,6 @@
 //! What is half read of a page.
 ghost use Rattle.std.specs.Prelude.{◌≡◌, true, false};
-ghost use Rattle.nr_preconv.specs.Escapes.{is_delimited};
+ghost use Rattle.nr_preconv.specs.Named.{is_delimited};
 ghost use Rattle.nr_preconv.specs.Half.{character_said, first_half, is_beginning, is_space, is_text, takes_brace};
 
 use super::likeness::is_blank;

@@ -1,19 +1,23 @@
 //! What manual pages use, turned into the language of the formatter.
 //!
 //! It stands on nr_units and nr_characters. To read: `numbers`, `pairs`, `glyphs`; `signs`, `likeness`, `said`; `words`, `half`;
-//! `beginnings`, `hyphens`, `lines`, `conditions`, `escapes`; `meeting`, which puts them together; `runs`, `reader`, `running`;
+//! `beginnings`, `hyphens`, `lines`, `conditions`; `endings`, `skipping`, `letters`,
+//! `named`, `spelling`, `escapes`; `meeting`, which puts them together; `runs`, `reader`, `running`;
 //! `plain_text`.
 #![tactic(auto)]
 
 mod beginnings;
 mod conditions;
+mod endings;
 mod escapes;
 mod glyphs;
 mod half;
 mod hyphens;
+mod letters;
 mod likeness;
 mod lines;
 mod meeting;
+mod named;
 mod numbers;
 mod pairs;
 mod plain_text;
@@ -22,6 +26,8 @@ mod running;
 mod runs;
 mod said;
 mod signs;
+mod skipping;
+mod spelling;
 mod words;
 
 pub use plain_text::passes_unchanged;
