@@ -91,7 +91,7 @@ comes_cells r (b ∷ bs) idle all =
     let rest = comes_cells r bs idle (λ k below. all (suc k) (omega arith)) in
     ap (λ (u : Told). then_told u (λ v. fed v bs)) one ∙ ap (behind (cell_of r.table b) 0) rest
 
-cells_append : (t : Table) (xs ys : List ℕ) → cells_of t (xs ++ ys) ≡ cells_of t xs ++ cells_of t ys
+pub cells_append : (t : Table) (xs ys : List ℕ) → cells_of t (xs ++ ys) ≡ cells_of t xs ++ cells_of t ys
 cells_append t [] ys = refl
 cells_append t (x ∷ xs) ys =
     ap (λ (zs : List ℕ). cell_of t x ++ zs) (cells_append t xs ys) ∙ sym (append_assoc (cell_of t x) (cells_of t xs) (cells_of t ys))
@@ -114,7 +114,7 @@ plain_by : (p : Bool) (b : ℕ) (o : List ℕ) → p ≡ true → (if p then b �
 plain_by true b o e = refl
 plain_by false b o e = absurd (let no : false ≡ true = e in cc)
 
-cells_plain : (t : Table) (bs : List ℕ) → PassAll (length bs) bs → cells_of t bs ≡ bs
+pub cells_plain : (t : Table) (bs : List ℕ) → PassAll (length bs) bs → cells_of t bs ≡ bs
 cells_plain t [] all = refl
 cells_plain t (b ∷ bs) all =
     let one = plain_by (passes_as_is b) b (if_spelled (character_of t b)) (all zero (omega arith)) in

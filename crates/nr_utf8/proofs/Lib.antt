@@ -1,5 +1,7 @@
 pub mod CellsAlone
 pub mod Choices
+pub mod HighBits
+pub mod Pieces
 pub mod Plain
 pub mod Reading
 pub mod Text

@@ -8,6 +8,12 @@ use nr_characters::Table;
 /// How many bytes are looked at together.
 const CHUNK: usize = 32;
 
+/// How many of them are looked at by themselves where not all go out as they are.
+const PIECE: usize = 8;
+
+/// The highest bit of each byte of a piece.
+const HIGH: u64 = 0x8080_8080_8080_8080;
+
 /// What goes out of a byte.
 #[derive(Clone, Copy)]
 pub(crate) struct Spelled {
@@ -58,7 +64,7 @@ pub(crate) struct Reached {
 fn may_be_cell(byte: u8) -> bool
     ensures { result ≡ specs.may_be_cell byte }
 {
-    byte >= 128 || passes_as_is(byte)
+    byte == b'\n' || (byte >= b' ' && byte != b'_' && byte != 127)
 }
 
 /// Whether a byte is one of ASCII.
@@ -86,6 +92,14 @@ fn kind_of(bytes: &[u8]) -> Kind
     } else {
         Kind::Cells
     }
+}
+
+/// Whether all bytes of a piece are of ASCII.
+#[inline]
+fn are_low(piece: &[u8; 8]) -> bool
+    ensures { IsTrue result → specs.AreLow 8 piece.now }
+{
+    u64::from_le_bytes(*piece) & HIGH == 0
 }
 
 /// What goes out of a byte by itself.
@@ -159,6 +173,43 @@ impl Spelling {
         to
     }
 
+    /// What goes out of the cells of a piece is put into a room: at once where all are of ASCII.
+    #[inline]
+    fn put_piece(&self, reader: &Reader, bytes: &[u8], room: &mut [u8], end: usize) -> usize
+        requires serves { specs.Serves self.now reader.now }
+        requires cells { specs.MayBeCells (length bytes.now) bytes.now }
+        requires eight { length bytes.now ≡ 8 }
+        requires room { end + 32 ≤ length room.old }
+        ensures put { specs.Puts room.old end room.new result (specs.cells_of reader.now.table bytes.now) }
+        ensures few { result ≤ end + 32 }
+    {
+        let mut piece = [0; PIECE];
+        piece.copy_from_slice(bytes);
+        if are_low(&piece) {
+            room[end..end + PIECE].copy_from_slice(bytes);
+            return end + PIECE;
+        }
+        self.put_each(reader, bytes, room, end)
+    }
+
+    /// The same of all pieces of a chunk.
+    fn put_chunk(&self, reader: &Reader, bytes: &[u8], room: &mut [u8], end: usize) -> usize
+        requires serves { specs.Serves self.now reader.now }
+        requires cells { specs.MayBeCells (length bytes.now) bytes.now }
+        requires chunk { length bytes.now ≡ 32 }
+        requires room { end + 128 ≤ length room.old }
+        ensures put { specs.Puts room.old end room.new result (specs.cells_of reader.now.table bytes.now) }
+        ensures few { result ≤ end + 128 }
+    {
+        let mut at = 0;
+        let mut to = end;
+        while at < CHUNK {
+            to = self.put_piece(reader, &bytes[at..at + PIECE], room, to);
+            at += PIECE;
+        }
+        to
+    }
+
     /// One cell goes out: that of a byte, or an underlined one. Nothing is taken where there is none.
     fn put_cell(&self, reader: &Reader, bytes: &[u8], room: &mut [u8], end: usize) -> Reached
         requires serves { specs.Serves self.now reader.now }
@@ -219,7 +270,7 @@ impl Spelling {
                 }
             }
             Kind::Cells => {
-                let end = self.put_each(reader, chunk, room, end);
+                let end = self.put_chunk(reader, chunk, room, end);
                 Reached { taken: CHUNK, end }
             }
             Kind::Other => self.put_cells(reader, chunk, room, end),
@@ -234,13 +285,16 @@ impl Spelling {
     {
         let mut taken = 0;
         let mut end = 0;
-        while taken < bytes.len() {
+        while bytes.len() - taken >= CHUNK {
             let some = self.put_some(reader, &bytes[taken..], room, end);
             taken += some.taken;
             end = some.end;
             if some.taken == 0 {
                 return Reached { taken, end };
             }
+        }
+        if taken == 0 {
+            return self.put_cells(reader, bytes, room, 0);
         }
         Reached { taken, end }
     }

@@ -13,12 +13,18 @@ copy_from_slice-requires c =
     let part = length-take-le (c.args.end + 32 - c.args.end) (drop c.args.end c.args.room.now) (omega (arith, long, room, rest)) in
     omega (arith, cut, part)
 
-pub put_each-end-requires-clause-room : goal.put_each-end-requires-clause-room
-put_each-end-requires-clause-room c =
+pub put_chunk-end-requires-clause-room : goal.put_chunk-end-requires-clause-room
+put_chunk-end-requires-clause-room c =
     let long = c.if-bytes-lt-CHUNK.false in
     let room = c.requires.room in
     let cut = length-take-le 32 c.args.bytes.now long in
     omega (arith, long, room, cut)
+
+pub put_chunk-end-requires-clause-cells : goal.put_chunk-end-requires-clause-cells
+put_chunk-end-requires-clause-cells c = c.in-Cells.ensures
+
+pub put_chunk-end-requires-clause-chunk : goal.put_chunk-end-requires-clause-chunk
+put_chunk-end-requires-clause-chunk c = length-take-le 32 c.args.bytes.now c.if-bytes-lt-CHUNK.false
 
 pub put_cells-requires-in-Other-clause-room : goal.put_cells-requires-in-Other-clause-room
 put_cells-requires-in-Other-clause-room c =
@@ -39,15 +45,15 @@ returns-in-Cells c =
     let bytes = c.args.bytes.now in
     let long = c.if-bytes-lt-CHUNK.false in
     let cut = length-take-le 32 bytes long in
-    let few = c.put_each-end.ensures.few in
+    let few = c.put_chunk-end.ensures.few in
     let small : (k : ℕ) → k < length (take 32 bytes) → get_or (take 32 bytes) k 0 < 256 = λ k below.
     (let low : k < 32 = omega (arith, below, cut) in
     let same = get_or-take 32 bytes k 0 low in
     let fits = c.type_inv.bytes k in
     omega (arith, same, fits)) in
-    Goes-cells c.args.reader.now bytes 32 c.args.room.now c.put_each-end.new.room c.args.end c.put_each-end.result (idle-from c.args.reader.now c.requires.serves.idle)
+    Goes-cells c.args.reader.now bytes 32 c.args.room.now c.put_chunk-end.new.room c.args.end c.put_chunk-end.result (idle-from c.args.reader.now c.requires.serves.idle)
     (all-cells c.args.reader.now.table c.args.self.now.all c.args.self.now.whole (take 32 bytes) small c.requires.serves.spells c.if-not-self.false c.in-Cells.ensures) long
-    c.put_each-end.ensures.put (omega (arith, few, cut))
+    c.put_chunk-end.ensures.put (omega (arith, few))
 
 pub returns-in-Other : goal.returns-in-Other
 returns-in-Other c =

@@ -1,0 +1,23 @@
+use Rattle.std.proofs.Common.{◌≡◌, ℕ, ◌+◌, ◌-◌, take, drop, subst, arith}
+use Rattle.nr_utf8.specs.Spelling.{Puts, cells_of}
+use Rattle.nr_utf8.proofs.Pieces.{Puts-piece}
+use Rattle.nr_utf8.proofs.spelling.Spelling.put_chunk.Goals as goal
+
+pub loop-at-preserved : goal.loop-at-preserved
+loop-at-preserved c =
+    let bytes = c.args.bytes.now in
+    let table = c.args.reader.now.table in
+    let at = c.loop-at.at in
+    let eight : at + 8 - at ≡ 8 = omega arith in
+    let P : ℕ → Type 0 = λ n. Puts c.loop-at.room c.loop-at.to c.put_piece-to.new.room c.put_piece-to.result (cells_of table (take n (drop at bytes))) in
+    let piece = subst P eight c.put_piece-to.ensures.put in
+    let few = c.put_piece-to.ensures.few in
+    let before = c.loop-at.invariant.few in
+    let whole = c.loop-at.invariant.whole in
+    let more = c.loop-at-test.true in
+    record {
+      put = Puts-piece table bytes at 8 c.args.room.now c.loop-at.room c.put_piece-to.new.room c.args.end c.loop-at.to c.put_piece-to.result c.loop-at.invariant.put piece;
+      few = omega (arith, few, before);
+      whole = omega (arith, whole);
+      within = omega (arith, whole, more);
+    }

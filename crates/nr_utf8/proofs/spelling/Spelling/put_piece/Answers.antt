@@ -1,0 +1,12 @@
+use Rattle.std.proofs.Common.{ℕ, List, subst, arith}
+use Rattle.nr_utf8.specs.Spelling.{AreLow}
+use Rattle.nr_utf8.proofs.Pieces.{Puts-low}
+use Rattle.nr_utf8.proofs.spelling.Spelling.put_piece.Goals as goal
+
+pub returns-then-are_low-clause-put : goal.returns-then-are_low-clause-put
+returns-then-are_low-clause-put c =
+    let P : List ℕ → Type 0 = λ xs. AreLow 8 xs in
+    let low = subst P c.copy_from_slice.ensures.after (c.are_low.ensures c.if-are_low.true) in
+    let room = c.requires.room in
+    Puts-low c.args.reader.now.table c.args.bytes.now c.args.room.now c.copy_from_slice-then-are_low.new.self c.args.end _ 8
+    c.requires.cells low c.requires.eight c.copy_from_slice-then-are_low.ensures.after (omega (arith, room))
