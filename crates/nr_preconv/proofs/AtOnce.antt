@@ -17,7 +17,8 @@ use Rattle.nr_preconv.specs.Half.{is_plain}
 use Rattle.nr_preconv.specs.Hyphens.{mark_of, followed, placed, turns_hyphens}
 use Rattle.nr_preconv.specs.Words.{class_of, goes_on_with}
 use Rattle.nr_preconv.specs.Meeting.{is_raw, is_as_is, is_as_is_at, started, taken_as_is}
-use Rattle.nr_preconv.specs.Reading.{told, with_half, read, Passes}
+use Rattle.nr_preconv.specs.Reading.{told, with_half, read}
+use Rattle.nr_preconv.specs.Passing.{Passes}
 use Rattle.nr_preconv.specs.Runs.{goes_on_text, goes_on_word, run_at, run_len}
 use Rattle.nr_preconv.proofs.Plain.{and-first, and-second, read_as_is, Passes-more}
 
@@ -39,6 +40,8 @@ no_newline b p = grind (arith, nat_tests)
 run_in : Line → ℕ → Bool
 run_in lines.Text = goes_on_text
 run_in lines.Request = goes_on_text
+run_in lines.Stored = goes_on_text
+run_in lines.Translation = goes_on_text
 run_in (lines.Words words) = goes_on_word words
 run_in line = λ b. false
 
@@ -46,6 +49,8 @@ is_text : (l : Line) (b : ℕ) → run_in l b ≡ true → goes_on_text b ≡ tr
 unfolding run_in
 is_text lines.Text b p = p
 is_text lines.Request b p = p
+is_text lines.Stored b p = p
+is_text lines.Translation b p = p
 is_text (lines.Words words) b p = and-first (goes_on_text b) (goes_on_with (class_of b) words) p
 is_text line b p = absurd (let no : false ≡ true = p in cc)
 
@@ -53,6 +58,8 @@ not_raw : (l : Line) (b : ℕ) → run_in l b ≡ true → is_raw l ≡ false
 unfolding run_in
 not_raw lines.Text b p = refl
 not_raw lines.Request b p = refl
+not_raw lines.Stored b p = refl
+not_raw lines.Translation b p = refl
 not_raw (lines.Words words) b p = refl
 not_raw line b p = absurd (let no : false ≡ true = p in cc)
 
@@ -60,6 +67,8 @@ same_line : (l : Line) (b : ℕ) → run_in l b ≡ true → started l ≡ l
 unfolding run_in
 same_line lines.Text b p = refl
 same_line lines.Request b p = refl
+same_line lines.Stored b p = refl
+same_line lines.Translation b p = refl
 same_line (lines.Words words) b p = refl
 same_line line b p = absurd (let no : false ≡ true = p in cc)
 
@@ -70,6 +79,8 @@ or-true false = refl
 as_is_at : (l : Line) (b : ℕ) (h : Half) → run_in l b ≡ true → is_as_is_at l b h ≡ true
 unfolding run_in
 as_is_at lines.Request b h p = refl
+as_is_at lines.Stored b h p = refl
+as_is_at lines.Translation b h p = refl
 as_is_at lines.Text b h p =
     ap (λ (x : Bool). not (turns_hyphens h) || not x) (no_hyphen b p) ∙ or-true (not (turns_hyphens h))
 as_is_at (lines.Words words) b h p =
@@ -178,6 +189,8 @@ run_at-is : (l : Line) (bs : List ℕ) → 0 < run_at l bs → run_at l bs ≡ p
 unfolding run_in
 run_at-is lines.Text bs some = refl
 run_at-is lines.Request bs some = refl
+run_at-is lines.Stored bs some = refl
+run_at-is lines.Translation bs some = refl
 run_at-is (lines.Words words) bs some = refl
 run_at-is line bs some = absurd (omega arith)
 

@@ -1,6 +1,6 @@
 -- A comment is taken at once: nothing changes but at its newline.
 use Prim.Native.Char.{code}
-use Rattle.std.proofs.Common.{◌≡◌, ℕ, zero, suc, ◌+◌, ◌<◌, ◌≤◌, List, [], ◌∷◌, length, get_or, Bool, true, false, not, ◌==◌, nat_lt, if◌then◌else◌, refl, sym, ◌∙◌, ap, subst, add-one, arith}
+use Rattle.std.proofs.Common.{◌≡◌, ℕ, zero, suc, ◌<◌, ◌≤◌, List, [], ◌∷◌, length, get_or, Bool, true, false, not, ◌==◌, nat_lt, if◌then◌else◌, refl, sym, ◌∙◌, ap, subst, add-one, arith}
 use Rattle.std.specs.List.{prefix_len}
 use Rattle.std.proofs.lemmas.List.Sums.{prefix_len_passes, prefix_len-le-length}
 use Rattle.nr_preconv.specs.declared.half.Half.{Half}
@@ -10,7 +10,8 @@ use Rattle.nr_preconv.specs.declared.reader.Reader.{Reader}
 use Rattle.nr_preconv.specs.Lines.{passing, line_passed}
 use Rattle.nr_preconv.specs.Meeting.{is_raw}
 use Rattle.nr_preconv.specs.Saying.{sent}
-use Rattle.nr_preconv.specs.Reading.{told, with_half, read, heard_byte, Passes}
+use Rattle.nr_preconv.specs.Reading.{told, with_half, read, heard_byte}
+use Rattle.nr_preconv.specs.Passing.{Passes}
 use Rattle.nr_preconv.specs.Runs.{goes_on_comment, comment_at, comment_len}
 use Rattle.nr_preconv.proofs.Plain.{and-first, and-second, is_not, Passes-more}
 use Rattle.nr_preconv.proofs.Sent.{sent_is, ascii-goes}

@@ -1,7 +1,8 @@
 -- Bytes that go out as they are, in one step.
 use Prim.Native.Char.{code}
-use Rattle.std.proofs.Common.{◌≡◌, ℕ, ◌+◌, ◌<◌, List, [], ◌∷◌, ◌++◌, length, take, get_or, Bool, true, false, not, ◌==◌, ◌&&◌, ◌||◌, nat_lt, if◌then◌else◌, refl, sym, ◌∙◌, ap, add-one}
-use Rattle.std.proofs.Math.Seq.{take-suc}
+use Rattle.std.proofs.Common.{◌≡◌, ℕ, ◌+◌, ◌<◌, ◌≤◌, List, [], ◌∷◌, ◌++◌, length, take, drop, get_or, Bool, true, false, not, ◌==◌, ◌&&◌, ◌||◌, nat_lt, if◌then◌else◌, refl, sym, ◌∙◌, ap, subst, add-one}
+use Rattle.std.proofs.Math.Seq.{take-suc, take-add}
+use Rattle.std.proofs.lemmas.List.{take-take}
 use Rattle.nr_preconv.specs.declared.half.Half.{Half}
 use Rattle.nr_preconv.specs.declared.half.Line.{Line}
 use Rattle.nr_preconv.specs.declared.half.Line.TheVariants as lines
@@ -25,7 +26,8 @@ use Rattle.nr_preconv.specs.Saying.{bytes_of, sent}
 use Rattle.nr_preconv.specs.Escapes.{in_escape}
 use Rattle.nr_preconv.specs.Lines.{is_control, control, among_words, at_start, in_words, in_line_at, in_line, takes_escape, passing}
 use Rattle.nr_preconv.specs.Meeting.{meet, plain_byte, beginning, is_raw, is_as_is_at, is_as_is, started, taken_as_is}
-use Rattle.nr_preconv.specs.Reading.{Told, told, behind, then_told, heard, heard_in, with_half, pending_with, strays, fresh, heard_behind, heard_byte, read, fed, Passes, is_lead, stray}
+use Rattle.nr_preconv.specs.Reading.{Told, told, behind, then_told, heard, heard_in, with_half, pending_with, strays, fresh, heard_behind, heard_byte, read, fed, is_lead, stray}
+use Rattle.nr_preconv.specs.Passing.{Passes}
 use Rattle.nr_preconv.proofs.Reading.{behind-none, fed-append}
 use Rattle.nr_preconv.proofs.Sent.{sent_is, ascii-goes}
 
@@ -93,6 +95,8 @@ words_say words b h p =
 
 line_says : (line : Line) (b : ℕ) (h : Half) → is_as_is_at line b h ≡ true → Says b (in_line_at line b h)
 line_says lines.Request b h p = record { said = refl; takes = refl }
+line_says lines.Stored b h p = record { said = refl; takes = refl }
+line_says lines.Translation b h p = record { said = refl; takes = refl }
 line_says lines.Text b h p = text_says b h p
 line_says lines.Start b h p =
     start_says b h (and-first (not (is_control b)) (not (turns_hyphens h) || not (b == code "-")) p)
@@ -163,6 +167,8 @@ words_half words b h p =
 line_half : (line : Line) (b : ℕ) (h : Half) → h.line ≡ line → is_as_is_at line b h ≡ true → (in_line_at line b h).half ≡ going (started line) b h
 unfolding going
 line_half lines.Request b h e p = ap (λ (l : Line). record (gone_by b h) { line = if b == code "\n" then lines.Start else l }) e
+line_half lines.Stored b h e p = ap (λ (l : Line). record (gone_by b h) { line = if b == code "\n" then lines.Start else l }) e
+line_half lines.Translation b h e p = ap (λ (l : Line). record (gone_by b h) { line = if b == code "\n" then lines.Start else l }) e
 line_half lines.Text b h e p = text_half b h p
 line_half lines.Start b h e p =
     start_half b h (and-first (not (is_control b)) (not (turns_hyphens h) || not (b == code "-")) p)
@@ -231,3 +237,15 @@ Passes-more r s t bs i before l next =
     let both : fed r (xs ++ b ∷ []) ≡ told t (xs ++ b ∷ []) (i + 1) =
     fed-append r xs (b ∷ []) ∙ ap (λ (u : Told). then_told u (λ v. fed v (b ∷ []))) before ∙ ap (behind xs i) one in
     rw front both
+
+-- first some, then of the first k that are left
+pub Passes-both : (n m k : ℕ) (bs : List ℕ) (r s t : Reader) → m ≤ k → Passes n bs r s → Passes m (take k (drop n bs)) s t → Passes (n + m) bs r t
+Passes-both n m k bs r s t l before next =
+    let xs = take n bs in
+    let ys = take m (drop n bs) in
+    let P : List ℕ → Type 0 = λ zs. fed s zs ≡ told t zs m in
+    let more : fed s ys ≡ told t ys m = subst P (take-take m k (drop n bs) l) next in
+    let whole : take (n + m) bs ≡ xs ++ ys = take-add n m bs in
+    let both : fed r (xs ++ ys) ≡ told t (xs ++ ys) (n + m) =
+    fed-append r xs ys ∙ ap (λ (u : Told). then_told u (λ v. fed v ys)) before ∙ ap (behind xs n) more in
+    rw whole both

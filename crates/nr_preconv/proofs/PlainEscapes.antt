@@ -22,7 +22,8 @@ use Rattle.nr_preconv.specs.Letters.{waits, made_way, letter}
 use Rattle.nr_preconv.specs.Escapes.{in_escape}
 use Rattle.nr_preconv.specs.Lines.{in_line, takes_escape, passing}
 use Rattle.nr_preconv.specs.Meeting.{meet, plain_byte, beginning, is_raw}
-use Rattle.nr_preconv.specs.Reading.{Told, told, behind, then_told, heard, heard_in, heard_byte, with_half, pending_with, read, fed, is_lead, stray, Passes}
+use Rattle.nr_preconv.specs.Reading.{Told, told, behind, then_told, heard, heard_in, heard_byte, with_half, pending_with, read, fed, is_lead, stray}
+use Rattle.nr_preconv.specs.Passing.{Passes}
 use Rattle.nr_preconv.specs.Runs.{takes_plain_at, takes_plain_escape, begins_minus, begins_font, is_font, behind_font, behind_minus}
 use Rattle.nr_preconv.proofs.Plain.{and-first, and-second, is_not, nothing_pending}
 use Rattle.nr_preconv.proofs.AtOnce.{placed_as}

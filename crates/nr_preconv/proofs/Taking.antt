@@ -5,7 +5,8 @@ use Rattle.std.proofs.Math.Seq.{take-add}
 use Rattle.std.proofs.lemmas.List.{take-take, length-take}
 use Rattle.nr_units.specs.Source.{Supply, Offers, Skips}
 use Rattle.nr_preconv.specs.declared.reader.Reader.{Reader}
-use Rattle.nr_preconv.specs.Reading.{Told, told, read, fed, Passes, Takes}
+use Rattle.nr_preconv.specs.Reading.{Told, told, read, fed, Takes}
+use Rattle.nr_preconv.specs.Passing.{Passes}
 use Rattle.nr_preconv.specs.Running.{Took}
 use Rattle.nr_preconv.proofs.Reading.{fed-append_reader, fed-append_bytes, fed-append_steps}
 use Rattle.nr_preconv.proofs.Turning.{Comes-skip}

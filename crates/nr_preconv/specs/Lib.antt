@@ -12,6 +12,7 @@ pub mod Lines
 pub mod Meeting
 pub mod Named
 pub mod Numbers
+pub mod Passing
 pub mod PlainText
 pub mod Reading
 pub mod Running

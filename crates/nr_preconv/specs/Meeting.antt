@@ -45,6 +45,8 @@ meet (Wide c) h = meet_wide c h
 
 abbrev pub is_as_is_at : Line → ℕ → Half → Bool
 is_as_is_at lines.Request b h = true
+is_as_is_at lines.Stored b h = true
+is_as_is_at lines.Translation b h = true
 is_as_is_at lines.Text b h = not (turns_hyphens h) || not (b == code "-")
 is_as_is_at lines.Start b h = not (is_control b) && (not (turns_hyphens h) || not (b == code "-"))
 is_as_is_at (lines.Words words) b h =

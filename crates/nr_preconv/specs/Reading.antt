@@ -144,12 +144,6 @@ abbrev pub fed : Reader → List ℕ → Told
 fed r [] = told r [] 0
 fed r (b ∷ bs) = then_told (read b r) (λ s. fed s bs)
 
--- ---- bytes that go out as they are
-
--- the first n of these do, each in one step
-abbrev pub Passes : ℕ → List ℕ → Reader → Reader → Type 0
-Passes n bytes r s = fed r (take n bytes) ≡ told s (take n bytes) n
-
 -- ---- bytes are taken one after another
 
 -- the first n of these, in so many steps, and what comes of them stands after what was pending

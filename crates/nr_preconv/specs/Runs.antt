@@ -27,6 +27,8 @@ goes_on_word words b = goes_on_text b && goes_on_with (class_of b) words
 abbrev pub run_at : Line → List ℕ → ℕ
 run_at lines.Text bs = prefix_len goes_on_text bs
 run_at lines.Request bs = prefix_len goes_on_text bs
+run_at lines.Stored bs = prefix_len goes_on_text bs
+run_at lines.Translation bs = prefix_len goes_on_text bs
 run_at (lines.Words words) bs = prefix_len (goes_on_word words) bs
 run_at line bs = 0
 

@@ -2,7 +2,7 @@
 //!
 //! It stands on nr_units and nr_characters. To read: `numbers`, `pairs`, `glyphs`; `signs`, `likeness`, `said`; `words`, `half`;
 //! `beginnings`, `hyphens`, `lines`, `conditions`; `endings`, `skipping`, `letters`,
-//! `named`, `spelling`, `escapes`; `meeting`, which puts them together; `runs`, `reader`, `running`;
+//! `named`, `spelling`, `escapes`; `meeting`, which puts them together; `runs`, `passing`, `reader`, `running`;
 //! `plain_text`.
 #![tactic(auto)]
 
@@ -20,6 +20,7 @@ mod meeting;
 mod named;
 mod numbers;
 mod pairs;
+mod passing;
 mod plain_text;
 mod reader;
 mod running;

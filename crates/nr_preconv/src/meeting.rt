@@ -56,6 +56,7 @@ impl Half {
     }
 
     /// Whether an ASCII character goes out as it is and is taken at once.
+    #[inline(always)]
     pub(crate) fn takes_as_is(&self, byte: u8) -> bool
         ensures { result ≡ specs.is_as_is byte self.now }
     {
@@ -63,7 +64,7 @@ impl Half {
             return false;
         }
         match self.line {
-            Line::Request => true,
+            Line::Request | Line::Stored | Line::Translation => true,
             Line::Text => !self.turns_hyphens() || byte != b'-',
             Line::Start => {
                 !matches!(byte, b'.' | b'\'') && (!self.turns_hyphens() || byte != b'-')
@@ -76,6 +77,7 @@ impl Half {
     }
 
     /// Takes such a character.
+    #[inline(always)]
     pub(crate) fn takes(&mut self, byte: u8)
         ensures { self.new ≡ specs.taken_as_is byte self.old }
     {

@@ -1,14 +1,10 @@
 //! Bytes become characters: UTF-8, and Latin-1 where they are none.
-ghost use Rattle.std.specs.Prelude.{◌≡◌, ◌+◌, ◌*◌, ◌<◌, ◌≤◌, ◌∷◌, ◌++◌, [], length, take, true, false};
-ghost use Rattle.nr_preconv.specs.declared.reader.Pending.TheVariants.{Nothing};
-ghost use Rattle.nr_preconv.specs.Runs.{dot};
+ghost use Rattle.std.specs.Prelude.{◌≡◌, ◌+◌, ◌*◌, ◌<◌, ◌≤◌, ◌++◌, length};
 ghost use Rattle.nr_preconv.specs.Reading as specs;
 
 use super::half::{Coming, Half, Line};
-use super::runs::{begins_font, begins_minus};
-use super::said::{may_go_out, put_sent, say, sent};
+use super::said::{put_sent, say, sent};
 use nr_characters::Table;
-use nr_units::Name;
 use nr_units::slice_vec::SliceVec;
 
 /// What was read of a character of several bytes.
@@ -291,92 +287,6 @@ impl Reader {
             put_sent(self.half.name.as_bytes(), self.table, out);
         }
         steps
-    }
-
-    /// Takes a byte that goes out as it is in one step, where nothing is half read of a character.
-    fn passes(&mut self, byte: u8) -> bool
-        requires { self.old.pending ≡ Nothing }
-        ensures taken { result ≡ true → specs.read byte self.old ≡ specs.told self.new (byte ∷ []) 1 }
-        ensures left { result ≡ false → self.new ≡ self.old }
-        ensures pending { self.new.pending ≡ Nothing }
-    {
-        if self.half.is_raw() {
-            if !may_go_out(self.table, byte) {
-                return false;
-            }
-            self.half.passes(byte);
-            return true;
-        }
-        if !self.half.takes_as_is(byte) {
-            return false;
-        }
-        self.half.takes(byte);
-        true
-    }
-
-    /// Takes those of these bytes that come first and go out as they are, each in one step: a run of those that
-    /// only go on the line or a comment, or one byte. There may be none.
-    fn pass(&mut self, bytes: &[u8]) -> usize
-        requires { 0 < length bytes.now }
-        ensures within { result ≤ length bytes.now }
-        ensures plain { specs.Passes result bytes.now self.old self.new }
-    {
-        if !matches!(self.pending, Pending::Nothing) {
-            return 0;
-        }
-        let run = self.half.run_len(bytes);
-        if run > 0 {
-            self.half.takes(bytes[run - 1]);
-            return run;
-        }
-        let comment = self.half.comment_len(bytes);
-        if comment > 0 {
-            return comment;
-        }
-        if bytes[0] == b'\\' {
-            return self.pass_escape(bytes);
-        }
-        if self.passes(bytes[0]) { 1 } else { 0 }
-    }
-
-    /// Takes a minus sign or a font that these bytes begin with, each byte in one step, and tells their number.
-    fn pass_escape(&mut self, bytes: &[u8]) -> usize
-        requires { self.old.pending ≡ Nothing }
-        ensures within { result ≤ length bytes.now }
-        ensures plain { specs.Passes result bytes.now self.old self.new }
-    {
-        if !self.half.takes_plain_escape() {
-            return 0;
-        }
-        if begins_minus(bytes) {
-            self.half.takes_minus();
-            return 2;
-        }
-        if begins_font(bytes) {
-            self.half.takes_font();
-            return 3;
-        }
-        0
-    }
-
-    /// Takes a dot and a name that these bytes begin with, each in one step, and tells how long the name is.
-    fn pass_name(&mut self, bytes: &[u8]) -> usize
-        ensures few { result ≤ 32 }
-        ensures within { 0 < result → result + 1 ≤ length bytes.now }
-        ensures none { result ≡ 0 → self.new ≡ self.old }
-        ensures named { 0 < result → specs.fed self.old (take (result + 1) bytes.now)
-            ≡ specs.told self.new dot (result + 1) }
-    {
-        if !matches!(self.pending, Pending::Nothing) {
-            return 0;
-        }
-        let len = self.half.name_len(bytes);
-        if len > 0 {
-            let rest = &bytes[1..];
-            self.half.takes_name(Name::of(&rest[..len]));
-            return len;
-        }
-        0
     }
 
     /// Takes those of these bytes that come first: a run, or one. Tells how many, and in how many steps.

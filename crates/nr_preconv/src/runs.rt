@@ -60,6 +60,7 @@ fn comment_run(bytes: &[u8]) -> usize
 
 impl Half {
     /// How many of these bytes come first that only go on the line, in no escape.
+    #[inline(always)]
     pub(crate) fn run_len(&self, bytes: &[u8]) -> usize
         ensures len { result ≡ specs.run_len bytes.now self.now }
         ensures within { result ≤ length bytes.now }
@@ -68,13 +69,14 @@ impl Half {
             return 0;
         }
         match self.line {
-            Line::Text | Line::Request => text_run(bytes),
+            Line::Text | Line::Request | Line::Stored | Line::Translation => text_run(bytes),
             Line::Words(words) => word_run(words, bytes),
             _ => 0,
         }
     }
 
     /// How many of these bytes come first that only go on a comment.
+    #[inline(always)]
     pub(crate) fn comment_len(&self, bytes: &[u8]) -> usize
         ensures len { result ≡ specs.comment_len bytes.now self.now }
         ensures within { result ≤ length bytes.now }

@@ -1,6 +1,7 @@
 use Rattle.std.proofs.Common.{◌∙◌, sym, subst}
 use Rattle.nr_preconv.specs.declared.half.Half.{Half}
-use Rattle.nr_preconv.specs.Reading.{Passes, with_half}
+use Rattle.nr_preconv.specs.Reading.{with_half}
+use Rattle.nr_preconv.specs.Passing.{Passes}
 use Rattle.nr_preconv.proofs.PlainEscapes.{minus_passes, font_passes}
 use Rattle.nr_preconv.proofs.reader.Reader.pass_escape.Goals as goal
 
