@@ -1,7 +1,7 @@
 -- Where the lines of a table in a box end (Lesk, "Global options"; tbl(1), "Region options"): rows, rules and the outer rules of a double box
 -- at the same place, behind the bar at the table's end, so they are of one width, that of the table. What stands in their columns must stand
 -- within the table.
-use Rattle.std.specs.Prelude.{◌≡◌, ℕ, ◌≤◌, true, List, ◌∷◌, Option, Some}
+use Rattle.std.specs.Prelude.{◌≡◌, ℕ, ◌≤◌, Bool, true, List, ◌∷◌, Option, Some}
 use Rattle.nr_layout.specs.declared.places.Mark.TheVariants as marks
 use Rattle.nr_layout.specs.declared.places.Place.{Place}
 use Rattle.nr_layout.specs.declared.table.Table.{Table}
