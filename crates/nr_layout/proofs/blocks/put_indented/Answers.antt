@@ -1,7 +1,9 @@
-use Rattle.std.proofs.Common.{[], eq-eqb}
+use Rattle.std.proofs.Common.{[], ◌==◌, eq-eqb}
+use Prim.Native.Char.{code}
 use Rattle.nr_layout.proofs.Chosen.{draws_chosen}
-use Rattle.std.proofs.Common.{◌==◌}
 use Rattle.nr_layout.proofs.blocks.put_indented.Goals as goal
 
 pub returns-then-cell-eq97 : goal.returns-then-cell-eq97
-returns-then-cell-eq97 g c = draws_chosen (c.args.cell.key.kind == 97) [] c.add.ensures (eq-eqb c.args.cell.key.kind 97 c.if-cell-eq97.true)
+returns-then-cell-eq97 g c =
+    draws_chosen (c.args.cell.key.kind == code "a") [] c.add.ensures
+    (eq-eqb c.args.cell.key.kind (code "a") c.if-cell-eq97.true)
