@@ -15,3 +15,6 @@ returns-in-Row g c = draws_same c.put_row_line.ensures (ap (λ (k : StepKind). d
 
 pub returns-in-Before : goal.returns-in-Before
 returns-in-Before g c = draws_same c.put_room.ensures (ap (λ (k : StepKind). drawn_on c.args.self.now c.args.step.line k) c.in-Before.is)
+
+pub returns-in-Edge : goal.returns-in-Edge
+returns-in-Edge g c = draws_same c.put_edge_line.ensures (ap (λ (k : StepKind). drawn_on c.args.self.now c.args.step.line k) c.in-Edge.is)
