@@ -44,15 +44,26 @@ last_below t r = last_in (own_cells t r) t r
 
 -- ---- room is asked for a row and what goes on below it, and one line more
 
-abbrev pub asked_height : Table → ℕ → List ℕ
-asked_height t r =
-    if nat_lt r (last_below t r) then between_text t r (last_below t r) true else height_text t r
-
 abbrev pub more_room : Bool → List ℕ
-more_room ruled = line (codes "+" ∷ decimal (1 + count ruled) ∷ codes "v" ∷ [])
+more_room ruled = parts (codes "+" ∷ decimal (1 + count ruled) ∷ codes "v" ∷ [])
+
+abbrev pub row_room : Table → ℕ → Bool → List ℕ
+row_room t r ruled = height_text t r ++ more_room ruled
+
+-- where the page has less than that: `*?` is what it has
+abbrev pub row_room_asked : Table → ℕ → Bool → List ℕ
+row_room_asked t r ruled =
+    codes ".if " ++ row_room t r ruled ++ parts (codes ">\\*(*? " ∷ later ∷ codes ".ne " ∷ [])
+    ++ row_room t r ruled
+    ++ codes "\n"
+
+abbrev pub rows_room_asked : Table → ℕ → ℕ → Bool → List ℕ
+rows_room_asked t r last ruled =
+    parts (later ∷ codes ".ne " ∷ []) ++ between_text t r last true ++ more_room ruled ++ codes "\n"
 
 abbrev pub room_asked : Table → ℕ → Bool → List ℕ
-room_asked t r ruled = parts (later ∷ codes ".ne " ∷ []) ++ asked_height t r ++ more_room ruled
+room_asked t r ruled =
+    if nat_lt r (last_below t r) then rows_room_asked t r (last_below t r) ruled else row_room_asked t r ruled
 
 abbrev pub takes_line : Table → ℕ → Bool
 takes_line t r = (last_below t r == r) && not (is_tall t r)

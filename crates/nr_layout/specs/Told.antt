@@ -1,6 +1,6 @@
 -- A table of which only the formatter knows all widths goes out as requests (Lesk, "Text blocks" and "Usage"; tbl(1), "Table data"): its columns
 -- are registers, and its blocks diversions. `*u`, `*I` and `*L` keep filling, indent and line length from before it, `*C` the compatibility; `*W`
--- is its width, `*O` its indent and `*H` its height.
+-- is its width, `*O` its indent and `*H` its height. `*!` is what leads a request that waits, `*?` the room that the page has, or 0 in a diversion.
 use Rattle.std.specs.Prelude.{ℕ, Bool, true, false, ◌&&◌, ◌||◌, not, List, [], ◌∷◌, ◌++◌, length, None, codes, if◌then◌else◌}
 use Rattle.nr_layout.specs.declared.table.Span.{Span}
 use Rattle.nr_layout.specs.declared.table.StepKind.{StepKind}
@@ -56,8 +56,8 @@ waits_told t = record t { waits_known = true }
 
 abbrev pub page_text : List ℕ
 page_text =
-    codes ".br\n.nr *C 0\n.if '\\*[*none]'' .nr *C 1\n.cp 0\n.ds *!\n"
-    ++ codes ".if !'\\n(.z'' .ds *! \".*n \n"
+    codes ".br\n.nr *C 0\n.if '\\*[*none]'' .nr *C 1\n.cp 0\n.ds *!\n.ds *? \\\\n(.t\n"
+    ++ codes ".if !'\\n(.z'' .ds *! \".*n \n.if !'\\n(.z'' .ds *? 0\n"
     ++ codes ".nr *u \\n(.u\n.nr *I \\n(.i\n.nr *L \\n(.l\n"
 
 -- blocks are set in the formatter's own line length

@@ -32,8 +32,8 @@ static BARS: [u8; 76] =
 fn put_page<W: Sink>(out: &mut Out<'_, W>)
     ensures { Draws out.old out.new (Bytes specs.page_text ∷ []) }
 {
-    out.add(b".br\n.nr *C 0\n.if '\\*[*none]'' .nr *C 1\n.cp 0\n.ds *!\n");
-    out.add(b".if !'\\n(.z'' .ds *! \".*n \n");
+    out.add(b".br\n.nr *C 0\n.if '\\*[*none]'' .nr *C 1\n.cp 0\n.ds *!\n.ds *? \\\\n(.t\n");
+    out.add(b".if !'\\n(.z'' .ds *! \".*n \n.if !'\\n(.z'' .ds *? 0\n");
     out.add(b".nr *u \\n(.u\n.nr *I \\n(.i\n.nr *L \\n(.l\n");
 }
 

@@ -112,32 +112,52 @@ impl Table {
         last
     }
 
-    /// How high a row is with those over which its fields go on, as an expression.
-    fn put_asked_height<W: Sink>(&self, row: usize, out: &mut Out<'_, W>)
-        ensures { Draws out.old out.new (Bytes (specs.asked_height self.now row) ∷ []) }
-    {
-        let last = self.last_below(row);
-        if row < last {
-            return self.put_between(row, last, true, out);
-        }
-        self.put_height(row, out);
-    }
-
-    /// One line more, and that of a rule.
+    /// One line more, and that of a rule: a row that reaches the page's end would spring its trap, and no motion leads back
+    /// over that.
     fn put_more_room<W: Sink>(&self, ruled: bool, out: &mut Out<'_, W>)
         ensures { Draws out.old out.new (Bytes (specs.more_room ruled) ∷ []) }
     {
-        out.line(&[T(b"+"), N(1 + count_of(ruled)), T(b"v")]);
+        out.pieces(&[T(b"+"), N(1 + count_of(ruled)), T(b"v")]);
     }
 
-    /// Room is asked for a row and what goes on below it. One line more: a row that reaches the page's end would spring
-    /// its trap, and no motion leads back over that.
+    /// How much room a row takes that has its fields to itself, as an expression.
+    fn put_row_room<W: Sink>(&self, row: usize, ruled: bool, out: &mut Out<'_, W>)
+        ensures { Draws out.old out.new (Bytes (specs.row_room self.now row ruled) ∷ []) }
+    {
+        self.put_height(row, out);
+        self.put_more_room(ruled, out);
+    }
+
+    /// Room is asked for a row, where the page has less.
+    fn ask_row_room<W: Sink>(&self, row: usize, ruled: bool, out: &mut Out<'_, W>)
+        ensures { Draws out.old out.new (Bytes (specs.row_room_asked self.now row ruled) ∷ []) }
+    {
+        out.add(b".if ");
+        self.put_row_room(row, ruled, out);
+        out.pieces(&[T(b">\\*(*? "), T(&LATER), T(b".ne ")]);
+        self.put_row_room(row, ruled, out);
+        out.add(b"\n");
+    }
+
+    /// Room is asked for a row and those over which its fields go on.
+    fn ask_rows_room<W: Sink>(&self, row: usize, last: usize, ruled: bool, out: &mut Out<'_, W>)
+        ensures { Draws out.old out.new (Bytes (specs.rows_room_asked self.now row last ruled) ∷ []) }
+    {
+        out.pieces(&[T(&LATER), T(b".ne ")]);
+        self.put_between(row, last, true, out);
+        self.put_more_room(ruled, out);
+        out.add(b"\n");
+    }
+
+    /// Room is asked for a row and what goes on below it.
     fn ask_room<W: Sink>(&self, row: usize, ruled: bool, out: &mut Out<'_, W>)
         ensures { Draws out.old out.new (Bytes (specs.room_asked self.now row ruled) ∷ []) }
     {
-        out.pieces(&[T(&LATER), T(b".ne ")]);
-        self.put_asked_height(row, out);
-        self.put_more_room(ruled, out);
+        let last = self.last_below(row);
+        if row < last {
+            return self.ask_rows_room(row, last, ruled, out);
+        }
+        self.ask_row_room(row, ruled, out);
     }
 
     /// Whether a row takes a line, and no field of it goes on below.
