@@ -20,6 +20,11 @@ pub strokes_chosen : {a b : Tape} {ss : List Stroke} (t : Bool) (ts : List Strok
 strokes_chosen true ts d is = d
 strokes_chosen false ts d is = absurd (cc)
 
+pub strokes_other : {a b : Tape} {ts : List Stroke} (t : Bool) (ss : List Stroke) → Draws a b ts → t ≡ false
+    → Draws a b (if t then ss else ts)
+strokes_other false ss d is = d
+strokes_other true ss d is = absurd (cc)
+
 pub nothing_chosen : {a : Tape} (t : Bool) (ss : List Stroke) → t ≡ false → Draws a a (if t then ss else [])
 nothing_chosen false ss is = draws_nothing _
 nothing_chosen true ss is = absurd (cc)

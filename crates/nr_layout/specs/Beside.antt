@@ -86,19 +86,21 @@ more_space t r =
     codes ".if " ++ height_text t r ++ parts (codes ">1v " ∷ later ∷ codes ".sp " ∷ []) ++ height_text t r
     ++ codes "-1v\n"
 
--- `*o` has the bars of a row
+-- `*b1` has the bars of a row
 abbrev pub has_bars_of : Table → Option ℕ → ℕ → Bool
 has_bars_of t None r = false
 has_bars_of t (Some last) r = has_same_bars t last r
 
 abbrev pub bars_set : Table → ℕ → Told → List Stroke
-bars_set t r told = Bytes (codes ".ds *o \"") ∷ bars_or_string t r told
+bars_set t r told =
+    Bytes (codes ".di *b1\n.in 0\n") ∷ bars_or_string t r told ++ Bytes (codes ".di\n.in \\n(*Ou\n") ∷ []
 
 abbrev pub bars_kept : Table → ℕ → Told → List Stroke
 bars_kept t r told = if has_bars_of t told.bars r then [] else bars_set t r told
 
 abbrev pub bars_drawn : Table → ℕ → List ℕ
-bars_drawn t r = codes ".nr *t " ++ height_text t r ++ codes "/1v-1\n.if \\n(*t .*A\n"
+bars_drawn t r =
+    codes ".nr *t " ++ height_text t r ++ codes "/1v-1\n.ie \\n(*t<7 .*b\\n(*t\n.el .*A\n"
 
 abbrev pub more_bars : Table → ℕ → Told → List Stroke
 more_bars t r told = bars_kept t r told ++ Bytes (bars_drawn t r) ∷ []

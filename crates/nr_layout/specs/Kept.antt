@@ -1,5 +1,5 @@
--- A rule, or the bars of a row, that stands often in a table whose columns are registers is set once, in a diversion, and kept as a string: `*s0`
--- is the rule, `*s1` are the bars.
+-- A rule, or the bars of a row, that stands often in a table whose columns are registers is set once, in a diversion: `*s0` is the rule, `*s1`
+-- are the bars.
 use Rattle.std.specs.Prelude.{ℕ, ◌-◌, ◌/◌, max, Bool, true, false, ◌==◌, ◌&&◌, ◌||◌, nat_lt, List, [], ◌∷◌, ◌++◌, length, Option, None, Some, codes, if◌then◌else◌}
 use Rattle.nr_layout.specs.declared.table.StepKind.{StepKind}
 use Rattle.nr_layout.specs.declared.table.StepKind.TheVariants as steps
@@ -114,7 +114,7 @@ abbrev pub strings_chosen : Table → Told → Told
 strings_chosen t told =
     if is_known t then told else record told { rule = often_rule t; string = often_barred t }
 
--- ---- strings
+-- ---- what is kept
 
 abbrev pub is_kept : {A : Type 0} → Option A → Bool
 is_kept None = false
@@ -128,10 +128,10 @@ bars_line t r = whole (bars_strokes t r None) true
 
 abbrev pub rule_kept : Table → Between → List Stroke
 rule_kept t rule =
-    Bytes (codes ".di *z\n") ∷ rule_line t rule ++ Bytes (codes ".di\n.ds *s0 \"\\*(*z.\n") ∷ []
+    Bytes (codes ".di *s0\n") ∷ rule_line t rule ++ Bytes (codes ".di\n") ∷ []
 
 abbrev pub bars_kept : Table → ℕ → List Stroke
-bars_kept t r = Bytes (codes ".di *z\n") ∷ bars_line t r ++ Bytes (codes ".di\n.ds *s1 \"\\*(*z.\n") ∷ []
+bars_kept t r = Bytes (codes ".di *s1\n") ∷ bars_line t r ++ Bytes (codes ".di\n") ∷ []
 
 abbrev pub kept_rule : Table → Option Between → List Stroke
 kept_rule t None = []
@@ -150,7 +150,7 @@ some_strings t told = Bytes (codes ".nf\n.in 0\n") ∷ kept_rule t told.rule ++ 
 abbrev pub strings_strokes : Table → Told → List Stroke
 strings_strokes t told = if has_strings told then some_strings t told else []
 
--- ---- a rule or bars, or the string that is kept for them
+-- ---- a rule or bars, or what is kept of them
 
 abbrev pub is_like : Table → Option Between → Between → Bool
 is_like t None rule = false
@@ -158,20 +158,20 @@ is_like t (Some kept) rule = is_same_rule t kept rule
 
 abbrev pub rule_or_string : Table → Between → Told → List Stroke
 rule_or_string t rule told =
-    if is_like t told.rule rule then Bytes (codes "\\*[*s0]\n") ∷ [] else rule_line t rule
+    if is_like t told.rule rule then Bytes (codes ".*s0\n") ∷ [] else rule_line t rule
 
 abbrev pub are_like : Table → Option ℕ → ℕ → Bool
 are_like t None r = false
 are_like t (Some kept) r = has_same_bars t kept r
 
 abbrev pub bars_or_string : Table → ℕ → Told → List Stroke
-bars_or_string t r told = if are_like t told.string r then Bytes (codes "\\*[*s1]\n") ∷ [] else bars_line t r
+bars_or_string t r told = if are_like t told.string r then Bytes (codes ".*s1\n") ∷ [] else bars_line t r
 
 -- so many lines of them
 abbrev pub bar_lines : Table → ℕ → ℕ → Told → List Stroke
 bar_lines t r n told = joined n (λ k. bars_or_string t r told)
 
--- ---- strings are removed
+-- ---- it is removed, with `*b1`, which has the bars of the last row of more than one line: the last first
 
 abbrev pub rule_removed : Told → List ℕ
 rule_removed told = if is_kept told.rule then codes ".rm *s0\n" else []
@@ -179,8 +179,8 @@ rule_removed told = if is_kept told.rule then codes ".rm *s0\n" else []
 abbrev pub bars_removed : Told → List ℕ
 bars_removed told = if is_kept told.string then codes ".rm *s1\n" else []
 
-abbrev pub diversion_removed : Told → List ℕ
-diversion_removed told = if has_strings told then codes ".rm *z\n" else []
+abbrev pub last_bars_removed : Told → List ℕ
+last_bars_removed told = if is_kept told.bars then codes ".rm *b1\n" else []
 
 abbrev pub strings_removed : Told → List ℕ
-strings_removed told = rule_removed told ++ bars_removed told ++ diversion_removed told
+strings_removed told = last_bars_removed told ++ bars_removed told ++ rule_removed told

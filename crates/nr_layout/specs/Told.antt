@@ -129,10 +129,12 @@ measure_strokes t told =
 
 -- ---- what stands between the measures and the lines
 
--- .*A draws `*o` as often as `*t` says: 64 deep, not deeper
+-- `*b1` is a line of bars: .*b2 to .*b6 draw it so often, .*A as often as `*t` says, 64 deep, not deeper
 abbrev pub bars_macros : List ℕ
 bars_macros =
-    codes ".de *B\n\\&\\\\*(*o\n.nr *t -1\n.if \\\\n(*t%64 .*B\n..\n.de *A\n.*B\n.if \\\\n(*t .*A\n..\n"
+    codes ".de *b2\n.*b1\n.*b1\n..\n.de *b3\n.*b1\n.*b1\n.*b1\n..\n.de *b4\n.*b1\n.*b1\n.*b1\n.*b1\n..\n"
+    ++ codes ".de *b5\n.*b1\n.*b1\n.*b1\n.*b1\n.*b1\n..\n.de *b6\n.*b1\n.*b1\n.*b1\n.*b1\n.*b1\n.*b1\n..\n"
+    ++ codes ".de *B\n.*b1\n.nr *t -1\n.if \\\\n(*t%64 .*B\n..\n.de *A\n.*B\n.if \\\\n(*t .*A\n..\n"
 
 abbrev pub asks_bars : Table → Bool
 asks_bars t = not t.bars_known && needs_bars t

@@ -24,9 +24,12 @@ static WAITS: [u8; 134] =
     *b".de *m\n.br\n.if '\\\\n(.z'' \\\\$1 \\\\$2\n.if !'\\\\n(.z'' \\{\\\n\\!.*m \\\\$1 \\\\$2\n.\\}\n..\n\
 .de *n\n\\!.*m \\\\$1 \\\\$2\n.if !'\\\\$1'.ne' .nr *+ -(\\\\$2)\n..\n";
 
-/// Draws the string `*o` as often as `*t` says: 64 deep, not deeper.
-static BARS: [u8; 76] =
-    *b".de *B\n\\&\\\\*(*o\n.nr *t -1\n.if \\\\n(*t%64 .*B\n..\n.de *A\n.*B\n.if \\\\n(*t .*A\n..\n";
+/// Macros that draw a line of bars, which is `*b1`, two to six times, and one that does so as often as `*t` says: 64 deep,
+/// not deeper.
+static BARS: [u8; 227] =
+    *b".de *b2\n.*b1\n.*b1\n..\n.de *b3\n.*b1\n.*b1\n.*b1\n..\n.de *b4\n.*b1\n.*b1\n.*b1\n.*b1\n..\n\
+.de *b5\n.*b1\n.*b1\n.*b1\n.*b1\n.*b1\n..\n.de *b6\n.*b1\n.*b1\n.*b1\n.*b1\n.*b1\n.*b1\n..\n\
+.de *B\n.*b1\n.nr *t -1\n.if \\\\n(*t%64 .*B\n..\n.de *A\n.*B\n.if \\\\n(*t .*A\n..\n";
 
 /// The indent and the font before, and what macros of a page are to know.
 fn put_page<W: Sink>(out: &mut Out<'_, W>)

@@ -195,7 +195,7 @@ impl Table {
         out.add(b"-1v\n");
     }
 
-    /// Whether `*o` has the bars of a row.
+    /// Whether `*b1` has the bars of a row.
     fn has_bars_of(&self, kept: Option<usize>, row: usize) -> bool
         ensures { result ≡ specs.has_bars_of self.now kept row }
     {
@@ -205,12 +205,13 @@ impl Table {
         }
     }
 
-    /// `*o` has them.
+    /// `*b1` has them.
     fn set_bars<W: Sink>(&self, row: usize, told: Told, out: &mut Out<'_, W>)
         ensures { Draws out.old out.new (specs.bars_set self.now row told) }
     {
-        out.add(b".ds *o \"");
+        out.add(b".di *b1\n.in 0\n");
         self.put_bar_line(row, told, out);
+        out.add(b".di\n.in \\n(*Ou\n");
     }
 
     /// That, if it had others.
@@ -229,7 +230,7 @@ impl Table {
     {
         out.add(b".nr *t ");
         self.put_height(row, out);
-        out.add(b"/1v-1\n.if \\n(*t .*A\n");
+        out.add(b"/1v-1\n.ie \\n(*t<7 .*b\\n(*t\n.el .*A\n");
     }
 
     /// The bars of the other lines of a row that is higher than one.

@@ -1,4 +1,4 @@
-//! A line that stands often in a table whose columns are registers is set once, and kept as a string.
+//! A line that stands often in a table whose columns are registers is set once, and kept in a diversion.
 #![tactic(auto, using(crate::proofs::Tapes::draws_nothing))]
 
 ghost use Rattle.std.specs.Prelude.{◌≡◌, ◌∷◌, []};
@@ -13,7 +13,7 @@ use super::told::Told;
 use super::writing::Out;
 use nr_units::sink::Sink;
 
-/// How often a line stands before it is kept as a string.
+/// How often a line stands before it is kept.
 const OFTEN: usize = 3;
 
 /// What a rule stands between.
@@ -29,14 +29,14 @@ fn or_given<T: Copy>(found: Option<T>, other: Option<T>) -> Option<T>
     }
 }
 
-/// Whether a line is kept as a string.
+/// Whether a line is kept.
 fn has_strings(told: Told) -> bool
     ensures { result ≡ specs.has_strings told }
 {
     told.rule.is_some() || told.string.is_some()
 }
 
-/// The string for a rule goes out again.
+/// The diversion for a rule is removed.
 fn remove_rule<W: Sink>(told: Told, out: &mut Out<'_, W>)
     ensures { Draws out.old out.new (Bytes (specs.rule_removed told) ∷ []) }
 {
@@ -46,7 +46,7 @@ fn remove_rule<W: Sink>(told: Told, out: &mut Out<'_, W>)
     out.add(b"");
 }
 
-/// That for bars does.
+/// That for bars is.
 fn remove_bars<W: Sink>(told: Told, out: &mut Out<'_, W>)
     ensures { Draws out.old out.new (Bytes (specs.bars_removed told) ∷ []) }
 {
@@ -56,23 +56,23 @@ fn remove_bars<W: Sink>(told: Told, out: &mut Out<'_, W>)
     out.add(b"");
 }
 
-/// The diversion for them does.
-fn remove_diversion<W: Sink>(told: Told, out: &mut Out<'_, W>)
-    ensures { Draws out.old out.new (Bytes (specs.diversion_removed told) ∷ []) }
+/// That for the bars of the last row of more than one line is.
+fn remove_last_bars<W: Sink>(told: Told, out: &mut Out<'_, W>)
+    ensures { Draws out.old out.new (Bytes (specs.last_bars_removed told) ∷ []) }
 {
-    if has_strings(told) {
-        return out.add(b".rm *z\n");
+    if told.bars.is_some() {
+        return out.add(b".rm *b1\n");
     }
     out.add(b"");
 }
 
-/// The strings for lines go out again.
+/// Diversions for lines are removed, the last first.
 pub(crate) fn remove_strings<W: Sink>(told: Told, out: &mut Out<'_, W>)
     ensures { Draws out.old out.new (Bytes (specs.strings_removed told) ∷ []) }
 {
-    remove_rule(told, out);
+    remove_last_bars(told, out);
     remove_bars(told, out);
-    remove_diversion(told, out);
+    remove_rule(told, out);
 }
 
 impl Table {
@@ -219,7 +219,7 @@ impl Table {
         }
     }
 
-    /// The rule that is kept as a string, and the row whose bars are: those in the middle, if they stand often.
+    /// The rule that is kept, and the row whose bars are: those in the middle, if they stand often.
     pub(crate) fn choose_strings(&self, told: Told) -> Told
         ensures { result ≡ specs.strings_chosen self.now told }
     {
@@ -308,22 +308,22 @@ impl Table {
         true
     }
 
-    /// A rule is set in a diversion, and read as plain bytes.
+    /// A rule is set in a diversion.
     fn put_rule_string<W: Sink>(&self, rule: Between, out: &mut Out<'_, W>)
         ensures { Draws out.old out.new (specs.rule_kept self.now rule) }
     {
-        out.add(b".di *z\n");
+        out.add(b".di *s0\n");
         self.put_rule_line(rule.0, rule.1, None, true, out);
-        out.add(b".di\n.ds *s0 \"\\*(*z.\n");
+        out.add(b".di\n");
     }
 
     /// The bars of a row are.
     fn put_bars_string<W: Sink>(&self, row: usize, out: &mut Out<'_, W>)
         ensures { Draws out.old out.new (specs.bars_kept self.now row) }
     {
-        out.add(b".di *z\n");
+        out.add(b".di *s1\n");
         self.put_bars_line(row, None, true, out);
-        out.add(b".di\n.ds *s1 \"\\*(*z.\n");
+        out.add(b".di\n");
     }
 
     /// A rule is, if one stands often.
@@ -355,7 +355,7 @@ impl Table {
         self.put_kept_bars(told.string, out);
     }
 
-    /// A line that stands often is set once, in a diversion, and read as plain bytes.
+    /// A line that stands often is set once, in a diversion.
     pub(crate) fn put_strings<W: Sink>(&self, told: Told, out: &mut Out<'_, W>)
         ensures { Draws out.old out.new (specs.strings_strokes self.now told) }
     {
@@ -380,7 +380,7 @@ impl Table {
         ensures { Draws out.old out.new (specs.rule_or_string self.now rule told) }
     {
         if self.is_like(told.rule, rule) {
-            return out.add(b"\\*[*s0]\n");
+            return out.add(b".*s0\n");
         }
         self.put_rule_line(rule.0, rule.1, None, true, out);
     }
@@ -400,7 +400,7 @@ impl Table {
         ensures { Draws out.old out.new (specs.bars_or_string self.now row told) }
     {
         if self.are_like(told.string, row) {
-            return out.add(b"\\*[*s1]\n");
+            return out.add(b".*s1\n");
         }
         self.put_bars_line(row, None, true, out);
     }

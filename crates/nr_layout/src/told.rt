@@ -25,9 +25,9 @@ pub(crate) struct Told {
     pub clean: bool,
     /// The columns of the last block.
     pub columns: Option<(usize, usize)>,
-    /// The row whose bars `*o` has.
+    /// The row whose bars `*b1` has.
     pub bars: Option<usize>,
-    /// The rule that is kept as a string.
+    /// The rule that is kept in a diversion.
     pub rule: Option<(Option<usize>, Option<usize>)>,
     /// The row whose bars are.
     pub string: Option<usize>,
