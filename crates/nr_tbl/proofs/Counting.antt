@@ -28,7 +28,7 @@ use Rattle.nr_tbl.specs.Options.{options_of}
 use Rattle.nr_tbl.specs.Outside.{passed, line_passed, plain_passed, plain_line_passed, given_up}
 use Rattle.nr_tbl.specs.Pages.{Page, Effect, effect, and_then, with_state, at_mode, line_counted, forgotten, rest_of, line_of, wrong}
 use Rattle.nr_tbl.specs.Reading.{read, read_in, fed, kept, limit_of, with_kept, block_goes_on, kept_more, line_ended, line_ended_in, overflown, overflown_in}
-use Rattle.nr_tbl.specs.RowLines.{Said, saying, trimmed, solid, is_none, text_said, shape_said, field_said, last_said, widths_wrong, ended_at, fields_ended, all_ended, with_pairs, last_ended, rest_said, rest_told, comments, line_continued, row_line, row_so_far, line_between, long_end, row_overflown}
+use Rattle.nr_tbl.specs.RowLines.{Said, saying, trimmed, solid, are_empty, text_said, shape_said, field_said, last_said, widths_wrong, ended_at, fields_ended, all_ended, with_pairs, last_ended, rest_said, rest_told, comments, line_continued, row_line, row_so_far, line_between, long_end, row_overflown}
 use Rattle.nr_tbl.specs.States as states
 use Rattle.nr_tbl.specs.Telling.{Piece, piece, each}
 use Rattle.nr_tbl.proofs.Steady.{choose, paired_length}
@@ -103,11 +103,11 @@ field_few s text = let t = trimmed s text in shape_few (shape_of t) s t
 last_few : (s : State) (text : List ℕ) → length (last_said s text).pieces ≤ 3
 last_few s text =
     let t = trimmed s text in
-    let last : length (if is_none t || is_comment t then saying s [] else saying (text_said s t).state (wrong kinds.TooManyFields s ∷ (text_said s t).pieces)).pieces ≤ 3 =
-    choose (λ (x : Said). length x.pieces ≤ 3) (is_none t || is_comment t) (saying s []) (saying (text_said s t).state (wrong kinds.TooManyFields s ∷ (text_said s t).pieces))
+    let last : length (if are_empty s.options.tab t || is_comment t then saying s [] else saying (text_said s t).state (wrong kinds.TooManyFields s ∷ (text_said s t).pieces)).pieces ≤ 3 =
+    choose (λ (x : Said). length x.pieces ≤ 3) (are_empty s.options.tab t || is_comment t) (saying s []) (saying (text_said s t).state (wrong kinds.TooManyFields s ∷ (text_said s t).pieces))
     (omega arith) (let x = text_few s t in omega (arith, x)) in
     choose (λ (x : Said). length x.pieces ≤ 3) (not (states.is_beyond s)) (field_said s text)
-    (if is_none t || is_comment t then saying s [] else saying (text_said s t).state (wrong kinds.TooManyFields s ∷ (text_said s t).pieces))
+    (if are_empty s.options.tab t || is_comment t then saying s [] else saying (text_said s t).state (wrong kinds.TooManyFields s ∷ (text_said s t).pieces))
     (let x = field_few s text in omega (arith, x)) last
 
 some_is : (x y : ℕ) → Some x ≡ Some y → x ≡ y

@@ -25,7 +25,7 @@ use Rattle.nr_tbl.specs.Heads.{options_end, is_dotted}
 use Rattle.nr_tbl.specs.Measure as measures
 use Rattle.nr_tbl.specs.Pages.{Page, Effect, effect, and_then, with_state, at_mode, forgotten, rest_of, line_of, wrong}
 use Rattle.nr_tbl.specs.Reading.{Fits, is_kept, limit_in, limit_of, line_ended_in, overflown_in, overflown, kept_more}
-use Rattle.nr_tbl.specs.RowLines.{Said, saying, trimmed, is_none, text_said, shape_said, field_said, last_said, ended_at, fields_ended, row_ended, last_ended, all_ended, with_pairs, rest_said, comments, line_continued, row_line, line_between, long_end, row_overflown}
+use Rattle.nr_tbl.specs.RowLines.{Said, saying, trimmed, are_empty, text_said, shape_said, field_said, last_said, ended_at, fields_ended, row_ended, last_ended, all_ended, with_pairs, rest_said, comments, line_continued, row_line, line_between, long_end, row_overflown}
 use Rattle.nr_tbl.specs.States as states
 
 pub choose : {A : Type 0} (P : A → Type 0) (b : Bool) (x y : A) → P x → P y → P (if b then x else y)
@@ -71,10 +71,10 @@ same_field s text = let h = same_shape _ s _ in record { line = h.line; cells = 
 pub same_last : (s : State) (text : List ℕ) → Same s (last_said s text).state
 same_last s text =
     let t = trimmed s text in
-    let last : Same s (if is_none t || is_comment t then saying s [] else saying (text_said s t).state (wrong kinds.TooManyFields s ∷ (text_said s t).pieces)).state =
-    choose (λ (x : Said). Same s x.state) (is_none t || is_comment t) (saying s []) (saying (text_said s t).state (wrong kinds.TooManyFields s ∷ (text_said s t).pieces)) (same s) (same_text s t) in
+    let last : Same s (if are_empty s.options.tab t || is_comment t then saying s [] else saying (text_said s t).state (wrong kinds.TooManyFields s ∷ (text_said s t).pieces)).state =
+    choose (λ (x : Said). Same s x.state) (are_empty s.options.tab t || is_comment t) (saying s []) (saying (text_said s t).state (wrong kinds.TooManyFields s ∷ (text_said s t).pieces)) (same s) (same_text s t) in
     choose (λ (x : Said). Same s x.state) (not (states.is_beyond s)) (field_said s text)
-    (if is_none t || is_comment t then saying s [] else saying (text_said s t).state (wrong kinds.TooManyFields s ∷ (text_said s t).pieces)) (same_field s text) last
+    (if are_empty s.options.tab t || is_comment t then saying s [] else saying (text_said s t).state (wrong kinds.TooManyFields s ∷ (text_said s t).pieces)) (same_field s text) last
 
 same_formats : (f : Formats) (line : Line) (text : List ℕ) (s : State) → Same s (states.with_formats f line (heads.measured_with text s))
 same_formats f line text s = record {

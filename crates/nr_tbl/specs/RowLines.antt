@@ -1,6 +1,6 @@
 -- What stands between rows, and the fields of rows (Tbl, "Data"; tbl(1), "Table data"), line by line: fields are separated by the
 -- byte that the options say, behind the last column it is text; a line that ends with a backslash goes on in the next.
-use Rattle.std.specs.Prelude.{ℕ, zero, suc, ◌+◌, ◌-◌, List, [], ◌∷◌, ◌++◌, length, take, drop, Bool, false, not, ◌==◌, ◌&&◌, ◌||◌, if◌then◌else◌, nat_lt, Option, None, Some}
+use Rattle.std.specs.Prelude.{ℕ, zero, suc, ◌+◌, ◌-◌, List, [], ◌∷◌, ◌++◌, length, take, drop, Bool, true, false, not, ◌==◌, ◌&&◌, ◌||◌, if◌then◌else◌, nat_lt, Option, None, Some}
 use Prim.Native.Char.{code}
 use Rattle.nr_tbl.specs.declared.command.Start.TheVariants.{Nothing, Other}
 use Rattle.nr_tbl.specs.declared.complaint.Kind.TheVariants.{TooManyFields, RowLimit, TooWide}
@@ -63,15 +63,17 @@ field_said s text =
     let said = shape_said (shape_of t) s t in
     saying (field_counted said.state) said.pieces
 
-abbrev pub is_none : List ℕ → Bool
-is_none text = length text == 0
+-- nothing but what separates fields: they are all empty
+abbrev pub are_empty : ℕ → List ℕ → Bool
+are_empty tab [] = true
+are_empty tab (b ∷ bs) = (b == tab) && are_empty tab bs
 
--- the last field of a row: behind the columns it is text, or nothing
+-- the last field of a row: behind the columns it is text, or nothing where only empty fields stand there
 abbrev pub last_said : State → List ℕ → Said
 last_said s text =
     if not (is_beyond s) then field_said s text else
     let t = trimmed s text in
-    if is_none t || is_comment t then saying s [] else
+    if are_empty s.options.tab t || is_comment t then saying s [] else
     let said = text_said s t in saying said.state (wrong TooManyFields s ∷ said.pieces)
 
 -- ---- the fields of a line that something ends that separates them, of so many columns

@@ -35,6 +35,18 @@ fn place_of(byte: u8, text: &[u8]) -> Option<usize>
     None
 }
 
+/// Whether nothing but this byte, which separates fields, stands there.
+fn are_empty(tab: u8, text: &[u8]) -> bool
+    ensures { result ≡ lines.are_empty tab text.now }
+{
+    for byte in text.iter() {
+        if *byte != tab {
+            return false;
+        }
+    }
+    true
+}
+
 /// What becomes of a byte of which the one before may be the first of two backslashes.
 fn second_of(alone: bool, byte: u8) -> u8
     ensures { result ≡ specs.second_of alone byte }
@@ -155,7 +167,7 @@ impl State {
             return;
         }
         let text = self.trimmed(text);
-        if text.is_empty() || is_comment(text) {
+        if are_empty(self.options.tab, text) || is_comment(text) {
             return;
         }
         self.complains(Kind::TooManyFields, setter);
