@@ -36,7 +36,7 @@ is_bad c =
     let words = c.args.words.now in
     let l = c.loop-place in
     let names : bytes_eq (word_at words l.place) (codes "-u") ≡ false =
-      compared _ _ _ _ _ c.as_bytes.ensures.value c.as_slice.ensures c.eq.ensures ∙ c.if-eq.false in
+    compared _ _ _ _ _ c.as_bytes.ensures.value c.as_slice.ensures c.eq.ensures ∙ c.if-eq.false in
     next_word l.awaits false l.job l.place words nowhere c.loop-place-test.true c.if-awaits.false l.invariant.comes _
     (option_bad l.job l.place (word_at words l.place) (texts (drop (l.place + 1) words)) c.in-Err.wrong (sym c.is_option.ensures ∙ c.if-not-is_option.false) names c.in-Err.ensures)
 
@@ -52,37 +52,37 @@ loop-place-preserved c =
     let l = c.loop-place in
     let rest = texts (drop (l.place + 1) words) in
     let leads : (known : Bool) → l.awaits ≡ known → (answer : Result Job BadWord)
-      → ComesTo known l.job l.place (word_at words l.place ∷ rest) answer → IsAnswer (texts words) answer =
-      λ known is. next_word l.awaits known l.job l.place words nowhere c.loop-place-test.true is l.invariant.comes in
+    → ComesTo known l.job l.place (word_at words l.place ∷ rest) answer → IsAnswer (texts words) answer =
+    λ known is. next_word l.awaits known l.job l.place words nowhere c.loop-place-test.true is l.invariant.comes in
     elim c.if-awaits.branch [
-      then-awaits+in-Some w ↦ record {
+      | then-awaits+in-Some w ↦ record {
         comes = λ answer comes. leads true w.if-awaits.true answer
-          (named l.job l.place (word_at words l.place) rest answer _ (sym w.named.ensures ∙ w.in-Some.is)
-          (goes_on c.if-awaits.awaits false c.if-awaits.job _ (l.place + 1) rest answer w.awaits-is (w.job-is ∙ w.with_table-job.ensures) comes));
+            (named l.job l.place (word_at words l.place) rest answer _ (sym w.named.ensures ∙ w.in-Some.is)
+            (goes_on c.if-awaits.awaits false c.if-awaits.job _ (l.place + 1) rest answer w.awaits-is (w.job-is ∙ w.with_table-job.ensures) comes));
         awaited = λ is. omega arith;
         formats = subst (λ (job : Job). job.formats ≤ 1048576) (sym (w.job-is ∙ w.with_table-job.ensures)) l.invariant.formats;
         row = subst (λ (job : Job). job.row ≤ 1048576) (sym (w.job-is ∙ w.with_table-job.ensures)) l.invariant.row;
       }
-    | else-awaits+else-not-is_option+then-eq w ↦ record {
+      | else-awaits+else-not-is_option+then-eq w ↦ record {
         comes = λ answer comes. leads false w.if-awaits.false answer
-          (table_follows l.job l.place (word_at words l.place) rest answer (sym w.is_option.ensures ∙ w.if-not-is_option.false)
-          (compared _ _ _ _ _ w.as_bytes.ensures.value w.as_slice.ensures w.eq.ensures ∙ w.if-eq.true)
-          (goes_on c.if-awaits.awaits true c.if-awaits.job _ (l.place + 1) rest answer w.awaits-is w.job-is comes));
+            (table_follows l.job l.place (word_at words l.place) rest answer (sym w.is_option.ensures ∙ w.if-not-is_option.false)
+            (compared _ _ _ _ _ w.as_bytes.ensures.value w.as_slice.ensures w.eq.ensures ∙ w.if-eq.true)
+            (goes_on c.if-awaits.awaits true c.if-awaits.job _ (l.place + 1) rest answer w.awaits-is w.job-is comes));
         awaited = λ is. omega arith;
         formats = subst (λ (job : Job). job.formats ≤ 1048576) (sym w.job-is) l.invariant.formats;
         row = subst (λ (job : Job). job.row ≤ 1048576) (sym w.job-is) l.invariant.row;
       }
-    | else-awaits+else-not-is_option+else-eq+in-Ok w ↦ record {
+      | else-awaits+else-not-is_option+else-eq+in-Ok w ↦ record {
         comes = λ answer comes. leads false w.if-awaits.false answer
-          (option_sets l.job l.place (word_at words l.place) rest answer w.in-Ok.setting (sym w.is_option.ensures ∙ w.if-not-is_option.false)
-          (compared _ _ _ _ _ w.as_bytes.ensures.value w.as_slice.ensures w.eq.ensures ∙ w.if-eq.false)
-          w.in-Ok.ensures
-          (goes_on c.if-awaits.awaits false c.if-awaits.job _ (l.place + 1) rest answer (w.awaits-is ∙ w.if-awaits.false) (w.job-is ∙ w.with-job.ensures) comes));
+            (option_sets l.job l.place (word_at words l.place) rest answer w.in-Ok.setting (sym w.is_option.ensures ∙ w.if-not-is_option.false)
+            (compared _ _ _ _ _ w.as_bytes.ensures.value w.as_slice.ensures w.eq.ensures ∙ w.if-eq.false)
+            w.in-Ok.ensures
+            (goes_on c.if-awaits.awaits false c.if-awaits.job _ (l.place + 1) rest answer (w.awaits-is ∙ w.if-awaits.false) (w.job-is ∙ w.with-job.ensures) comes));
         awaited = λ is. omega arith;
         formats = subst (λ (job : Job). job.formats ≤ 1048576) (sym (w.job-is ∙ w.with-job.ensures))
-          (formats_fit w.in-Ok.setting.which w.in-Ok.setting.limit l.job w.in-Ok.ensures.most l.invariant.formats);
+            (formats_fit w.in-Ok.setting.which w.in-Ok.setting.limit l.job w.in-Ok.ensures.most l.invariant.formats);
         row = subst (λ (job : Job). job.row ≤ 1048576) (sym (w.job-is ∙ w.with-job.ensures))
-          (row_fits w.in-Ok.setting.which w.in-Ok.setting.limit l.job w.in-Ok.ensures.most l.invariant.row);
+            (row_fits w.in-Ok.setting.which w.in-Ok.setting.limit l.job w.in-Ok.ensures.most l.invariant.row);
       }
     ]
 
