@@ -1,4 +1,5 @@
 -- What the words of the command line come to.
+use Prim.Native.Char.{code}
 use Rattle.std.specs.Prelude.{◌≡◌, ℕ, ◌+◌, ◌-◌, ◌≤◌, ◌⊎◌, List, [], ◌∷◌, ◌++◌, map, Bool, true, false, ◌==◌, Option, None, Some, Result, Ok, Err, codes}
 use Rattle.std.specs.Borrow.{Bor}
 use Rattle.std.specs.Str.{bytes_eq}
@@ -21,7 +22,7 @@ texts words = map (λ (word : Bor (List ℕ)). word.now) words
 abbrev pub is_option : List ℕ → Bool
 is_option [] = false
 is_option (byte ∷ []) = false
-is_option (byte ∷ next ∷ rest) = byte == 45
+is_option (byte ∷ next ∷ rest) = byte == code "-"
 
 -- how an option that sets this begins
 abbrev pub front_of : Which → List ℕ
