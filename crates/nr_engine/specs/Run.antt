@@ -9,6 +9,7 @@ use Rattle.nr_input.specs.declared.refusal.Refusal.{Refusal}
 use Rattle.nr_input.specs.declared.refusal.Refusal.TheVariants as refusals
 use Rattle.nr_reading.specs.declared.event.Event.{Event}
 use Rattle.nr_reading.specs.declared.event.Event.TheVariants as events
+use Rattle.nr_reading.specs.Weights.{item_worth}
 use Rattle.nr_formatter.specs.declared.tasks.Task.{Task}
 use Rattle.nr_formatter.specs.declared.tasks.Task.TheVariants as tasks
 use Rattle.nr_options.specs.Limits.{Bounds}
@@ -127,7 +128,7 @@ Writes s WriteFault old new = BreaksOff s old new
 
 -- How many moves there may be for each byte that is taken, and as many before the first.
 abbrev pub moves_a_byte : Bounds → ℕ
-moves_a_byte b = 256 * (b.expansions + 1) * (b.stored + b.cells + b.depth + 4)
+moves_a_byte b = item_worth * (b.expansions + 1) * (b.stored + b.cells + b.depth + 4)
 
 -- The machine makes n moves from s, and the run stops there as the outcome says.
 pub record Answers (b : Bounds) (s : State) (n : ℕ) (outcome : Outcome)

@@ -37,6 +37,7 @@ pub struct Engine {
 impl Engine {
     ghost use Rattle.std.specs.Prelude.{◌≡◌, ◌≢◌, ℕ, List, Option, None, Some, true};
     ghost use Rattle.nr_units.specs.Failures.{put_counted_if};
+    ghost use Rattle.nr_input.specs.Weights.{left_to_resume};
     ghost use Rattle.nr_formatter.specs.Weights.{Falls};
     ghost use Rattle.nr_formatter.specs.declared.tasks.Resume.{Resume as ResumeValue};
     ghost use Rattle.nr_input.specs.declared.told.Told.TheVariants as tells;
@@ -104,7 +105,7 @@ impl Engine {
         ensures limits { limits_of (shape self.new) ≡ limits_of (shape self.old) }
         ensures falls { (resume : ResumeValue) → told_as self.old.resumed heard ≡ tells.Resume resume
             → self.old.formatter.event ≡ events.Nothing → self.old.formatter.task ≡ tasks.Read
-            → Falls 0 510 self.old.formatter self.new.formatter }
+            → Falls 0 left_to_resume self.old.formatter self.new.formatter }
     {
         match heard {
             Heard::Event(event) => self.formatter.event = event,

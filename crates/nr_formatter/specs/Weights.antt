@@ -10,9 +10,9 @@ use Rattle.nr_reading.specs.declared.event.Event.TheVariants as events
 use Rattle.nr_reading.specs.declared.half.Half.{Half}
 use Rattle.nr_reading.specs.declared.mode.Mode.TheVariants as modes
 use Rattle.nr_reading.specs.Conditionals.{in_mode}
-use Rattle.nr_reading.specs.Weights.{cost_of_event, weight_of_half, blanks_owed}
+use Rattle.nr_reading.specs.Weights.{cost_of_text, cost_of_event, weight_of_text, weight_of_half, blanks_owed}
 use Rattle.nr_input.specs.Place.{Reached}
-use Rattle.nr_input.specs.Weights.{weight_before_byte}
+use Rattle.nr_input.specs.Weights.{cost_of_defining, weight_before_byte}
 use Rattle.nr_formatter.specs.declared.formatter.Formatter.{Formatter}
 use Rattle.nr_formatter.specs.declared.paper.Outlet.{Outlet}
 use Rattle.nr_formatter.specs.declared.paper.Outlet.TheVariants as outlets
@@ -26,7 +26,15 @@ use Rattle.nr_formatter.specs.declared.tasks.Then.TheVariants as thens
 use Rattle.nr_formatter.specs.Access.{collected}
 use Rattle.nr_formatter.specs.Places.{page_outlet}
 
--- ---- the line: each piece may go out alone, and a word may get 31 points more
+-- ---- the line
+
+-- a piece may go out alone, and a page end and another begin with it
+abbrev pub cost_of_piece : ℕ
+cost_of_piece = 5
+
+-- A word may end as 32 pieces more than it has parts, by 31 points of `.hw`; 10 are for the move that ends it.
+abbrev pub cost_of_word : ℕ
+cost_of_word = 32 * cost_of_piece + 10
 
 abbrev pub weight_of_pending : Pending → ℕ
 weight_of_pending (pendings.ForStop f) = 1
@@ -34,10 +42,10 @@ weight_of_pending p = 0
 
 abbrev pub weight_of_word : Option Word → ℕ
 weight_of_word None = 0
-weight_of_word (Some w) = 170 + 5 * length w.parts + weight_of_pending w.pending
+weight_of_word (Some w) = cost_of_word + cost_of_piece * length w.parts + weight_of_pending w.pending
 
 abbrev pub weight_of_line : Collected → ℕ
-weight_of_line c = 5 * length c.pieces + weight_of_word c.word
+weight_of_line c = cost_of_piece * length c.pieces + weight_of_word c.word
 
 -- ---- the page: a full one ends, and where there is none one begins
 
@@ -88,9 +96,13 @@ weight_of_break thens.Leading s = 6
 weight_of_break thens.Diverted s = 8
 weight_of_break thens.Finish s = weight_of_last_break s
 
+-- the second cell of a dash may begin a word, as the first
+abbrev pub weight_of_dash : ℕ
+weight_of_dash = cost_of_text + 12
+
 abbrev pub weight_of_task : Task → Step → ℕ
 weight_of_task tasks.Read s = 4
-weight_of_task tasks.Dash s = 190
+weight_of_task tasks.Dash s = weight_of_dash
 weight_of_task (tasks.Flow after breaks) s = 8
 weight_of_task tasks.Count s = 7
 weight_of_task tasks.InputTrap s = 6
@@ -107,17 +119,17 @@ weight_of_task (tasks.Eject e) s = 7
 weight_of_task tasks.Finish s = 2
 weight_of_task tasks.Halted s = 0
 
--- what an event may set to be read next
+-- what an event may set to be read next: text at most, as a title's
 abbrev pub owed_by_event : Event → ℕ
-owed_by_event events.Request = 40
-owed_by_event (events.Judge q) = 40
-owed_by_event events.Title = 40
+owed_by_event events.Request = weight_of_text
+owed_by_event (events.Judge q) = weight_of_text
+owed_by_event events.Title = weight_of_text
 owed_by_event events.Diverted = 1
 owed_by_event e = 0
 
 -- What the move that told it has paid for those who act on it. A blank of a line's beginning is paid by those that are owed.
 abbrev pub weight_of_event : Event → ℕ
-weight_of_event events.Lead = 177
+weight_of_event events.Lead = cost_of_text - 1
 weight_of_event e = cost_of_event e - (1 + owed_by_event e)
 
 -- what was read is acted on before what is under way goes on; the end of the input takes the place of it
@@ -135,12 +147,12 @@ steps_left f =
 -- ---- what may be set to be read next
 
 abbrev pub owed_by_then : Then → ℕ
-owed_by_then (thens.Act r) = 23
+owed_by_then (thens.Act r) = cost_of_defining
 owed_by_then thens.Diverted = 1
 owed_by_then t = 0
 
 abbrev pub owed_by_task : Task → Half → ℕ
-owed_by_task (tasks.Act r) h = 23
+owed_by_task (tasks.Act r) h = cost_of_defining
 owed_by_task (tasks.Break t) h = owed_by_then t
 owed_by_task (tasks.Room rooms.Line) h = 1
 owed_by_task (tasks.Room rooms.Title) h = weight_of_half (in_mode modes.TitleBefore h) - weight_of_half h
@@ -152,7 +164,9 @@ owed f = owed_by_event f.event + owed_by_task f.task f.reader.half
 -- ---- all of it
 
 unfoldable pub weight : Reached → Formatter → ℕ
-weight p f = weight_before_byte f.store p f.reader + 178 * blanks_owed f.reader.half + owed f + steps_left f
+weight p f =
+    weight_before_byte f.store p f.reader + cost_of_text * blanks_owed f.reader.half + owed f
+    + steps_left f
 
 -- What may still come fell by so many moves, but for so many that it rose by; what may come after a byte stays.
 pub record Falls (down up : ℕ) (f g : Formatter) : Type 0 where

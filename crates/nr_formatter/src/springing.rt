@@ -7,6 +7,7 @@ ghost use Rattle.nr_formatter.specs.Limits.{IsWithin, limits_of};
 ghost use Rattle.nr_formatter.specs.Pages.{names_text};
 ghost use Rattle.nr_formatter.specs.Registers.{splice_checked};
 ghost use Rattle.nr_formatter.specs.Springing.{interrupted, sprung, resumed};
+ghost use Rattle.nr_input.specs.Weights.{left_to_resume};
 ghost use Rattle.nr_formatter.specs.Weights.{Falls};
 
 use crate::formatter::Formatter;
@@ -52,7 +53,7 @@ impl Formatter {
     pub fn resume(&mut self, resume: &Resume)
         ensures is { self.new ≡ resumed resume.now self.old }
         ensures falls { self.old.event ≡ events.Nothing → self.old.task ≡ tasks.Read
-            → Falls 0 510 self.old self.new }
+            → Falls 0 left_to_resume self.old self.new }
     {
         self.reader.stand(resume.standing);
         self.reader.set_line(resume.line.as_slice());

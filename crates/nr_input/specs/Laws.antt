@@ -22,7 +22,7 @@ use Rattle.nr_input.specs.Acting.{base_of, is_look}
 use Rattle.nr_input.specs.Place.{is_read_fault, has_failed, fails_now}
 use Rattle.nr_input.specs.Moving.{Situation, RefusesBy, Refuses}
 use Rattle.nr_input.specs.Refusal.{answer, storing_by, uncounted_by, place_told}
-use Rattle.nr_reading.specs.Weights.{weight_by, weight_of_escape, weight_of_backslash, weight_of_mode, weight_of_due, held_by_mode, weight_of_stage, weight_of_ask, weight_of_half}
+use Rattle.nr_reading.specs.Weights.{backslash_elsewhere, weight_of_argument, weight_by, weight_of_escape, weight_of_backslash, weight_of_mode, weight_of_due, held_by_mode, weight_of_stage, weight_of_ask, weight_of_half}
 
 -- how many bytes of a definition's line are held back, or are still to be added
 abbrev pub held_by_due : Due → ℕ
@@ -32,11 +32,11 @@ held_by_due d = 0
 abbrev pub held_back : Half → ℕ
 held_back h = held_by_mode h.reading.mode + held_by_due h.reading.due
 
-pub weight_of_mode-le : (m : Mode) → weight_of_mode m ≤ 114 + held_by_mode m
+pub weight_of_mode-le : (m : Mode) → weight_of_mode m ≤ weight_of_mode modes.Control + held_by_mode m
 weight_of_mode-le (modes.BodyStart held) = omega arith
 weight_of_mode-le m = omega arith
 
-pub weight_of_backslash-le : (m : Mode) → weight_of_backslash m ≤ 156
+pub weight_of_backslash-le : (m : Mode) → weight_of_backslash m ≤ backslash_elsewhere
 weight_of_backslash-le modes.Text = omega arith
 weight_of_backslash-le modes.Interrupted = omega arith
 weight_of_backslash-le modes.Continued = omega arith
@@ -57,9 +57,14 @@ weight_of_due-le (dues.Register signs.Plus) = omega arith
 weight_of_due-le (dues.Register signs.Minus) = omega arith
 weight_of_due-le d = omega arith
 
-weight_by-le : (d : Due) (m : Mode) (e : Escape) → weight_by d m e ≤ 272 + held_by_mode m + held_by_due d
-weight_by-le dues.Seek m e = omega (arith, weight_of_escape-le 156 e)
-weight_by-le (dues.Judge b) m e = omega (arith, weight_of_escape-le 156 e)
+-- what is half read outside of arguments, bytes that are held back aside: a mode, what is due, and a `\` that is begun
+abbrev pub most_of_reading : ℕ
+most_of_reading = weight_of_mode modes.Control + 2 + backslash_elsewhere
+
+weight_by-le : (d : Due) (m : Mode) (e : Escape)
+    → weight_by d m e ≤ most_of_reading + held_by_mode m + held_by_due d
+weight_by-le dues.Seek m e = omega (arith, weight_of_escape-le backslash_elsewhere e)
+weight_by-le (dues.Judge b) m e = omega (arith, weight_of_escape-le backslash_elsewhere e)
 weight_by-le d m e =
     omega (
       arith,
@@ -69,16 +74,17 @@ weight_by-le d m e =
       weight_of_escape-le (weight_of_backslash m) e,
     )
 
-weight_of_stage-le : (s : Stage) → weight_of_stage s ≤ 368
+weight_of_stage-le : (s : Stage) → weight_of_stage s ≤ weight_of_argument
 weight_of_stage-le stages.Sign = omega arith
 weight_of_stage-le s = omega arith
 
-weight_of_asks-le : (asks : List Ask) → sum_by weight_of_ask asks ≤ 368 * length asks
+weight_of_asks-le : (asks : List Ask) → sum_by weight_of_ask asks ≤ weight_of_argument * length asks
 weight_of_asks-le [] = omega arith
 weight_of_asks-le (a ∷ asks) =
     omega (arith, sum_by-cons weight_of_ask a asks, weight_of_stage-le a.stage, weight_of_asks-le asks)
 
-pub weight_of_half-le : (h : Half) → weight_of_half h ≤ 272 + 368 * length h.asks + held_back h
+pub weight_of_half-le : (h : Half)
+    → weight_of_half h ≤ most_of_reading + weight_of_argument * length h.asks + held_back h
 weight_of_half-le h =
     omega (arith, weight_by-le h.reading.due h.reading.mode h.reading.escape, weight_of_asks-le h.asks)
 

@@ -4,7 +4,7 @@ use Rattle.nr_store.specs.Store.{Stored, Built, Level, Read, Mark}
 use Rattle.nr_store.specs.declared.element.Diversion.{Diversion}
 use Rattle.nr_reading.specs.declared.event.Event.TheVariants as events
 use Rattle.nr_reading.specs.declared.half.Half.{Half}
-use Rattle.nr_reading.specs.Weights.{cost_of_event, weight_of_half, blanks_owed}
+use Rattle.nr_reading.specs.Weights.{item_worth, cost_of_text, cost_of_event, weight_of_start, weight_of_half, blanks_owed}
 use Rattle.nr_input.specs.declared.reader.Reader.{Reader}
 use Rattle.nr_input.specs.declared.refusal.Refusal.{Refusal}
 use Rattle.nr_input.specs.declared.told.Told.{Told}
@@ -33,7 +33,12 @@ newline_left false = 0
 -- ---- splices and springs: each brings as many items as may be stored, and three more at most
 
 abbrev pub expansion_worth : ℕ → ℕ
-expansion_worth stored = 256 * (stored + 3)
+expansion_worth stored = item_worth * (stored + 3)
+
+-- A level is charged for 16 bytes more than it has, so a splice brings 16 items fewer than it is worth: of those 14 are left to
+-- those who go on.
+abbrev pub left_by_splice : ℕ
+left_by_splice = 14 * item_worth
 
 -- what those that may still come are worth, with so many stored bytes
 unfoldable pub expansions_worth : ℕ → ℕ → ℕ → ℕ
@@ -43,17 +48,21 @@ expansions_worth most burst stored = (most - burst) * expansion_worth stored
 
 abbrev pub weight_before_byte : {K : Type 0} → Stored K → Reached → Reader → ℕ
 weight_before_byte v p r =
-    256 * (items_left v.levels + newline_left p.inside) + expansions_worth r.most r.burst v.limit
+    item_worth * (items_left v.levels + newline_left p.inside) + expansions_worth r.most r.burst v.limit
     + weight_of_half r.half
 
--- what a byte of the source pays at least
+-- what a byte of the source pays at least: itself, and the newline that may be added after it
 abbrev pub byte_worth : ℕ → ℕ → ℕ
-byte_worth most stored = expansions_worth most 0 stored + 512
+byte_worth most stored = expansions_worth most 0 stored + 2 * item_worth
 
--- what a move costs by what it tells: after a sprung text it leaves 510 moves
+-- what goes on after a sprung text has so many moves of the two items that its mark counts as
+abbrev pub left_to_resume : ℕ
+left_to_resume = 2 * item_worth - 2
+
+-- what a move costs by what it tells
 abbrev pub cost_of_told : {K : Type 0} → Told K → ℕ
 cost_of_told (tells.Event e) = cost_of_event e
-cost_of_told (tells.Resume k) = 511
+cost_of_told (tells.Resume k) = left_to_resume + 1
 
 -- a blank of a line's beginning is told
 abbrev pub IfLead : {K : Type 0} → Told K → Type 0 → Type 0
@@ -71,7 +80,7 @@ pub record Pays {K : Type 0} (v : Stored K) (p : Reached) (r : Reader) (t : Told
   pub limit : v'.limit ≡ v.limit
   pub most : r'.most ≡ r.most
   pub pays : (worth : ℕ) → byte_worth r.most v.limit ≤ worth →
-      weight_before_byte v' p' r' + cost_of_told t + 178 * risen r.half r'.half + worth * p.taken
+      weight_before_byte v' p' r' + cost_of_told t + cost_of_text * risen r.half r'.half + worth * p.taken
       ≤ weight_before_byte v p r + worth * p'.taken
   pub lead : IfLead t (blanks_owed r'.half + 1 ≡ blanks_owed r.half)
 
@@ -82,11 +91,11 @@ PaysIfMade v p r (Err e) v' p' r' = Unit {0}
 
 -- ---- what those who read events do
 
--- A text is spliced or sprung: it is paid out of what may still come, and leaves 3584 moves.
+-- A text is spliced or sprung: it is paid out of what may still come, with what it leaves.
 pub record Splices {K : Type 0} (v : Stored K) (r : Reader) (v' : Stored K) (r' : Reader) : Type 0 where
   pub limit : v'.limit ≡ v.limit
   pub most : r'.most ≡ r.most
-  pub pays : (p : Reached) → weight_before_byte v' p r' + 3584 + 178 * risen r.half r'.half
+  pub pays : (p : Reached) → weight_before_byte v' p r' + left_by_splice + cost_of_text * risen r.half r'.half
       ≤ weight_before_byte v p r
 
 -- where no text is sprung nothing changes
@@ -97,15 +106,18 @@ Springs v r (Err e) v' r' = Unit {0}
 
 -- what is read was set anew: it weighs so much more at most
 abbrev pub CostsAtMost : ℕ → Half → Half → Type 0
-CostsAtMost most old new = weight_of_half new + 178 * risen old new ≤ weight_of_half old + most
+CostsAtMost most old new = weight_of_half new + cost_of_text * risen old new ≤ weight_of_half old + most
 
--- the lines of a definition follow
+-- the lines of a definition follow, from the beginning of one on
+abbrev pub cost_of_defining : ℕ
+cost_of_defining = weight_of_start + 3
+
 pub record Defines {K : Type 0} (v : Stored K) (r : Reader) (v' : Stored K) (r' : Reader) : Type 0 where
   pub levels : v'.levels ≡ v.levels
   pub limit : v'.limit ≡ v.limit
   pub burst : r'.burst ≡ r.burst
   pub most : r'.most ≡ r.most
-  pub costs : CostsAtMost 23 r.half r'.half
+  pub costs : CostsAtMost cost_of_defining r.half r'.half
 
 -- ---- diversions: none begins where something is read
 

@@ -4,14 +4,15 @@ use Rattle.nr_units.specs.Source.{Supply}
 use Rattle.nr_fill.specs.Piece.{Word}
 use Rattle.nr_symbol_tables.specs.Table.{find}
 use Rattle.nr_store.specs.Store.{Stored, Means, Shared, is_named, weight_of}
-use Rattle.nr_reading.specs.Weights.{blanks_owed}
+use Rattle.nr_reading.specs.Weights.{item_worth, cost_of_text, cost_of_special, weight_of_text, weight_of_argument, blanks_owed}
 use Rattle.nr_reading.specs.declared.mode.Due.{Due}
 use Rattle.nr_reading.specs.declared.mode.Due.TheVariants as dues
 use Rattle.nr_input.specs.Acting.{name_in}
-use Rattle.nr_input.specs.Laws.{held_back}
+use Rattle.nr_input.specs.Laws.{most_of_reading, held_back}
 use Rattle.nr_input.specs.Weights.{items_left}
 use Rattle.nr_options.specs.Limits.{Bounds, AreLimits}
 use Rattle.nr_options.specs.declared.options.Options.{Options}
+use Rattle.nr_formatter.specs.Weights.{cost_of_piece, cost_of_word, weight_of_dash}
 use Rattle.nr_formatter.specs.Access.{collected}
 use Rattle.nr_formatter.specs.declared.formatter.Formatter.{Formatter}
 use Rattle.nr_formatter.specs.declared.tasks.Resume.{Resume}
@@ -65,17 +66,26 @@ abbrev pub parts_of : Option Word → ℕ
 parts_of None = 0
 parts_of (Some w) = length w.parts
 
--- So many moves the text that is read may bring before the next byte of the source is taken: 256 for each element and end of the texts of
--- the levels, and for each that the splices may bring that are still allowed.
+-- So many moves the text that is read may bring before the next byte of the source is taken, for each element and end of the
+-- texts of the levels, and for each that the splices may bring that are still allowed.
 abbrev pub moves_of_texts : Formatter → ℕ
-moves_of_texts f = 256 * (items_left f.store.levels + (f.reader.most - f.reader.burst) * (f.store.limit + 3))
+moves_of_texts f =
+    item_worth * (items_left f.store.levels + (f.reader.most - f.reader.burst) * (f.store.limit + 3))
+
+-- What else there may be: the newline that is added, what is half read, what an event and what is under way may set to be read,
+-- a special character, the second cell of a dash, and a word; and 95 for the end of the input, a page, a trap, a stop of a tab
+-- and the options.
+abbrev pub moves_at_most : ℕ
+moves_at_most =
+    item_worth + most_of_reading + 2 * weight_of_text + cost_of_special + weight_of_dash + cost_of_word + 95
 
 -- So many the rest: escapes that are half read, blanks that the line begins with, bytes of a definition's line that are held back; pieces of
 -- the line, and parts of its word; texts that are being built.
 abbrev pub moves_of_rest : Formatter → ℕ
 moves_of_rest f =
-    368 * length f.reader.half.asks + 178 * blanks_owed f.reader.half + held_back f.reader.half
-    + 5 * (length (collected f).pieces + parts_of (collected f).word) + length f.store.building + 1430
+    weight_of_argument * length f.reader.half.asks + cost_of_text * blanks_owed f.reader.half
+    + held_back f.reader.half + cost_of_piece * (length (collected f).pieces + parts_of (collected f).word)
+    + length f.store.building + moves_at_most
 
 -- a byte was taken in the last of these moves, or none was made
 abbrev pub IsBehindByte : ℕ → State → Type 0
@@ -106,8 +116,8 @@ MovesBeforeByte =
 -- definition's line that are held back, parts of the word, escapes that are half read beyond ten
 abbrev pub moves_on_top : Bounds → Formatter → ℕ
 moves_on_top b f =
-    178 * (blanks_owed f.reader.half - b.cells) + held_back f.reader.half + 5 * parts_of (collected f).word
-    + 368 * (length f.reader.half.asks - 10)
+    cost_of_text * (blanks_owed f.reader.half - b.cells) + held_back f.reader.half
+    + cost_of_piece * parts_of (collected f).word + weight_of_argument * (length f.reader.half.asks - 10)
 
 -- Between the takings of two bytes, before the first and after the last there are no more moves than the number for a byte and what comes on
 -- top behind the first of the two.

@@ -18,35 +18,89 @@ use Rattle.nr_reading.specs.declared.mode.Mode.{Mode}
 use Rattle.nr_reading.specs.declared.mode.Mode.TheVariants as modes
 use Rattle.nr_reading.specs.declared.mode.Reading.{Reading}
 
--- What a move costs by what it tells: the move itself, and the moves of those to whom something is told. What may begin a word
--- leaves them 177 moves, a special character, which may be a dash of two cells, 366; a request, a condition and a title, which
--- may set what is read next, 71; anything else 19. They count the end of the input and the blanks of a line's beginning
--- themselves.
+-- ---- amounts, each in moves
+
+-- what an item that is text pays
+abbrev pub item_worth : ℕ
+item_worth = 256
+
+-- what may begin a word: the move that reads it, the move that collects it, and the 176 that its word may bring with a piece
+-- and a stop
+abbrev pub cost_of_text : ℕ
+cost_of_text = 178
+
+-- a special character: it may be a dash, whose second cell is a move of its own and may begin a word too
+abbrev pub cost_of_special : ℕ
+cost_of_special = 367
+
+-- anything else that is told, as the end of a line
+abbrev pub cost_of_other : ℕ
+cost_of_other = 20
+
+-- A line that has begun may end where the input ends: the end is told, of text that of its last word before.
+abbrev pub weight_of_start : ℕ
+weight_of_start = cost_of_other
+
+abbrev pub weight_of_text : ℕ
+weight_of_text = weight_of_start + cost_of_other
+
+-- what may set what is read next, a title's text at most: a request, a condition, a title
+abbrev pub cost_of_setting : ℕ
+cost_of_setting = weight_of_text + 32
+
+-- a request's line, whose end tells the request
+abbrev pub weight_of_request : ℕ
+weight_of_request = weight_of_start + cost_of_setting
+
+-- a name that is looked up: it may be a request's, or nobody's
+abbrev pub weight_of_sought : ℕ
+weight_of_sought = weight_of_request + cost_of_other
+
+-- after a condition that is judged the line goes on, or is skipped
+abbrev pub weight_of_judged : ℕ
+weight_of_judged = weight_of_start + 2
+
+-- an argument that is half read: it may end at once, and tell a special character; after a sign that may be there it goes on
+abbrev pub weight_of_argument : ℕ
+weight_of_argument = cost_of_special + 1
+
+-- A `\` that begins the line's text, or goes on in it: with the item after it, it pays for an argument that it may begin.
+abbrev pub backslash_in_text : ℕ
+backslash_in_text = weight_of_argument + 3 - item_worth
+
+-- Elsewhere it pays besides what the text in its place weighs.
+abbrev pub backslash_elsewhere : ℕ
+backslash_elsewhere = backslash_in_text + weight_of_text + 1
+
+-- ---- events and items
+
+-- What a move costs by what it tells: the move itself, and the moves of those to whom something is told. They count the end of
+-- the input and the blanks of a line's beginning themselves.
 abbrev pub cost_of_event : Event → ℕ
 cost_of_event events.Nothing = 1
 cost_of_event events.Over = 0
 cost_of_event events.Lead = 0
-cost_of_event (events.Byte b) = 178
-cost_of_event (events.Cell x) = 178
-cost_of_event (events.Plain b) = 178
-cost_of_event events.Fixed = 178
-cost_of_event events.Zero = 178
-cost_of_event events.Tab = 178
-cost_of_event events.Leader = 178
-cost_of_event events.Horizontal = 178
-cost_of_event events.Rule = 178
-cost_of_event events.Special = 367
-cost_of_event events.Request = 72
-cost_of_event (events.Judge q) = 72
-cost_of_event events.Title = 72
-cost_of_event e = 20
+cost_of_event (events.Byte b) = cost_of_text
+cost_of_event (events.Cell x) = cost_of_text
+cost_of_event (events.Plain b) = cost_of_text
+cost_of_event events.Fixed = cost_of_text
+cost_of_event events.Zero = cost_of_text
+cost_of_event events.Tab = cost_of_text
+cost_of_event events.Leader = cost_of_text
+cost_of_event events.Horizontal = cost_of_text
+cost_of_event events.Rule = cost_of_text
+cost_of_event events.Special = cost_of_special
+cost_of_event events.Request = cost_of_setting
+cost_of_event (events.Judge q) = cost_of_setting
+cost_of_event events.Title = cost_of_setting
+cost_of_event e = cost_of_other
 
--- What an item that is taken pays: one that is text 256 moves, a mark its own.
+-- What an item that is taken pays: a mark its own move, the end of the input nothing.
 abbrev pub worth_of_front : Front → ℕ
 worth_of_front fronts.Mark = 1
 worth_of_front fronts.Resume = 1
 worth_of_front fronts.Over = 0
-worth_of_front f = 256
+worth_of_front f = item_worth
 
 abbrev pub paid_by : Bool → ℕ → ℕ
 paid_by true worth = worth
@@ -56,43 +110,43 @@ paid_by false worth = 0
 
 -- in a definition's line, so many bytes being held back
 abbrev pub weight_of_held : ℕ → ℕ
-weight_of_held held = 22 + 5 * min 1 held + held
+weight_of_held held = weight_of_start + 2 + 5 * min 1 held + held
 
 abbrev pub weight_of_mode : Mode → ℕ
 weight_of_mode modes.Diverting = 0
-weight_of_mode modes.Start = 20
-weight_of_mode modes.Accepted = 21
-weight_of_mode (modes.Skip n) = 21
-weight_of_mode modes.Text = 40
-weight_of_mode modes.TitleBefore = 40
-weight_of_mode (modes.Title d n) = 40
-weight_of_mode modes.TitleRest = 40
-weight_of_mode modes.Diverted = 40
-weight_of_mode modes.Continued = 41
-weight_of_mode modes.Interrupted = 41
-weight_of_mode (modes.Leading n) = 41
-weight_of_mode modes.Drop = 21
-weight_of_mode modes.Transparent = 22
-weight_of_mode modes.MacroGap = 22
-weight_of_mode modes.MacroBlanks = 23
-weight_of_mode modes.Word = 24
-weight_of_mode modes.Quoted = 24
-weight_of_mode modes.Quote = 24
-weight_of_mode modes.StringText = 22
-weight_of_mode modes.StringBlanks = 24
-weight_of_mode modes.StringName = 25
-weight_of_mode modes.StringBefore = 26
-weight_of_mode modes.BodyEnd = 23
-weight_of_mode modes.Body = 24
+weight_of_mode modes.Start = weight_of_start
+weight_of_mode modes.Accepted = weight_of_start + 1
+weight_of_mode (modes.Skip n) = weight_of_start + 1
+weight_of_mode modes.Text = weight_of_text
+weight_of_mode modes.TitleBefore = weight_of_text
+weight_of_mode (modes.Title d n) = weight_of_text
+weight_of_mode modes.TitleRest = weight_of_text
+weight_of_mode modes.Diverted = weight_of_text
+weight_of_mode modes.Continued = weight_of_text + 1
+weight_of_mode modes.Interrupted = weight_of_text + 1
+weight_of_mode (modes.Leading n) = weight_of_text + 1
+weight_of_mode modes.Drop = weight_of_start + 1
+weight_of_mode modes.Transparent = weight_of_start + 2
+weight_of_mode modes.MacroGap = weight_of_start + 2
+weight_of_mode modes.MacroBlanks = weight_of_start + 3
+weight_of_mode modes.Word = weight_of_start + 4
+weight_of_mode modes.Quoted = weight_of_start + 4
+weight_of_mode modes.Quote = weight_of_start + 4
+weight_of_mode modes.StringText = weight_of_start + 2
+weight_of_mode modes.StringBlanks = weight_of_start + 4
+weight_of_mode modes.StringName = weight_of_start + 5
+weight_of_mode modes.StringBefore = weight_of_start + 6
+weight_of_mode modes.BodyEnd = weight_of_start + 3
+weight_of_mode modes.Body = weight_of_start + 4
 weight_of_mode (modes.BodyStart held) = weight_of_held held
-weight_of_mode (modes.First d) = 23
-weight_of_mode (modes.Second d) = 23
-weight_of_mode modes.RequestLine = 92
-weight_of_mode modes.RequestBlanks = 93
-weight_of_mode (modes.Number depth) = 93
-weight_of_mode modes.Condition = 94
-weight_of_mode modes.Name = 113
-weight_of_mode modes.Control = 114
+weight_of_mode (modes.First d) = weight_of_start + 3
+weight_of_mode (modes.Second d) = weight_of_start + 3
+weight_of_mode modes.RequestLine = weight_of_request
+weight_of_mode modes.RequestBlanks = weight_of_request + 1
+weight_of_mode (modes.Number depth) = weight_of_request + 1
+weight_of_mode modes.Condition = weight_of_request + 2
+weight_of_mode modes.Name = weight_of_sought + 1
+weight_of_mode modes.Control = weight_of_sought + 2
 
 -- ---- what is due
 
@@ -109,14 +163,14 @@ weight_of_due d = 1
 -- ---- a `\` that is begun: it begins the line's text, or is an element itself
 
 abbrev pub weight_of_backslash : Mode → ℕ
-weight_of_backslash modes.Text = 115
-weight_of_backslash modes.Interrupted = 115
-weight_of_backslash modes.Continued = 115
-weight_of_backslash (modes.Leading n) = 115
-weight_of_backslash modes.TitleBefore = 115
-weight_of_backslash (modes.Title d n) = 115
-weight_of_backslash modes.Diverted = 115
-weight_of_backslash m = 156
+weight_of_backslash modes.Text = backslash_in_text
+weight_of_backslash modes.Interrupted = backslash_in_text
+weight_of_backslash modes.Continued = backslash_in_text
+weight_of_backslash (modes.Leading n) = backslash_in_text
+weight_of_backslash modes.TitleBefore = backslash_in_text
+weight_of_backslash (modes.Title d n) = backslash_in_text
+weight_of_backslash modes.Diverted = backslash_in_text
+weight_of_backslash m = backslash_elsewhere
 
 abbrev pub weight_of_escape : ℕ → Escape → ℕ
 weight_of_escape n escapes.Begun = n
@@ -131,8 +185,8 @@ held_by_mode m = 0
 
 -- After a name that is looked up, and after a condition that is judged, another mode follows.
 abbrev pub weight_by : Due → Mode → Escape → ℕ
-weight_by dues.Seek m e = 112 + held_by_mode m + weight_of_escape 156 e
-weight_by (dues.Judge b) m e = 22 + held_by_mode m + weight_of_escape 156 e
+weight_by dues.Seek m e = weight_of_sought + held_by_mode m + weight_of_escape backslash_elsewhere e
+weight_by (dues.Judge b) m e = weight_of_judged + held_by_mode m + weight_of_escape backslash_elsewhere e
 weight_by d m e = weight_of_mode m + weight_of_due d + weight_of_escape (weight_of_backslash m) e
 
 abbrev pub weight_of_reading : Reading → ℕ
@@ -140,8 +194,8 @@ weight_of_reading r = weight_by r.due r.mode r.escape
 
 -- an escape whose argument is half read: it may end at once, and tell that
 abbrev pub weight_of_stage : Stage → ℕ
-weight_of_stage stages.Sign = 368
-weight_of_stage s = 367
+weight_of_stage stages.Sign = weight_of_argument
+weight_of_stage s = cost_of_special
 
 abbrev pub weight_of_ask : Ask → ℕ
 weight_of_ask a = weight_of_stage a.stage
@@ -169,8 +223,10 @@ abbrev pub is_lead : Event → Bool
 is_lead events.Lead = true
 is_lead e = false
 
--- What it leads to and tells weighs no more than what was half read, and what is taken of it; a blank more that is owed costs 178.
+-- What it leads to and tells weighs no more than what was half read, and what is taken of it. A blank more that is owed costs
+-- as text does.
 pub record PaysFor (f : Front) (old new : Half) (seen : Seen) : Type 0 where
-  pub pays : weight_of_half new + cost_of_event seen.event + 178 * (blanks_owed new - blanks_owed old)
+  pub pays : weight_of_half new + cost_of_event seen.event
+      + cost_of_text * (blanks_owed new - blanks_owed old)
       ≤ weight_of_half old + paid_by seen.takes (worth_of_front f)
   pub tells : is_lead seen.event ≡ false

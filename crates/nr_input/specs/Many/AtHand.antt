@@ -18,4 +18,9 @@ pub record ComeNext (bs : List ℕ) (c : Coming) : Type 0 where
 
 -- after the next n bytes, of which this is the last
 abbrev pub behind_last : ℕ → ℕ → Coming → Coming
-behind_last last n c = record { supply = skipped n c.supply; taken = c.taken + n; inside = not (last == code "\n") }
+behind_last last n c =
+    record {
+      supply = skipped n c.supply;
+      taken = c.taken + n;
+      inside = not (last == code "\n");
+    }

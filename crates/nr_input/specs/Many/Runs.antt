@@ -11,7 +11,7 @@ use Rattle.nr_reading.specs.declared.half.Half.{Half}
 use Rattle.nr_reading.specs.declared.mode.Due.TheVariants as dues
 use Rattle.nr_reading.specs.Many.InArgument.{ending_of, IsPlain}
 use Rattle.nr_reading.specs.Many.InText.{is_in_text}
-use Rattle.nr_reading.specs.Weights.{cost_of_event, is_lead}
+use Rattle.nr_reading.specs.Weights.{cost_of_text, cost_of_event, is_lead}
 use Rattle.nr_input.specs.declared.reader.Reader.{Reader}
 use Rattle.nr_input.specs.declared.many.target.Target.{Target}
 use Rattle.nr_input.specs.declared.place.Ahead.TheVariants.{Unseen}
@@ -47,7 +47,8 @@ pub record PaysAll {K : Type 0} (n : ℕ) (v : Stored K) (p : Reached) (r : Read
   pub diversions : diversions_in v'.building ≡ diversions_in v.building
   pub most : r'.most ≡ r.most
   pub pays : (worth : ℕ) → byte_worth r.most v.limit ≤ worth →
-      weight_before_byte v' p' r' + cost_of_event e + n + 178 * risen r.half r'.half + worth * p.taken
+      weight_before_byte v' p' r' + cost_of_event e + n + cost_of_text * risen r.half r'.half
+      + worth * p.taken
       ≤ weight_before_byte v p r + 1 + worth * p'.taken
   pub tells : is_lead e ≡ false
 
@@ -58,7 +59,8 @@ pub record PaysMany {K : Type 0} (n : ℕ) (v : Stored K) (p : Reached) (r : Rea
   pub diversions : diversions_in v'.building ≤ diversions_in v.building
   pub most : r'.most ≡ r.most
   pub pays : (worth : ℕ) → byte_worth r.most v.limit ≤ worth →
-      weight_before_byte v' p' r' + cost_of_event e + n + 178 * risen r.half r'.half + worth * p.taken
+      weight_before_byte v' p' r' + cost_of_event e + n + cost_of_text * risen r.half r'.half
+      + worth * p.taken
       ≤ weight_before_byte v p r + 1 + worth * p'.taken
   pub tells : is_lead e ≡ false
 

@@ -7,7 +7,7 @@ use Rattle.nr_reading.specs.declared.half.Half.{Half}
 use Rattle.nr_reading.specs.declared.mode.Due.TheVariants as dues
 use Rattle.nr_reading.specs.declared.many.runs.Run.{Run}
 use Rattle.nr_reading.specs.Half.{Met, meet}
-use Rattle.nr_reading.specs.Weights.{weight_of_half, cost_of_event, blanks_owed, is_lead}
+use Rattle.nr_reading.specs.Weights.{item_worth, cost_of_text, weight_of_half, cost_of_event, blanks_owed, is_lead}
 
 -- where many moves have come in a row of items: how many were taken, what is half read after them, and what the last told
 pub record Spot : Type 0 where
@@ -47,6 +47,7 @@ pub record HasMet (n : ℕ) (fs : List Front) (h : Half) (p : Spot) : Type 0 whe
   pub leads : spot_after n fs h ≡ p
   pub goes : (k : ℕ) → k < n → MayGoOn fs (spot_after k fs h)
   pub within : p.taken ≤ length fs
-  pub pays : weight_of_half p.half + cost_of_event p.event + n + 178 * (blanks_owed p.half - blanks_owed h)
-      ≤ weight_of_half h + 256 * p.taken + 1
+  pub pays : weight_of_half p.half + cost_of_event p.event + n
+      + cost_of_text * (blanks_owed p.half - blanks_owed h)
+      ≤ weight_of_half h + item_worth * p.taken + 1
   pub tells : is_lead p.event ≡ false
