@@ -18,7 +18,7 @@ use Rattle.nr_reading.specs.declared.notes.Notes.{Notes}
 use Rattle.nr_reading.specs.declared.mode.Standing.TheVariants as standings
 use Rattle.nr_reading.specs.Conditionals.{in_mode, part_mode, answer_of, remembering, judged}
 use Rattle.nr_reading.specs.Setting.{sprung, resumed, defining}
-use Rattle.nr_reading.specs.Weights.{weight_by, weight_of_mode, weight_of_backslash, weight_of_half, held_by_mode, blanks_owed}
+use Rattle.nr_reading.specs.Weights.{weight_of_text, weight_of_judged, weight_by, weight_of_mode, weight_of_backslash, weight_of_half, held_by_mode, blanks_owed}
 use Rattle.nr_input.specs.declared.reader.Reader.{Reader}
 use Rattle.nr_input.specs.declared.refusal.Refusal.{Refusal}
 use Rattle.nr_input.specs.declared.splicing.Definition.{Definition}
@@ -26,7 +26,7 @@ use Rattle.nr_input.specs.declared.splicing.Definition.TheVariants as definition
 use Rattle.nr_input.specs.Acting.{on_half, idle, expanded}
 use Rattle.nr_input.specs.Refusal.{Called, called, splicing_answer}
 use Rattle.nr_input.specs.Splicing.{giving, springing, springing_text, base, base_answer, keeps, beginning, defining_lines}
-use Rattle.nr_input.specs.Weights.{CostsAtMost, Defines, Splices, Springs, expansions_worth}
+use Rattle.nr_input.specs.Weights.{CostsAtMost, cost_of_standing, cost_of_defining, Defines, Splices, Springs, expansions_worth}
 use Rattle.nr_input.proofs.Items.{expansions_worth-spent}
 use Rattle.nr_input.proofs.Refusals.{called-ok}
 use Rattle.nr_input.proofs.Spending.{Opens, opened, bytes_open, splicing-fits, idle-le}
@@ -51,26 +51,26 @@ in_mode-le (dues.Judge b) m k e w few begun none = omega arith
 in_mode-le d m k escapes.Begun w few begun none = omega (arith, mode-ge m)
 in_mode-le d m k e w few begun none = omega arith
 
-pub title_costs : (h : Half) → CostsAtMost 40 h (in_mode modes.TitleBefore h)
+pub title_costs : (h : Half) → CostsAtMost weight_of_text h (in_mode modes.TitleBefore h)
 title_costs h = omega (arith, in_mode-le h.reading.due h.reading.mode modes.TitleBefore h.reading.escape 40 (omega arith) (omega arith) refl)
 
 pub diverting_costs : (h : Half) → CostsAtMost 1 h (in_mode modes.Diverting h)
 diverting_costs h = omega (arith, in_mode-le h.reading.due h.reading.mode modes.Diverting h.reading.escape 1 (omega arith) (omega arith) refl)
 
-pub stand_costs : (s : Standing) (h : Half) → CostsAtMost 219 h (resumed s h)
+pub stand_costs : (s : Standing) (h : Half) → CostsAtMost cost_of_standing h (resumed s h)
 stand_costs standings.Start h = omega (arith, in_mode-le h.reading.due h.reading.mode modes.Start h.reading.escape 21 (omega arith) (omega arith) refl)
 stand_costs standings.Leading h = omega (arith, in_mode-le h.reading.due h.reading.mode (modes.Leading 1) h.reading.escape 41 (omega arith) (omega arith) refl)
 stand_costs standings.Text h = omega (arith, in_mode-le h.reading.due h.reading.mode modes.Text h.reading.escape 40 (omega arith) (omega arith) refl)
 stand_costs standings.Continued h = omega (arith, in_mode-le h.reading.due h.reading.mode modes.Continued h.reading.escape 41 (omega arith) (omega arith) refl)
 
-part_costs : (holds : Bool) (n : Notes) (h : Half) → CostsAtMost 22 h (in_mode (part_mode holds) (record h { notes = n }))
+part_costs : (holds : Bool) (n : Notes) (h : Half) → CostsAtMost weight_of_judged h (in_mode (part_mode holds) (record h { notes = n }))
 part_costs true n h = omega (arith, in_mode-le h.reading.due h.reading.mode modes.Accepted h.reading.escape 22 (omega arith) (omega arith) refl)
 part_costs false n h = omega (arith, in_mode-le h.reading.due h.reading.mode (modes.Skip 0) h.reading.escape 22 (omega arith) (omega arith) refl)
 
-pub judged_costs : (b : Bool) (h : Half) → CostsAtMost 22 h (judged b h)
+pub judged_costs : (b : Bool) (h : Half) → CostsAtMost weight_of_judged h (judged b h)
 judged_costs b h = part_costs (answer_of b h.notes) (remembering b h).notes h
 
-defining_costs : (h : Half) (name ending : List ℕ) (kept : Bool) → CostsAtMost 23 h (defining name ending kept h)
+defining_costs : (h : Half) (name ending : List ℕ) (kept : Bool) → CostsAtMost cost_of_defining h (defining name ending kept h)
 defining_costs h name ending kept = omega (arith, in_mode-le h.reading.due h.reading.mode (modes.BodyStart 0) h.reading.escape 23 (omega arith) (omega arith) refl)
 
 -- ---- definitions whose lines follow

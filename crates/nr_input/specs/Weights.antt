@@ -4,7 +4,7 @@ use Rattle.nr_store.specs.Store.{Stored, Built, Level, Read, Mark}
 use Rattle.nr_store.specs.declared.element.Diversion.{Diversion}
 use Rattle.nr_reading.specs.declared.event.Event.TheVariants as events
 use Rattle.nr_reading.specs.declared.half.Half.{Half}
-use Rattle.nr_reading.specs.Weights.{item_worth, cost_of_text, cost_of_event, weight_of_start, weight_of_half, blanks_owed}
+use Rattle.nr_reading.specs.Weights.{item_worth, cost_of_text, cost_of_event, weight_of_start, weight_of_text, weight_of_half, blanks_owed}
 use Rattle.nr_input.specs.declared.reader.Reader.{Reader}
 use Rattle.nr_input.specs.declared.refusal.Refusal.{Refusal}
 use Rattle.nr_input.specs.declared.told.Told.{Told}
@@ -107,6 +107,10 @@ Springs v r (Err e) v' r' = Unit {0}
 -- what is read was set anew: it weighs so much more at most
 abbrev pub CostsAtMost : ℕ → Half → Half → Type 0
 CostsAtMost most old new = weight_of_half new + cost_of_text * risen old new ≤ weight_of_half old + most
+
+-- a text line goes on where it stood: another blank of its beginning may be owed
+abbrev pub cost_of_standing : ℕ
+cost_of_standing = weight_of_text + 1 + cost_of_text
 
 -- the lines of a definition follow, from the beginning of one on
 abbrev pub cost_of_defining : ℕ

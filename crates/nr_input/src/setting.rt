@@ -11,13 +11,14 @@ impl Reader {
     ghost use Rattle.nr_reading.specs.Conditionals.{judged, in_mode};
     ghost use Rattle.nr_reading.specs.Mode.{standing_of};
     ghost use Rattle.nr_reading.specs.Setting.{with_control, with_no_break, with_long_names, not_continued, with_line, resumed};
+    ghost use Rattle.nr_reading.specs.Weights.{weight_of_text, weight_of_judged};
     ghost use Rattle.nr_input.specs.Acting.{on_half};
-    ghost use Rattle.nr_input.specs.Weights.{CostsAtMost};
+    ghost use Rattle.nr_input.specs.Weights.{CostsAtMost, cost_of_standing};
 
     /// The condition that was to be judged holds, or not. One that is not judged is rejected.
     pub fn accept(&mut self, holds: bool)
         ensures sets { self.new ≡ on_half (judged holds) self.old }
-        ensures costs { CostsAtMost 22 self.old.half self.new.half }
+        ensures costs { CostsAtMost weight_of_judged self.old.half self.new.half }
     {
         self.half.judge(holds);
     }
@@ -25,7 +26,7 @@ impl Reader {
     /// The line of a title is read.
     pub fn begin_title(&mut self)
         ensures sets { self.new ≡ on_half (in_mode modes.TitleBefore) self.old }
-        ensures costs { CostsAtMost 40 self.old.half self.new.half }
+        ensures costs { CostsAtMost weight_of_text self.old.half self.new.half }
     {
         self.half.begin_title();
     }
@@ -48,7 +49,7 @@ impl Reader {
     /// The line goes on there: of its leading blanks one was read.
     pub fn stand(&mut self, standing: Standing)
         ensures sets { self.new ≡ on_half (resumed standing) self.old }
-        ensures costs { CostsAtMost 219 self.old.half self.new.half }
+        ensures costs { CostsAtMost cost_of_standing self.old.half self.new.half }
     {
         self.half.stand(standing);
     }
