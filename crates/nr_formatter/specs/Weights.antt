@@ -73,8 +73,9 @@ abbrev pub weight_of_name : Option (List ℕ) → ℕ
 weight_of_name None = 0
 weight_of_name (Some name) = 1
 
--- ---- what is under way
+-- ---- what is under way: it weighs more than what it leads to
 
+-- each step of the end leaves 10 for what is under way until the next
 abbrev pub weight_of_step : Step → ℕ
 weight_of_step steps.NotYet = 50
 weight_of_step steps.FirstBreak = 40
