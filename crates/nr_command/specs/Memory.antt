@@ -21,9 +21,9 @@ pub data Taking : Type 0 where
 abbrev pub texts_of : Job → ℕ
 texts_of job = length (readings (asked_of job))
 
--- the buffers of its texts, 16 KiB for each
+-- the buffers of its texts, 8 KiB for each
 abbrev pub buffers_of : Job → Taking
-buffers_of job = Bytes (min (texts_of job * 16384) (2 ^ 64 - 1))
+buffers_of job = Bytes (min (texts_of job * 8192) (2 ^ 64 - 1))
 
 -- the list of its texts
 abbrev pub list_of : Job → Taking

@@ -17,7 +17,7 @@ use std::{fmt, io};
 use thiserror::Error;
 
 /// The bytes of the buffer of each text that is read.
-pub const BUFFER_SIZE: usize = 16_384;
+pub const BUFFER_SIZE: usize = 8_192;
 
 /// Where texts are opened, each over a buffer that is lent to it.
 pub trait Opener<'b> {
@@ -83,7 +83,7 @@ pub fn text_count(job: &Job<'_>) -> usize
 }
 
 /// Opens the texts that a job reads, each once, in the order in which they are read, up to the first that
-/// can't be, each over the next 16 KiB of the buffers as far as there are so many.
+/// can't be, each over the next 8 KiB of the buffers as far as there are so many.
 pub fn open_texts<'a, 'b, O: Opener<'b>, M: Memory>(
     memory: &mut M,
     opener: &mut O,

@@ -9,7 +9,7 @@ use std::alloc::{AllocError, Global};
 use std::io::Read;
 
 /// The bytes of a buffer. Each is written once before the first text is read.
-pub const BUFFER_SIZE: usize = 16_384;
+pub const BUFFER_SIZE: usize = 8_192;
 
 /// The buffers that texts are turned in.
 #[derive(Drop)]
