@@ -115,8 +115,8 @@ fn put_ending<E: Sink>(program: &str, ending: Ending<'_>, errors: &mut E)
 /// Tells how the program of this name ended, as far as `errors` takes the line, and gives the status.
 pub fn tell<E: Sink>(program: &str, ending: Ending<'_>, errors: &mut E) -> u8
     ensures status { result ≡ status_of ending.entry }
-    ensures told { Tells (E.held errors.old) (E.held errors.new) (E.failures errors.old) (E.failures errors.new)
-        (line_of program.now ending.entry) }
+    ensures told { Tells (E.held errors.old) (E.held errors.new) (E.failures errors.old)
+        (E.failures errors.new) (line_of program.now ending.entry) }
 {
     put_ending(program, ending, errors);
     status(ending)
