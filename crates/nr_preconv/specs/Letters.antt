@@ -17,6 +17,7 @@ use Rattle.nr_preconv.specs.Hyphens.{placed, begins_behind, leaving_hyphens, may
 use Rattle.nr_preconv.specs.Words.{met_words, begins_word}
 use Rattle.nr_preconv.specs.Endings.{with_byte, keeping, going_on, ended, ends_with, dropped, kept_or}
 use Rattle.nr_preconv.specs.Skipping.{skip, embed}
+use Rattle.nr_preconv.specs.Lines.{control}
 
 abbrev pub comment : Said → Half → Met
 comment said h = taken said (record (without_escape h) { before = Character Other; line = lines.Comment })
@@ -70,6 +71,16 @@ repeats b h = (b == code "R") && h.table
 abbrev pub acute : Half → Met
 acute h = kept_or (code "´") (keeping (code "'") h)
 
+abbrev pub is_start : Line → Bool
+is_start lines.Start = true
+is_start line = false
+
+-- A text line that begins with `\.` is a control line (groff reads it so), but in a definition it may be one within.
+abbrev pub dot : Half → Met
+dot h =
+    if h.defining || not (is_start h.line) then ends_with (code ".") h
+    else control false (code ".") (without_escape h)
+
 -- By the byte after the backslash. `\%` behind an opening bracket or a quote only keeps a word whole, and is no place to cut it.
 abbrev pub letter : ℕ → Half → Met
 letter b h =
@@ -90,6 +101,7 @@ letter b h =
     if b == code "$" then going_on b escapes.Argument h else
     if b == code "{" then brace h else
     if b == code "'" then acute h else
+    if b == code "." then dot h else
     if is_unnamed b then going_on b (escapes.Target kinds.Dropped) h else
     if is_skipped b && not (repeats b h) then skip h else
     if is_measured b then measured b h else ends_with b h
@@ -107,10 +119,6 @@ abbrev pub made_way : Line → Half → Met
 made_way (lines.Words words) h = word_made (met_words classes.Other says.Nothing words) h
 made_way lines.Condition h = left says.Nothing (record h { line = lines.Number })
 made_way line h = left says.Nothing h
-
-abbrev pub is_start : Line → Bool
-is_start lines.Start = true
-is_start line = false
 
 abbrev pub is_stored : Line → Bool
 is_stored lines.Stored = true

@@ -84,6 +84,17 @@ impl Half {
         self.kept_or(u32::from('´'))
     }
 
+    /// `\.`: where a text line begins with it, a control character. In a definition it may be that of a line within.
+    fn dot(&mut self) -> Seen
+        ensures { met self.new result ≡ specs.dot self.old }
+    {
+        if self.defining || !matches!(self.line, Line::Start) {
+            return self.ends_with(b'.');
+        }
+        self.forget();
+        self.control(false, b'.')
+    }
+
     /// In a table `\R` and a character is a field, the character repeated.
     fn repeats(&self, byte: u8) -> bool
         ensures { result ≡ specs.repeats byte self.now }
@@ -132,6 +143,7 @@ impl Half {
             b'$' => self.goes_on(byte, Escape::Argument),
             b'{' => self.brace(),
             b'\'' => self.acute(),
+            b'.' => self.dot(),
             _ if is_unnamed(byte) => self.goes_on(byte, Escape::Target(Kind::Dropped)),
             _ if is_skipped(byte) && !self.repeats(byte) => self.skip(),
             _ if is_measured(byte) => self.measured(byte),

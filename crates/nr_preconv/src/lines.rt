@@ -19,7 +19,7 @@ fn ends_name(byte: u8) -> bool
 
 impl Half {
     /// A control character begins a control line, after a condition or not.
-    fn control(&mut self, conditional: bool, byte: u8) -> Seen
+    pub(crate) fn control(&mut self, conditional: bool, byte: u8) -> Seen
         ensures { met self.new result ≡ specs.control conditional byte self.old }
     {
         self.name = Name::new();

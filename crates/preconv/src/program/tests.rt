@@ -12,7 +12,7 @@ struct Row {
     line: &'static [u8],
 }
 
-static TEXTS: [(&str, Page<'static>); 18] = [
+static TEXTS: [(&str, Page<'static>); 19] = [
     (
         "quotes",
         Page::Bytes(b"\xe2\x80\x9ca\xe2\x80\x9d \\(em \\fIb\\fP\n"),
@@ -29,6 +29,7 @@ static TEXTS: [(&str, Page<'static>); 18] = [
         "names",
         Page::Bytes(b".TH x\n(\\%a b\\%c \\%d \\f\\*[B]e\n"),
     ),
+    ("dots", Page::Bytes(b"\\.B a\nb \\.B\n.de c\n\\.B\n..\n")),
     // UTF-16, either byte of a unit first: a pair, a half of one, half a unit.
     (
         "little",
@@ -61,7 +62,7 @@ static TEXTS: [(&str, Page<'static>); 18] = [
     ("cut", Page::Cut(b"a\\~b\n.BR c\\(l")),
 ];
 
-static ROWS: [Row; 26] = [
+static ROWS: [Row; 27] = [
     Row {
         words: &[b"preconv"],
         output: b"cafe\n",
@@ -130,6 +131,13 @@ static ROWS: [Row; 26] = [
     Row {
         words: &[b"preconv", b"names"],
         output: b".TH x\n(a b\\%c \\%d \\f\\*[B]e\n",
+        status: 0,
+        line: b"",
+    },
+    // A text line that begins with `\.` is a control line, but in a definition.
+    Row {
+        words: &[b"preconv", b"dots"],
+        output: b".B a\nb \\.B\n.de c\n\\.B\n..\n",
         status: 0,
         line: b"",
     },
