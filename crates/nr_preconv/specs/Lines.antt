@@ -1,6 +1,6 @@
 -- Lines: control lines and their names, text lines, lines that pass as they are.
 use Prim.Native.Char.{code}
-use Rattle.std.specs.Prelude.{ℕ, List, [], ◌∷◌, ◌++◌, length, Bool, true, false, not, ◌==◌, ◌&&◌, ◌||◌, nat_le, if◌then◌else◌}
+use Rattle.std.specs.Prelude.{ℕ, List, [], ◌∷◌, ◌++◌, length, Bool, true, false, not, ◌==◌, ◌&&◌, ◌||◌, nat_le, if◌then◌else◌, codes}
 use Rattle.nr_units.specs.Name.{is_full}
 use Rattle.nr_preconv.specs.declared.said.Said.{Said}
 use Rattle.nr_preconv.specs.declared.said.Said.TheVariants.{Nothing, Byte, Kept}
@@ -67,6 +67,7 @@ line_of opens.Rest ignores = lines.Request
 line_of opens.Definition ignores = lines.Request
 line_of opens.End ignores = lines.Request
 line_of opens.Title ignores = lines.Request
+line_of opens.Paragraph ignores = lines.Paragraph
 line_of opens.Table ignores = lines.Request
 line_of opens.TableEnd ignores = lines.Request
 line_of opens.Ignored ignores = if ignores then lines.Ignored dots.Other else lines.Request
@@ -114,6 +115,15 @@ in_name b h =
 
 abbrev pub in_rest : ℕ → Half → Met
 in_rest b h = saying b (if b == code "\n" then lines.Start else h.line) h
+
+abbrev pub in_paragraph : ℕ → Half → Met
+in_paragraph b h = saying b (if b == code "\n" then lines.Behind else lines.Paragraph) h
+
+-- Text stands beside the tag that waits for it. An empty line leaves it below, as a break does.
+abbrev pub behind_paragraph : Bool → Half → Met
+behind_paragraph breaks h =
+    left (if breaks && turns_hyphens h then Kept (codes ".br\n") else Nothing)
+    (record h { line = lines.Start })
 
 abbrev pub as_met : Told → Half → Met
 as_met told h =
@@ -172,6 +182,8 @@ in_line_at lines.Braced b h = at_part b h
 in_line_at lines.Comment b h = taken (Byte b) (passing b h)
 in_line_at (lines.Ignored d) b h = taken (Byte b) (passing b h)
 in_line_at lines.Text b h = in_text b h
+in_line_at lines.Paragraph b h = in_paragraph b h
+in_line_at lines.Behind b h = behind_paragraph (b == code "\n") h
 in_line_at line b h = in_rest b h
 
 abbrev pub in_line : ℕ → Half → Met
@@ -187,6 +199,7 @@ wide_at lines.Start c h = showing c lines.Text h
 wide_at lines.Part c h = showing c lines.Text h
 wide_at lines.Braced c h = showing c lines.Text h
 wide_at lines.Condition c h = showing c lines.Text h
+wide_at lines.Behind c h = behind_paragraph false h
 wide_at lines.Control c h = blanks_said lines.Request h
 wide_at lines.Name c h = named_line (code " ") h
 wide_at (lines.Words words) c h =
@@ -202,6 +215,7 @@ wide_in_line c h = wide_at h.line c h
 abbrev pub takes_escape : Line → Bool
 takes_escape lines.Control = false
 takes_escape lines.Name = false
+takes_escape lines.Behind = false
 takes_escape (lines.Asked asked) = false
 takes_escape lines.Comment = false
 takes_escape (lines.Ignored dots) = false

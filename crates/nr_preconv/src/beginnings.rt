@@ -30,6 +30,8 @@ pub(crate) enum Opens {
     Nop,
     /// The title of a manual page.
     Title,
+    /// A paragraph with a tag in the same line.
+    Paragraph,
     /// A table.
     Table,
     /// Its end.
@@ -39,7 +41,7 @@ pub(crate) enum Opens {
 }
 
 /// The names that are of account here.
-static OPENING: [(u8, u8, Opens); 41] = [
+static OPENING: [(u8, u8, Opens); 42] = [
     (b'.', b' ', Opens::End),
     (b'd', b'e', Opens::Definition),
     (b'a', b'm', Opens::Definition),
@@ -51,6 +53,7 @@ static OPENING: [(u8, u8, Opens); 41] = [
     (b'd', b's', Opens::Stored),
     (b'a', b's', Opens::Stored),
     (b'T', b'H', Opens::Title),
+    (b'I', b'P', Opens::Paragraph),
     (b'T', b'S', Opens::Table),
     (b'T', b'E', Opens::TableEnd),
     (b'B', b' ', Opens::Words(Fonts::One)),

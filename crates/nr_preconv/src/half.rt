@@ -21,6 +21,10 @@ pub(crate) enum Line {
     Text,
     /// In the rest of a control line.
     Request,
+    /// In the rest of a line `.IP`, behind which a paragraph begins.
+    Paragraph,
+    /// At the beginning of the line behind one.
+    Behind,
     /// In the text of a string, which may have two backslashes for one.
     Stored,
     /// In a line of `.tr`.

@@ -102,6 +102,7 @@ impl Half {
         self.line = match opens {
             Opens::Rest | Opens::Definition | Opens::End => Line::Request,
             Opens::Title | Opens::Table | Opens::TableEnd => Line::Request,
+            Opens::Paragraph => Line::Paragraph,
             Opens::Ignored if byte == b'\n' && !self.conditional => Line::Ignored(Dots::Other),
             Opens::Ignored => Line::Request,
             Opens::Condition => Line::Condition,
@@ -155,6 +156,29 @@ impl Half {
             self.line
         };
         self.says(byte, line)
+    }
+
+    /// A byte of the rest of a line `.IP`.
+    fn in_paragraph(&mut self, byte: u8) -> Seen
+        ensures { met self.new result ≡ specs.in_paragraph byte self.old }
+    {
+        let line = if byte == b'\n' {
+            Line::Behind
+        } else {
+            Line::Paragraph
+        };
+        self.says(byte, line)
+    }
+
+    /// The line behind one begins as any other, but in a manual page an empty one breaks first.
+    fn behind_paragraph(&mut self, breaks: bool) -> Seen
+        ensures { met self.new result ≡ specs.behind_paragraph breaks self.old }
+    {
+        self.line = Line::Start;
+        if breaks && self.turns_hyphens() {
+            return Seen::left(Said::Kept(Name::of(b".br\n")));
+        }
+        Seen::left(Said::Nothing)
     }
 
     /// A character among words that goes out as `said` elsewhere.
@@ -219,6 +243,8 @@ impl Half {
             Line::Part | Line::Braced => self.at_part(byte),
             Line::Text => self.in_text(byte),
             Line::Request | Line::Stored | Line::Translation => self.in_rest(byte),
+            Line::Paragraph => self.in_paragraph(byte),
+            Line::Behind => self.behind_paragraph(byte == b'\n'),
             Line::Comment | Line::Ignored(_) => {
                 self.passes(byte);
                 Seen::taken(Said::Byte(byte))
@@ -245,6 +271,7 @@ impl Half {
                 code,
                 Line::Text,
             ),
+            Line::Behind => self.behind_paragraph(false),
             Line::Control => self.blanks_said(Line::Request),
             Line::Name => self.named_line(b' '),
             Line::Words(words) => {
@@ -262,7 +289,12 @@ impl Half {
     {
         !matches!(
             self.line,
-            Line::Control | Line::Name | Line::Asked(_) | Line::Comment | Line::Ignored(_)
+            Line::Control
+                | Line::Name
+                | Line::Behind
+                | Line::Asked(_)
+                | Line::Comment
+                | Line::Ignored(_)
         )
     }
 }

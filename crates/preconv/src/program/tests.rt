@@ -12,7 +12,7 @@ struct Row {
     line: &'static [u8],
 }
 
-static TEXTS: [(&str, Page<'static>); 19] = [
+static TEXTS: [(&str, Page<'static>); 20] = [
     (
         "quotes",
         Page::Bytes(b"\xe2\x80\x9ca\xe2\x80\x9d \\(em \\fIb\\fP\n"),
@@ -30,6 +30,12 @@ static TEXTS: [(&str, Page<'static>); 19] = [
         Page::Bytes(b".TH x\n(\\%a b\\%c \\%d \\f\\*[B]e\n"),
     ),
     ("dots", Page::Bytes(b"\\.B a\nb \\.B\n.de c\n\\.B\n..\n")),
+    (
+        "tags",
+        Page::Bytes(
+            b".IP a\n\n.TH x\n.IP a\n\nb\n.IP\n\xc3\xa9\n.TS\n.IP\n\n.TE\n.IP \\(bu\n\\&c\n",
+        ),
+    ),
     // UTF-16, either byte of a unit first: a pair, a half of one, half a unit.
     (
         "little",
@@ -62,7 +68,7 @@ static TEXTS: [(&str, Page<'static>); 19] = [
     ("cut", Page::Cut(b"a\\~b\n.BR c\\(l")),
 ];
 
-static ROWS: [Row; 27] = [
+static ROWS: [Row; 28] = [
     Row {
         words: &[b"preconv"],
         output: b"cafe\n",
@@ -138,6 +144,13 @@ static ROWS: [Row; 27] = [
     Row {
         words: &[b"preconv", b"dots"],
         output: b".B a\nb \\.B\n.de c\n\\.B\n..\n",
+        status: 0,
+        line: b"",
+    },
+    // In a manual page an empty line behind `.IP` breaks first, but in a table.
+    Row {
+        words: &[b"preconv", b"tags"],
+        output: b".IP a\n\n.TH x\n.IP a\n.br\n\nb\n.IP\ne\n.TS\n.IP\n\n.TE\n.IP \\(bu\n\\&c\n",
         status: 0,
         line: b"",
     },
