@@ -100,7 +100,7 @@ bars_kept t r told = if has_bars_of t told.bars r then [] else bars_set t r told
 
 abbrev pub bars_drawn : Table → ℕ → List ℕ
 bars_drawn t r =
-    codes ".nr *t " ++ height_text t r ++ codes "/1v-1\n.ie \\n(*t<7 .*b\\n(*t\n.el .*A\n"
+    codes ".nr *t " ++ height_text t r ++ codes "/1v-1\n.if \\n(*t>6 .*A\n.*b\\n(*t\n"
 
 abbrev pub more_bars : Table → ℕ → Told → List Stroke
 more_bars t r told = bars_kept t r told ++ Bytes (bars_drawn t r) ∷ []

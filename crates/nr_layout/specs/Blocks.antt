@@ -156,13 +156,21 @@ grown_width c =
     parts (codes ".if \\n(dl>\\n[*w" ∷ decimal c ∷ codes "] \\{.nr *w" ∷ decimal c ∷ [])
     ++ codes " \\n(dl\n.if \\n(dl>\\n(.l .ll \\n(dlu\\}\n"
 
-abbrev pub one_width : Cell → List ℕ
-one_width f =
-    if f.key.kind == code "a" then most_of f.first (parts (codes "\\n(dlu+2n" ∷ []))
-    else grown_width f.first
+-- where the column has a width `*S` is that, and the line's length
+abbrev pub grown_line : ℕ → List ℕ
+grown_line c =
+    parts (codes ".if \\n(dl>\\n(*S \\{.nr *w" ∷ decimal c
+    ∷ codes " \\n(dl\n.nr *S \\n(dl\n.ll \\n(dlu\\}\n" ∷ [])
+
+abbrev pub grown : Table → Cell → List ℕ
+grown t f = if has_width t f then grown_line f.first else grown_width f.first
+
+abbrev pub one_width : Table → Cell → List ℕ
+one_width t f =
+    if f.key.kind == code "a" then most_of f.first (parts (codes "\\n(dlu+2n" ∷ [])) else grown t f
 
 abbrev pub column_width : Table → Cell → List ℕ
-column_width t f = if spans f then spread_width t f else one_width f
+column_width t f = if spans f then spread_width t f else one_width t f
 
 abbrev pub size_text : Table → Cell → List ℕ
 size_text t f =

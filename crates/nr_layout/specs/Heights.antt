@@ -55,7 +55,7 @@ has_one t r =
 
 abbrev pub tall_of : Table → ℕ → Tall
 tall_of t r =
-    if has_none t r then (row t r).tall else
+    if has_none t r then talls.Line else
     if has_one t r then talls.Block (only_block t r).name else talls.Told
 
 abbrev pub with_tall : ℕ → Tall → Table → Table
@@ -147,8 +147,9 @@ least_height t r = line (codes ".nr *h_" ∷ decimal (row t r).item ∷ codes " 
 abbrev pub told_height : Table → ℕ → List ℕ
 told_height t r = least_height t r ++ most_heights t r true ++ most_heights t r false
 
-abbrev pub row_height : Table → ℕ → List ℕ
-row_height t r = if has_none t r || has_one t r then [] else told_height t r
+abbrev pub row_height : Tall → Table → ℕ → List ℕ
+row_height talls.Told t r = told_height t r
+row_height tall t r = []
 
 -- ---- row after row
 
@@ -160,7 +161,7 @@ rated_rows n t = in_turn n rated t
 
 -- what blocks need is said of a table whose rows so far are rated
 abbrev pub rated_text : Table → ℕ → List ℕ
-rated_text t r = if (row t r).own then row_height (with_tall r (tall_of t r) t) r else []
+rated_text t r = if (row t r).own then row_height (tall_of t r) (with_tall r (tall_of t r) t) r else []
 
 abbrev pub row_heights : Table → List ℕ
 row_heights t = joined (length t.rows.items) (λ r. rated_text (rated_rows r t) r)

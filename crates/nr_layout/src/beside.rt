@@ -230,7 +230,7 @@ impl Table {
     {
         out.add(b".nr *t ");
         self.put_height(row, out);
-        out.add(b"/1v-1\n.ie \\n(*t<7 .*b\\n(*t\n.el .*A\n");
+        out.add(b"/1v-1\n.if \\n(*t>6 .*A\n.*b\\n(*t\n");
     }
 
     /// The bars of the other lines of a row that is higher than one.

@@ -189,6 +189,18 @@ fn put_grown_width<W: Sink>(column: usize, out: &mut Out<'_, W>)
     out.add(b" \\n(dl\n.if \\n(dl>\\n(.l .ll \\n(dlu\\}\n");
 }
 
+/// A column that has a width is as wide as the block that was set, if that is wider, and so is `*S`, which is that width, and
+/// the line.
+fn put_grown_line<W: Sink>(column: usize, out: &mut Out<'_, W>)
+    ensures { Draws out.old out.new (Bytes (specs.grown_line column) ∷ []) }
+{
+    out.pieces(&[
+        T(b".if \\n(dl>\\n(*S \\{.nr *w"),
+        N(column),
+        T(b" \\n(dl\n.nr *S \\n(dl\n.ll \\n(dlu\\}\n"),
+    ]);
+}
+
 /// How wide a block is, where that says where it begins.
 fn put_own_width<W: Sink>(cell: Cell, out: &mut Out<'_, W>)
     ensures { Draws out.old out.new (Bytes (specs.own_width cell) ∷ []) }
@@ -419,14 +431,24 @@ impl Table {
         self.put_widening(cell.first, cell.last, out);
     }
 
+    /// The column of a block that its letter doesn't indent is as wide as it.
+    fn put_grown<W: Sink>(&self, cell: Cell, out: &mut Out<'_, W>)
+        ensures { Draws out.old out.new (Bytes (specs.grown self.now cell) ∷ []) }
+    {
+        if self.has_width(cell) {
+            return put_grown_line(cell.first, out);
+        }
+        put_grown_width(cell.first, out);
+    }
+
     /// The column of a block is as wide as it.
     fn put_one_width<W: Sink>(&self, cell: Cell, out: &mut Out<'_, W>)
-        ensures { Draws out.old out.new (Bytes (specs.one_width cell) ∷ []) }
+        ensures { Draws out.old out.new (Bytes (specs.one_width self.now cell) ∷ []) }
     {
         if cell.key.kind == b'a' {
             return self.most_of(cell.first, &[T(b"\\n(dlu+2n")], out);
         }
-        put_grown_width(cell.first, out);
+        self.put_grown(cell, out);
     }
 
     /// The columns of a block are as wide as it.

@@ -109,7 +109,7 @@ impl Table {
         ensures { result ≡ specs.tall_of self.now row }
     {
         if self.has_none(row) {
-            return self.row(row).tall;
+            return Tall::Line;
         }
         if self.has_one(row) {
             return Tall::Block(self.only_block(row).name);
@@ -142,14 +142,14 @@ impl Table {
         self.put_most_heights(row, false, out);
     }
 
-    /// How high a row is, where no block says it.
-    fn put_row_height<W: Sink>(&self, row: usize, out: &mut Out<'_, W>)
-        ensures { Draws out.old out.new (Bytes (specs.row_height self.now row) ∷ []) }
+    /// How high a row is, if a register is to say it.
+    fn put_row_height<W: Sink>(&self, tall: Tall, row: usize, out: &mut Out<'_, W>)
+        ensures { Draws out.old out.new (Bytes (specs.row_height tall self.now row) ∷ []) }
     {
-        if self.has_none(row) || self.has_one(row) {
-            return;
+        match tall {
+            Tall::Told => self.put_told_height(row, out),
+            _ => out.add(b""),
         }
-        self.put_told_height(row, out);
     }
 
     /// How high a row is, and what it is as high as from here on.
@@ -161,8 +161,9 @@ impl Table {
         if !self.row(row).own {
             return;
         }
-        self.set_tall(row, self.tall_of(row));
-        self.put_row_height(row, out);
+        let tall = self.tall_of(row);
+        self.set_tall(row, tall);
+        self.put_row_height(tall, row, out);
     }
 
     /// The last block of a row, or what was found before.
