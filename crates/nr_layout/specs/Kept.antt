@@ -67,12 +67,25 @@ is_rule_like t rule (Some other) = is_same_rule t rule other
 abbrev pub count_rules : Table → Between → ℕ
 count_rules t rule = total 0 (length t.steps.items) (λ n. count (is_rule_like t rule (rule_at t n)))
 
-abbrev pub often_of : Table → Option Between → Option Between
-often_of t None = None
-often_of t (Some rule) = if nat_lt 3 (count_rules t rule) then Some rule else None
+abbrev pub count_alike : Table → Option Between → ℕ
+count_alike t None = 0
+count_alike t (Some rule) = count_rules t rule
 
-abbrev pub often_rule : Table → Option Between
-often_rule t = often_of t (middle_rule t)
+abbrev pub if_often : Option Between → ℕ → Option Between
+if_often rule n = if nat_lt 3 n then rule else None
+
+abbrev pub is_kept : {A : Type 0} → Option A → Bool
+is_kept None = false
+is_kept (Some x) = true
+
+abbrev pub is_rule_at : Table → ℕ → Bool
+is_rule_at t n = is_kept (rule_at t n)
+
+abbrev pub all_rules : Table → ℕ
+all_rules t = total 0 (length t.steps.items) (λ n. count (is_rule_at t n))
+
+abbrev pub are_all_rules : Table → ℕ → Bool
+are_all_rules t n = nat_lt 3 n && (n == all_rules t)
 
 abbrev pub row_of : StepKind → Option ℕ
 row_of (steps.Row r) = Some r
@@ -112,13 +125,14 @@ is_known t = all_below (columns t) (is_column_known t)
 -- where all columns are known nothing is kept
 abbrev pub strings_chosen : Table → Told → Told
 strings_chosen t told =
-    if is_known t then told else record told { rule = often_rule t; string = often_barred t }
+    if is_known t then told else
+    record told {
+      rule = if_often (middle_rule t) (count_alike t (middle_rule t));
+      alike = are_all_rules t (count_alike t (middle_rule t));
+      string = often_barred t;
+    }
 
 -- ---- what is kept
-
-abbrev pub is_kept : {A : Type 0} → Option A → Bool
-is_kept None = false
-is_kept (Some x) = true
 
 abbrev pub rule_line : Table → Between → List Stroke
 rule_line t rule = whole (rule_strokes t rule.0 rule.1 None) true
@@ -158,7 +172,7 @@ is_like t (Some kept) rule = is_same_rule t kept rule
 
 abbrev pub rule_or_string : Table → Between → Told → List Stroke
 rule_or_string t rule told =
-    if is_like t told.rule rule then Bytes (codes ".*s0\n") ∷ [] else rule_line t rule
+    if told.alike || is_like t told.rule rule then Bytes (codes ".*s0\n") ∷ [] else rule_line t rule
 
 abbrev pub are_like : Table → Option ℕ → ℕ → Bool
 are_like t None r = false

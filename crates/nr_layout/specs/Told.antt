@@ -37,6 +37,7 @@ nothing_told =
       columns = None;
       bars = None;
       rule = None;
+      alike = false;
       string = None;
     }
 

@@ -29,6 +29,13 @@ fn or_given<T: Copy>(found: Option<T>, other: Option<T>) -> Option<T>
     }
 }
 
+/// A rule, if so many of it are often.
+fn if_often(rule: Option<Between>, count: usize) -> Option<Between>
+    ensures { result ≡ specs.if_often rule count }
+{
+    if count > OFTEN { rule } else { None }
+}
+
 /// Whether a line is kept.
 fn has_strings(told: Told) -> bool
     ensures { result ≡ specs.has_strings told }
@@ -133,20 +140,39 @@ impl Table {
         count
     }
 
-    /// The rule in the middle, if it stands often.
-    fn often_rule(&self) -> Option<Between>
-        ensures { result ≡ specs.often_rule self.now }
+    /// How many rules look like this one, if there is one.
+    fn count_alike(&self, rule: Option<Between>) -> usize
+        ensures { result ≡ specs.count_alike self.now rule }
     {
-        match self.middle_rule() {
-            Some(rule) => {
-                if self.count_rules(rule) > OFTEN {
-                    Some(rule)
-                } else {
-                    None
-                }
-            }
-            None => None,
+        match rule {
+            Some(rule) => self.count_rules(rule),
+            None => 0,
         }
+    }
+
+    /// Whether a step is a rule.
+    fn is_rule_at(&self, number: usize) -> bool
+        ensures { result ≡ specs.is_rule_at self.now number }
+    {
+        self.rule_at(number).is_some()
+    }
+
+    /// How many rules there are.
+    fn count_all_rules(&self) -> usize
+        ensures { result ≡ specs.all_rules self.now }
+    {
+        let mut count: usize = 0;
+        for number in 0..self.steps.len() {
+            count = count.saturating_add(count_of(self.is_rule_at(number)));
+        }
+        count
+    }
+
+    /// Whether so many rules are all.
+    fn are_all_rules(&self, count: usize) -> bool
+        ensures { result ≡ specs.are_all_rules self.now count }
+    {
+        count > OFTEN && count == self.count_all_rules()
     }
 
     /// A step's row.
@@ -226,8 +252,11 @@ impl Table {
         if self.is_known() {
             return told;
         }
+        let rule = self.middle_rule();
+        let count = self.count_alike(rule);
         Told {
-            rule: self.often_rule(),
+            rule: if_often(rule, count),
+            alike: self.are_all_rules(count),
             string: self.often_barred(),
             ..told
         }
@@ -379,7 +408,7 @@ impl Table {
     pub(crate) fn put_rule<W: Sink>(&self, rule: Between, told: Told, out: &mut Out<'_, W>)
         ensures { Draws out.old out.new (specs.rule_or_string self.now rule told) }
     {
-        if self.is_like(told.rule, rule) {
+        if told.alike || self.is_like(told.rule, rule) {
             return out.add(b".*s0\n");
         }
         self.put_rule_line(rule.0, rule.1, None, true, out);

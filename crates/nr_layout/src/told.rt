@@ -29,6 +29,8 @@ pub(crate) struct Told {
     pub bars: Option<usize>,
     /// The rule that is kept in a diversion.
     pub rule: Option<(Option<usize>, Option<usize>)>,
+    /// All rules look like it.
+    pub alike: bool,
     /// The row whose bars are.
     pub string: Option<usize>,
 }
@@ -46,6 +48,7 @@ impl Told {
             columns: None,
             bars: None,
             rule: None,
+            alike: false,
             string: None,
         }
     }
