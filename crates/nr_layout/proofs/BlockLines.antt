@@ -2,8 +2,8 @@
 use Rattle.std.proofs.Common.{◌≡◌, ℕ, ◌+◌, ◌-◌, ◌<◌, ◌≤◌, ◌==◌, List, [], ◌∷◌, ◌++◌, length, get_or, take, drop, Bool, true, false, sym, ap, ◌∙◌, arith, eq-eqb, length-drop, if◌then◌else◌}
 use Rattle.std.proofs.lemmas.Bool.Decides.{nat_tests}
 use Rattle.std.proofs.lemmas.List.{drop_more, get_or-drop, take_more}
-use Rattle.nr_layout.specs.declared.blocks.Lines.{Lines}
-use Rattle.nr_layout.specs.Blocks.{lines_from, with_line}
+use Rattle.nr_layout.specs.declared.block_lines.Lines.{Lines}
+use Rattle.nr_layout.specs.BlockLines.{lines_from, with_line}
 
 not_ten : (b : ℕ) → (b ≡ 10 → ⊥) → (b == 10) ≡ false
 not_ten b other = grind (arith, nat_tests)

@@ -3,7 +3,6 @@
 -- the line that its columns are of all columns and one, if that is more.
 use Rattle.std.specs.Prelude.{ℕ, ◌-◌, Bool, true, false, ◌==◌, ◌&&◌, ◌||◌, not, List, [], ◌∷◌, ◌++◌, length, Option, None, Some, codes, decimal, if◌then◌else◌}
 use Prim.Native.Char.{code}
-use Rattle.nr_layout.specs.declared.blocks.Lines.{Lines}
 use Rattle.nr_layout.specs.declared.table.Cell.{Cell}
 use Rattle.nr_layout.specs.declared.table.Span.{Span}
 use Rattle.nr_layout.specs.declared.table.Table.{Table}
@@ -13,7 +12,6 @@ use Rattle.nr_layout.specs.Held.{cell_of, column, columns, is_block, text_of}
 use Rattle.nr_layout.specs.Lists.{in_turn}
 use Rattle.nr_layout.specs.Places.{sum}
 use Rattle.nr_layout.specs.Registers.{most_of}
-use Rattle.nr_layout.specs.Requests.{adjusts, is_soft, prints}
 use Rattle.nr_layout.specs.Sequences.{all_below, joined, some_below}
 use Rattle.nr_layout.specs.Widening.{total_text, widening_text}
 use Rattle.nr_layout.specs.Writing.{line, parts}
@@ -21,50 +19,10 @@ use Rattle.nr_layout.specs.Writing.{line, parts}
 abbrev pub is_same : Bool → Bool → Bool
 is_same a b = if a then b else not b
 
--- ---- what the lines of a block do
-
--- a backslash and an f stand in a text
-abbrev pub has_font_after : ℕ → List ℕ → Bool
-has_font_after before [] = false
-has_font_after before (b ∷ bs) =
-    if (before == code "\\") && (b == code "f") then true else has_font_after b bs
-
-abbrev pub has_font : List ℕ → Bool
-has_font text = has_font_after 0 text
-
-abbrev pub no_lines : Lines
-no_lines = record { adjusts = false; clean = true; prints = false }
-
-abbrev pub is_request : List ℕ → Bool
-is_request [] = false
-is_request (b ∷ bs) = (b == code ".") || (b == code "'")
-
-abbrev pub with_line : Lines → List ℕ → Lines
-with_line ls text = record {
-  adjusts = ls.adjusts || adjusts text;
-  clean = ls.clean && (not (is_request text) || is_soft text);
-  prints = ls.prints || prints text;
-}
-
--- each ends with a newline; what is read of the last one stands before the rest
-abbrev pub lines_from : Lines → List ℕ → List ℕ → Lines
-lines_from ls read [] = ls
-lines_from ls read (b ∷ bs) =
-    if b == code "\n" then lines_from (with_line ls read) [] bs else lines_from ls (read ++ b ∷ []) bs
-
-abbrev pub lines_in : List ℕ → Lines
-lines_in text = lines_from no_lines [] text
-
-abbrev pub lines_of_text : List ℕ → Lines
-lines_of_text text = record (lines_in text) { clean = (lines_in text).clean && not (has_font text) }
-
-abbrev pub lines_of : Table → Cell → Lines
-lines_of t f = lines_of_text (text_of t f.field.span)
-
 -- ---- how lines are adjusted is found by one that is spread, where a block changes it
 
 abbrev pub changes_adjusting : Table → ℕ → Bool
-changes_adjusting t n = is_block (cell_of t n).field.form && (lines_of t (cell_of t n)).adjusts
+changes_adjusting t n = is_block (cell_of t n).field.form && (cell_of t n).lines.adjusts
 
 abbrev pub has_adjusting : Table → Bool
 has_adjusting t = some_below (length t.cells.items) (changes_adjusting t)
@@ -179,11 +137,11 @@ size_text t f =
 -- ---- a block is set
 
 -- the one before may have changed how lines are adjusted, and this one doesn't
-abbrev pub was_changed : Table → Cell → Told → Bool
-was_changed t f told = told.changed && not (lines_of t f).adjusts
+abbrev pub was_changed : Cell → Told → Bool
+was_changed f told = told.changed && not f.lines.adjusts
 
 abbrev pub adjust_before : Table → Cell → Told → List ℕ
-adjust_before t f told = if was_changed t f told then adjust_text else []
+adjust_before t f told = if was_changed f told then adjust_text else []
 
 abbrev pub clean_before : Told → List ℕ
 clean_before told = if told.clean then [] else codes ".ft R\n.in 0\n.fi\n"
@@ -211,11 +169,11 @@ block_text t f told =
 abbrev pub lined_columns : Cell → Option (ℕ × ℕ)
 lined_columns f = if f.key.kind == code "a" then None else Some (f.first, f.last)
 
-abbrev pub block_told : Table → Cell → Told → Told
-block_told t f told =
+abbrev pub block_told : Cell → Told → Told
+block_told f told =
     record told {
-      changed = (lines_of t f).adjusts;
-      clean = (lines_of t f).clean;
+      changed = f.lines.adjusts;
+      clean = f.lines.clean;
       columns = lined_columns f;
     }
 
@@ -228,7 +186,7 @@ abbrev pub block_at : Table → Bool → ℕ → Told → List ℕ
 block_at t wide n told = if is_due t wide (cell_of t n) then block_text t (cell_of t n) told else []
 
 abbrev pub told_at : Table → Bool → ℕ → Told → Told
-told_at t wide n told = if is_due t wide (cell_of t n) then block_told t (cell_of t n) told else told
+told_at t wide n told = if is_due t wide (cell_of t n) then block_told (cell_of t n) told else told
 
 -- after the first cells
 abbrev pub told_below : Table → Bool → Told → ℕ → Told

@@ -2,6 +2,7 @@
 -- covered by one field: that which begins there, the one to its left over which s goes on, or the one above that goes on downward.
 use Rattle.std.specs.Prelude.{ℕ, zero, suc, ◌+◌, ◌-◌, min, Bool, true, false, ◌==◌, ◌&&◌, ◌||◌, not, nat_lt, length, Option, Some, if◌then◌else◌}
 use Prim.Native.Char.{code}
+use Rattle.nr_layout.specs.declared.block_lines.Lines.{Lines}
 use Rattle.nr_layout.specs.declared.table.Cell.{Cell}
 use Rattle.nr_layout.specs.declared.table.Field.{Field}
 use Rattle.nr_layout.specs.declared.table.Form.{Form}
@@ -10,8 +11,9 @@ use Rattle.nr_layout.specs.declared.table.Key.{Key}
 use Rattle.nr_layout.specs.declared.table.Line.{Line}
 use Rattle.nr_layout.specs.declared.table.Row.{Row}
 use Rattle.nr_layout.specs.declared.table.Table.{Table}
+use Rattle.nr_layout.specs.BlockLines.{lines_of_text, no_lines}
 use Rattle.nr_layout.specs.Extent.{cells_of}
-use Rattle.nr_layout.specs.Held.{cell_number, cell_of, columns, field, has_text, is_text, key, line, no_cell, no_field, none_of, row, text_of}
+use Rattle.nr_layout.specs.Held.{cell_number, cell_of, columns, field, has_text, is_block, is_text, key, line, no_cell, no_field, none_of, row, text_of}
 use Rattle.nr_layout.specs.Lists.{added, added_each, in_turn, put}
 use Rattle.nr_layout.specs.Places.{sum}
 
@@ -62,6 +64,10 @@ gone_on r first last t = over first last (gone_on_at r) t
 abbrev pub field_width : Table → Field → Option ℕ
 field_width t f = if is_text f.form then cells_of (text_of t f.span) else Some 0
 
+-- what its lines do, if it is a block
+abbrev pub field_lines : Table → Field → Lines
+field_lines t f = if is_block f.form then lines_of_text (text_of t f.span) else no_lines
+
 abbrev pub placed_form : Key → Field → Field
 placed_form k f = record f { form = if is_ruled k f then forms.Rule else f.form }
 
@@ -75,6 +81,7 @@ new_cell t r k f first last =
       top = r;
       bottom = r;
       width = field_width t f;
+      lines = field_lines t f;
     }
 
 abbrev pub placed_field : ℕ → Key → Field → ℕ → ℕ → Table → Table

@@ -9,7 +9,7 @@ use Rattle.nr_layout.specs.declared.table.Row.{Row}
 use Rattle.nr_layout.specs.declared.table.Table.{Table}
 use Rattle.nr_layout.specs.declared.table.Tall.{Tall}
 use Rattle.nr_layout.specs.declared.table.Tall.TheVariants as talls
-use Rattle.nr_layout.specs.Blocks.{is_same, lines_of}
+use Rattle.nr_layout.specs.Blocks.{is_same}
 use Rattle.nr_layout.specs.Frames.{count, has_bars}
 use Rattle.nr_layout.specs.Held.{cell, columns, is_all, is_block, is_boxed, is_double, item, row}
 use Rattle.nr_layout.specs.Lists.{in_turn, put}
@@ -51,7 +51,7 @@ has_none t r = (count_blocks t r true == 0) && (count_blocks t r false == 0)
 -- one block alone, which surely prints something
 abbrev pub has_one : Table → ℕ → Bool
 has_one t r =
-    (count_blocks t r true == 1) && (count_blocks t r false == 0) && (lines_of t (only_block t r)).prints
+    (count_blocks t r true == 1) && (count_blocks t r false == 0) && (only_block t r).lines.prints
 
 abbrev pub tall_of : Table → ℕ → Tall
 tall_of t r =

@@ -22,6 +22,7 @@ use Rattle.nr_layout.specs.declared.table.Step.{Step}
 use Rattle.nr_layout.specs.declared.table.StepKind.TheVariants as steps
 use Rattle.nr_layout.specs.declared.table.Table.{Table}
 use Rattle.nr_layout.specs.declared.table.Tall.TheVariants as talls
+use Rattle.nr_layout.specs.BlockLines.{no_lines}
 use Rattle.nr_layout.specs.Places.{edge, sum}
 use Rattle.nr_units.specs.Items.{Items}
 
@@ -77,6 +78,7 @@ no_cell =
       bottom = 0;
       falls = false;
       width = Some 0;
+      lines = no_lines;
       name = 0;
       stored = false;
       line = 0;

@@ -1,4 +1,5 @@
 pub mod Beside
+pub mod BlockLines
 pub mod Blocks
 pub mod Cells
 pub mod Columns

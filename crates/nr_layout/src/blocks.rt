@@ -7,94 +7,11 @@ ghost use Rattle.nr_layout.specs.Pens.{Bytes};
 ghost use Rattle.nr_layout.specs.Tapes.{Draws};
 
 use super::heights::is_same;
-use super::requests::{adjusts, is_soft, prints};
 use super::table::{Cell, Form, Table};
 use super::told::Told;
 use super::writing::{Out, Piece};
 use Piece::{N, T};
 use nr_units::sink::Sink;
-
-/// What the lines of a block do.
-#[derive(Clone, Copy)]
-pub(crate) struct Lines {
-    /// One changes how lines are adjusted.
-    adjusts: bool,
-    /// All leave indent, filling and font.
-    clean: bool,
-    /// One surely prints something.
-    pub prints: bool,
-}
-
-/// Whether a text changes its font.
-fn has_font(text: &[u8]) -> bool
-    ensures { result ≡ specs.has_font text.now }
-{
-    let mut before = 0;
-    for byte in text {
-        if before == b'\\' && *byte == b'f' {
-            return true;
-        }
-        before = *byte;
-    }
-    false
-}
-
-/// Whether a line is a request.
-fn is_request(line: &[u8]) -> bool
-    ensures { result ≡ specs.is_request line.now }
-{
-    !line.is_empty() && (line[0] == b'.' || line[0] == b'\'')
-}
-
-impl Lines {
-    /// No line was read.
-    fn new() -> Lines
-        ensures { result ≡ specs.no_lines }
-    {
-        Lines {
-            adjusts: false,
-            clean: true,
-            prints: false,
-        }
-    }
-
-    /// With one line more.
-    fn with(self, line: &[u8]) -> Lines
-        ensures { result ≡ specs.with_line self line.now }
-    {
-        Lines {
-            adjusts: self.adjusts || adjusts(line),
-            clean: self.clean && (!is_request(line) || is_soft(line)),
-            prints: self.prints || prints(line),
-        }
-    }
-
-    /// The lines of a text, each of which ends with a newline.
-    fn read(text: &[u8]) -> Lines
-        ensures { result ≡ specs.lines_in text.now }
-    {
-        let mut lines = Lines::new();
-        let mut start = 0;
-        for (at, byte) in text.iter().enumerate() {
-            if *byte == b'\n' && start <= at {
-                lines = lines.with(&text[start..at]);
-                start = at + 1;
-            }
-        }
-        lines
-    }
-
-    /// What the lines of a text do.
-    fn of(text: &[u8]) -> Lines
-        ensures { result ≡ specs.lines_of_text text.now }
-    {
-        let lines = Lines::read(text);
-        Lines {
-            clean: lines.clean && !has_font(text),
-            ..lines
-        }
-    }
-}
 
 /// The letter of a field that stands in the middle of its columns or at their right.
 fn is_moved(kind: u8) -> bool
@@ -210,6 +127,25 @@ fn put_own_width<W: Sink>(cell: Cell, out: &mut Out<'_, W>)
     }
 }
 
+/// Whether the block before may have changed how lines are adjusted, and this one doesn't.
+fn was_changed(cell: Cell, told: Told) -> bool
+    ensures { result ≡ specs.was_changed cell told }
+{
+    told.changed && !cell.lines.adjusts
+}
+
+/// What is kept once a block is set.
+fn block_told(cell: Cell, told: Told) -> Told
+    ensures { result ≡ specs.block_told cell told }
+{
+    Told {
+        changed: cell.lines.adjusts,
+        clean: cell.lines.clean,
+        columns: lined_columns(cell),
+        ..told
+    }
+}
+
 /// The columns for which the line's length stands behind a block.
 fn lined_columns(cell: Cell) -> Option<(usize, usize)>
     ensures { result ≡ specs.lined_columns cell }
@@ -221,19 +157,12 @@ fn lined_columns(cell: Cell) -> Option<(usize, usize)>
 }
 
 impl Table {
-    /// What the lines of a block do.
-    pub(crate) fn lines_of(&self, cell: Cell) -> Lines
-        ensures { result ≡ specs.lines_of self.now cell }
-    {
-        Lines::of(self.bytes(cell.field.span))
-    }
-
     /// Whether a cell is a block that changes how lines are adjusted.
     fn changes_adjusting(&self, number: usize) -> bool
         ensures { result ≡ specs.changes_adjusting self.now number }
     {
         let cell = self.cell_of(number);
-        matches!(cell.field.form, Form::Block) && self.lines_of(cell).adjusts
+        matches!(cell.field.form, Form::Block) && cell.lines.adjusts
     }
 
     /// Whether a block changes how lines are adjusted.
@@ -264,18 +193,11 @@ impl Table {
         out.add(b".if \\n(*J=5n .ad b\n.if \\n(*J=4n .ad c\n.if \\n(*J=3n .na\n");
     }
 
-    /// Whether the block before may have changed how lines are adjusted, and this one doesn't.
-    fn was_changed(&self, cell: Cell, told: Told) -> bool
-        ensures { result ≡ specs.was_changed self.now cell told }
-    {
-        told.changed && !self.lines_of(cell).adjusts
-    }
-
     /// Lines are adjusted as they were then.
     fn put_adjusted<W: Sink>(&self, cell: Cell, told: Told, out: &mut Out<'_, W>)
         ensures { Draws out.old out.new (Bytes (specs.adjust_before self.now cell told) ∷ []) }
     {
-        if self.was_changed(cell, told) {
+        if was_changed(cell, told) {
             self.adjust(out);
         }
     }
@@ -380,19 +302,6 @@ impl Table {
         self.put_new_length(cell, out);
     }
 
-    /// What is kept once a block is set.
-    fn block_told(&self, cell: Cell, told: Told) -> Told
-        ensures { result ≡ specs.block_told self.now cell told }
-    {
-        let lines = self.lines_of(cell);
-        Told {
-            changed: lines.adjusts,
-            clean: lines.clean,
-            columns: lined_columns(cell),
-            ..told
-        }
-    }
-
     /// The text of a block.
     fn put_lines_of<W: Sink>(&self, cell: Cell, out: &mut Out<'_, W>)
         ensures { Draws out.old out.new (Bytes (specs.lines_text self.now cell) ∷ []) }
@@ -493,7 +402,7 @@ impl Table {
     {
         let cell = self.cell_of(number);
         if self.is_due(wide, cell) {
-            return self.block_told(cell, told);
+            return block_told(cell, told);
         }
         told
     }

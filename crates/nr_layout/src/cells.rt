@@ -4,6 +4,7 @@ ghost use Rattle.std.specs.Prelude.{◌≡◌};
 ghost use Rattle.nr_layout.specs.Cells as specs;
 ghost use Rattle.nr_layout.specs.Held as held;
 
+use super::block_lines::Lines;
 use super::extent::cells_of;
 use super::lists::{add_each, add_item, item_at, set_item};
 use super::table::{Cell, Field, Form, Key, Line, Row, Table};
@@ -94,6 +95,16 @@ impl Table {
         }
     }
 
+    /// What its lines do, if it is a block.
+    fn field_lines(&self, field: Field) -> Lines
+        ensures { result ≡ specs.field_lines self.now field }
+    {
+        match field.form {
+            Form::Block => Lines::of(self.bytes(field.span)),
+            _ => Lines::new(),
+        }
+    }
+
     /// A field as a cell in these columns.
     fn new_cell(&self, row: usize, key: Key, field: Field, first: usize, last: usize) -> Cell
         ensures { result ≡ specs.new_cell self.now row key field first last }
@@ -111,6 +122,7 @@ impl Table {
             top: row,
             bottom: row,
             width: self.field_width(field),
+            lines: self.field_lines(field),
             ..Cell::empty()
         }
     }

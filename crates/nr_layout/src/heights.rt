@@ -101,7 +101,7 @@ impl Table {
         ensures { result ≡ specs.has_one self.now row }
     {
         let alone = self.count_blocks(row, true) == 1 && self.count_blocks(row, false) == 0;
-        alone && self.lines_of(self.only_block(row)).prints
+        alone && self.only_block(row).lines.prints
     }
 
     /// What a row is as high as.

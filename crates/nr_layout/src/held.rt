@@ -3,6 +3,7 @@
 ghost use Rattle.std.specs.Prelude.{◌≡◌};
 ghost use Rattle.nr_layout.specs.Held as held;
 
+use super::block_lines::Lines;
 use super::lists::item_at;
 use super::places::Place;
 use super::table::{
@@ -94,6 +95,7 @@ impl Cell {
             bottom: 0,
             falls: false,
             width: Some(0),
+            lines: Lines::new(),
             name: 0,
             stored: false,
             line: 0,

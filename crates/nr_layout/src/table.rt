@@ -4,6 +4,7 @@ ghost use Rattle.std.specs.Prelude.{◌≡◌, IfOk};
 ghost use Rattle.nr_layout.specs.Held as held;
 ghost use Rattle.nr_layout.specs.Table as specs;
 
+use super::block_lines::Lines;
 use super::places::Place;
 use super::signs::Signs;
 use nr_rooms::{CountedAlloc, FixedVec};
@@ -191,6 +192,8 @@ pub(crate) struct Cell {
     pub falls: bool,
     /// How many cells of the page its text takes, where that shows in it.
     pub width: Option<usize>,
+    /// What its lines do, if it is a block.
+    pub lines: Lines,
     /// The number of its string or diversion, or 0.
     pub name: usize,
     /// It is read as a string.

@@ -1,6 +1,6 @@
 use Rattle.std.proofs.Common.{◌≡◌, ◌-◌, ◌≤◌, [], drop, take}
-use Rattle.nr_layout.specs.Blocks.{lines_from, no_lines}
-use Rattle.nr_layout.proofs.blocks.Lines.read.Given as goal
+use Rattle.nr_layout.specs.BlockLines.{lines_from, no_lines}
+use Rattle.nr_layout.proofs.block_lines.Lines.read.Given as goal
 
 abbrev pub invariant-loop-at : goal.invariant-loop-at
 invariant-loop-at l = record {

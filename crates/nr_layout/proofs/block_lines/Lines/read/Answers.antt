@@ -1,9 +1,9 @@
 use Rattle.std.proofs.Common.{◌+◌, ◌-◌, ap, arith, drop, take, ◌∙◌}
-use Rattle.nr_layout.specs.declared.blocks.Lines.{Lines}
-use Rattle.nr_layout.specs.Blocks.{lines_from}
+use Rattle.nr_layout.specs.declared.block_lines.Lines.{Lines}
+use Rattle.nr_layout.specs.BlockLines.{lines_from}
 use Rattle.nr_layout.proofs.BlockLines.{line_ended, line_read}
-use Rattle.nr_layout.proofs.blocks.Lines.read.Goals as goal
-use Rattle.nr_layout.proofs.blocks.Lines.read.Goals.{then-byte-eq10+then-start-at, else-byte-eq10, else-byte-eq10-via-then-byte-eq10+else-start-at, else-byte-eq10-via-else-byte-eq10}
+use Rattle.nr_layout.proofs.block_lines.Lines.read.Goals as goal
+use Rattle.nr_layout.proofs.block_lines.Lines.read.Goals.{then-byte-eq10+then-start-at, else-byte-eq10, else-byte-eq10-via-then-byte-eq10+else-start-at, else-byte-eq10-via-else-byte-eq10}
 
 pub loop-at-preserved : goal.loop-at-preserved
 loop-at-preserved c =
