@@ -15,7 +15,7 @@ use Rattle.nr_layout.specs.declared.table.Tall.TheVariants as talls
 use Rattle.nr_layout.specs.declared.told.Told.{Told}
 use Rattle.nr_layout.specs.Drawing.{begin_of, begin_text, field_strokes, row_strokes, whole}
 use Rattle.nr_layout.specs.Frames.{count, has_bars}
-use Rattle.nr_layout.specs.Heights.{between_text, block_height, height_text, is_tall, only_block}
+use Rattle.nr_layout.specs.Heights.{between_text, block_units, has_tall_bars, height_text, is_tall, only_block}
 use Rattle.nr_layout.specs.Held.{cell, cell_of, columns, has_text, is_block, row}
 use Rattle.nr_layout.specs.Kept.{bars_or_string, has_same_bars}
 use Rattle.nr_layout.specs.Pens.{Stroke, Bytes}
@@ -108,17 +108,14 @@ more_bars t r told = bars_kept t r told ++ Bytes (bars_drawn t r) ∷ []
 abbrev pub more_lines : Table → ℕ → Told → List Stroke
 more_lines t r told = if has_bars t r then more_bars t r told else Bytes (more_space t r) ∷ []
 
-abbrev pub has_more : Table → ℕ → Bool
-has_more t r = is_tall t r && not (is_alone t r)
+abbrev pub has_more : Table → ℕ → Bool → Bool
+has_more t r alone = is_tall t r && not alone
 
-abbrev pub row_more : Table → ℕ → Told → List Stroke
-row_more t r told = if has_more t r then more_lines t r told else []
-
-abbrev pub has_more_bars : Table → ℕ → Bool
-has_more_bars t r = has_more t r && has_bars t r
+abbrev pub row_more : Table → ℕ → Bool → Told → List Stroke
+row_more t r alone told = if has_more t r alone then more_lines t r told else []
 
 abbrev pub row_told : Table → ℕ → Told → Told
-row_told t r told = if has_more_bars t r then record told { bars = Some r } else told
+row_told t r told = if has_tall_bars t r then record told { bars = Some r } else told
 
 -- ---- a block's lines, indented
 
@@ -142,7 +139,7 @@ is_name tall other = false
 abbrev pub down_from : Table → Cell → ℕ → List ℕ
 down_from t f r =
     parts (later ∷ codes ".sp " ∷ []) ++ height_text t r
-    ++ line (codes "-(0)-\\n[*h" ∷ decimal f.name ∷ codes "]u" ∷ [])
+    ++ codes "-(0)-" ++ block_units f.name ++ codes "\n"
 
 abbrev pub is_down : Table → Cell → ℕ → Bool → Bool
 is_down t f r alone = alone || is_name (row t r).tall f.name
@@ -165,13 +162,10 @@ block_beside_at t r alone n =
 abbrev pub each_beside : Table → ℕ → Bool → List ℕ
 each_beside t r alone = joined (own_cells t r) (block_beside_at t r alone)
 
-abbrev pub blocks_beside : Table → ℕ → List ℕ
-blocks_beside t r = each_beside t r (is_alone t r)
-
 -- ---- what goes on from above, down to a row: up from the end of its rows, and down again
 
 abbrev pub own_height : Cell → List ℕ
-own_height f = if is_block f.field.form then block_height f.name else codes "1v"
+own_height f = if is_block f.field.form then block_units f.name else codes "1v"
 
 abbrev pub is_top : Stand → Bool
 is_top stands.Top = true
@@ -236,5 +230,5 @@ all_falling t r = joined (columns t) (falling_at t r)
 
 abbrev pub told_row : Table → ℕ → Told → List Stroke
 told_row t r told =
-    whole (row_strokes t r None) true ++ row_more t r told ++ Bytes (blocks_beside t r) ∷ []
-    ++ all_falling t r
+    whole (row_strokes t r None) true ++ row_more t r (is_alone t r) told
+    ++ Bytes (each_beside t r (is_alone t r)) ∷ [] ++ all_falling t r

@@ -1,5 +1,5 @@
--- Text blocks (Lesk, "Text blocks"; tbl(1), "Table data"): each is a diversion `*d` with its number, set in the width of its columns; `*h` is its
--- height, and `*x` its width where it stands in their middle or at the right. Where a column has no width of its own a block takes the share of
+-- Text blocks (Lesk, "Text blocks"; tbl(1), "Table data"): each is a diversion `*d` with its number, set in the width of its columns; `*` with it is
+-- its height, and `*x` its width where it stands in their middle or at the right. Where a column has no width of its own a block takes the share of
 -- the line that its columns are of all columns and one, if that is more.
 use Rattle.std.specs.Prelude.{ℕ, ◌-◌, Bool, true, false, ◌==◌, ◌&&◌, ◌||◌, not, List, [], ◌∷◌, ◌++◌, length, Option, None, Some, codes, decimal, if◌then◌else◌}
 use Prim.Native.Char.{code}
@@ -132,7 +132,7 @@ column_width t f = if spans f then spread_width t f else one_width t f
 
 abbrev pub size_text : Table → Cell → List ℕ
 size_text t f =
-    line (codes ".nr *h" ∷ decimal f.name ∷ codes " \\n(dn" ∷ []) ++ own_width f ++ column_width t f
+    line (codes ".nr *" ∷ decimal f.name ∷ codes " \\n(dn" ∷ []) ++ own_width f ++ column_width t f
 
 -- ---- a block is set
 
@@ -150,7 +150,7 @@ abbrev pub font_before : ℕ → List ℕ
 font_before font = if font == 0 then [] else line (codes ".ft " ∷ (font ∷ []) ∷ [])
 
 abbrev pub font_after : ℕ → List ℕ
-font_after font = if font == 0 then codes ".br\n" else codes ".br\n.ft R\n"
+font_after font = if font == 0 then codes ".br\n.da\n" else codes ".br\n.ft R\n.da\n"
 
 abbrev pub lines_text : Table → Cell → List ℕ
 lines_text t f = text_of t f.field.span
@@ -159,7 +159,6 @@ abbrev pub diversion_text : Table → Cell → List ℕ
 diversion_text t f =
     line (codes ".da *d" ∷ decimal f.name ∷ []) ++ font_before f.key.font ++ lines_text t f
     ++ font_after f.key.font
-    ++ codes ".da\n"
 
 abbrev pub block_text : Table → Cell → Told → List ℕ
 block_text t f told =

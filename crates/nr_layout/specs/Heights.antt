@@ -1,6 +1,6 @@
 -- How high the rows of a table with blocks are (Lesk, "Text blocks"; tbl(1), "Table data"): a row without blocks takes a line; one with a block
--- that surely prints something is as high as that; another is as high as a register `*h_` with its number says, which takes what each block
--- needs. `*h` with a block's number is the block's height. A field that goes on over rows needs of the last one what the others leave.
+-- that surely prints something is as high as that; another is as high as a register `*_` with its number says, which takes what each block
+-- needs. `*` with a block's number is the block's height. A field that goes on over rows needs of the last one what the others leave.
 use Rattle.std.specs.Prelude.{ℕ, ◌+◌, ◌-◌, Bool, true, false, ◌==◌, ◌&&◌, ◌||◌, not, nat_lt, List, [], ◌∷◌, ◌++◌, length, codes, decimal, if◌then◌else◌}
 use Rattle.nr_layout.specs.declared.table.Cell.{Cell}
 use Rattle.nr_layout.specs.declared.table.Item.{Item}
@@ -45,31 +45,35 @@ only_in t r c found = if ends_here t r true c then cell t r c else found
 abbrev pub only_block : Table → ℕ → Cell
 only_block t r = in_turn (columns t) (only_in t r) (cell t r 0)
 
-abbrev pub has_none : Table → ℕ → Bool
-has_none t r = (count_blocks t r true == 0) && (count_blocks t r false == 0)
+-- as high as a block that ends in it alone, which surely prints something
+abbrev pub tall_as : Cell → Bool → Tall
+tall_as f alone = if alone && f.lines.prints then talls.Block f.name else talls.Told
 
--- one block alone, which surely prints something
-abbrev pub has_one : Table → ℕ → Bool
-has_one t r =
-    (count_blocks t r true == 1) && (count_blocks t r false == 0) && (only_block t r).lines.prints
+abbrev pub tall_in : Table → ℕ → ℕ → ℕ → Tall
+tall_in t r own fallen =
+    if (own == 0) && (fallen == 0) then talls.Line else tall_as (only_block t r) ((own == 1) && (fallen == 0))
 
 abbrev pub tall_of : Table → ℕ → Tall
-tall_of t r =
-    if has_none t r then talls.Line else
-    if has_one t r then talls.Block (only_block t r).name else talls.Told
+tall_of t r = tall_in t r (count_blocks t r true) (count_blocks t r false)
 
 abbrev pub with_tall : ℕ → Tall → Table → Table
 with_tall r tall t = record t { rows = put r (record (row t r) { tall = tall }) t.rows }
 
 -- ---- heights as expressions
 
+-- a name of two bytes is read faster than one in brackets
 abbrev pub block_height : ℕ → List ℕ
-block_height name = parts (codes "\\n[*h" ∷ decimal name ∷ codes "]u" ∷ [])
+block_height name =
+    if nat_lt name 10 then parts (codes "\\n(*" ∷ decimal name ∷ [])
+    else parts (codes "\\n[*" ∷ decimal name ∷ codes "]" ∷ [])
+
+abbrev pub block_units : ℕ → List ℕ
+block_units name = block_height name ++ codes "u"
 
 abbrev pub height_in : Tall → Row → List ℕ
 height_in talls.Line r = codes "1v"
-height_in (talls.Block name) r = block_height name
-height_in talls.Told r = parts (codes "\\n[*h_" ∷ decimal r.item ∷ codes "]u" ∷ [])
+height_in (talls.Block name) r = block_units name
+height_in talls.Told r = parts (codes "\\n[*_" ∷ decimal r.item ∷ codes "]u" ∷ [])
 
 abbrev pub height_text : Table → ℕ → List ℕ
 height_text t r = height_in (row t r).tall (row t r)
@@ -119,16 +123,16 @@ between_text t top bottom whole = line_count t top bottom whole ++ more_heights 
 -- of one that goes on from above what the other rows leave
 abbrev pub left_text : Table → Cell → ℕ → List ℕ
 left_text t f r =
-    parts (codes "\\n[*h" ∷ decimal f.name ∷ codes "]u-(" ∷ []) ++ between_text t f.top r false ++ codes ")"
+    block_units f.name ++ codes "-(" ++ between_text t f.top r false ++ codes ")"
 
 abbrev pub needed_text : Table → Cell → ℕ → List ℕ
 needed_text t f r =
-    if f.top == r then parts (codes "\\n[*h" ∷ decimal f.name ∷ codes "]" ∷ []) else left_text t f r
+    if f.top == r then block_height f.name else left_text t f r
 
 -- where that is more than the row has, it has that
 abbrev pub compared : Table → ℕ → List ℕ
 compared t r =
-    parts (codes ">\\n[*h_" ∷ decimal (row t r).item ∷ codes "] .nr *h_" ∷ decimal (row t r).item
+    parts (codes ">\\n[*_" ∷ decimal (row t r).item ∷ codes "] .nr *_" ∷ decimal (row t r).item
     ∷ codes " " ∷ [])
 
 abbrev pub most_height : Table → Cell → ℕ → List ℕ
@@ -142,7 +146,7 @@ most_heights t r own = joined (columns t) (most_height_at t r own)
 
 -- a line at least
 abbrev pub least_height : Table → ℕ → List ℕ
-least_height t r = line (codes ".nr *h_" ∷ decimal (row t r).item ∷ codes " 1v" ∷ [])
+least_height t r = line (codes ".nr *_" ∷ decimal (row t r).item ∷ codes " 1v" ∷ [])
 
 abbrev pub told_height : Table → ℕ → List ℕ
 told_height t r = least_height t r ++ most_heights t r true ++ most_heights t r false

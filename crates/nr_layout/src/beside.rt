@@ -8,7 +8,7 @@ ghost use Rattle.nr_layout.specs.Held as held;
 ghost use Rattle.nr_layout.specs.Pens.{Bytes};
 ghost use Rattle.nr_layout.specs.Tapes.{Draws};
 
-use super::heights::count_of;
+use super::heights::{count_of, put_block_units};
 use super::pen::Begin;
 use super::table::{Cell, Field, Form, Stand, Table, Tall};
 use super::told::{LATER, Told};
@@ -70,7 +70,7 @@ fn put_own_height<W: Sink>(cell: Cell, out: &mut Out<'_, W>)
     ensures { Draws out.old out.new (Bytes (specs.own_height cell) ∷ []) }
 {
     if matches!(cell.field.form, Form::Block) {
-        return out.pieces(&[T(b"\\n[*h"), N(cell.name), T(b"]u")]);
+        return put_block_units(cell.name, out);
     }
     out.add(b"1v");
 }
@@ -252,34 +252,27 @@ impl Table {
     }
 
     /// Whether a row has other lines, that no block of it goes down over.
-    fn has_more(&self, row: usize) -> bool
-        ensures { result ≡ specs.has_more self.now row }
+    fn has_more(&self, row: usize, alone: bool) -> bool
+        ensures { result ≡ specs.has_more self.now row alone }
     {
-        self.is_tall(row) && !self.is_alone(row)
+        self.is_tall(row) && !alone
     }
 
     /// They go out.
-    fn put_row_more<W: Sink>(&self, row: usize, told: Told, out: &mut Out<'_, W>)
-        ensures { Draws out.old out.new (specs.row_more self.now row told) }
+    fn put_row_more<W: Sink>(&self, row: usize, alone: bool, told: Told, out: &mut Out<'_, W>)
+        ensures { Draws out.old out.new (specs.row_more self.now row alone told) }
     {
-        if !self.has_more(row) {
+        if !self.has_more(row, alone) {
             return;
         }
         self.put_more_lines(row, told, out);
-    }
-
-    /// Whether these are bars.
-    fn has_more_bars(&self, row: usize) -> bool
-        ensures { result ≡ specs.has_more_bars self.now row }
-    {
-        self.has_more(row) && self.has_bars(row)
     }
 
     /// What is kept then.
     pub(crate) fn row_told(&self, row: usize, told: Told) -> Told
         ensures { result ≡ specs.row_told self.now row told }
     {
-        if self.has_more_bars(row) {
+        if self.has_tall_bars(row) {
             return Told {
                 bars: Some(row),
                 ..told
@@ -313,13 +306,6 @@ impl Table {
         }
     }
 
-    /// The blocks of a row that end in it.
-    fn put_blocks_beside<W: Sink>(&self, row: usize, out: &mut Out<'_, W>)
-        ensures { Draws out.old out.new (Bytes (specs.blocks_beside self.now row) ∷ []) }
-    {
-        self.put_each_beside(row, self.is_alone(row), out);
-    }
-
     /// What goes on from above, down to a row, and begins in a column.
     fn put_falling_at<W: Sink>(&self, row: usize, column: usize, out: &mut Out<'_, W>)
         ensures { Draws out.old out.new (specs.falling_at self.now row column) }
@@ -343,9 +329,10 @@ impl Table {
     pub(crate) fn put_told_row<W: Sink>(&self, row: usize, told: Told, out: &mut Out<'_, W>)
         ensures { Draws out.old out.new (specs.told_row self.now row told) }
     {
+        let alone = self.is_alone(row);
         self.put_row_line(row, None, true, out);
-        self.put_row_more(row, told, out);
-        self.put_blocks_beside(row, out);
+        self.put_row_more(row, alone, told, out);
+        self.put_each_beside(row, alone, out);
         self.put_all_falling(row, out);
     }
 
@@ -385,7 +372,9 @@ impl Table {
     {
         out.pieces(&[T(&LATER), T(b".sp ")]);
         self.put_height(row, out);
-        out.line(&[T(b"-(0)-\\n[*h"), N(cell.name), T(b"]u")]);
+        out.add(b"-(0)-");
+        put_block_units(cell.name, out);
+        out.add(b"\n");
     }
 
     /// Whether the block goes down to the end of its row itself.

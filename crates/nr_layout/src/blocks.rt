@@ -49,14 +49,14 @@ fn put_font_before<W: Sink>(font: u8, out: &mut Out<'_, W>)
     out.line(&[T(b".ft "), T(&[font])]);
 }
 
-/// The end of its last line, and the font after it.
+/// The end of its last line, the font after it, and the end of its diversion.
 fn put_font_after<W: Sink>(font: u8, out: &mut Out<'_, W>)
     ensures { Draws out.old out.new (Bytes (specs.font_after font) ∷ []) }
 {
     if font == 0 {
-        return out.add(b".br\n");
+        return out.add(b".br\n.da\n");
     }
-    out.add(b".br\n.ft R\n");
+    out.add(b".br\n.ft R\n.da\n");
 }
 
 /// Indent, filling and font are set anew where the block before may have changed them.
@@ -317,7 +317,6 @@ impl Table {
         put_font_before(cell.key.font, out);
         self.put_lines_of(cell, out);
         put_font_after(cell.key.font, out);
-        out.add(b".da\n");
     }
 
     /// A block is set.
@@ -374,7 +373,7 @@ impl Table {
     fn put_block_size<W: Sink>(&self, cell: Cell, out: &mut Out<'_, W>)
         ensures { Draws out.old out.new (Bytes (specs.size_text self.now cell) ∷ []) }
     {
-        out.line(&[T(b".nr *h"), N(cell.name), T(b" \\n(dn")]);
+        out.line(&[T(b".nr *"), N(cell.name), T(b" \\n(dn")]);
         put_own_width(cell, out);
         self.put_column_width(cell, out);
     }

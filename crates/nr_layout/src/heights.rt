@@ -30,6 +30,35 @@ pub(crate) fn is_same(one: bool, other: bool) -> bool
     if one { other } else { !other }
 }
 
+/// The height of a block, as a register: a name of two bytes is read faster than one in brackets.
+pub(crate) fn put_block_height<W: Sink>(name: usize, out: &mut Out<'_, W>)
+    ensures { Draws out.old out.new (Bytes (specs.block_height name) ∷ []) }
+{
+    if name < 10 {
+        return out.pieces(&[T(b"\\n(*"), N(name)]);
+    }
+    out.pieces(&[T(b"\\n[*"), N(name), T(b"]")]);
+}
+
+/// The height of a block, in u.
+pub(crate) fn put_block_units<W: Sink>(name: usize, out: &mut Out<'_, W>)
+    ensures { Draws out.old out.new (Bytes (specs.block_units name) ∷ []) }
+{
+    put_block_height(name, out);
+    out.add(b"u");
+}
+
+/// What a row is as high as in which a block ends, alone or not: as that, if it surely prints something.
+fn tall_as(block: Cell, alone: bool) -> Tall
+    ensures { result ≡ specs.tall_as block alone }
+{
+    if alone && block.lines.prints {
+        Tall::Block(block.name)
+    } else {
+        Tall::Told
+    }
+}
+
 impl Table {
     /// Whether a row is higher than a line, as its blocks say.
     pub(crate) fn is_tall(&self, row: usize) -> bool
@@ -89,32 +118,16 @@ impl Table {
         }
     }
 
-    /// Whether no block ends in a row.
-    fn has_none(&self, row: usize) -> bool
-        ensures { result ≡ specs.has_none self.now row }
-    {
-        self.count_blocks(row, true) == 0 && self.count_blocks(row, false) == 0
-    }
-
-    /// Whether one block alone does, which surely prints something.
-    fn has_one(&self, row: usize) -> bool
-        ensures { result ≡ specs.has_one self.now row }
-    {
-        let alone = self.count_blocks(row, true) == 1 && self.count_blocks(row, false) == 0;
-        alone && self.only_block(row).lines.prints
-    }
-
     /// What a row is as high as.
     fn tall_of(&self, row: usize) -> Tall
         ensures { result ≡ specs.tall_of self.now row }
     {
-        if self.has_none(row) {
+        let own = self.count_blocks(row, true);
+        let fallen = self.count_blocks(row, false);
+        if own == 0 && fallen == 0 {
             return Tall::Line;
         }
-        if self.has_one(row) {
-            return Tall::Block(self.only_block(row).name);
-        }
-        Tall::Told
+        tall_as(self.only_block(row), own == 1 && fallen == 0)
     }
 
     /// A row is as high as this.
@@ -130,7 +143,7 @@ impl Table {
     fn put_least_height<W: Sink>(&self, row: usize, out: &mut Out<'_, W>)
         ensures { Draws out.old out.new (Bytes (specs.least_height self.now row) ∷ []) }
     {
-        out.line(&[T(b".nr *h_"), N(self.row(row).item), T(b" 1v")]);
+        out.line(&[T(b".nr *_"), N(self.row(row).item), T(b" 1v")]);
     }
 
     /// How high a row is, with all that its blocks need.
@@ -191,7 +204,8 @@ impl Table {
     fn put_left<W: Sink>(&self, cell: Cell, row: usize, out: &mut Out<'_, W>)
         ensures { Draws out.old out.new (Bytes (specs.left_text self.now cell row) ∷ []) }
     {
-        out.pieces(&[T(b"\\n[*h"), N(cell.name), T(b"]u-(")]);
+        put_block_units(cell.name, out);
+        out.add(b"-(");
         self.put_between(cell.top, row, false, out);
         out.add(b")");
     }
@@ -201,7 +215,7 @@ impl Table {
         ensures { Draws out.old out.new (Bytes (specs.needed_text self.now cell row) ∷ []) }
     {
         if cell.top == row {
-            return out.pieces(&[T(b"\\n[*h"), N(cell.name), T(b"]")]);
+            return put_block_height(cell.name, out);
         }
         self.put_left(cell, row, out);
     }
@@ -211,7 +225,7 @@ impl Table {
         ensures { Draws out.old out.new (Bytes (specs.compared self.now row) ∷ []) }
     {
         let item = self.row(row).item;
-        out.pieces(&[T(b">\\n[*h_"), N(item), T(b"] .nr *h_"), N(item), T(b" ")]);
+        out.pieces(&[T(b">\\n[*_"), N(item), T(b"] .nr *_"), N(item), T(b" ")]);
     }
 
     /// A row becomes as high as a block needs.
@@ -232,8 +246,8 @@ impl Table {
         let row = self.row(number);
         match row.tall {
             Tall::Line => out.add(b"1v"),
-            Tall::Block(name) => out.pieces(&[T(b"\\n[*h"), N(name), T(b"]u")]),
-            Tall::Told => out.pieces(&[T(b"\\n[*h_"), N(row.item), T(b"]u")]),
+            Tall::Block(name) => put_block_units(name, out),
+            Tall::Told => out.pieces(&[T(b"\\n[*_"), N(row.item), T(b"]u")]),
         }
     }
 
@@ -462,7 +476,7 @@ impl Table {
     }
 
     /// Whether bars stand beside a row that is higher than a line.
-    fn has_tall_bars(&self, row: usize) -> bool
+    pub(crate) fn has_tall_bars(&self, row: usize) -> bool
         ensures { result ≡ specs.has_tall_bars self.now row }
     {
         self.is_tall(row) && self.has_bars(row)
