@@ -12,8 +12,10 @@ pub mod Nexts
 pub mod Pairs
 pub mod Parts
 pub mod Pieces
+pub mod Plain
 pub mod RuleLines
 pub mod RowsInOrder
+pub mod Same
 pub mod Sequences
 pub mod SpansFit
 pub mod Stages

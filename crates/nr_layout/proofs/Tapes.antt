@@ -1,12 +1,13 @@
 -- Strokes that are drawn after others.
-use Rattle.std.proofs.Common.{◌≡◌, ℕ, Bool, true, false, List, [], ◌∷◌, ◌++◌, Option, refl, sym, ap, subst, ◌∙◌, append_assoc, append-nil}
+use Rattle.std.proofs.Common.{◌≡◌, ℕ, Bool, true, false, ◌||◌, nat_lt, List, [], ◌∷◌, ◌++◌, replicate, Option, refl, sym, ap, subst, ◌∙◌, append_assoc, append-nil}
+use Prim.Native.Char.{code}
 use Rattle.std.specs.Io.KnownBytes.{Appends}
 use Rattle.std.proofs.KnownBytes.{Appends-nil, Appends-trans, Appends-kept, Keeps-refl, Keeps-trans}
 use Rattle.nr_units.specs.Failures.{SinkFailures, put_counted_if}
 use Rattle.nr_units.specs.Sink.{AppendsFront}
 use Rattle.nr_units.proofs.Fronts.{AppendsFront-append}
 use Rattle.nr_layout.specs.declared.pen.Pen.{Pen}
-use Rattle.nr_layout.specs.Pens.{Stroke, Bytes, after, after_all, bytes, bytes_of}
+use Rattle.nr_layout.specs.Pens.{Stroke, Release, Guard, GuardEnd, Bytes, after, after_all, bytes, bytes_of, guard, guard_end, released}
 use Rattle.nr_layout.specs.Tapes.{Tape, SendsIn, Sends, Draws, failed_since}
 
 nothing_in : (failed : Bool) (h : Option (List ℕ)) (w : List ℕ) → SendsIn failed failed h w h w []
@@ -91,6 +92,27 @@ draws_both {a} {b} {c} {xs} {ys} p q =
 
 pub draws_no_bytes : (a : Tape) → Draws a a (Bytes [] ∷ [])
 draws_no_bytes a = draws_as (Bytes [] ∷ []) (draws_nothing a) refl refl
+
+-- ---- what puts nothing out
+
+or_none : (b : Bool) → (b || false) ≡ b
+or_none true = refl
+or_none false = refl
+
+no_blanks : (p : Pen) → p.blanks ≡ 0 → released p ≡ p
+no_blanks p none =
+    let same : (p.begun || nat_lt 0 p.blanks) ≡ p.begun = ap (λ (n : ℕ). p.begun || nat_lt 0 n) none ∙ or_none p.begun in
+    ap (λ (b : Bool). record p { blanks = 0; begun = b }) same ∙ ap (λ (n : ℕ). record p { blanks = n }) (sym none)
+
+pub draws_no_blanks : (a : Tape) → a.pen.blanks ≡ 0 → Draws a a (Release ∷ [])
+draws_no_blanks a none =
+    draws_as (Release ∷ []) (draws_nothing a) (no_blanks a.pen none) (ap (λ (n : ℕ). replicate n (code " ") ++ []) none)
+
+pub draws_no_guard : (a : Tape) (b : ℕ) → guard a.pen.begun b ≡ [] → Draws a a (Guard b ∷ [])
+draws_no_guard a b none = draws_as (Guard b ∷ []) (draws_nothing a) refl (ap (λ (l : List ℕ). l ++ []) none)
+
+pub draws_no_end : (a : Tape) (told : Bool) → guard_end told a.pen.begun ≡ [] → Draws a a (GuardEnd told ∷ [])
+draws_no_end a told none = draws_as (GuardEnd told ∷ []) (draws_nothing a) refl (ap (λ (l : List ℕ). l ++ []) none)
 
 -- ---- what a call of the sink, or more that waits, comes to
 

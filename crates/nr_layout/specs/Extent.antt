@@ -1,6 +1,6 @@
 -- How many cells of the page a text takes (tbl(1), "Column width"): its bytes, and the characters that escapes name. Fonts and sizes
 -- take none. With any other escape, or a control character, only the formatter knows.
-use Rattle.std.specs.Prelude.{ℕ, ◌+◌, List, [], ◌∷◌, Bool, ◌==◌, ◌&&◌, ◌||◌, nat_le, if◌then◌else◌, Option, None, Some}
+use Rattle.std.specs.Prelude.{ℕ, ◌+◌, List, [], ◌∷◌, Bool, ◌==◌, ◌&&◌, ◌||◌, not, nat_le, if◌then◌else◌, Option, None, Some}
 use Prim.Native.Char.{code}
 use Rattle.nr_layout.specs.declared.extent.Reading.{Reading}
 use Rattle.nr_layout.specs.declared.extent.Reading.TheVariants as readings
@@ -9,6 +9,10 @@ use Rattle.nr_layout.specs.declared.extent.Extent.{Extent}
 -- a blank, a sign or a byte from 128 on, for which a table of characters has one of one cell; the formatter prints a cell for each
 abbrev pub is_printing : ℕ → Bool
 is_printing b = (nat_le 32 b && nat_le b 126) || nat_le 128 b
+
+-- one that begins no escape
+abbrev pub is_plain : ℕ → Bool
+is_plain b = is_printing b && not (b == code "\\")
 
 -- a character of a name of two bytes: \(em takes two cells, \(hy \(bu \(aq \(dq \(rs one; another name prints nothing
 abbrev pub named : ℕ → ℕ → ℕ

@@ -220,6 +220,7 @@ impl Table {
     }
 
     /// The last row that takes room, for a row below that one; tells which it is.
+    #[tactic(auto, using(crate::proofs::Same::row_own))]
     fn settle_row(&mut self, number: usize, last_own: usize) -> usize
         ensures value { self.new ≡ (specs.settled_row number (specs.settling self.old last_own)).table }
         ensures own { result ≡ (specs.settled_row number (specs.settling self.old last_own)).last_own }
@@ -227,6 +228,9 @@ impl Table {
     {
         let row = self.row(number);
         let last_own = if row.own { number } else { last_own };
+        if row.last_own == last_own {
+            return last_own;
+        }
         set_item(&mut self.rows, number, Row { last_own, ..row });
         last_own
     }
@@ -244,6 +248,7 @@ impl Table {
     }
 
     /// A field ends in a row that takes room.
+    #[tactic(auto, using(crate::proofs::Same::cell_own))]
     fn settle_cell(&mut self, number: usize)
         ensures value { self.new ≡ specs.settled_cell number self.old }
         ensures room { held.emptied self.new ≡ held.emptied self.old }
@@ -251,6 +256,9 @@ impl Table {
         let cell = self.cell_of(number);
         let bottom = self.row(cell.bottom).last_own;
         let falls = cell.bottom > cell.top;
+        if cell.bottom == bottom && cell.falls == falls {
+            return;
+        }
         let settled = Cell {
             falls,
             bottom,

@@ -210,6 +210,21 @@ impl Table {
         self.draw_own(row, column, cell, line, out);
     }
 
+    /// The bars before a column of a row.
+    #[tactic(auto, using(crate::proofs::Tapes::draws_nothing))]
+    fn draw_row_bar<W: Sink>(&self, row: usize, column: usize, out: &mut Out<'_, W>)
+        ensures { Draws out.old out.new (specs.bar self.now row column (specs.was_ruled self.now row column)
+            (specs.is_ruled self.now row column)) }
+    {
+        let bars = self.bars_of(row, column);
+        if bars == 0 {
+            return;
+        }
+        let was = self.was_ruled(row, column);
+        let now = self.is_ruled(row, column);
+        self.draw_some_bars(column, was, now, bars, out);
+    }
+
     /// A column of a row, with the bars before it.
     fn draw_cell<W: Sink>(
         &self,
@@ -220,9 +235,7 @@ impl Table {
     )
         ensures { Draws out.old out.new (specs.row_cell self.now row column line) }
     {
-        let was = self.was_ruled(row, column);
-        let now = self.is_ruled(row, column);
-        self.draw_bar(row, column, was, now, out);
+        self.draw_row_bar(row, column, out);
         self.draw_content(row, column, line, out);
     }
 

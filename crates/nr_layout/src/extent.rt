@@ -1,5 +1,5 @@
 //! How many cells of the page a text takes.
-ghost use Rattle.std.specs.Prelude.{◌≡◌, ◌+◌, ◌^◌, ◌<◌, ◌≤◌};
+ghost use Rattle.std.specs.Prelude.{◌≡◌, ◌+◌, ◌^◌, ◌<◌, ◌≤◌, drop, length};
 ghost use Rattle.nr_layout.specs.Extent as specs;
 
 /// Where a text is read.
@@ -53,6 +53,13 @@ fn is_printing(byte: u8) -> bool
     matches!(byte, b' '..=b'~' | 128..=255)
 }
 
+/// One that begins no escape.
+fn is_plain(byte: u8) -> bool
+    ensures { result ≡ specs.is_plain byte }
+{
+    is_printing(byte) && byte != b'\\'
+}
+
 /// How many cells a character takes that has a name of two bytes.
 fn named(first: u8, second: u8) -> usize
     ensures value { result ≡ specs.named first second }
@@ -83,13 +90,13 @@ fn is_sign(byte: u8) -> bool
 }
 
 impl Extent {
-    /// Nothing was read.
-    fn new() -> Extent
-        ensures { result ≡ specs.first_extent }
+    /// So many bytes were read that take a cell each.
+    fn plain(cells: usize) -> Extent
+        ensures { result ≡ record specs.first_extent { cells = cells } }
     {
         Extent {
             reading: Reading::Text,
-            cells: 0,
+            cells,
         }
     }
 
@@ -226,12 +233,31 @@ impl Extent {
     }
 }
 
+/// How many bytes at the front of a text take a cell each, which most texts have alone.
+#[tactic(auto, using(crate::proofs::Plain::plain_next))]
+fn plain_front(text: &[u8]) -> usize
+    ensures within { result ≤ length text.now }
+    ensures cells { specs.extent_from (drop result text.now) (record specs.first_extent { cells = result })
+        ≡ specs.extent_from text.now specs.first_extent }
+{
+    let mut front = 0;
+    for byte in text {
+        if !is_plain(*byte) {
+            return front;
+        }
+        front += 1;
+    }
+    front
+}
+
 /// How many cells a text takes, where that shows in it.
 pub(crate) fn cells_of(text: &[u8]) -> Option<usize>
     ensures { result ≡ specs.cells_of text.now }
 {
-    let mut extent = Extent::new();
-    for byte in text {
+    let front = plain_front(text);
+    let rest = &text[front..];
+    let mut extent = Extent::plain(front);
+    for byte in rest {
         extent = extent.with(*byte);
     }
     match extent.reading {

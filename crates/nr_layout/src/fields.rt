@@ -64,21 +64,23 @@ pub(crate) fn or_nothing(cells: Option<usize>) -> usize
 }
 
 /// A font is set, if there is one.
+#[tactic(auto, using(crate::proofs::Tapes::draws_no_bytes))]
 fn put_font<W: Sink>(font: u8, out: &mut Out<'_, W>)
     ensures { Draws out.old out.new (Bytes (specs.font_text font) ∷ []) }
 {
     if font == 0 {
-        return out.add(b"");
+        return;
     }
     out.add(&[b'\\', b'f', font]);
 }
 
 /// The font is as before a text: roman where that may have changed it.
+#[tactic(auto, using(crate::proofs::Tapes::draws_no_bytes))]
 fn put_font_back<W: Sink>(font: u8, text: &[u8], out: &mut Out<'_, W>)
     ensures { Draws out.old out.new (Bytes (specs.font_back font text.now) ∷ []) }
 {
     if font == 0 {
-        return out.add(b"");
+        return;
     }
     put_font(if has_escape(text) { b'R' } else { b'P' }, out);
 }

@@ -67,19 +67,29 @@ impl Table {
         if framed { 1 } else { 0 }
     }
 
-    /// How many bars stand before a column of this row, or after the last one.
-    pub(crate) fn bars_of(&self, row: usize, column: usize) -> usize
-        ensures { result ≡ specs.bars_of self.now row column }
+    /// The bars that formats or a frame put before a column of this row, or after the last one.
+    fn bars_put(&self, row: usize, column: usize, between: bool) -> usize
+        ensures { result ≡ specs.or_else
+            (held.bars_in self.now (held.line self.now (held.row self.now row).line) column)
+            (specs.framing self.now between) }
     {
-        let between = 0 < column && column < self.columns.len();
-        if between && self.is_inside(row, column) {
-            return 0;
-        }
         let bars = self.bars_in(self.line(self.row(row).line), column);
         if bars > 0 {
             return bars;
         }
         self.framing_bars(between)
+    }
+
+    /// How many bars stand before a column of this row, or after the last one. Most rows have none, whatever their fields.
+    pub(crate) fn bars_of(&self, row: usize, column: usize) -> usize
+        ensures { result ≡ specs.bars_of self.now row column }
+    {
+        let between = 0 < column && column < self.columns.len();
+        let bars = self.bars_put(row, column, between);
+        if bars > 0 && between && self.is_inside(row, column) {
+            return 0;
+        }
+        bars
     }
 
     /// How many bars stand before a column of a row, if there is one, or after the last one.

@@ -1,5 +1,5 @@
 //! Rules between the rows of a table are drawn, and the outer rule of a double box.
-ghost use Rattle.std.specs.Prelude.{◌≡◌, ◌&&◌, not, nat_lt};
+ghost use Rattle.std.specs.Prelude.{◌≡◌, ◌&&◌, not, nat_lt, max};
 ghost use Rattle.nr_layout.specs.Drawing as specs;
 ghost use Rattle.nr_layout.specs.Frames as frames;
 ghost use Rattle.nr_layout.specs.Held as held;
@@ -18,13 +18,11 @@ impl Table {
         if edge && self.is_boxed() { 1 } else { 0 }
     }
 
-    /// How many bars meet a rule before a column.
-    fn meeting_bars(&self, above: Option<usize>, below: Option<usize>, column: usize) -> usize
-        ensures { result ≡ frames.meeting self.now above below column }
+    /// How many bars meet a rule before a column, where the row above has so many and that below.
+    fn most_meeting(&self, up: usize, down: usize, column: usize) -> usize
+        ensures { result ≡ max (max up down) (frames.framing_at self.now column) }
     {
-        self.bars_at(above, column)
-            .max(self.bars_at(below, column))
-            .max(self.framing_bars_at(column))
+        up.max(down).max(self.framing_bars_at(column))
     }
 
     /// Whether a field goes on over the column before one; so the edge is.
@@ -63,26 +61,14 @@ impl Table {
     )
         ensures { Draws out.old out.new (specs.crossing self.now above below column) }
     {
-        let bars = self.meeting_bars(above, below, column);
+        let up = self.bars_at(above, column);
+        let down = self.bars_at(below, column);
+        let bars = self.most_meeting(up, down, column);
         if bars == 0 {
             return;
         }
-        self.draw_some_crossing(above, below, column, bars, out);
-    }
-
-    /// So many bars meet a rule before a column.
-    fn draw_some_crossing<W: Sink>(
-        &self,
-        above: Option<usize>,
-        below: Option<usize>,
-        column: usize,
-        bars: usize,
-        out: &mut Out<'_, W>,
-    )
-        ensures { Draws out.old out.new (specs.some_crossing self.now above below column bars) }
-    {
         self.begin_crossing(above, below, column, out);
-        out.bars(self.crossing_byte(above, below, column), bars);
+        out.bars(self.crossing_of(above, below, column, up, down), bars);
     }
 
     /// Whether a rule across the table stands first.
@@ -106,22 +92,36 @@ impl Table {
         self.begun || (self.framing_bars_at(column) > 0 && self.is_second(below))
     }
 
-    /// Whether bars go up from a rule before a column.
-    fn goes_up(&self, above: Option<usize>, below: Option<usize>, column: usize) -> bool
+    /// Whether bars go up from a rule before a column, where the row above has so many.
+    fn goes_up(
+        &self,
+        above: Option<usize>,
+        below: Option<usize>,
+        column: usize,
+        bars: usize,
+    ) -> bool
+        requires { bars ≡ frames.bars_at self.now above column }
         ensures { result ≡ specs.goes_up self.now above below column }
     {
         match above {
-            Some(row) => self.bars_of(row, column) > 0,
+            Some(_) => bars > 0,
             None => self.goes_up_first(below, column),
         }
     }
 
-    /// Whether bars go down from a rule before a column.
-    fn goes_down(&self, above: Option<usize>, below: Option<usize>, column: usize) -> bool
+    /// Whether bars go down from a rule before a column, where the row below has so many.
+    fn goes_down(
+        &self,
+        above: Option<usize>,
+        below: Option<usize>,
+        column: usize,
+        bars: usize,
+    ) -> bool
+        requires { bars ≡ frames.bars_at self.now below column }
         ensures { result ≡ specs.goes_down self.now above below column }
     {
         match below {
-            Some(row) => self.bars_of(row, column) > 0,
+            Some(_) => bars > 0,
             None => self.framing_bars_at(column) > 0 && (self.is_double() || above.is_none()),
         }
     }
@@ -142,8 +142,26 @@ impl Table {
     ) -> u8
         ensures { result ≡ specs.crossing_byte self.now above below column }
     {
-        let up = self.goes_up(above, below, column);
-        let down = self.goes_down(above, below, column);
+        let up = self.bars_at(above, column);
+        let down = self.bars_at(below, column);
+        self.crossing_of(above, below, column, up, down)
+    }
+
+    /// The same, where the row above has so many bars before the column and that below.
+    fn crossing_of(
+        &self,
+        above: Option<usize>,
+        below: Option<usize>,
+        column: usize,
+        up: usize,
+        down: usize,
+    ) -> u8
+        requires up { up ≡ frames.bars_at self.now above column }
+        requires down { down ≡ frames.bars_at self.now below column }
+        ensures { result ≡ specs.crossing_byte self.now above below column }
+    {
+        let up = self.goes_up(above, below, column, up);
+        let down = self.goes_down(above, below, column, down);
         let left = !self.was_covered(above, below, column);
         let right = self.goes_right(above, below, column);
         self.signs.joint(up, down, left, right)
@@ -222,10 +240,12 @@ impl Table {
         ensures { Draws out.old out.new (specs.rule_end self.now above below) }
     {
         let columns = self.columns.len();
-        if self.meeting_bars(above, below, columns) == 0 {
+        let up = self.bars_at(above, columns);
+        let down = self.bars_at(below, columns);
+        if self.most_meeting(up, down, columns) == 0 {
             return;
         }
-        out.bars(self.crossing_byte(above, below, columns), 1);
+        out.bars(self.crossing_of(above, below, columns, up, down), 1);
     }
 
     /// Whether a field goes on over the last column.

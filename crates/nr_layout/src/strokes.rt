@@ -17,10 +17,14 @@ impl<'a, W: Sink> Out<'a, W> {
     }
 
     /// Blanks go out.
+    #[tactic(auto, using(crate::proofs::Tapes::draws_no_blanks))]
     fn release(&mut self)
         ensures { Draws self.old self.new (specs.Release ∷ []) }
     {
         let pen = self.pen();
+        if pen.blanks == 0 {
+            return;
+        }
         self.repeat(b' ', pen.blanks);
         self.set_pen(pen.released());
     }
@@ -97,14 +101,14 @@ impl<'a, W: Sink> Out<'a, W> {
     }
 
     /// A control character that begins a line is none.
+    #[tactic(auto, using(crate::proofs::Tapes::draws_no_guard))]
     fn guard(&mut self, first: u8)
         ensures { Draws self.old self.new (specs.Guard first ∷ []) }
     {
         let pen = self.pen();
         if !pen.begun && (first == b'.' || first == b'\'') {
-            return self.add(b"\\&");
+            self.add(b"\\&");
         }
-        self.add(b"");
     }
 
     /// Text begins.
@@ -184,14 +188,14 @@ impl<'a, W: Sink> Out<'a, W> {
     }
 
     /// An empty line stands for itself, or doesn't.
+    #[tactic(auto, using(crate::proofs::Tapes::draws_no_end))]
     fn guard_end(&mut self, told: bool)
         ensures { Draws self.old self.new (specs.GuardEnd told ∷ []) }
     {
         let pen = self.pen();
         if told && !pen.begun {
-            return self.add(b"\\&");
+            self.add(b"\\&");
         }
-        self.add(b"");
     }
 
     /// The line ends; an empty one stands for itself, or doesn't.

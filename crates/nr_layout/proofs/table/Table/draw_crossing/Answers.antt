@@ -1,20 +1,33 @@
-use Rattle.std.proofs.Common.{ℕ, ◌<◌, ◌==◌, ap, sym, arith, eq-eqb, ◌∙◌}
-use Rattle.nr_layout.specs.Drawing.{some_crossing}
-use Rattle.nr_layout.specs.Frames.{meeting}
+use Rattle.std.proofs.Common.{◌≡◌, ℕ, ◌<◌, ◌==◌, ◌++◌, max, ap, sym, arith, eq-eqb, ◌∙◌}
+use Rattle.nr_layout.specs.Drawing.{crossing_begin, some_crossing}
+use Rattle.nr_layout.specs.Frames.{bars_at, framing_at, meeting}
+use Rattle.nr_layout.specs.Pens.{bars}
 use Rattle.nr_layout.proofs.Choices.{some_of}
 use Rattle.nr_layout.proofs.Chosen.{strokes_chosen}
-use Rattle.nr_layout.proofs.Tapes.{draws_nothing, draws_same}
+use Rattle.nr_layout.proofs.Tapes.{draws_nothing, draws_same, draws_then}
 use Rattle.nr_layout.proofs.table.Table.draw_crossing.Goals as goal
 
 pub returns-then-bars-eq0 : goal.returns-then-bars-eq0
 returns-then-bars-eq0 g c =
-    let bars = meeting c.args.self.now c.args.above c.args.below c.args.column in
-    strokes_chosen (bars == 0) (some_crossing c.args.self.now c.args.above c.args.below c.args.column bars) (draws_nothing _)
-    (ap (λ (n : ℕ). n == 0) (sym c.meeting_bars-bars.ensures) ∙ eq-eqb c.meeting_bars-bars.result 0 c.if-bars-eq0.true)
+    let t = c.args.self.now in
+    let most = meeting t c.args.above c.args.below c.args.column in
+    let is : most ≡ c.most_meeting-bars.result =
+    ap (λ (n : ℕ). max (max n (bars_at t c.args.below c.args.column)) (framing_at t c.args.column)) (sym c.bars_at-up.ensures)
+    ∙ ap (λ (n : ℕ). max (max c.bars_at-up.result n) (framing_at t c.args.column)) (sym c.bars_at-down.ensures)
+    ∙ sym c.most_meeting-bars.ensures in
+    strokes_chosen (most == 0) (some_crossing t c.args.above c.args.below c.args.column most) (draws_nothing _)
+    (ap (λ (n : ℕ). n == 0) is ∙ eq-eqb c.most_meeting-bars.result 0 c.if-bars-eq0.true)
 
 pub returns : goal.returns
 returns g c =
-    let some : 0 < meeting c.args.self.now c.args.above c.args.below c.args.column = omega (arith, c.meeting_bars-bars.ensures) in
-    draws_same c.draw_some_crossing.ensures
-    (some_of (meeting c.args.self.now c.args.above c.args.below c.args.column) (some_crossing c.args.self.now c.args.above c.args.below c.args.column (meeting c.args.self.now c.args.above c.args.below c.args.column)) some
-    ∙ ap (λ (n : ℕ). some_crossing c.args.self.now c.args.above c.args.below c.args.column n) (sym c.meeting_bars-bars.ensures))
+    let t = c.args.self.now in
+    let most = meeting t c.args.above c.args.below c.args.column in
+    let is : most ≡ c.most_meeting-bars.result =
+    ap (λ (n : ℕ). max (max n (bars_at t c.args.below c.args.column)) (framing_at t c.args.column)) (sym c.bars_at-up.ensures)
+    ∙ ap (λ (n : ℕ). max (max c.bars_at-up.result n) (framing_at t c.args.column)) (sym c.bars_at-down.ensures)
+    ∙ sym c.most_meeting-bars.ensures in
+    let some : 0 < most = omega (arith, is) in
+    draws_same (draws_then c.begin_crossing.ensures c.bars.ensures)
+    (some_of most (some_crossing t c.args.above c.args.below c.args.column most) some
+    ∙ ap (λ (n : ℕ). some_crossing t c.args.above c.args.below c.args.column n) is
+    ∙ ap (λ (b : ℕ). crossing_begin t c.args.above c.args.below c.args.column ++ bars b c.most_meeting-bars.result) (sym c.crossing_of.ensures))
