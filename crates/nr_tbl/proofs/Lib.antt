@@ -7,6 +7,7 @@ pub mod Keeping
 pub mod Lines
 pub mod Pairs
 pub mod Parts
+pub mod Plain
 pub mod Runs
 pub mod Steady
 pub mod Tableless

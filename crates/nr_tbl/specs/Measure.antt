@@ -1,6 +1,6 @@
 -- What a table surely takes of the line, in cells: the printing bytes of the fields of a row, or the widths that its formats say,
 -- and the spaces between them.
-use Rattle.std.specs.Prelude.{ℕ, ◌+◌, ◌-◌, List, [], ◌∷◌, Bool, false, ◌==◌, ◌&&◌, ◌||◌, nat_le, nat_lt, if◌then◌else◌}
+use Rattle.std.specs.Prelude.{ℕ, ◌+◌, ◌-◌, List, [], ◌∷◌, Bool, false, ◌==◌, ◌&&◌, ◌||◌, not, nat_le, nat_lt, if◌then◌else◌}
 use Prim.Native.Char.{code}
 use Rattle.nr_tbl.specs.declared.measure.Place.{Place}
 use Rattle.nr_tbl.specs.declared.measure.Place.TheVariants.{Text, Escape, Font, First, Second, Unsure}
@@ -24,6 +24,10 @@ at place c = record c { place = place }
 -- blanks are among them
 abbrev pub is_printing : ℕ → Bool
 is_printing b = nat_le (code " ") b && nat_le b (code "~")
+
+-- one that begins no escape
+abbrev pub is_plain : ℕ → Bool
+is_plain b = is_printing b && not (b == code "\\")
 
 -- after a backslash a sign, or nothing: - ' ` . e 0 | ^ & % and a blank
 abbrev pub is_sign : ℕ → Bool

@@ -1,6 +1,6 @@
 //! What a table surely takes of the line, in cells: the printing bytes of the fields of a row, or the widths that its
 //! formats say, and the spaces between them. Only the formatter knows how wide it is.
-ghost use Rattle.std.specs.Prelude.{◌≡◌, ◌+◌, ◌^◌, ◌<◌, ◌≤◌, length};
+ghost use Rattle.std.specs.Prelude.{◌≡◌, ◌+◌, ◌^◌, ◌<◌, ◌≤◌, drop, length};
 ghost use Rattle.nr_tbl.specs.Measure as specs;
 
 use super::options::Frame;
@@ -63,6 +63,13 @@ fn is_printing(byte: u8) -> bool
     matches!(byte, b' '..=b'~')
 }
 
+/// One that begins no escape.
+fn is_plain(byte: u8) -> bool
+    ensures { result ≡ specs.is_plain byte }
+{
+    is_printing(byte) && byte != b'\\'
+}
+
 /// What an escape of one byte is that is a sign or nothing.
 fn is_sign(byte: u8) -> bool
     ensures { result ≡ specs.is_sign byte }
@@ -97,13 +104,13 @@ fn font(byte: u8) -> Place
 }
 
 impl Cells {
-    /// Nothing was read.
-    fn new() -> Cells
-        ensures { result ≡ specs.first_cells }
+    /// So many bytes were read that take a cell each.
+    fn plain(count: usize) -> Cells
+        ensures { result ≡ record specs.first_cells { count = count } }
     {
         Cells {
             place: Place::Text,
-            count: 0,
+            count,
         }
     }
 
@@ -136,13 +143,32 @@ impl Cells {
     }
 }
 
+/// How many bytes at the front of a text take a cell each, which most texts have alone.
+#[tactic(auto, using(crate::proofs::Plain::plain_next))]
+fn plain_front(text: &[u8]) -> usize
+    ensures within { result ≤ length text.now }
+    ensures cells { specs.all_cells (drop result text.now) (record specs.first_cells { count = result })
+        ≡ specs.all_cells text.now specs.first_cells }
+{
+    let mut front = 0;
+    for byte in text {
+        if !is_plain(*byte) {
+            return front;
+        }
+        front += 1;
+    }
+    front
+}
+
 /// How many cells a field surely needs.
 pub(crate) fn cells_of(text: &[u8]) -> usize
     ensures value { result ≡ specs.cells_of text.now }
     ensures few { result ≤ length text.now }
 {
-    let mut cells = Cells::new();
-    for byte in text {
+    let front = plain_front(text);
+    let rest = &text[front..];
+    let mut cells = Cells::plain(front);
+    for byte in rest {
         cells = cells.with(*byte);
     }
     match cells.place {

@@ -62,12 +62,16 @@ fn is_alone(alone: bool, byte: u8) -> bool
 }
 
 /// Two backslashes become `\\e`, which stays itself where it is read twice. Tells whether the last one stands alone.
+#[tactic(auto, using(crate::proofs::Pairs::none_paired, crate::proofs::Pairs::none_open))]
 fn pair_backslashes(kept: &mut FixedVec<u8>, start: usize) -> bool
     ensures items { kept.new.items ≡ take start kept.old.items
         ++ specs.paired false (drop start kept.old.items) }
     ensures alone { result ≡ specs.open_behind false (drop start kept.old.items) }
     ensures room { kept.new.room ≡ kept.old.room }
 {
+    if place_of(b'\\', behind(kept.as_slice(), start)).is_none() {
+        return false;
+    }
     let mut alone = false;
     for at in start..kept.len() {
         let byte = kept.get(at);
