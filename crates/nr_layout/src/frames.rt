@@ -68,6 +68,7 @@ impl Table {
     }
 
     /// The bars that formats or a frame put before a column of this row, or after the last one.
+    #[inline(always)]
     fn bars_put(&self, row: usize, column: usize, between: bool) -> usize
         ensures { result ≡ specs.or_else
             (held.bars_in self.now (held.line self.now (held.row self.now row).line) column)

@@ -203,6 +203,6 @@ impl<'a, W: Sink> Out<'a, W> {
         ensures { Draws self.old self.new (specs.end told) }
     {
         self.guard_end(told);
-        self.add(b"\n");
+        self.repeat(b'\n', 1);
     }
 }

@@ -1,5 +1,5 @@
 //! What goes out: bytes wait until there is no room for more, and then go to a sink. After a call of the sink that failed
-//! nothing more goes.
+//! nothing more goes. What is done where there is no room is never built into the calls that wait, which would be longer.
 ghost use Rattle.std.specs.Prelude.{◌≡◌, ◌++◌, ◌∷◌, [], replicate, true, false, decimal, codes, OnOk, OnErr};
 ghost use Rattle.nr_layout.specs.Tapes.{Draws};
 ghost use Rattle.nr_layout.specs.Pens as pens;
@@ -94,6 +94,8 @@ impl<'a, W: Sink> Out<'a, W> {
     }
 
     /// What waits goes out.
+    #[cold]
+    #[inline(never)]
     fn send(&mut self)
         ensures draws { Draws self.old self.new (Bytes [] ∷ []) }
         ensures empty { self.new.failed ≡ false → self.new.pending ≡ [] }
@@ -137,6 +139,8 @@ impl<'a, W: Sink> Out<'a, W> {
     }
 
     /// Bytes go out where none wait.
+    #[cold]
+    #[inline(never)]
     fn pass(&mut self, bytes: &[u8])
         requires { self.old.failed ≡ false → self.old.pending ≡ [] }
         ensures { Draws self.old self.new (Bytes bytes.now ∷ []) }
@@ -166,6 +170,8 @@ impl<'a, W: Sink> Out<'a, W> {
     }
 
     /// A byte so many times, one after the other.
+    #[cold]
+    #[inline(never)]
     fn repeat_each(&mut self, byte: u8, count: usize)
         ensures { Draws self.old self.new (Bytes (replicate count byte) ∷ []) }
     {
