@@ -8,6 +8,7 @@ pub mod Joined
 pub mod LeastFits
 pub mod LineTexts
 pub mod NameSteps
+pub mod Narrow
 pub mod Nexts
 pub mod Pairs
 pub mod Parts

@@ -1,6 +1,6 @@
 //! The widths of columns.
 
-ghost use Rattle.std.specs.Prelude.{◌≡◌, length};
+ghost use Rattle.std.specs.Prelude.{◌≡◌, length, true};
 ghost use Rattle.nr_layout.specs.Columns as specs;
 ghost use Rattle.nr_layout.specs.Drawing as drawing;
 ghost use Rattle.nr_layout.specs.Held as held;
@@ -278,11 +278,27 @@ impl Table {
         column.with_text(or_nothing(cell.width))
     }
 
-    /// A field is measured.
+    /// Whether a field is text that makes its column no wider.
+    #[tactic(auto, using(crate::proofs::Narrow::narrow))]
+    fn is_narrow(&self, cell: Cell) -> bool
+        ensures { result ≡ true → specs.with_field self.now cell (held.column self.now cell.first)
+            ≡ held.column self.now cell.first }
+    {
+        if cell.key.kind == b'a' || self.is_number(cell) {
+            return false;
+        }
+        or_nothing(cell.width) <= self.column(cell.first).width
+    }
+
+    /// A field is measured. Most make their column no wider, and a column is long to copy.
+    #[tactic(auto, using(crate::proofs::Narrow::measured_own))]
     fn measure(&mut self, cell: Cell)
         ensures value { self.new ≡ specs.measured cell self.old }
         ensures room { held.emptied self.new ≡ held.emptied self.old }
     {
+        if self.is_narrow(cell) {
+            return;
+        }
         let column = self.with_field(cell, self.column(cell.first));
         set_item(&mut self.columns, cell.first, column);
     }
