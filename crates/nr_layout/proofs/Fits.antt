@@ -238,6 +238,7 @@ fields_fit t n width within counts alone inside shown fits given =
     let there : c < columns (measured_cells t) =
     subst (λ (k : ℕ). c < k) (sym (turn_same columns measured_cell (measured_same columns columns_put) (length t.cells.items) t)) inside in
     let settled : room (column (measured_cells t) c) ≤ (column (measured_fields t) c).width = settled_fits (measured_cells t) c there in
-    let spanned : width_in (column (measured_fields t) c) ≤ width_in (column (measured_spans (measured_fields t)) c) =
-    spans_width c (measured_fields t) in
-    equal_width c width (measured_spans (measured_fields t)) (omega (arith, met, settled, spanned, fits))
+    let v : Table = made_equal (measured_fields t) in
+    let even : width ≤ (column v c).width = equal_width c width (measured_fields t) (omega (arith, met, settled)) in
+    let spanned : width_in (column v c) ≤ width_in (column (measured_spans v) c) = spans_width c v in
+    equal_width c width (measured_spans v) (omega (arith, even, spanned, fits))

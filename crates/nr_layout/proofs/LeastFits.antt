@@ -12,7 +12,7 @@ use Rattle.nr_layout.specs.Fitting.{EqualColumns, LeastFits}
 use Rattle.nr_layout.specs.Held.{column, columns, fresh}
 use Rattle.nr_layout.specs.Lists.{in_turn, put}
 use Rattle.nr_layout.proofs.Fits.{columns_put, equal_width, measured_same, settled_count, settled_width, spans_width, width_in}
-use Rattle.nr_layout.proofs.SpansFit.{fields_same, spanned_same}
+use Rattle.nr_layout.proofs.SpansFit.{even_same, spanned_same}
 use Rattle.nr_layout.proofs.Turns.{if_same, if_true, later, later_has, set_has, set_same, turn_same}
 
 -- ---- what a column keeps where fields count for it
@@ -76,8 +76,10 @@ pub least_fits : LeastFits
 least_fits t c inside fits =
     let least : ℕ = max (or_nothing (column t c).least_cells) 1 in
     let settled : least ≤ (column (measured_fields t) c).width = least_settled t c inside in
-    let spanned : width_in (column (measured_fields t) c) ≤ width_in (column (measured_spans (measured_fields t)) c) = spans_width c (measured_fields t) in
-    equal_width c least (measured_spans (measured_fields t)) (omega (arith, settled, spanned, fits))
+    let v : Table = made_equal (measured_fields t) in
+    let even : least ≤ (column v c).width = equal_width c least (measured_fields t) settled in
+    let spanned : width_in (column v c) ≤ width_in (column (measured_spans v) c) = spans_width c v in
+    equal_width c least (measured_spans v) (omega (arith, even, spanned, fits))
 
 -- ---- e
 
@@ -88,18 +90,6 @@ spanned_columns K wide c v =
     (spanned_same (λ (w : Table). K (column w c)) (λ u i more. set_same K u.columns.items i (wider more (column u i)) fresh (wide more (column u i)) c))
     (length v.cells.items) v
 
-equal_kept : (t : Table) (c : ℕ) → (column (measured_spans (measured_fields t)) c).equal ≡ (column t c).equal
-equal_kept t c =
-    spanned_columns (λ (x : Column). x.equal) (λ more x. refl) c (measured_fields t)
-    ∙ settled_same (λ (x : Column). x.equal) (λ x. refl) c (columns (measured_cells t)) (measured_cells t)
-    ∙ cells_same (λ (x : Column). x.equal) (field_same (λ (x : Column). x.equal) (λ w x. refl) (λ w x. refl) number_equal) c t
-
-count_kept : (t : Table) → columns (measured_spans (measured_fields t)) ≡ columns t
-count_kept t =
-    turn_same columns spanned_cell (spanned_same columns (λ w c more. length-set w.columns.items c (wider more (column w c))))
-    (length (measured_fields t).cells.items) (measured_fields t)
-    ∙ fields_same columns (λ w c x. length-set w.columns.items c x) t
-
 equal_flag : (widest c n : ℕ) (u : Table) → (column (equal_column widest n u) c).equal ≡ (column u c).equal
 equal_flag widest c n u =
     if_same (λ (w : Table). (column w c).equal) (column u n).equal (record u { columns = put n (with_width widest (column u n)) u.columns }) u
@@ -109,6 +99,20 @@ equal_count : (widest n : ℕ) (u : Table) → columns (equal_column widest n u)
 equal_count widest n u =
     if_same columns (column u n).equal (record u { columns = put n (with_width widest (column u n)) u.columns }) u (columns u)
     (length-set u.columns.items n (with_width widest (column u n))) refl
+
+equal_kept : (t : Table) (c : ℕ) → (column (measured_spans (made_equal (measured_fields t))) c).equal ≡ (column t c).equal
+equal_kept t c =
+    let u : Table = measured_fields t in
+    spanned_columns (λ (x : Column). x.equal) (λ more x. refl) c (made_equal u)
+    ∙ turn_same (λ (w : Table). (column w c).equal) (equal_column (widest_equal u)) (equal_flag (widest_equal u) c) (columns u) u
+    ∙ settled_same (λ (x : Column). x.equal) (λ x. refl) c (columns (measured_cells t)) (measured_cells t)
+    ∙ cells_same (λ (x : Column). x.equal) (field_same (λ (x : Column). x.equal) (λ w x. refl) (λ w x. refl) number_equal) c t
+
+count_kept : (t : Table) → columns (measured_spans (made_equal (measured_fields t))) ≡ columns t
+count_kept t =
+    turn_same columns spanned_cell (spanned_same columns (λ w c more. length-set w.columns.items c (wider more (column w c))))
+    (length (made_equal (measured_fields t)).cells.items) (made_equal (measured_fields t))
+    ∙ even_same columns (λ w c x. length-set w.columns.items c x) t
 
 if_has : {T : Type 0} (P : T → Type 0) (b : Bool) (x y : T) → P x → P y → P (if b then x else y)
 if_has P true x y p q = p
@@ -135,7 +139,7 @@ made_width v c inside e =
 
 pub equal_columns : EqualColumns
 equal_columns t c d in_c in_d is_c is_d =
-    let v : Table = measured_spans (measured_fields t) in
+    let v : Table = measured_spans (made_equal (measured_fields t)) in
     let at_c : c < columns v = subst (λ (k : ℕ). c < k) (sym (count_kept t)) in_c in
     let at_d : d < columns v = subst (λ (k : ℕ). d < k) (sym (count_kept t)) in_d in
     made_width v c at_c (equal_kept t c ∙ is_c) ∙ sym (made_width v d at_d (equal_kept t d ∙ is_d))

@@ -183,6 +183,15 @@ fields_same K same t =
     turn_same K settled_column (λ n u. same u n (as_wide (column u n))) (columns (measured_cells t)) (measured_cells t)
     ∙ turn_same K measured_cell (measured_same K (λ u f. same u f.first (with_field u f (column u f.first)))) (length t.cells.items) t
 
+pub even_same : {B : Type 0} (K : Table → B) → ((u : Table) (c : ℕ) (x : Column) → K (record u { columns = put c x u.columns }) ≡ K u) → (t : Table)
+    → K (made_equal (measured_fields t)) ≡ K t
+even_same K same t =
+    let u : Table = measured_fields t in
+    turn_same K (equal_column (widest_equal u))
+    (λ n w. if_same K (column w n).equal (record w { columns = put n (with_width (widest_equal u) (column w n)) w.columns }) w (K w)
+    (same w n (with_width (widest_equal u) (column w n))) refl) (columns u) u
+    ∙ fields_same K same t
+
 -- ---- the law
 
 both : (a b : Bool) → a ≡ true → b ≡ true → (a && b) ≡ true
@@ -192,12 +201,12 @@ both false b e g = cc
 pub spans_fit : SpansFit
 spans_fit t n within counts over inside few =
     let f : Cell = cell_of t n in
-    let v : Table = measured_fields t in
+    let v : Table = made_equal (measured_fields t) in
     let u : Table = in_turn n spanned_cell v in
-    let cells_v : v.cells ≡ t.cells = fields_same (λ (w : Table). w.cells) (λ w c x. refl) t in
+    let cells_v : v.cells ≡ t.cells = even_same (λ (w : Table). w.cells) (λ w c x. refl) t in
     let cells_u : u.cells ≡ t.cells =
     turn_same (λ (w : Table). w.cells) spanned_cell (spanned_same (λ (w : Table). w.cells) (λ w c more. refl)) n v ∙ cells_v in
-    let count_v : columns v ≡ columns t = fields_same columns (λ w c x. length-set w.columns.items c x) t in
+    let count_v : columns v ≡ columns t = even_same columns (λ w c x. length-set w.columns.items c x) t in
     let count_u : columns u ≡ columns t =
     turn_same columns spanned_cell (spanned_same columns (λ w c more. length-set w.columns.items c (wider more (column w c)))) n v ∙ count_v in
     let is : cell_of u n ≡ f = ap (λ (xs : Items Cell). get_or xs.items n no_cell) cells_u in

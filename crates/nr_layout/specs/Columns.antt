@@ -213,6 +213,6 @@ equal_column width c t =
 abbrev pub made_equal : Table → Table
 made_equal t = in_turn (columns t) (equal_column (widest_equal t)) t
 
--- by their fields, then what spans lack is dealt out, then e
+-- by their fields; what spans lack is dealt out to columns of e as wide as they are then, and e holds behind it
 abbrev pub measured_all : Table → Table
-measured_all t = made_equal (measured_spans (measured_fields t))
+measured_all t = made_equal (measured_spans (made_equal (measured_fields t)))

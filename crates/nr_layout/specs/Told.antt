@@ -98,7 +98,7 @@ adjusting_if t told = if told.blocks then adjusting_text t else []
 
 abbrev pub widths_strokes : Table → Told → List Stroke
 widths_strokes t told =
-    Bytes (columns_text t) ∷ Bytes (spans_text t) ∷ Bytes (adjusting_if t told)
+    Bytes (columns_text t) ∷ Bytes (equal_text t) ∷ Bytes (spans_text t) ∷ Bytes (adjusting_if t told)
     ∷ Bytes (blocks_text t false told) ∷ Bytes (equal_text t) ∷ []
 
 abbrev pub places_told : Table → Table

@@ -151,6 +151,7 @@ impl Table {
         ensures told { told.new ≡ blocks.blocks_told self.now false told.old }
     {
         self.put_columns(out);
+        self.put_equal(out);
         self.put_spans(out);
         self.find_adjusting(*told, out);
         self.put_blocks(false, told, out);

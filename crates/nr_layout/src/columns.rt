@@ -456,12 +456,14 @@ impl Table {
         }
     }
 
-    /// The columns where all widths show: by their fields, then what spans lack is dealt out, then `e`.
+    /// The columns where all widths show: by their fields, then `e`, then what spans lack is dealt out, and `e`
+    /// again, since an odd cell may make columns of `e` differ.
     pub(crate) fn measure_all(&mut self)
         ensures value { self.new ≡ specs.measured_all self.old }
         ensures room { held.emptied self.new ≡ held.emptied self.old }
     {
         self.measure_fields();
+        self.make_equal();
         self.measure_spans();
         self.make_equal();
     }
