@@ -52,18 +52,20 @@ abbrev pub number_begin : Table → Cell → ℕ → Option ℕ
 number_begin t f room =
     if not (is_number f) || spans f then None else number_in (front_cells t f) room (column t f.first)
 
-abbrev pub or_middle : Option ℕ → ℕ → ℕ → ℕ
-or_middle None room width = (room - width) / 2
-or_middle (Some cells) room width = cells
+-- a text that is wider than its columns stands over their edges as far on one side as on the other
+abbrev pub in_middle : Option ℕ → ℕ → ℕ → Place → Place
+in_middle None room width left =
+    record left { cells = sum left.cells ((room - width) / 2) - (width - room) / 2 }
+in_middle (Some cells) room width left = on cells left
 
 abbrev pub begin_in : Table → Cell → ℕ → Place
 begin_in t f room =
     let left = (column t f.first).left in
     let width = or_nothing f.width in
     if f.key.kind == code "r" then record left { cells = sum left.cells room - width } else
-    if f.key.kind == code "a" then on (if spans f then 1 else (room - (column t f.first).alpha) / 2) left else
-    if (f.key.kind == code "c") || (f.key.kind == code "n")
-    then on (or_middle (number_begin t f room) room width) left else left
+    if (f.key.kind == code "a") && not (spans f) then on ((room - (column t f.first).alpha) / 2) left else
+    if (f.key.kind == code "c") || (f.key.kind == code "n") || (f.key.kind == code "a")
+    then in_middle (number_begin t f room) room width left else left
 
 -- where its columns show their width, or only the formatter knows
 abbrev pub told_or : Option ℕ → Bool → Table → Cell → Begin
@@ -83,7 +85,7 @@ abbrev pub begin_of : Table → Cell → Begin
 begin_of t f =
     let c = column t f.first in
     if stands_left f then begins.At c.left else
-    if (f.key.kind == code "a") && spans f then begins.At (on 1 c.left) else
+    if (f.key.kind == code "a") && spans f && is_block f.field.form then begins.At (on 1 c.left) else
     if is_plain f && not (spans f) && c.known then begins.At (begin_in t f c.width) else
     told_or (steps_between c.left (column t f.last).right) (is_plain f) t f
 
@@ -156,8 +158,9 @@ middle_begin t f = room_text t f ++ codes ")-" ++ width_text t f ++ half_text t 
 abbrev pub begin_text : Table → Cell → List ℕ
 begin_text t f =
     if f.key.kind == code "r" then right_begin t f else
+    if spans f then middle_begin t f else
     if (f.key.kind == code "a") && not (is_block f.field.form) then alpha_begin t f else
-    if not (spans f) && is_number f then number_place t f else middle_begin t f
+    if is_number f then number_place t f else middle_begin t f
 
 -- ---- strokes of a field
 

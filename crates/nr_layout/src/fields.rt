@@ -43,13 +43,19 @@ fn number_in(front: Option<usize>, room: usize, column: Column) -> Option<usize>
     }
 }
 
-/// How far a field in the middle of so many cells is moved in, where no place for its numbers says it.
-fn or_middle(cells: Option<usize>, room: usize, width: usize) -> usize
-    ensures { result ≡ specs.or_middle cells room width }
+/// Where a field begins that is moved in so far, or stands in the middle of so many cells.
+fn in_middle(cells: Option<usize>, room: usize, width: usize, left: Place) -> Place
+    ensures { result ≡ specs.in_middle cells room width left }
 {
     match cells {
-        Some(cells) => cells,
-        None => room.saturating_sub(width) / 2,
+        Some(cells) => left.on(cells),
+        None => {
+            let inward = left.on(room.saturating_sub(width) / 2);
+            Place {
+                cells: inward.cells.saturating_sub(width.saturating_sub(room) / 2),
+                ..inward
+            }
+        }
     }
 }
 
@@ -132,12 +138,11 @@ impl Table {
                 ..left
             };
         }
-        if cell.key.kind == b'a' {
-            let rest = room.saturating_sub(self.column(cell.first).alpha) / 2;
-            return left.on(if cell.spans() { 1 } else { rest });
+        if cell.key.kind == b'a' && !cell.spans() {
+            return left.on(room.saturating_sub(self.column(cell.first).alpha) / 2);
         }
-        if cell.key.kind == b'c' || cell.key.kind == b'n' {
-            return left.on(or_middle(self.number_begin(cell, room), room, width));
+        if matches!(cell.key.kind, b'c' | b'n' | b'a') {
+            return in_middle(self.number_begin(cell, room), room, width, left);
         }
         left
     }
@@ -163,7 +168,7 @@ impl Table {
         if cell.stands_left() {
             return Begin::At(column.left);
         }
-        if cell.key.kind == b'a' && cell.spans() {
+        if cell.key.kind == b'a' && cell.spans() && matches!(cell.field.form, Form::Block) {
             return Begin::At(column.left.on(1));
         }
         if cell.is_plain() && !cell.spans() && column.known {
@@ -360,10 +365,13 @@ impl Table {
         if cell.key.kind == b'r' {
             return self.put_right_begin(cell, out);
         }
+        if cell.spans() {
+            return self.put_middle_begin(cell, out);
+        }
         if cell.key.kind == b'a' && !matches!(cell.field.form, Form::Block) {
             return self.put_alpha_begin(cell, out);
         }
-        if !cell.spans() && self.is_number(cell) {
+        if self.is_number(cell) {
             return self.put_number_begin(cell, out);
         }
         self.put_middle_begin(cell, out);
