@@ -166,6 +166,24 @@ abbrev pub space_in : List ℕ → Option ℕ
 space_in (a ∷ b ∷ bs) = if (a == code "s") && (b == code "p") then lines_asked (after_blanks bs) else None
 space_in text = None
 
+abbrev pub space_asked : List ℕ → Option ℕ
+space_asked line = if is_asked line then space_in (after_blanks (behind line)) else None
+
+-- a condition that always holds
+abbrev pub behind_n : List ℕ → List ℕ
+behind_n [] = []
+behind_n (b ∷ bs) = if b == code "n" then after_blanks bs else []
+
+abbrev pub behind_if : List ℕ → List ℕ
+behind_if (a ∷ b ∷ bs) =
+    if (a == code "i") && (b == code "f") then behind_n (after_blanks bs) else []
+behind_if text = []
+
+-- the request that `.if n` asks for, or the line itself
+abbrev pub line_asked : List ℕ → List ℕ
+line_asked line =
+    if is_asked (behind_if (after_blanks (behind line))) then behind_if (after_blanks (behind line)) else line
+
 -- how many lines a request of space asks for
 abbrev pub space_of : List ℕ → Option ℕ
-space_of line = if is_asked line then space_in (after_blanks (behind line)) else None
+space_of line = if is_asked line then space_asked (line_asked line) else None

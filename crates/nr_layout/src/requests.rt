@@ -289,12 +289,51 @@ fn space_in(text: &[u8]) -> Option<usize>
     lines_asked(after_blanks(&text[2..]))
 }
 
+/// How many lines such a line asks for.
+fn space_asked(line: &[u8]) -> Option<usize>
+    ensures { result ≡ specs.space_asked line.now }
+{
+    if is_asked(line) {
+        space_in(after_blanks(behind(line)))
+    } else {
+        None
+    }
+}
+
+/// What stands behind the condition `n`, or nothing.
+fn behind_n(text: &[u8]) -> &[u8]
+    ensures { result.now ≡ specs.behind_n text.now }
+{
+    if text.is_empty() || text[0] != b'n' {
+        return b"";
+    }
+    after_blanks(&text[1..])
+}
+
+/// What stands behind `if n`, or nothing.
+fn behind_if(text: &[u8]) -> &[u8]
+    ensures { result.now ≡ specs.behind_if text.now }
+{
+    if text.len() < 2 || text[0] != b'i' || text[1] != b'f' {
+        return b"";
+    }
+    behind_n(after_blanks(&text[2..]))
+}
+
+/// The request that a line asks for where `.if n` stands before it, or the line.
+fn line_asked(line: &[u8]) -> &[u8]
+    ensures { result.now ≡ specs.line_asked line.now }
+{
+    let asked = behind_if(after_blanks(behind(line)));
+    if is_asked(asked) { asked } else { line }
+}
+
 /// How many lines a request of space asks for, if it is one of whole lines.
 pub(crate) fn space_of(line: &[u8]) -> Option<usize>
     ensures { result ≡ specs.space_of line.now }
 {
     if is_asked(line) {
-        space_in(after_blanks(behind(line)))
+        space_asked(line_asked(line))
     } else {
         None
     }
