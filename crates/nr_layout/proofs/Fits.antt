@@ -7,7 +7,7 @@ use Rattle.nr_layout.specs.declared.table.Cell.{Cell}
 use Rattle.nr_layout.specs.declared.table.Column.{Column}
 use Rattle.nr_layout.specs.declared.table.Table.{Table}
 use Rattle.nr_layout.specs.Cells.{columns_over}
-use Rattle.nr_layout.specs.Columns.{Dealing, dealing, dealt_at, equal_column, made_equal, measured, measured_cell, measured_cells, measured_fields, measured_spans, measures, settled_column, settled_columns, share, span_width, spanned_cell, widened, wider, widest_equal, widest_of, width_wanted, with_field, with_width}
+use Rattle.nr_layout.specs.Columns.{Dealing, dealing, dealt_at, equal_column, made_equal, measured, measured_cell, measured_cells, measured_fields, measured_spans, measures, settled_column, settled_columns, left_for, span_width, spanned_cell, widened, wider, widest_equal, widest_of, width_wanted, with_field, with_width}
 use Rattle.nr_layout.specs.Counted.{alpha_width, as_wide, with_alpha, with_number, with_text}
 use Rattle.nr_layout.specs.Drawing.{front_cells, front_span, is_given, is_number, or_nothing, spans}
 use Rattle.nr_layout.specs.Extent.{cells_of}
@@ -167,17 +167,19 @@ most = 18446744073709551615
 abbrev pub width_in : Column → ℕ
 width_in c = min c.width most
 
-pub dealt_width : (c last n : ℕ) (d : Dealing) → width_in (column d.table c) ≤ width_in (column (dealt_at last n d).table c)
-dealt_width c last n d =
+pub dealt_width : (whole all c last n : ℕ) (d : Dealing) → width_in (column d.table c) ≤ width_in (column (dealt_at whole all last n d).table c)
+dealt_width whole all c last n d =
     let x : Column = column d.table n in
-    let more : ℕ = share d.rest (max (sum last 1 - n) 1) in
+    let more : ℕ = d.rest - left_for whole all (last - n) in
     let no_less : width_in x ≤ width_in (wider more x) = omega arith in
     set_keeps width_in d.table.columns.items n (wider more x) fresh no_less c
 
 pub widened_width : (c first last width : ℕ) (u : Table) → width_in (column u c) ≤ width_in (column (widened first last width u) c)
 widened_width c first last width u =
-    turn_keeps (λ (d : Dealing). width_in (column d.table c)) (λ n. dealt_at last (first + n)) (λ n d. dealt_width c last (first + n) d)
-    (columns_over first last) (dealing u (width - span_width u first last))
+    let whole : ℕ = width - span_width u first last in
+    let all : ℕ = columns_over first last in
+    turn_keeps (λ (d : Dealing). width_in (column d.table c)) (λ n. dealt_at whole all last (first + n))
+    (λ n d. dealt_width whole all c last (first + n) d) all (dealing u whole)
 
 pub spanned_width : (c n : ℕ) (u : Table) → width_in (column u c) ≤ width_in (column (spanned_cell n u) c)
 spanned_width c n u =

@@ -1,6 +1,5 @@
 -- A field over several columns fits in them.
-use Rattle.std.proofs.Common.{◌≡◌, ℕ, zero, suc, ◌+◌, ◌-◌, ◌/◌, ◌<◌, ◌≤◌, ◌^◌, min, max, Bool, true, false, ◌&&◌, nat_lt, length, get_or, refl, sym, ap, subst, arith, ◌∙◌, length-set, if◌then◌else◌}
-use Rattle.std.proofs.Math.Nat.{div-one}
+use Rattle.std.proofs.Common.{◌≡◌, ℕ, zero, suc, ◌+◌, ◌-◌, ◌<◌, ◌≤◌, ◌^◌, min, max, Bool, true, false, ◌&&◌, nat_lt, length, get_or, refl, sym, ap, subst, arith, ◌∙◌, length-set, if◌then◌else◌}
 use Rattle.std.proofs.lemmas.Bool.Decides.{nat_tests}
 use Rattle.std.proofs.lemmas.List.{get_or-set_same}
 use Rattle.nr_units.specs.Items.{Items}
@@ -8,7 +7,7 @@ use Rattle.nr_layout.specs.declared.table.Cell.{Cell}
 use Rattle.nr_layout.specs.declared.table.Column.{Column}
 use Rattle.nr_layout.specs.declared.table.Table.{Table}
 use Rattle.nr_layout.specs.Cells.{columns_over}
-use Rattle.nr_layout.specs.Columns.{Dealing, dealing, dealt_at, equal_column, made_equal, measured_cell, measured_cells, measured_fields, measured_spans, measures, settled_column, share, span_width, spanned_cell, together, widened, wider, widest_equal, width_wanted, with_column, with_field, with_width}
+use Rattle.nr_layout.specs.Columns.{Dealing, dealing, dealt_at, equal_column, made_equal, measured_cell, measured_cells, measured_fields, measured_spans, measures, settled_column, left_for, span_width, spanned_cell, together, widened, wider, widest_equal, width_wanted, with_column, with_field, with_width}
 use Rattle.nr_layout.specs.Counted.{as_wide}
 use Rattle.nr_layout.specs.Drawing.{spans}
 use Rattle.nr_layout.specs.Fitting.{SpansFit}
@@ -91,10 +90,10 @@ record Enough (width k first last count : ℕ) (d : Dealing) : Type 0 where
   same : columns d.table ≡ count
 
 -- for one of the columns
-step_enough : (width k first last count m : ℕ) (d : Dealing) → m < k → first + m < count → width ≤ most → Enough width k first last count d
-    → Enough width k first last count (dealt_at last (first + m) d)
-step_enough width k first last count m d h inside small e =
-    let more : ℕ = share d.rest (max (sum last 1 - (first + m)) 1) in
+step_enough : (whole all width k first last count m : ℕ) (d : Dealing) → m < k → first + m < count → width ≤ most
+    → Enough width k first last count d → Enough width k first last count (dealt_at whole all last (first + m) d)
+step_enough whole all width k first last count m d h inside small e =
+    let more : ℕ = d.rest - left_for whole all (last - (first + m)) in
     let there : first + m < columns d.table = subst (λ (n : ℕ). first + m < n) (sym e.same) inside in
     let wide : min (together k d.table first last + more) most ≤ together k (wider_at (first + m) more d.table) first last =
     together_wider k d.table first last m more h there in
@@ -105,28 +104,24 @@ step_enough width k first last count m d h inside small e =
     }
 
 -- for the first of them
-all_enough : (width k first last count j : ℕ) (d : Dealing) → j ≤ k → first + k ≤ count → width ≤ most → Enough width k first last count d
-    → Enough width k first last count (in_turn j (λ n. dealt_at last (first + n)) d)
-all_enough width k first last count zero d h inside small e = e
-all_enough width k first last count (suc j) d h inside small e =
-    step_enough width k first last count j (in_turn j (λ n. dealt_at last (first + n)) d) (omega (arith, h)) (omega (arith, h, inside)) small
-    (all_enough width k first last count j d (omega (arith, h)) inside small e)
+all_enough : (whole all width k first last count j : ℕ) (d : Dealing) → j ≤ k → first + k ≤ count → width ≤ most
+    → Enough width k first last count d → Enough width k first last count (in_turn j (λ n. dealt_at whole all last (first + n)) d)
+all_enough whole all width k first last count zero d h inside small e = e
+all_enough whole all width k first last count (suc j) d h inside small e =
+    step_enough whole all width k first last count j (in_turn j (λ n. dealt_at whole all last (first + n)) d) (omega (arith, h))
+    (omega (arith, h, inside)) small (all_enough whole all width k first last count j d (omega (arith, h)) inside small e)
 
--- to the last goes all that is left
-share_last : (rest left : ℕ) → rest ≤ most → left ≡ 1 → share rest left ≡ rest
-share_last rest left h e =
-    let whole : sum rest 0 ≡ rest = omega (arith, h) in
-    ap (λ (n : ℕ). sum rest ((n - 1) / 2) / n) e ∙ div-one (sum rest 0) ∙ whole
-
-last_enough : (width j first last count : ℕ) (d : Dealing) → first + j ≡ last → last < count → count < 2 ^ 64 → width ≤ most
-    → Enough width (suc j) first last count d → width ≤ together (suc j) (dealt_at last (first + j) d).table first last
-last_enough width j first last count d at inside few small e =
-    let left : max (sum last 1 - (first + j)) 1 ≡ 1 = omega (arith, at, inside, few) in
-    let all : share d.rest (max (sum last 1 - (first + j)) 1) ≡ d.rest = share_last d.rest (max (sum last 1 - (first + j)) 1) e.fits left in
-    let after : Enough width (suc j) first last count (dealt_at last (first + j) d) =
-    step_enough width (suc j) first last count j d (omega arith) (omega (arith, at, inside)) small e in
-    let none : (dealt_at last (first + j) d).rest ≡ 0 = ap (λ (n : ℕ). d.rest - n) all ∙ omega arith in
-    let enough : width ≤ together (suc j) (dealt_at last (first + j) d).table first last + (dealt_at last (first + j) d).rest = after.enough in
+-- behind the last nothing is left
+last_enough : (whole width j first last count : ℕ) (d : Dealing) → first + j ≡ last → last < count → count < 2 ^ 64 → width ≤ most
+    → Enough width (suc j) first last count d → width ≤ together (suc j) (dealt_at whole (suc j) last (first + j) d).table first last
+last_enough whole width j first last count d at inside few small e =
+    let left : last - (first + j) ≡ 0 = omega (arith, at) in
+    let all : left_for whole (suc j) (last - (first + j)) ≡ 0 = ap (left_for whole (suc j)) left in
+    let after : Enough width (suc j) first last count (dealt_at whole (suc j) last (first + j) d) =
+    step_enough whole (suc j) width (suc j) first last count j d (omega arith) (omega (arith, at, inside)) small e in
+    let none : (dealt_at whole (suc j) last (first + j) d).rest ≡ 0 = ap (λ (n : ℕ). d.rest - (d.rest - n)) all ∙ omega arith in
+    let enough : width ≤ together (suc j) (dealt_at whole (suc j) last (first + j) d).table first last
+    + (dealt_at whole (suc j) last (first + j) d).rest = after.enough in
     omega (arith, enough, none)
 
 widened_fits : (u : Table) (first last width : ℕ) → first ≤ last → last < columns u → columns u < 2 ^ 64 → width ≤ most
@@ -134,24 +129,26 @@ widened_fits : (u : Table) (first last width : ℕ) → first ≤ last → last 
 widened_fits u first last width h inside few small =
     let j : ℕ = last - first in
     let over : suc j ≡ columns_over first last = omega (arith, h, inside, few) in
-    let d : Dealing = dealing u (width - span_width u first last) in
     let at : first + j ≡ last = omega (arith, h) in
-    let lack : Dealing = dealing u (width - together (suc j) u first last) in
+    let whole : ℕ = width - together (suc j) u first last in
+    let lack : Dealing = dealing u whole in
     let met : Enough width (suc j) first last (columns u) lack =
     record { enough = omega arith; fits = omega (arith, small); same = refl } in
-    let before : Enough width (suc j) first last (columns u) (in_turn j (λ n. dealt_at last (first + n)) lack) =
-    all_enough width (suc j) first last (columns u) j lack (omega arith) (omega (arith, at, inside)) small met in
-    subst (λ (k : ℕ). width ≤ together k (in_turn k (λ n. dealt_at last (first + n)) (dealing u (width - together k u first last))).table first last) over
-    (last_enough width j first last (columns u) (in_turn j (λ n. dealt_at last (first + n)) lack) at inside few small before)
+    let before : Enough width (suc j) first last (columns u) (in_turn j (λ n. dealt_at whole (suc j) last (first + n)) lack) =
+    all_enough whole (suc j) width (suc j) first last (columns u) j lack (omega arith) (omega (arith, at, inside)) small met in
+    subst (λ (k : ℕ). width ≤ together k (in_turn k (λ n. dealt_at (width - together k u first last) k last (first + n))
+    (dealing u (width - together k u first last))).table first last) over
+    (last_enough whole width j first last (columns u) (in_turn j (λ n. dealt_at whole (suc j) last (first + n)) lack) at inside few small before)
 
 -- ---- what stays where columns become wider
 
 widened_same : {B : Type 0} (K : Table → B) → ((u : Table) (c more : ℕ) → K (wider_at c more u) ≡ K u) → (first last width : ℕ) (u : Table)
     → K (widened first last width u) ≡ K u
 widened_same K same first last width u =
-    turn_same (λ (d : Dealing). K d.table) (λ n. dealt_at last (first + n))
-    (λ n d. same d.table (first + n) (share d.rest (max (sum last 1 - (first + n)) 1))) (columns_over first last)
-    (dealing u (width - span_width u first last))
+    let whole : ℕ = width - span_width u first last in
+    let all : ℕ = columns_over first last in
+    turn_same (λ (d : Dealing). K d.table) (λ n. dealt_at whole all last (first + n))
+    (λ n d. same d.table (first + n) (d.rest - left_for whole all (last - (first + n)))) all (dealing u whole)
 
 pub spanned_same : {B : Type 0} (K : Table → B) → ((u : Table) (c more : ℕ) → K (wider_at c more u) ≡ K u) → (n : ℕ) (u : Table) → K (spanned_cell n u) ≡ K u
 spanned_same K same n u =

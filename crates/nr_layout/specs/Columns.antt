@@ -1,8 +1,8 @@
 -- The widths of columns, in cells (Lesk, "Additional command lines" and "Usage"; tbl(1), "Column modifiers"): a column is as wide as the
 -- widest field that stands in it alone, as w says, and one cell at least; numbers are aligned, so it has room for the most before their
 -- place and the most after it; fields of a stand two cells further in at least. What a field over several columns lacks is dealt out to
--- them, the most to the first. Columns of e are as wide as the widest of them.
-use Rattle.std.specs.Prelude.{ℕ, zero, suc, ◌+◌, ◌-◌, ◌/◌, min, max, Bool, true, false, ◌==◌, ◌&&◌, ◌||◌, not, nat_le, nat_lt, List, [], ◌∷◌, length, Option, None, Some, ℤ, pos, negsuc, if◌then◌else◌}
+-- them. Columns of e are as wide as the widest of them.
+use Rattle.std.specs.Prelude.{ℕ, zero, suc, ◌+◌, ◌-◌, ◌*◌, ◌/◌, min, max, Bool, true, false, ◌==◌, ◌&&◌, ◌||◌, not, nat_le, nat_lt, List, [], ◌∷◌, length, Option, None, Some, ℤ, pos, negsuc, if◌then◌else◌}
 use Prim.Native.Char.{code}
 use Rattle.nr_units.specs.LongestFront.{read_of}
 use Rattle.nr_units.specs.declared.expression.Ctx.{Ctx}
@@ -141,7 +141,8 @@ measured_cells t = in_turn (length t.cells.items) measured_cell t
 abbrev pub measured_fields : Table → Table
 measured_fields t = settled_columns (measured_cells t)
 
--- ---- a greater width is dealt out to columns: to each the rest through those that are left, to the nearest, half a cell to those behind
+-- ---- a greater width is dealt out to columns in parts of whole units, of which a cell has 24: the first parts end at the nearest cell,
+-- the lower of two, and the last takes the rest
 
 -- of the first of these columns, with the spaces after them, but for that after the last
 abbrev pub with_column : Bool → ℕ → Column → ℕ
@@ -162,8 +163,15 @@ pub record Dealing : Type 0 where
 abbrev pub dealing : Table → ℕ → Dealing
 dealing t rest = record { table = t; rest = rest }
 
-abbrev pub share : ℕ → ℕ → ℕ
-share rest left = sum rest ((left - 1) / 2) / left
+abbrev pub product : ℕ → ℕ → ℕ
+product a b = min (a * b) 18446744073709551615
+
+abbrev pub parts_end : ℕ → ℕ → ℕ → ℕ
+parts_end whole count all = sum (product (product whole 24 / max all 1) count) 11 / 24
+
+-- what is left of the whole that all columns get, for so many of them
+abbrev pub left_for : ℕ → ℕ → ℕ → ℕ
+left_for whole all left = if left == 0 then 0 else whole - parts_end whole (all - left) all
 
 abbrev pub wider : ℕ → Column → Column
 wider more c = record c { width = sum c.width more }
@@ -173,14 +181,16 @@ dealt_to c more d =
     dealing (record d.table { columns = put c (wider more (column d.table c)) d.table.columns })
     (d.rest - more)
 
-abbrev pub dealt_at : ℕ → ℕ → Dealing → Dealing
-dealt_at last c d = dealt_to c (share d.rest (max (sum last 1 - c) 1)) d
+abbrev pub dealt_at : ℕ → ℕ → ℕ → ℕ → Dealing → Dealing
+dealt_at whole all last c d = dealt_to c (d.rest - left_for whole all (last - c)) d
 
-abbrev pub dealt : ℕ → ℕ → Dealing → Dealing
-dealt first last d = in_turn (columns_over first last) (λ n. dealt_at last (first + n)) d
+abbrev pub dealt : ℕ → ℕ → ℕ → Table → Dealing
+dealt first last whole t =
+    in_turn (columns_over first last) (λ n. dealt_at whole (columns_over first last) last (first + n))
+    (dealing t whole)
 
 abbrev pub widened : ℕ → ℕ → ℕ → Table → Table
-widened first last width t = (dealt first last (dealing t (width - span_width t first last))).table
+widened first last width t = (dealt first last (width - span_width t first last) t).table
 
 -- fields of a stand further in
 abbrev pub width_wanted : Cell → ℕ

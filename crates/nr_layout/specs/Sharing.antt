@@ -1,14 +1,15 @@
--- Columns of x, or the spaces between columns, share what is left of the line (tbl(1), "Column modifiers" and "Region options"): `*S` is how
--- much that is, `*t` a share of it.
-use Rattle.std.specs.Prelude.{ℕ, zero, suc, ◌-◌, Bool, true, false, ◌==◌, ◌||◌, List, [], ◌∷◌, ◌++◌, None, codes, decimal, if◌then◌else◌}
+-- Columns of x, or the spaces between columns, share what is left of the line (tbl(1), "Column modifiers" and "Region options"; Lesk,
+-- "Options": a number in the formats is multiplied): `*S` is how much that is, `*t` a share of it.
+use Rattle.std.specs.Prelude.{ℕ, zero, suc, ◌-◌, ◌/◌, Bool, true, false, ◌==◌, ◌||◌, List, [], ◌∷◌, ◌++◌, None, codes, decimal, if◌then◌else◌}
 use Rattle.nr_layout.specs.declared.table.Table.{Table}
 use Rattle.nr_layout.specs.declared.told.Told.{Told}
 use Rattle.nr_layout.specs.Blocks.{blocks_text, blocks_told}
 use Rattle.nr_layout.specs.Held.{column, columns}
+use Rattle.nr_layout.specs.Places.{sum}
 use Rattle.nr_layout.specs.Registers.{one_more}
 use Rattle.nr_layout.specs.Sequences.{joined, some_below}
 use Rattle.nr_layout.specs.Standing.{places_text}
-use Rattle.nr_layout.specs.Widening.{share_of}
+use Rattle.nr_layout.specs.Widening.{parts_between}
 use Rattle.nr_layout.specs.Writing.{line, parts}
 
 -- ---- columns of x
@@ -28,7 +29,11 @@ wide_column t c = if wide_at t c then line (codes ".nr *S +(\\n[*w" ∷ decimal 
 abbrev pub wide_text : Table → List ℕ
 wide_text t = joined (columns t) (wide_column t)
 
--- among how many the rest is shared behind the first columns
+-- the rest is shared among so many, to the nearest
+abbrev pub share_of : ℕ → List ℕ
+share_of left = line (codes ".nr *t \\n(*S+" ∷ decimal ((left - 1) / 2) ∷ codes "/" ∷ decimal left ∷ [])
+
+-- among how many that is behind the first columns
 abbrev pub one_less : Bool → ℕ → ℕ
 one_less counts n = if counts then n - 1 else n
 
@@ -53,7 +58,7 @@ column_shares wide t = joined (columns t) (column_share_at wide t)
 abbrev pub columns_shared : Table → List ℕ
 columns_shared t = wide_text t ++ column_shares (wide_count (columns t) t) t
 
--- ---- the spaces between columns
+-- ---- the spaces between columns share it as their numbers are
 
 -- set to nothing
 abbrev pub no_gap : ℕ → List ℕ
@@ -62,27 +67,37 @@ no_gap c = line (codes ".nr *s" ∷ decimal c ∷ codes " 0" ∷ [])
 abbrev pub no_gaps : ℕ → List ℕ
 no_gaps gaps = joined gaps no_gap
 
-abbrev pub gap_share : ℕ → ℕ → List ℕ
-gap_share gaps c =
-    share_of (gaps - c) ++ line (codes ".nr *s" ∷ decimal c ∷ codes " +(\\n(*tn)\n.nr *S -\\n(*t" ∷ [])
+-- what the formats give the spaces after the first columns
+abbrev pub gap_total : ℕ → Table → ℕ
+gap_total zero t = 0
+gap_total (suc c) t = sum (gap_total c t) (column t c).gap
 
-abbrev pub gap_shares : ℕ → List ℕ
-gap_shares gaps = joined gaps (gap_share gaps)
+-- each has as many parts of what is shared, and one where none has any
+abbrev pub gap_parts : ℕ → Table → ℕ → ℕ
+gap_parts gaps t c = if gap_total gaps t == 0 then c else gap_total c t
 
-abbrev pub some_gaps : ℕ → List ℕ
-some_gaps gaps =
-    codes ".ie \\n(*S>0 \\{\\\n" ++ gap_shares gaps ++ codes ".\\}\n.el .if \\n(*S<0 \\{\\\n" ++ no_gaps gaps
-    ++ codes ".\\}\n"
+abbrev pub gap_share : ℕ → Table → ℕ → List ℕ
+gap_share gaps t c =
+    parts (codes ".nr *s" ∷ decimal c ∷ [])
+    ++ parts_between (gap_parts gaps t c) (gap_parts gaps t (sum c 1)) (gap_parts gaps t gaps)
+
+abbrev pub gap_shares : ℕ → Table → List ℕ
+gap_shares gaps t = joined gaps (gap_share gaps t)
+
+abbrev pub some_gaps : ℕ → Table → List ℕ
+some_gaps gaps t =
+    codes ".ie \\n(*S>0 \\{\\\n" ++ gap_shares gaps t ++ codes ".\\}\n.el .if \\n(*S<0 \\{\\\n"
+    ++ no_gaps gaps ++ codes ".\\}\n"
 
 -- a table of one column becomes wider itself
 abbrev pub one_widened : List ℕ
 one_widened = codes ".if \\n(*S>0 .nr *w0 +(\\n(*Sn)\n"
 
-abbrev pub gaps_shared_of : ℕ → List ℕ
-gaps_shared_of gaps = if gaps == 0 then one_widened else some_gaps gaps
+abbrev pub gaps_shared_of : ℕ → Table → List ℕ
+gaps_shared_of gaps t = if gaps == 0 then one_widened else some_gaps gaps t
 
 abbrev pub gaps_shared : Table → List ℕ
-gaps_shared t = gaps_shared_of (columns t - 1)
+gaps_shared t = gaps_shared_of (columns t - 1) t
 
 -- as the formats say
 abbrev pub gap_set : Table → ℕ → List ℕ

@@ -1,6 +1,6 @@
 -- What fields over several columns lack is dealt out to these (Lesk, "Usage"; tbl(1), "Column classifiers"), and columns of e are as wide as the
--- widest of them (tbl(1), "Column modifiers"). `*S` is what is dealt out, and `*t` a share of it; `*w` with a number is the width of a column.
-use Rattle.std.specs.Prelude.{ℕ, ◌-◌, ◌/◌, max, Bool, ◌&&◌, not, nat_lt, List, [], ◌∷◌, ◌++◌, length, codes, decimal, if◌then◌else◌}
+-- widest of them (tbl(1), "Column modifiers"). `*S` is what is dealt out; `*w` with a number is the width of a column.
+use Rattle.std.specs.Prelude.{ℕ, ◌-◌, Bool, ◌==◌, ◌&&◌, not, nat_lt, List, [], ◌∷◌, ◌++◌, length, codes, decimal, if◌then◌else◌}
 use Rattle.nr_layout.specs.declared.table.Cell.{Cell}
 use Rattle.nr_layout.specs.declared.table.Table.{Table}
 use Rattle.nr_layout.specs.Columns.{measures}
@@ -32,17 +32,22 @@ total_at t first last sign n = total_column t first last sign (sum first n)
 abbrev pub total_text : Table → ℕ → ℕ → List ℕ → List ℕ
 total_text t first last sign = joined (range first last) (total_at t first last sign)
 
--- what is left is dealt out among so many, to the nearest
-abbrev pub share_of : ℕ → List ℕ
-share_of left = line (codes ".nr *t \\n(*S+" ∷ decimal ((left - 1) / 2) ∷ codes "/" ∷ decimal left ∷ [])
+-- where the first parts of all end, in cells: a part has whole units, of which a cell has 24, and the last ends with the whole
+abbrev pub parts_end : ℕ → ℕ → List ℕ
+parts_end count all =
+    if count == all then codes "\\n(*S"
+    else parts (codes "\\n(*S*24/" ∷ decimal all ∷ codes "*" ∷ decimal count ∷ codes "+11/24" ∷ [])
 
-abbrev pub widened_column : ℕ → ℕ → List ℕ
-widened_column left c =
-    share_of left ++ line (codes ".nr *w" ∷ decimal c ∷ codes " +(\\n(*tn)" ∷ [])
-    ++ text_if (nat_lt 1 left) (codes ".nr *S -\\n(*t\n")
+-- up to there, but not what ends before
+abbrev pub parts_between : ℕ → ℕ → ℕ → List ℕ
+parts_between before count all =
+    codes " +(" ++ parts_end count all ++ codes "-(" ++ parts_end before all ++ codes ")*24)\n"
+
+abbrev pub widened_column : ℕ → ℕ → ℕ → List ℕ
+widened_column all n c = parts (codes ".nr *w" ∷ decimal c ∷ []) ++ parts_between n (sum n 1) all
 
 abbrev pub widened_at : ℕ → ℕ → ℕ → List ℕ
-widened_at first last n = widened_column (max (range (sum first n) last) 1) (sum first n)
+widened_at first last n = widened_column (range first last) n (sum first n)
 
 abbrev pub widened_columns : ℕ → ℕ → List ℕ
 widened_columns first last = joined (range first last) (widened_at first last)

@@ -1,6 +1,7 @@
 //! The widths of columns.
 
 ghost use Rattle.std.specs.Prelude.{◌≡◌, length, true};
+ghost use Rattle.nr_layout.specs.Cells as cells;
 ghost use Rattle.nr_layout.specs.Columns as specs;
 ghost use Rattle.nr_layout.specs.Drawing as drawing;
 ghost use Rattle.nr_layout.specs.Held as held;
@@ -89,6 +90,31 @@ fn with_column(inner: bool, width: usize, column: Column) -> usize
     } else {
         width.saturating_add(column.width)
     }
+}
+
+/// How many columns there are from one to another.
+fn columns_over(first: usize, last: usize) -> usize
+    ensures { result ≡ cells.columns_over first last }
+{
+    last.saturating_add(1).saturating_sub(first)
+}
+
+/// Where so many of all parts of a whole end, in cells.
+fn parts_end(whole: usize, count: usize, all: usize) -> usize
+    ensures { result ≡ specs.parts_end whole count all }
+{
+    let part = whole.saturating_mul(24) / all.max(1);
+    part.saturating_mul(count).saturating_add(11) / 24
+}
+
+/// What is left of a whole that all of some columns get, for so many of them.
+fn left_for(whole: usize, all: usize, left: usize) -> usize
+    ensures { result ≡ specs.left_for whole all left }
+{
+    if left == 0 {
+        return 0;
+    }
+    whole.saturating_sub(parts_end(whole, all.saturating_sub(left), all))
 }
 
 /// Whether the width of a field of this form shows in the text.
@@ -366,15 +392,24 @@ impl Table {
         width
     }
 
-    /// A column becomes wider by its share of what is to be dealt out up to the last of these columns; tells
-    /// what is left then.
-    fn deal_to(&mut self, number: usize, last: usize, rest: usize) -> usize
-        ensures value { self.new ≡ (specs.dealt_at last number (specs.dealing self.old rest)).table }
-        ensures rest { result ≡ (specs.dealt_at last number (specs.dealing self.old rest)).rest }
+    /// A column becomes wider by its share of the whole that is dealt out to all up to the last of them; tells
+    /// what is left of the rest then.
+    fn deal_to(
+        &mut self,
+        number: usize,
+        last: usize,
+        whole: usize,
+        all: usize,
+        rest: usize,
+    ) -> usize
+        ensures value { self.new
+            ≡ (specs.dealt_at whole all last number (specs.dealing self.old rest)).table }
+        ensures rest { result
+            ≡ (specs.dealt_at whole all last number (specs.dealing self.old rest)).rest }
         ensures room { held.emptied self.new ≡ held.emptied self.old }
     {
-        let left = last.saturating_add(1).saturating_sub(number).max(1);
-        let share = rest.saturating_add((left - 1) / 2) / left;
+        let left = left_for(whole, all, last.saturating_sub(number));
+        let share = rest.saturating_sub(left);
         let column = self.column(number);
         let wider = Column {
             width: column.width.saturating_add(share),
@@ -390,9 +425,11 @@ impl Table {
         ensures value { self.new ≡ specs.widened first last width self.old }
         ensures room { held.emptied self.new ≡ held.emptied self.old }
     {
-        let mut rest = width.saturating_sub(self.span_width(first, last));
+        let whole = width.saturating_sub(self.span_width(first, last));
+        let all = columns_over(first, last);
+        let mut rest = whole;
         for number in first..last.saturating_add(1) {
-            rest = self.deal_to(number, last, rest);
+            rest = self.deal_to(number, last, whole, all, rest);
         }
     }
 

@@ -9,7 +9,7 @@ ghost use Rattle.nr_layout.specs.Tapes.{Draws};
 use super::registers::one_more;
 use super::table::Table;
 use super::told::Told;
-use super::widening::put_share;
+use super::widening::put_parts_between;
 use super::writing::{Out, Piece};
 use Piece::{N, T};
 use nr_units::sink::Sink;
@@ -23,6 +23,18 @@ fn one_less(counts: bool, number: usize) -> usize
     } else {
         number
     }
+}
+
+/// A share of what is left of the line, where it is shared among so many.
+fn put_share<W: Sink>(left: usize, out: &mut Out<'_, W>)
+    ensures { Draws out.old out.new (Bytes (specs.share_of left) ∷ []) }
+{
+    out.line(&[
+        T(b".nr *t \\n(*S+"),
+        N(left.saturating_sub(1) / 2),
+        T(b"/"),
+        N(left),
+    ])
 }
 
 /// A column of `x` takes its share, if that is more than it has.
@@ -39,23 +51,6 @@ fn put_column_share<W: Sink>(number: usize, left: usize, out: &mut Out<'_, W>)
     out.ask(b" \\n(*tn\n.nr *S -\\n(*t\n")
 }
 
-/// A space takes its share.
-fn put_gap_share<W: Sink>(gaps: usize, number: usize, out: &mut Out<'_, W>)
-    ensures { Draws out.old out.new (Bytes (specs.gap_share gaps number) ∷ []) }
-{
-    put_share(gaps.saturating_sub(number), out);
-    out.line(&[T(b".nr *s"), N(number), T(b" +(\\n(*tn)\n.nr *S -\\n(*t")])
-}
-
-/// All these spaces take theirs.
-fn put_gap_shares<W: Sink>(gaps: usize, out: &mut Out<'_, W>)
-    ensures { Draws out.old out.new (Bytes (specs.gap_shares gaps) ∷ []) }
-{
-    for number in 0..gaps {
-        put_gap_share(gaps, number, out);
-    }
-}
-
 /// So many spaces between columns are set to nothing.
 fn put_no_gaps<W: Sink>(gaps: usize, out: &mut Out<'_, W>)
     ensures { Draws out.old out.new (Bytes (specs.no_gaps gaps) ∷ []) }
@@ -65,32 +60,11 @@ fn put_no_gaps<W: Sink>(gaps: usize, out: &mut Out<'_, W>)
     }
 }
 
-/// So many spaces between columns share what is left of the line.
-fn share_some_gaps<W: Sink>(gaps: usize, out: &mut Out<'_, W>)
-    ensures { Draws out.old out.new (Bytes (specs.some_gaps gaps) ∷ []) }
-{
-    out.ask(b".ie \\n(*S>0 \\{\\\n");
-    put_gap_shares(gaps, out);
-    out.ask(b".\\}\n.el .if \\n(*S<0 \\{\\\n");
-    put_no_gaps(gaps, out);
-    out.ask(b".\\}\n")
-}
-
 /// A table of one column becomes wider itself.
 fn widen_one<W: Sink>(out: &mut Out<'_, W>)
     ensures { Draws out.old out.new (Bytes specs.one_widened ∷ []) }
 {
     out.ask(b".if \\n(*S>0 .nr *w0 +(\\n(*Sn)\n")
-}
-
-/// So many spaces, or none, share what is left of the line.
-fn share_gaps_of<W: Sink>(gaps: usize, out: &mut Out<'_, W>)
-    ensures { Draws out.old out.new (Bytes (specs.gaps_shared_of gaps) ∷ []) }
-{
-    if gaps == 0 {
-        return widen_one(out);
-    }
-    share_some_gaps(gaps, out)
 }
 
 impl Table {
@@ -153,11 +127,77 @@ impl Table {
         self.put_column_shares(wide, out)
     }
 
+    /// What the formats give the spaces after the first columns together.
+    fn gap_total(&self, columns: usize) -> usize
+        ensures { result ≡ specs.gap_total columns self.now }
+    {
+        let mut total: usize = 0;
+        for number in 0..columns {
+            total = total.saturating_add(self.column(number).gap);
+        }
+        total
+    }
+
+    /// How many parts of what is left of the line so many of these spaces have.
+    fn gap_parts(&self, gaps: usize, columns: usize) -> usize
+        ensures { result ≡ specs.gap_parts gaps self.now columns }
+    {
+        if self.gap_total(gaps) == 0 {
+            return columns;
+        }
+        self.gap_total(columns)
+    }
+
+    /// A space takes its share.
+    fn put_gap_share<W: Sink>(&self, gaps: usize, number: usize, out: &mut Out<'_, W>)
+        ensures { Draws out.old out.new (Bytes (specs.gap_share gaps self.now number) ∷ []) }
+    {
+        out.pieces(&[T(b".nr *s"), N(number)]);
+        let all = self.gap_parts(gaps, gaps);
+        let before = self.gap_parts(gaps, number);
+        put_parts_between(
+            before,
+            self.gap_parts(gaps, number.saturating_add(1)),
+            all,
+            out,
+        )
+    }
+
+    /// All these spaces take theirs.
+    fn put_gap_shares<W: Sink>(&self, gaps: usize, out: &mut Out<'_, W>)
+        ensures { Draws out.old out.new (Bytes (specs.gap_shares gaps self.now) ∷ []) }
+    {
+        for number in 0..gaps {
+            self.put_gap_share(gaps, number, out);
+        }
+    }
+
+    /// So many spaces between columns share what is left of the line.
+    fn share_some_gaps<W: Sink>(&self, gaps: usize, out: &mut Out<'_, W>)
+        ensures { Draws out.old out.new (Bytes (specs.some_gaps gaps self.now) ∷ []) }
+    {
+        out.ask(b".ie \\n(*S>0 \\{\\\n");
+        self.put_gap_shares(gaps, out);
+        out.ask(b".\\}\n.el .if \\n(*S<0 \\{\\\n");
+        put_no_gaps(gaps, out);
+        out.ask(b".\\}\n")
+    }
+
+    /// So many spaces, or none, share what is left of the line.
+    fn share_gaps_of<W: Sink>(&self, gaps: usize, out: &mut Out<'_, W>)
+        ensures { Draws out.old out.new (Bytes (specs.gaps_shared_of gaps self.now) ∷ []) }
+    {
+        if gaps == 0 {
+            return widen_one(out);
+        }
+        self.share_some_gaps(gaps, out)
+    }
+
     /// The spaces between columns share what is left of the line.
     fn share_gaps<W: Sink>(&self, out: &mut Out<'_, W>)
         ensures { Draws out.old out.new (Bytes (specs.gaps_shared self.now) ∷ []) }
     {
-        share_gaps_of(self.columns.len().saturating_sub(1), out)
+        self.share_gaps_of(self.columns.len().saturating_sub(1), out)
     }
 
     /// The space after a column, as the formats say.

@@ -18,25 +18,38 @@ fn range(first: usize, last: usize) -> usize
     last.saturating_add(1).saturating_sub(first)
 }
 
-/// A share of what is left of the line, where it is dealt out among so many.
-pub(crate) fn put_share<W: Sink>(left: usize, out: &mut Out<'_, W>)
-    ensures { Draws out.old out.new (Bytes (specs.share_of left) ∷ []) }
+/// Where so many parts of all that is dealt out end, as an expression.
+fn put_parts_end<W: Sink>(count: usize, all: usize, out: &mut Out<'_, W>)
+    ensures { Draws out.old out.new (Bytes (specs.parts_end count all) ∷ []) }
 {
-    out.line(&[
-        T(b".nr *t \\n(*S+"),
-        N(left.saturating_sub(1) / 2),
-        T(b"/"),
-        N(left),
-    ])
+    if count == all {
+        return out.ask(b"\\n(*S");
+    }
+    out.pieces(&[T(b"\\n(*S*24/"), N(all), T(b"*"), N(count), T(b"+11/24")])
 }
 
-/// A column takes its share, where it is dealt out among so many.
-fn put_widened<W: Sink>(number: usize, left: usize, out: &mut Out<'_, W>)
-    ensures { Draws out.old out.new (Bytes (specs.widened_column left number) ∷ []) }
+/// What of it lies up to there, but not what ends before, is added to a register.
+pub(crate) fn put_parts_between<W: Sink>(
+    before: usize,
+    count: usize,
+    all: usize,
+    out: &mut Out<'_, W>,
+)
+    ensures { Draws out.old out.new (Bytes (specs.parts_between before count all) ∷ []) }
 {
-    put_share(left, out);
-    out.line(&[T(b".nr *w"), N(number), T(b" +(\\n(*tn)")]);
-    out.ask_if(left > 1, b".nr *S -\\n(*t\n")
+    out.ask(b" +(");
+    put_parts_end(count, all, out);
+    out.ask(b"-(");
+    put_parts_end(before, all, out);
+    out.ask(b")*24)\n")
+}
+
+/// A column takes its share, as one of all these.
+fn put_widened<W: Sink>(number: usize, place: usize, all: usize, out: &mut Out<'_, W>)
+    ensures { Draws out.old out.new (Bytes (specs.widened_column all place number) ∷ []) }
+{
+    out.pieces(&[T(b".nr *w"), N(number)]);
+    put_parts_between(place, place.saturating_add(1), all, out)
 }
 
 /// All of these columns take theirs.
@@ -44,8 +57,7 @@ fn put_all_widened<W: Sink>(first: usize, last: usize, out: &mut Out<'_, W>)
     ensures { Draws out.old out.new (Bytes (specs.widened_columns first last) ∷ []) }
 {
     for place in 0..range(first, last) {
-        let number = first.saturating_add(place);
-        put_widened(number, range(number, last).max(1), out);
+        put_widened(first.saturating_add(place), place, range(first, last), out);
     }
 }
 

@@ -7,4 +7,4 @@ pub loop-place-init : goal.loop-place-init
 loop-place-init g c = draws_no_bytes _
 
 pub loop-place-preserved : goal.loop-place-preserved
-loop-place-preserved g c = bytes_more c.loop-place.place (widened_at c.args.first c.args.last) c.loop-place.invariant (rw c.saturating_add-number.ensures at (rw c.range.ensures at (rw c.max.ensures at c.put_widened.ensures)))
+loop-place-preserved g c = bytes_more c.loop-place.place (widened_at c.args.first c.args.last) c.loop-place.invariant (rw c.saturating_add.ensures at (rw c.range.ensures at c.put_widened.ensures))

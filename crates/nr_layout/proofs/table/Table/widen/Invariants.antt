@@ -7,7 +7,7 @@ use Rattle.nr_layout.proofs.table.Table.widen.Given as goal
 abbrev pub invariant-loop-number : goal.invariant-loop-number
 invariant-loop-number l = record {
   value : dealing l.self l.rest
-      ≡ in_turn (l.number - l.first) (λ (n : ℕ). dealt_at l.last (l.first + n)) (dealing l.initial.self l.initial.rest);
+      ≡ in_turn (l.number - l.first) (λ (n : ℕ). dealt_at l.whole l.all l.last (l.first + n)) (dealing l.initial.self l.whole);
   within : l.number ≤ max l.first l.number-end;
   room : emptied l.self ≡ emptied l.initial.self;
 }
