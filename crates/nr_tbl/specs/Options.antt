@@ -7,6 +7,7 @@ use Rattle.nr_tbl.specs.declared.options.Options.{Options}
 use Rattle.nr_tbl.specs.declared.options.OptionsRead.{OptionsRead}
 use Rattle.nr_tbl.specs.declared.options.Choice.{Choice}
 use Rattle.nr_tbl.specs.declared.options.Choice.TheVariants as choices
+use Rattle.nr_tbl.specs.declared.options.Frame.{Frame}
 use Rattle.nr_tbl.specs.declared.options.Frame.TheVariants.{Open, Single, All, Double}
 
 abbrev pub is_word : List ℕ → List ℕ → Bool
@@ -65,11 +66,17 @@ abbrev pub point_with : Option ℕ → Options → Options
 point_with (Some b) o = record o { point = b }
 point_with None o = unknown o
 
+-- a box is in each of the others
+abbrev pub framed : Frame → Frame → Frame
+framed All Single = All
+framed Double Single = Double
+framed frame other = other
+
 -- with an option and the first byte of its argument
 abbrev pub options_with : Choice → Option ℕ → Options → Options
 options_with choices.Center argument o = record o { center = true }
 options_with choices.Expand argument o = record o { expand = true }
-options_with (choices.Frame frame) argument o = record o { frame = frame }
+options_with (choices.Frame frame) argument o = record o { frame = framed o.frame frame }
 options_with choices.Tab argument o = tab_with argument o
 options_with choices.Point argument o = point_with argument o
 options_with choices.NoSpaces argument o = record o { nospaces = true }

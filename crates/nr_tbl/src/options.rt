@@ -136,6 +136,16 @@ fn is_passed(word: Name) -> bool
         || is_word(word, Name::of(b"nowarn"))
 }
 
+/// The frame of two that are asked for, one after the other.
+fn framed(frame: Frame, other: Frame) -> Frame
+    ensures { result ≡ specs.framed frame other }
+{
+    match (frame, other) {
+        (Frame::All | Frame::Double, Frame::Single) => frame,
+        _ => other,
+    }
+}
+
 /// The small letter of a letter.
 pub(crate) fn small(byte: u8) -> u8
     ensures { result ≡ specs.small byte }
@@ -178,7 +188,7 @@ impl Options {
         match (choice, argument) {
             (Choice::Center, _) => options.center = true,
             (Choice::Expand, _) => options.expand = true,
-            (Choice::Frame(frame), _) => options.frame = frame,
+            (Choice::Frame(frame), _) => options.frame = framed(self.frame, frame),
             (Choice::Tab, Some(byte)) => options.tab = byte,
             (Choice::Point, Some(byte)) => options.point = byte,
             (Choice::NoSpaces, _) => options.nospaces = true,
