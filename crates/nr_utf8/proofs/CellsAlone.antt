@@ -1,4 +1,4 @@
--- Cells that bytes are by themselves.
+-- Whole cells, and what goes out of their bytes.
 use Prim.Native.Char.{code}
 use Rattle.std.proofs.Common.{◌≡◌, ℕ, zero, suc, ◌+◌, ◌*◌, ◌-◌, ◌<◌, ◌≤◌, List, [], ◌∷◌, ◌++◌, length, take, drop, get_or, set, Bool, true, false, ◌==◌, ◌&&◌, ◌||◌, ◌⊎◌, inl, inr, nat_le, nat_lt, if◌then◌else◌, Option, None, Some, slice_get, refl, sym, subst, ap, ◌∙◌, add-one, append_assoc, append-nil, length-drop, arith}
 use Rattle.std.proofs.lemmas.List.{get_or-set_other, length-take, length-take-le, take-take}
@@ -13,10 +13,11 @@ use Rattle.nr_utf8.specs.declared.reader.Half.{Half}
 use Rattle.nr_utf8.specs.declared.reader.Half.TheVariants.{Nothing, Underscore, Backspaced}
 use Rattle.nr_utf8.specs.declared.reader.Reader.{Reader}
 use Rattle.nr_utf8.specs.declared.spelling.Spelled.{Spelled}
-use Rattle.nr_utf8.specs.Reading.{Told, told, behind, then_told, read, read_behind, fresh, beyond, underscore, fed, PassAll, IsOwnCell, passes_as_is, is_shown, with_half, closed, plain, spelled}
-use Rattle.nr_utf8.specs.Spelling.{if_spelled, cell_of, cells_of, AllCells, MayBeCells, IsSpelled, Spells, Puts, Goes, none_spelled}
+use Rattle.nr_utf8.specs.Reading.{Told, told, behind, then_told, read, read_behind, fresh, beyond, underscore, fed, IsOwnCell, is_shown, with_half, closed, plain, spelled}
+use Rattle.nr_utf8.specs.Shapes.{is_begun, may_stand}
+use Rattle.nr_utf8.specs.Spelling.{if_spelled, byte_of, bytes_of, AllSpelled, IsSpelled, Spells, Puts, Goes, none_spelled}
 use Rattle.nr_utf8.proofs.Reading.{fed-append}
-use Rattle.nr_utf8.proofs.Plain.{IsIdle, read-idle, read-cell, told-not, told-same}
+use Rattle.nr_utf8.proofs.Plain.{IsIdle, passes_as_is, read-idle, read-cell, told-not, told-same}
 
 -- ---- the table stays
 
@@ -70,80 +71,84 @@ read_beyond b r (Some c) e idle some =
     ∙ ap (λ (x : Option ℕ). beyond x r) e
     ∙ told-same (closed r) r (plain r.underlining c) (spelled c) idle.same bytes
 
-read_by : (b : ℕ) (r : Reader) (p : Bool) → passes_as_is b ≡ p → IsIdle r → 0 < length (if p then b ∷ [] else if_spelled (character_of r.table b))
-    → read b r ≡ told r (if p then b ∷ [] else if_spelled (character_of r.table b)) 0
-read_by b r true e idle some = read-idle b r idle e
-read_by b r false e idle some = read_beyond b r (character_of r.table b) refl idle some
+passes_shown : (b : ℕ) → may_stand b ≡ true → is_begun b ≡ false → (is_shown b || (b == 8)) ≡ true → passes_as_is b ≡ true
+passes_shown b may other shown = grind (arith, nat_tests)
 
-read_alone : (b : ℕ) (r : Reader) → IsIdle r → 0 < length (cell_of r.table b) → read b r ≡ told r (cell_of r.table b) 0
-read_alone b r idle some = read_by b r (passes_as_is b) refl idle some
+read_by : (b : ℕ) (r : Reader) (p : Bool) → (is_shown b || (b == 8)) ≡ p → may_stand b ≡ true → is_begun b ≡ false → IsIdle r
+    → 0 < length (if p then b ∷ [] else if_spelled (character_of r.table b)) → read b r ≡ told r (if p then b ∷ [] else if_spelled (character_of r.table b)) 0
+read_by b r true e may other idle some = read-idle b r idle (passes_shown b may other e)
+read_by b r false e may other idle some = read_beyond b r (character_of r.table b) refl idle some
+
+pub read-alone : (b : ℕ) (r : Reader) → may_stand b ≡ true → is_begun b ≡ false → IsIdle r → 0 < length (byte_of r.table b) → read b r ≡ told r (byte_of r.table b) 0
+read-alone b r may other idle some = read_by b r (is_shown b || (b == 8)) refl may other idle some
 
 -- ---- many
 
-comes_append : (r : Reader) (xs ys zs ws : List ℕ) → fed r xs ≡ told r ys 0 → fed r zs ≡ told r ws 0 → fed r (xs ++ zs) ≡ told r (ys ++ ws) 0
-comes_append r xs ys zs ws p q =
+pub comes-append : (r : Reader) (xs ys zs ws : List ℕ) → fed r xs ≡ told r ys 0 → fed r zs ≡ told r ws 0 → fed r (xs ++ zs) ≡ told r (ys ++ ws) 0
+comes-append r xs ys zs ws p q =
     fed-append r xs zs ∙ ap (λ (u : Told). then_told u (λ v. fed v zs)) p ∙ ap (behind ys 0) q
 
-comes_cells : (r : Reader) (bs : List ℕ) → IsIdle r → AllCells r.table bs → fed r bs ≡ told r (cells_of r.table bs) 0
-comes_cells r [] idle all = refl
-comes_cells r (b ∷ bs) idle all =
-    let one : read b r ≡ told r (cell_of r.table b) 0 = read_alone b r idle (all zero (omega arith)) in
-    let rest = comes_cells r bs idle (λ k below. all (suc k) (omega arith)) in
-    ap (λ (u : Told). then_told u (λ v. fed v bs)) one ∙ ap (behind (cell_of r.table b) 0) rest
+pub bytes_append : (t : Table) (xs ys : List ℕ) → bytes_of t (xs ++ ys) ≡ bytes_of t xs ++ bytes_of t ys
+bytes_append t [] ys = refl
+bytes_append t (x ∷ xs) ys =
+    ap (λ (zs : List ℕ). byte_of t x ++ zs) (bytes_append t xs ys) ∙ sym (append_assoc (byte_of t x) (bytes_of t xs) (bytes_of t ys))
 
-pub cells_append : (t : Table) (xs ys : List ℕ) → cells_of t (xs ++ ys) ≡ cells_of t xs ++ cells_of t ys
-cells_append t [] ys = refl
-cells_append t (x ∷ xs) ys =
-    ap (λ (zs : List ℕ). cell_of t x ++ zs) (cells_append t xs ys) ∙ sym (append_assoc (cell_of t x) (cells_of t xs) (cells_of t ys))
-
-cells_next : (t : Table) (bs : List ℕ) (i : ℕ) → i < length bs → cells_of t (take (i + 1) bs) ≡ cells_of t (take i bs) ++ cell_of t (get_or bs i 0)
-cells_next t bs i l =
+bytes_next : (t : Table) (bs : List ℕ) (i : ℕ) → i < length bs → bytes_of t (take (i + 1) bs) ≡ bytes_of t (take i bs) ++ byte_of t (get_or bs i 0)
+bytes_next t bs i l =
     let b = get_or bs i 0 in
     let front : take (i + 1) bs ≡ take i bs ++ b ∷ [] = rw add-one (take-suc bs i 0 l) in
-    ap (λ (xs : List ℕ). cells_of t xs) front ∙ cells_append t (take i bs) (b ∷ [])
-    ∙ ap (λ (xs : List ℕ). cells_of t (take i bs) ++ xs) (append-nil (cell_of t b))
+    ap (λ (xs : List ℕ). bytes_of t xs) front ∙ bytes_append t (take i bs) (b ∷ [])
+    ∙ ap (λ (xs : List ℕ). bytes_of t (take i bs) ++ xs) (append-nil (byte_of t b))
 
 pub Puts-next : (t : Table) (bs : List ℕ) (i : ℕ) (old mid new : List ℕ) (from to end : ℕ) → i < length bs
-    → Puts old from mid to (cells_of t (take i bs)) → Puts mid to new end (cell_of t (get_or bs i 0)) → Puts old from new end (cells_of t (take (i + 1) bs))
+    → Puts old from mid to (bytes_of t (take i bs)) → Puts mid to new end (byte_of t (get_or bs i 0)) → Puts old from new end (bytes_of t (take (i + 1) bs))
 Puts-next t bs i old mid new from to end l p q =
-    q ∙ ap (λ (xs : List ℕ). xs ++ cell_of t (get_or bs i 0)) p
-    ∙ append_assoc (take from old) (cells_of t (take i bs)) (cell_of t (get_or bs i 0))
-    ∙ ap (λ (xs : List ℕ). take from old ++ xs) (sym (cells_next t bs i l))
+    q ∙ ap (λ (xs : List ℕ). xs ++ byte_of t (get_or bs i 0)) p
+    ∙ append_assoc (take from old) (bytes_of t (take i bs)) (byte_of t (get_or bs i 0))
+    ∙ ap (λ (xs : List ℕ). take from old ++ xs) (sym (bytes_next t bs i l))
 
-plain_by : (p : Bool) (b : ℕ) (o : List ℕ) → p ≡ true → (if p then b ∷ [] else o) ≡ b ∷ []
-plain_by true b o e = refl
-plain_by false b o e = absurd (let no : false ≡ true = e in cc)
+as_is_by : (p : Bool) (b : ℕ) (o : List ℕ) → p ≡ true → (if p then b ∷ [] else o) ≡ b ∷ []
+as_is_by true b o e = refl
+as_is_by false b o e = absurd (let no : false ≡ true = e in cc)
 
-pub cells_plain : (t : Table) (bs : List ℕ) → PassAll (length bs) bs → cells_of t bs ≡ bs
-cells_plain t [] all = refl
-cells_plain t (b ∷ bs) all =
-    let one = plain_by (passes_as_is b) b (if_spelled (character_of t b)) (all zero (omega arith)) in
-    ap (λ (xs : List ℕ). xs ++ cells_of t bs) one ∙ ap (λ (xs : List ℕ). b ∷ xs) (cells_plain t bs (λ k below. all (suc k) (omega arith)))
+pub byte-as-is : (t : Table) (b : ℕ) → (is_shown b || (b == 8)) ≡ true → byte_of t b ≡ b ∷ []
+byte-as-is t b e = as_is_by (is_shown b || (b == 8)) b (if_spelled (character_of t b)) e
+
+pub bytes-as-are : (t : Table) (bs : List ℕ) → ((k : ℕ) → k < length bs → (is_shown (get_or bs k 0) || (get_or bs k 0 == 8)) ≡ true) → bytes_of t bs ≡ bs
+bytes-as-are t [] all = refl
+bytes-as-are t (b ∷ bs) all =
+    let one = byte-as-is t b (all zero (omega arith)) in
+    ap (λ (xs : List ℕ). xs ++ bytes_of t bs) one ∙ ap (λ (xs : List ℕ). b ∷ xs) (bytes-as-are t bs (λ k below. all (suc k) (omega arith)))
 
 -- ---- what is kept of a table
 
-long_plain : (p : Bool) (b : ℕ) (o : List ℕ) → p ≡ true → 0 < length (if p then b ∷ [] else o)
-long_plain true b o e = omega arith
-long_plain false b o e = absurd (let no : false ≡ true = e in cc)
+long_as_is : (t : Table) (b : ℕ) → (is_shown b || (b == 8)) ≡ true → 0 < length (byte_of t b)
+long_as_is t b e = let one : length (byte_of t b) ≡ 1 = ap length (byte-as-is t b e) in omega (arith, one)
 
-some_by : (t : Table) (all : List Spelled) (b : ℕ) (high : Bool) → nat_le 128 b ≡ high → b < 256 → Spells t 256 all true → high || passes_as_is b ≡ true → 0 < length (cell_of t b)
-some_by t all b true e small s p =
+as_is_low : (b : ℕ) → nat_le 128 b ≡ false → (may_stand b || (b == 8)) ≡ true → (is_shown b || (b == 8)) ≡ true
+as_is_low b low may = grind (arith, nat_tests)
+
+some_by : (t : Table) (all : List Spelled) (b : ℕ) (high : Bool) → nat_le 128 b ≡ high → b < 256 → Spells t 256 all true → (may_stand b || (b == 8)) ≡ true → 0 < (get_or all b none_spelled).len
+some_by t all b true e small s may =
     let far : 128 ≤ b = grind (arith, nat_tests) in
-    let one = s.beyond refl b small far in
-    let count = (s.each b small).count in omega (arith, one, count)
-some_by t all b false e small s p = long_plain (passes_as_is b) b (if_spelled (character_of t b)) p
+    s.beyond refl b small far
+some_by t all b false e small s may =
+    let count = (s.each b small).count in
+    let long = long_as_is t b (as_is_low b e may) in
+    omega (arith, count, long)
 
-pub all-cells : (t : Table) (all : List Spelled) (whole : Bool) (bs : List ℕ) → ((k : ℕ) → k < length bs → get_or bs k 0 < 256) → Spells t 256 all whole → whole ≡ true
-    → MayBeCells (length bs) bs → AllCells t bs
-all-cells t all whole bs small s is may k below =
+-- something goes out of all these
+pub all-spelled : (t : Table) (all : List Spelled) (whole : Bool) (bs : List ℕ) → ((k : ℕ) → k < length bs → get_or bs k 0 < 256) → Spells t 256 all whole → whole ≡ true
+    → ((k : ℕ) → k < length bs → (may_stand (get_or bs k 0) || (get_or bs k 0 == 8)) ≡ true) → AllSpelled all bs
+all-spelled t all whole bs small s is may k below =
     let P : Bool → Type 0 = λ w. Spells t 256 all w in
     some_by t all (get_or bs k 0) (nat_le 128 (get_or bs k 0)) refl (small k below) (subst P is s) (may k below)
 
-pub some-spelled : (t : Table) (b byte : ℕ) (s : Spelled) → IsSpelled t b s → b ≡ byte → 0 < s.len → 0 < length (cell_of t byte)
+pub some-spelled : (t : Table) (b byte : ℕ) (s : Spelled) → IsSpelled t b s → b ≡ byte → 0 < s.len → 0 < length (byte_of t byte)
 some-spelled t b byte s one same some =
-    let count : length (cell_of t b) ≡ s.len = one.count in
-    let P : ℕ → Type 0 = λ x. 0 < length (cell_of t x) in
-    let here : 0 < length (cell_of t b) = omega (arith, count, some) in
+    let count : length (byte_of t b) ≡ s.len = one.count in
+    let P : ℕ → Type 0 = λ x. 0 < length (byte_of t x) in
+    let here : 0 < length (byte_of t b) = omega (arith, count, some) in
     subst P same here
 
 below_or_last : (b n : ℕ) → b < n + 1 → (b < n) ⊎ (b ≡ n)
@@ -184,15 +189,27 @@ Spells-next t n all whole w s before l one covered = record {
   beyond = λ is b below far. let both = both_true whole w is in next_beyond t n all whole s b before l both.0 (covered both.1) far (below_or_last b n below);
 }
 
+may_shown : (b : ℕ) → (is_shown b || (b == 8)) ≡ true → is_begun b ≡ false → may_stand b ≡ true
+may_shown b shown other = grind (arith, nat_tests)
+
+may_high : (b : ℕ) → nat_lt b 128 ≡ false → may_stand b ≡ true
+may_high b high = grind (arith, nat_tests)
+
+may_by : (t : Table) (b : ℕ) (p : Bool) → (is_shown b || (b == 8)) ≡ p → (o : Option ℕ) → character_of t b ≡ o → is_begun b ≡ false
+    → 0 < length (if p then b ∷ [] else if_spelled o) → may_stand b ≡ true
+may_by t b true e o is other some = may_shown b e other
+may_by t b false e None is other some = absurd (omega (arith, some))
+may_by t b false e (Some c) is other some = may_high b (is_high t b c is)
+
 -- ---- what stands in a room
 
 pub Puts-spelled : (t : Table) (b byte : ℕ) (s : Spelled) (room ys : List ℕ) (end k : ℕ) → IsSpelled t b s → b ≡ byte → ys ≡ s.bytes → end ≤ length room
-    → Puts room end (put_mid end k room ys) (end + s.len) (cell_of t byte)
+    → Puts room end (put_mid end k room ys) (end + s.len) (byte_of t byte)
 Puts-spelled t b byte s room ys end k one same copied h =
     let four : length ys ≡ 4 = ap length copied ∙ one.four in
     let few : s.len ≤ 4 = one.few in
     front_put end k s.len room ys h (omega (arith, four, few))
-    ∙ ap (λ (xs : List ℕ). take end room ++ xs) (ap (λ (xs : List ℕ). take s.len xs) copied ∙ one.front ∙ ap (λ (x : ℕ). cell_of t x) same)
+    ∙ ap (λ (xs : List ℕ). take end room ++ xs) (ap (λ (xs : List ℕ). take s.len xs) copied ∙ one.front ∙ ap (λ (x : ℕ). byte_of t x) same)
 
 pub Puts-front : (bs room ys : List ℕ) (end k n : ℕ) → ys ≡ take n bs → n ≤ length bs → end ≤ length room → Puts room end (put_mid end k room ys) (end + n) (take n bs)
 Puts-front bs room ys end k n copied l h =
@@ -220,30 +237,11 @@ Goes-then r bs n m old mid new from to end f g =
     let gf : end ≤ to + 4 * m = g.few in
     record {
       out = f.out ++ g.out;
-      comes = ap (λ (xs : List ℕ). fed r xs) (take-add n m bs) ∙ comes_append r (take n bs) f.out (take m (drop n bs)) g.out f.comes g.comes;
+      comes = ap (λ (xs : List ℕ). fed r xs) (take-add n m bs) ∙ comes-append r (take n bs) f.out (take m (drop n bs)) g.out f.comes g.comes;
       put = g.put ∙ ap (λ (xs : List ℕ). xs ++ g.out) f.put ∙ append_assoc (take from old) f.out g.out;
       within = omega (arith, fw, gw, rest);
       few = omega (arith, ff, gf);
     }
-
--- cells that stand first
-pub Goes-cells : (r : Reader) (bs : List ℕ) (n : ℕ) (old new : List ℕ) (from end : ℕ) → IsIdle r → AllCells r.table (take n bs) → n ≤ length bs
-    → Puts old from new end (cells_of r.table (take n bs)) → end ≤ from + 4 * n → Goes r bs n old from new end
-Goes-cells r bs n old new from end idle all l put few = record {
-  out = cells_of r.table (take n bs);
-  comes = comes_cells r (take n bs) idle all;
-  put = put;
-  within = l;
-  few = few;
-}
-
--- plain bytes that stand first
-pub Goes-plain : (r : Reader) (bs : List ℕ) (n : ℕ) (old new : List ℕ) (from end : ℕ) → IsIdle r → PassAll (length (take n bs)) (take n bs) → n ≤ length bs
-    → Puts old from new end (take n bs) → end ≤ from + 4 * n → Goes r bs n old from new end
-Goes-plain r bs n old new from end idle all l put few =
-    let cells : AllCells r.table (take n bs) = λ k below. long_plain (passes_as_is (get_or (take n bs) k 0)) (get_or (take n bs) k 0) _ (all k below) in
-    Goes-cells r bs n old new from end idle cells l
-    (put ∙ ap (λ (xs : List ℕ). take from old ++ xs) (sym (cells_plain r.table (take n bs) all))) few
 
 -- of a front
 pub Goes-within : (r : Reader) (bs : List ℕ) (n m : ℕ) (old new : List ℕ) (from end : ℕ) → Goes r (take m bs) n old from new end → Goes r bs n old from new end
@@ -261,18 +259,22 @@ Goes-within r bs n m old new from end g =
     }
 
 -- one byte
-pub Goes-byte : (r : Reader) (bs old new : List ℕ) (from end : ℕ) → IsIdle r → 0 < length bs → 0 < length (cell_of r.table (get_or bs 0 0))
-    → Puts old from new end (cell_of r.table (get_or bs 0 0)) → end ≤ from + 4 → Goes r bs 1 old from new end
-Goes-byte r [] old new from end idle some here put few = absurd (omega (arith, some))
-Goes-byte r (b ∷ bs) old new from end idle some here put few = record {
-  out = cell_of r.table b;
+pub Goes-byte : (r : Reader) (bs old new : List ℕ) (from end : ℕ) → IsIdle r → 0 < length bs → may_stand (get_or bs 0 0) ≡ true → is_begun (get_or bs 0 0) ≡ false
+    → 0 < length (byte_of r.table (get_or bs 0 0)) → Puts old from new end (byte_of r.table (get_or bs 0 0)) → end ≤ from + 4 → Goes r bs 1 old from new end
+Goes-byte r [] old new from end idle some may other here put few = absurd (omega (arith, some))
+Goes-byte r (b ∷ bs) old new from end idle some may other here put few = record {
+  out = byte_of r.table b;
   comes =
-      ap (λ (u : Told). then_told u (λ v. told v [] 0)) (read_alone b r idle here)
-      ∙ ap (λ (xs : List ℕ). told r xs 0) (append-nil (cell_of r.table b));
+      ap (λ (u : Told). then_told u (λ v. told v [] 0)) (read-alone b r may other idle here)
+      ∙ ap (λ (xs : List ℕ). told r xs 0) (append-nil (byte_of r.table b));
   put = put;
   within = omega arith;
   few = omega (arith, few);
 }
+
+-- a byte of which something goes out may stand
+pub may-spelled : (t : Table) (b : ℕ) → is_begun b ≡ false → 0 < length (byte_of t b) → may_stand b ≡ true
+may-spelled t b other some = may_by t b (is_shown b || (b == 8)) refl (character_of t b) refl other some
 
 -- an underlined cell
 pub Goes-underlined : (r : Reader) (bs old new : List ℕ) (from : ℕ) → IsIdle r → IsOwnCell 0 bs r → Puts old from new (from + 3) (take 3 bs) → Goes r bs 3 old from new (from + 3)

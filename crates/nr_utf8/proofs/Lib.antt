@@ -4,6 +4,7 @@ pub mod HighBits
 pub mod Pieces
 pub mod Plain
 pub mod Reading
+pub mod Shaped
 pub mod Text
 pub mod Turning
 pub mod Undone

@@ -1,31 +1,48 @@
 -- Cells of pieces, one after another.
-use Rattle.std.proofs.Common.{◌≡◌, ℕ, ◌+◌, ◌≤◌, List, ◌++◌, length, take, drop, get_or, true, nat_lt, sym, ap, ◌∙◌, append_assoc, arith}
-use Rattle.std.proofs.lemmas.List.{take_all}
-use Rattle.std.proofs.lemmas.Bool.Decides.{nat_tests}
+use Rattle.std.proofs.Common.{◌≡◌, ℕ, ◌+◌, ◌-◌, ◌<◌, ◌≤◌, List, [], ◌∷◌, ◌++◌, length, take, drop, get_or, Bool, true, false, ◌==◌, ◌||◌, nat_lt, if◌then◌else◌, None, slice_get, refl, sym, subst, ap, ◌∙◌, append_assoc, length-drop, arith}
+use Rattle.std.proofs.lemmas.List.{get_or-drop, get_or-take, length-take-le, take_all}
 use Rattle.std.proofs.Math.Seq.{take-add}
 use borrow.Rule.Slice.PartMut.{put_mid}
 use Rattle.nr_units.proofs.Copying.{front_put}
 use Rattle.nr_characters.specs.declared.table.Table.{Table}
-use Rattle.nr_utf8.specs.Reading.{PassAll, passes_as_is}
-use Rattle.nr_utf8.specs.Spelling.{cells_of, may_be_cell, MayBeCells, AreLow, Puts}
-use Rattle.nr_utf8.proofs.CellsAlone.{cells_append, cells_plain}
+use Rattle.nr_characters.specs.Tables.{character_of, characters, if_any}
+use Rattle.nr_utf8.specs.declared.spelling.Spelled.{Spelled}
+use Rattle.nr_utf8.specs.Reading.{is_shown}
+use Rattle.nr_utf8.specs.Spelling.{AllSpelled, AreLow, Puts, Spells, bytes_of, if_spelled, none_spelled}
+use Rattle.nr_utf8.proofs.CellsAlone.{bytes-as-are, bytes_append}
 
-low_passes : (b : ℕ) → may_be_cell b ≡ true → nat_lt b 128 ≡ true → passes_as_is b ≡ true
-low_passes b may low = grind (arith, nat_tests)
+-- a byte of ASCII of which something goes out goes out as it is
+low_by : (t : Table) (b : ℕ) (p : Bool) → (is_shown b || (b == 8)) ≡ p → nat_lt b 128 ≡ true → 0 < length (if p then b ∷ [] else if_spelled (character_of t b)) → (is_shown b || (b == 8)) ≡ true
+low_by t b true e low some = e
+low_by t b false e low some = absurd (let none : length (if_spelled (character_of t b)) ≡ 0 = ap (λ (x : Bool). length (if_spelled (if x then None else if_any (slice_get (characters t) (b - 128))))) low in omega (arith, none, some))
 
 -- a piece of ASCII goes out as it is
-pub Puts-low : (t : Table) (bs room ys : List ℕ) (end k n : ℕ) → MayBeCells (length bs) bs → AreLow n bs → length bs ≡ n → ys ≡ bs → end ≤ length room
-    → Puts room end (put_mid end k room ys) (end + n) (cells_of t bs)
-Puts-low t bs room ys end k n may low long copied h =
+pub Puts-low : (t : Table) (all : List Spelled) (whole : Bool) (bs room ys : List ℕ) (end k n : ℕ) → Spells t 256 all whole → ((j : ℕ) → j < length bs → get_or bs j 0 < 256)
+    → AllSpelled all bs → AreLow n bs → length bs ≡ n → ys ≡ bs → end ≤ length room → Puts room end (put_mid end k room ys) (end + n) (bytes_of t bs)
+Puts-low t all whole bs room ys end k n s small some low long copied h =
     let same : length ys ≡ n = ap length copied ∙ long in
-    let all : PassAll (length bs) bs = λ j below. low_passes (get_or bs j 0) (may j below) (low j (omega (arith, below, long))) in
+    let shown : (j : ℕ) → j < length bs → (is_shown (get_or bs j 0) || (get_or bs j 0 == 8)) ≡ true = λ j below.
+    (let b = get_or bs j 0 in
+    let here = some j below in
+    let count = (s.each b (small j below)).count in
+    low_by t b (is_shown b || (b == 8)) refl (low j (omega (arith, below, long))) (omega (arith, here, count))) in
     front_put end k n room ys h (omega (arith, same))
-    ∙ ap (λ (xs : List ℕ). take end room ++ xs) (take_all n ys (omega (arith, same)) ∙ copied ∙ sym (cells_plain t bs all))
+    ∙ ap (λ (xs : List ℕ). take end room ++ xs) (take_all n ys (omega (arith, same)) ∙ copied ∙ sym (bytes-as-are t bs shown))
+
+-- something goes out of each byte of a piece
+pub piece-spelled : (all : List Spelled) (bs : List ℕ) (at : ℕ) → AllSpelled all bs → at + 8 ≤ length bs → AllSpelled all (take (at + 8 - at) (drop at bs))
+piece-spelled all bs at some l k below =
+    let eight : at + 8 - at ≡ 8 = omega arith in
+    let rest = length-drop at bs in
+    let cut = length-take-le (at + 8 - at) (drop at bs) (omega (arith, rest, l)) in
+    let same : get_or (take (at + 8 - at) (drop at bs)) k 0 ≡ get_or bs (at + k) 0 = get_or-take (at + 8 - at) (drop at bs) k 0 (omega (arith, below, cut)) ∙ get_or-drop at bs k 0 in
+    let P : ℕ → Type 0 = λ b. 0 < (get_or all b none_spelled).len in
+    subst P (sym same) (some (at + k) (omega (arith, below, cut, l)))
 
 -- one piece more
-pub Puts-piece : (t : Table) (bs : List ℕ) (i n : ℕ) (old mid new : List ℕ) (from to end : ℕ) → Puts old from mid to (cells_of t (take i bs))
-    → Puts mid to new end (cells_of t (take n (drop i bs))) → Puts old from new end (cells_of t (take (i + n) bs))
+pub Puts-piece : (t : Table) (bs : List ℕ) (i n : ℕ) (old mid new : List ℕ) (from to end : ℕ) → Puts old from mid to (bytes_of t (take i bs))
+    → Puts mid to new end (bytes_of t (take n (drop i bs))) → Puts old from new end (bytes_of t (take (i + n) bs))
 Puts-piece t bs i n old mid new from to end p q =
-    q ∙ ap (λ (xs : List ℕ). xs ++ cells_of t (take n (drop i bs))) p
-    ∙ append_assoc (take from old) (cells_of t (take i bs)) (cells_of t (take n (drop i bs)))
-    ∙ ap (λ (xs : List ℕ). take from old ++ xs) (sym (cells_append t (take i bs) (take n (drop i bs))) ∙ ap (λ (xs : List ℕ). cells_of t xs) (sym (take-add i n bs)))
+    q ∙ ap (λ (xs : List ℕ). xs ++ bytes_of t (take n (drop i bs))) p
+    ∙ append_assoc (take from old) (bytes_of t (take i bs)) (bytes_of t (take n (drop i bs)))
+    ∙ ap (λ (xs : List ℕ). take from old ++ xs) (sym (bytes_append t (take i bs) (take n (drop i bs))) ∙ ap (λ (xs : List ℕ). bytes_of t xs) (sym (take-add i n bs)))

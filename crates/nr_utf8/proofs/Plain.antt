@@ -1,6 +1,6 @@
 -- Bytes that go out as they are, and underlined cells.
 use Prim.Native.Char.{code}
-use Rattle.std.proofs.Common.{◌≡◌, ℕ, ◌+◌, ◌<◌, ◌≤◌, List, [], ◌∷◌, ◌++◌, length, take, drop, get_or, Bool, true, false, ◌==◌, if◌then◌else◌, refl, sym, subst, ap, ◌∙◌, add-one, append_assoc, length-drop, ◌-◌, arith}
+use Rattle.std.proofs.Common.{◌≡◌, ℕ, ◌+◌, ◌<◌, ◌≤◌, List, [], ◌∷◌, ◌++◌, length, take, drop, get_or, Bool, true, false, not, ◌==◌, ◌&&◌, if◌then◌else◌, refl, sym, subst, ap, ◌∙◌, add-one, append_assoc, length-drop, ◌-◌, arith}
 use Rattle.std.proofs.lemmas.List.{take_all}
 use Rattle.std.proofs.Math.Seq.{take-suc}
 use Rattle.std.proofs.lemmas.Bool.Decides.{nat_tests}
@@ -12,7 +12,7 @@ use Rattle.nr_utf8.specs.declared.reader.Underlining.TheVariants.{Backspaces, Cl
 use Rattle.nr_utf8.specs.declared.reader.Reader.{Reader}
 use Rattle.nr_utf8.specs.Idle.{idle_by, is_idle}
 use Rattle.nr_characters.specs.declared.table.Table.{Table}
-use Rattle.nr_utf8.specs.Reading.{Told, told, behind, then_told, read, read_behind, fresh, underscore, fed, IsOwnCell, passes_as_is, is_shown, is_underlined, with_half, closed, closing, end_of, plain, spelled}
+use Rattle.nr_utf8.specs.Reading.{Told, told, behind, then_told, read, read_behind, fresh, underscore, fed, IsOwnCell, is_shown, is_underlined, with_half, closed, closing, end_of, plain, spelled}
 
 -- nothing is half read or open
 pub record IsIdle (r : Reader) : Type 0 where
@@ -31,6 +31,10 @@ pub idle-from : (r : Reader) → is_idle r ≡ true → IsIdle r
 idle-from r p =
     let parts = idle_parts r.half r.underlining p in
     record { half = parts.0; shut = parts.1; same = ap (λ (u : Underlining). record r { underlining = u }) parts.2 }
+
+-- a byte that goes out as it is wherever nothing is half read or open
+abbrev pub passes_as_is : ℕ → Bool
+passes_as_is b = is_shown b && not (b == code "_")
 
 is_plain_byte : (b : ℕ) → passes_as_is b ≡ true → (b == code "_") ≡ false
 is_plain_byte b p = grind (arith, nat_tests)

@@ -3,6 +3,7 @@ pub mod Idle
 pub mod Lines
 pub mod Reading
 pub mod Running
+pub mod Shapes
 pub mod Spelling
 pub mod Text
 pub mod Undoing

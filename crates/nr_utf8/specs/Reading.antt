@@ -1,6 +1,6 @@
 -- Bytes are read into cells, and cells are printed.
 use Prim.Native.Char.{code}
-use Rattle.std.specs.Prelude.{◌≡◌, ℕ, ◌+◌, List, [], ◌∷◌, ◌++◌, Bool, not, ◌==◌, ◌&&◌, ◌||◌, nat_le, nat_lt, if◌then◌else◌, Option, None, Some, codes, ◌<◌, ◌≤◌, length, get_or, true}
+use Rattle.std.specs.Prelude.{◌≡◌, ℕ, ◌+◌, List, [], ◌∷◌, ◌++◌, Bool, ◌==◌, ◌&&◌, ◌||◌, nat_le, nat_lt, if◌then◌else◌, Option, None, Some, codes, ◌≤◌, length, get_or, true}
 use Rattle.std.specs.Char.{encode_utf8}
 use Rattle.nr_characters.specs.declared.table.Table.{Table}
 use Rattle.nr_characters.specs.Tables.{character_of}
@@ -135,13 +135,6 @@ left_over r = (ended r.half r).strays
 abbrev pub fed : Reader → List ℕ → Told
 fed r [] = told r [] 0
 fed r (b ∷ bs) = then_told (read b r) (λ s. fed s bs)
-
-abbrev pub passes_as_is : ℕ → Bool
-passes_as_is b = (b == code "\n") || (nat_le (code " ") b && nat_lt b 127 && not (b == code "_"))
-
--- each of the first n of these does
-abbrev pub PassAll : ℕ → List ℕ → Type 0
-PassAll n bytes = (k : ℕ) → k < n → passes_as_is (get_or bytes k 0) ≡ true
 
 -- an underlined cell stands at this place that goes out as it is
 pub record IsOwnCell (place : ℕ) (bytes : List ℕ) (r : Reader) : Type 0 where

@@ -1,52 +1,38 @@
--- Bytes that are cells by themselves, and what goes out of them.
-use Rattle.std.specs.Prelude.{◌≡◌, ℕ, ◌+◌, ◌*◌, ◌<◌, ◌≤◌, List, [], ◌∷◌, ◌++◌, length, take, get_or, Bool, true, ◌||◌, nat_le, nat_lt, if◌then◌else◌, Option, None, Some}
+-- What goes out of bytes that stand together in whole cells.
+use Rattle.std.specs.Prelude.{◌≡◌, ℕ, ◌+◌, ◌*◌, ◌<◌, ◌≤◌, List, [], ◌∷◌, ◌++◌, length, take, get_or, Bool, true, ◌==◌, ◌||◌, false, nat_lt, if◌then◌else◌, Option, None, Some}
 use Rattle.nr_characters.specs.declared.table.Table.{Table}
 use Rattle.nr_characters.specs.Tables.{character_of}
 use Rattle.nr_utf8.specs.declared.reader.Reader.{Reader}
-use Rattle.nr_utf8.specs.declared.spelling.Kind.{Kind}
-use Rattle.nr_utf8.specs.declared.spelling.Kind.TheVariants.{Plain, Cells, Other}
 use Rattle.nr_utf8.specs.declared.spelling.Spelled.{Spelled}
 use Rattle.nr_utf8.specs.declared.spelling.Spelling.{Spelling}
+use Rattle.nr_utf8.specs.declared.reader.Underlining.TheVariants.{Backspaces}
+use Rattle.nr_utf8.specs.declared.shapes.Kind.{Kind}
+use Rattle.nr_utf8.specs.declared.shapes.Kind.TheVariants.{Plain, Cells, Other}
 use Rattle.nr_utf8.specs.Idle.{is_idle}
-use Rattle.nr_utf8.specs.Reading.{PassAll, fed, passes_as_is, spelled, told}
+use Rattle.nr_utf8.specs.Reading.{fed, is_shown, spelled, told}
+use Rattle.nr_utf8.specs.Shapes.{ShowAll, is_begun, is_shaped, may_stand}
 
 abbrev pub if_spelled : Option ℕ → List ℕ
 if_spelled None = []
 if_spelled (Some c) = spelled c
 
--- What goes out of a byte by itself, where nothing is half read or open: `_` waits for what comes, and others are dropped.
-abbrev pub cell_of : Table → ℕ → List ℕ
-cell_of table b = if passes_as_is b then b ∷ [] else if_spelled (character_of table b)
+-- What goes out of a byte in a cell that is whole: it itself in ASCII, the backspace of an underlined cell too.
+abbrev pub byte_of : Table → ℕ → List ℕ
+byte_of table b = if is_shown b || (b == 8) then b ∷ [] else if_spelled (character_of table b)
 
-abbrev pub cells_of : Table → List ℕ → List ℕ
-cells_of table [] = []
-cells_of table (b ∷ bs) = cell_of table b ++ cells_of table bs
-
--- something goes out of each of these
-abbrev pub AllCells : Table → List ℕ → Type 0
-AllCells table bytes = (k : ℕ) → k < length bytes → 0 < length (cell_of table (get_or bytes k 0))
-
--- each of the first n of these is one that goes out as it is, or one beyond ASCII
-abbrev pub may_be_cell : ℕ → Bool
-may_be_cell b = nat_le 128 b || passes_as_is b
-
-abbrev pub MayBeCells : ℕ → List ℕ → Type 0
-MayBeCells n bytes = (k : ℕ) → k < n → may_be_cell (get_or bytes k 0) ≡ true
+abbrev pub bytes_of : Table → List ℕ → List ℕ
+bytes_of table [] = []
+bytes_of table (b ∷ bs) = byte_of table b ++ bytes_of table bs
 
 abbrev pub AreLow : ℕ → List ℕ → Type 0
 AreLow n bytes = (k : ℕ) → k < n → nat_lt (get_or bytes k 0) 128 ≡ true
 
-abbrev pub IsOfKind : Kind → List ℕ → Type 0
-IsOfKind Plain bytes = PassAll (length bytes) bytes
-IsOfKind Cells bytes = MayBeCells (length bytes) bytes
-IsOfKind Other bytes = Unit {0}
-
 -- ---- what is kept of a table
 
--- these are the bytes of a cell
+-- these go out of a byte
 pub record IsSpelled (table : Table) (b : ℕ) (s : Spelled) : Type 0 where
-  pub front : take s.len s.bytes ≡ cell_of table b
-  pub count : length (cell_of table b) ≡ s.len
+  pub front : take s.len s.bytes ≡ byte_of table b
+  pub count : length (byte_of table b) ≡ s.len
   pub four : length s.bytes ≡ 4
   pub few : s.len ≤ 4
 
@@ -64,6 +50,10 @@ pub record Serves (s : Spelling) (r : Reader) : Type 0 where
   pub spells : Spells r.table 256 s.all s.whole
   pub idle : is_idle r ≡ true
 
+-- something goes out of each of these bytes
+abbrev pub AllSpelled : List Spelled → List ℕ → Type 0
+AllSpelled all bytes = (k : ℕ) → k < length bytes → 0 < (get_or all (get_or bytes k 0) none_spelled).len
+
 -- ---- what is put into a room
 
 -- these bytes stand there behind what stood at its front
@@ -78,3 +68,27 @@ pub record Goes (r : Reader) (bytes : List ℕ) (taken : ℕ) (old : List ℕ) (
   pub put : Puts old from new end out
   pub within : taken ≤ length bytes
   pub few : end ≤ from + 4 * taken
+
+-- ---- what stands together
+
+-- Each of these goes out in a cell that is whole: each stands where it may, and the last is not begun.
+pub record IsShaped (r : Reader) (bytes : List ℕ) : Type 0 where
+  pub first : 0 < length bytes → may_stand (get_or bytes 0 0) ≡ true
+  pub each : (k : ℕ) → k + 1 < length bytes
+      → is_shaped (get_or bytes k 0) (get_or bytes (k + 1) 0) (get_or bytes (k + 2) 0) ≡ true
+  pub last : (k : ℕ) → k + 1 ≡ length bytes → is_begun (get_or bytes k 0) ≡ false
+  pub way : (k : ℕ) → k < length bytes → get_or bytes k 0 ≡ 8 → r.underlining ≡ Backspaces
+  pub some : (k : ℕ) → k < length bytes → 0 < length (byte_of r.table (get_or bytes k 0))
+
+-- of the first 32: each stands where it may, and something goes out of it
+pub record IsChunk (s : Spelling) (r : Reader) (bytes : List ℕ) : Type 0 where
+  pub first : may_stand (get_or bytes 0 0) ≡ true
+  pub each : (k : ℕ) → k + 1 < 32
+      → is_shaped (get_or bytes k 0) (get_or bytes (k + 1) 0) (get_or bytes (k + 2) 0) ≡ true
+  pub way : (k : ℕ) → k < 32 → get_or bytes k 0 ≡ 8 → r.underlining ≡ Backspaces
+  pub some : AllSpelled s.all (take 32 bytes)
+
+abbrev pub IsAhead : Spelling → Reader → Kind → List ℕ → Type 0
+IsAhead s r Plain bytes = ShowAll (take 32 bytes)
+IsAhead s r Cells bytes = IsChunk s r bytes
+IsAhead s r Other bytes = Unit {0}

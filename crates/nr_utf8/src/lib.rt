@@ -1,12 +1,13 @@
 //! The bytes of a table of characters, turned into UTF-8 for a terminal.
 //!
-//! It stands on nr_units and nr_characters. To read: `reader`, `spelling`, `running`, `undoing`, `names`, `choosing`.
+//! It stands on nr_units and nr_characters. To read: `reader`, `shapes`, `spelling`, `running`, `undoing`, `names`, `choosing`.
 #![tactic(auto)]
 
 mod choosing;
 mod names;
 mod reader;
 mod running;
+mod shapes;
 mod spelling;
 mod undoing;
 

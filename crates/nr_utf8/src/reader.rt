@@ -1,6 +1,7 @@
 //! Bytes become characters, and characters go out.
 ghost use Rattle.std.specs.Prelude.{◌≡◌, ◌+◌, ◌*◌, ◌<◌, ◌≤◌, ◌∷◌, ◌++◌, [], length, true, false, IsTrue};
 ghost use Rattle.nr_utf8.specs.declared.reader.Half.TheVariants.{Nothing};
+ghost use Rattle.nr_utf8.specs.declared.reader.Underlining.TheVariants.{Backspaces};
 ghost use Rattle.nr_utf8.specs.Idle.{is_idle};
 ghost use Rattle.nr_utf8.specs.Reading as specs;
 
@@ -40,15 +41,8 @@ pub(crate) struct Reader {
     pub table: Table,
 }
 
-/// Whether a byte goes out as it is where nothing is half read or open.
-pub(crate) fn passes_as_is(byte: u8) -> bool
-    ensures { result ≡ specs.passes_as_is byte }
-{
-    byte == b'\n' || (byte >= b' ' && byte < 127 && byte != b'_')
-}
-
 /// Whether nroff underlines a byte: a letter or a digit.
-fn is_underlined(byte: u8) -> bool
+pub(crate) fn is_underlined(byte: u8) -> bool
     ensures { result ≡ specs.is_underlined byte }
 {
     matches!(byte, b'0'..=b'9' | b'A'..=b'Z' | b'a'..=b'z')
@@ -241,6 +235,13 @@ impl Reader {
         }
     }
 
+    /// Whether underlined cells go out as they are.
+    pub(crate) fn keeps_backspaces(&self) -> bool
+        ensures { IsTrue result → self.now.underlining ≡ Backspaces }
+    {
+        matches!(self.underlining, Underlining::Backspaces)
+    }
+
     /// Whether an underlined cell that goes out as it is stands at a place of these bytes.
     pub(crate) fn underlines(&self, bytes: &[u8], place: usize) -> bool
         requires { place ≤ length bytes.now }
@@ -250,6 +251,6 @@ impl Reader {
             && bytes[place] == b'_'
             && bytes[place + 1] == b'\x08'
             && is_underlined(bytes[place + 2])
-            && matches!(self.underlining, Underlining::Backspaces)
+            && self.keeps_backspaces()
     }
 }

@@ -1,18 +1,14 @@
-//! Bytes that are cells by themselves, many at once.
-ghost use Rattle.std.specs.Prelude.{◌≡◌, ◌+◌, ◌*◌, ◌<◌, ◌≤◌, length, nat_lt, IsTrue};
+//! Whole cells, many at once.
+ghost use Rattle.std.specs.Prelude.{◌≡◌, ◌+◌, ◌*◌, ◌<◌, ◌≤◌, length, IsTrue};
+ghost use Rattle.nr_utf8.specs.Shapes.{IsWhole};
 ghost use Rattle.nr_utf8.specs.Spelling as specs;
 
-use super::reader::{Reader, passes_as_is};
+use super::reader::{Reader, is_shown};
+use super::shapes::{CHUNK, Kind, SEEN, are_low, are_shaped, is_begun, kind_of, whole_front};
 use nr_characters::Table;
 
-/// How many bytes are looked at together.
-const CHUNK: usize = 32;
-
-/// How many of them are looked at by themselves where not all go out as they are.
+/// How many of a chunk are looked at by themselves where not all are of ASCII.
 const PIECE: usize = 8;
-
-/// The highest bit of each byte of a piece.
-const HIGH: u64 = 0x8080_8080_8080_8080;
 
 /// What goes out of a byte.
 #[derive(Clone, Copy)]
@@ -31,24 +27,13 @@ impl Spelled {
     };
 }
 
-/// What goes out of each byte by itself, where nothing is half read or open.
+/// What goes out of each byte in a cell that is whole, where nothing is half read or open.
 #[derive(Drop)]
 pub(crate) struct Spelling {
     /// Of each byte.
     pub all: [Spelled; 256],
     /// Whether the table has a character for each byte from 128 on.
     pub whole: bool,
-}
-
-/// What some bytes are.
-#[derive(Clone, Copy)]
-pub(crate) enum Kind {
-    /// All go out as they are.
-    Plain,
-    /// So they do, or are beyond ASCII.
-    Cells,
-    /// Anything.
-    Other,
 }
 
 /// How far bytes were taken, and how far a room is filled.
@@ -60,54 +45,12 @@ pub(crate) struct Reached {
     pub end: usize,
 }
 
-/// Whether a byte goes out as it is or is beyond ASCII.
-fn may_be_cell(byte: u8) -> bool
-    ensures { result ≡ specs.may_be_cell byte }
-{
-    byte == b'\n' || (byte >= b' ' && byte != b'_' && byte != 127)
-}
-
-/// Whether a byte is one of ASCII.
-fn is_low(byte: u8) -> bool
-    ensures { result ≡ nat_lt byte 128 }
-{
-    byte < 128
-}
-
-/// What these bytes are.
-#[inline(never)]
-fn kind_of(bytes: &[u8]) -> Kind
-    ensures { specs.IsOfKind result bytes.now }
-{
-    let mut all = true;
-    let mut low = true;
-    for byte in bytes {
-        all &= may_be_cell(*byte);
-        low &= is_low(*byte);
-    }
-    if !all {
-        Kind::Other
-    } else if low {
-        Kind::Plain
-    } else {
-        Kind::Cells
-    }
-}
-
-/// Whether all bytes of a piece are of ASCII.
-#[inline]
-fn are_low(piece: &[u8; 8]) -> bool
-    ensures { IsTrue result → specs.AreLow 8 piece.now }
-{
-    u64::from_le_bytes(*piece) & HIGH == 0
-}
-
-/// What goes out of a byte by itself.
+/// What goes out of a byte in a cell that is whole.
 fn spell(table: Table, byte: u8) -> Spelled
     ensures { specs.IsSpelled table byte result }
 {
     let mut bytes = [0; 4];
-    if passes_as_is(byte) {
+    if is_shown(byte) || byte == b'\x08' {
         bytes[0] = byte;
         return Spelled { bytes, len: 1 };
     }
@@ -130,6 +73,20 @@ fn is_covered(byte: usize, len: u32) -> bool
     byte < 128 || len > 0
 }
 
+/// Of a chunk that was put up to here that front is taken which ends in a whole cell.
+#[inline]
+fn cut(chunk: &[u8], to: usize) -> Reached
+    requires { length chunk.now ≤ to }
+    ensures whole { IsWhole result.taken chunk.now }
+    ensures end { result.end + length chunk.now ≡ to + result.taken }
+{
+    let taken = whole_front(chunk);
+    Reached {
+        taken,
+        end: to - (chunk.len() - taken),
+    }
+}
+
 impl Spelling {
     /// That of a table.
     pub(crate) fn new(table: Table) -> Spelling
@@ -150,7 +107,7 @@ impl Spelling {
     fn put(&self, reader: &Reader, byte: u8, room: &mut [u8], end: usize) -> usize
         requires serves { specs.Serves self.now reader.now }
         requires room { end + 4 ≤ length room.old }
-        ensures put { specs.Puts room.old end room.new result (specs.cell_of reader.now.table byte) }
+        ensures put { specs.Puts room.old end room.new result (specs.byte_of reader.now.table byte) }
         ensures few { result ≤ end + 4 }
     {
         let one = self.all[usize::from(byte)];
@@ -163,7 +120,7 @@ impl Spelling {
     fn put_each(&self, reader: &Reader, bytes: &[u8], room: &mut [u8], end: usize) -> usize
         requires serves { specs.Serves self.now reader.now }
         requires room { end + 4 * length bytes.now ≤ length room.old }
-        ensures put { specs.Puts room.old end room.new result (specs.cells_of reader.now.table bytes.now) }
+        ensures put { specs.Puts room.old end room.new result (specs.bytes_of reader.now.table bytes.now) }
         ensures few { result ≤ end + 4 * length bytes.now }
     {
         let mut to = end;
@@ -173,14 +130,14 @@ impl Spelling {
         to
     }
 
-    /// What goes out of the cells of a piece is put into a room: at once where all are of ASCII.
+    /// What goes out of a piece is put into a room: at once where all bytes are of ASCII.
     #[inline]
     fn put_piece(&self, reader: &Reader, bytes: &[u8], room: &mut [u8], end: usize) -> usize
         requires serves { specs.Serves self.now reader.now }
-        requires cells { specs.MayBeCells (length bytes.now) bytes.now }
+        requires some { specs.AllSpelled self.now.all bytes.now }
         requires eight { length bytes.now ≡ 8 }
         requires room { end + 32 ≤ length room.old }
-        ensures put { specs.Puts room.old end room.new result (specs.cells_of reader.now.table bytes.now) }
+        ensures put { specs.Puts room.old end room.new result (specs.bytes_of reader.now.table bytes.now) }
         ensures few { result ≤ end + 32 }
     {
         let mut piece = [0; PIECE];
@@ -195,10 +152,10 @@ impl Spelling {
     /// The same of all pieces of a chunk.
     fn put_chunk(&self, reader: &Reader, bytes: &[u8], room: &mut [u8], end: usize) -> usize
         requires serves { specs.Serves self.now reader.now }
-        requires cells { specs.MayBeCells (length bytes.now) bytes.now }
+        requires some { specs.AllSpelled self.now.all bytes.now }
         requires chunk { length bytes.now ≡ 32 }
         requires room { end + 128 ≤ length room.old }
-        ensures put { specs.Puts room.old end room.new result (specs.cells_of reader.now.table bytes.now) }
+        ensures put { specs.Puts room.old end room.new result (specs.bytes_of reader.now.table bytes.now) }
         ensures few { result ≤ end + 128 }
     {
         let mut at = 0;
@@ -218,7 +175,7 @@ impl Spelling {
         ensures { specs.Goes reader.now bytes.now result.taken room.old end room.new result.end }
     {
         let byte = bytes[0];
-        if self.all[usize::from(byte)].len > 0 {
+        if !is_begun(byte) && self.all[usize::from(byte)].len > 0 {
             let end = self.put(reader, byte, room, end);
             return Reached { taken: 1, end };
         }
@@ -251,27 +208,47 @@ impl Spelling {
         Reached { taken, end: to }
     }
 
-    /// Some cells go out: all of those that are looked at together, or some of them.
+    /// What the first of these bytes are that are looked at together: cells only where all of them go out.
+    #[inline]
+    fn kind_ahead(&self, reader: &Reader, bytes: &[u8]) -> Kind
+        requires serves { specs.Serves self.now reader.now }
+        requires seen { 34 ≤ length bytes.now }
+        ensures { specs.IsAhead self.now reader.now result bytes.now }
+    {
+        let kind = kind_of(&bytes[..CHUNK]);
+        if matches!(kind, Kind::Plain) {
+            return kind;
+        }
+        if !self.whole {
+            return Kind::Other;
+        }
+        if matches!(kind, Kind::Cells) {
+            return kind;
+        }
+        let mut seen = [0; SEEN];
+        seen.copy_from_slice(&bytes[..SEEN]);
+        if reader.keeps_backspaces() && are_shaped(&seen) {
+            return Kind::Cells;
+        }
+        Kind::Other
+    }
+
+    /// Some cells go out: nearly all of those that are looked at together, or some of them.
     fn put_some(&self, reader: &Reader, bytes: &[u8], room: &mut [u8], end: usize) -> Reached
         requires serves { specs.Serves self.now reader.now }
+        requires seen { 34 ≤ length bytes.now }
         requires room { end + 4 * length bytes.now ≤ length room.old }
         ensures { specs.Goes reader.now bytes.now result.taken room.old end room.new result.end }
     {
-        if !self.whole || bytes.len() < CHUNK {
-            return self.put_cells(reader, bytes, room, end);
-        }
         let chunk = &bytes[..CHUNK];
-        match kind_of(chunk) {
+        match self.kind_ahead(reader, bytes) {
             Kind::Plain => {
                 room[end..end + CHUNK].copy_from_slice(chunk);
-                Reached {
-                    taken: CHUNK,
-                    end: end + CHUNK,
-                }
+                cut(chunk, end + CHUNK)
             }
             Kind::Cells => {
-                let end = self.put_chunk(reader, chunk, room, end);
-                Reached { taken: CHUNK, end }
+                let to = self.put_chunk(reader, chunk, room, end);
+                cut(chunk, to)
             }
             Kind::Other => self.put_cells(reader, chunk, room, end),
         }
@@ -285,7 +262,7 @@ impl Spelling {
     {
         let mut taken = 0;
         let mut end = 0;
-        while bytes.len() - taken >= CHUNK {
+        while bytes.len() - taken >= SEEN {
             let some = self.put_some(reader, &bytes[taken..], room, end);
             taken += some.taken;
             end = some.end;

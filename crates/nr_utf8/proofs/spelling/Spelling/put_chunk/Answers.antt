@@ -1,7 +1,14 @@
 use Rattle.std.proofs.Common.{◌≡◌, ℕ, ◌+◌, ◌-◌, take, drop, subst, arith}
-use Rattle.nr_utf8.specs.Spelling.{Puts, cells_of}
-use Rattle.nr_utf8.proofs.Pieces.{Puts-piece}
+use Rattle.nr_utf8.specs.Spelling.{Puts, bytes_of}
+use Rattle.nr_utf8.proofs.Pieces.{Puts-piece, piece-spelled}
 use Rattle.nr_utf8.proofs.spelling.Spelling.put_chunk.Goals as goal
+
+pub put_piece-to-requires-clause-some : goal.put_piece-to-requires-clause-some
+put_piece-to-requires-clause-some c =
+    let chunk = c.requires.chunk in
+    let whole = c.loop-at.invariant.whole in
+    let more = c.loop-at-test.true in
+    piece-spelled c.args.self.now.all c.args.bytes.now c.loop-at.at c.requires.some (omega (arith, chunk, whole, more))
 
 pub loop-at-preserved : goal.loop-at-preserved
 loop-at-preserved c =
@@ -9,7 +16,7 @@ loop-at-preserved c =
     let table = c.args.reader.now.table in
     let at = c.loop-at.at in
     let eight : at + 8 - at ≡ 8 = omega arith in
-    let P : ℕ → Type 0 = λ n. Puts c.loop-at.room c.loop-at.to c.put_piece-to.new.room c.put_piece-to.result (cells_of table (take n (drop at bytes))) in
+    let P : ℕ → Type 0 = λ n. Puts c.loop-at.room c.loop-at.to c.put_piece-to.new.room c.put_piece-to.result (bytes_of table (take n (drop at bytes))) in
     let piece = subst P eight c.put_piece-to.ensures.put in
     let few = c.put_piece-to.ensures.few in
     let before = c.loop-at.invariant.few in

@@ -1,6 +1,6 @@
 use Rattle.std.proofs.Common.{arith}
 use Rattle.nr_utf8.proofs.HighBits.{are-low, no_bits}
-use Rattle.nr_utf8.proofs.spelling.are_low.Goals as goal
+use Rattle.nr_utf8.proofs.shapes.are_low.Goals as goal
 
 pub returns : goal.returns
 returns c none =

@@ -1,9 +1,0 @@
-use Rattle.std.proofs.Common.{◌≡◌, true}
-use Rattle.nr_utf8.specs.Spelling.{AreLow, MayBeCells}
-use Rattle.nr_utf8.proofs.spelling.kind_of.Given as goal
-
-abbrev pub invariant-loop-byte : goal.invariant-loop-byte
-invariant-loop-byte l = record {
-  cells : l.all ≡ true → MayBeCells l.byte-index l.bytes;
-  low : l.low ≡ true → AreLow l.byte-index l.bytes;
-}

@@ -1,0 +1,106 @@
+//! Which bytes stand together in whole cells.
+ghost use Rattle.std.specs.Prelude.{◌≡◌, ◌+◌, ◌<◌, ◌≤◌, length, nat_lt, IsTrue};
+ghost use Rattle.nr_utf8.specs.Shapes as specs;
+ghost use Rattle.nr_utf8.specs.Spelling.{AreLow};
+
+use super::reader::is_underlined;
+
+/// How many bytes are looked at together.
+pub(crate) const CHUNK: usize = 32;
+
+/// So many, and one on either side of the last of them.
+pub(crate) const SEEN: usize = CHUNK + 2;
+
+/// The highest bit of each byte of a piece.
+const HIGH: u64 = 0x8080_8080_8080_8080;
+
+/// What some bytes are.
+#[derive(Clone, Copy)]
+pub(crate) enum Kind {
+    /// All go out as they are.
+    Plain,
+    /// So they do, or are beyond ASCII.
+    Cells,
+    /// Anything.
+    Other,
+}
+
+/// Whether a byte is shown or is beyond ASCII.
+fn may_stand(byte: u8) -> bool
+    ensures { result ≡ specs.may_stand byte }
+{
+    byte == b'\n' || (byte >= b' ' && byte != 127)
+}
+
+/// Whether a byte is one of ASCII.
+fn is_low(byte: u8) -> bool
+    ensures { result ≡ nat_lt byte 128 }
+{
+    byte < 128
+}
+
+/// What these bytes are.
+#[inline(never)]
+pub(crate) fn kind_of(bytes: &[u8]) -> Kind
+    ensures { specs.IsOfKind result bytes.now }
+{
+    let mut all = true;
+    let mut low = true;
+    for byte in bytes {
+        all &= may_stand(*byte);
+        low &= is_low(*byte);
+    }
+    if !all {
+        Kind::Other
+    } else if low {
+        Kind::Plain
+    } else {
+        Kind::Cells
+    }
+}
+
+/// Whether all bytes of a piece are of ASCII.
+#[inline]
+pub(crate) fn are_low(piece: &[u8; 8]) -> bool
+    ensures { IsTrue result → AreLow 8 piece.now }
+{
+    u64::from_le_bytes(*piece) & HIGH == 0
+}
+
+/// Whether a byte may stand between these two: a backspace only in a cell that is underlined.
+fn is_shaped(before: u8, byte: u8, behind: u8) -> bool
+    ensures { result ≡ specs.is_shaped before byte behind }
+{
+    may_stand(byte) || (byte == b'\x08' && before == b'_' && is_underlined(behind))
+}
+
+/// Whether each of these bytes but the last may stand where it does.
+#[inline(never)]
+pub(crate) fn are_shaped(bytes: &[u8; 34]) -> bool
+    ensures { IsTrue result → specs.Shapes 32 bytes.now }
+{
+    let mut all = may_stand(bytes[0]);
+    for place in 0..CHUNK {
+        all &= is_shaped(bytes[place], bytes[place + 1], bytes[place + 2]);
+    }
+    all
+}
+
+/// Whether a cell may go on behind a byte.
+pub(crate) fn is_begun(byte: u8) -> bool
+    ensures { result ≡ specs.is_begun byte }
+{
+    byte == b'_' || byte == b'\x08'
+}
+
+/// How many of these bytes stand before a cell that may go on behind them.
+#[inline]
+pub(crate) fn whole_front(bytes: &[u8]) -> usize
+    ensures { specs.IsWhole result bytes.now }
+{
+    let mut len = bytes.len();
+    while len > 0 && is_begun(bytes[len - 1]) {
+        len -= 1;
+    }
+    len
+}
