@@ -9,6 +9,7 @@ pub mod Reading
 pub mod Sent
 pub mod Steps
 pub mod Taking
+pub mod TextTable
 pub mod Turning
 pub mod Unchanged
 pub mod Unread
