@@ -182,6 +182,7 @@ impl Half {
     }
 
     /// A character among words that goes out as `said` elsewhere.
+    #[inline(always)]
     fn among_words(&mut self, words: Words, class: Class, said: Said) -> Seen
         ensures { met self.new result ≡ specs.among_words words class said self.old }
     {
@@ -194,6 +195,7 @@ impl Half {
     }
 
     /// A byte among words. The ninth has its last quote before the newline.
+    #[inline(always)]
     fn in_words(&mut self, words: Words, byte: u8) -> Seen
         ensures { met self.new result ≡ specs.in_words words byte self.old }
     {
@@ -228,6 +230,7 @@ impl Half {
     }
 
     /// A byte of a line, in no escape.
+    #[inline(always)]
     pub(crate) fn in_line(&mut self, byte: u8) -> Seen
         ensures { met self.new result ≡ specs.in_line byte self.old }
     {

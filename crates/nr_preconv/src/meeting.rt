@@ -20,6 +20,7 @@ impl Half {
     }
 
     /// An ASCII character comes.
+    #[inline(always)]
     fn meet_byte(&mut self, byte: u8) -> Seen
         ensures { met self.new result ≡ specs.meet_byte byte self.old }
     {
@@ -46,6 +47,7 @@ impl Half {
     }
 
     /// What a character does.
+    #[inline(always)]
     pub(crate) fn meet(&mut self, coming: Coming) -> Seen
         ensures { met self.new result ≡ specs.meet coming self.old }
     {
