@@ -190,7 +190,6 @@ begins_out macros.Subsection q h c f u =
 begins_out macros.Paragraph q h c f u = out _ q acts.Space acts.Nothing acts.Nothing [] refl refl refl refl (kept_after lasts.Heading q f)
 begins_out macros.Describes q h c f u = out q q (acts.Text texts.Description) acts.Nothing acts.Nothing [] refl refl refl refl (same_page q f)
 begins_out macros.Silent q h c f u = never h
-begins_out macros.Breaks q h c f u = out q q (acts.Request requests.Break) acts.Nothing acts.Nothing [] refl refl refl refl (same_page q f)
 begins_out macros.Spaces q h c f u = never h
 begins_out macros.Defines q h c f u = never h
 begins_out macros.Book q h c f u = book_out q f

@@ -129,6 +129,10 @@ subsection p =
 abbrev pub paragraph : Page → Met
 paragraph p = met (after lasts.Heading p) (left acts.Space)
 
+-- space that the page itself asks for passes, but behind space that was made
+abbrev pub asks_space : Page → Met
+asks_space p = if p.lay.quiet then silent p else met (with_scan scans.Rest p) (left acts.Control)
+
 abbrev pub defines : Page → Met
 defines p = met (with_scan (scans.Ignored dots.Other) p) (left acts.Control)
 
@@ -193,8 +197,7 @@ begins macros.Subsection p = subsection p
 begins macros.Paragraph p = paragraph p
 begins macros.Describes p = met p (left (acts.Text texts.Description))
 begins macros.Silent p = silent p
-begins macros.Breaks p = met p (left (acts.Request requests.Break))
-begins macros.Spaces p = met p (two (acts.Request requests.Space) acts.Quiet)
+begins macros.Spaces p = asks_space p
 begins macros.Defines p = defines p
 begins macros.Book p = book p
 begins macros.BookEnds p = book_ends p

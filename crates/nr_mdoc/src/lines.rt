@@ -93,8 +93,7 @@ impl Page {
             Macro::Paragraph => self.paragraph(),
             Macro::Describes => Seen::left(Act::Text(Text::Description)),
             Macro::Silent => self.silent(),
-            Macro::Breaks => Seen::left(Act::Request(Request::Break)),
-            Macro::Spaces => Seen::two(Act::Request(Request::Space), Act::Quiet),
+            Macro::Spaces => self.asks_space(),
             Macro::Defines => self.defines(),
             Macro::Book => self.book(),
             Macro::BookEnds => self.book_ends(),
@@ -189,6 +188,17 @@ impl Page {
     {
         self.scan = Scan::Dropped;
         Seen::left(Act::Nothing)
+    }
+
+    /// Space that the page itself asks for passes, but behind space that was made.
+    fn asks_space(&mut self) -> Seen
+        ensures { met self.new result ≡ specs.asks_space self.old }
+    {
+        if self.lay.quiet {
+            return self.silent();
+        }
+        self.scan = Scan::Rest;
+        Seen::left(Act::Control)
     }
 
     /// Lines that pass come.

@@ -176,8 +176,6 @@ pub(crate) enum Macro {
     Table,
     /// `.TE`: they have ended.
     TableEnds,
-    /// `.br`.
-    Breaks,
     /// `.sp`.
     Spaces,
     /// `.de`, `.am` and `.ig`: the lines up to `..` pass.
@@ -185,7 +183,7 @@ pub(crate) enum Macro {
 }
 
 /// The macros with names of two bytes, and the requests that are of account here.
-static NAMES: [(u8, u8, Macro); 111] = [
+static NAMES: [(u8, u8, Macro); 110] = [
     (b'A', b'c', Macro::Closes(Pair::Angles)),
     (b'A', b'd', Macro::Words(Font::Italic)),
     (b'A', b'n', Macro::Author),
@@ -293,7 +291,6 @@ static NAMES: [(u8, u8, Macro); 111] = [
     (b'X', b'o', Macro::Opens(Pair::Nothing)),
     (b'X', b'r', Macro::Reference),
     (b'a', b'm', Macro::Defines),
-    (b'b', b'r', Macro::Breaks),
     (b'd', b'e', Macro::Defines),
     (b'i', b'g', Macro::Defines),
     (b's', b'p', Macro::Spaces),
