@@ -2,6 +2,7 @@ mod After
 mod AskedBytes
 mod AskedWords
 mod AskingLines
+mod AtHand
 mod Begins
 mod BlockEnds
 mod Closing

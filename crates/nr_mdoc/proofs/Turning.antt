@@ -1,15 +1,17 @@
 -- How a run goes on and ends.
-use Rattle.std.proofs.Common.{◌≡◌, ℕ, ◌+◌, ◌*◌, ◌≤◌, List, [], ◌∷◌, ◌++◌, length, Option, None, Some, Result, Ok, Err, OnOk, refl, sym, ◌∙◌, ap, subst, append_assoc, append-nil, arith, length-append}
+use Rattle.std.proofs.Common.{◌≡◌, ℕ, ◌+◌, ◌*◌, ◌≤◌, List, [], ◌∷◌, ◌++◌, length, take, drop, Option, None, Some, Result, Ok, Err, OnOk, refl, sym, ◌∙◌, ap, subst, append_assoc, append-nil, arith, length-append}
 use Rattle.std.specs.Io.KnownBytes.{Appends}
 use Rattle.std.proofs.KnownBytes.{Appends-trans, Appends-nil}
+use Rattle.std.proofs.lemmas.List.{length-take, take-append-drop, take-take}
 use Rattle.nr_units.specs.Sink.{AppendsFront}
-use Rattle.nr_units.specs.Source.{Supply, Gives}
+use Rattle.nr_units.specs.Source.{Supply, Gives, Offers, Skips, skipped}
 use Rattle.nr_units.specs.declared.source.Fault.{Fault}
 use Rattle.nr_units.proofs.Fronts.{AppendsFront-append, AppendsFront-after}
 use Rattle.nr_mdoc.specs.declared.page.Block.{Block}
 use Rattle.nr_mdoc.specs.declared.reader.Reader.{Reader}
 use Rattle.nr_mdoc.specs.declared.running.Outcome.{Outcome}
 use Rattle.nr_mdoc.specs.declared.running.Outcome.TheVariants.{Done, ReadFault, TooLong, WriteFault}
+use Rattle.nr_mdoc.specs.AtHand.{Passes}
 use Rattle.nr_mdoc.specs.Reading.{State, Told, state, first_reader, first_state, read, fed, finished, converted, steps_of}
 use Rattle.nr_mdoc.specs.Running.{Comes, Ends, Flushes, Took, Stands, IsCut, IsBroken, Ran, EndsAs}
 use Rattle.nr_mdoc.proofs.Reading.{fed-append_state, fed-append_bytes, fed-append_steps}
@@ -52,6 +54,22 @@ pub Comes-fault : (a b : Option Supply) (e : Fault) → Gives a (Err e) b → Co
 Comes-fault None b e h = tt
 Comes-fault (Some q) None e h = absurd h
 Comes-fault (Some q) (Some t) e h = ap (λ (x : Supply). x.bytes) (sym h.0)
+
+some-injective : (x y : Supply) → Some x ≡ Some y → x ≡ y
+some-injective x y h = cc
+
+skipped-bytes : (q t : Supply) (n : ℕ) → Some t ≡ Some (skipped n q) → t.bytes ≡ drop n q.bytes
+skipped-bytes q t n h = ap (λ (x : Supply). x.bytes) (some-injective t (skipped n q) h)
+
+-- those at hand that are skipped came
+pub Comes-skip : (a b : Option Supply) (window : List ℕ) (n : ℕ) → n ≤ length window → Offers a window → Skips a n b → Comes a (take n window) b
+Comes-skip None b window n l o s = tt
+Comes-skip (Some q) None window n l o s = absurd (let no : None ≡ Some (skipped n q) = s in cc)
+Comes-skip (Some q) (Some t) window n l o s =
+    let front : take n window ≡ take n q.bytes =
+    ap (λ (ys : List ℕ). take n ys) (sym o.0) ∙ take-take n (length window) q.bytes l in
+    let rest : t.bytes ≡ drop n q.bytes = skipped-bytes q t n s in
+    rw (front, rest) (sym (take-append-drop n q.bytes))
 
 both_made : {a b c d : ℕ} → a ≡ c → b ≡ d → a + b ≡ c + d
 both_made p q = cc
@@ -143,6 +161,21 @@ Took-byte a b byte r s pending left steps gives reader out made = record {
   out = out ∙ ap (λ (xs : List ℕ). pending ++ xs) (sym (append-nil (read byte r).bytes));
   made = made ∙ sym (none_added (read byte r).steps);
 }
+
+-- those at hand that pass
+pub Took-passing : (a b : Option Supply) (window : List ℕ) (n : ℕ) (s : State) (pending left : List ℕ)
+    → n ≤ length window → Comes a (take n window) b → Passes s (take n window) → left ≡ pending ++ take n window
+    → Took a b s s pending left n n
+Took-passing a b window n s pending left l came passes out =
+    let count : length (take n window) ≡ n = omega (arith, length-take n window) in
+    record {
+      bytes = take n window;
+      came = came;
+      count = count;
+      state = ap (λ (t : Told). t.state) (sym passes);
+      out = out ∙ ap (λ (t : Told). pending ++ t.bytes) (sym passes);
+      made = sym count ∙ ap (λ (t : Told). t.steps) (sym passes);
+    }
 
 -- ---- a run ends
 

@@ -17,7 +17,7 @@ use Rattle.nr_mdoc.specs.Texts.{front_of}
 use Rattle.nr_mdoc.specs.Calls.{with_scan}
 
 -- a page that is read so
-at : Scan → State → State
+unfoldable pub at : Scan → State → State
 at scan s = record s { page = with_scan scan s.page; pending = Nothing }
 
 -- all that comes of bytes, to the end
@@ -59,13 +59,13 @@ all-passes s (b ∷ bs) =
 -- ---- before `.Dd`
 
 -- what is read by what the front grows to
-read_with : Option Front → Front → ℕ → ℕ → State → Told
+unfoldable pub read_with : Option Front → Front → ℕ → ℕ → State → Told
 read_with g front lines b s =
     let st = at (scans.Asleep front lines) s in
     let o = once_seen (asleep_with g front lines b st.page) st.page.block st in
     behind [] 0 (behind o.bytes 1 (if o.takes then told o.state [] 0 else heard_in 15 b o.state))
 
-read-is : (front : Front) (lines b : ℕ) (s : State) → read b (at (scans.Asleep front lines) s) ≡ read_with (front_grows front b) front lines b s
+pub read-is : (front : Front) (lines b : ℕ) (s : State) → read b (at (scans.Asleep front lines) s) ≡ read_with (front_grows front b) front lines b s
 unfolding at read heard once meet read_with
 read-is front lines b s = refl
 
@@ -182,7 +182,7 @@ Rest : List ℕ → Type 0
 Rest bs = (front : Front) (lines : ℕ) (s : State) → is_some (leads_on (Some (scans.Asleep front lines)) bs) ≡ true
     → all_of (at (scans.Asleep front lines) s) bs ≡ front_of front ++ bs
 
-scan_by : Bool → Bool → Bool → Front → ℕ → Scan
+unfoldable pub scan_by : Bool → Bool → Bool → Front → ℕ → Scan
 scan_by inside blank few front lines =
     if inside then scans.Asleep front lines else
     if blank then scans.Asleep fronts.Nothing lines else

@@ -1,3 +1,4 @@
+pub mod AtHand
 pub mod Blocks
 pub mod Calls
 pub mod Columns

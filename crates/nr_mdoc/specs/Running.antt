@@ -1,5 +1,5 @@
 -- A run over a source and a sink.
-use Rattle.std.specs.Prelude.{◌≡◌, ℕ, ◌+◌, ◌*◌, ◌≤◌, List, [], ◌++◌, length, Bool, true, false, Option, None, Some, Result, Ok, Err, ⊤, ◌⊎◌}
+use Rattle.std.specs.Prelude.{◌≡◌, ℕ, ◌+◌, ◌*◌, ◌<◌, ◌≤◌, List, [], ◌++◌, length, Bool, true, false, Option, None, Some, Result, Ok, Err, ⊤, ◌⊎◌}
 use Rattle.std.specs.Io.KnownBytes.{Appends}
 use Rattle.nr_units.specs.Failures.{next_count}
 use Rattle.nr_units.specs.Sink.{AppendsFront}
@@ -45,16 +45,17 @@ pub record Took (old new : Option Supply) (r s : State) (pending left : List ℕ
   pub made : steps ≡ (fed r bytes).steps
 
 abbrev pub Turns : Option Supply → Option Supply → State → State → List ℕ → List ℕ → Turn → Type 0
-Turns old new r s pending left (turns.Took steps) = Took old new r s pending left 1 steps
+Turns old new r s pending left (turns.Took count steps) = Took old new r s pending left count steps
 Turns old new r s pending left (turns.End steps) =
     Comes old [] new × Ends old new × (left ≡ pending ++ (finished r).bytes) × (steps ≡ (finished r).steps)
 Turns old new r s pending left turns.ReadFault = Comes old [] new × (left ≡ pending)
 
--- At most 73728 bytes went out for a byte, in 96 steps at most, and 73984 at the end.
-abbrev pub IsMeasured : ℕ → ℕ → Turn → Type 0
-IsMeasured before after (turns.Took steps) = (after ≤ before + 73728) × (steps ≤ 96)
-IsMeasured before after (turns.End steps) = (after ≤ before + 73984) × (steps ≤ 96)
-IsMeasured before after turns.ReadFault = after ≤ before
+-- Some bytes were taken, so many at most; at most 73728 bytes went out for each, in 96 steps at most, and 73984 at the end.
+abbrev pub IsMeasured : ℕ → ℕ → ℕ → Turn → Type 0
+IsMeasured most before after (turns.Took count steps) =
+    (0 < count) × (count ≤ most) × (after ≤ before + 73728 * count) × (steps ≤ 96 * count)
+IsMeasured most before after (turns.End steps) = (after ≤ before + 73984) × (steps ≤ 96)
+IsMeasured most before after turns.ReadFault = after ≤ before
 
 abbrev pub is_end : Turn → Bool
 is_end (turns.End steps) = true

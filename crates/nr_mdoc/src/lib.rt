@@ -2,10 +2,11 @@
 //!
 //! It stands on nr_units. To read: `macros`, `page`, `acts`, `seen`; `texts`, `names`, `libraries`, `lookup`, `lay`,
 //! `own_lines`, `references`, `lay_out`; `options`, `calls`, `taking`, `words`, `blocks`, `lines`, `keeping`, `scan`,
-//! which puts them together; `pending`, `reader`, `strings`, `running`; `passing`, `word_laws`.
+//! which puts them together; `pending`, `reader`, `strings`, `at_hand`, `running`; `passing`, `word_laws`.
 #![tactic(auto)]
 
 mod acts;
+mod at_hand;
 mod blocks;
 mod calls;
 mod columns;

@@ -1,7 +1,9 @@
 //! A whole page is turned.
-ghost use Rattle.std.specs.Prelude.{◌≡◌, ◌+◌, ◌<◌, ◌≤◌, [], length, false, OnOk};
+ghost use Rattle.std.specs.Prelude.{◌≡◌, ◌+◌, ◌<◌, ◌≤◌, List, [], ◌++◌, length, take, false, OnOk};
 ghost use Rattle.std.specs.Io.KnownBytes.{Appends};
 ghost use Rattle.nr_units.specs.Failures.{counted_if, put_counted, put_counted_if};
+ghost use Rattle.nr_mdoc.specs.declared.page.Block.{Block as BlockValue};
+ghost use Rattle.nr_mdoc.specs.AtHand.{Passes};
 ghost use Rattle.nr_mdoc.specs.Reading.{first_reader, state};
 ghost use Rattle.nr_mdoc.specs.Running as specs;
 
@@ -36,8 +38,8 @@ pub enum Outcome {
 /// What one turn came to.
 #[derive(Clone, Copy)]
 enum Turn {
-    /// A byte was taken, in so many steps, and more may come.
-    Took { steps: u64 },
+    /// So many bytes were taken, in so many steps, and more may come.
+    Took { count: u64, steps: u64 },
     /// The input has ended, with so many steps.
     End { steps: u64 },
     /// The input failed.
@@ -73,26 +75,65 @@ fn make_room<W: Sink>(out: &mut SliceVec<'_, u8>, output: &mut W) -> Result<(), 
     put_pending(out, output)
 }
 
-/// One turn: a byte is taken.
+/// How many bytes at hand pass, so many at most.
+fn passing_at_hand<R: Source>(reader: &Reader, input: &R, most: u64) -> usize
+    ensures passes { (around : List BlockValue) → Passes (state reader.now around)
+        (take result (R.at_hand input.now)) }
+    ensures within { result ≤ length (R.at_hand input.now) }
+    ensures few { result ≤ most }
+    ensures room { result ≤ 73984 }
+{
+    if !reader.is_asleep() {
+        return 0;
+    }
+    let window = input.window();
+    let len = window.len().min(MOST).min(most as usize);
+    reader.passing(&window[..len])
+}
+
+/// So many of the bytes at hand go out as they are.
+fn pass<R: Source>(input: &mut R, out: &mut SliceVec<'_, u8>, count: usize)
+    requires within { count ≤ length (R.at_hand input.old) }
+    requires room { length out.old.items + count ≤ out.old.room }
+    ensures came { specs.Comes (R.supply input.old) (take count (R.at_hand input.old)) (R.supply input.new) }
+    ensures items { out.new.items ≡ out.old.items ++ take count (R.at_hand input.old) }
+    ensures failures { R.failures input.new ≡ R.failures input.old }
+    ensures room { out.new.room ≡ out.old.room }
+{
+    out.extend(&input.window()[..count]);
+    input.skip(count);
+}
+
+/// One turn: bytes at hand that pass are taken, or the next byte.
 fn make_turn<R: Source>(
     reader: &mut Reader,
     input: &mut R,
     blocks: &mut SliceVec<'_, Block>,
     out: &mut SliceVec<'_, u8>,
+    most: u64,
 ) -> Turn
     requires room { length out.old.items + 73984 ≤ out.old.room }
+    requires some { 0 < most }
     requires blocks { 64 ≤ blocks.old.room }
     ensures turns { specs.Turns (R.supply input.old) (R.supply input.new) (state reader.old blocks.old.items)
         (state reader.new blocks.new.items) out.old.items out.new.items result }
-    ensures measured { specs.IsMeasured (length out.old.items) (length out.new.items) result }
+    ensures measured { specs.IsMeasured most (length out.old.items) (length out.new.items) result }
     ensures failures { R.failures input.new ≡ counted_if (specs.is_fault result) (R.failures input.old) }
     ensures room { out.new.room ≡ out.old.room }
     ensures blocks { specs.is_end result ≡ false → blocks.new.room ≡ blocks.old.room }
 {
+    let count = passing_at_hand(reader, input, most);
+    if count > 0 {
+        pass(input, out, count);
+        return Turn::Took {
+            count: count as u64,
+            steps: count as u64,
+        };
+    }
     match input.next() {
         Ok(Some(byte)) => {
             let steps = reader.read(byte, blocks, out);
-            Turn::Took { steps }
+            Turn::Took { count: 1, steps }
         }
         Ok(None) => {
             let steps = reader.finish(blocks, out);
@@ -141,9 +182,9 @@ fn run<R: Source, W: Sink>(
             Ok(()) => {}
             Err(Fault) => return Outcome::WriteFault,
         }
-        match make_turn(reader, input, blocks, out) {
-            Turn::Took { steps: more } => {
-                taken += 1;
+        match make_turn(reader, input, blocks, out, TOO_MANY - taken) {
+            Turn::Took { count, steps: more } => {
+                taken += count;
                 *steps += more;
             }
             Turn::End { steps: more } => {

@@ -30,13 +30,13 @@ loop-taken-preserved g c =
     (state c.loop-taken.reader c.loop-taken.blocks.items) c.loop-taken.taken c.loop-taken.steps c.loop-taken.invariant.stands c.in-Ok.ensures.ok in
     record {
       stands = Stands-took a b (g.R.Source.supply c.make_turn.new.input) h m c.make_room.new.out.items c.make_turn.new.out.items
-          (state c.loop-taken.reader c.loop-taken.blocks.items) (state c.make_turn.new.reader c.make_turn.new.blocks.items) c.loop-taken.taken 1 c.loop-taken.steps c.in-Took.more flushed c.in-Took.ensures.turns (let few = c.in-Took.ensures.measured.0 in omega (arith, few));
+          (state c.loop-taken.reader c.loop-taken.blocks.items) (state c.make_turn.new.reader c.make_turn.new.blocks.items) c.loop-taken.taken c.in-Took.count c.loop-taken.steps c.in-Took.more flushed c.in-Took.ensures.turns c.in-Took.ensures.measured.2;
       source = c.in-Took.ensures.failures ∙ c.loop-taken.invariant.source;
       sink = c.in-Ok.ensures.failures ∙ c.loop-taken.invariant.sink;
       room = c.make_turn.ensures.room ∙ c.make_room.ensures.room ∙ c.loop-taken.invariant.room;
       blocks = c.in-Took.ensures.blocks refl ∙ c.loop-taken.invariant.blocks;
-      taken = omega arith;
-      steps = (let quick = c.in-Took.ensures.measured.1 in let before = c.loop-taken.invariant.steps in omega (arith, quick, before));
+      taken = (let few = c.in-Took.ensures.measured.1 in omega (arith, few));
+      steps = (let quick = c.in-Took.ensures.measured.3 in let before = c.loop-taken.invariant.steps in omega (arith, quick, before));
     }
 
 pub returns-in-End-clause-ran : goal.returns-in-End-clause-ran
