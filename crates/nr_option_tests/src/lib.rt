@@ -1,5 +1,5 @@
-//! Nothing for other crates: tests of what a command line's words mean: good words and bad ones, page lists, and texts
-//! that are read one after the other.
+//! Nothing for other crates: tests of what a command line's words mean: good words and bad ones, page lists, the ranges
+//! of limits, and texts that are read one after the other.
 //!
 //! It stands on nr_command_options, nr_options and nr_command_line. To read: the files in any order.
 #![tactic(auto)]
@@ -12,5 +12,7 @@ mod command_words;
 mod files_in_order;
 #[cfg(test)]
 mod good_words;
+#[cfg(test)]
+mod limit_ranges;
 #[cfg(test)]
 mod page_lists;

@@ -2,77 +2,79 @@
 use nr_page::Select;
 use std::test::Fail;
 
-/// What a page list selects, as the manual has it.
+/// A page list, a page, and whether it is selected, as the manual has it.
+static SELECTED: [(&[u8], i64, bool); 29] = [
+    (b"1,3-5,9-", 1, true),
+    (b"1,3-5,9-", 2, false),
+    (b"1,3-5,9-", 3, true),
+    (b"1,3-5,9-", 4, true),
+    (b"1,3-5,9-", 5, true),
+    (b"1,3-5,9-", 6, false),
+    (b"1,3-5,9-", 8, false),
+    (b"1,3-5,9-", 9, true),
+    (b"1,3-5,9-", 100, true),
+    (b"1,3-5,9-", 0, false),
+    (b"1,3-5,9-", -1, false),
+    (b"-3", 3, true),
+    (b"-3", 4, false),
+    (b"-3", 0, true),
+    (b"-3", -7, true),
+    (b"-3", i64::MIN, true),
+    (b"-0", 1, false),
+    (b"3-", 2, false),
+    (b"3-", i64::MAX, true),
+    (b"3-3", 2, false),
+    (b"3-3", 3, true),
+    (b"3-3", 4, false),
+    (b"007", 7, true),
+    (b"000000000000000000000002-3", 2, true),
+    (b"2147483647", 2_147_483_647, true),
+    (b"2147483647", 2_147_483_648, false),
+    (b"5,5,1", 1, true),
+    (b"5-9,1-6", 5, true),
+    (b"0", 0, true),
+];
+
 #[test]
 fn selects_listed_pages(rt: HostRuntime) -> Result<(), Fail> {
-    let rows: [(&[u8], i64, bool); 29] = [
-        (b"1,3-5,9-", 1, true),
-        (b"1,3-5,9-", 2, false),
-        (b"1,3-5,9-", 3, true),
-        (b"1,3-5,9-", 4, true),
-        (b"1,3-5,9-", 5, true),
-        (b"1,3-5,9-", 6, false),
-        (b"1,3-5,9-", 8, false),
-        (b"1,3-5,9-", 9, true),
-        (b"1,3-5,9-", 100, true),
-        (b"1,3-5,9-", 0, false),
-        (b"1,3-5,9-", -1, false),
-        (b"-3", 3, true),
-        (b"-3", 4, false),
-        (b"-3", 0, true),
-        (b"-3", -7, true),
-        (b"-3", i64::MIN, true),
-        (b"-0", 1, false),
-        (b"3-", 2, false),
-        (b"3-", i64::MAX, true),
-        (b"3-3", 2, false),
-        (b"3-3", 3, true),
-        (b"3-3", 4, false),
-        (b"007", 7, true),
-        (b"000000000000000000000002-3", 2, true),
-        (b"2147483647", 2_147_483_647, true),
-        (b"2147483647", 2_147_483_648, false),
-        (b"5,5,1", 1, true),
-        (b"5-9,1-6", 5, true),
-        (b"0", 0, true),
-    ];
-    for (text, page, selected) in rows {
+    for (text, page, selected) in &SELECTED {
         let select = Select::parse(text)?;
-        assert_eq!(rt; select.has(page), selected, "page {page} of {text:?}");
+        assert_eq!(rt; select.has(*page), *selected, "page {page} of {text:?}");
     }
     Ok(())
 }
 
 /// Texts that are no page list.
+static REFUSED: [&[u8]; 24] = [
+    b"",
+    b"-",
+    b"5-3",
+    b"1,,2",
+    b"1,",
+    b",1",
+    b",",
+    b"1,-",
+    b"+1",
+    b"-+1",
+    b"1--2",
+    b"--1",
+    b"1-2-3",
+    b" 1",
+    b"1 ",
+    b"1, 2",
+    b"1;2",
+    b"x",
+    b"0x1",
+    b"1\n",
+    b"2147483648",
+    b"1-2147483648",
+    b"-2147483648",
+    b"99999999999999999999-",
+];
+
 #[test]
 fn refuses_other_texts(rt: HostRuntime) {
-    let texts: [&[u8]; 24] = [
-        b"",
-        b"-",
-        b"5-3",
-        b"1,,2",
-        b"1,",
-        b",1",
-        b",",
-        b"1,-",
-        b"+1",
-        b"-+1",
-        b"1--2",
-        b"--1",
-        b"1-2-3",
-        b" 1",
-        b"1 ",
-        b"1, 2",
-        b"1;2",
-        b"x",
-        b"0x1",
-        b"1\n",
-        b"2147483648",
-        b"1-2147483648",
-        b"-2147483648",
-        b"99999999999999999999-",
-    ];
-    for text in texts {
+    for text in &REFUSED {
         assert!(rt; Select::parse(text).is_err(), "{text:?}");
     }
 }
