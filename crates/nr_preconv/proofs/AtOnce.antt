@@ -14,13 +14,18 @@ use Rattle.nr_preconv.specs.declared.half.Mark.TheVariants.{Other}
 use Rattle.nr_preconv.specs.declared.reader.Reader.{Reader}
 use Rattle.nr_preconv.specs.declared.reader.Pending.TheVariants.{Nothing}
 use Rattle.nr_preconv.specs.Half.{is_plain}
-use Rattle.nr_preconv.specs.Hyphens.{mark_of, followed, placed, turns_hyphens}
-use Rattle.nr_preconv.specs.Words.{class_of, goes_on_with}
-use Rattle.nr_preconv.specs.Meeting.{is_raw, is_as_is, is_as_is_at, started, taken_as_is}
+use Rattle.nr_preconv.specs.Hyphens.{mark_of, followed, placed, gone_by, turns_hyphens}
+use Rattle.nr_preconv.specs.declared.words.Words.{Words}
+use Rattle.nr_preconv.specs.declared.words.Place.{Place}
+use Rattle.nr_preconv.specs.declared.words.Place.TheVariants.{Quoted}
+use Rattle.nr_preconv.specs.declared.words.Class.{Class}
+use Rattle.nr_preconv.specs.declared.words.Class.TheVariants.{Space, Quote, Other as AnyClass}
+use Rattle.nr_preconv.specs.Words.{class_of, goes_on_at, goes_on_with, goes_on_with_space, spaced_at, behind_space, is_ninth, words_at}
+use Rattle.nr_preconv.specs.Meeting.{is_raw, is_as_is, is_as_is_at, line_on, line_behind, line_taken, taken_as_is}
 use Rattle.nr_preconv.specs.Reading.{told, with_half, read}
 use Rattle.nr_preconv.specs.Passing.{Passes}
 use Rattle.nr_preconv.specs.Runs.{goes_on_text, goes_on_word, run_at, run_len}
-use Rattle.nr_preconv.proofs.Plain.{and-first, and-second, read_as_is, Passes-more}
+use Rattle.nr_preconv.proofs.Plain.{and-first, and-second, quoted_space, read_as_is, Passes-more}
 
 -- ---- bytes that only go on
 
@@ -40,6 +45,7 @@ no_newline b p = grind (arith, nat_tests)
 run_in : Line → ℕ → Bool
 run_in lines.Text = goes_on_text
 run_in lines.Request = goes_on_text
+run_in lines.Paragraph = goes_on_text
 run_in lines.Stored = goes_on_text
 run_in lines.Translation = goes_on_text
 run_in (lines.Words words) = goes_on_word words
@@ -49,6 +55,7 @@ is_text : (l : Line) (b : ℕ) → run_in l b ≡ true → goes_on_text b ≡ tr
 unfolding run_in
 is_text lines.Text b p = p
 is_text lines.Request b p = p
+is_text lines.Paragraph b p = p
 is_text lines.Stored b p = p
 is_text lines.Translation b p = p
 is_text (lines.Words words) b p = and-first (goes_on_text b) (goes_on_with (class_of b) words) p
@@ -58,36 +65,59 @@ not_raw : (l : Line) (b : ℕ) → run_in l b ≡ true → is_raw l ≡ false
 unfolding run_in
 not_raw lines.Text b p = refl
 not_raw lines.Request b p = refl
+not_raw lines.Paragraph b p = refl
 not_raw lines.Stored b p = refl
 not_raw lines.Translation b p = refl
 not_raw (lines.Words words) b p = refl
 not_raw line b p = absurd (let no : false ≡ true = p in cc)
 
-same_line : (l : Line) (b : ℕ) → run_in l b ≡ true → started l ≡ l
+space_stays : (x : Bool) (y : Class) (words : Words) → goes_on_at words.place (if x then Space else y) ≡ true → (if x then words_at (behind_space words.place) words else words) ≡ words
+space_stays true y words p = ap (λ (q : Place). words_at q words) (quoted_space words.place p)
+space_stays false y words p = refl
+
+stays : (l : Line) (b : ℕ) → run_in l b ≡ true → line_on l b ≡ l
 unfolding run_in
-same_line lines.Text b p = refl
-same_line lines.Request b p = refl
-same_line lines.Stored b p = refl
-same_line lines.Translation b p = refl
-same_line (lines.Words words) b p = refl
-same_line line b p = absurd (let no : false ≡ true = p in cc)
+stays lines.Text b p = refl
+stays lines.Request b p = refl
+stays lines.Paragraph b p = refl
+stays lines.Stored b p = refl
+stays lines.Translation b p = refl
+stays (lines.Words words) b p =
+    ap lines.Words (space_stays (b == code " ") (if b == code "\"" then Quote else AnyClass) words (and-second (goes_on_text b) (goes_on_with (class_of b) words) p))
+stays line b p = absurd (let no : false ≡ true = p in cc)
+
+same_line : (l : Line) (b : ℕ) → run_in l b ≡ true → line_taken l b ≡ l
+same_line l b p =
+    ap (λ (x : Bool). if x then line_behind l else line_on l b) (no_newline b (is_text l b p)) ∙ stays l b p
 
 or-true : (x : Bool) → (x || true) ≡ true
 or-true true = refl
 or-true false = refl
 
+spaced_on : (place : Place) (ninth : Bool) → goes_on_at place Space ≡ true → (if ninth then goes_on_at place Space else spaced_at place) ≡ true
+spaced_on Quoted true p = refl
+spaced_on Quoted false p = refl
+spaced_on place ninth p = absurd (let no : false ≡ true = p in cc)
+
+spaces_by : (x : Bool) (y : Class) (words : Words) → goes_on_at words.place (if x then Space else y) ≡ true
+    → (if x then goes_on_with_space words else goes_on_at words.place (if x then Space else y)) ≡ true
+spaces_by true y words p = spaced_on words.place (is_ninth words) p
+spaces_by false y words p = p
+
 as_is_at : (l : Line) (b : ℕ) (h : Half) → run_in l b ≡ true → is_as_is_at l b h ≡ true
 unfolding run_in
 as_is_at lines.Request b h p = refl
+as_is_at lines.Paragraph b h p = refl
 as_is_at lines.Stored b h p = refl
 as_is_at lines.Translation b h p = refl
 as_is_at lines.Text b h p =
     ap (λ (x : Bool). not (turns_hyphens h) || not x) (no_hyphen b p) ∙ or-true (not (turns_hyphens h))
 as_is_at (lines.Words words) b h p =
     let text = and-first (goes_on_text b) (goes_on_with (class_of b) words) p in
-    ap (λ (x : Bool). not x && not (b == code "-") && goes_on_with (class_of b) words) (no_newline b text)
-    ∙ ap (λ (x : Bool). not x && goes_on_with (class_of b) words) (no_hyphen b text)
-    ∙ and-second (goes_on_text b) (goes_on_with (class_of b) words) p
+    let on = and-second (goes_on_text b) (goes_on_with (class_of b) words) p in
+    ap (λ (x : Bool). if x then not (is_ninth words) else if b == code " " then goes_on_with_space words else not (b == code "-") && goes_on_with (class_of b) words) (no_newline b text)
+    ∙ ap (λ (x : Bool). if b == code " " then goes_on_with_space words else not x && goes_on_with (class_of b) words) (no_hyphen b text)
+    ∙ spaces_by (b == code " ") (if b == code "\"" then Quote else AnyClass) words on
 as_is_at line b h p = absurd (let no : false ≡ true = p in cc)
 
 as_is : (l : Line) (b : ℕ) (h : Half) → h.line ≡ l → is_plain h.escape ≡ true → run_in l b ≡ true → is_as_is b h ≡ true
@@ -132,22 +162,22 @@ pub placed_escape : (x : Mark) (h : Half) → is_plain (placed x h).escape ≡ i
 placed_escape x h = escape_by h.manual x h
 
 -- in the midst of a line
-taken_is : (b : ℕ) (h : Half) → (b == code "\n") ≡ false → started h.line ≡ h.line → taken_as_is b h ≡ placed (mark_of b) h
+taken_is : (b : ℕ) (h : Half) → (b == code "\n") ≡ false → line_taken h.line b ≡ h.line → taken_as_is b h ≡ placed (mark_of b) h
 taken_is b h line same =
-    let at : Bool → Half = λ (x : Bool). record h { line = if x then lines.Start else started h.line } in
-    ap (λ (x : Bool). if x then record (at x) { before = Character Other } else placed (mark_of b) (at x)) line
-    ∙ ap (λ (l : Line). placed (mark_of b) (record h { line = l })) same
+    ap (λ (l : Line). gone_by b (record h { line = l })) same
+    ∙ ap (λ (x : Bool). if x then record h { before = Character Other } else placed (mark_of b) h) line
 
-taken_twice : (a b : ℕ) (h : Half) → (a == code "\n") ≡ false → (b == code "\n") ≡ false → started h.line ≡ h.line
+taken_twice : (a b : ℕ) (h : Half) → (a == code "\n") ≡ false → (b == code "\n") ≡ false → line_taken h.line a ≡ h.line → line_taken h.line b ≡ h.line
     → taken_as_is b (taken_as_is a h) ≡ taken_as_is b h
-taken_twice a b h first second same =
+taken_twice a b h first second here there =
     let x = mark_of a in
-    let later : started (placed x h).line ≡ (placed x h).line =
-    ap started (placed_line x h) ∙ same ∙ sym (placed_line x h) in
-    ap (taken_as_is b) (taken_is a h first same)
+    let line = placed_line x h in
+    let later : line_taken (placed x h).line b ≡ (placed x h).line =
+    ap (λ (l : Line). line_taken l b) line ∙ there ∙ sym line in
+    ap (taken_as_is b) (taken_is a h first here)
     ∙ taken_is b (placed x h) second later
     ∙ placed_twice x (mark_of b) h
-    ∙ sym (taken_is b h second same)
+    ∙ sym (taken_is b h second there)
 
 -- ---- a run
 
@@ -162,14 +192,15 @@ run_next : (a b : ℕ) (l : Line) (r : Reader) → r.pending ≡ Nothing → is_
 run_next a b l r none plain line p q =
     let first = no_newline a (is_text l a p) in
     let second = no_newline b (is_text l b q) in
-    let same : started r.half.line ≡ r.half.line = ap started line ∙ same_line l a p ∙ sym line in
-    let is = taken_is a r.half first same in
+    let here : line_taken r.half.line a ≡ r.half.line = ap (λ (m : Line). line_taken m a) line ∙ same_line l a p ∙ sym line in
+    let next : line_taken r.half.line b ≡ r.half.line = ap (λ (m : Line). line_taken m b) line ∙ same_line l b q ∙ sym line in
+    let is = taken_is a r.half first here in
     let x = mark_of a in
     let s = with_half (taken_as_is a r.half) r in
     let still : is_plain s.half.escape ≡ true = ap (λ (h : Half). is_plain h.escape) is ∙ placed_escape x r.half ∙ plain in
     let there : s.half.line ≡ l = ap (λ (h : Half). h.line) is ∙ placed_line x r.half ∙ line in
     run_step b l s none still there q
-    ∙ ap (λ (h : Half). told (with_half h r) (b ∷ []) 1) (taken_twice a b r.half first second same)
+    ∙ ap (λ (h : Half). told (with_half h r) (b ∷ []) 1) (taken_twice a b r.half first second here next)
 
 run_passes : (n : ℕ) (bs : List ℕ) (l : Line) (r : Reader) → r.pending ≡ Nothing → is_plain r.half.escape ≡ true → r.half.line ≡ l
     → ((i : ℕ) → i < n + 1 → run_in l (get_or bs i 0) ≡ true) → n < length bs
@@ -189,6 +220,7 @@ run_at-is : (l : Line) (bs : List ℕ) → 0 < run_at l bs → run_at l bs ≡ p
 unfolding run_in
 run_at-is lines.Text bs some = refl
 run_at-is lines.Request bs some = refl
+run_at-is lines.Paragraph bs some = refl
 run_at-is lines.Stored bs some = refl
 run_at-is lines.Translation bs some = refl
 run_at-is (lines.Words words) bs some = refl

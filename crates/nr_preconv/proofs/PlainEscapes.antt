@@ -1,4 +1,4 @@
--- Escapes that go out as they are: the minus sign, and fonts.
+-- Escapes that go out as they are: those of two bytes, and fonts.
 use Prim.Native.Char.{code}
 use Rattle.std.proofs.Common.{◌≡◌, ℕ, List, [], ◌∷◌, ◌++◌, Bool, true, false, ◌==◌, ◌&&◌, ◌||◌, nat_lt, if◌then◌else◌, refl, sym, ◌∙◌, ap, subst, arith}
 use Rattle.std.proofs.lemmas.Bool.Decides.{nat_tests}
@@ -24,7 +24,7 @@ use Rattle.nr_preconv.specs.Lines.{in_line, takes_escape, passing}
 use Rattle.nr_preconv.specs.Meeting.{meet, plain_byte, beginning, is_raw}
 use Rattle.nr_preconv.specs.Reading.{Told, told, behind, then_told, heard, heard_in, heard_byte, with_half, pending_with, read, fed, is_lead, stray}
 use Rattle.nr_preconv.specs.Passing.{Passes}
-use Rattle.nr_preconv.specs.Runs.{takes_plain_at, takes_plain_escape, begins_minus, begins_font, is_font, behind_font, behind_minus}
+use Rattle.nr_preconv.specs.Runs.{takes_plain_at, takes_plain_escape, is_kept, begins_kept, begins_font, is_font, behind_font, behind_kept}
 use Rattle.nr_preconv.proofs.Plain.{and-first, and-second, is_not, nothing_pending}
 use Rattle.nr_preconv.proofs.AtOnce.{placed_as}
 
@@ -45,6 +45,7 @@ backslash_at : (l : Line) → takes_plain_at l ≡ true → takes_escape l ≡ t
 backslash_at lines.Start p = refl
 backslash_at lines.Text p = refl
 backslash_at lines.Request p = refl
+backslash_at lines.Paragraph p = refl
 backslash_at (lines.Words words) p = refl
 backslash_at line p = absurd (let no : false ≡ true = p in cc)
 
@@ -52,6 +53,7 @@ cooked_at : (l : Line) → takes_plain_at l ≡ true → is_raw l ≡ false
 cooked_at lines.Start p = refl
 cooked_at lines.Text p = refl
 cooked_at lines.Request p = refl
+cooked_at lines.Paragraph p = refl
 cooked_at (lines.Words words) p = refl
 cooked_at line p = absurd (let no : false ≡ true = p in cc)
 
@@ -59,6 +61,7 @@ ready_at : (l : Line) → takes_plain_at l ≡ true → waits l ≡ false
 ready_at lines.Start p = refl
 ready_at lines.Text p = refl
 ready_at lines.Request p = refl
+ready_at lines.Paragraph p = refl
 ready_at (lines.Words words) p = is_not (begins_word words) p
 ready_at line p = absurd (let no : false ≡ true = p in cc)
 
@@ -78,33 +81,33 @@ backslash_read : (r : Reader) → r.pending ≡ Nothing → is_plain r.half.esca
 backslash_read r none plain at =
     meets (code "\\") r says.Nothing (begun r.half) none (cooked_at r.half.line at) refl (backslash_met r.half plain at)
 
--- ---- the minus sign
+-- ---- an escape of two bytes
 
 forgotten_by : (m : Bool) (h : Half) (e : Escape) (k s : List ℕ)
     → without_escape (placed_as m Other (record h { escape = e; kept = k; spelled = s })) ≡ without_escape (placed_as m Other h)
 forgotten_by true h e k s = refl
 forgotten_by false h e k s = refl
 
-minus_half : (h : Half) → in_text (without_escape (placed Other (record h { escape = escapes.Begun; kept = code "\\" ∷ code "-" ∷ []; spelled = [] }))) ≡ behind_minus h
-minus_half h = ap in_text (forgotten_by h.manual h escapes.Begun (code "\\" ∷ code "-" ∷ []) [])
+kept_half : (b : ℕ) (h : Half) → in_text (without_escape (placed Other (record h { escape = escapes.Begun; kept = code "\\" ∷ b ∷ []; spelled = [] }))) ≡ behind_kept h
+kept_half b h = ap in_text (forgotten_by h.manual h escapes.Begun (code "\\" ∷ b ∷ []) [])
 
-minus_met : (h : Half) → takes_plain_at h.line ≡ true → meet (comings.Byte (code "-")) (begun h) ≡ taken (says.Kept (code "\\" ∷ code "-" ∷ [])) (behind_minus h)
-unfolding begun
-minus_met h at =
-    ap (λ (x : Bool). if x then made_way h.line (begun h) else letter (code "-") (begun h)) (ready_at h.line at)
-    ∙ ap (taken (says.Kept (code "\\" ∷ code "-" ∷ []))) (minus_half h)
+KeptRead : Reader → ℕ → Type 0
+KeptRead r b = read b (with_half (begun r.half) r) ≡ told (with_half (behind_kept r.half) r) (code "\\" ∷ b ∷ []) 1
 
-minus_read : (r : Reader) → r.pending ≡ Nothing → takes_plain_at r.half.line ≡ true
-    → read (code "-") (with_half (begun r.half) r) ≡ told (with_half (behind_minus r.half) r) (code "\\" ∷ code "-" ∷ []) 1
-unfolding begun
-minus_read r none at =
-    meets (code "-") (with_half (begun r.half) r) (says.Kept (code "\\" ∷ code "-" ∷ [])) (behind_minus r.half) none (cooked_at r.half.line at) refl (minus_met r.half at)
-
-minus_fed : (r : Reader) → r.pending ≡ Nothing → is_plain r.half.escape ≡ true → takes_plain_at r.half.line ≡ true
-    → fed r (code "\\" ∷ code "-" ∷ []) ≡ told (with_half (behind_minus r.half) r) (code "\\" ∷ code "-" ∷ []) 2
-minus_fed r none plain at =
-    ap (λ (t : Told). then_told t (λ s. fed s (code "-" ∷ []))) (backslash_read r none plain at)
-    ∙ ap (λ (t : Told). behind [] 1 (then_told t (λ s. told s [] 0))) (minus_read r none at)
+-- where its letter ends it
+kept_by : (r : Reader) → r.pending ≡ Nothing → takes_plain_at r.half.line ≡ true → (b : ℕ) → nat_lt b 127 ≡ true
+    → bytes_of r.table (says.Kept (code "\\" ∷ b ∷ [])) ≡ code "\\" ∷ b ∷ []
+    → meet (comings.Byte b) (begun r.half) ≡ (if waits r.half.line then made_way r.half.line (begun r.half) else taken (says.Kept (code "\\" ∷ b ∷ [])) (in_text (without_escape (placed Other (record r.half { escape = escapes.Begun; kept = code "\\" ∷ b ∷ []; spelled = [] })))))
+    → KeptRead r b
+unfolding KeptRead begun
+kept_by r none at b ascii sends ends =
+    let h = record r.half { escape = escapes.Begun; kept = code "\\" ∷ []; spelled = [] } in
+    let k = in_text (without_escape (placed Other (record r.half { escape = escapes.Begun; kept = code "\\" ∷ b ∷ []; spelled = [] }))) in
+    meets b (with_half h r) (says.Kept (code "\\" ∷ b ∷ [])) (behind_kept r.half) none (cooked_at r.half.line at) ascii
+    (ends
+    ∙ ap (λ (x : Bool). if x then made_way r.half.line h else taken (says.Kept (code "\\" ∷ b ∷ [])) k) (ready_at r.half.line at)
+    ∙ ap (taken (says.Kept (code "\\" ∷ b ∷ []))) (kept_half b r.half))
+    ∙ ap (λ (xs : List ℕ). told (with_half (behind_kept r.half) r) (xs ++ []) 1) sends
 
 -- ---- a font
 
@@ -132,6 +135,29 @@ by_letter P p q s t c false true y z e f g h is = subst P (sym (is_one c (code "
 by_letter P p q s t c false false true z e f g h is = subst P (sym (is_one c (code "P") g)) s
 by_letter P p q s t c false false false true e f g h is = subst P (sym (is_one c (code "R") h)) t
 by_letter P p q s t c false false false false e f g h is = absurd (let no : false ≡ true = is in cc)
+
+by_kept : (P : ℕ → Type 0) → P (code "-") → P (code "&") → P (code "|") → P (code "c") → P (code "e") → (b : ℕ) (v w x y z : Bool) → (b == code "-") ≡ v → (b == code "&") ≡ w → (b == code "|") ≡ x → (b == code "c") ≡ y → (b == code "e") ≡ z
+    → (v || w || x || y || z) ≡ true → P b
+by_kept P o p q s t b true w x y z d e f g h is = subst P (sym (is_one b (code "-") d)) o
+by_kept P o p q s t b false true x y z d e f g h is = subst P (sym (is_one b (code "&") e)) p
+by_kept P o p q s t b false false true y z d e f g h is = subst P (sym (is_one b (code "|") f)) q
+by_kept P o p q s t b false false false true z d e f g h is = subst P (sym (is_one b (code "c") g)) s
+by_kept P o p q s t b false false false false true d e f g h is = subst P (sym (is_one b (code "e") h)) t
+by_kept P o p q s t b false false false false false d e f g h is = absurd (let no : false ≡ true = is in cc)
+
+kept_read : (r : Reader) → r.pending ≡ Nothing → takes_plain_at r.half.line ≡ true → (b : ℕ) → is_kept b ≡ true → KeptRead r b
+unfolding begun
+kept_read r none at b p =
+    by_kept (KeptRead r) (kept_by r none at (code "-") refl refl refl) (kept_by r none at (code "&") refl refl refl)
+    (kept_by r none at (code "|") refl refl refl) (kept_by r none at (code "c") refl refl refl) (kept_by r none at (code "e") refl refl refl)
+    b (b == code "-") (b == code "&") (b == code "|") (b == code "c") (b == code "e") refl refl refl refl refl p
+
+kept_fed : (r : Reader) (b : ℕ) → r.pending ≡ Nothing → is_plain r.half.escape ≡ true → takes_plain_at r.half.line ≡ true → is_kept b ≡ true
+    → fed r (code "\\" ∷ b ∷ []) ≡ told (with_half (behind_kept r.half) r) (code "\\" ∷ b ∷ []) 2
+unfolding KeptRead
+kept_fed r b none plain at p =
+    ap (λ (t : Told). then_told t (λ s. fed s (b ∷ []))) (backslash_read r none plain at)
+    ∙ ap (λ (t : Told). behind [] 1 (then_told t (λ s. told s [] 0))) (kept_read r none at b p)
 
 FontRead : Reader → ℕ → Type 0
 FontRead r c = read c (with_half (named r.half) r) ≡ told (with_half (behind_font r.half) r) (code "\\" ∷ code "f" ∷ c ∷ []) 1
@@ -164,16 +190,16 @@ plain_second : (x y : Bool) → (if x then y else false) ≡ true → y ≡ true
 plain_second true y p = p
 plain_second false y p = absurd (let no : false ≡ true = p in cc)
 
-pub minus_passes : (bs : List ℕ) (r : Reader) → r.pending ≡ Nothing → takes_plain_escape r.half ≡ true → begins_minus bs ≡ true
-    → Passes 2 bs r (with_half (behind_minus r.half) r)
-minus_passes [] r none may is = absurd (let no : false ≡ true = is in cc)
-minus_passes (a ∷ []) r none may is = absurd (let no : false ≡ true = is in cc)
-minus_passes (a ∷ b ∷ bs) r none may is =
-    let P : ℕ → ℕ → Type 0 = λ x y. fed r (x ∷ y ∷ []) ≡ told (with_half (behind_minus r.half) r) (x ∷ y ∷ []) 2 in
-    let whole : P (code "\\") (code "-") =
-    minus_fed r none (plain_first (is_plain r.half.escape) (takes_plain_at r.half.line) may) (plain_second (is_plain r.half.escape) (takes_plain_at r.half.line) may) in
-    let one : P a (code "-") = subst (λ (x : ℕ). P x (code "-")) (sym (is_one a (code "\\") (and-first (a == code "\\") (b == code "-") is))) whole in
-    subst (P a) (sym (is_one b (code "-") (and-second (a == code "\\") (b == code "-") is))) one
+pub kept_passes : (bs : List ℕ) (r : Reader) → r.pending ≡ Nothing → takes_plain_escape r.half ≡ true → begins_kept bs ≡ true
+    → Passes 2 bs r (with_half (behind_kept r.half) r)
+kept_passes [] r none may is = absurd (let no : false ≡ true = is in cc)
+kept_passes (a ∷ []) r none may is = absurd (let no : false ≡ true = is in cc)
+kept_passes (a ∷ b ∷ bs) r none may is =
+    let P : ℕ → Type 0 = λ x. fed r (x ∷ b ∷ []) ≡ told (with_half (behind_kept r.half) r) (x ∷ b ∷ []) 2 in
+    let whole : P (code "\\") =
+    kept_fed r b none (plain_first (is_plain r.half.escape) (takes_plain_at r.half.line) may) (plain_second (is_plain r.half.escape) (takes_plain_at r.half.line) may)
+    (and-second (a == code "\\") (is_kept b) is) in
+    subst P (sym (is_one a (code "\\") (and-first (a == code "\\") (is_kept b) is))) whole
 
 pub font_passes : (bs : List ℕ) (r : Reader) → r.pending ≡ Nothing → takes_plain_escape r.half ≡ true → begins_font bs ≡ true
     → Passes 3 bs r (with_half (behind_font r.half) r)

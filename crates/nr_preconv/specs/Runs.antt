@@ -27,6 +27,7 @@ goes_on_word words b = goes_on_text b && goes_on_with (class_of b) words
 abbrev pub run_at : Line → List ℕ → ℕ
 run_at lines.Text bs = prefix_len goes_on_text bs
 run_at lines.Request bs = prefix_len goes_on_text bs
+run_at lines.Paragraph bs = prefix_len goes_on_text bs
 run_at lines.Stored bs = prefix_len goes_on_text bs
 run_at lines.Translation bs = prefix_len goes_on_text bs
 run_at (lines.Words words) bs = prefix_len (goes_on_word words) bs
@@ -76,23 +77,29 @@ name_len bs h = if is_plain h.escape && is_start h.line then dotted_len bs else 
 abbrev pub behind_name : List ℕ → Half → Half
 behind_name name h = record (placed Other h) { conditional = false; name = name; line = lines.Name }
 
--- ---- escapes that go out as they are: the minus sign, and fonts
+-- ---- escapes that go out as they are: those of two bytes, and fonts
 
 -- no word begins with it
 abbrev pub takes_plain_at : Line → Bool
 takes_plain_at lines.Start = true
 takes_plain_at lines.Text = true
 takes_plain_at lines.Request = true
+takes_plain_at lines.Paragraph = true
 takes_plain_at (lines.Words words) = not (begins_word words)
 takes_plain_at line = false
 
 abbrev pub takes_plain_escape : Half → Bool
 takes_plain_escape h = if is_plain h.escape then takes_plain_at h.line else false
 
-abbrev pub begins_minus : List ℕ → Bool
-begins_minus [] = false
-begins_minus (a ∷ []) = false
-begins_minus (a ∷ b ∷ bs) = (a == code "\\") && (b == code "-")
+-- the minus sign, what prints nothing, a thin blank, what goes on a line, a backslash
+abbrev pub is_kept : ℕ → Bool
+is_kept b =
+    (b == code "-") || (b == code "&") || (b == code "|") || (b == code "c") || (b == code "e")
+
+abbrev pub begins_kept : List ℕ → Bool
+begins_kept [] = false
+begins_kept (a ∷ []) = false
+begins_kept (a ∷ b ∷ bs) = (a == code "\\") && is_kept b
 
 abbrev pub is_font : ℕ → Bool
 is_font b = (b == code "B") || (b == code "I") || (b == code "P") || (b == code "R")
@@ -107,5 +114,5 @@ begins_font (a ∷ b ∷ c ∷ bs) = (a == code "\\") && (b == code "f") && is_f
 abbrev pub behind_font : Half → Half
 behind_font h = in_text (without_escape h)
 
-abbrev pub behind_minus : Half → Half
-behind_minus h = behind_font (placed Other h)
+abbrev pub behind_kept : Half → Half
+behind_kept h = behind_font (placed Other h)

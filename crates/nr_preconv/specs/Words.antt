@@ -1,7 +1,7 @@
 -- The words of a font macro's line. No more than nine are taken, so the ninth and all after it are one word in quotes;
 -- where two fonts take turns, the words after the ninth follow one another with their fonts.
 use Prim.Native.Char.{code}
-use Rattle.std.specs.Prelude.{ℕ, ◌+◌, Bool, true, false, not, ◌==◌, nat_le, if◌then◌else◌}
+use Rattle.std.specs.Prelude.{ℕ, ◌+◌, Bool, true, false, not, ◌==◌, ◌&&◌, nat_le, if◌then◌else◌}
 use Rattle.nr_preconv.specs.declared.said.Said.{Said}
 use Rattle.nr_preconv.specs.declared.said.Said.TheVariants.{Nothing, Byte, Quotes, Font}
 use Rattle.nr_preconv.specs.declared.words.Words.{Words}
@@ -43,8 +43,32 @@ goes_on_at place class = false
 abbrev pub goes_on_with : Class → Words → Bool
 goes_on_with class w = goes_on_at w.place class
 
+-- up to the eighth word a space goes out as it is
+abbrev pub spaced_at : Place → Bool
+spaced_at Between = true
+spaced_at Inside = true
+spaced_at Quoted = true
+spaced_at place = false
+
+abbrev pub goes_on_with_space : Words → Bool
+goes_on_with_space w = if is_ninth w then goes_on_with Space w else spaced_at w.place
+
+-- an ASCII character goes out as it is and is taken at once
+abbrev pub is_as_is : ℕ → Words → Bool
+is_as_is b w =
+    if b == code "\n" then not (is_ninth w) else
+    if b == code " " then goes_on_with_space w else not (b == code "-") && goes_on_with (class_of b) w
+
 abbrev pub words_at : Place → Words → Words
 words_at place w = record { fonts = w.fonts; count = w.count; second = w.second; place = place }
+
+-- a space ends a word
+abbrev pub behind_space : Place → Place
+behind_space Inside = Between
+behind_space place = place
+
+abbrev pub taken_as_is : ℕ → Words → Words
+taken_as_is b w = if b == code " " then words_at (behind_space w.place) w else w
 
 abbrev pub told : Place → Said → Bool → Words → Told
 told place said takes w = record { words = words_at place w; said = said; takes = takes }

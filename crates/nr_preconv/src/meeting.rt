@@ -5,8 +5,23 @@ ghost use Rattle.nr_preconv.specs.Meeting as specs;
 
 use super::half::{Coming, Escape, Half, Line, Seen};
 use super::said::Said;
-use super::words::Class;
 use nr_units::Name;
+
+impl Line {
+    /// The line after such a character.
+    #[inline(always)]
+    fn taken(self, byte: u8) -> Line
+        ensures { result ≡ specs.line_taken self byte }
+    {
+        match self {
+            Line::Paragraph if byte == b'\n' => Line::Behind,
+            _ if byte == b'\n' => Line::Start,
+            Line::Start => Line::Text,
+            Line::Words(words) => Line::Words(words.taken(byte)),
+            line => line,
+        }
+    }
+}
 
 impl Half {
     /// An escape begins.
@@ -66,14 +81,12 @@ impl Half {
             return false;
         }
         match self.line {
-            Line::Request | Line::Stored | Line::Translation => true,
+            Line::Request | Line::Paragraph | Line::Stored | Line::Translation => true,
             Line::Text => !self.turns_hyphens() || byte != b'-',
             Line::Start => {
                 !matches!(byte, b'.' | b'\'') && (!self.turns_hyphens() || byte != b'-')
             }
-            Line::Words(words) => {
-                byte != b'\n' && byte != b'-' && words.goes_on_with(Class::of(byte))
-            }
+            Line::Words(words) => words.takes_as_is(byte),
             _ => false,
         }
     }
@@ -83,11 +96,7 @@ impl Half {
     pub(crate) fn takes(&mut self, byte: u8)
         ensures { self.new ≡ specs.taken_as_is byte self.old }
     {
-        if byte == b'\n' {
-            self.line = Line::Start;
-        } else if matches!(self.line, Line::Start) {
-            self.line = Line::Text;
-        }
+        self.line = self.line.taken(byte);
         self.goes_by(byte);
     }
 

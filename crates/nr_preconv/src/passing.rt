@@ -7,7 +7,7 @@ ghost use Rattle.nr_preconv.specs.Reading as specs;
 
 use super::half::{Escape, Line};
 use super::reader::{Pending, Reader};
-use super::runs::{begins_font, begins_minus};
+use super::runs::{begins_font, begins_kept};
 use super::said::may_go_out;
 use nr_units::Name;
 
@@ -136,14 +136,14 @@ impl Reader {
         }
         match self.half.line {
             Line::Start => self.pass_line(bytes),
-            Line::Text | Line::Request | Line::Stored | Line::Translation => self.pass_text(bytes),
-            Line::Words(_) => self.pass_text(bytes),
+            Line::Text | Line::Request | Line::Paragraph => self.pass_text(bytes),
+            Line::Stored | Line::Translation | Line::Words(_) => self.pass_text(bytes),
             Line::Comment | Line::Ignored(_) => self.pass_raw(bytes),
             _ => 0,
         }
     }
 
-    /// Takes a minus sign or a font that these bytes begin with, each byte in one step, and tells their number.
+    /// Takes an escape of two bytes or a font that these bytes begin with, each byte in one step, and tells their number.
     #[inline(always)]
     fn pass_escape(&mut self, bytes: &[u8]) -> usize
         requires { self.old.pending ≡ Nothing }
@@ -153,8 +153,8 @@ impl Reader {
         if !self.half.takes_plain_escape() {
             return 0;
         }
-        if begins_minus(bytes) {
-            self.half.takes_minus();
+        if begins_kept(bytes) {
+            self.half.takes_kept();
             return 2;
         }
         if begins_font(bytes) {

@@ -1,5 +1,5 @@
 //! Bytes become characters: UTF-8, and Latin-1 where they are none.
-ghost use Rattle.std.specs.Prelude.{◌≡◌, ◌+◌, ◌*◌, ◌<◌, ◌≤◌, ◌++◌, length};
+ghost use Rattle.std.specs.Prelude.{◌≡◌, ◌+◌, ◌*◌, ◌<◌, ◌≤◌, ◌++◌, length, true, false};
 ghost use Rattle.nr_preconv.specs.Reading as specs;
 
 use super::half::{Coming, Half, Line};
@@ -93,6 +93,29 @@ impl Reader {
         }
     }
 
+    /// A character comes, and is taken in one step where it goes out as it is.
+    #[inline(always)]
+    fn hears_as_is(&mut self, coming: Coming, most: u8, out: &mut SliceVec<'_, u8>) -> bool
+        requires { 0 < most → length out.old.items < out.old.room }
+        ensures reader { result ≡ true → self.new ≡ (specs.heard_in most coming self.old).reader }
+        ensures items { result ≡ true
+            → out.new.items ≡ out.old.items ++ (specs.heard_in most coming self.old).bytes }
+        ensures steps { result ≡ true → (specs.heard_in most coming self.old).steps ≡ 1 }
+        ensures left { result ≡ false → self.new ≡ self.old }
+        ensures none { result ≡ false → out.new.items ≡ out.old.items }
+        ensures few { length out.new.items ≤ length out.old.items + 1 }
+        ensures room { out.new.room ≡ out.old.room }
+    {
+        match coming {
+            Coming::Byte(byte) if most > 0 && self.half.takes_as_is(byte) => {
+                self.half.takes(byte);
+                out.push(byte);
+                true
+            }
+            _ => false,
+        }
+    }
+
     /// A character comes, and is met so many times at most. Tells how many steps that took.
     fn hear_in(&mut self, coming: Coming, most: u8, out: &mut SliceVec<'_, u8>) -> u64
         requires { length out.old.items + 64 * most ≤ out.old.room }
@@ -110,6 +133,9 @@ impl Reader {
         say(seen.said, self.table, out);
         if seen.takes {
             return 1;
+        }
+        if self.hears_as_is(coming, most - 1, out) {
+            return 2;
         }
         1 + self.hear_in(coming, most - 1, out)
     }

@@ -74,7 +74,8 @@ impl Half {
             return 0;
         }
         match self.line {
-            Line::Text | Line::Request | Line::Stored | Line::Translation => text_run(bytes),
+            Line::Text | Line::Request | Line::Paragraph => text_run(bytes),
+            Line::Stored | Line::Translation => text_run(bytes),
             Line::Words(words) => word_run(words, bytes),
             _ => 0,
         }
@@ -123,7 +124,7 @@ impl Half {
             return false;
         }
         match self.line {
-            Line::Start | Line::Text | Line::Request => true,
+            Line::Start | Line::Text | Line::Request | Line::Paragraph => true,
             Line::Words(words) => !words.begins_word(),
             _ => false,
         }
@@ -139,9 +140,9 @@ impl Half {
         }
     }
 
-    /// Takes the minus sign `\\-`.
-    pub(crate) fn takes_minus(&mut self)
-        ensures { self.new ≡ specs.behind_minus self.old }
+    /// Takes an escape of two bytes that goes out as it is.
+    pub(crate) fn takes_kept(&mut self)
+        ensures { self.new ≡ specs.behind_kept self.old }
     {
         self.places(Mark::Other);
         self.takes_font();
@@ -175,12 +176,20 @@ fn dotted_len(bytes: &[u8]) -> usize
     }
 }
 
-/// Whether a text begins with a minus sign.
-pub(crate) fn begins_minus(bytes: &[u8]) -> bool
-    ensures { result ≡ specs.begins_minus bytes.now }
+/// The byte after a backslash in an escape of two bytes that goes out as it is: a minus sign, nothing, a thin blank, the
+/// end of a text that goes on, a backslash.
+fn is_kept(byte: u8) -> bool
+    ensures { result ≡ specs.is_kept byte }
+{
+    matches!(byte, b'-' | b'&' | b'|' | b'c' | b'e')
+}
+
+/// Whether a text begins with such an escape.
+pub(crate) fn begins_kept(bytes: &[u8]) -> bool
+    ensures { result ≡ specs.begins_kept bytes.now }
 {
     match bytes {
-        [backslash, minus, ..] => *backslash == b'\\' && *minus == b'-',
+        [backslash, letter, ..] => *backslash == b'\\' && is_kept(*letter),
         _ => false,
     }
 }

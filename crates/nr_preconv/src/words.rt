@@ -1,7 +1,7 @@
 //! The words of a font macro's line. After the eighth all that follows is one word in quotes, since no
 //! more than nine are taken.
 ghost use Rattle.std.specs.Prelude.{◌≡◌};
-ghost use Rattle.nr_preconv.specs.Words.{begun, begins_word, blank_said, class_of, first_words, font_said, goes_on_with, is_ninth, met_closing, met_words, quoted_said, told, words_at};
+ghost use Rattle.nr_preconv.specs.Words.{begun, begins_word, blank_said, class_of, first_words, font_said, goes_on_with, goes_on_with_space, is_as_is, is_ninth, met_closing, met_words, quoted_said, taken_as_is, told, words_at};
 
 use super::said::Said;
 
@@ -200,6 +200,46 @@ impl Words {
             (self.place, class),
             (Place::Inside | Place::Quoted, Class::Other) | (Place::Quoted, Class::Space)
         )
+    }
+
+    /// Whether a space goes out as it is: between quotes, and up to the eighth word.
+    fn goes_on_with_space(self) -> bool
+        ensures { result ≡ goes_on_with_space self }
+    {
+        if self.is_ninth() {
+            return self.goes_on_with(Class::Space);
+        }
+        matches!(self.place, Place::Between | Place::Inside | Place::Quoted)
+    }
+
+    /// Whether an ASCII character goes out as it is and is taken at once.
+    #[inline(always)]
+    pub(crate) fn takes_as_is(self, byte: u8) -> bool
+        ensures { result ≡ is_as_is byte self }
+    {
+        if byte == b'\n' {
+            return !self.is_ninth();
+        }
+        if byte == b' ' {
+            return self.goes_on_with_space();
+        }
+        byte != b'-' && self.goes_on_with(Class::of(byte))
+    }
+
+    /// The words after such a character.
+    #[inline(always)]
+    pub(crate) fn taken(self, byte: u8) -> Words
+        ensures { result ≡ taken_as_is byte self }
+    {
+        if byte == b' ' && matches!(self.place, Place::Inside) {
+            return Words {
+                fonts: self.fonts,
+                count: self.count,
+                second: self.second,
+                place: Place::Between,
+            };
+        }
+        self
     }
 
     /// What a character does that goes out as `said` elsewhere.
