@@ -29,16 +29,16 @@ use Rattle.nr_preconv.proofs.Plain.{and-first, and-second, quoted_space, read_as
 
 -- ---- bytes that only go on
 
-is_ascii : (b : ℕ) → goes_on_text b ≡ true → nat_lt b 127 ≡ true
+pub is_ascii : (b : ℕ) → goes_on_text b ≡ true → nat_lt b 127 ≡ true
 is_ascii b p = grind (arith, nat_tests)
 
-no_backslash : (b : ℕ) → goes_on_text b ≡ true → (b == code "\\") ≡ false
+pub no_backslash : (b : ℕ) → goes_on_text b ≡ true → (b == code "\\") ≡ false
 no_backslash b p = grind (arith, nat_tests)
 
-no_hyphen : (b : ℕ) → goes_on_text b ≡ true → (b == code "-") ≡ false
+pub no_hyphen : (b : ℕ) → goes_on_text b ≡ true → (b == code "-") ≡ false
 no_hyphen b p = grind (arith, nat_tests)
 
-no_newline : (b : ℕ) → goes_on_text b ≡ true → (b == code "\n") ≡ false
+pub no_newline : (b : ℕ) → goes_on_text b ≡ true → (b == code "\n") ≡ false
 no_newline b p = grind (arith, nat_tests)
 
 -- in a line of this kind
@@ -144,7 +144,7 @@ twice_by true x y h e =
     ∙ ap (λ (w : Before). record h { before = w }) (followed_twice x y h.before)
 twice_by false x y h e = ap (λ (z : Bool). if z then record h { before = followed y h.before } else h) e
 
-placed_twice : (x y : Mark) (h : Half) → placed y (placed x h) ≡ placed y h
+pub placed_twice : (x y : Mark) (h : Half) → placed y (placed x h) ≡ placed y h
 placed_twice x y h = twice_by h.manual x y h refl
 
 line_by : (m : Bool) (x : Mark) (h : Half) → (placed_as m x h).line ≡ h.line

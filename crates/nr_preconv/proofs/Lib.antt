@@ -1,8 +1,10 @@
 pub mod AtOnce
 pub mod Characters
+pub mod Controls
 pub mod Hearing
 pub mod InComments
 pub mod Names
+pub mod OpeningTable
 pub mod Plain
 pub mod PlainEscapes
 pub mod Reading
@@ -13,3 +15,4 @@ pub mod TextTable
 pub mod Turning
 pub mod Unchanged
 pub mod Unread
+pub mod WordsBegun

@@ -29,7 +29,7 @@ use Rattle.nr_preconv.proofs.PlainEscapes.{meets, is_one}
 
 -- ---- a byte of a name
 
-is_ascii : (b : ℕ) → goes_on_name b ≡ true → nat_lt b 127 ≡ true
+pub is_ascii : (b : ℕ) → goes_on_name b ≡ true → nat_lt b 127 ≡ true
 is_ascii b p = and-first (nat_lt b 127) (not (ends_name b)) p
 
 no_end : (b : ℕ) → goes_on_name b ≡ true → ends_name b ≡ false
@@ -135,12 +135,12 @@ names_fed (suc n) bs r none plain goes other within few =
 
 -- ---- the dot, and the name
 
-dotted_is : (x y : Bool) (k : ℕ) → 0 < (if x && not y then k else 0) → (x ≡ true) × (y ≡ false)
+pub dotted_is : (x y : Bool) (k : ℕ) → 0 < (if x && not y then k else 0) → (x ≡ true) × (y ≡ false)
 dotted_is true false k l = (refl, refl)
 dotted_is true true k l = absurd (omega arith)
 dotted_is false y k l = absurd (omega arith)
 
-dotted_value : (x y : Bool) (k : ℕ) → x ≡ true → y ≡ false → (if x && not y then k else 0) ≡ k
+pub dotted_value : (x y : Bool) (k : ℕ) → x ≡ true → y ≡ false → (if x && not y then k else 0) ≡ k
 dotted_value true false k p q = refl
 dotted_value true true k p q = absurd (let no : true ≡ false = q in cc)
 dotted_value false y k p q = absurd (let no : false ≡ true = p in cc)
@@ -171,16 +171,16 @@ dotted_fed n (dot ∷ first ∷ more) r none plain start is some =
     let count : 1 + n ≡ n + 1 = omega arith in
     ap (fed r) cut ∙ here ∙ ap (told (with_half (behind_name (take n bs) r.half) r) (code "." ∷ [])) count
 
-start_is : (l : Line) → is_start l ≡ true → l ≡ lines.Start
+pub start_is : (l : Line) → is_start l ≡ true → l ≡ lines.Start
 start_is lines.Start p = refl
 start_is line p = absurd (let no : false ≡ true = p in cc)
 
-both_first : (x y : Bool) (k : ℕ) → 0 < (if x && y then k else 0) → (x ≡ true) × (y ≡ true)
+pub both_first : (x y : Bool) (k : ℕ) → 0 < (if x && y then k else 0) → (x ≡ true) × (y ≡ true)
 both_first true true k l = (refl, refl)
 both_first true false k l = absurd (omega arith)
 both_first false y k l = absurd (omega arith)
 
-both_value : (x y : Bool) (k : ℕ) → x ≡ true → y ≡ true → (if x && y then k else 0) ≡ k
+pub both_value : (x y : Bool) (k : ℕ) → x ≡ true → y ≡ true → (if x && y then k else 0) ≡ k
 both_value true true k p q = refl
 both_value true false k p q = absurd (let no : false ≡ true = q in cc)
 both_value false y k p q = absurd (let no : false ≡ true = p in cc)

@@ -25,6 +25,14 @@ Takes-run n bs r s p left passes out = record {
   made = sym (ap (λ (t : Told). t.steps) passes);
 }
 
+-- those that go out as they are, in so many steps
+pub Takes-fed : (n : ℕ) (bs : List ℕ) (r s : Reader) (p left : List ℕ) (m : ℕ) → fed r (take n bs) ≡ told s (take n bs) m → left ≡ p ++ take n bs → Takes n bs r s p left m
+Takes-fed n bs r s p left m goes out = record {
+  reader = sym (ap (λ (t : Told). t.reader) goes);
+  out = out ∙ ap (λ (xs : List ℕ). p ++ xs) (sym (ap (λ (t : Told). t.bytes) goes));
+  made = sym (ap (λ (t : Told). t.steps) goes);
+}
+
 -- where none passed, nothing changed
 pub none-passed : (n : ℕ) (bs : List ℕ) (r s : Reader) → Passes n bs r s → n ≡ 0 → s ≡ r
 none-passed n bs r s passes none =

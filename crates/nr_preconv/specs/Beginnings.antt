@@ -1,12 +1,12 @@
 -- What the name of a control line makes of the rest of it.
 use Prim.Native.Char.{code}
-use Rattle.std.specs.Prelude.{ℕ, List, [], ◌∷◌, ◌++◌, length, take, Bool, not, ◌==◌, ◌&&◌, if◌then◌else◌, Option, None, Some, is_some, codes, slice_index}
+use Rattle.std.specs.Prelude.{ℕ, ◌-◌, List, [], ◌∷◌, ◌++◌, length, take, drop, Bool, true, false, not, ◌==◌, ◌&&◌, if◌then◌else◌, Option, None, Some, is_some, codes, slice_index}
 use Rattle.std.specs.Str.{bytes_eq}
 use Rattle.nr_units.specs.Name.{is_full}
 use Rattle.nr_preconv.specs.declared.said.Said.{Said}
 use Rattle.nr_preconv.specs.declared.said.Said.TheVariants.{Kept}
 use Rattle.nr_preconv.specs.declared.beginnings.Opens.{Opens}
-use Rattle.nr_preconv.specs.declared.beginnings.Opens.TheVariants.{Rest, Definition, Condition, Else, Nop}
+use Rattle.nr_preconv.specs.declared.beginnings.Opens.TheVariants.{Rest, Definition, Ignored, Condition, Else, Nop}
 use Rattle.nr_preconv.specs.declared.beginnings.TheConstants.{OPENING, KNOWN}
 use Rattle.nr_preconv.specs.Glyphs.{looked_up}
 
@@ -19,6 +19,32 @@ entry table (a ∷ b ∷ c ∷ rest) = None
 
 unfoldable pub known_entry : List ℕ → Option Bool
 known_entry name = entry KNOWN name
+
+-- those with the same first byte stand side by side: where they begin in the table, and where they end
+abbrev pub group_of : ℕ → ℕ × ℕ
+group_of b =
+    if b == code "." then (0, 1) else
+    if b == code "A" then (1, 3) else
+    if b == code "B" then (3, 7) else
+    if b == code "C" then (7, 9) else
+    if b == code "D" then (9, 10) else
+    if b == code "G" then (10, 11) else
+    if b == code "I" then (11, 15) else
+    if b == code "L" then (15, 16) else
+    if b == code "N" then (16, 18) else
+    if b == code "R" then (18, 21) else
+    if b == code "S" then (21, 27) else
+    if b == code "T" then (27, 32) else
+    if b == code "U" then (32, 33) else
+    if b == code "a" then (33, 35) else
+    if b == code "d" then (35, 37) else
+    if b == code "e" then (37, 38) else
+    if b == code "i" then (38, 41) else
+    if b == code "t" then (41, 42) else
+    (0, 0)
+
+abbrev pub group : ℕ → List (ℕ × ℕ × Opens)
+group b = take ((group_of b).1 - (group_of b).0) (drop (group_of b).0 OPENING)
 
 unfoldable pub opening_entry : List ℕ → Option Opens
 opening_entry name = entry OPENING name
@@ -56,3 +82,12 @@ said_name Condition name b = Kept (apart name b)
 said_name Else name b = Kept (apart name b)
 said_name Nop name b = Kept (codes "if 1 ")
 said_name opens name b = Kept name
+
+-- so it goes out as it is, and so does a blank or a newline after it
+abbrev pub goes_out : Opens → ℕ → Bool
+goes_out Ignored len = false
+goes_out Condition len = false
+goes_out Else len = false
+goes_out Nop len = false
+goes_out Definition len = not (len == 3)
+goes_out opens len = true

@@ -9,10 +9,14 @@ use Rattle.nr_preconv.specs.declared.half.Line.TheVariants as lines
 use Rattle.nr_preconv.specs.declared.words.Words.{Words}
 use Rattle.nr_preconv.specs.declared.half.Mark.TheVariants.{Other}
 use Rattle.nr_preconv.specs.Half.{is_plain, without_escape, in_text}
-use Rattle.nr_preconv.specs.Hyphens.{placed}
+use Rattle.nr_preconv.specs.Hyphens.{placed, gone_by}
 use Rattle.nr_preconv.specs.Numbers.{is_within}
-use Rattle.nr_preconv.specs.Lines.{ends_name}
-use Rattle.nr_preconv.specs.Words.{class_of, goes_on_with, begins_word}
+use Rattle.nr_preconv.specs.declared.beginnings.Opens.{Opens}
+use Rattle.nr_preconv.specs.Lines.{ends_name, opening}
+use Rattle.nr_preconv.specs.Meeting.{taken_as_is}
+use Rattle.nr_preconv.specs.declared.words.Place.{Place}
+use Rattle.nr_preconv.specs.declared.words.Place.TheVariants.{Between}
+use Rattle.nr_preconv.specs.Words.{class_of, goes_on_with, begins_word, inside}
 
 -- a printing byte that is neither a hyphen nor a backslash
 abbrev pub goes_on_text : ℕ → Bool
@@ -76,6 +80,27 @@ name_len bs h = if is_plain h.escape && is_start h.line then dotted_len bs else 
 -- the dot and the name were read
 abbrev pub behind_name : List ℕ → Half → Half
 behind_name name h = record (placed Other h) { conditional = false; name = name; line = lines.Name }
+
+abbrev pub is_end : ℕ → Bool
+is_end b = (b == code " ") || (b == code "\n")
+
+-- the dot, a name that opens so, and what ended it
+abbrev pub behind_control : Opens → ℕ → Half → Half
+behind_control o b h = taken_as_is b (opening o b (behind_name [] h))
+
+-- ---- words that begin
+
+abbrev pub is_between : Place → Bool
+is_between Between = true
+is_between place = false
+
+-- up to the eighth
+abbrev pub begins_word_with : Words → ℕ → Bool
+begins_word_with w b =
+    goes_on_text b && not (b == code " ") && not (b == code "\"") && is_between w.place && nat_lt w.count 8
+
+abbrev pub behind_word : Words → ℕ → Half → Half
+behind_word w b h = record (gone_by b h) { line = lines.Words (inside w) }
 
 -- ---- escapes that go out as they are: those of two bytes, and fonts
 

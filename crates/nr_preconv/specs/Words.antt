@@ -98,6 +98,10 @@ begun w =
       takes = false;
     }
 
+-- in a word up to the eighth that begins
+abbrev pub inside : Words → Words
+inside w = record { fonts = w.fonts; count = w.count + 1; second = not w.second; place = Inside }
+
 -- ---- what a character says
 
 abbrev pub blank_by : Fonts → Bool → Said → Said

@@ -1,6 +1,8 @@
 //! What the name of a control line makes of the rest of it.
-ghost use Rattle.std.specs.Prelude.{◌≡◌};
-ghost use Rattle.nr_preconv.specs.Beginnings.{entry, is_known, known_entry, opened, opened_by, opening_entry, said_name};
+ghost use Rattle.std.specs.Prelude.{◌≡◌, ◌≤◌, ℕ};
+ghost use Rattle.nr_preconv.specs.declared.beginnings.TheConstants.{OPENING};
+ghost use Rattle.nr_preconv.specs.Glyphs.{looked_up};
+ghost use Rattle.nr_preconv.specs.Beginnings.{entry, goes_out, group, group_of, is_known, known_entry, opened, opened_by, opening_entry, said_name};
 
 use super::glyphs::looked_up;
 use super::said::Said;
@@ -40,50 +42,63 @@ pub(crate) enum Opens {
     Words(Fonts),
 }
 
-/// The names that are of account here.
+impl Opens {
+    /// Whether a name of this length that opens so goes out as it is, and so does a blank or a newline after it.
+    pub(crate) fn goes_out(self, len: usize) -> bool
+        ensures { result ≡ goes_out self len }
+    {
+        match self {
+            Opens::Ignored | Opens::Condition | Opens::Else | Opens::Nop => false,
+            Opens::Definition => len != 3,
+            _ => true,
+        }
+    }
+}
+
+/// The names that are of account here, those with the same first byte side by side.
 static OPENING: [(u8, u8, Opens); 42] = [
     (b'.', b' ', Opens::End),
-    (b'd', b'e', Opens::Definition),
-    (b'a', b'm', Opens::Definition),
-    (b'i', b'g', Opens::Ignored),
-    (b'i', b'f', Opens::Condition),
-    (b'i', b'e', Opens::Condition),
-    (b'e', b'l', Opens::Else),
-    (b't', b'r', Opens::Translation),
-    (b'd', b's', Opens::Stored),
-    (b'a', b's', Opens::Stored),
-    (b'T', b'H', Opens::Title),
-    (b'I', b'P', Opens::Paragraph),
-    (b'T', b'S', Opens::Table),
-    (b'T', b'E', Opens::TableEnd),
+    (b'A', b'U', Opens::Words(Fonts::One)),
+    (b'A', b'I', Opens::Words(Fonts::One)),
     (b'B', b' ', Opens::Words(Fonts::One)),
+    (b'B', b'X', Opens::Words(Fonts::One)),
+    (b'B', b'R', Opens::Words(Fonts::Turn(b'B', b'R'))),
+    (b'B', b'I', Opens::Words(Fonts::Turn(b'B', b'I'))),
+    (b'C', b'W', Opens::Words(Fonts::One)),
+    (b'C', b'L', Opens::Words(Fonts::One)),
+    (b'D', b'A', Opens::Words(Fonts::One)),
+    (b'G', b'R', Opens::Words(Fonts::One)),
+    (b'I', b'P', Opens::Paragraph),
     (b'I', b' ', Opens::Words(Fonts::One)),
+    (b'I', b'B', Opens::Words(Fonts::Turn(b'I', b'B'))),
+    (b'I', b'R', Opens::Words(Fonts::Turn(b'I', b'R'))),
+    (b'L', b'G', Opens::Words(Fonts::One)),
+    (b'N', b'H', Opens::Words(Fonts::One)),
+    (b'N', b'D', Opens::Words(Fonts::One)),
+    (b'R', b' ', Opens::Words(Fonts::One)),
+    (b'R', b'B', Opens::Words(Fonts::Turn(b'R', b'B'))),
+    (b'R', b'I', Opens::Words(Fonts::Turn(b'R', b'I'))),
     (b'S', b'M', Opens::Words(Fonts::One)),
     (b'S', b'B', Opens::Words(Fonts::One)),
     (b'S', b'H', Opens::Words(Fonts::One)),
     (b'S', b'S', Opens::Words(Fonts::One)),
-    (b'R', b' ', Opens::Words(Fonts::One)),
-    (b'C', b'W', Opens::Words(Fonts::One)),
-    (b'U', b'L', Opens::Words(Fonts::One)),
-    (b'B', b'X', Opens::Words(Fonts::One)),
-    (b'L', b'G', Opens::Words(Fonts::One)),
-    (b'N', b'H', Opens::Words(Fonts::One)),
-    (b'T', b'L', Opens::Words(Fonts::One)),
-    (b'A', b'U', Opens::Words(Fonts::One)),
-    (b'A', b'I', Opens::Words(Fonts::One)),
-    (b'N', b'D', Opens::Words(Fonts::One)),
-    (b'D', b'A', Opens::Words(Fonts::One)),
-    (b'T', b'O', Opens::Words(Fonts::One)),
     (b'S', b'U', Opens::Words(Fonts::One)),
     (b'S', b'G', Opens::Words(Fonts::One)),
-    (b'G', b'R', Opens::Words(Fonts::One)),
-    (b'C', b'L', Opens::Words(Fonts::One)),
-    (b'B', b'R', Opens::Words(Fonts::Turn(b'B', b'R'))),
-    (b'R', b'B', Opens::Words(Fonts::Turn(b'R', b'B'))),
-    (b'B', b'I', Opens::Words(Fonts::Turn(b'B', b'I'))),
-    (b'I', b'B', Opens::Words(Fonts::Turn(b'I', b'B'))),
-    (b'I', b'R', Opens::Words(Fonts::Turn(b'I', b'R'))),
-    (b'R', b'I', Opens::Words(Fonts::Turn(b'R', b'I'))),
+    (b'T', b'H', Opens::Title),
+    (b'T', b'S', Opens::Table),
+    (b'T', b'E', Opens::TableEnd),
+    (b'T', b'L', Opens::Words(Fonts::One)),
+    (b'T', b'O', Opens::Words(Fonts::One)),
+    (b'U', b'L', Opens::Words(Fonts::One)),
+    (b'a', b'm', Opens::Definition),
+    (b'a', b's', Opens::Stored),
+    (b'd', b'e', Opens::Definition),
+    (b'd', b's', Opens::Stored),
+    (b'e', b'l', Opens::Else),
+    (b'i', b'g', Opens::Ignored),
+    (b'i', b'f', Opens::Condition),
+    (b'i', b'e', Opens::Condition),
+    (b't', b'r', Opens::Translation),
 ];
 
 /// The requests of the language and the names of the macro file for manual pages.
@@ -204,11 +219,52 @@ fn known_entry(name: &[u8]) -> Option<bool>
     entry(&KNOWN, name)
 }
 
+/// Where the names that are of account and begin with a byte stand in their table, and where the next ones do.
+fn group_of(first: u8) -> (usize, usize)
+    ensures value { result ≡ group_of first }
+    ensures within { result.0 ≤ result.1 }
+    ensures few { result.1 ≤ 42 }
+{
+    match first {
+        b'.' => (0, 1),
+        b'A' => (1, 3),
+        b'B' => (3, 7),
+        b'C' => (7, 9),
+        b'D' => (9, 10),
+        b'G' => (10, 11),
+        b'I' => (11, 15),
+        b'L' => (15, 16),
+        b'N' => (16, 18),
+        b'R' => (18, 21),
+        b'S' => (21, 27),
+        b'T' => (27, 32),
+        b'U' => (32, 33),
+        b'a' => (33, 35),
+        b'd' => (35, 37),
+        b'e' => (37, 38),
+        b'i' => (38, 41),
+        b't' => (41, 42),
+        _ => (0, 0),
+    }
+}
+
+/// Those names.
+fn group(first: u8) -> &'static [(u8, u8, Opens)]
+    ensures value { result.now ≡ group first }
+    ensures all { (second : ℕ) → looked_up OPENING first second ≡ looked_up (group first) first second }
+{
+    let (start, end) = group_of(first);
+    &OPENING[start..end]
+}
+
 /// What the table of names that are of account has for a name.
 fn opening_entry(name: &[u8]) -> Option<Opens>
     ensures { result ≡ opening_entry name.now }
 {
-    entry(&OPENING, name)
+    if name.is_empty() {
+        return None;
+    }
+    entry(group(name[0]), name)
 }
 
 /// Whether a name stands for something at the beginning of a page.

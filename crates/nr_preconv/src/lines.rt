@@ -96,7 +96,7 @@ impl Half {
 
     /// Where a line goes on whose name has ended before this byte. Whether lines are ignored after a
     /// condition is not known, nor where they end that have a name of their own.
-    fn opens(&mut self, opens: Opens, byte: u8)
+    pub(crate) fn opens(&mut self, opens: Opens, byte: u8)
         ensures { self.new ≡ specs.opening opens byte self.old }
     {
         self.line = match opens {

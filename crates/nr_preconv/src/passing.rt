@@ -1,17 +1,28 @@
 //! Many bytes at once: those that go out as they are.
 ghost use Rattle.std.specs.Prelude.{◌≡◌, ◌+◌, ◌<◌, ◌≤◌, ◌∷◌, [], length, take, true, false};
 ghost use Rattle.nr_preconv.specs.declared.reader.Pending.TheVariants.{Nothing};
+ghost use Rattle.nr_preconv.specs.Half.{is_plain};
 ghost use Rattle.nr_preconv.specs.Runs.{dot};
 ghost use Rattle.nr_preconv.specs.Passing.{Passes};
 ghost use Rattle.nr_preconv.specs.Reading as specs;
 
+use super::beginnings::opened;
 use super::half::{Escape, Line};
 use super::reader::{Pending, Reader};
-use super::runs::{begins_font, begins_kept};
+use super::runs::{begins_font, begins_kept, begins_word_with, is_end};
 use super::said::may_go_out;
 use nr_units::Name;
 
 impl Reader {
+    /// Whether nothing is half read of a character, and nothing of an escape.
+    #[inline(always)]
+    fn is_between(&self) -> bool
+        ensures pending { result ≡ true → self.now.pending ≡ Nothing }
+        ensures escape { result ≡ true → is_plain self.now.half.escape ≡ true }
+    {
+        matches!(self.pending, Pending::Nothing) && matches!(self.half.escape, Escape::Plain)
+    }
+
     /// Takes a byte that goes out as it is in one step, where nothing is half read of a character.
     #[inline(always)]
     fn passes(&mut self, byte: u8) -> bool
@@ -162,6 +173,50 @@ impl Reader {
             return 3;
         }
         0
+    }
+
+    /// Takes the first byte of a word, if it goes out as it is. It is met three times.
+    #[inline(always)]
+    pub(crate) fn pass_word(&mut self, byte: u8) -> bool
+        ensures taken { result ≡ true → specs.read byte self.old ≡ specs.told self.new (byte ∷ []) 3 }
+        ensures left { result ≡ false → self.new ≡ self.old }
+    {
+        if !self.is_between() {
+            return false;
+        }
+        match self.half.line {
+            Line::Words(words) if begins_word_with(words, byte) => {
+                self.half.takes_word(words, byte);
+                true
+            }
+            _ => false,
+        }
+    }
+
+    /// Takes a dot, a name and the blank or newline after it, where all go out as they are. The last is met twice. Tells
+    /// their number.
+    #[inline(always)]
+    pub(crate) fn pass_control(&mut self, bytes: &[u8]) -> usize
+        ensures within { result ≤ length bytes.now }
+        ensures none { result ≡ 0 → self.new ≡ self.old }
+        ensures taken { 0 < result → specs.fed self.old (take result bytes.now)
+            ≡ specs.told self.new (take result bytes.now) (result + 1) }
+    {
+        if !self.is_between() {
+            return 0;
+        }
+        let len = self.half.name_len(bytes);
+        if len == 0 || len + 1 >= bytes.len() {
+            return 0;
+        }
+        let end = bytes[len + 1];
+        let rest = &bytes[1..];
+        let opens = opened(&rest[..len]);
+        if !opens.goes_out(len) || !is_end(end) {
+            return 0;
+        }
+        self.half.takes_control(opens, end);
+        len + 2
     }
 
     /// Takes a dot and a name that these bytes begin with, each in one step, and tells how long the name is.

@@ -315,7 +315,39 @@ impl Reader {
         steps
     }
 
-    /// Takes those of these bytes that come first: a run, or one. Tells how many, and in how many steps.
+    /// Takes the first of these bytes, or the name of a control line that begins with it. Tells how many, and in how many
+    /// steps.
+    #[inline(always)]
+    fn take_first(&mut self, bytes: &[u8], out: &mut SliceVec<'_, u8>) -> Taken
+        requires some { 0 < length bytes.now }
+        requires few { length bytes.now ≤ 1536 }
+        requires room { length out.old.items + 1536 ≤ out.old.room }
+        ensures taken { specs.Takes result.count bytes.now self.old self.new out.old.items out.new.items
+            result.steps }
+        ensures within { result.count ≤ length bytes.now }
+        ensures some { 0 < result.count }
+        ensures few { length out.new.items ≤ length out.old.items + 1536 * result.count }
+        ensures quick { result.steps ≤ 24 * result.count }
+        ensures room { out.new.room ≡ out.old.room }
+    {
+        if self.pass_word(bytes[0]) {
+            out.push(bytes[0]);
+            return Taken { count: 1, steps: 3 };
+        }
+        let len = self.pass_name(bytes);
+        if len > 0 {
+            out.push(b'.');
+            return Taken {
+                count: len + 1,
+                steps: len as u64 + 1,
+            };
+        }
+        let steps = self.read(bytes[0], out);
+        Taken { count: 1, steps }
+    }
+
+    /// Takes those of these bytes that come first: a run, the beginning of a control line, or what `take_first` takes. Tells
+    /// how many, and in how many steps.
     fn take_front(&mut self, bytes: &[u8], out: &mut SliceVec<'_, u8>) -> Taken
         requires some { 0 < length bytes.now }
         requires few { length bytes.now ≤ 1536 }
@@ -336,16 +368,15 @@ impl Reader {
                 steps: run as u64,
             };
         }
-        let len = self.pass_name(bytes);
-        if len > 0 {
-            out.push(b'.');
+        let control = self.pass_control(bytes);
+        if control > 0 {
+            out.extend_front(bytes, control);
             return Taken {
-                count: len + 1,
-                steps: len as u64 + 1,
+                count: control,
+                steps: control as u64 + 1,
             };
         }
-        let steps = self.read(bytes[0], out);
-        Taken { count: 1, steps }
+        self.take_first(bytes, out)
     }
 
     /// Takes these bytes, at most 1536, one after another while there is room for what one of them may say.

@@ -1,10 +1,11 @@
 //! Runs of bytes that only go on a line, which are taken at once.
-ghost use Rattle.std.specs.Prelude.{◌≡◌, ◌+◌, ◌<◌, ◌≤◌, length};
+ghost use Rattle.std.specs.Prelude.{◌≡◌, ◌+◌, ◌<◌, ◌≤◌, length, true};
 ghost use Rattle.std.specs.List.{prefix_len};
 ghost use Rattle.nr_preconv.specs.Runs as specs;
 
+use super::beginnings::Opens;
 use super::half::{Escape, Half, Line, Mark};
-use super::words::{Class, Words};
+use super::words::{Class, Place, Words};
 use nr_units::Name;
 
 /// Each byte that only goes on a text line or a request, at its place, and a hyphen at that of each other.
@@ -24,6 +25,18 @@ fn goes_on_word(words: Words, byte: u8) -> bool
     ensures { result ≡ specs.goes_on_word words byte }
 {
     goes_on_text(byte) && words.goes_on_with(Class::of(byte))
+}
+
+/// Whether a word begins with a byte that goes out as it is: up to the eighth.
+pub(crate) fn begins_word_with(words: Words, byte: u8) -> bool
+    ensures value { result ≡ specs.begins_word_with words byte }
+    ensures few { result ≡ true → words.count < 8 }
+{
+    goes_on_text(byte)
+        && byte != b' '
+        && byte != b'"'
+        && matches!(words.place, Place::Between)
+        && words.count < 8
 }
 
 /// How many of these bytes come first that only go on a text line or a request.
@@ -116,6 +129,26 @@ impl Half {
         self.line = Line::Name;
     }
 
+    /// Takes the dot, a name that opens so, and the blank or newline after it.
+    #[inline(always)]
+    pub(crate) fn takes_control(&mut self, opens: Opens, byte: u8)
+        ensures { self.new ≡ specs.behind_control opens byte self.old }
+    {
+        self.takes_name(Name::new());
+        self.opens(opens, byte);
+        self.takes(byte);
+    }
+
+    /// Takes the first byte of a word.
+    #[inline(always)]
+    pub(crate) fn takes_word(&mut self, words: Words, byte: u8)
+        requires { words.count < 8 }
+        ensures { self.new ≡ specs.behind_word words byte self.old }
+    {
+        self.goes_by(byte);
+        self.line = Line::Words(words.inside());
+    }
+
     /// Whether an escape may begin here that goes out as it is: in no other, and where no word begins with it.
     pub(crate) fn takes_plain_escape(&self) -> bool
         ensures { result ≡ specs.takes_plain_escape self.now }
@@ -154,6 +187,13 @@ fn goes_on_name(byte: u8) -> bool
     ensures { result ≡ specs.goes_on_name byte }
 {
     byte < 127 && byte > b' ' && byte != b'\\'
+}
+
+/// A blank or a newline, which end a name.
+pub(crate) fn is_end(byte: u8) -> bool
+    ensures { result ≡ specs.is_end byte }
+{
+    byte == b' ' || byte == b'\n'
 }
 
 /// How many of these bytes come first that go on a name.

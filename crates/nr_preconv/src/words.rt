@@ -1,7 +1,7 @@
 //! The words of a font macro's line. After the eighth all that follows is one word in quotes, since no
 //! more than nine are taken.
-ghost use Rattle.std.specs.Prelude.{◌≡◌};
-ghost use Rattle.nr_preconv.specs.Words.{begun, begins_word, blank_said, class_of, first_words, font_said, goes_on_with, goes_on_with_space, is_as_is, is_ninth, met_closing, met_words, quoted_said, taken_as_is, told, words_at};
+ghost use Rattle.std.specs.Prelude.{◌≡◌, ◌<◌};
+ghost use Rattle.nr_preconv.specs.Words.{begun, begins_word, blank_said, class_of, first_words, font_said, goes_on_with, goes_on_with_space, inside, is_as_is, is_ninth, met_closing, met_words, quoted_said, taken_as_is, told, words_at};
 
 use super::said::Said;
 
@@ -200,6 +200,19 @@ impl Words {
             (self.place, class),
             (Place::Inside | Place::Quoted, Class::Other) | (Place::Quoted, Class::Space)
         )
+    }
+
+    /// In the word that begins.
+    pub(crate) fn inside(self) -> Words
+        requires { self.count < 8 }
+        ensures { result ≡ inside self }
+    {
+        Words {
+            fonts: self.fonts,
+            count: self.count + 1,
+            second: !self.second,
+            place: Place::Inside,
+        }
     }
 
     /// Whether a space goes out as it is: between quotes, and up to the eighth word.
