@@ -1,5 +1,6 @@
 pub mod AtOnce
 pub mod Characters
+pub mod CommentLines
 pub mod Controls
 pub mod Hearing
 pub mod InComments

@@ -43,7 +43,7 @@ no_gap b p = grind (arith, nat_tests)
 
 -- ---- after the dot, and in the name
 
-after_dot : Half → Half
+unfoldable pub after_dot : Half → Half
 after_dot h = record (placed Other h) { conditional = false; name = []; line = lines.Control }
 
 dot_by : (m : Bool) (h : Half)
@@ -87,7 +87,7 @@ next_met b name h plain goes few =
 
 -- ---- the bytes come
 
-dot_read : (r : Reader) → r.pending ≡ Nothing → is_plain r.half.escape ≡ true → r.half.line ≡ lines.Start
+pub dot_read : (r : Reader) → r.pending ≡ Nothing → is_plain r.half.escape ≡ true → r.half.line ≡ lines.Start
     → read (code ".") r ≡ told (with_half (after_dot r.half) r) (code "." ∷ []) 1
 dot_read r none plain start =
     meets (code ".") r (says.Byte (code ".")) (after_dot r.half) none (ap is_raw start) refl (dot_met r.half plain start)

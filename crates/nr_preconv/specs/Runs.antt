@@ -7,6 +7,7 @@ use Rattle.nr_preconv.specs.declared.half.Half.{Half}
 use Rattle.nr_preconv.specs.declared.half.Line.{Line}
 use Rattle.nr_preconv.specs.declared.half.Line.TheVariants as lines
 use Rattle.nr_preconv.specs.declared.words.Words.{Words}
+use Rattle.nr_preconv.specs.declared.half.Before.TheVariants.{Character}
 use Rattle.nr_preconv.specs.declared.half.Mark.TheVariants.{Other}
 use Rattle.nr_preconv.specs.Half.{is_plain, without_escape, in_text}
 use Rattle.nr_preconv.specs.Hyphens.{placed, gone_by}
@@ -87,6 +88,22 @@ is_end b = (b == code " ") || (b == code "\n")
 -- the dot, a name that opens so, and what ended it
 abbrev pub behind_control : Opens → ℕ → Half → Half
 behind_control o b h = taken_as_is b (opening o b (behind_name [] h))
+
+-- ---- comments that begin a line
+
+abbrev pub begins_comment : List ℕ → Bool
+begins_comment [] = false
+begins_comment (a ∷ []) = false
+begins_comment (a ∷ b ∷ []) = false
+begins_comment (a ∷ b ∷ c ∷ bs) = (a == code ".") && (b == code "\\") && (c == code "\"")
+
+abbrev pub behind_comment : Half → Half
+behind_comment h = record (without_escape h) {
+  name = [];
+  conditional = false;
+  before = Character Other;
+  line = lines.Comment;
+}
 
 -- ---- words that begin
 

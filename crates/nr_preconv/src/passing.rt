@@ -9,7 +9,7 @@ ghost use Rattle.nr_preconv.specs.Reading as specs;
 use super::beginnings::opened;
 use super::half::{Escape, Line};
 use super::reader::{Pending, Reader};
-use super::runs::{begins_font, begins_kept, begins_word_with, is_end};
+use super::runs::{begins_comment, begins_font, begins_kept, begins_word_with, is_end};
 use super::said::may_go_out;
 use nr_units::Name;
 
@@ -217,6 +217,26 @@ impl Reader {
         }
         self.half.takes_control(opens, end);
         len + 2
+    }
+
+    /// Takes `.\"`, with which a comment begins, at the beginning of a line. The backslash is met twice.
+    #[inline(always)]
+    pub(crate) fn pass_comment(&mut self, bytes: &[u8]) -> bool
+        ensures within { result ≡ true → 3 ≤ length bytes.now }
+        ensures left { result ≡ false → self.new ≡ self.old }
+        ensures taken { result ≡ true → specs.fed self.old (take 3 bytes.now)
+            ≡ specs.told self.new (take 3 bytes.now) 4 }
+    {
+        if !self.is_between() {
+            return false;
+        }
+        match self.half.line {
+            Line::Start if begins_comment(bytes) => {
+                self.half.takes_comment();
+                true
+            }
+            _ => false,
+        }
     }
 
     /// Takes a dot and a name that these bytes begin with, each in one step, and tells how long the name is.

@@ -315,7 +315,7 @@ impl Reader {
         steps
     }
 
-    /// Takes the first of these bytes, or the name of a control line that begins with it. Tells how many, and in how many
+    /// Takes the first of these bytes, or the beginning of a comment or of a control line. Tells how many, and in how many
     /// steps.
     #[inline(always)]
     fn take_first(&mut self, bytes: &[u8], out: &mut SliceVec<'_, u8>) -> Taken
@@ -333,6 +333,10 @@ impl Reader {
         if self.pass_word(bytes[0]) {
             out.push(bytes[0]);
             return Taken { count: 1, steps: 3 };
+        }
+        if self.pass_comment(bytes) {
+            out.extend_front(bytes, 3);
+            return Taken { count: 3, steps: 4 };
         }
         let len = self.pass_name(bytes);
         if len > 0 {

@@ -4,7 +4,7 @@ ghost use Rattle.std.specs.List.{prefix_len};
 ghost use Rattle.nr_preconv.specs.Runs as specs;
 
 use super::beginnings::Opens;
-use super::half::{Escape, Half, Line, Mark};
+use super::half::{Before, Escape, Half, Line, Mark};
 use super::words::{Class, Place, Words};
 use nr_units::Name;
 
@@ -139,6 +139,18 @@ impl Half {
         self.takes(byte);
     }
 
+    /// Takes the beginning of a comment that is a line of its own.
+    #[inline(always)]
+    pub(crate) fn takes_comment(&mut self)
+        ensures { self.new ≡ specs.behind_comment self.old }
+    {
+        self.forget();
+        self.name = Name::new();
+        self.conditional = false;
+        self.before = Before::Character(Mark::Other);
+        self.line = Line::Comment;
+    }
+
     /// Takes the first byte of a word.
     #[inline(always)]
     pub(crate) fn takes_word(&mut self, words: Words, byte: u8)
@@ -230,6 +242,17 @@ pub(crate) fn begins_kept(bytes: &[u8]) -> bool
 {
     match bytes {
         [backslash, letter, ..] => *backslash == b'\\' && is_kept(*letter),
+        _ => false,
+    }
+}
+
+/// Whether a text begins with `.\"`.
+pub(crate) fn begins_comment(bytes: &[u8]) -> bool
+    ensures value { result ≡ specs.begins_comment bytes.now }
+    ensures within { result ≡ true → 3 ≤ length bytes.now }
+{
+    match bytes {
+        [dot, backslash, quote, ..] => *dot == b'.' && *backslash == b'\\' && *quote == b'"',
         _ => false,
     }
 }

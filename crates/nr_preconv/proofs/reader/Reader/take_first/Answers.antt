@@ -1,7 +1,7 @@
 use Rattle.std.proofs.Common.{◌≡◌, ◌+◌, ◌++◌, ◌∙◌, sym, ap, subst, arith}
 use Rattle.nr_preconv.specs.declared.reader.Reader.{Reader}
 use Rattle.nr_preconv.specs.Reading.{Told, Takes}
-use Rattle.nr_preconv.proofs.Taking.{Takes-byte, Takes-name}
+use Rattle.nr_preconv.proofs.Taking.{Takes-byte, Takes-fed, Takes-name}
 use Rattle.nr_preconv.proofs.reader.Reader.take_first.Goals as goal
 
 pub returns-then-pass_word-clause-taken : goal.returns-then-pass_word-clause-taken
@@ -11,18 +11,26 @@ returns-then-pass_word-clause-taken c =
     c.requires.some (sym (ap (λ (t : Told). t.reader) word)) (c.push.ensures.items ∙ ap (λ (t : Told). c.args.out.now.items ++ t.bytes) (sym word))
     (sym (ap (λ (t : Told). t.steps) word))
 
+pub returns-then-pass_comment-clause-taken : goal.returns-then-pass_comment-clause-taken
+returns-then-pass_comment-clause-taken c =
+    let same : c.pass_word.new.self ≡ c.args.self.now = c.pass_word.ensures.left c.if-pass_word.false in
+    let P : Reader → Type 0 = λ r. Takes 3 c.args.bytes.now r c.pass_comment.new.self c.args.out.now.items c.extend_front.new.self.items 4 in
+    subst P same
+    (Takes-fed 3 c.args.bytes.now c.pass_word.new.self c.pass_comment.new.self c.args.out.now.items c.extend_front.new.self.items 4
+    (c.pass_comment.ensures.taken c.if-pass_comment.true) c.extend_front.ensures.items)
+
 pub returns-then-len-gt0-clause-taken : goal.returns-then-len-gt0-clause-taken
 returns-then-len-gt0-clause-taken c =
     let n = c.pass_name-len.result in
-    let same : c.pass_word.new.self ≡ c.args.self.now = c.pass_word.ensures.left c.if-pass_word.false in
+    let same : c.pass_comment.new.self ≡ c.args.self.now = c.pass_comment.ensures.left c.if-pass_comment.false ∙ c.pass_word.ensures.left c.if-pass_word.false in
     let P : Reader → Type 0 = λ r. Takes (n + 1) c.args.bytes.now r c.pass_name-len.new.self c.args.out.now.items c.push-then-len-gt0.new.self.items (n + 1) in
     subst P same
-    (Takes-name n c.args.bytes.now c.pass_word.new.self c.pass_name-len.new.self c.args.out.now.items c.push-then-len-gt0.new.self.items
+    (Takes-name n c.args.bytes.now c.pass_comment.new.self c.pass_name-len.new.self c.args.out.now.items c.push-then-len-gt0.new.self.items
     (c.pass_name-len.ensures.named (omega arith)) c.push-then-len-gt0.ensures.items)
 
 pub returns-clause-taken : goal.returns-clause-taken
 returns-clause-taken c =
-    let same : c.pass_word.new.self ≡ c.args.self.now = c.pass_word.ensures.left c.if-pass_word.false in
+    let same : c.pass_comment.new.self ≡ c.args.self.now = c.pass_comment.ensures.left c.if-pass_comment.false ∙ c.pass_word.ensures.left c.if-pass_word.false in
     let still : c.pass_name-len.new.self ≡ c.args.self.now = c.pass_name-len.ensures.none (omega arith) ∙ same in
     let P : Reader → Type 0 = λ r. Takes 1 c.args.bytes.now r c.read-steps.new.self c.args.out.now.items c.read-steps.new.out.items c.read-steps.result in
     subst P still
