@@ -196,6 +196,19 @@ looked_at line b h =
     if (b == code "\n") && is_looked_at line && nat_lt h.looked 64
     then record h { looked = h.looked + 1 } else h
 
+-- no line that may have `.Dd` is left: the page is none of mdoc
+abbrev pub is_unwatched : Half → Bool
+is_unwatched h = not h.awake && nat_le 64 h.looked
+
+abbrev pub is_passed : Line → Bool
+is_passed lines.Rest = true
+is_passed lines.Comment = true
+is_passed line = false
+
+-- a byte that changes nothing
+abbrev pub is_unread : ℕ → Half → Bool
+is_unread b h = is_unwatched h || (not (b == code "\n") && is_passed h.line)
+
 -- a byte meets the line: what is whole with it
 abbrev pub met : ℕ → Half → Half × Whole
 met b h = let m = met_at h.line b h in (looked_at h.line b m.0, m.1)

@@ -1,6 +1,6 @@
 -- What is wrong with the lines of a page: macros that are none, blocks that are not ended, ends of blocks that are not open, ends
 -- that come before those of blocks within, and too many that are open.
-use Rattle.std.specs.Prelude.{ℕ, List, [], length, take, drop, not, ◌==◌, ◌||◌, nat_lt, if◌then◌else◌, codes, Option, None, Some, is_some}
+use Rattle.std.specs.Prelude.{ℕ, List, [], ◌∷◌, length, take, drop, not, ◌==◌, ◌||◌, nat_lt, if◌then◌else◌, codes, Option, None, Some, is_some}
 use Rattle.std.specs.List.{insert, remove}
 use Rattle.std.specs.Str.{bytes_eq}
 use Rattle.nr_mdoc.specs.Macros.{macro_of}
@@ -99,8 +99,15 @@ with_half h p = record p { half = h }
 abbrev pub counted : ℕ → Page → Page
 counted b p = with_half (lines.counted b p.half) p
 
+-- within a line that is not looked at, and in a page that is none of mdoc, a byte changes nothing
 abbrev pub heard : ℕ → Page → Page
-heard b p = let m = lines.met b p.half in counted b (acted m.1 (with_half m.0 p))
+heard b p =
+    if lines.is_unread b p.half then p else
+    let m = lines.met b p.half in counted b (acted m.1 (with_half m.0 p))
+
+abbrev pub all_heard : List ℕ → Page → Page
+all_heard [] p = p
+all_heard (b ∷ bs) p = all_heard bs (heard b p)
 
 -- the page ends: what is open is told at the lines where it was opened
 abbrev pub finished : Page → Page

@@ -159,6 +159,22 @@ impl Half {
         }
     }
 
+    /// The page is none of mdoc: no line that may have `.Dd` is left.
+    #[inline]
+    pub fn is_unwatched(&self) -> bool
+        ensures { result ≡ specs.is_unwatched self.now }
+    {
+        !self.awake && self.looked >= MOST_LINES
+    }
+
+    /// A byte that changes nothing: within a line that is not looked at, or in a page that is none of mdoc.
+    #[inline]
+    pub fn is_unread(&self, byte: u8) -> bool
+        ensures { result ≡ specs.is_unread byte self.now }
+    {
+        self.is_unwatched() || byte != b'\n' && matches!(self.line, Line::Rest | Line::Comment)
+    }
+
     /// The line ends where the byte is a newline.
     pub fn count(&mut self, byte: u8)
         ensures { self.new ≡ specs.counted byte self.old }

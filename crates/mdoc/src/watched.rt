@@ -25,11 +25,9 @@ impl<'a, S: Source + Drop> Watched<'a, S> {
 }
 
 impl<'a, S: Source + Drop> Source for Watched<'a, S> {
-    ghost use Rattle.std.specs.Prelude.{[]};
-
     ghost supply = { λ s. S.supply s.source };
 
-    ghost at_hand = { λ s. [] };
+    ghost at_hand = { λ s. S.at_hand s.source };
 
     ghost failures = { λ s. S.failures s.source };
 
@@ -45,11 +43,12 @@ impl<'a, S: Source + Drop> Source for Watched<'a, S> {
 
     #[inline]
     fn window(&self) -> &[u8] {
-        &[]
+        self.source.window()
     }
 
     #[inline]
     fn skip(&mut self, n: usize) {
-        let _ = n;
+        self.page.hear_all(&self.source.window()[..n]);
+        self.source.skip(n);
     }
 }

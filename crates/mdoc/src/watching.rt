@@ -50,12 +50,27 @@ impl<'a> Watch<'a> {
     pub fn hear(&mut self, byte: u8)
         ensures { self.new ≡ specs.heard byte self.old }
     {
+        if self.half.is_unread(byte) {
+            return;
+        }
         match self.half.meet(byte) {
             Whole::Nothing => {}
             Whole::Macro => self.judge(),
             Whole::Word => self.call(),
         }
         self.half.count(byte);
+    }
+
+    /// Bytes come.
+    pub fn hear_all(&mut self, bytes: &[u8])
+        ensures { self.new ≡ specs.all_heard bytes.now self.old }
+    {
+        if self.half.is_unwatched() {
+            return;
+        }
+        for byte in bytes {
+            self.hear(*byte);
+        }
     }
 
     /// The page ends: what is open is told.

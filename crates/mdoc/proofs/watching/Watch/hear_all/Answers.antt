@@ -1,0 +1,10 @@
+use Rattle.std.proofs.Common.{◌≡◌, true, sym}
+use Rattle.mdoc.specs.Lines.{is_unwatched}
+use Rattle.mdoc.proofs.Unread.{all_unwatched}
+use Rattle.mdoc.proofs.watching.Watch.hear_all.Goals as goal
+
+pub returns-then-is_unwatched : goal.returns-then-is_unwatched
+returns-then-is_unwatched c =
+    let e : is_unwatched c.args.self.now.half ≡ true =
+    let a = c.is_unwatched.ensures in let b = c.if-is_unwatched.ensures in cc in
+    sym (all_unwatched c.args.bytes.now c.args.self.now e)
