@@ -1,21 +1,23 @@
 -- Whole cells, and what goes out of their bytes.
 use Prim.Native.Char.{code}
 use Rattle.std.proofs.Common.{◌≡◌, ℕ, zero, suc, ◌+◌, ◌*◌, ◌-◌, ◌<◌, ◌≤◌, List, [], ◌∷◌, ◌++◌, length, take, drop, get_or, set, Bool, true, false, ◌==◌, ◌&&◌, ◌||◌, ◌⊎◌, inl, inr, nat_le, nat_lt, if◌then◌else◌, Option, None, Some, slice_get, refl, sym, subst, ap, ◌∙◌, add-one, append_assoc, append-nil, length-drop, arith}
-use Rattle.std.proofs.lemmas.List.{get_or-set_other, length-take, length-take-le, take-take}
+use Rattle.std.proofs.lemmas.List.{get_or-append-add, get_or-drop, get_or-set_other, length-append, length-take, length-take-le, take-append-le, take-take, take_all}
 use Rattle.std.proofs.lemmas.Grind.{get_or-set_at}
 use borrow.Rule.Slice.PartMut.{put_mid}
 use Rattle.nr_units.proofs.Copying.{front_put}
 use Rattle.std.proofs.Math.Seq.{take-suc, take-add}
 use Rattle.std.proofs.lemmas.Bool.Decides.{nat_tests}
+use Rattle.std.specs.Char.{len_utf8}
+use Rattle.std.proofs.lemmas.Str.{length-encode}
+use Rattle.nr_characters.specs.OneCell.{is_one_cell}
 use Rattle.nr_characters.specs.declared.table.Table.{Table}
 use Rattle.nr_characters.specs.Tables.{character_of, characters, if_any}
 use Rattle.nr_utf8.specs.declared.reader.Half.{Half}
 use Rattle.nr_utf8.specs.declared.reader.Half.TheVariants.{Nothing, Underscore, Backspaced}
 use Rattle.nr_utf8.specs.declared.reader.Reader.{Reader}
-use Rattle.nr_utf8.specs.declared.spelling.Spelled.{Spelled}
 use Rattle.nr_utf8.specs.Reading.{Told, told, behind, then_told, read, read_behind, fresh, beyond, underscore, fed, IsOwnCell, is_shown, with_half, closed, plain, spelled}
 use Rattle.nr_utf8.specs.Shapes.{is_begun, may_stand}
-use Rattle.nr_utf8.specs.Spelling.{if_spelled, byte_of, bytes_of, AllSpelled, IsSpelled, Spells, Puts, Goes, none_spelled}
+use Rattle.nr_utf8.specs.Spelling.{if_spelled, byte_of, bytes_of, AllSpelled, IsSpelled, Spells, Puts, Goes, count_of}
 use Rattle.nr_utf8.proofs.Reading.{fed-append}
 use Rattle.nr_utf8.proofs.Plain.{IsIdle, passes_as_is, read-idle, read-cell, told-not, told-same}
 
@@ -128,7 +130,7 @@ long_as_is t b e = let one : length (byte_of t b) ≡ 1 = ap length (byte-as-is 
 as_is_low : (b : ℕ) → nat_le 128 b ≡ false → (may_stand b || (b == 8)) ≡ true → (is_shown b || (b == 8)) ≡ true
 as_is_low b low may = grind (arith, nat_tests)
 
-some_by : (t : Table) (all : List Spelled) (b : ℕ) (high : Bool) → nat_le 128 b ≡ high → b < 256 → Spells t 256 all true → (may_stand b || (b == 8)) ≡ true → 0 < (get_or all b none_spelled).len
+some_by : (t : Table) (all : List (List ℕ)) (b : ℕ) (high : Bool) → nat_le 128 b ≡ high → b < 256 → Spells t 256 all true → (may_stand b || (b == 8)) ≡ true → 0 < count_of (get_or all b [])
 some_by t all b true e small s may =
     let far : 128 ≤ b = grind (arith, nat_tests) in
     s.beyond refl b small far
@@ -138,15 +140,15 @@ some_by t all b false e small s may =
     omega (arith, count, long)
 
 -- something goes out of all these
-pub all-spelled : (t : Table) (all : List Spelled) (whole : Bool) (bs : List ℕ) → ((k : ℕ) → k < length bs → get_or bs k 0 < 256) → Spells t 256 all whole → whole ≡ true
+pub all-spelled : (t : Table) (all : List (List ℕ)) (whole : Bool) (bs : List ℕ) → ((k : ℕ) → k < length bs → get_or bs k 0 < 256) → Spells t 256 all whole → whole ≡ true
     → ((k : ℕ) → k < length bs → (may_stand (get_or bs k 0) || (get_or bs k 0 == 8)) ≡ true) → AllSpelled all bs
 all-spelled t all whole bs small s is may k below =
     let P : Bool → Type 0 = λ w. Spells t 256 all w in
     some_by t all (get_or bs k 0) (nat_le 128 (get_or bs k 0)) refl (small k below) (subst P is s) (may k below)
 
-pub some-spelled : (t : Table) (b byte : ℕ) (s : Spelled) → IsSpelled t b s → b ≡ byte → 0 < s.len → 0 < length (byte_of t byte)
+pub some-spelled : (t : Table) (b byte : ℕ) (s : List ℕ) → IsSpelled t b s → b ≡ byte → 0 < count_of s → 0 < length (byte_of t byte)
 some-spelled t b byte s one same some =
-    let count : length (byte_of t b) ≡ s.len = one.count in
+    let count : length (byte_of t b) ≡ count_of s = one.count in
     let P : ℕ → Type 0 = λ x. 0 < length (byte_of t x) in
     let here : 0 < length (byte_of t b) = omega (arith, count, some) in
     subst P same here
@@ -158,36 +160,84 @@ both_true : (x y : Bool) → x && y ≡ true → (x ≡ true) × (y ≡ true)
 both_true true y p = (refl, p)
 both_true false y p = absurd (let no : false ≡ true = p in cc)
 
-next_each : (t : Table) (n : ℕ) (all : List Spelled) (whole : Bool) (s : Spelled) (b : ℕ) → Spells t n all whole → n < length all → IsSpelled t n s → (b < n) ⊎ (b ≡ n)
-    → IsSpelled t b (get_or (set all n s) b none_spelled)
+next_each : (t : Table) (n : ℕ) (all : List (List ℕ)) (whole : Bool) (s : List ℕ) (b : ℕ) → Spells t n all whole → n < length all → IsSpelled t n s → (b < n) ⊎ (b ≡ n)
+    → IsSpelled t b (get_or (set all n s) b [])
 next_each t n all whole s b before l one (inl low) =
     let other : ¬ (b ≡ n) = λ e. omega (arith, e, low) in
-    let P : Spelled → Type 0 = λ x. IsSpelled t b x in
-    subst P (sym (get_or-set_other all n b s none_spelled other)) (before.each b low)
+    let P : List ℕ → Type 0 = λ x. IsSpelled t b x in
+    subst P (sym (get_or-set_other all n b s [] other)) (before.each b low)
 next_each t n all whole s b before l one (inr same) =
-    let put : get_or (set all n s) b none_spelled ≡ s = get_or-set_at all n b s none_spelled same l in
-    let P : Spelled → Type 0 = λ x. IsSpelled t b x in
+    let put : get_or (set all n s) b [] ≡ s = get_or-set_at all n b s [] same l in
+    let P : List ℕ → Type 0 = λ x. IsSpelled t b x in
     let Q : ℕ → Type 0 = λ x. IsSpelled t x s in
     subst P (sym put) (subst Q (sym same) one)
 
-next_beyond : (t : Table) (n : ℕ) (all : List Spelled) (whole : Bool) (s : Spelled) (b : ℕ) → Spells t n all whole → n < length all → whole ≡ true → (128 ≤ n → 0 < s.len)
-    → 128 ≤ b → (b < n) ⊎ (b ≡ n) → 0 < (get_or (set all n s) b none_spelled).len
+next_beyond : (t : Table) (n : ℕ) (all : List (List ℕ)) (whole : Bool) (s : List ℕ) (b : ℕ) → Spells t n all whole → n < length all → whole ≡ true → (128 ≤ n → 0 < count_of s)
+    → 128 ≤ b → (b < n) ⊎ (b ≡ n) → 0 < count_of (get_or (set all n s) b [])
 next_beyond t n all whole s b before l is covered far (inl low) =
     let other : ¬ (b ≡ n) = λ e. omega (arith, e, low) in
-    let P : Spelled → Type 0 = λ x. 0 < x.len in
-    subst P (sym (get_or-set_other all n b s none_spelled other)) (before.beyond is b low far)
+    let P : List ℕ → Type 0 = λ x. 0 < count_of x in
+    subst P (sym (get_or-set_other all n b s [] other)) (before.beyond is b low far)
 next_beyond t n all whole s b before l is covered far (inr same) =
-    let put : get_or (set all n s) b none_spelled ≡ s = get_or-set_at all n b s none_spelled same l in
-    let P : Spelled → Type 0 = λ x. 0 < x.len in
+    let put : get_or (set all n s) b [] ≡ s = get_or-set_at all n b s [] same l in
+    let P : List ℕ → Type 0 = λ x. 0 < count_of x in
     subst P (sym put) (covered (omega (arith, same, far)))
 
 -- one byte more
-pub Spells-next : (t : Table) (n : ℕ) (all : List Spelled) (whole w : Bool) (s : Spelled) → Spells t n all whole → n < length all → IsSpelled t n s
-    → (w ≡ true → 128 ≤ n → 0 < s.len) → Spells t (n + 1) (set all n s) (whole && w)
+pub Spells-next : (t : Table) (n : ℕ) (all : List (List ℕ)) (whole w : Bool) (s : List ℕ) → Spells t n all whole → n < length all → IsSpelled t n s
+    → (w ≡ true → 128 ≤ n → 0 < count_of s) → Spells t (n + 1) (set all n s) (whole && w)
 Spells-next t n all whole w s before l one covered = record {
   each = λ b below. next_each t n all whole s b before l one (below_or_last b n below);
   beyond = λ is b below far. let both = both_true whole w is in next_beyond t n all whole s b before l both.0 (covered both.1) far (below_or_last b n below);
 }
+
+-- ---- a character of a table has three bytes at most
+
+below_four : (c : ℕ) → is_one_cell c ≡ true → nat_lt c 0x10000 ≡ true
+below_four c p = grind (arith, nat_tests)
+
+three_or_less : (x y z : Bool) → z ≡ true → (if x then 1 else if y then 2 else if z then 3 else 4) ≤ 3
+three_or_less true y z e = omega arith
+three_or_less false true z e = omega arith
+three_or_less false false true e = omega arith
+three_or_less false false false e = absurd (let no : false ≡ true = e in cc)
+
+pub few-spelled : (c : ℕ) → is_one_cell c ≡ true → length (spelled c) ≤ 3
+few-spelled c p =
+    let few : len_utf8 c ≤ 3 = three_or_less (nat_lt c 0x80) (nat_lt c 0x800) (nat_lt c 0x10000) (below_four c p) in
+    let long = length-encode c in
+    omega (arith, long, few)
+
+not_as_is : (p : Bool) (b : ℕ) (o : List ℕ) → p ≡ false → (if p then b ∷ [] else o) ≡ o
+not_as_is true b o e = absurd (let no : true ≡ false = e in cc)
+not_as_is false b o e = refl
+
+pub both-false : (x y : Bool) → x ≡ false → y ≡ false → x || y ≡ false
+both-false true y p q = p
+both-false false y p q = q
+
+-- a character, and 64 times the number of its bytes
+pub Spelled-character : (t : Table) (b c : ℕ) (xs text : List ℕ) → (is_shown b || (b == 8)) ≡ false → character_of t b ≡ Some c → text ≡ spelled c → xs ≡ text
+    → length text ≤ 3 → IsSpelled t b (xs ++ drop (length text) (0 ∷ 0 ∷ 0 ∷ 64 * length text ∷ []))
+Spelled-character t b c xs text other is means same few =
+    let n = length text in
+    let ys : List ℕ = 0 ∷ 0 ∷ 0 ∷ 64 * n ∷ [] in
+    let long : length xs ≡ n = ap length same in
+    let rest = length-drop n ys in
+    let both = length-append xs (drop n ys) in
+    let goes : byte_of t b ≡ xs =
+    not_as_is (is_shown b || (b == 8)) b (if_spelled (character_of t b)) other ∙ ap (λ (o : Option ℕ). if_spelled o) is ∙ sym means ∙ sym same in
+    let there : length xs + (3 - n) ≡ 3 = omega (arith, long, few) in
+    let here : n + (3 - n) ≡ 3 = omega (arith, few) in
+    let last : get_or (xs ++ drop n ys) 3 0 ≡ 64 * n =
+    ap (λ (k : ℕ). get_or (xs ++ drop n ys) k 0) (sym there) ∙ get_or-append-add xs (drop n ys) (3 - n) 0 ∙ get_or-drop n ys (3 - n) 0 ∙ ap (λ (k : ℕ). get_or ys k 0) here in
+    let counts : count_of (xs ++ drop n ys) ≡ n = omega (arith, last) in
+    record {
+      front = ap (λ (k : ℕ). take k (xs ++ drop n ys)) counts ∙ take-append-le n xs (drop n ys) (omega (arith, long)) ∙ take_all n xs (omega (arith, long)) ∙ sym goes;
+      count = ap length goes ∙ long ∙ sym counts;
+      four = omega (arith, both, rest, long, few);
+      few = omega (arith, counts, few);
+    }
 
 may_shown : (b : ℕ) → (is_shown b || (b == 8)) ≡ true → is_begun b ≡ false → may_stand b ≡ true
 may_shown b shown other = grind (arith, nat_tests)
@@ -203,13 +253,13 @@ may_by t b false e (Some c) is other some = may_high b (is_high t b c is)
 
 -- ---- what stands in a room
 
-pub Puts-spelled : (t : Table) (b byte : ℕ) (s : Spelled) (room ys : List ℕ) (end k : ℕ) → IsSpelled t b s → b ≡ byte → ys ≡ s.bytes → end ≤ length room
-    → Puts room end (put_mid end k room ys) (end + s.len) (byte_of t byte)
+pub Puts-spelled : (t : Table) (b byte : ℕ) (s : List ℕ) (room ys : List ℕ) (end k : ℕ) → IsSpelled t b s → b ≡ byte → ys ≡ s → end ≤ length room
+    → Puts room end (put_mid end k room ys) (end + count_of s) (byte_of t byte)
 Puts-spelled t b byte s room ys end k one same copied h =
     let four : length ys ≡ 4 = ap length copied ∙ one.four in
-    let few : s.len ≤ 4 = one.few in
-    front_put end k s.len room ys h (omega (arith, four, few))
-    ∙ ap (λ (xs : List ℕ). take end room ++ xs) (ap (λ (xs : List ℕ). take s.len xs) copied ∙ one.front ∙ ap (λ (x : ℕ). byte_of t x) same)
+    let few : count_of s ≤ 3 = one.few in
+    front_put end k (count_of s) room ys h (omega (arith, four, few))
+    ∙ ap (λ (xs : List ℕ). take end room ++ xs) (ap (λ (xs : List ℕ). take (count_of s) xs) copied ∙ one.front ∙ ap (λ (x : ℕ). byte_of t x) same)
 
 pub Puts-front : (bs room ys : List ℕ) (end k n : ℕ) → ys ≡ take n bs → n ≤ length bs → end ≤ length room → Puts room end (put_mid end k room ys) (end + n) (take n bs)
 Puts-front bs room ys end k n copied l h =

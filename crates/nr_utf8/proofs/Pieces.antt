@@ -6,9 +6,8 @@ use borrow.Rule.Slice.PartMut.{put_mid}
 use Rattle.nr_units.proofs.Copying.{front_put}
 use Rattle.nr_characters.specs.declared.table.Table.{Table}
 use Rattle.nr_characters.specs.Tables.{character_of, characters, if_any}
-use Rattle.nr_utf8.specs.declared.spelling.Spelled.{Spelled}
 use Rattle.nr_utf8.specs.Reading.{is_shown}
-use Rattle.nr_utf8.specs.Spelling.{AllSpelled, AreLow, Puts, Spells, bytes_of, if_spelled, none_spelled}
+use Rattle.nr_utf8.specs.Spelling.{AllSpelled, AreLow, Puts, Spells, bytes_of, count_of, if_spelled}
 use Rattle.nr_utf8.proofs.CellsAlone.{bytes-as-are, bytes_append}
 
 -- a byte of ASCII of which something goes out goes out as it is
@@ -17,7 +16,7 @@ low_by t b true e low some = e
 low_by t b false e low some = absurd (let none : length (if_spelled (character_of t b)) ≡ 0 = ap (λ (x : Bool). length (if_spelled (if x then None else if_any (slice_get (characters t) (b - 128))))) low in omega (arith, none, some))
 
 -- a piece of ASCII goes out as it is
-pub Puts-low : (t : Table) (all : List Spelled) (whole : Bool) (bs room ys : List ℕ) (end k n : ℕ) → Spells t 256 all whole → ((j : ℕ) → j < length bs → get_or bs j 0 < 256)
+pub Puts-low : (t : Table) (all : List (List ℕ)) (whole : Bool) (bs room ys : List ℕ) (end k n : ℕ) → Spells t 256 all whole → ((j : ℕ) → j < length bs → get_or bs j 0 < 256)
     → AllSpelled all bs → AreLow n bs → length bs ≡ n → ys ≡ bs → end ≤ length room → Puts room end (put_mid end k room ys) (end + n) (bytes_of t bs)
 Puts-low t all whole bs room ys end k n s small some low long copied h =
     let same : length ys ≡ n = ap length copied ∙ long in
@@ -30,13 +29,13 @@ Puts-low t all whole bs room ys end k n s small some low long copied h =
     ∙ ap (λ (xs : List ℕ). take end room ++ xs) (take_all n ys (omega (arith, same)) ∙ copied ∙ sym (bytes-as-are t bs shown))
 
 -- something goes out of each byte of a piece
-pub piece-spelled : (all : List Spelled) (bs : List ℕ) (at : ℕ) → AllSpelled all bs → at + 8 ≤ length bs → AllSpelled all (take (at + 8 - at) (drop at bs))
+pub piece-spelled : (all : List (List ℕ)) (bs : List ℕ) (at : ℕ) → AllSpelled all bs → at + 8 ≤ length bs → AllSpelled all (take (at + 8 - at) (drop at bs))
 piece-spelled all bs at some l k below =
     let eight : at + 8 - at ≡ 8 = omega arith in
     let rest = length-drop at bs in
     let cut = length-take-le (at + 8 - at) (drop at bs) (omega (arith, rest, l)) in
     let same : get_or (take (at + 8 - at) (drop at bs)) k 0 ≡ get_or bs (at + k) 0 = get_or-take (at + 8 - at) (drop at bs) k 0 (omega (arith, below, cut)) ∙ get_or-drop at bs k 0 in
-    let P : ℕ → Type 0 = λ b. 0 < (get_or all b none_spelled).len in
+    let P : ℕ → Type 0 = λ b. 0 < count_of (get_or all b []) in
     subst P (sym same) (some (at + k) (omega (arith, below, cut, l)))
 
 -- one piece more

@@ -10,13 +10,10 @@ use Rattle.nr_utf8.specs.declared.reader.Half.{Half}
 use Rattle.nr_utf8.specs.declared.reader.Half.TheVariants.{Nothing, Underscore, Backspaced}
 use Rattle.nr_utf8.specs.declared.reader.Reader.{Reader}
 use Rattle.nr_utf8.specs.declared.reader.Underlining.TheVariants.{Backspaces}
-use Rattle.nr_utf8.specs.declared.shapes.Kind.{Kind}
-use Rattle.nr_utf8.specs.declared.shapes.Kind.TheVariants.{Plain, Cells, Other}
-use Rattle.nr_utf8.specs.declared.spelling.Spelled.{Spelled}
 use Rattle.nr_utf8.specs.declared.spelling.Spelling.{Spelling}
 use Rattle.nr_utf8.specs.Reading.{IsOwnCell, Told, behind, closed, fed, fresh, is_shown, is_underlined, lone, read, read_behind, spelled, then_told, told, underscore, with_half}
-use Rattle.nr_utf8.specs.Shapes.{IsOfKind, IsWhole, Shapes, ShowAll, StandAll, is_begun, is_shaped, may_stand}
-use Rattle.nr_utf8.specs.Spelling.{AllSpelled, Goes, IsAhead, IsChunk, IsShaped, Puts, Spells, byte_of, bytes_of, none_spelled}
+use Rattle.nr_utf8.specs.Shapes.{IsWhole, Shapes, ShowAll, StandAll, is_begun, is_shaped, may_stand}
+use Rattle.nr_utf8.specs.Spelling.{AllSpelled, Goes, IsChunk, IsShaped, Puts, Spells, byte_of, bytes_of, count_of}
 use Rattle.nr_utf8.proofs.CellsAlone.{Puts-front, all-spelled, byte-as-is, bytes-as-are, bytes_append, comes-append, read-alone}
 use Rattle.nr_utf8.proofs.Plain.{IsIdle, read-cell, told-not}
 use Rattle.nr_utf8.proofs.Reading.{told-eq}
@@ -324,12 +321,12 @@ front_shaped s r bytes n long small spells chunk whole =
 
 -- ---- what is put of it
 
-few_bytes : (t : Table) (all : List Spelled) (whole : Bool) (bs : List ℕ) → Spells t 256 all whole → ((k : ℕ) → k < length bs → get_or bs k 0 < 256) → length (bytes_of t bs) ≤ 4 * length bs
+few_bytes : (t : Table) (all : List (List ℕ)) (whole : Bool) (bs : List ℕ) → Spells t 256 all whole → ((k : ℕ) → k < length bs → get_or bs k 0 < 256) → length (bytes_of t bs) ≤ 4 * length bs
 few_bytes t all whole [] spells small = omega arith
 few_bytes t all whole (b ∷ bs) spells small =
     let one = spells.each b (small zero (omega arith)) in
-    let count : length (byte_of t b) ≡ (get_or all b none_spelled).len = one.count in
-    let few : (get_or all b none_spelled).len ≤ 4 = one.few in
+    let count : length (byte_of t b) ≡ count_of (get_or all b []) = one.count in
+    let few : count_of (get_or all b []) ≤ 3 = one.few in
     let rest = few_bytes t all whole bs spells (λ k below. small (suc k) (omega arith)) in
     let both = length-append (byte_of t b) (bytes_of t bs) in
     omega (arith, count, few, rest, both)
@@ -382,12 +379,12 @@ Goes-chunk s r bytes old new from to end n idle long small spells chunk whole pu
       few = omega (arith, quick, size, same, both, before, count);
     }
 
-many_bytes : (t : Table) (all : List Spelled) (whole : Bool) (bs : List ℕ) → Spells t 256 all whole → ((k : ℕ) → k < length bs → get_or bs k 0 < 256) → AllSpelled all bs
+many_bytes : (t : Table) (all : List (List ℕ)) (whole : Bool) (bs : List ℕ) → Spells t 256 all whole → ((k : ℕ) → k < length bs → get_or bs k 0 < 256) → AllSpelled all bs
     → length bs ≤ length (bytes_of t bs)
 many_bytes t all whole [] spells small some = omega arith
 many_bytes t all whole (b ∷ bs) spells small some =
-    let count : length (byte_of t b) ≡ (get_or all b none_spelled).len = (spells.each b (small zero (omega arith))).count in
-    let one : 0 < (get_or all b none_spelled).len = some zero (omega arith) in
+    let count : length (byte_of t b) ≡ count_of (get_or all b []) = (spells.each b (small zero (omega arith))).count in
+    let one : 0 < count_of (get_or all b []) = some zero (omega arith) in
     let rest = many_bytes t all whole bs spells (λ k below. small (suc k) (omega arith)) (λ k below. some (suc k) (omega arith)) in
     let both = length-append (byte_of t b) (bytes_of t bs) in
     omega (arith, count, one, rest, both)
@@ -414,13 +411,12 @@ Goes-shown s r bytes old ys from k end n idle long small spells all whole copied
     Goes-chunk s r bytes old (put_mid from k old ys) from (from + 32) end n idle long small spells (shown-chunk s r bytes long small spells all) whole
     (put ∙ ap (λ (xs : List ℕ). take from old ++ xs) (sym as_are)) wide at
 
--- what is ahead is of its kind
-pub ahead-of : (s : Spelling) (r : Reader) (bytes : List ℕ) → 34 ≤ length bytes → Small bytes → Spells r.table 256 s.all s.whole → s.whole ≡ true → (k : Kind) → IsOfKind k (take 32 bytes) → IsAhead s r k bytes
-ahead-of s r bytes long small spells whole Plain is = is
-ahead-of s r bytes long small spells whole Cells is =
+-- bytes that stand anywhere are ahead
+pub stand-ahead : (s : Spelling) (r : Reader) (bytes : List ℕ) → 34 ≤ length bytes → Small bytes → Spells r.table 256 s.all s.whole → s.whole ≡ true
+    → StandAll (length (take 32 bytes)) (take 32 bytes) → IsChunk s r bytes
+stand-ahead s r bytes long small spells whole all =
     let cut = length-take-le 32 bytes (omega (arith, long)) in
-    stand-chunk s r bytes long small spells whole (λ k below. is k (omega (arith, below, cut)))
-ahead-of s r bytes long small spells whole Other is = is
+    stand-chunk s r bytes long small spells whole (λ k below. all k (omega (arith, below, cut)))
 
 k_or_last : (k n : ℕ) → k < n + 1 → (k < n) ⊎ (k ≡ n)
 k_or_last k n l = grind (arith, nat_tests)

@@ -15,7 +15,6 @@ use Rattle.nr_utf8.specs.declared.running.Turn.{Turn}
 use Rattle.nr_utf8.specs.declared.running.Turn.TheVariants as turns
 use Rattle.nr_utf8.specs.Reading.{Told, first_reader, read, fed, finished, left_over, converted, strays_of, told}
 use Rattle.nr_utf8.specs.Spelling.{Goes, Spells}
-use Rattle.nr_utf8.specs.declared.spelling.Spelled.{Spelled}
 use Rattle.nr_utf8.specs.Running.{Comes, Ends, Flushes, Took, Turns, Stands, IsCut, IsBroken, Ran, EndsAs}
 use Rattle.nr_utf8.proofs.Text.{fed-text, converted-text, converted-lines}
 use Rattle.nr_utf8.proofs.CellsAlone.{fed-table}
@@ -167,7 +166,7 @@ Stands-first d e a h p r is none = record {
 }
 
 -- what is kept of the table is that of the reader's
-pub Stands-spells : (d : Table) (e : Bool) (a b : Option Supply) (h k : Option (List ℕ)) (p : List ℕ) (r : Reader) (t i : ℕ) (all : List Spelled) (whole : Bool)
+pub Stands-spells : (d : Table) (e : Bool) (a b : Option Supply) (h k : Option (List ℕ)) (p : List ℕ) (r : Reader) (t i : ℕ) (all : List (List ℕ)) (whole : Bool)
     → Stands d e a b h k p r t i → Spells d 256 all whole → Spells r.table 256 all whole
 Stands-spells d e a b h k p r t i all whole st spells =
     let same : r.table ≡ d = ap (λ (x : Reader). x.table) st.reader ∙ fed-table (first_reader d e) st.bytes in

@@ -1,8 +1,6 @@
 -- Bytes that stand together in whole cells: those of one byte, and those of three that are underlined.
 use Prim.Native.Char.{code}
 use Rattle.std.specs.Prelude.{◌≡◌, ℕ, ◌+◌, ◌<◌, ◌≤◌, List, length, get_or, Bool, true, false, ◌==◌, ◌&&◌, ◌||◌, nat_le}
-use Rattle.nr_utf8.specs.declared.shapes.Kind.{Kind}
-use Rattle.nr_utf8.specs.declared.shapes.Kind.TheVariants.{Plain, Cells, Other}
 use Rattle.nr_utf8.specs.Reading.{is_shown, is_underlined}
 
 -- one of ASCII that is shown, or one beyond ASCII
@@ -26,11 +24,6 @@ ShowAll bytes = (k : ℕ) → k < length bytes → is_shown (get_or bytes k 0) �
 
 abbrev pub StandAll : ℕ → List ℕ → Type 0
 StandAll n bytes = (k : ℕ) → k < n → may_stand (get_or bytes k 0) ≡ true
-
-abbrev pub IsOfKind : Kind → List ℕ → Type 0
-IsOfKind Plain bytes = ShowAll bytes
-IsOfKind Cells bytes = StandAll (length bytes) bytes
-IsOfKind Other bytes = Unit {0}
 
 -- the first may stand anywhere, and each of the n behind it where it stands
 pub record Shapes (n : ℕ) (bytes : List ℕ) : Type 0 where

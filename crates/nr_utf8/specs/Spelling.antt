@@ -1,9 +1,8 @@
 -- What goes out of bytes that stand together in whole cells.
-use Rattle.std.specs.Prelude.{◌≡◌, ℕ, ◌+◌, ◌*◌, ◌<◌, ◌≤◌, List, [], ◌∷◌, ◌++◌, length, take, get_or, Bool, true, ◌==◌, ◌||◌, false, nat_lt, if◌then◌else◌, Option, None, Some}
+use Rattle.std.specs.Prelude.{◌≡◌, ℕ, ◌+◌, ◌*◌, ◌/◌, ◌<◌, ◌≤◌, List, [], ◌∷◌, ◌++◌, length, take, get_or, Bool, true, ◌==◌, ◌||◌, false, nat_lt, if◌then◌else◌, Option, None, Some}
 use Rattle.nr_characters.specs.declared.table.Table.{Table}
 use Rattle.nr_characters.specs.Tables.{character_of}
 use Rattle.nr_utf8.specs.declared.reader.Reader.{Reader}
-use Rattle.nr_utf8.specs.declared.spelling.Spelled.{Spelled}
 use Rattle.nr_utf8.specs.declared.spelling.Spelling.{Spelling}
 use Rattle.nr_utf8.specs.declared.reader.Underlining.TheVariants.{Backspaces}
 use Rattle.nr_utf8.specs.declared.shapes.Kind.{Kind}
@@ -29,21 +28,22 @@ AreLow n bytes = (k : ℕ) → k < n → nat_lt (get_or bytes k 0) 128 ≡ true
 
 -- ---- what is kept of a table
 
--- these go out of a byte
-pub record IsSpelled (table : Table) (b : ℕ) (s : Spelled) : Type 0 where
-  pub front : take s.len s.bytes ≡ byte_of table b
-  pub count : length (byte_of table b) ≡ s.len
-  pub four : length s.bytes ≡ 4
-  pub few : s.len ≤ 4
+-- The bytes of a character are four here: those that go out at their front, and 64 times the number of these.
+abbrev pub count_of : List ℕ → ℕ
+count_of s = get_or s 3 0 / 64
 
-abbrev pub none_spelled : Spelled
-none_spelled = record { bytes = []; len = 0 }
+-- these go out of a byte
+pub record IsSpelled (table : Table) (b : ℕ) (s : List ℕ) : Type 0 where
+  pub front : take (count_of s) s ≡ byte_of table b
+  pub count : length (byte_of table b) ≡ count_of s
+  pub four : length s ≡ 4
+  pub few : count_of s ≤ 3
 
 -- of the first n bytes there are
-pub record Spells (table : Table) (n : ℕ) (all : List Spelled) (whole : Bool) : Type 0 where
-  pub each : (b : ℕ) → b < n → IsSpelled table b (get_or all b none_spelled)
+pub record Spells (table : Table) (n : ℕ) (all : List (List ℕ)) (whole : Bool) : Type 0 where
+  pub each : (b : ℕ) → b < n → IsSpelled table b (get_or all b [])
   -- each beyond ASCII has a character
-  pub beyond : whole ≡ true → (b : ℕ) → b < n → 128 ≤ b → 0 < (get_or all b none_spelled).len
+  pub beyond : whole ≡ true → (b : ℕ) → b < n → 128 ≤ b → 0 < count_of (get_or all b [])
 
 -- it is that of the reader's table, and nothing is half read or open
 pub record Serves (s : Spelling) (r : Reader) : Type 0 where
@@ -51,8 +51,8 @@ pub record Serves (s : Spelling) (r : Reader) : Type 0 where
   pub idle : is_idle r ≡ true
 
 -- something goes out of each of these bytes
-abbrev pub AllSpelled : List Spelled → List ℕ → Type 0
-AllSpelled all bytes = (k : ℕ) → k < length bytes → 0 < (get_or all (get_or bytes k 0) none_spelled).len
+abbrev pub AllSpelled : List (List ℕ) → List ℕ → Type 0
+AllSpelled all bytes = (k : ℕ) → k < length bytes → 0 < count_of (get_or all (get_or bytes k 0) [])
 
 -- ---- what is put into a room
 

@@ -6,7 +6,7 @@ ghost use Rattle.nr_utf8.specs.Running as specs;
 ghost use Rattle.nr_utf8.specs.Spelling.{Spells};
 
 use super::reader::Reader;
-use super::spelling::Spelling;
+use super::spelling::{ROOM, Spelling};
 use nr_characters::Table;
 use nr_units::sink::Sink;
 use nr_units::slice_vec::SliceVec;
@@ -17,9 +17,6 @@ const TOO_MANY: u64 = 1_099_511_627_776;
 
 /// The room that one turn needs.
 const MOST: usize = 1536;
-
-/// How many bytes are taken at once that are cells.
-const CELLS: usize = 320;
 
 /// How a run ended.
 #[derive(Clone, Copy, Debug, PartialEq, Eq)]
@@ -88,10 +85,10 @@ fn take_cells<R: Source>(
 ) -> u64
     requires room { length out.old.items + 1536 ≤ out.old.room }
     requires spells { Spells reader.now.table 256 spelling.now.all spelling.now.whole }
-    requires long { length room.old ≡ 1280 }
+    requires long { length room.old ≡ 2176 }
     ensures took { specs.Took (R.supply input.old) (R.supply input.new) reader.now reader.now out.old.items
         out.new.items result 0 }
-    ensures few { (result ≤ 320) × (result ≤ most) }
+    ensures few { result ≤ most }
     ensures grown { length out.new.items ≤ length out.old.items + 4 * result }
     ensures failures { R.failures input.new ≡ R.failures input.old }
     ensures room { out.new.room ≡ out.old.room }
@@ -100,7 +97,7 @@ fn take_cells<R: Source>(
         return 0;
     }
     let window = input.window();
-    let len = window.len().min(CELLS).min(most as usize);
+    let len = window.len().min(most as usize);
     let reached = spelling.put_all(reader, &window[..len], room);
     out.extend(&room[..reached.end]);
     input.skip(reached.taken);
@@ -147,7 +144,7 @@ fn make_turn<R: Source>(
     requires room { length out.old.items + 1536 ≤ out.old.room }
     requires some { 0 < most }
     requires spells { Spells reader.old.table 256 spelling.now.all spelling.now.whole }
-    requires long { length room.old ≡ 1280 }
+    requires long { length room.old ≡ 2176 }
     ensures turns { specs.Turns (R.supply input.old) (R.supply input.new) reader.old reader.new out.old.items
         out.new.items result }
     ensures measured { specs.IsMeasured most (length out.old.items) (length out.new.items) result }
@@ -194,7 +191,7 @@ fn run<R: Source, W: Sink>(
         (W.failures output.old) }
 {
     let spelling = Spelling::new(table);
-    let mut room = [0; 4 * CELLS];
+    let mut room = [0; ROOM];
     let mut reader = Reader::new(table, escapes);
     let mut taken = 0;
     *strays = 0;

@@ -1,9 +1,9 @@
 //! Which bytes stand together in whole cells.
-ghost use Rattle.std.specs.Prelude.{◌≡◌, ◌+◌, ◌<◌, ◌≤◌, length, nat_lt, IsTrue};
+ghost use Rattle.std.specs.Prelude.{◌≡◌, ◌+◌, ◌<◌, ◌≤◌, length, IsTrue};
 ghost use Rattle.nr_utf8.specs.Shapes as specs;
 ghost use Rattle.nr_utf8.specs.Spelling.{AreLow};
 
-use super::reader::is_underlined;
+use super::reader::{is_shown, is_underlined};
 
 /// How many bytes are looked at together.
 pub(crate) const CHUNK: usize = 32;
@@ -29,34 +29,31 @@ pub(crate) enum Kind {
 fn may_stand(byte: u8) -> bool
     ensures { result ≡ specs.may_stand byte }
 {
-    byte == b'\n' || (byte >= b' ' && byte != 127)
+    (byte == b'\n') | ((byte >= b' ') & (byte != 127))
 }
 
-/// Whether a byte is one of ASCII.
-fn is_low(byte: u8) -> bool
-    ensures { result ≡ nat_lt byte 128 }
-{
-    byte < 128
-}
-
-/// What these bytes are.
-#[inline(never)]
-pub(crate) fn kind_of(bytes: &[u8]) -> Kind
-    ensures { specs.IsOfKind result bytes.now }
+/// Whether all of these go out as they are.
+#[inline]
+pub(crate) fn are_shown(bytes: &[u8]) -> bool
+    ensures { IsTrue result → specs.ShowAll bytes.now }
 {
     let mut all = true;
-    let mut low = true;
+    for byte in bytes {
+        all &= is_shown(*byte);
+    }
+    all
+}
+
+/// Whether all of these go out as they are, or are beyond ASCII.
+#[inline]
+pub(crate) fn may_all_stand(bytes: &[u8]) -> bool
+    ensures { IsTrue result → specs.StandAll (length bytes.now) bytes.now }
+{
+    let mut all = true;
     for byte in bytes {
         all &= may_stand(*byte);
-        low &= is_low(*byte);
     }
-    if !all {
-        Kind::Other
-    } else if low {
-        Kind::Plain
-    } else {
-        Kind::Cells
-    }
+    all
 }
 
 /// Whether all bytes of a piece are of ASCII.
@@ -71,7 +68,7 @@ pub(crate) fn are_low(piece: &[u8; 8]) -> bool
 fn is_shaped(before: u8, byte: u8, behind: u8) -> bool
     ensures { result ≡ specs.is_shaped before byte behind }
 {
-    may_stand(byte) || (byte == b'\x08' && before == b'_' && is_underlined(behind))
+    may_stand(byte) | ((byte == b'\x08') & (before == b'_') & is_underlined(behind))
 }
 
 /// Whether each of these bytes but the last may stand where it does.

@@ -4,28 +4,26 @@ ghost use Rattle.nr_utf8.specs.Shapes.{IsWhole};
 ghost use Rattle.nr_utf8.specs.Spelling as specs;
 
 use super::reader::{Reader, is_shown};
-use super::shapes::{CHUNK, Kind, SEEN, are_low, are_shaped, is_begun, kind_of, whole_front};
+use super::shapes::{
+    CHUNK, Kind, SEEN, are_low, are_shaped, are_shown, is_begun, may_all_stand, whole_front,
+};
 use nr_characters::Table;
 
 /// How many of a chunk are looked at by themselves where not all are of ASCII.
 const PIECE: usize = 8;
 
-/// What goes out of a byte.
-#[derive(Clone, Copy)]
-pub(crate) struct Spelled {
-    /// The bytes, at the front.
-    pub bytes: [u8; 4],
-    /// How many they are.
-    pub len: u32,
-}
+/// Nothing more is put into a room that is filled beyond this place.
+const FULL: usize = 1408;
 
-impl Spelled {
-    /// Nothing.
-    const NONE: Spelled = Spelled {
-        bytes: [0; 4],
-        len: 0,
-    };
-}
+/// All that is put begins before this place of a room, which a remainder shows without a test.
+const BEGIN: usize = 2048;
+
+/// How long a room is.
+pub(crate) const ROOM: usize = BEGIN + 4 * CHUNK;
+
+/// What goes out of a byte: three bytes at most, at the front, and 64 times their number. All four are copied at once,
+/// and what two bits hold is no more than 3, so that no place is tested for each byte.
+type Spelled = [u8; 4];
 
 /// What goes out of each byte in a cell that is whole, where nothing is half read or open.
 #[derive(Drop)]
@@ -34,6 +32,8 @@ pub(crate) struct Spelling {
     pub all: [Spelled; 256],
     /// Whether the table has a character for each byte from 128 on.
     pub whole: bool,
+    /// Whether most letters are beyond ASCII.
+    pub dense: bool,
 }
 
 /// How far bytes were taken, and how far a room is filled.
@@ -45,32 +45,41 @@ pub(crate) struct Reached {
     pub end: usize,
 }
 
+/// How many bytes go out of a byte.
+#[inline]
+fn count_of(one: &Spelled) -> usize
+    ensures { result ≡ specs.count_of one.now }
+{
+    usize::from(one[3] / 64)
+}
+
 /// What goes out of a byte in a cell that is whole.
 fn spell(table: Table, byte: u8) -> Spelled
     ensures { specs.IsSpelled table byte result }
 {
-    let mut bytes = [0; 4];
     if is_shown(byte) || byte == b'\x08' {
-        bytes[0] = byte;
-        return Spelled { bytes, len: 1 };
+        return [byte, 0, 0, 64];
     }
     let Some(character) = table.character(byte) else {
-        return Spelled::NONE;
+        return [0; 4];
     };
     let mut buffer = [0; 4];
     let text = character.encode_utf8(&mut buffer).as_bytes();
-    bytes[..text.len()].copy_from_slice(text);
-    Spelled {
-        bytes,
-        len: text.len() as u32,
-    }
+    let mut one = [0, 0, 0, 64 * text.len() as u8];
+    one[..text.len()].copy_from_slice(text);
+    one
 }
 
 /// Whether a byte has a character, if it is beyond ASCII.
-fn is_covered(byte: usize, len: u32) -> bool
-    ensures { IsTrue result → 128 ≤ byte → 0 < len }
+fn is_covered(byte: usize, one: &Spelled) -> bool
+    ensures { IsTrue result → 128 ≤ byte → 0 < specs.count_of one.now }
 {
-    byte < 128 || len > 0
+    byte < 128 || count_of(one) > 0
+}
+
+/// Whether most letters of a table's languages are beyond ASCII.
+fn is_dense(table: Table) -> bool {
+    matches!(table, Table::Cyrillic | Table::Greek)
 }
 
 /// Of a chunk that was put up to here that front is taken which ends in a whole cell.
@@ -92,14 +101,18 @@ impl Spelling {
     pub(crate) fn new(table: Table) -> Spelling
         ensures { specs.Spells table 256 result.all result.whole }
     {
-        let mut all = [Spelled::NONE; 256];
+        let mut all = [[0; 4]; 256];
         let mut whole = true;
         for place in 0..256 {
             let one = spell(table, place as u8);
             all[place] = one;
-            whole &= is_covered(place, one.len);
+            whole &= is_covered(place, &one);
         }
-        Spelling { all, whole }
+        Spelling {
+            all,
+            whole,
+            dense: is_dense(table),
+        }
     }
 
     /// What goes out of a byte is put into a room, and tells up to where it is filled then.
@@ -111,19 +124,21 @@ impl Spelling {
         ensures few { result ≤ end + 4 }
     {
         let one = self.all[usize::from(byte)];
-        room[end..end + 4].copy_from_slice(&one.bytes);
-        end + one.len as usize
+        room[end..end + 4].copy_from_slice(&one);
+        end + count_of(&one)
     }
 
     /// What goes out of these bytes, one after another, is put into a room.
     #[inline]
     fn put_each(&self, reader: &Reader, bytes: &[u8], room: &mut [u8], end: usize) -> usize
         requires serves { specs.Serves self.now reader.now }
-        requires room { end + 4 * length bytes.now ≤ length room.old }
+        requires begins { end < 2048 }
+        requires few { length bytes.now ≤ 32 }
+        requires room { 2176 ≤ length room.old }
         ensures put { specs.Puts room.old end room.new result (specs.bytes_of reader.now.table bytes.now) }
         ensures few { result ≤ end + 4 * length bytes.now }
     {
-        let mut to = end;
+        let mut to = end % BEGIN;
         for byte in bytes {
             to = self.put(reader, *byte, room, to);
         }
@@ -136,7 +151,8 @@ impl Spelling {
         requires serves { specs.Serves self.now reader.now }
         requires some { specs.AllSpelled self.now.all bytes.now }
         requires eight { length bytes.now ≡ 8 }
-        requires room { end + 32 ≤ length room.old }
+        requires begins { end < 2048 }
+        requires room { 2176 ≤ length room.old }
         ensures put { specs.Puts room.old end room.new result (specs.bytes_of reader.now.table bytes.now) }
         ensures few { result ≤ end + 32 }
     {
@@ -150,11 +166,13 @@ impl Spelling {
     }
 
     /// The same of all pieces of a chunk.
+    #[inline(never)]
     fn put_chunk(&self, reader: &Reader, bytes: &[u8], room: &mut [u8], end: usize) -> usize
         requires serves { specs.Serves self.now reader.now }
         requires some { specs.AllSpelled self.now.all bytes.now }
         requires chunk { length bytes.now ≡ 32 }
-        requires room { end + 128 ≤ length room.old }
+        requires begins { end ≤ 1408 }
+        requires room { 2176 ≤ length room.old }
         ensures put { specs.Puts room.old end room.new result (specs.bytes_of reader.now.table bytes.now) }
         ensures few { result ≤ end + 128 }
     {
@@ -167,6 +185,36 @@ impl Spelling {
         to
     }
 
+    /// The same of a chunk, byte by byte: for few of its pieces are of ASCII.
+    #[inline(never)]
+    fn put_dense(&self, reader: &Reader, bytes: &[u8], room: &mut [u8], end: usize) -> usize
+        requires serves { specs.Serves self.now reader.now }
+        requires chunk { length bytes.now ≡ 32 }
+        requires begins { end ≤ 1408 }
+        requires room { 2176 ≤ length room.old }
+        ensures put { specs.Puts room.old end room.new result (specs.bytes_of reader.now.table bytes.now) }
+        ensures few { result ≤ end + 128 }
+    {
+        self.put_each(reader, bytes, room, end)
+    }
+
+    /// What goes out of a chunk is put into a room.
+    #[inline]
+    fn put_whole(&self, reader: &Reader, bytes: &[u8], room: &mut [u8], end: usize) -> usize
+        requires serves { specs.Serves self.now reader.now }
+        requires some { specs.AllSpelled self.now.all bytes.now }
+        requires chunk { length bytes.now ≡ 32 }
+        requires begins { end ≤ 1408 }
+        requires room { 2176 ≤ length room.old }
+        ensures put { specs.Puts room.old end room.new result (specs.bytes_of reader.now.table bytes.now) }
+        ensures few { result ≤ end + 128 }
+    {
+        if self.dense {
+            return self.put_dense(reader, bytes, room, end);
+        }
+        self.put_chunk(reader, bytes, room, end)
+    }
+
     /// One cell goes out: that of a byte, or an underlined one. Nothing is taken where there is none.
     fn put_cell(&self, reader: &Reader, bytes: &[u8], room: &mut [u8], end: usize) -> Reached
         requires serves { specs.Serves self.now reader.now }
@@ -175,7 +223,7 @@ impl Spelling {
         ensures { specs.Goes reader.now bytes.now result.taken room.old end room.new result.end }
     {
         let byte = bytes[0];
-        if !is_begun(byte) && self.all[usize::from(byte)].len > 0 {
+        if !is_begun(byte) && count_of(&self.all[usize::from(byte)]) > 0 {
             let end = self.put(reader, byte, room, end);
             return Reached { taken: 1, end };
         }
@@ -215,15 +263,15 @@ impl Spelling {
         requires seen { 34 ≤ length bytes.now }
         ensures { specs.IsAhead self.now reader.now result bytes.now }
     {
-        let kind = kind_of(&bytes[..CHUNK]);
-        if matches!(kind, Kind::Plain) {
-            return kind;
+        let chunk = &bytes[..CHUNK];
+        if are_shown(chunk) {
+            return Kind::Plain;
         }
         if !self.whole {
             return Kind::Other;
         }
-        if matches!(kind, Kind::Cells) {
-            return kind;
+        if may_all_stand(chunk) {
+            return Kind::Cells;
         }
         let mut seen = [0; SEEN];
         seen.copy_from_slice(&bytes[..SEEN]);
@@ -237,8 +285,10 @@ impl Spelling {
     fn put_some(&self, reader: &Reader, bytes: &[u8], room: &mut [u8], end: usize) -> Reached
         requires serves { specs.Serves self.now reader.now }
         requires seen { 34 ≤ length bytes.now }
-        requires room { end + 4 * length bytes.now ≤ length room.old }
-        ensures { specs.Goes reader.now bytes.now result.taken room.old end room.new result.end }
+        requires begins { end ≤ 1408 }
+        requires room { 2176 ≤ length room.old }
+        ensures goes { specs.Goes reader.now bytes.now result.taken room.old end room.new result.end }
+        ensures few { result.taken ≤ 32 }
     {
         let chunk = &bytes[..CHUNK];
         match self.kind_ahead(reader, bytes) {
@@ -247,22 +297,26 @@ impl Spelling {
                 cut(chunk, end + CHUNK)
             }
             Kind::Cells => {
-                let to = self.put_chunk(reader, chunk, room, end);
+                let to = self.put_whole(reader, chunk, room, end);
                 cut(chunk, to)
             }
             Kind::Other => self.put_cells(reader, chunk, room, end),
         }
     }
 
-    /// Those of these bytes that come first and are cells go out.
+    /// Those of these bytes that come first and are cells go out, as long as the room isn't full.
     pub(crate) fn put_all(&self, reader: &Reader, bytes: &[u8], room: &mut [u8]) -> Reached
         requires serves { specs.Serves self.now reader.now }
-        requires room { 4 * length bytes.now ≤ length room.old }
-        ensures { specs.Goes reader.now bytes.now result.taken room.old 0 room.new result.end }
+        requires room { 2176 ≤ length room.old }
+        ensures goes { specs.Goes reader.now bytes.now result.taken room.old 0 room.new result.end }
+        ensures few { result.end ≤ 1536 }
     {
         let mut taken = 0;
         let mut end = 0;
         while bytes.len() - taken >= SEEN {
+            if end > FULL {
+                return Reached { taken, end };
+            }
             let some = self.put_some(reader, &bytes[taken..], room, end);
             taken += some.taken;
             end = some.end;

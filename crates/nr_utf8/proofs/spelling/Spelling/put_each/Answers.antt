@@ -1,6 +1,15 @@
-use Rattle.std.proofs.Common.{arith}
+use Rattle.std.proofs.Common.{◌≡◌, ℕ, ◌%◌, take, ap, sym, ◌∙◌, append-nil, arith}
 use Rattle.nr_utf8.proofs.CellsAlone.{Puts-next}
 use Rattle.nr_utf8.proofs.spelling.Spelling.put_each.Goals as goal
+
+pub loop-byte-init : goal.loop-byte-init
+loop-byte-init c =
+    let begins = c.requires.begins in
+    let same : c.args.end % 2048 ≡ c.args.end = omega (arith, begins) in
+    record {
+      put = ap (λ (n : ℕ). take n c.args.room.now) same ∙ sym (append-nil (take c.args.end c.args.room.now));
+      few = omega (arith, same);
+    }
 
 pub loop-byte-preserved : goal.loop-byte-preserved
 loop-byte-preserved c =
