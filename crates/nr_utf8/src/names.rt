@@ -4,7 +4,7 @@
 pub(crate) type Name = (u8, u8, char);
 
 /// Letters of `latin`, and letters and signs of `english`, that another table lacks.
-pub(crate) static NAMES: [Name; 43] = [
+pub(crate) static NAMES: [Name; 45] = [
     (b'o', b'e', 'œ'),
     (b'/', b'L', 'Ł'),
     (b'/', b'l', 'ł'),
@@ -44,6 +44,8 @@ pub(crate) static NAMES: [Name; 43] = [
     (b'<', b'>', '↔'),
     (b'l', b'a', '⟨'),
     (b'r', b'a', '⟩'),
+    (b'l', b'A', '⇐'),
+    (b'c', b'i', '○'),
     (b'd', b'g', '†'),
     (b'd', b'd', '‡'),
     (b'p', b's', '¶'),
