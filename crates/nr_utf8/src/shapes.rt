@@ -91,7 +91,7 @@ pub(crate) fn is_begun(byte: u8) -> bool
 }
 
 /// How many of these bytes stand before a cell that may go on behind them.
-#[inline]
+#[inline(always)]
 pub(crate) fn whole_front(bytes: &[u8]) -> usize
     ensures { specs.IsWhole result bytes.now }
 {

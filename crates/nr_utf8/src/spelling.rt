@@ -83,7 +83,7 @@ fn is_dense(table: Table) -> bool {
 }
 
 /// Of a chunk that was put up to here that front is taken which ends in a whole cell.
-#[inline]
+#[inline(always)]
 fn cut(chunk: &[u8], to: usize) -> Reached
     requires { length chunk.now ≤ to }
     ensures whole { IsWhole result.taken chunk.now }
@@ -159,7 +159,7 @@ impl Spelling {
         let mut piece = [0; PIECE];
         piece.copy_from_slice(bytes);
         if are_low(&piece) {
-            room[end..end + PIECE].copy_from_slice(bytes);
+            room[end..end + PIECE].copy_from_slice(&piece);
             return end + PIECE;
         }
         self.put_each(reader, bytes, room, end)
