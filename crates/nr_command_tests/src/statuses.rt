@@ -1,9 +1,9 @@
-// The status and the line of runs: with a fault at every byte, with a flush that fails, of prefixes of a text, and with
-// allocations that are refused.
+// The status and the line of runs: with a fault at every byte, with a flush that fails, and with allocations that are
+// refused.
 
 use nr_command::run_over;
-use nr_engine::{Buffered, CountedAlloc, Desk, Limits, Options, Source, ToWriter};
-use nr_units::fakes::{Script, Shut, Slate};
+use nr_engine::{CountedAlloc, Desk, Limits, Options, ToWriter};
+use nr_units::fakes::{Script, Slate};
 use std::alloc::Global;
 use std::process::Abort;
 use std::test::Fail;
@@ -157,40 +157,4 @@ fn writer_that_takes_no_byte(rt: HostRuntime) {
     );
     assert_eq!(rt; status, 4);
     assert!(rt; errors.bytes() == b"nroff: write fault\n".as_slice());
-}
-
-// Each front of a text is a text, in one piece and byte by byte.
-#[test]
-fn every_front_as_input(rt: HostRuntime) {
-    for len in 0..=TITLED.len() {
-        let front = &TITLED[..len];
-        let mut room = [0; 80];
-        let mut output = Slate::over(&mut room);
-        let mut whole = Script::new(front);
-        let status = plain_run(&rt, rt.alloc(), &mut whole, &mut output);
-        assert_eq!(rt; status, 0, "{len} bytes");
-        let mut other = [0; 80];
-        let mut again = Slate::over(&mut other);
-        let mut one = [0; 1];
-        let mut bytewise = Buffered::over(front, &mut one);
-        let status = plain_run(&rt, rt.alloc(), &mut bytewise, &mut again);
-        assert_eq!(rt; status, 0, "{len} bytes, one by one");
-        assert!(rt; output.bytes() == again.bytes(), "{len} bytes");
-    }
-}
-
-/// The status of a run that tells nothing.
-fn plain_run<R: Source>(
-    rt: &impl Abort,
-    alloc: Global,
-    input: &mut R,
-    output: &mut Slate<'_>,
-) -> u8 {
-    let limits = Limits::new(1024, 4, 100, 10).unwrap();
-    let desk = Desk::new(&mut CountedAlloc::new(alloc), limits);
-    assert!(rt; desk.is_ok());
-    let mut errors = Shut::new();
-    let status = run_over(desk, &Options::plain(), input, output, &mut errors);
-    assert_eq!(rt; errors.failed_puts(), 0);
-    status
 }

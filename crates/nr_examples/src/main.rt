@@ -1,9 +1,9 @@
 //! Examples: inputs of the formatter with the pages that they must give, as files in data/, NAME.roff and NAME.out.
 //! data/rows lists those that end under the limits by default, data/rows_with_limits the others, with their limits and
-//! their ends; data/rows_of_tables lists inputs that go through tbl first, with their limits and what that reports. The
-//! program runs them. Those with faults of their own are tests of nr_fault_tests.
+//! their ends; data/rows_of_tables lists inputs that go through tbl first, with their limits and what that reports;
+//! data/rows_with_faults lists inputs that are run with a fault at every byte. The program runs them.
 //!
-//! It stands on nr_units, nr_characters, nr_engine and nr_tables. To read: this file, `limits`, `tables`.
+//! It stands on nr_units, nr_characters, nr_engine and nr_tables. To read: this file, `limits`, `tables`, `faults`.
 #![tactic(auto)]
 
 use nr_engine::{Buffered, CountedAlloc, Desk, Limits, Options, Outcome, Sink, Source, format};
@@ -12,6 +12,7 @@ use std::alloc::{AllocError, Global};
 use std::fs;
 use std::rt::Files;
 
+mod faults;
 mod limits;
 mod tables;
 
@@ -29,6 +30,8 @@ fn main(rt: HostRuntime) -> anyhow::Result<()> {
     println!(rt; "{limited} rows with limits")?;
     let turned = rows_of_tables(&rt)?;
     println!(rt; "{turned} rows of tables")?;
+    let faulty = rows_with_faults(&rt)?;
+    println!(rt; "{faulty} rows with faults")?;
     Ok(())
 }
 
@@ -94,6 +97,27 @@ fn rows_of_tables_at<R: Files + AllocGlobal + Print>(
     let mut passed = 0u64;
     for line in list.lines() {
         if tables::passes(rt, desk, turner, line)? {
+            passed = passed.saturating_add(1);
+        }
+    }
+    Ok(passed)
+}
+
+/// How many of the rows with faults pass. One desk serves all of their runs.
+fn rows_with_faults<R: Files + AllocGlobal + Print>(rt: &R) -> anyhow::Result<u64> {
+    let mut desk = Desk::new(&mut CountedAlloc::new(rt.alloc()), Limits::default())?;
+    rows_with_faults_at(rt, &mut desk)
+}
+
+/// The same at this desk.
+fn rows_with_faults_at<R: Files + AllocGlobal + Print>(
+    rt: &R,
+    desk: &mut Desk,
+) -> anyhow::Result<u64> {
+    let list = fs::read_to_string(rt, "rows_with_faults")?;
+    let mut passed = 0u64;
+    for line in list.lines() {
+        if faults::passes(rt, desk, line)? {
             passed = passed.saturating_add(1);
         }
     }

@@ -1,0 +1,155 @@
+// Rows with faults: an input that fails after each of its bytes, an output that takes so many bytes of the pages and no
+// more, and each prefix of the input as an input of its own.
+
+use super::formatted;
+use nr_engine::{Buffered, Desk, Outcome, Source, ToWriter};
+use nr_units::fakes::{Script, Slate};
+use std::fs;
+use std::rt::Files;
+
+/// More than a row, or a prefix of its input, prints.
+const MOST_BYTES: usize = 512;
+
+/// A row.
+#[derive(Clone, Copy)]
+struct Row<'a> {
+    input: &'a [u8],
+    pages: &'a [u8],
+    /// Where pages end, as in `387 85, 508 158`: how many bytes of the input are read then, and how many are printed; but
+    /// for what ends at the end of the input.
+    ends: &'a str,
+}
+
+/// Whether a row meets each fault as it must: its line is a name and, behind a colon, where its pages end. Prints its name
+/// where it does not.
+pub(crate) fn passes<R: Files + AllocGlobal + Print>(
+    rt: &R,
+    desk: &mut Desk,
+    line: &str,
+) -> anyhow::Result<bool> {
+    let (name, ends) = line
+        .split_once(": ")
+        .ok_or(anyhow::anyhow!("no end: {line}"))?;
+    let input = fs::read(rt, format!(in rt.alloc(); "{name}.roff")?)?;
+    let pages = fs::read(rt, format!(in rt.alloc(); "{name}.out")?)?;
+    let row = Row {
+        input: &input,
+        pages: &pages,
+        ends,
+    };
+    let good = meets_faults(desk, row)?;
+    if !good {
+        println!(rt; "other pages or another end at a fault: {name}")?;
+    }
+    Ok(good)
+}
+
+/// Whether a row meets each fault as it must, and gives its pages after all of them.
+fn meets_faults(desk: &mut Desk, row: Row<'_>) -> anyhow::Result<bool> {
+    let met = input_fails(desk, row)? && output_fails(desk, row) && writer_fills(desk, row);
+    let mut input = Script::new(row.input);
+    Ok(
+        met && prefixes_agree(desk, row.input)
+            && gives(desk, &mut input, row.pages.len(), Outcome::Done, row.pages),
+    )
+}
+
+/// Whether the pages that had ended are out where the input fails after any number of bytes, and that is reported.
+fn input_fails(desk: &mut Desk, row: Row<'_>) -> anyhow::Result<bool> {
+    for given in 0..=row.input.len() {
+        let printed = prefix(row.pages, printed_after(row.ends, given)?);
+        let mut input = Script::failing_after(row.input, given);
+        let outcome = Outcome::ReadFault { at: given as u64 };
+        if !gives(desk, &mut input, MOST_BYTES, outcome, printed) {
+            return Ok(false);
+        }
+    }
+    Ok(true)
+}
+
+/// How much is printed where the input fails after so many bytes.
+fn printed_after(ends: &str, given: usize) -> anyhow::Result<usize> {
+    let mut printed = 0;
+    for end in ends.split(", ") {
+        let (read, written) = end
+            .split_once(' ')
+            .ok_or(anyhow::anyhow!("no end of a page: {end}"))?;
+        if read.parse::<usize>()? <= given {
+            printed = written.parse::<usize>()?;
+        }
+    }
+    Ok(printed)
+}
+
+/// Whether just so many bytes of the pages are out where the output takes no more, and that is reported.
+fn output_fails(desk: &mut Desk, row: Row<'_>) -> bool {
+    for taken in 0..row.pages.len() {
+        let mut input = Script::new(row.input);
+        let printed = prefix(row.pages, taken);
+        if !gives(desk, &mut input, taken, Outcome::WriteFault, printed) {
+            return false;
+        }
+    }
+    true
+}
+
+/// The same of a writer of std that is full: it takes no byte of the next write, and answers no error.
+fn writer_fills(desk: &mut Desk, row: Row<'_>) -> bool {
+    for taken in 0..row.pages.len() {
+        let mut bytes = [0u8; MOST_BYTES];
+        let taken = taken.min(MOST_BYTES);
+        let mut output = ToWriter::over(&mut bytes[..taken]);
+        let mut input = Script::new(row.input);
+        let outcome = formatted(desk, &mut input, &mut output);
+        if outcome != Outcome::WriteFault || &bytes[..taken] != prefix(row.pages, taken) {
+            return false;
+        }
+    }
+    true
+}
+
+/// Whether each prefix of an input is one, and gives the same pages in one piece and byte by byte.
+fn prefixes_agree(desk: &mut Desk, input: &[u8]) -> bool {
+    for len in 0..=input.len() {
+        if !agrees(desk, prefix(input, len)) {
+            return false;
+        }
+    }
+    true
+}
+
+/// Whether an input gives the same pages in one piece and byte by byte.
+fn agrees(desk: &mut Desk, input: &[u8]) -> bool {
+    let mut bytes = [0u8; MOST_BYTES];
+    let mut output = Slate::over(&mut bytes);
+    let outcome = formatted(desk, &mut Script::new(input), &mut output);
+    let mut one = [0u8; 1];
+    let mut bytewise = Buffered::over(input, &mut one);
+    outcome == Outcome::Done
+        && gives(
+            desk,
+            &mut bytewise,
+            MOST_BYTES,
+            Outcome::Done,
+            output.bytes(),
+        )
+}
+
+/// Whether an input ends so and prints just these bytes, where the output takes so many and no more.
+fn gives<R: Source>(
+    desk: &mut Desk,
+    input: &mut R,
+    takes: usize,
+    outcome: Outcome,
+    printed: &[u8],
+) -> bool {
+    let mut bytes = [0u8; MOST_BYTES];
+    let mut output = Slate::over(&mut bytes[..takes.min(MOST_BYTES)]);
+    let came = formatted(desk, input, &mut output);
+    came == outcome && output.bytes() == printed
+}
+
+/// The first so many bytes, or all.
+fn prefix(bytes: &[u8], len: usize) -> &[u8] {
+    &bytes[..len.min(bytes.len())]
+}
