@@ -5,6 +5,7 @@ use Prim.Native.Char.{code}
 use Rattle.nr_mdoc.specs.declared.acts.Act.{Act}
 use Rattle.nr_mdoc.specs.declared.acts.Act.TheVariants as acts
 use Rattle.nr_mdoc.specs.declared.acts.Request.TheVariants as requests
+use Rattle.nr_mdoc.specs.declared.acts.Sized.TheVariants as sizes
 use Rattle.nr_mdoc.specs.declared.acts.Stack.TheVariants.{Opens}
 use Rattle.nr_mdoc.specs.declared.macros.Macro.{Macro}
 use Rattle.nr_mdoc.specs.declared.macros.Macro.TheVariants as macros
@@ -14,8 +15,9 @@ use Rattle.nr_mdoc.specs.declared.page.Kind.TheVariants as kinds
 use Rattle.nr_mdoc.specs.declared.page.Page.{Page}
 use Rattle.nr_mdoc.specs.declared.page.Scan.{Scan}
 use Rattle.nr_mdoc.specs.declared.page.Scan.TheVariants as scans
-use Rattle.nr_mdoc.specs.Blocks.{block_opens, fresh_block, hang, indent, inner, is_literal, space, with_literal}
+use Rattle.nr_mdoc.specs.Blocks.{block_opens, fresh_block, indent, inner, is_literal, space, stops, with_literal}
 use Rattle.nr_mdoc.specs.Calls.{is_due, is_due_from, is_none, leaves, with_scan}
+use Rattle.nr_mdoc.specs.Columns.{gap, hang_of}
 use Rattle.nr_mdoc.specs.Keeping.{ends_word}
 use Rattle.nr_mdoc.specs.Laying.{with_lay}
 use Rattle.nr_mdoc.specs.Lines.{begins, closes_last, end_of, ended_seen, ends, last_act, line_ends, turned}
@@ -123,14 +125,14 @@ space_word : (t : Bool) (q : Page) → (part_of (space t) q).word ≡ []
 space_word true q = refl
 space_word false q = refl
 
-list_over : (t : Bool) (p : Page) → p.marks ≡ []
-    → Over (met p (if t then three (space p.block.compact) (indent p) (hang p) else left (indent p)))
+columns_over : (t : Bool) (p : Page) → p.marks ≡ []
+    → Over (met p (three (space p.block.compact) (indent p) (if t then acts.Sized sizes.Inner (hang_of p.block) else acts.Stops (gap p.block.columns) (hang_of p.block))))
 unfolding line_over is_laid is_quiet
-list_over true p none = record {
+columns_over true p none = record {
   page = p;
   x = space p.block.compact;
   y = indent p;
-  z = hang p;
+  z = acts.Sized sizes.Inner (hang_of p.block);
   is = refl;
   marks = none;
   laid_x = space_laid p.block.compact;
@@ -140,6 +142,25 @@ list_over true p none = record {
   no_y = λ q. refl;
   no_z = λ q. refl;
 }
+columns_over false p none = record {
+  page = p;
+  x = space p.block.compact;
+  y = indent p;
+  z = acts.Stops (gap p.block.columns) (hang_of p.block);
+  is = refl;
+  marks = none;
+  laid_x = space_laid p.block.compact;
+  laid_y = refl;
+  laid_z = refl;
+  no_x = space_word p.block.compact;
+  no_y = λ q. refl;
+  no_z = λ q. refl;
+}
+
+list_over : (t : Bool) (p : Page) → p.marks ≡ []
+    → Over (met p (if t then three (space p.block.compact) (indent p) (stops p) else left (indent p)))
+unfolding is_laid is_quiet
+list_over true p none = columns_over (p.block.columns == 0) p none
 list_over false p none = over_two p (indent p) acts.Nothing none refl refl (λ q. refl) (λ q. refl)
 
 display_over : (t : Bool) (p : Page) → p.marks ≡ []

@@ -47,6 +47,7 @@ is_quiet acts.Fresh = true
 is_quiet (acts.Sized sized n) = true
 is_quiet (acts.Tag width) = true
 is_quiet (acts.Numbered n width) = true
+is_quiet (acts.Stops gap hang) = true
 is_quiet acts.Subsection = true
 is_quiet act = false
 
@@ -100,6 +101,7 @@ quiet-page acts.Fresh p h = (_, refl)
 quiet-page (acts.Sized sized n) p h = sized_page sized p
 quiet-page (acts.Tag width) p h = (_, refl)
 quiet-page (acts.Numbered n width) p h = (_, refl)
+quiet-page (acts.Stops gap hang) p h = (_, refl)
 quiet-page acts.Subsection p h = (_, refl)
 quiet-page act p h = never h
 
@@ -125,6 +127,7 @@ quiet-word acts.Fresh p h = refl
 quiet-word (acts.Sized sized n) p h = refl
 quiet-word (acts.Tag width) p h = refl
 quiet-word (acts.Numbered n width) p h = refl
+quiet-word (acts.Stops gap hang) p h = refl
 quiet-word acts.Subsection p h = refl
 quiet-word act p h = never h
 

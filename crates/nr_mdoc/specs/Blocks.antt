@@ -1,5 +1,5 @@
 -- Lists, their items, and displays (mdoc(7), Bl, It, El, Bd, Ed, D1, Dl).
-use Rattle.std.specs.Prelude.{ℕ, ◌+◌, ◌-◌, Bool, true, false, not, ◌&&◌, ◌||◌, nat_lt, if◌then◌else◌, Option, None, Some}
+use Rattle.std.specs.Prelude.{ℕ, ◌+◌, ◌-◌, Bool, true, false, not, ◌==◌, ◌&&◌, ◌||◌, nat_lt, if◌then◌else◌, Option, None, Some}
 use Rattle.nr_mdoc.specs.declared.acts.Act.{Act}
 use Rattle.nr_mdoc.specs.declared.acts.Act.TheVariants as acts
 use Rattle.nr_mdoc.specs.declared.acts.Request.TheVariants as requests
@@ -14,6 +14,7 @@ use Rattle.nr_mdoc.specs.declared.page.Kind.{Kind}
 use Rattle.nr_mdoc.specs.declared.page.Kind.TheVariants as kinds
 use Rattle.nr_mdoc.specs.declared.page.Page.{Page}
 use Rattle.nr_mdoc.specs.declared.seen.Seen.{Seen}
+use Rattle.nr_mdoc.specs.Columns.{gap, hang_of}
 use Rattle.nr_mdoc.specs.Options.{at_most, is_column, none}
 use Rattle.nr_mdoc.specs.Seeing.{Met, met, left, two, three, with_stack}
 
@@ -74,14 +75,16 @@ block_opens kind p =
 abbrev pub indent : Page → Act
 indent p = acts.Sized sizes.Indent (at_most 999 p.block.offset)
 
--- how far the last column stands from the first
-abbrev pub hang : Page → Act
-hang p = acts.Sized sizes.Inner (at_most 999 p.block.hang)
+-- where its columns stand
+abbrev pub stops : Page → Act
+stops p =
+    if p.block.columns == 0 then acts.Sized sizes.Inner (hang_of p.block)
+    else acts.Stops (gap p.block.columns) (hang_of p.block)
 
 abbrev pub list_begins : Page → Met
 list_begins p =
     met p (if is_column p.block.kind
-    then three (space p.block.compact) (indent p) (hang p) else left (indent p))
+    then three (space p.block.compact) (indent p) (stops p) else left (indent p))
 
 abbrev pub is_literal : Kind → Bool
 is_literal kinds.Literal = true

@@ -3,7 +3,7 @@ use Rattle.std.specs.Prelude.{[], ◌∷◌, true, false, codes}
 use Rattle.nr_mdoc.specs.declared.acts.Act.{Act}
 use Rattle.nr_mdoc.specs.declared.acts.Act.TheVariants as acts
 use Rattle.nr_mdoc.specs.declared.page.Page.{Page}
-use Rattle.nr_mdoc.specs.Columns.{column_text, put_cell, put_row}
+use Rattle.nr_mdoc.specs.Columns.{column_text, put_cell, put_row, put_stops}
 use Rattle.nr_mdoc.specs.Laying.{Laid, laid, with_lay, put, is_joined, end_line, lay_word}
 use Rattle.nr_mdoc.specs.OwnLines.{freshen, end_tag, quiet_down, put_space, put_request, put_sized, put_hanging, put_tag, put_numbered, put_title, end_title, put_head, put_control}
 use Rattle.nr_mdoc.specs.References.{put_part_begin, put_reference}
@@ -23,7 +23,8 @@ lay_request acts.Title p = put_title p
 lay_request acts.TitleEnds p = end_title p
 lay_request acts.Section p = put_head (codes ".SH") p
 lay_request acts.Subsection p = put_head (codes ".SS") p
-lay_request acts.Columns p = put_head (codes ".ta") p
+lay_request acts.Columns p = put_head (codes ".ds %c") p
+lay_request (acts.Stops gap hang) p = put_stops gap hang p
 lay_request (acts.Column width) p = laid p (column_text width)
 lay_request acts.Cell p = put_cell p
 lay_request acts.Row p = put_row p

@@ -219,14 +219,14 @@ abbrev pub added_column : ℕ → Page → Page
 added_column width p =
     record p { block = with_column width p.block; lay = record p.lay { cell = 0 } }
 
--- tab stops, one after the other
+-- widths, one after the other
 abbrev pub tab_stop : ℕ → Page → Met
 tab_stop width p =
     if wants_column p.call.wanted then met p (left (acts.Column width)) else
     met (record p { call = record p.call { wanted = wanteds.Column } }) (two acts.Columns (acts.Column width))
 
 abbrev pub column_width : Page → ℕ
-column_width p = at_most 900 p.call.width + 4
+column_width p = at_most 900 p.call.width
 
 abbrev pub column : Page → Met
 column p =

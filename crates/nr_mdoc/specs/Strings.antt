@@ -34,12 +34,16 @@ takes_strings scans.Dropped = false
 takes_strings (scans.Ignored d) = false
 takes_strings scan = true
 
+-- names of one letter
+abbrev pub named_by_one : ℕ → Next
+named_by_one b =
+    if b == code "q" then Says (code "\\") (code "(") (code "d") (code "q") else
+    if b == code "R" then Says (code "\\") (code "(") (code "r") (code "g") else Breaks
+
 abbrev pub behind_star : ℕ → Next
 behind_star b =
     if b == code "(" then Waits pendings.Open else
-    if b == code "[" then Waits pendings.Bracket else
-    if b == code "q" then Says (code "\\") (code "(") (code "d") (code "q") else
-    if b == code "R" then Says (code "\\") (code "(") (code "r") (code "g") else Breaks
+    if b == code "[" then Waits pendings.Bracket else named_by_one b
 
 -- what a byte does to what was read of an escape, or begins
 abbrev pub met_by : Pending → ℕ → Bool → Next
@@ -49,5 +53,5 @@ met_by pendings.Star b takes = behind_star b
 met_by pendings.Open b takes = Waits (pendings.Pair b)
 met_by (pendings.Pair a) b takes = named a b
 met_by pendings.Bracket b takes = Waits (pendings.One b)
-met_by (pendings.One a) b takes = Waits (pendings.Two a b)
+met_by (pendings.One a) b takes = if b == code "]" then named_by_one a else Waits (pendings.Two a b)
 met_by (pendings.Two a c) b takes = if b == code "]" then named a c else Breaks

@@ -185,10 +185,12 @@ pub(crate) enum Act {
     Subsection,
     /// A request of the page itself: its control character and its name, which is the word.
     Control,
-    /// Tab stops begin.
+    /// The widths of columns begin.
     Columns,
-    /// A tab stop after the ones before.
+    /// The width of a column.
     Column(u16),
+    /// Tab stops, by the space after each column, and how far the last column stands from the first.
+    Stops(u16, u16),
     /// A cell of a table ends.
     Cell,
     /// A row of columns begins.

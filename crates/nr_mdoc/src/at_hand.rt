@@ -35,7 +35,9 @@ fn passing_in(scan: Scan, bytes: &[u8]) -> usize
 impl Reader {
     /// The page is not known to be one of mdoc.
     #[inline]
-    pub(crate) fn is_asleep(&self) -> bool {
+    pub(crate) fn is_asleep(&self) -> bool
+        ensures { result ≡ specs.is_asleep self.now.page.scan }
+    {
         matches!(self.page.scan, Scan::Asleep(_, _) | Scan::Passes)
     }
 

@@ -4,6 +4,7 @@ ghost use Rattle.nr_mdoc.specs.Seeing.{met};
 ghost use Rattle.nr_mdoc.specs.Blocks as specs;
 
 use super::acts::{Act, Request, Sized, Stack, Text};
+use super::columns::{gap, hang_of};
 use super::macros::{Font, Macro};
 use super::options::at_most;
 use super::page::{Block, Kind, Page};
@@ -124,11 +125,15 @@ impl Page {
         Act::Sized(Sized::Indent, at_most(999, self.block.offset))
     }
 
-    /// How far the last column stands from the first.
-    fn hang(&self) -> Act
-        ensures { result ≡ specs.hang self.now }
+    /// Where its columns stand.
+    fn stops(&self) -> Act
+        ensures { result ≡ specs.stops self.now }
     {
-        Act::Sized(Sized::Inner, at_most(999, self.block.hang))
+        let hang = hang_of(self.block);
+        if self.block.columns == 0 {
+            return Act::Sized(Sized::Inner, hang);
+        }
+        Act::Stops(gap(self.block.columns), hang)
     }
 
     /// A list begins.
@@ -136,7 +141,7 @@ impl Page {
         ensures { met self.new result ≡ specs.list_begins self.old }
     {
         if matches!(self.block.kind, Kind::Column) {
-            return Seen::three(space(self.block.compact), self.indent(), self.hang());
+            return Seen::three(space(self.block.compact), self.indent(), self.stops());
         }
         Seen::left(self.indent())
     }

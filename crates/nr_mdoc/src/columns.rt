@@ -2,6 +2,7 @@
 ghost use Rattle.std.specs.Prelude.{◌≡◌, ◌+◌, ◌≤◌, ◌++◌, length};
 ghost use Rattle.nr_mdoc.specs.Columns as specs;
 
+use super::acts::Sized;
 use super::options::at_most;
 use super::own_lines::put_number;
 use super::page::{Block, Page};
@@ -13,6 +14,35 @@ fn stays_whole(cell: u16, block: Block) -> bool
     ensures { result ≡ specs.stays_whole cell block }
 {
     cell + 1 < block.columns
+}
+
+/// The space after each of so many columns.
+pub(crate) fn gap(columns: u16) -> u16
+    ensures value { result ≡ specs.gap columns }
+    ensures few { result ≤ 4 }
+{
+    match columns {
+        0..=4 => 4,
+        5 => 3,
+        _ => 1,
+    }
+}
+
+/// How far the last column stands from the first.
+pub(crate) fn hang_of(block: Block) -> u16
+    ensures value { result ≡ specs.hang_of block }
+    ensures few { result ≤ 999 }
+{
+    let between = gap(block.columns) * at_most(100, block.columns).saturating_sub(1);
+    at_most(999, at_most(999, block.hang) + between)
+}
+
+/// How wide it is, with the space after it.
+fn last_of(block: Block) -> u16
+    ensures value { result ≡ specs.last_of block }
+    ensures few { result ≤ 1003 }
+{
+    at_most(999, block.last) + gap(block.columns)
 }
 
 /// A request with a width.
@@ -31,14 +61,28 @@ fn put_moved(request: &[u8], width: u16, out: &mut SliceVec<'_, u8>)
 impl Page {
     /// A tab stop after the ones before.
     pub(crate) fn put_column(&self, width: u16, out: &mut SliceVec<'_, u8>)
-        requires { length out.old.items + 16 ≤ out.old.room }
+        requires { length out.old.items + 20 ≤ out.old.room }
         ensures items { out.new.items ≡ out.old.items ++ specs.column_text width }
-        ensures few { length out.new.items ≤ length out.old.items + 16 }
+        ensures few { length out.new.items ≤ length out.old.items + 20 }
         ensures room { out.new.room ≡ out.old.room }
     {
         out.extend(b" +");
         put_number(width, out);
-        out.push(b'n');
+        out.extend(b"n+\\\\n(%gu");
+    }
+
+    /// Tab stops of columns, and their text as far to the right as that of the last.
+    pub(crate) fn put_stops(&mut self, gap: u16, hang: u16, out: &mut SliceVec<'_, u8>)
+        requires { length out.old.items + 80 ≤ out.old.room }
+        ensures page { self.new ≡ (specs.put_stops gap hang self.old).page }
+        ensures items { out.new.items ≡ out.old.items ++ (specs.put_stops gap hang self.old).bytes }
+        ensures few { length out.new.items ≤ length out.old.items + 80 }
+        ensures room { out.new.room ≡ out.old.room }
+    {
+        self.put_sized(Sized::Inner, hang, out);
+        out.extend(b".nr %g ");
+        put_number(gap, out);
+        out.extend(b"n\n.ta \\*(%c\n");
     }
 
     /// Whether the row has a cell behind its last column.
@@ -58,9 +102,9 @@ impl Page {
     {
         self.freshen(out);
         if self.is_past() {
-            put_moved(b".in -", self.block.last, out);
+            put_moved(b".in -", last_of(self.block), out);
         }
-        put_moved(b".ti -", self.block.hang, out);
+        put_moved(b".ti -", hang_of(self.block), out);
         self.lay.cell = 0;
         self.lay.kept = stays_whole(0, self.block);
     }
@@ -77,7 +121,7 @@ impl Page {
         let columns = self.block.columns;
         if columns > 0 && cell == columns {
             out.extend(self.line_end());
-            put_moved(b"'in +", self.block.last, out);
+            put_moved(b"'in +", last_of(self.block), out);
         }
         out.push(b'\t');
         self.was_put();

@@ -429,7 +429,7 @@ impl Page {
         if !matches!(self.block.kind, Kind::Column) {
             return Seen::left(Act::Nothing);
         }
-        let width = at_most(900, self.call.width) + 4;
+        let width = at_most(900, self.call.width);
         self.adds_column(width);
         let act = Act::Column(width);
         if matches!(self.call.wanted, Wanted::Column) {

@@ -3,7 +3,7 @@ ghost use Rattle.std.specs.Prelude.{◌≡◌, ◌+◌, ◌<◌, ◌≤◌, List
 ghost use Rattle.std.specs.Io.KnownBytes.{Appends};
 ghost use Rattle.nr_units.specs.Failures.{counted_if, put_counted, put_counted_if};
 ghost use Rattle.nr_mdoc.specs.declared.page.Block.{Block as BlockValue};
-ghost use Rattle.nr_mdoc.specs.AtHand.{Passes};
+ghost use Rattle.nr_mdoc.specs.AtHand.{Passes, at_once, passing};
 ghost use Rattle.nr_mdoc.specs.Reading.{first_reader, state};
 ghost use Rattle.nr_mdoc.specs.Running as specs;
 
@@ -75,10 +75,11 @@ fn make_room<W: Sink>(out: &mut SliceVec<'_, u8>, output: &mut W) -> Result<(), 
     put_pending(out, output)
 }
 
-/// How many bytes at hand pass, so many at most.
+/// How many bytes at hand pass, so many at most: all that do of those that are looked at.
 fn passing_at_hand<R: Source>(reader: &Reader, input: &R, most: u64) -> usize
     ensures passes { (around : List BlockValue) → Passes (state reader.now around)
         (take result (R.at_hand input.now)) }
+    ensures all { result ≡ passing reader.now (at_once most (R.at_hand input.now)) }
     ensures within { result ≤ length (R.at_hand input.now) }
     ensures few { result ≤ most }
     ensures room { result ≤ 73984 }

@@ -85,6 +85,17 @@ fn takes_strings(scan: Scan) -> bool
     }
 }
 
+/// What a name of one letter does.
+fn named_by_one(name: u8) -> Next
+    ensures { result ≡ strings.named_by_one name }
+{
+    match name {
+        b'q' => Next::Says(b'\\', b'(', b'd', b'q'),
+        b'R' => Next::Says(b'\\', b'(', b'r', b'g'),
+        _ => Next::Breaks,
+    }
+}
+
 /// After a star.
 fn behind_star(byte: u8) -> Next
     ensures { result ≡ strings.behind_star byte }
@@ -92,9 +103,7 @@ fn behind_star(byte: u8) -> Next
     match byte {
         b'(' => Next::Waits(Pending::Open),
         b'[' => Next::Waits(Pending::Bracket),
-        b'q' => Next::Says(b'\\', b'(', b'd', b'q'),
-        b'R' => Next::Says(b'\\', b'(', b'r', b'g'),
-        _ => Next::Breaks,
+        _ => named_by_one(byte),
     }
 }
 
@@ -109,6 +118,7 @@ fn met_by(pending: Pending, byte: u8, takes: bool) -> Next
         Pending::Open => Next::Waits(Pending::Pair(byte)),
         Pending::Pair(first) => named(first, byte),
         Pending::Bracket => Next::Waits(Pending::One(byte)),
+        Pending::One(first) if byte == b']' => named_by_one(first),
         Pending::One(first) => Next::Waits(Pending::Two(first, byte)),
         Pending::Two(first, second) if byte == b']' => named(first, second),
         _ => Next::Breaks,
