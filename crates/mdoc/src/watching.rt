@@ -47,6 +47,7 @@ impl<'a> Watch<'a> {
     }
 
     /// A byte comes.
+    #[inline(always)]
     pub fn hear(&mut self, byte: u8)
         ensures { self.new ≡ specs.heard byte self.old }
     {
