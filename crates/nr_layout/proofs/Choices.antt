@@ -17,6 +17,9 @@ above_zero n h = grind (arith, nat_tests)
 pub some_of : {A : Type 0} (n : ℕ) (xs : List A) → 0 < n → (if n == 0 then [] else xs) ≡ xs
 some_of n xs h = other (n == 0) [] xs (above_zero n h)
 
+pub other_of : {A : Type 0} (n : ℕ) (xs ys : List A) → 0 < n → (if n == 0 then xs else ys) ≡ ys
+other_of n xs ys h = other (n == 0) xs ys (above_zero n h)
+
 -- which of two values
 pub taken : {A : Type 0} (b : Bool) (x y : A) → b ≡ true → (if b then x else y) ≡ x
 taken true x y h = refl

@@ -1,17 +1,17 @@
--- Where the lines of a table in a box end.
-use Rattle.std.proofs.Common.{◌≡◌, ℕ, ◌-◌, ◌≤◌, Bool, true, false, ◌==◌, ◌&&◌, ◌||◌, not, nat_le, nat_lt, List, [], ◌∷◌, ◌++◌, Option, None, Some, refl, ap, arith, ◌∙◌, if◌then◌else◌}
+-- Where the lines of a table end.
+use Rattle.std.proofs.Common.{◌≡◌, ℕ, ◌-◌, ◌≤◌, Bool, true, false, ◌==◌, ◌||◌, not, nat_le, nat_lt, List, [], ◌∷◌, ◌++◌, Option, None, Some, refl, ap, append-nil, arith, ◌∙◌, if◌then◌else◌}
 use Rattle.std.proofs.lemmas.Bool.Decides.{nat_tests}
 use Rattle.nr_layout.specs.declared.pen.Pen.{Pen}
 use Rattle.nr_layout.specs.declared.places.Mark.{Mark}
 use Rattle.nr_layout.specs.declared.places.Mark.TheVariants as marks
 use Rattle.nr_layout.specs.declared.places.Place.{Place}
 use Rattle.nr_layout.specs.declared.table.Table.{Table}
-use Rattle.nr_layout.specs.Drawing.{bar, crossing_byte, dash, go, row_cells, rule_cells, rule_end, some_bars, was_covered, was_ruled}
-use Rattle.nr_layout.specs.Ends.{EdgesEndTogether, RowsEndTogether, RulesEndTogether, end_of}
-use Rattle.nr_layout.specs.Frames.{bar_place, right_edge, table_end}
+use Rattle.nr_layout.specs.Drawing.{bar, crossing_byte, dash, ends_covered, go, row_cells, row_strokes, rule_cells, rule_end, some_bars, was_ruled}
+use Rattle.nr_layout.specs.Ends.{EdgesEndTogether, RowsEndTogether, RowsEndWithin, RulesEndTogether, end_of}
+use Rattle.nr_layout.specs.Frames.{bar_place, meeting, right_edge, table_end, width_end}
 use Rattle.nr_layout.specs.Held.{column, columns}
 use Rattle.nr_layout.specs.Pens.{Stroke, Start, after_all, bars, dashed_to, first, furthest, on_from, released, steps_from, to}
-use Rattle.nr_layout.specs.Places.{edge, is_same_mark, on, steps_between}
+use Rattle.nr_layout.specs.Places.{edge, is_same_mark, on, steps_between, sum}
 use Rattle.nr_layout.specs.Signs.{joint}
 use Rattle.nr_layout.proofs.Tapes.{after_all-append}
 
@@ -53,6 +53,9 @@ end_choice true le e t x h = refl
 end_choice false true e t x h = refl
 end_choice false false e t x h = cc
 
+equal_itself : (n : ℕ) → (n == n) ≡ true
+equal_itself n = grind (arith, nat_tests)
+
 le_itself : (n : ℕ) → nat_le n n ≡ true
 le_itself n = grind (arith, nat_tests)
 
@@ -78,15 +81,52 @@ rows_end_together t r line one w =
     ∙ ap (λ (q : Pen). q.at) (after_all-append (Start ∷ cells) (go t was (table_end t) ++ bars (joint t.signs true true was false) 1) first)
     ∙ last-at t was (joint t.signs true true was false) 1 (table_end t) (after_all (Start ∷ cells) first) w.place w.ends w.alike w.within
 
+-- no bar is drawn
+pub rows_end_within : RowsEndWithin
+rows_end_within t r line none w =
+    let was : Bool = was_ruled t r (columns t) in
+    let cells : List Stroke = row_cells (columns t) t r line in
+    let is : row_strokes t r line ≡ cells =
+    ap (λ (n : ℕ). cells ++ (if n == 0 then [] else some_bars t (columns t) was false n)) none ∙ append-nil cells in
+    record {
+      place = w.place;
+      ends = ap (λ (ss : List Stroke). end_of ss) is ∙ w.ends;
+      alike = w.alike;
+      within = w.within;
+    }
+
+same_itself : (mark : Mark) → is_same_mark mark mark ≡ true
+same_itself marks.Edge = refl
+same_itself (marks.End c) = equal_itself c
+same_itself (marks.Bar c) = equal_itself c
+same_itself (marks.Begin c) = equal_itself c
+
+within_number : (n m : ℕ) → sum n m ≤ 18446744073709551615
+within_number n m = omega arith
+
+end_number : (b : Bool) (p : Place) (n : ℕ) → (if b then edge else on n p).cells ≤ 18446744073709551615
+end_number true p n = omega arith
+end_number false p n = within_number p.cells n
+
+no_further : (n : ℕ) → n ≤ 18446744073709551615 → n ≤ sum n 1
+no_further n h = omega (arith, h)
+
+end_further : (t : Table) → (table_end t).cells ≤ (width_end t).cells
+end_further t = no_further (table_end t).cells (end_number (columns t == 0) (column t (columns t - 1)).right (right_edge t))
+
+-- a bar, or the rule goes on
+end-at : (t : Table) (none ruled : Bool) (b : ℕ) (p : Pen) → p.at ≡ Some (table_end t)
+    → (after_all (if none then go t ruled (width_end t) else bars b 1) p).at ≡ Some (width_end t)
+end-at t true ruled b p e = go-at t ruled (width_end t) p (table_end t) e (same_itself (table_end t).mark) (end_further t)
+end-at t false ruled b p e = bars-at b 1 p (table_end t) e
+
 pub rules_end_together : RulesEndTogether
-rules_end_together t above below line one w =
-    let ruled : Bool = not (was_covered t above below (columns t) && nat_lt 0 (columns t)) in
+rules_end_together t above below line w =
+    let ruled : Bool = not (ends_covered t above below) in
     let cells : List Stroke = rule_cells (columns t) t above below line in
     let b : ℕ = crossing_byte t above below (columns t) in
-    let is : rule_end t above below ≡ bars b 1 = ap (λ (n : ℕ). if n == 0 then [] else bars b 1) one in
-    ap (λ (ss : List Stroke). end_of (cells ++ go t ruled (table_end t) ++ ss)) is
-    ∙ ap (λ (q : Pen). q.at) (after_all-append (Start ∷ cells ++ go t ruled (table_end t)) (bars b 1) first)
-    ∙ bars-at b 1 (after_all (Start ∷ cells ++ go t ruled (table_end t)) first) (table_end t)
+    ap (λ (q : Pen). q.at) (after_all-append (Start ∷ cells ++ go t ruled (table_end t)) (rule_end t above below) first)
+    ∙ end-at t (meeting t above below (columns t) == 0) ruled b (after_all (Start ∷ cells ++ go t ruled (table_end t)) first)
     (ap (λ (q : Pen). q.at) (after_all-append (Start ∷ cells) (go t ruled (table_end t)) first)
     ∙ go-at t ruled (table_end t) (after_all (Start ∷ cells) first) w.place w.ends w.alike w.within)
 

@@ -8,8 +8,8 @@ use Rattle.nr_layout.specs.declared.table.Cell.{Cell}
 use Rattle.nr_layout.specs.declared.table.Form.{Form}
 use Rattle.nr_layout.specs.declared.table.Form.TheVariants as forms
 use Rattle.nr_layout.specs.declared.table.Table.{Table}
-use Rattle.nr_layout.specs.Drawing.{bar, bars_cell, bars_cells, bars_strokes, begin_at, begin_of, content, crossing, crossing_begin, crossing_byte, dash, edge_strokes, falling, field_in, field_rule, field_strokes, field_text, first_of, go, going_on, is_ruled, row_cell, row_cells, row_strokes, rule_begin, rule_cell, rule_cells, rule_end, rule_strokes, shown_width, some_bars, some_crossing, stands_on, text_strokes, was_covered, was_ruled, whole}
-use Rattle.nr_layout.specs.Frames.{bar_place, bars_of, is_covered, meeting, table_end}
+use Rattle.nr_layout.specs.Drawing.{bar, bars_cell, bars_cells, bars_strokes, begin_at, begin_of, content, crossing, crossing_begin, crossing_byte, dash, edge_strokes, ends_covered, falling, field_in, field_rule, field_strokes, field_text, first_of, go, going_on, is_ruled, row_cell, row_cells, row_strokes, rule_begin, rule_cell, rule_cells, rule_end, rule_strokes, shown_width, some_bars, some_crossing, stands_on, text_strokes, turned, turning, was_covered, was_ruled, whole}
+use Rattle.nr_layout.specs.Frames.{bar_place, bars_of, is_covered, meeting, table_end, width_end}
 use Rattle.nr_layout.specs.Held.{cell, column, columns, has_text, is_rule, is_text}
 use Rattle.nr_layout.specs.Pens as pens
 use Rattle.nr_layout.specs.Pens.{Stroke, Pass, Text, To, after, bytes, bytes_of}
@@ -60,14 +60,22 @@ some_crossing-none : (t : Table) (above below : Option ℕ) (c n : ℕ) → text
 some_crossing-none t above below c n =
     after_none (crossing_begin t above below c) (pens.bars (crossing_byte t above below c) n) (crossing_begin-none t above below c)
 
+turned-none : (t : Table) (c : ℕ) (was covered : Bool) → texts (turned t c was covered) ≡ []
+turned-none t c false true = refl
+turned-none t c true false = refl
+turned-none t c true true = refl
+turned-none t c false false = refl
+
 crossing-none : (t : Table) (above below : Option ℕ) (c : ℕ) → texts (crossing t above below c) ≡ []
 crossing-none t above below c =
-    either_none (meeting t above below c == 0) [] (some_crossing t above below c (meeting t above below c)) refl
+    either_none (meeting t above below c == 0) (turning t above below c) (some_crossing t above below c (meeting t above below c))
+    (turned-none t c (was_covered t above below c) (is_covered t above below c))
     (some_crossing-none t above below c (meeting t above below c))
 
 rule_end-none : (t : Table) (above below : Option ℕ) → texts (rule_end t above below) ≡ []
 rule_end-none t above below =
-    either_none (meeting t above below (columns t) == 0) [] (pens.bars (crossing_byte t above below (columns t)) 1) refl refl
+    either_none (meeting t above below (columns t) == 0) (go t (not (ends_covered t above below)) (width_end t))
+    (pens.bars (crossing_byte t above below (columns t)) 1) (go-none t (not (ends_covered t above below)) (width_end t)) refl
 
 -- ---- a field has its own
 
@@ -203,9 +211,9 @@ rule_cells-texts (suc c) t above below line =
 
 pub rule-texts : (t : Table) (above below line : Option ℕ) → texts (rule_strokes t above below line) ≡ rule_texts t above below line
 rule-texts t above below line =
-    let last : List Stroke = go t (not (was_covered t above below (columns t) && nat_lt 0 (columns t))) (table_end t) in
+    let last : List Stroke = go t (not (ends_covered t above below)) (table_end t) in
     before_none (rule_cells (columns t) t above below line ++ last) (rule_end t above below) (rule_end-none t above below)
-    ∙ before_none (rule_cells (columns t) t above below line) last (go-none t (not (was_covered t above below (columns t) && nat_lt 0 (columns t))) (table_end t))
+    ∙ before_none (rule_cells (columns t) t above below line) last (go-none t (not (ends_covered t above below)) (table_end t))
     ∙ rule_cells-texts (columns t) t above below line
 
 -- ---- texts in bytes

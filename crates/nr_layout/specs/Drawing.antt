@@ -12,7 +12,7 @@ use Rattle.nr_layout.specs.declared.table.Form.TheVariants as forms
 use Rattle.nr_layout.specs.declared.table.Span.{Span}
 use Rattle.nr_layout.specs.declared.table.Table.{Table}
 use Rattle.nr_layout.specs.Extent.{cells_of}
-use Rattle.nr_layout.specs.Frames.{bar_place, bars_of, begins_with_rule, framing_at, is_covered, meeting, table_end}
+use Rattle.nr_layout.specs.Frames.{bar_place, bars_of, begins_with_rule, count, framing_at, is_covered, meeting, table_end, width_end}
 use Rattle.nr_layout.specs.Held.{cell, column, columns, has_text, is_block, is_double, is_rule, is_text, text_of}
 use Rattle.nr_layout.specs.Pens as pens
 use Rattle.nr_layout.specs.Pens.{Stroke, Start, To, Leave, Bytes, Text, Pass}
@@ -307,9 +307,23 @@ abbrev pub some_crossing : Table → Option ℕ → Option ℕ → ℕ → ℕ �
 some_crossing t above below c n =
     crossing_begin t above below c ++ pens.bars (crossing_byte t above below c) n
 
+-- where no bars meet it, it ends beside a field that goes on, or begins there: where bars would stand, with a cell there, but where
+-- columns have no space between them
+abbrev pub turn_end : Table → ℕ → Place
+turn_end t c = on (count (nat_lt 0 (column t (c - 1)).gap)) (bar_place t c)
+
+abbrev pub turned : Table → ℕ → Bool → Bool → List Stroke
+turned t c false true = dash t (turn_end t c)
+turned t c true false = To (bar_place t c) ∷ []
+turned t c was covered = []
+
+abbrev pub turning : Table → Option ℕ → Option ℕ → ℕ → List Stroke
+turning t above below c = turned t c (was_covered t above below c) (is_covered t above below c)
+
 abbrev pub crossing : Table → Option ℕ → Option ℕ → ℕ → List Stroke
 crossing t above below c =
-    if meeting t above below c == 0 then [] else some_crossing t above below c (meeting t above below c)
+    if meeting t above below c == 0 then turning t above below c
+    else some_crossing t above below c (meeting t above below c)
 
 abbrev pub going_on : Table → Option ℕ → Option ℕ → ℕ → Option ℕ → List Stroke
 going_on t above None c line = []
@@ -324,15 +338,19 @@ abbrev pub rule_cells : ℕ → Table → Option ℕ → Option ℕ → Option �
 rule_cells zero t above below line = []
 rule_cells (suc c) t above below line = rule_cells c t above below line ++ rule_cell t above below c line
 
+-- a field goes on over the last column
+abbrev pub ends_covered : Table → Option ℕ → Option ℕ → Bool
+ends_covered t above below = was_covered t above below (columns t) && nat_lt 0 (columns t)
+
+-- a rule ends with a cell at the table's end: where no bar stands there it goes on over that
 abbrev pub rule_end : Table → Option ℕ → Option ℕ → List Stroke
 rule_end t above below =
-    if meeting t above below (columns t) == 0 then []
+    if meeting t above below (columns t) == 0 then go t (not (ends_covered t above below)) (width_end t)
     else pens.bars (crossing_byte t above below (columns t)) 1
 
 abbrev pub rule_strokes : Table → Option ℕ → Option ℕ → Option ℕ → List Stroke
 rule_strokes t above below line =
-    rule_cells (columns t) t above below line
-    ++ go t (not (was_covered t above below (columns t) && nat_lt 0 (columns t))) (table_end t)
+    rule_cells (columns t) t above below line ++ go t (not (ends_covered t above below)) (table_end t)
     ++ rule_end t above below
 
 -- the outer rule of a double box, above it or below, meets no bars

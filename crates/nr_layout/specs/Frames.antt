@@ -81,6 +81,10 @@ right_edge t = min (max (most_bars t (columns t)) (framing t false)) 1
 abbrev pub table_end : Table → Place
 table_end t = if columns t == 0 then edge else on (right_edge t) (column t (columns t - 1)).right
 
+-- with the cell of a bar, or of a rule that ends where one would stand
+abbrev pub width_end : Table → Place
+width_end t = on 1 (table_end t)
+
 abbrev pub bar_place : Table → ℕ → Place
 bar_place t c = if c == 0 then edge else if nat_le (columns t) c then table_end t else (column t (c - 1)).bar
 

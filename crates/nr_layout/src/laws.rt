@@ -1,5 +1,5 @@
 //! Laws of the lines of a table, each the contract of a function that does nothing: they speak of the definitions alone.
-ghost use Rattle.nr_layout.specs.Ends.{EdgesEndTogether, RowsEndTogether, RulesEndTogether};
+ghost use Rattle.nr_layout.specs.Ends.{EdgesEndTogether, RowsEndTogether, RowsEndWithin, RulesEndTogether};
 ghost use Rattle.nr_layout.specs.Fitting.{EqualColumns, FieldsFit, LeastFits, SpansFit};
 ghost use Rattle.nr_layout.specs.Ordering.{RowsGoOut};
 ghost use Rattle.nr_layout.specs.Texts.{BarsHaveTheirTexts, EdgesHaveNone, RowsHaveTheirTexts, RulesHaveTheirTexts, TextsGoOut};
@@ -15,10 +15,12 @@ pub fn each_text_once()
     ensures bytes { TextsGoOut }
 {}
 
-/// In a box whose lines have one bar at the table's end, rows, rules and outer rules end at the same place, behind that bar,
-/// where what stands in their columns stands within the table: they are of one width, that of the table.
+/// Rules end at one place, a cell after the table's end, with a bar or without one, and so do rows with one bar there and the
+/// outer rules of a double box, where what stands in their columns stands within the table: in a box they are of one width,
+/// that of the table. Rows without a bar there end within the table.
 pub fn lines_end_together()
     ensures rows { RowsEndTogether }
+    ensures within { RowsEndWithin }
     ensures rules { RulesEndTogether }
     ensures edges { EdgesEndTogether }
 {}

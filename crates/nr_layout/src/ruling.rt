@@ -1,10 +1,12 @@
 //! Rules between the rows of a table are drawn, and the outer rule of a double box.
-ghost use Rattle.std.specs.Prelude.{◌≡◌, ◌&&◌, not, nat_lt, max};
+ghost use Rattle.std.specs.Prelude.{◌≡◌, not, max};
 ghost use Rattle.nr_layout.specs.Drawing as specs;
 ghost use Rattle.nr_layout.specs.Frames as frames;
 ghost use Rattle.nr_layout.specs.Held as held;
 ghost use Rattle.nr_layout.specs.Tapes.{Draws};
 
+use super::heights::count_of;
+use super::places::Place;
 use super::table::{Item, Table};
 use super::writing::Out;
 use nr_units::sink::Sink;
@@ -50,7 +52,27 @@ impl Table {
         self.go(ruled, self.bar_place(column), out);
     }
 
-    /// Bars meet a rule before a column.
+    /// Where a rule ends that meets no bars, beside a field that goes on over a column.
+    fn turn_end(&self, column: usize) -> Place
+        ensures { result ≡ specs.turn_end self.now column }
+    {
+        let spaced = self.column(column.saturating_sub(1)).gap > 0;
+        self.bar_place(column).on(count_of(spaced))
+    }
+
+    /// Where a rule meets no bars it ends beside a field that goes on, or begins there.
+    #[tactic(auto, using(crate::proofs::Tapes::draws_nothing))]
+    fn turn_rule<W: Sink>(&self, was: bool, covered: bool, column: usize, out: &mut Out<'_, W>)
+        ensures { Draws out.old out.new (specs.turned self.now column was covered) }
+    {
+        match (was, covered) {
+            (false, true) => self.draw_dash(self.turn_end(column), out),
+            (true, false) => out.to(self.bar_place(column)),
+            _ => {}
+        }
+    }
+
+    /// Bars meet a rule before a column, or it turns there.
     #[tactic(auto, using(crate::proofs::Tapes::draws_nothing))]
     fn draw_crossing<W: Sink>(
         &self,
@@ -65,7 +87,8 @@ impl Table {
         let down = self.bars_at(below, column);
         let bars = self.most_meeting(up, down, column);
         if bars == 0 {
-            return;
+            let was = self.was_covered(above, below, column);
+            return self.turn_rule(was, self.is_covered(above, below, column), column, out);
         }
         self.begin_crossing(above, below, column, out);
         out.bars(self.crossing_of(above, below, column, up, down), bars);
@@ -234,7 +257,14 @@ impl Table {
         }
     }
 
-    /// Where a rule ends.
+    /// Whether a field goes on over the last column.
+    fn ends_covered(&self, above: Option<usize>, below: Option<usize>) -> bool
+        ensures { result ≡ specs.ends_covered self.now above below }
+    {
+        self.was_covered(above, below, self.columns.len()) && self.columns.len() > 0
+    }
+
+    /// Where a rule ends: with a bar, or with one cell more.
     #[tactic(auto, using(crate::proofs::Tapes::draws_nothing))]
     fn end_rule<W: Sink>(&self, above: Option<usize>, below: Option<usize>, out: &mut Out<'_, W>)
         ensures { Draws out.old out.new (specs.rule_end self.now above below) }
@@ -243,25 +273,15 @@ impl Table {
         let up = self.bars_at(above, columns);
         let down = self.bars_at(below, columns);
         if self.most_meeting(up, down, columns) == 0 {
-            return;
+            return self.go(!self.ends_covered(above, below), self.end().on(1), out);
         }
         out.bars(self.crossing_of(above, below, columns, up, down), 1);
-    }
-
-    /// Whether a field goes on over the last column.
-    fn ends_covered(&self, above: Option<usize>, below: Option<usize>) -> bool
-        ensures { result ≡ (specs.was_covered self.now above below (held.columns self.now)
-            && nat_lt 0 (held.columns self.now)) }
-    {
-        self.was_covered(above, below, self.columns.len()) && self.columns.len() > 0
     }
 
     /// The rule goes on to where the table ends, but behind such a field.
     fn go_end<W: Sink>(&self, above: Option<usize>, below: Option<usize>, out: &mut Out<'_, W>)
         ensures { Draws out.old out.new
-            (specs.go self.now
-            (not (specs.was_covered self.now above below (held.columns self.now)
-            && nat_lt 0 (held.columns self.now))) (frames.table_end self.now)) }
+            (specs.go self.now (not (specs.ends_covered self.now above below)) (frames.table_end self.now)) }
     {
         let covered = self.ends_covered(above, below);
         self.go(!covered, self.end(), out);
