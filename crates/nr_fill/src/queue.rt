@@ -66,8 +66,8 @@ fn make_room<T: Copy>(
     move_to_front(slots, room, span, n, item)
 }
 
-/// The same where there are not so many: the items move to the front. Where they and n more would fill more than half of the
-/// slots, there are more slots then, if there is room for more.
+/// The same where there are not so many: the items move to the front. There are slots for twice as many items and n more then, if
+/// there is room for so many.
 #[cold]
 fn move_to_front<T: Copy>(
     slots: &mut ReservedVec<T>,
@@ -90,7 +90,7 @@ fn move_to_front<T: Copy>(
 {
     slots.copy_within(span.start..span.end, 0);
     let end = span.end - span.start;
-    let least = (end + n).saturating_mul(2).min(room);
+    let least = end.saturating_mul(2).saturating_add(n).min(room);
     slots.lengthen(least, item);
     Span { start: 0, end }
 }
