@@ -1,8 +1,9 @@
 -- A byte of the source that goes to the word and does not end it: two moves.
 use Prim.Native.Char.{code}
-use Rattle.std.proofs.Common.{◌≡◌, ℕ, ◌+◌, ◌<◌, ◌≤◌, true, false, List, [], ◌∷◌, length, drop, Option, refl, sym, ap, ◌∙◌, subst, arith}
+use Rattle.std.proofs.Common.{◌≡◌, ℕ, zero, suc, ◌+◌, ◌*◌, ◌<◌, ◌≤◌, true, false, List, [], ◌∷◌, length, take, drop, Option, refl, sym, ap, ◌∙◌, subst, arith}
 use Rattle.std.specs.Prelude.{◌==◌, slice_index}
 use Rattle.std.specs.Option.{option_map}
+use Rattle.std.proofs.Math.Seq.{drop-cons}
 use Rattle.nr_units.specs.Source.{Supply, skipped}
 use Rattle.nr_fill.specs.Piece.{line_cells}
 use Rattle.nr_reading.specs.declared.event.Event.TheVariants as events
@@ -11,12 +12,11 @@ use Rattle.nr_input.specs.Many.AtHand.{ComeNext}
 use Rattle.nr_input.specs.Place.{Coming, HoldsComing}
 use Rattle.nr_input.specs.Many.Runs.{passed_run}
 use Rattle.nr_input.specs.Weights.{expansions_worth}
-use Rattle.nr_formatter.specs.Many.CellBytes.{IsCellByte, byte_added, byte_put, goes_to_word}
-use Rattle.nr_formatter.specs.Many.Runs.{IsInLine, is_in_line}
+use Rattle.nr_formatter.specs.Many.CellBytes.{IsCellByte, PutsCellBytes, byte_added, byte_put, goes_to_word}
+use Rattle.nr_formatter.specs.Many.Runs.{IsInLine}
 use Rattle.nr_formatter.specs.Weights as weights
 use Rattle.nr_formatter.specs.declared.formatter.Formatter.{Formatter}
-use Rattle.nr_formatter.proofs.CellBytes.{Blank, CellByte, Dash, Tab, begun-byte, cell_byte, heard-byte, weight-byte}
-use Rattle.nr_formatter.proofs.PlainText.{in_line}
+use Rattle.nr_formatter.proofs.CellBytes.{Blank, CellByte, Dash, Tab, cell_byte, heard-byte, weight-byte}
 use Rattle.nr_engine.specs.State.{State}
 use Rattle.nr_engine.specs.Machine.{step}
 use Rattle.nr_engine.specs.Measures.{IsWithin}
@@ -120,8 +120,25 @@ module _ (t m b : ℕ) (bs : List ℕ) (f g : Formatter) (puts : PutsText bs t m
       puts_on t m 1 2 bs f g h puts (subst (λ (x : Formatter). PutsText (drop t bs) 1 2 g x) (sym is)
       (puts_cell_byte b (drop t bs) g (some_left t bs below) (first_left t b bs is_next) byte))
 
-  -- and the next item is read in a line that has begun
-  pub byte_on : (h : Formatter) → h ≡ byte_put b g → is_in_line h ≡ true
-  byte_on h is =
-      let line = in_line g byte.line in
-      ap is_in_line is ∙ rw (line.springs, line.event, line.task, line.half, begun-byte b g) refl
+-- What each such byte keeps, which is of how many bytes were put in how many moves, all of them keep.
+module _ (P : ℕ → ℕ → Formatter → Type 0) (bs : List ℕ) (one : (t m : ℕ) (g : Formatter) → P t m g → t < length bs → IsCellByte (slice_index bs t) g → P (t + 1) (m + 2) (byte_put (slice_index bs t) g)) where
+  pub bytes_on : (n t m : ℕ) (g h : Formatter) → P t m g → t + n ≤ length bs → PutsCellBytes (take n (drop t bs)) g h → P (t + n) (m + 2 * n) h
+  bytes_on zero t m g h put within cells =
+      let taken : t ≡ t + 0 = omega arith in
+      let moves : m ≡ m + 2 * 0 = omega arith in
+      subst (λ i. P i (m + 2 * 0) h) taken (subst (λ j. P t j h) moves (subst (λ (x : Formatter). P t m x) (sym cells) put))
+  bytes_on (suc n) t m g h put within cells =
+      let below : t < length bs = omega (arith, within) in
+      let b = slice_index bs t in
+      let behind : suc t ≡ t + 1 = omega arith in
+      let here : PutsCellBytes (b ∷ take n (drop (suc t) bs)) g h = subst (λ xs. PutsCellBytes (take (suc n) xs) g h) (drop-cons bs t 0 below) cells in
+      let others : PutsCellBytes (take n (drop (t + 1) bs)) (byte_put b g) h = subst (λ k. PutsCellBytes (take n (drop k bs)) (byte_put b g) h) behind here.1 in
+      let more = bytes_on n (t + 1) (m + 2) (byte_put b g) h (one t m g put below here.0) (omega (arith, within)) others in
+      let taken : t + 1 + n ≡ t + suc n = omega arith in
+      let moves : m + 2 + 2 * n ≡ m + 2 * suc n = omega arith in
+      subst (λ i. P i (m + 2 * suc n) h) taken (subst (λ j. P (t + 1 + n) j h) moves more)
+
+-- after the first t bytes come n such bytes
+pub turn_bytes : (n t m : ℕ) (bs : List ℕ) (f g h : Formatter) → PutsText bs t m f g → t + n ≤ length bs → PutsCellBytes (take n (drop t bs)) g h → PutsText bs (t + n) (m + 2 * n) f h
+turn_bytes n t m bs f g h puts within cells =
+    bytes_on (λ i j x. PutsText bs i j f x) bs (λ i j x put below byte. turn_byte i j (slice_index bs i) bs f x put below refl byte (byte_put (slice_index bs i) x) refl) n t m g h puts within cells

@@ -14,7 +14,7 @@ use Rattle.nr_store.specs.declared.element.Element.TheVariants as elements
 use Rattle.nr_settings.specs.Fonts.{is_under}
 use Rattle.nr_input.specs.declared.reader.Reader.{Reader}
 use Rattle.nr_formatter.specs.Access.{collected, margins}
-use Rattle.nr_formatter.specs.Many.CellBytes.{IsCellByte, byte_put}
+use Rattle.nr_formatter.specs.Many.CellBytes.{IsCellByte, PutsCellBytes, byte_put}
 use Rattle.nr_formatter.specs.Lines.{fits_line}
 use Rattle.nr_formatter.specs.Many.Runs.{IsGap, IsInLine, gap_flows, gap_put, gapped, is_in_line, run_put}
 use Rattle.nr_formatter.specs.Weights as weights
@@ -27,7 +27,7 @@ use Rattle.nr_engine.specs.Machine.{step}
 use Rattle.nr_engine.specs.Measures.{IsWithin}
 use Rattle.nr_engine.specs.Holding.{Made, Shape, Stands, at, weight, worth}
 use Rattle.nr_engine.specs.Many.Running.{Flows, IsFurther, Makes, PutsOfFlow, with_read}
-use Rattle.nr_engine.proofs.CellBytes.{glides_byte, no_escape, no_newline}
+use Rattle.nr_engine.proofs.CellBytes.{bytes_on, glides_byte, no_escape, no_newline}
 use Rattle.nr_engine.proofs.Flows.{Puts, flows-add, flows_none, flows_one, further_is, line_further}
 use Rattle.nr_engine.proofs.Gliding.{Glides, made_of, told}
 use Rattle.nr_engine.proofs.LevelText.{Showing, at_text, goes_byte, level_gone, line_there, made_glided, makes_flows, makes_gap, makes_plain, one_left, reads_byte, showing, within_text}
@@ -215,8 +215,13 @@ module _ (t m : ℕ) (bs : List ℕ) (f g : Formatter) (puts : PutsOfFlow bs t m
       (flow_one t m (code " ") 3 bs f g (gap_put g) puts line below blank (omega arith) refl refl gap.within (puts_gap g line gap fits))
 
 -- and after it comes a byte that goes to the word and does not end it
-pub flow_byte : (t m b : ℕ) (bs : List ℕ) (f g h : Formatter) → PutsOfFlow bs t m f g → t < length bs → slice_index bs t ≡ b → IsCellByte b g → h ≡ byte_put b g
+flow_byte : (t m b : ℕ) (bs : List ℕ) (f g h : Formatter) → PutsOfFlow bs t m f g → t < length bs → slice_index bs t ≡ b → IsCellByte b g → h ≡ byte_put b g
     → PutsOfFlow bs (t + 1) (m + 2) f h
 flow_byte t m b bs f g h puts below is byte put =
     subst (λ (x : Formatter). PutsOfFlow bs (t + 1) (m + 2) f x) (sym put)
     (flow_one t m b 2 bs f g (byte_put b g) puts byte.line below is (omega arith) refl refl byte.within (puts_cell b g byte))
+
+-- and after them come n such bytes
+pub flow_bytes : (n t m : ℕ) (bs : List ℕ) (f g h : Formatter) → PutsOfFlow bs t m f g → t + n ≤ length bs → PutsCellBytes (take n (drop t bs)) g h → PutsOfFlow bs (t + n) (m + 2 * n) f h
+flow_bytes n t m bs f g h puts within cells =
+    bytes_on (λ i j x. PutsOfFlow bs i j f x) bs (λ i j x put below byte. flow_byte i j (slice_index bs i) bs f x (byte_put (slice_index bs i) x) put below refl byte refl) n t m g h puts within cells

@@ -1,6 +1,7 @@
 pub mod Queues
 pub mod Planning
 pub mod RunLemmas
+pub mod BlankRuns
 pub mod Trimming
 pub mod LongestFront
 pub mod PiecesOf

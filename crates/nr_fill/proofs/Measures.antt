@@ -15,8 +15,9 @@ use Rattle.std.specs.Option.{option_map}
 use Rattle.nr_fill.specs.Line.{Lined, afforded}
 use Rattle.nr_fill.specs.Piece.{Piece, Word, Collected, cells_in, word_or_new, with_word, in_word, word_length, word_cells, word_pieces, text_cells, line_cells, ended, ended_at, add_cell, add_blank, end_word}
 use Rattle.nr_fill.specs.Plain.{run_cell}
-use Rattle.nr_fill.specs.Runs.{add_run}
+use Rattle.nr_fill.specs.Runs.{add_blanks, add_run}
 use Rattle.nr_fill.proofs.RunLemmas.{add_run-run}
+use Rattle.nr_fill.proofs.BlankRuns.{add_blanks-run}
 use Rattle.nr_fill.specs.Tabs.{with_field, field_fill, pending_fill, fill_count, filled_by, with_field_filled}
 
 -- what fits is afforded
@@ -67,6 +68,16 @@ measured_run m under bs c some =
     let longer = length-append (ended w).last.cells (map (run_cell under) bs) in
     let many = length-map bs (run_cell under) in
     rw (add_run-run m under bs c some) (omega arith, omega arith)
+
+-- blanks are as many cells more
+pub measured_blanks : (m : Margins) (n : ℕ) (c : Collected) → 0 < n → line_cells (add_blanks m n c) ≡ text_cells c + n
+measured_blanks m n c some =
+    let w = word_or_new c.gap c.word in
+    let new = word_length-new c.gap c.word in
+    let same = word_length-ended_at w.pending w in
+    let longer = length-append (ended w).last.cells (replicate n blank) in
+    let many = length-replicate n blank in
+    rw (add_blanks-run m n c some) (omega arith)
 
 pub line_cells-add_blank : (m : Margins) (c : Collected) → line_cells (add_blank m c) ≡ text_cells c + 1
 line_cells-add_blank m c =

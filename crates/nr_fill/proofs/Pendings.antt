@@ -53,10 +53,10 @@ needed_dropped Nothing b k n h = omega arith
 needed_dropped (AtPoint point) b k n h = omega arith
 needed_dropped (ForStop f) b k n h = omega arith
 
-pub needed_one_more : (p : Pending) (b k n : ℕ) → cells_needed p b k ≤ n → cells_needed p (b + 1) k ≤ n + 1
-needed_one_more Nothing b k n h = omega arith
-needed_one_more (AtPoint point) b k n h = omega arith
-needed_one_more (ForStop f) b k n h = omega arith
+pub needed_more : (p : Pending) (b k n m : ℕ) → cells_needed p b k ≤ n → cells_needed p (b + m) k ≤ n + m
+needed_more Nothing b k n m h = omega arith
+needed_more (AtPoint point) b k n m h = omega arith
+needed_more (ForStop f) b k n m h = omega arith
 
 -- cells after a point inside the piece
 pub needed_behind_point : (p : Pending) (b k m : ℕ) → is_for_stop p ≡ false → b < m → cells_needed p b k ≤ m

@@ -36,7 +36,7 @@ behind_letter n (AtPoint point) = refl
 behind_letter n (ForStop f) = refl
 
 -- no break point waits
-abbrev HasNoPoint : Pending → Type 0
+abbrev pub HasNoPoint : Pending → Type 0
 HasNoPoint p = pending_without_point p ≡ p
 
 no_point_without : (p : Pending) → HasNoPoint (pending_without_point p)
@@ -44,7 +44,7 @@ no_point_without Nothing = refl
 no_point_without (AtPoint point) = refl
 no_point_without (ForStop f) = refl
 
-ended_at-none : (p : Pending) (w : Word) → HasNoPoint p → ended_at p w ≡ w
+pub ended_at-none : (p : Pending) (w : Word) → HasNoPoint p → ended_at p w ≡ w
 ended_at-none Nothing w h = refl
 ended_at-none (AtPoint point) w h = absurd (let e : Nothing ≡ AtPoint point = h in cc)
 ended_at-none (ForStop f) w h = refl
@@ -52,14 +52,14 @@ ended_at-none (ForStop f) w h = refl
 -- ---- a word that a run goes to
 
 -- what is collected with this word, and no title
-abbrev at_word : Collected → Word → Bool → Collected
+abbrev pub at_word : Collected → Word → Bool → Collected
 at_word c w sentence = record c { word = Some w; title = None; sentence = sentence }
 
 and_false : (b : Bool) → (b && false) ≡ false
 and_false true = refl
 and_false false = refl
 
-with_word-at_word : (m : Margins) (c : Collected) (w : Word) (sentence : Bool) → with_word m (at_word c w sentence) ≡ at_word c w sentence
+pub with_word-at_word : (m : Margins) (c : Collected) (w : Word) (sentence : Bool) → with_word m (at_word c w sentence) ≡ at_word c w sentence
 with_word-at_word m c w sentence = rw (and_false (is_nil c.pieces)) refl
 
 -- a letter more

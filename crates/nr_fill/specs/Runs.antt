@@ -1,9 +1,10 @@
--- Runs of bytes that stand for themselves.
+-- Runs of bytes that stand for themselves, and of blanks.
 use Prim.Native.Char.{code}
-use Rattle.std.specs.Prelude.{◌≡◌, ℕ, ◌<◌, Bool, true, List, [], ◌∷◌, length, map, slice_index, None}
+use Rattle.std.specs.Prelude.{◌≡◌, ℕ, zero, suc, ◌+◌, ◌<◌, Bool, true, List, [], ◌∷◌, ◌++◌, length, map, replicate, slice_index, None}
+use Rattle.nr_units.specs.Cell.{blank}
 use Rattle.nr_settings.specs.declared.indents.Margins.{Margins}
 use Rattle.nr_fill.specs.declared.piece.Behind.TheVariants.{Letter}
-use Rattle.nr_fill.specs.Piece.{Collected, Word, add_cell, append, end_word, one_blank_more, pending_without_point}
+use Rattle.nr_fill.specs.Piece.{Collected, Word, add_blank, add_cell, append, end_word, one_blank_more, pending_without_point}
 use Rattle.nr_fill.specs.Plain.{run_cell}
 
 -- the bytes one after another, each a cell after which no line may be cut
@@ -27,3 +28,13 @@ pub record EndsWord (ends : Bool) (n : ℕ) (bs : List ℕ) (c : Collected) : Ty
   pub blank : slice_index bs n ≡ code " "
   pub ends_is : ends ≡ true
   pub word : c.word ≡ None
+
+-- so many blanks one after another, each a cell of the word
+abbrev pub add_blanks : Margins → ℕ → Collected → Collected
+add_blanks margins zero c = c
+add_blanks margins (suc n) c = add_blanks margins n (add_blank margins c)
+
+-- so many blanks after the cells of a word
+abbrev pub blanks_behind : ℕ → Word → Word
+blanks_behind n w =
+    record w { last = record w.last { cells = w.last.cells ++ replicate n blank }; blanks = w.blanks + n }

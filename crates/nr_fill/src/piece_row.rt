@@ -172,6 +172,17 @@ impl PieceRow {
         self.read += n;
     }
 
+    /// n copies of a cell more after the last piece.
+    #[inline]
+    pub(crate) fn push_copies(&mut self, cell: Cell, n: usize)
+        requires room { read_cells self.old + n ≤ self.old.room }
+        requires no_title { self.old.title ≡ [] }
+        ensures { self.new ≡ record self.old { last = self.old.last ++ replicate n cell } }
+    {
+        self.cells.push_copies(cell, n);
+        self.read += n;
+    }
+
     /// Keeps so many of the cells after the last piece.
     pub(crate) fn shorten(&mut self, n: usize)
         requires within { n ≤ length self.old.last }

@@ -184,6 +184,24 @@ impl<T: Copy> Queue<T> {
         self.end = span.end + 1;
     }
 
+    /// Puts n copies of an item at the end.
+    #[inline]
+    pub(crate) fn push_copies(&mut self, item: T, n: usize)
+        requires { length self.old.items + n ≤ self.old.room }
+        ensures items { self.new.items ≡ self.old.items ++ replicate n item }
+        ensures room { self.new.room ≡ self.old.room }
+    {
+        let span = Span {
+            start: self.start,
+            end: self.end,
+        };
+        let span = make_room(&mut self.slots, self.room, span, n, item);
+        let slots = self.slots.as_mut_slice();
+        set_all(&mut slots[span.end..span.end + n], item);
+        self.start = span.start;
+        self.end = span.end + n;
+    }
+
     /// Puts n copies of an item before the item at a place, or at the end.
     pub(crate) fn insert_copies(&mut self, place: usize, item: T, n: usize)
         requires within { place ≤ length self.old.items }

@@ -1,9 +1,10 @@
-// Runs of bytes that stand for themselves, read in one call.
-ghost use Rattle.std.specs.Prelude.{◌≡◌, ◌≢◌, ◌+◌, ◌-◌, ◌<◌, ◌≤◌, length, take, slice_index, All, None, is_none, true, false};
+// Runs of bytes that stand for themselves, and of blanks, read in one call.
+ghost use Rattle.std.specs.Prelude.{◌≡◌, ◌≢◌, ◌+◌, ◌-◌, ◌<◌, ◌≤◌, length, take, replicate, slice_index, All, None, is_none, true, false};
+ghost use Rattle.nr_units.specs.Character.{code};
 ghost use Rattle.nr_settings.specs.Indents.{margins_of};
 ghost use Rattle.nr_fill.specs.Piece.{ends_sentence, in_word, line_cells, text_cells};
 ghost use Rattle.nr_fill.specs.Plain.{IsPlain, run_cell};
-ghost use Rattle.nr_fill.specs.Runs.{EndsWord, add_run, add_word, run_behind};
+ghost use Rattle.nr_fill.specs.Runs.{EndsWord, add_blanks, add_run, add_word, run_behind};
 
 use crate::line::{Line, WordState};
 use crate::margins::Margins;
@@ -20,6 +21,21 @@ pub struct WordRun {
     pub count: usize,
     /// The blank after them was read, and ended the word.
     pub ended: bool,
+}
+
+/// How many blanks these bytes begin with.
+fn count_blanks(bytes: &[u8]) -> usize
+    ensures front { result ≤ length bytes.now }
+    ensures blanks { take result bytes.now ≡ replicate result (code " ") }
+{
+    let mut count = 0;
+    for byte in bytes {
+        if *byte != b' ' {
+            return count;
+        }
+        count += 1;
+    }
+    count
 }
 
 impl Line {
@@ -173,5 +189,25 @@ impl Line {
                 count
             }
         }
+    }
+
+    /// Reads the blanks that these bytes begin with as cells, as many calls of `put_blank` would: up to the first byte that is none, or
+    /// whose cell would pass the limit. Tells how many it read.
+    pub fn put_blanks(&mut self, margins: Margins, bytes: &[u8]) -> usize
+        ensures front { result ≤ length bytes.now }
+        ensures blanks { take result bytes.now ≡ replicate result (code " ") }
+        ensures cells { self.new ≡ record self.old
+            { collected = add_blanks margins result self.old.collected } }
+        ensures within { 0 < result → line_cells self.new.collected ≤ self.new.limit }
+    {
+        let room = self.limit - self.text_measure();
+        let count = count_blanks(&bytes[..room.min(bytes.len())]);
+        if count == 0 {
+            return 0;
+        }
+        self.open_word(margins);
+        self.end_piece();
+        self.push_blanks(count);
+        count
     }
 }

@@ -1,7 +1,8 @@
 // What is read: cells, break points, the ends of words, and gaps. (CSTR 54, sections 4 and 13.)
 ghost use Rattle.std.specs.Prelude.{◌≡◌, ◌+◌, ◌<◌, ◌≤◌, ◌++◌, ◌∷◌, [], None, OnOk, OnErr, false, replicate};
 ghost use Rattle.nr_fill.specs.Line.{afforded};
-ghost use Rattle.nr_fill.specs.Piece.{Word, add_blank, add_blank_to, add_cell, add_cell_behind, add_cells, after_newline, append, barred_here, end_word, ended, ends_sentence, hyphenated, in_word, is_inside, joined, line_cells, marked, one_blank_more, pending_behind, pending_soft, pending_without_point, text_cells, with_blanks_kept, with_word, without_blanks};
+ghost use Rattle.nr_fill.specs.Piece.{Word, add_blank, add_cell, add_cell_behind, add_cells, after_newline, append, barred_here, end_word, ended, ends_sentence, hyphenated, in_word, is_inside, joined, line_cells, marked, one_blank_more, pending_behind, pending_soft, pending_without_point, text_cells, with_blanks_kept, with_word, without_blanks};
+ghost use Rattle.nr_fill.specs.Runs.{blanks_behind};
 
 use crate::line::{Line, LineCells, WIDEST_GAP, WordState};
 use crate::margins::Margins;
@@ -185,23 +186,24 @@ impl Line {
         }
         self.open_word(margins);
         self.end_piece();
-        self.push_blank();
+        self.push_blanks(1);
         Ok(())
     }
 
-    /// One more blank of the text, a cell of the piece that is being read.
-    fn push_blank(&mut self)
-        requires room { text_cells self.old.collected < self.old.limit }
+    /// So many more blanks of the text, cells of the piece that is being read.
+    #[inline]
+    pub(crate) fn push_blanks(&mut self, n: usize)
+        requires room { text_cells self.old.collected + n ≤ self.old.limit }
         requires no_title { self.old.collected.title ≡ None }
         ensures { self.new ≡ record self.old {
-          collected = record (in_word add_blank_to self.old.collected)
+          collected = record (in_word (blanks_behind n) self.old.collected)
               { sentence = false };
         } }
     {
         self.sentence = false;
         if let Some(word) = &mut self.word {
-            self.row.push(Cell::blank());
-            word.blanks += 1;
+            self.row.push_copies(Cell::blank(), n);
+            word.blanks += n;
         }
     }
 

@@ -1,6 +1,7 @@
 pub mod Below
 pub mod Calm
 pub mod CellBytes
+pub mod CellBytesAtOnce
 pub mod Cells
 pub mod DivertedFalls
 pub mod DivertedRows

@@ -40,11 +40,12 @@ pub(crate) fn put_line_words(formatter: &mut Formatter, bytes: &[u8]) -> Words
         moves += 2 * word.count;
         match word.gap {
             Gap::Left => {
-                if taken == bytes.len() || !formatter.put_cell_byte(bytes[taken]) {
+                let count = formatter.put_cell_bytes(&bytes[taken..]);
+                if count == 0 {
                     return Words { taken, moves };
                 }
-                taken += 1;
-                moves += 2;
+                taken += count;
+                moves += 2 * count;
             }
             Gap::Flows => {
                 return Words {

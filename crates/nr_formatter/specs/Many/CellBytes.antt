@@ -1,7 +1,7 @@
 -- Bytes in the midst of a text line that go to its word and do not end it: a hyphen, a blank where lines are not filled, a tab where no
 -- text for a stop is read.
 use Prim.Native.Char.{code}
-use Rattle.std.specs.Prelude.{◌≡◌, ◌≤◌, ℕ, Bool, true, false, not, ◌==◌, if◌then◌else◌, unwrap_or}
+use Rattle.std.specs.Prelude.{◌≡◌, ◌≤◌, ℕ, Bool, true, not, ◌==◌, if◌then◌else◌, List, [], ◌∷◌, unwrap_or}
 use Rattle.nr_fill.specs.declared.piece.Behind.TheVariants.{Hyphen}
 use Rattle.nr_fill.specs.Piece.{Collected, add_blank, add_cell, line_cells}
 use Rattle.nr_fill.specs.Tabs.{tabbed}
@@ -33,7 +33,7 @@ pub record IsCellByte (b : ℕ) (f : Formatter) : Type 0 where
   pub goes : goes_to_word b f ≡ true
   pub within : line_cells (byte_added b f) ≤ f.line.limit
 
--- what became of it: it was put, or it was left
-abbrev pub AfterCellByte : ℕ → Formatter → Bool → Formatter → Type 0
-AfterCellByte b f true g = IsCellByte b f × (g ≡ byte_put b f)
-AfterCellByte b f false g = g ≡ f
+-- these bytes one after another, each such a byte
+abbrev pub PutsCellBytes : List ℕ → Formatter → Formatter → Type 0
+PutsCellBytes [] f g = g ≡ f
+PutsCellBytes (b ∷ bs) f g = IsCellByte b f × PutsCellBytes bs (byte_put b f) g

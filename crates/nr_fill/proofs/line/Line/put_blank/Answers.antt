@@ -5,8 +5,8 @@ use Rattle.nr_fill.proofs.Measures.{afforded_ok, text_cells-with_word, text_cell
 use Rattle.nr_fill.specs.Piece.{add_blank}
 use Rattle.nr_fill.proofs.line.Line.put_blank.Goals as goal
 
-pub push_blank-requires-clause-room : goal.push_blank-requires-clause-room
-push_blank-requires-clause-room c =
+pub push_blanks-requires-clause-room : goal.push_blanks-requires-clause-room
+push_blanks-requires-clause-room c =
     let first = text_cells-with_word c.args.margins c.args.self.now.collected in
     let second = text_cells-ended c.open_word.new.self.collected in
     let ended = ap (λ (v : Lined). text_cells v.collected) c.end_piece.ensures in
