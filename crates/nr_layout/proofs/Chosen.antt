@@ -3,7 +3,7 @@ use Rattle.std.proofs.Common.{◌≡◌, ℕ, Bool, true, false, ◌==◌, ◌&&
 use Rattle.std.proofs.lemmas.Bool.Decides.{nat_tests}
 use Rattle.nr_layout.specs.Pens.{Stroke, Bytes}
 use Rattle.nr_layout.specs.Tapes.{Tape, Draws}
-use Rattle.nr_layout.proofs.Tapes.{draws_nothing}
+use Rattle.nr_layout.proofs.Tapes.{draws_no_bytes, draws_nothing}
 
 pub draws_chosen : {a b : Tape} {xs : List ℕ} (t : Bool) (ys : List ℕ) → Draws a b (Bytes xs ∷ []) → t ≡ true
     → Draws a b (Bytes (if t then xs else ys) ∷ [])
@@ -14,6 +14,10 @@ pub draws_other : {a b : Tape} {ys : List ℕ} (t : Bool) (xs : List ℕ) → Dr
     → Draws a b (Bytes (if t then xs else ys) ∷ [])
 draws_other false xs d is = d
 draws_other true xs d is = absurd (cc)
+
+pub none_asked : {a : Tape} (t : Bool) (xs : List ℕ) → t ≡ false → Draws a a (Bytes (if t then xs else []) ∷ [])
+none_asked false xs is = draws_no_bytes _
+none_asked true xs is = absurd (cc)
 
 pub strokes_chosen : {a b : Tape} {ss : List Stroke} (t : Bool) (ts : List Stroke) → Draws a b ss → t ≡ true
     → Draws a b (if t then ss else ts)

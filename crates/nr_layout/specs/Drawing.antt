@@ -274,9 +274,11 @@ bars_strokes t r line = bars_cells (columns t) t r line ++ bar t r (columns t) f
 abbrev pub was_covered : Table → Option ℕ → Option ℕ → ℕ → Bool
 was_covered t above below c = (c == 0) || is_covered t above below (c - 1)
 
+abbrev pub begun_crossing : Table → Bool → ℕ → List Stroke
+begun_crossing t was c = if c == 0 then [] else go t (not was) (bar_place t c)
+
 abbrev pub crossing_begin : Table → Option ℕ → Option ℕ → ℕ → List Stroke
-crossing_begin t above below c =
-    if c == 0 then [] else go t (not (was_covered t above below c)) (bar_place t c)
+crossing_begin t above below c = begun_crossing t (was_covered t above below c) c
 
 -- a line stands above a rule that is below no row: the outer one of a double box, or another rule that is the
 -- first in a box

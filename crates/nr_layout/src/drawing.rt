@@ -1,5 +1,5 @@
 //! Lines of a table are drawn: bars, fields, and rules in their place.
-ghost use Rattle.std.specs.Prelude.{◌≡◌, ◌==◌, ◌&&◌};
+ghost use Rattle.std.specs.Prelude.{◌≡◌, ◌==◌, ◌&&◌, false};
 ghost use Rattle.nr_layout.specs.Contents as contents;
 ghost use Rattle.nr_layout.specs.Drawing as specs;
 ghost use Rattle.nr_layout.specs.Held as held;
@@ -72,6 +72,7 @@ impl Table {
     }
 
     /// A field.
+    #[inline(always)]
     #[tactic(auto, using(crate::proofs::Tapes::draws_nothing))]
     pub(crate) fn draw_field<W: Sink>(&self, cell: Cell, out: &mut Out<'_, W>)
         ensures { Draws out.old out.new (specs.field_strokes self.now cell) }
@@ -174,6 +175,7 @@ impl Table {
     }
 
     /// What stands in a column in which its field begins.
+    #[inline(always)]
     fn draw_own<W: Sink>(
         &self,
         row: usize,
@@ -194,6 +196,7 @@ impl Table {
     }
 
     /// What stands in a column of a row.
+    #[inline(always)]
     fn draw_content<W: Sink>(
         &self,
         row: usize,
@@ -226,6 +229,7 @@ impl Table {
     }
 
     /// A column of a row, with the bars before it.
+    #[inline(always)]
     fn draw_cell<W: Sink>(
         &self,
         row: usize,
@@ -248,13 +252,25 @@ impl Table {
         }
     }
 
+    /// The bars after the last column of a row.
+    #[tactic(auto, using(crate::proofs::Tapes::draws_nothing))]
+    fn end_row_bar<W: Sink>(&self, row: usize, columns: usize, out: &mut Out<'_, W>)
+        ensures { Draws out.old out.new
+            (specs.bar self.now row columns (specs.was_ruled self.now row columns) false) }
+    {
+        let bars = self.bars_of(row, columns);
+        if bars == 0 {
+            return;
+        }
+        self.draw_some_bars(columns, self.was_ruled(row, columns), false, bars, out);
+    }
+
     /// A row: bars, rules of fields, fields.
     pub(crate) fn draw_row<W: Sink>(&self, row: usize, line: Option<usize>, out: &mut Out<'_, W>)
         ensures { Draws out.old out.new (specs.row_strokes self.now row line) }
     {
         self.draw_cells(row, line, out);
-        let columns = self.columns.len();
-        self.draw_bar(row, columns, self.was_ruled(row, columns), false, out);
+        self.end_row_bar(row, self.columns.len(), out);
     }
 
     /// A column of the bars of a row alone.

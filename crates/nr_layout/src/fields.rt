@@ -161,6 +161,7 @@ impl Table {
     }
 
     /// Where a field begins.
+    #[inline(always)]
     pub(crate) fn begin_of(&self, cell: Cell) -> Begin
         ensures { result ≡ specs.begin_of self.now cell }
     {
@@ -188,6 +189,7 @@ impl Table {
     }
 
     /// The text of a field without its font.
+    #[inline(always)]
     pub(crate) fn put_unset<W: Sink>(&self, cell: Cell, out: &mut Out<'_, W>)
         ensures { Draws out.old out.new (Bytes (specs.unset_text self.now cell) ∷ []) }
     {
@@ -198,6 +200,7 @@ impl Table {
     }
 
     /// The text of a field, with its font.
+    #[inline(always)]
     fn put_text<W: Sink>(&self, cell: Cell, out: &mut Out<'_, W>)
         ensures { Draws out.old out.new (Text (specs.field_text self.now cell) ∷ []) }
     {
@@ -217,6 +220,7 @@ impl Table {
     }
 
     /// The pen goes to where a field begins.
+    #[inline(always)]
     fn draw_begin<W: Sink>(&self, cell: Cell, out: &mut Out<'_, W>)
         ensures { Draws out.old out.new (specs.begin_at (specs.begin_of self.now cell) self.now cell) }
     {
@@ -237,6 +241,7 @@ impl Table {
     }
 
     /// The text of a field.
+    #[inline(always)]
     pub(crate) fn draw_text<W: Sink>(&self, cell: Cell, out: &mut Out<'_, W>)
         ensures { Draws out.old out.new (specs.text_strokes self.now cell) }
     {

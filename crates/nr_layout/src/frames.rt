@@ -7,7 +7,7 @@ ghost use Rattle.nr_layout.specs.Laid as laid;
 
 use super::lists::set_item;
 use super::places::{Mark, Place};
-use super::table::{Cell, Column, Form, Table};
+use super::table::{Cell, Column, Form, Line, Table};
 
 impl Column {
     /// Where a column ends that begins at a place.
@@ -46,10 +46,10 @@ impl Column {
 
 impl Table {
     /// Whether a column of a row goes on from the left.
-    fn is_inside(&self, row: usize, column: usize) -> bool
+    fn is_inside(&self, line: Line, row: usize, column: usize) -> bool
+        requires { line ≡ held.line self.now (held.row self.now row).line }
         ensures { result ≡ specs.is_inside self.now row column }
     {
-        let line = self.line(self.row(row).line);
         let left = column.saturating_sub(1);
         self.key(line, column).kind == b's'
             || self.cell_number(row, column) == self.cell_number(row, left)
@@ -69,12 +69,10 @@ impl Table {
 
     /// The bars that formats or a frame put before a column of this row, or after the last one.
     #[inline(always)]
-    fn bars_put(&self, row: usize, column: usize, between: bool) -> usize
-        ensures { result ≡ specs.or_else
-            (held.bars_in self.now (held.line self.now (held.row self.now row).line) column)
-            (specs.framing self.now between) }
+    fn bars_put(&self, line: Line, column: usize, between: bool) -> usize
+        ensures { result ≡ specs.or_else (held.bars_in self.now line column) (specs.framing self.now between) }
     {
-        let bars = self.bars_in(self.line(self.row(row).line), column);
+        let bars = self.bars_in(line, column);
         if bars > 0 {
             return bars;
         }
@@ -86,8 +84,9 @@ impl Table {
         ensures { result ≡ specs.bars_of self.now row column }
     {
         let between = 0 < column && column < self.columns.len();
-        let bars = self.bars_put(row, column, between);
-        if bars > 0 && between && self.is_inside(row, column) {
+        let line = self.line(self.row(row).line);
+        let bars = self.bars_put(line, column, between);
+        if bars > 0 && between && self.is_inside(line, row, column) {
             return 0;
         }
         bars
@@ -156,8 +155,10 @@ impl Table {
     pub(crate) fn right_edge(&self) -> usize
         ensures { result ≡ specs.right_edge self.now }
     {
-        let bars = self.most_bars(self.columns.len());
-        bars.max(self.framing_bars(false)).min(1)
+        if self.is_boxed() {
+            return 1;
+        }
+        self.most_bars(self.columns.len()).min(1)
     }
 
     /// Whether only the formatter knows how wide the columns of a cell are.

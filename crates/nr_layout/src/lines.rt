@@ -89,13 +89,14 @@ impl Table {
     }
 
     /// It is, if it is to be.
+    #[tactic(auto, using(crate::proofs::Tapes::draws_no_bytes))]
     fn put_room_if<W: Sink>(&self, row: usize, last: usize, out: &mut Out<'_, W>)
         ensures { Draws out.old out.new (Bytes (specs.room_if self.now row last) ∷ []) }
     {
-        if self.needs_room(row, last) {
-            return self.put_room_to(row, last, out);
+        if !self.needs_room(row, last) {
+            return;
         }
-        out.ask(b"")
+        self.put_room_to(row, last, out);
     }
 
     /// Room is asked for the rows over which a field of this one goes on, where a box doesn't ask for all.

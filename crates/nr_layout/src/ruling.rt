@@ -36,20 +36,13 @@ impl Table {
 
     /// The pen goes to where bars meet a rule.
     #[tactic(auto, using(crate::proofs::Tapes::draws_nothing))]
-    fn begin_crossing<W: Sink>(
-        &self,
-        above: Option<usize>,
-        below: Option<usize>,
-        column: usize,
-        out: &mut Out<'_, W>,
-    )
-        ensures { Draws out.old out.new (specs.crossing_begin self.now above below column) }
+    fn begin_crossing<W: Sink>(&self, was: bool, column: usize, out: &mut Out<'_, W>)
+        ensures { Draws out.old out.new (specs.begun_crossing self.now was column) }
     {
         if column == 0 {
             return;
         }
-        let ruled = !self.was_covered(above, below, column);
-        self.go(ruled, self.bar_place(column), out);
+        self.go(!was, self.bar_place(column), out);
     }
 
     /// Where a rule ends that meets no bars, beside a field that goes on over a column.
@@ -86,11 +79,11 @@ impl Table {
         let up = self.bars_at(above, column);
         let down = self.bars_at(below, column);
         let bars = self.most_meeting(up, down, column);
+        let was = self.was_covered(above, below, column);
         if bars == 0 {
-            let was = self.was_covered(above, below, column);
             return self.turn_rule(was, self.is_covered(above, below, column), column, out);
         }
-        self.begin_crossing(above, below, column, out);
+        self.begin_crossing(was, column, out);
         out.bars(self.crossing_of(above, below, column, up, down), bars);
     }
 

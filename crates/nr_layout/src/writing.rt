@@ -181,6 +181,7 @@ impl<'a, W: Sink> Out<'a, W> {
     }
 
     /// A byte so many times.
+    #[inline(always)]
     pub(crate) fn repeat(&mut self, byte: u8, count: usize)
         ensures { Draws self.old self.new (Bytes (replicate count byte) ∷ []) }
     {

@@ -20,7 +20,7 @@ use std::alloc::{AllocError, Global};
 use std::marker::Model;
 
 /// The bytes that wait to go out at most.
-const PENDING: usize = 65_536;
+const PENDING: usize = 4_096;
 
 /// The greatest limit.
 const MOST: usize = 18_446_744_073_709_551_614;

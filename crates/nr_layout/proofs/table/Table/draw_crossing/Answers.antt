@@ -1,5 +1,5 @@
 use Rattle.std.proofs.Common.{◌≡◌, ℕ, ◌<◌, Bool, ◌==◌, ◌++◌, max, ap, sym, arith, eq-eqb, ◌∙◌}
-use Rattle.nr_layout.specs.Drawing.{crossing_begin, some_crossing, turned, turning}
+use Rattle.nr_layout.specs.Drawing.{begun_crossing, crossing_begin, some_crossing, turned, turning}
 use Rattle.nr_layout.specs.Frames.{bars_at, framing_at, is_covered, meeting}
 use Rattle.nr_layout.specs.Pens.{bars}
 use Rattle.nr_layout.proofs.Choices.{other_of}
@@ -33,4 +33,5 @@ returns g c =
     draws_same (draws_then c.begin_crossing.ensures c.bars.ensures)
     (other_of most (turning t c.args.above c.args.below c.args.column) (some_crossing t c.args.above c.args.below c.args.column most) some
     ∙ ap (λ (n : ℕ). some_crossing t c.args.above c.args.below c.args.column n) is
-    ∙ ap (λ (b : ℕ). crossing_begin t c.args.above c.args.below c.args.column ++ bars b c.most_meeting-bars.result) (sym c.crossing_of.ensures))
+    ∙ ap (λ (b : ℕ). crossing_begin t c.args.above c.args.below c.args.column ++ bars b c.most_meeting-bars.result) (sym c.crossing_of.ensures)
+    ∙ ap (λ (b : Bool). begun_crossing t b c.args.column ++ bars c.crossing_of.result c.most_meeting-bars.result) (sym c.was_covered-was.ensures))
