@@ -19,7 +19,7 @@ use Rattle.nr_tbl.specs.declared.telling.Tell.TheVariants as tells
 use Rattle.nr_tbl.specs.BlockLines.{ends_block, goes_on, field_at, block_left, block_ended, block_line, block_overflown}
 use Rattle.nr_tbl.specs.Commands.{begins_command, is_command}
 use Rattle.nr_tbl.specs.Ending.{is_begin, is_open_in, closed_in, closed, line_closed, finished, first_page, page_said}
-use Rattle.nr_tbl.specs.Fields.{shape_of, is_comment, is_request, paired, place_of, open_behind, behind}
+use Rattle.nr_tbl.specs.Fields.{shape_of, is_request, place_of, cleaned, continues, behind}
 use Rattle.nr_tbl.specs.Formats.{read as read_format}
 use Rattle.nr_tbl.specs.HeadLines as heads
 use Rattle.nr_tbl.specs.Heads.{options_end, is_dotted}
@@ -28,10 +28,10 @@ use Rattle.nr_tbl.specs.Options.{options_of}
 use Rattle.nr_tbl.specs.Outside.{passed, line_passed, plain_passed, plain_line_passed, given_up}
 use Rattle.nr_tbl.specs.Pages.{Page, Effect, effect, and_then, with_state, at_mode, line_counted, forgotten, rest_of, line_of, wrong}
 use Rattle.nr_tbl.specs.Reading.{read, read_in, fed, kept, limit_of, with_kept, block_goes_on, kept_more, line_ended, line_ended_in, overflown, overflown_in}
-use Rattle.nr_tbl.specs.RowLines.{Said, saying, trimmed, solid, are_empty, text_said, shape_said, field_said, last_said, widths_wrong, ended_at, fields_ended, all_ended, with_pairs, last_ended, rest_said, rest_told, comments, line_continued, row_line, row_so_far, line_between, long_end, row_overflown}
+use Rattle.nr_tbl.specs.RowLines.{Said, saying, trimmed, solid, are_empty, text_said, shape_said, field_said, last_said, widths_wrong, ended_at, fields_ended, all_ended, line_cleaned, last_ended, rest_said, rest_told, line_continued, row_line, row_so_far, line_between, long_end, row_overflown}
 use Rattle.nr_tbl.specs.States as states
 use Rattle.nr_tbl.specs.Telling.{Piece, piece, each}
-use Rattle.nr_tbl.proofs.Steady.{choose, paired_length}
+use Rattle.nr_tbl.proofs.Steady.{choose, cleaned_shorter}
 
 -- what a page pays: for the fields of a line, and for all that is kept
 abbrev pub row_weight : Page → ℕ
@@ -103,11 +103,11 @@ field_few s text = let t = trimmed s text in shape_few (shape_of t) s t
 last_few : (s : State) (text : List ℕ) → length (last_said s text).pieces ≤ 3
 last_few s text =
     let t = trimmed s text in
-    let last : length (if are_empty s.options.tab t || is_comment t then saying s [] else saying (text_said s t).state (wrong kinds.TooManyFields s ∷ (text_said s t).pieces)).pieces ≤ 3 =
-    choose (λ (x : Said). length x.pieces ≤ 3) (are_empty s.options.tab t || is_comment t) (saying s []) (saying (text_said s t).state (wrong kinds.TooManyFields s ∷ (text_said s t).pieces))
+    let last : length (if are_empty s.options.tab t then saying s [] else saying (text_said s t).state (wrong kinds.TooManyFields s ∷ (text_said s t).pieces)).pieces ≤ 3 =
+    choose (λ (x : Said). length x.pieces ≤ 3) (are_empty s.options.tab t) (saying s []) (saying (text_said s t).state (wrong kinds.TooManyFields s ∷ (text_said s t).pieces))
     (omega arith) (let x = text_few s t in omega (arith, x)) in
     choose (λ (x : Said). length x.pieces ≤ 3) (not (states.is_beyond s)) (field_said s text)
-    (if are_empty s.options.tab t || is_comment t then saying s [] else saying (text_said s t).state (wrong kinds.TooManyFields s ∷ (text_said s t).pieces))
+    (if are_empty s.options.tab t then saying s [] else saying (text_said s t).state (wrong kinds.TooManyFields s ∷ (text_said s t).pieces))
     (let x = field_few s text in omega (arith, x)) last
 
 some_is : (x y : ℕ) → Some x ≡ Some y → x ≡ y
@@ -162,23 +162,23 @@ rest_light (shapes.Mark marks.Above) p = last_light p
 
 continued_light : (alone : Bool) (p : Page) → Light (row_weight p + 4) (line_continued alone p)
 continued_light alone p =
-    choose (Light (row_weight p + 4)) (alone && not (comments p)) _ _
+    choose (Light (row_weight p + 4)) alone _ _
     (record { few = (let cut = length-take (length p.kept - 1) p.kept in omega (arith, cut)) })
     (more 4 (row_weight p + 4) (rest_told p) (omega arith) (rest_light _ p))
 
 row_light : (p : Page) → Light (row_weight p + 4) (row_line p)
 row_light p =
-    let q = with_pairs p in
+    let q = line_cleaned p in
     let r = all_ended q in
-    let alone = open_behind false (line_of p) in
-    let whole = length-append (take p.start p.kept) (paired false (line_of p)) in
+    let alone = continues (line_of p) in
+    let whole = length-append (take p.start p.kept) (cleaned (line_of p)) in
     let front = length-take p.start p.kept in
     let back = length-drop p.start p.kept in
-    let pairs = paired_length false (line_of p) in
+    let shorter = cleaned_shorter (line_of p) in
     let x = fields_few (q.state.formats.columns - q.state.fields) q in
     let y = (continued_light alone r.page).few in
     let z = length-append r.pieces (line_continued alone r.page).pieces in
-    record { few = omega (arith, whole, front, back, pairs, x, y, z) }
+    record { few = omega (arith, whole, front, back, shorter, x, y, z) }
 
 between_light : (p : Page) → Light (row_weight p + 4) (line_between p)
 between_light p =

@@ -1,3 +1,4 @@
+pub mod Cleaning
 pub mod Counting
 pub mod Fielding
 pub mod Finding

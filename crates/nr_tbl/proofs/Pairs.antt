@@ -1,10 +1,10 @@
 -- Two backslashes become a backslash and an `e`, byte after byte.
-use Rattle.std.proofs.Common.{◌≡◌, ℕ, zero, suc, ◌+◌, ◌<◌, ◌≤◌, List, [], ◌∷◌, ◌++◌, length, take, drop, get_or, Bool, true, false, ◌==◌, ◌&&◌, Option, None, Some, if◌then◌else◌, refl, sym, ◌∙◌, ap, append_assoc, append-nil, arith}
+use Rattle.std.proofs.Common.{◌≡◌, ℕ, zero, suc, ◌+◌, ◌<◌, ◌≤◌, List, [], ◌∷◌, ◌++◌, length, take, drop, get_or, Bool, true, false, ◌==◌, ◌&&◌, Some, None, refl, sym, ◌∙◌, ap, append_assoc, append-nil, arith}
 use Prim.Native.Char.{code}
-use Rattle.std.proofs.lemmas.List.{take-append-drop, take_all, drop_all, drop_more, take_more_set, drop-set-lt}
+use Rattle.std.proofs.lemmas.List.{take_all, drop_all, drop_more, take_more_set, drop-set-lt}
 use Rattle.std.proofs.Math.ListN.{set, length-set}
 use Rattle.std.specs.List.{slice_get}
-use Rattle.nr_tbl.specs.Fields.{behind, second_of, is_alone, paired, place_of, open_behind}
+use Rattle.nr_tbl.specs.Fields.{second_of, is_alone, paired, open_behind}
 
 -- the bytes up to a place were read
 pub record Paired (start at : ℕ) (alone : Bool) (old now : List ℕ) : Type 0 where
@@ -15,29 +15,6 @@ pub record Paired (start at : ℕ) (alone : Bool) (old now : List ℕ) : Type 0 
 
 pub paired_first : (start : ℕ) (old : List ℕ) → Paired start start false old old
 paired_first start old = record { front = refl; rest = refl; opens = refl; same = refl }
-
--- bytes without a backslash stay
-no_first : (e : Bool) (r : Option ℕ) → (if e then Some 0 else behind r) ≡ None → (e ≡ false) × (r ≡ None)
-no_first true r none = absurd (cc)
-no_first false None none = (refl, refl)
-no_first false (Some n) none = absurd (cc)
-
-unpaired : (xs : List ℕ) → place_of (code "\\") xs ≡ None → (paired false xs ≡ xs) × (open_behind false xs ≡ false)
-unpaired [] none = (refl, refl)
-unpaired (b ∷ bs) none =
-    let first = no_first (b == code "\\") (place_of (code "\\") bs) none in
-    let rest = unpaired bs first.1 in (
-      ap (λ (e : Bool). b ∷ paired (e && true) bs) first.0 ∙ ap (λ (ys : List ℕ). b ∷ ys) rest.0,
-      ap (λ (e : Bool). open_behind (e && true) bs) first.0 ∙ rest.1,
-    )
-
-pub none_paired : (start : ℕ) (old : List ℕ) → place_of (code "\\") (drop start old) ≡ None
-    → old ≡ take start old ++ paired false (drop start old)
-none_paired start old none =
-    sym (take-append-drop start old) ∙ ap (λ (ys : List ℕ). take start old ++ ys) (sym (unpaired (drop start old) none).0)
-
-pub none_open : (xs : List ℕ) → place_of (code "\\") xs ≡ None → false ≡ open_behind false xs
-none_open xs none = sym (unpaired xs none).1
 
 some_is : (x y : ℕ) → Some x ≡ Some y → x ≡ y
 some_is x y e = cc

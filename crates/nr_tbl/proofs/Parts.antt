@@ -3,11 +3,11 @@ use Rattle.std.proofs.Common.{◌≡◌, ℕ, List, [], ◌∷◌, ◌++◌, Boo
 use Prim.Native.Char.{code}
 use Rattle.nr_tbl.specs.Commands.{is_command}
 use Rattle.nr_tbl.specs.Ending.{is_begin, is_open_in, line_closed, closed, finished, wrong_at_end}
-use Rattle.nr_tbl.specs.Fields.{open_behind}
+use Rattle.nr_tbl.specs.Fields.{continues}
 use Rattle.nr_tbl.specs.HeadLines.{head_line, head_ended, options_line, formats_line, formats_behind, formats_said, formats_judged, formats_taken, formats_ended, wrong_in, with_newline}
 use Rattle.nr_tbl.specs.Pages.{Page, Effect, effect, and_then, line_of, rest_of}
 use Rattle.nr_tbl.specs.Reading.{read}
-use Rattle.nr_tbl.specs.RowLines.{all_ended, with_pairs, line_continued, row_line}
+use Rattle.nr_tbl.specs.RowLines.{all_ended, line_cleaned, line_continued, row_line}
 use Rattle.nr_tbl.specs.Telling.{Piece, Tells, piece}
 use Rattle.nr_tbl.specs.declared.complaint.Kind.{Kind}
 use Rattle.nr_tbl.specs.declared.complaint.Kind.TheVariants.{OpenTable}
@@ -28,10 +28,10 @@ comes_as : {A S : Type 0} (shows : A → S → Type 0) (hears : Piece → S → 
 comes_as shows hears e f q a b same h = subst (λ (x : Effect). Comes shows hears x q a b) same h
 
 pub row_comes : {A S : Type 0} (shows : A → S → Type 0) (hears : Piece → S → S) (p q r t : Page) (alone : Bool) (a b c : A)
-    → q ≡ with_pairs p → alone ≡ open_behind false (line_of p) → r ≡ (all_ended q).page → Tells shows hears (all_ended q).pieces a b
+    → q ≡ line_cleaned p → alone ≡ continues (line_of p) → r ≡ (all_ended q).page → Tells shows hears (all_ended q).pieces a b
     → t ≡ (line_continued alone r).page → Tells shows hears (line_continued alone r).pieces b c → Comes shows hears (row_line p) t a c
 row_comes shows hears p q r t alone a b c pairs is page told page2 told2 =
-    comes_then shows hears (all_ended (with_pairs p)) (line_continued (open_behind false (line_of p))) r t a b c
+    comes_then shows hears (all_ended (line_cleaned p)) (line_continued (continues (line_of p))) r t a b c
     (page ∙ ap (λ (x : Page). (all_ended x).page) pairs) (subst (λ (x : Page). Tells shows hears (all_ended x).pieces a b) pairs told)
     (page2 ∙ ap (λ (x : Bool). (line_continued x r).page) is) (subst (λ (x : Bool). Tells shows hears (line_continued x r).pieces b c) is told2)
 

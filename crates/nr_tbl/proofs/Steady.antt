@@ -19,13 +19,13 @@ use Rattle.nr_tbl.specs.declared.state.State.{State}
 use Rattle.nr_tbl.specs.declared.widths.Line.{Line}
 use Rattle.nr_tbl.specs.BlockLines.{ends_block, goes_on, field_at, block_left, block_ended, block_line}
 use Rattle.nr_tbl.specs.Commands.{is_command}
-use Rattle.nr_tbl.specs.Fields.{is_request, is_comment, is_alone, paired, place_of, open_behind}
+use Rattle.nr_tbl.specs.Fields.{is_request, is_alone, paired, place_of, comment_in, cut, cleaned, continues}
 use Rattle.nr_tbl.specs.HeadLines as heads
 use Rattle.nr_tbl.specs.Heads.{options_end, is_dotted}
 use Rattle.nr_tbl.specs.Measure as measures
 use Rattle.nr_tbl.specs.Pages.{Page, Effect, effect, and_then, with_state, at_mode, forgotten, rest_of, line_of, wrong}
 use Rattle.nr_tbl.specs.Reading.{Fits, is_kept, limit_in, limit_of, line_ended_in, overflown_in, overflown, kept_more}
-use Rattle.nr_tbl.specs.RowLines.{Said, saying, trimmed, are_empty, text_said, shape_said, field_said, last_said, ended_at, fields_ended, row_ended, last_ended, all_ended, with_pairs, rest_said, comments, line_continued, row_line, line_between, long_end, row_overflown}
+use Rattle.nr_tbl.specs.RowLines.{Said, saying, trimmed, are_empty, text_said, shape_said, field_said, last_said, ended_at, fields_ended, row_ended, last_ended, all_ended, line_cleaned, rest_said, line_continued, row_line, line_between, long_end, row_overflown}
 use Rattle.nr_tbl.specs.States as states
 
 pub choose : {A : Type 0} (P : A → Type 0) (b : Bool) (x y : A) → P x → P y → P (if b then x else y)
@@ -71,10 +71,10 @@ same_field s text = let h = same_shape _ s _ in record { line = h.line; cells = 
 pub same_last : (s : State) (text : List ℕ) → Same s (last_said s text).state
 same_last s text =
     let t = trimmed s text in
-    let last : Same s (if are_empty s.options.tab t || is_comment t then saying s [] else saying (text_said s t).state (wrong kinds.TooManyFields s ∷ (text_said s t).pieces)).state =
-    choose (λ (x : Said). Same s x.state) (are_empty s.options.tab t || is_comment t) (saying s []) (saying (text_said s t).state (wrong kinds.TooManyFields s ∷ (text_said s t).pieces)) (same s) (same_text s t) in
+    let last : Same s (if are_empty s.options.tab t then saying s [] else saying (text_said s t).state (wrong kinds.TooManyFields s ∷ (text_said s t).pieces)).state =
+    choose (λ (x : Said). Same s x.state) (are_empty s.options.tab t) (saying s []) (saying (text_said s t).state (wrong kinds.TooManyFields s ∷ (text_said s t).pieces)) (same s) (same_text s t) in
     choose (λ (x : Said). Same s x.state) (not (states.is_beyond s)) (field_said s text)
-    (if are_empty s.options.tab t || is_comment t then saying s [] else saying (text_said s t).state (wrong kinds.TooManyFields s ∷ (text_said s t).pieces)) (same_field s text) last
+    (if are_empty s.options.tab t then saying s [] else saying (text_said s t).state (wrong kinds.TooManyFields s ∷ (text_said s t).pieces)) (same_field s text) last
 
 same_formats : (f : Formats) (line : Line) (text : List ℕ) (s : State) → Same s (states.with_formats f line (heads.measured_with text s))
 same_formats f line text s = record {
@@ -137,27 +137,37 @@ fitting_shape (shapes.Mark marks.Above) p = fitting_last p
 
 fitting_continued : (alone : Bool) (p : Page) → length p.kept ≤ p.limits.row → Fitting p (line_continued alone p).page
 fitting_continued alone p few =
-    choose (λ (e : Effect). Fitting p e.page) (alone && not (comments p)) _ _
+    choose (λ (e : Effect). Fitting p e.page) alone _ _
     (record { limits = refl; same = record { line = refl; cells = refl }; fits = (let cut = length-take (length p.kept - 1) p.kept in omega (arith, cut, few)) })
     (fitting_shape _ p)
 
-pub paired_length : (alone : Bool) (bytes : List ℕ) → length (paired alone bytes) ≡ length bytes
+paired_length : (alone : Bool) (bytes : List ℕ) → length (paired alone bytes) ≡ length bytes
 paired_length alone [] = refl
 paired_length alone (b ∷ bs) = ap suc (paired_length (is_alone alone b) bs)
 
+cut_shorter : (o : Option ℕ) (bytes : List ℕ) → length (cut o bytes) ≤ length bytes
+cut_shorter None bytes = omega arith
+cut_shorter (Some n) bytes = let cut = length-take n bytes in omega (arith, cut)
+
+pub cleaned_shorter : (bytes : List ℕ) → length (cleaned bytes) ≤ length bytes
+cleaned_shorter bytes =
+    let one = cut_shorter (comment_in (paired false bytes)) (paired false bytes) in
+    let two = paired_length false bytes in
+    omega (arith, one, two)
+
 pub fitting_row : (p : Page) → length p.kept ≤ p.limits.row → Fitting p (row_line p).page
 fitting_row p few =
-    let q = with_pairs p in
+    let q = line_cleaned p in
     let r = (all_ended q).page in
     let h = rowing (p.state.formats.columns - p.state.fields) q in
-    let whole = length-append (take p.start p.kept) (paired false (line_of p)) in
+    let whole = length-append (take p.start p.kept) (cleaned (line_of p)) in
     let front = length-take p.start p.kept in
     let back = length-drop p.start p.kept in
-    let pairs = paired_length false (line_of p) in
+    let shorter = cleaned_shorter (line_of p) in
     let same_len : length r.kept ≡ length q.kept = ap length h.kept in
     let l : r.limits.row ≡ p.limits.row = ap (λ (x : Limits). x.row) h.limits in
-    fitting_then p r (line_continued (open_behind false (line_of p)) r).page h.limits (record { line = h.same.line; cells = h.same.cells })
-    (fitting_continued (open_behind false (line_of p)) r (omega (arith, whole, front, back, pairs, same_len, l, few)))
+    fitting_then p r (line_continued (continues (line_of p)) r).page h.limits (record { line = h.same.line; cells = h.same.cells })
+    (fitting_continued (continues (line_of p)) r (omega (arith, whole, front, back, shorter, same_len, l, few)))
 
 pub fitting_between : (p : Page) → length p.kept ≤ p.limits.row → Fitting p (line_between p).page
 fitting_between p few =

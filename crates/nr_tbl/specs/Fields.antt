@@ -1,5 +1,5 @@
 -- Fields (Tbl, "Data"; tbl(1), "Table data"): rules, blocks, what goes on from above, what is repeated, text.
-use Rattle.std.specs.Prelude.{ℕ, ◌+◌, List, [], ◌∷◌, Bool, false, ◌==◌, ◌&&◌, ◌||◌, not, if◌then◌else◌, Option, None, Some}
+use Rattle.std.specs.Prelude.{ℕ, ◌+◌, List, [], ◌∷◌, take, Bool, true, false, ◌==◌, ◌&&◌, ◌||◌, not, if◌then◌else◌, Option, None, Some}
 use Prim.Native.Char.{code}
 use Rattle.nr_tbl.specs.declared.field.Mark.TheVariants as marks
 use Rattle.nr_tbl.specs.declared.field.Shape.{Shape}
@@ -29,7 +29,7 @@ abbrev pub without_blanks_before : List ℕ → List ℕ
 without_blanks_before [] = []
 without_blanks_before (b ∷ bs) = if b == code " " then without_blanks_before bs else b ∷ bs
 
--- a comment, where it stands behind the last column
+-- a comment begins it
 abbrev pub is_comment : List ℕ → Bool
 is_comment [] = false
 is_comment (a ∷ []) = false
@@ -76,3 +76,29 @@ paired alone (b ∷ bs) = second_of alone b ∷ paired (is_alone alone b) bs
 abbrev pub open_behind : Bool → List ℕ → Bool
 open_behind alone [] = alone
 open_behind alone (b ∷ bs) = open_behind (is_alone alone b) bs
+
+-- a line ends with a comment
+abbrev pub comment_in : List ℕ → Option ℕ
+comment_in [] = None
+comment_in (b ∷ bs) = if is_comment (b ∷ bs) then Some 0 else behind (comment_in bs)
+
+abbrev pub is_given : Option ℕ → Bool
+is_given None = false
+is_given (Some n) = true
+
+abbrev pub has_comment : List ℕ → Bool
+has_comment line = is_given (comment_in line)
+
+abbrev pub cut : Option ℕ → List ℕ → List ℕ
+cut None line = line
+cut (Some n) line = take n line
+
+abbrev pub before_comment : List ℕ → List ℕ
+before_comment line = cut (comment_in line) line
+
+-- what is read of a line, and whether the row goes on in the next
+abbrev pub cleaned : List ℕ → List ℕ
+cleaned line = before_comment (paired false line)
+
+abbrev pub continues : List ℕ → Bool
+continues line = open_behind false line && not (has_comment (paired false line))

@@ -11,7 +11,7 @@ use Rattle.nr_tbl.specs.declared.state.Mode.TheVariants as modes
 use Rattle.nr_tbl.specs.declared.state.State.{State}
 use Rattle.nr_tbl.specs.declared.telling.Tell.TheVariants as tells
 use Rattle.nr_tbl.specs.Commands.{is_command}
-use Rattle.nr_tbl.specs.Fields.{shape_of, without_blanks_before, is_comment, marks_of, is_request, place_of, paired, open_behind}
+use Rattle.nr_tbl.specs.Fields.{shape_of, without_blanks_before, marks_of, is_request, place_of, cleaned, continues}
 use Rattle.nr_tbl.specs.Measure.{cells_of}
 use Rattle.nr_tbl.specs.Numbers.{front}
 use Rattle.nr_tbl.specs.Pages.{Page, Effect, effect, and_then, with_state, at_mode, forgotten, rest_of, line_of, wrong}
@@ -73,7 +73,7 @@ abbrev pub last_said : State → List ℕ → Said
 last_said s text =
     if not (is_beyond s) then field_said s text else
     let t = trimmed s text in
-    if are_empty s.options.tab t || is_comment t then saying s [] else
+    if are_empty s.options.tab t then saying s [] else
     let said = text_said s t in saying said.state (wrong TooManyFields s ∷ said.pieces)
 
 -- ---- the fields of a line that something ends that separates them, of so many columns
@@ -130,25 +130,21 @@ rest_said shape p = last_ended p
 abbrev pub rest_told : Page → Effect
 rest_told p = rest_said (shape_of (trimmed p.state (rest_of p))) p
 
--- what stands behind the last column is a comment
-abbrev pub comments : Page → Bool
-comments p = is_beyond p.state && is_comment (trimmed p.state (rest_of p))
-
 -- the row goes on in the next line, if the last backslash stands alone
 abbrev pub line_continued : Bool → Page → Effect
 line_continued alone p =
-    if alone && not (comments p)
+    if alone
     then (let kept = take (length p.kept - 1) p.kept in
     effect (at_mode modes.Row (record p { kept = kept; start = length kept })) [])
     else rest_told p
 
--- two backslashes in it stand for one
-abbrev pub with_pairs : Page → Page
-with_pairs p = record p { kept = take p.start p.kept ++ paired false (line_of p) }
+-- two backslashes in it stand for one, and a comment ends it
+abbrev pub line_cleaned : Page → Page
+line_cleaned p = record p { kept = take p.start p.kept ++ cleaned (line_of p) }
 
 -- a line of a row ends
 abbrev pub row_line : Page → Effect
-row_line p = and_then (all_ended (with_pairs p)) (line_continued (open_behind false (line_of p)))
+row_line p = and_then (all_ended (line_cleaned p)) (line_continued (continues (line_of p)))
 
 -- ---- lines between rows
 

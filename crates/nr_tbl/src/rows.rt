@@ -62,16 +62,12 @@ fn is_alone(alone: bool, byte: u8) -> bool
 }
 
 /// Two backslashes become `\\e`, which stays itself where it is read twice. Tells whether the last one stands alone.
-#[tactic(auto, using(crate::proofs::Pairs::none_paired, crate::proofs::Pairs::none_open))]
 fn pair_backslashes(kept: &mut FixedVec<u8>, start: usize) -> bool
     ensures items { kept.new.items ≡ take start kept.old.items
         ++ specs.paired false (drop start kept.old.items) }
     ensures alone { result ≡ specs.open_behind false (drop start kept.old.items) }
     ensures room { kept.new.room ≡ kept.old.room }
 {
-    if place_of(b'\\', behind(kept.as_slice(), start)).is_none() {
-        return false;
-    }
     let mut alone = false;
     for at in start..kept.len() {
         let byte = kept.get(at);
@@ -81,11 +77,56 @@ fn pair_backslashes(kept: &mut FixedVec<u8>, start: usize) -> bool
     alone
 }
 
-/// Whether what stands behind the last column is a comment.
+/// Whether a comment begins a text.
 fn is_comment(text: &[u8]) -> bool
     ensures { result ≡ specs.is_comment text.now }
 {
     text.len() > 1 && text[0] == b'\\' && text[1] == b'"'
+}
+
+/// Where a comment begins.
+fn comment_in(text: &[u8]) -> Option<usize>
+    ensures value { result ≡ specs.comment_in text.now }
+    ensures within { IfSome result (λ place. place < length text.now) }
+{
+    for (at, _) in text.iter().enumerate() {
+        if is_comment(&text[at..]) {
+            return Some(at);
+        }
+    }
+    None
+}
+
+/// A comment is cut off. Tells whether there was one.
+#[tactic(auto, using(crate::proofs::Cleaning::cut_there, crate::proofs::Cleaning::cut_nowhere))]
+fn cut_comment(kept: &mut FixedVec<u8>, start: usize) -> bool
+    ensures items { kept.new.items ≡ take start kept.old.items
+        ++ specs.before_comment (drop start kept.old.items) }
+    ensures cut { result ≡ specs.has_comment (drop start kept.old.items) }
+    ensures room { kept.new.room ≡ kept.old.room }
+{
+    match comment_in(behind(kept.as_slice(), start)) {
+        Some(at) => {
+            kept.truncate(start + at);
+            true
+        }
+        None => false,
+    }
+}
+
+/// Two backslashes become `\\e`, and a comment is cut off. Tells whether the last backslash stands alone.
+#[tactic(auto, using(crate::proofs::Cleaning::none_cleaned, crate::proofs::Cleaning::none_goes_on))]
+fn clean_line(kept: &mut FixedVec<u8>, start: usize) -> bool
+    ensures items { kept.new.items ≡ take start kept.old.items ++ specs.cleaned (drop start kept.old.items) }
+    ensures alone { result ≡ specs.continues (drop start kept.old.items) }
+    ensures room { kept.new.room ≡ kept.old.room }
+{
+    if place_of(b'\\', behind(kept.as_slice(), start)).is_none() {
+        return false;
+    }
+    let alone = pair_backslashes(kept, start);
+    let cut = cut_comment(kept, start);
+    alone & !cut
 }
 
 impl State {
@@ -171,7 +212,7 @@ impl State {
             return;
         }
         let text = self.trimmed(text);
-        if are_empty(self.options.tab, text) || is_comment(text) {
+        if are_empty(self.options.tab, text) {
             return;
         }
         self.complains(Kind::TooManyFields, setter);
@@ -236,19 +277,12 @@ impl Reader {
         self.start = end + 1;
     }
 
-    /// Whether a comment stands behind the last column.
-    fn comments(&self) -> bool
-        ensures { result ≡ lines.comments self.now }
+    /// Two backslashes of the line become `\\e`, and a comment is cut off. Tells whether the last backslash stands alone.
+    fn cleans_line(&mut self) -> bool
+        ensures page { self.new ≡ lines.line_cleaned self.old }
+        ensures alone { result ≡ specs.continues (line_of self.old) }
     {
-        self.state.is_beyond() && is_comment(self.state.trimmed(self.rest()))
-    }
-
-    /// Two backslashes of the line become `\\e`. Tells whether the last one stands alone.
-    fn pairs_backslashes(&mut self) -> bool
-        ensures page { self.new ≡ lines.with_pairs self.old }
-        ensures alone { result ≡ specs.open_behind false (line_of self.old) }
-    {
-        pair_backslashes(&mut self.kept, self.start)
+        clean_line(&mut self.kept, self.start)
     }
 
     /// A line of a row ends.
@@ -256,7 +290,7 @@ impl Reader {
         ensures page { self.new ≡ (lines.row_line self.old).page }
         ensures told { Tells S.shows S.hears (lines.row_line self.old).pieces setter.old setter.new }
     {
-        let alone = self.pairs_backslashes();
+        let alone = self.cleans_line();
         self.tell_ended(setter);
         self.goes_on(alone, setter);
     }
@@ -267,7 +301,7 @@ impl Reader {
         ensures told { Tells S.shows S.hears (lines.line_continued alone self.old).pieces setter.old
             setter.new }
     {
-        if !alone || self.comments() {
+        if !alone {
             self.tell_rest(setter);
             return;
         }
