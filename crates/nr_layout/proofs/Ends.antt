@@ -1,17 +1,17 @@
 -- Where the lines of a table end.
-use Rattle.std.proofs.Common.{◌≡◌, ℕ, ◌-◌, ◌≤◌, Bool, true, false, ◌==◌, ◌||◌, not, nat_le, nat_lt, List, [], ◌∷◌, ◌++◌, Option, None, Some, refl, ap, append-nil, arith, ◌∙◌, if◌then◌else◌}
+use Rattle.std.proofs.Common.{◌≡◌, ℕ, ◌-◌, ◌≤◌, Bool, true, false, ◌==◌, not, nat_le, nat_lt, List, [], ◌∷◌, ◌++◌, Option, None, Some, refl, ap, append-nil, arith, ◌∙◌, if◌then◌else◌}
 use Rattle.std.proofs.lemmas.Bool.Decides.{nat_tests}
 use Rattle.nr_layout.specs.declared.pen.Pen.{Pen}
 use Rattle.nr_layout.specs.declared.places.Mark.{Mark}
 use Rattle.nr_layout.specs.declared.places.Mark.TheVariants as marks
 use Rattle.nr_layout.specs.declared.places.Place.{Place}
 use Rattle.nr_layout.specs.declared.table.Table.{Table}
-use Rattle.nr_layout.specs.Drawing.{bar, crossing_byte, dash, ends_covered, go, row_cells, row_strokes, rule_cells, rule_end, some_bars, was_ruled}
+use Rattle.nr_layout.specs.Drawing.{crossing_byte, dash, ends_covered, go, row_bar, row_cells, row_strokes, rule_cells, rule_end, some_bars}
 use Rattle.nr_layout.specs.Ends.{EdgesEndTogether, RowsEndTogether, RowsEndWithin, RulesEndTogether, end_of}
-use Rattle.nr_layout.specs.Frames.{bar_place, meeting, right_edge, table_end, width_end}
+use Rattle.nr_layout.specs.Frames.{bar_place, last_place, meeting, right_edge, shares_edge, table_end, was_ruled, width_end}
 use Rattle.nr_layout.specs.Held.{column, columns}
 use Rattle.nr_layout.specs.Pens.{Stroke, Start, after_all, bars, dashed_to, first, furthest, on_from, released, steps_from, to}
-use Rattle.nr_layout.specs.Places.{edge, is_same_mark, on, steps_between, sum}
+use Rattle.nr_layout.specs.Places.{after, edge, is_same_mark, on, steps_between, sum}
 use Rattle.nr_layout.specs.Signs.{joint}
 use Rattle.nr_layout.proofs.Tapes.{after_all-append}
 
@@ -60,7 +60,7 @@ le_itself : (n : ℕ) → nat_le n n ≡ true
 le_itself n = grind (arith, nat_tests)
 
 end-place : (t : Table) → bar_place t (columns t) ≡ table_end t
-end-place t = end_choice (columns t == 0) (nat_le (columns t) (columns t)) edge (on (right_edge t) (column t (columns t - 1)).right) (column t (columns t - 1)).bar (le_itself (columns t))
+end-place t = end_choice (columns t == 0) (nat_le (columns t) (columns t)) edge (last_place t) (column t (columns t - 1)).bar (le_itself (columns t))
 
 last-at : (t : Table) (ruled : Bool) (b n : ℕ) (place : Place) (p : Pen) (at : Place) → p.at ≡ Some at → is_same_mark at.mark place.mark ≡ true → at.cells ≤ place.cells
     → (after_all (go t ruled place ++ bars b n) p).at ≡ Some (on n place)
@@ -74,7 +74,7 @@ pub rows_end_together : RowsEndTogether
 rows_end_together t r line one w =
     let was : Bool = was_ruled t r (columns t) in
     let cells : List Stroke = row_cells (columns t) t r line in
-    let is : bar t r (columns t) was false ≡ go t was (table_end t) ++ bars (joint t.signs true true was false) 1 =
+    let is : row_bar t r (columns t) was false ≡ go t was (table_end t) ++ bars (joint t.signs true true was false) 1 =
     ap (λ (n : ℕ). if n == 0 then [] else some_bars t (columns t) was false n) one
     ∙ ap (λ (place : Place). go t was place ++ bars (joint t.signs true true was false) 1) (end-place t) in
     ap (λ (ss : List Stroke). end_of (cells ++ ss)) is
@@ -104,15 +104,19 @@ same_itself (marks.Begin c) = equal_itself c
 within_number : (n m : ℕ) → sum n m ≤ 18446744073709551615
 within_number n m = omega arith
 
-end_number : (b : Bool) (p : Place) (n : ℕ) → (if b then edge else on n p).cells ≤ 18446744073709551615
-end_number true p n = omega arith
-end_number false p n = within_number p.cells n
+end_number : (b shares : Bool) (mark : Mark) (p : Place) (n : ℕ)
+    → (if b then edge else if shares then after mark else on n p).cells ≤ 18446744073709551615
+end_number true shares mark p n = omega arith
+end_number false true mark p n = omega arith
+end_number false false mark p n = within_number p.cells n
 
 no_further : (n : ℕ) → n ≤ 18446744073709551615 → n ≤ sum n 1
 no_further n h = omega (arith, h)
 
 end_further : (t : Table) → (table_end t).cells ≤ (width_end t).cells
-end_further t = no_further (table_end t).cells (end_number (columns t == 0) (column t (columns t - 1)).right (right_edge t))
+end_further t =
+    no_further (table_end t).cells
+    (end_number (columns t == 0) (shares_edge t (right_edge t)) (marks.Bar (columns t)) (column t (columns t - 1)).right (right_edge t))
 
 -- a bar, or the rule goes on
 end-at : (t : Table) (none ruled : Bool) (b : ℕ) (p : Pen) → p.at ≡ Some (table_end t)

@@ -6,8 +6,8 @@ use Rattle.nr_layout.specs.declared.table.Table.{Table}
 use Rattle.nr_layout.specs.Cells.{goes_over}
 use Rattle.nr_layout.specs.Columns.{together, with_column}
 use Rattle.nr_layout.specs.Frames.{bars_of, some_bars}
-use Rattle.nr_layout.specs.Held.{column, field, key, step}
-use Rattle.nr_layout.specs.Steps.{line_among, or_line, prints, some_print, standing_line}
+use Rattle.nr_layout.specs.Held.{column, field, key, prints, some_print, step}
+use Rattle.nr_layout.specs.Steps.{line_among, or_line, standing_line}
 
 next_left : (n end : ℕ) → n < end → end - n ≡ suc (end - (n + 1))
 next_left n end h = omega (arith, h)

@@ -1,5 +1,5 @@
 -- The texts of fields among the strokes of a line.
-use Rattle.std.proofs.Common.{◌≡◌, ℕ, zero, suc, Bool, true, false, ◌==◌, ◌&&◌, ◌||◌, not, nat_lt, List, [], ◌∷◌, ◌++◌, Option, None, Some, refl, sym, ap, ◌∙◌, append_assoc, append-nil, if◌then◌else◌}
+use Rattle.std.proofs.Common.{◌≡◌, ℕ, zero, suc, Bool, true, false, ◌==◌, ◌&&◌, not, nat_lt, List, [], ◌∷◌, ◌++◌, Option, None, Some, refl, sym, ap, ◌∙◌, append_assoc, append-nil, if◌then◌else◌}
 use Rattle.nr_layout.specs.declared.pen.Begin.{Begin}
 use Rattle.nr_layout.specs.declared.pen.Begin.TheVariants as begins
 use Rattle.nr_layout.specs.declared.pen.Pen.{Pen}
@@ -8,11 +8,12 @@ use Rattle.nr_layout.specs.declared.table.Cell.{Cell}
 use Rattle.nr_layout.specs.declared.table.Form.{Form}
 use Rattle.nr_layout.specs.declared.table.Form.TheVariants as forms
 use Rattle.nr_layout.specs.declared.table.Table.{Table}
-use Rattle.nr_layout.specs.Drawing.{bar, bars_cell, bars_cells, bars_strokes, begin_at, begin_of, content, crossing, crossing_begin, crossing_byte, dash, edge_strokes, ends_covered, falling, field_in, field_rule, field_strokes, field_text, first_of, go, going_on, is_ruled, row_cell, row_cells, row_strokes, rule_begin, rule_cell, rule_cells, rule_end, rule_strokes, shown_width, some_bars, some_crossing, stands_on, text_strokes, turned, turning, was_covered, was_ruled, whole}
-use Rattle.nr_layout.specs.Frames.{bar_place, bars_of, is_covered, meeting, table_end, width_end}
+use Rattle.nr_layout.specs.Drawing.{bar, bars_cell, bars_cells, bars_strokes, begin_at, begin_of, column_rule, column_rule_end, content, crossing, crossing_begin, crossing_byte, dash, edge_strokes, ends_covered, falling, field_in, field_strokes, field_text, first_of, go, goes_on, going_on, row_bar, row_cell, row_cells, row_strokes, rule_begin, rule_cell, rule_cells, rule_end, rule_stop, rule_strokes, shown_width, some_bars, some_crossing, stands_on, text_strokes, turned, turning, was_covered, whole}
+use Rattle.nr_layout.specs.Frames.{bar_place, bars_of, bars_seen, is_covered, is_ruled, meeting, table_end, was_ruled, width_end}
 use Rattle.nr_layout.specs.Held.{cell, column, columns, has_text, is_rule, is_text}
 use Rattle.nr_layout.specs.Pens as pens
 use Rattle.nr_layout.specs.Pens.{Stroke, Pass, Text, To, after, bytes, bytes_of}
+use Rattle.nr_layout.specs.Places.{sum}
 use Rattle.nr_layout.specs.Signs.{joint}
 use Rattle.nr_layout.specs.Texts.{BarsHaveTheirTexts, EdgesHaveNone, RowsHaveTheirTexts, RulesHaveTheirTexts, StandIn, TextsGoOut, bars_texts, each, falling_text, row_texts, rule_texts, text_at, text_if, text_in, text_over, texts}
 
@@ -47,10 +48,17 @@ some_bars-none t c was now n = after_none (go t was (bar_place t c)) (pens.bars 
 bar-none : (t : Table) (r c : ℕ) (was now : Bool) → texts (bar t r c was now) ≡ []
 bar-none t r c was now = either_none (bars_of t r c == 0) [] (some_bars t c was now (bars_of t r c)) refl (some_bars-none t c was now (bars_of t r c))
 
-field_rule-none : (t : Table) (r c : ℕ) → texts (field_rule t r c) ≡ []
-field_rule-none t r c =
-    after_none (rule_begin t r c) (dash t (column t (cell t r c).last).right)
-    (either_none (not (was_ruled t r c) && (bars_of t r c == 0)) (To (column t c).left ∷ []) [] refl refl)
+row_bar-none : (t : Table) (r c : ℕ) (was now : Bool) → texts (row_bar t r c was now) ≡ []
+row_bar-none t r c was now = either_none (bars_seen t r c == 0) [] (some_bars t c was now (bars_seen t r c)) refl (some_bars-none t c was now (bars_seen t r c))
+
+column_rule_end-none : (t : Table) (r c : ℕ) → texts (column_rule_end t r c) ≡ []
+column_rule_end-none t r c = either_none (goes_on t r c) [] (dash t (rule_stop t c)) refl refl
+
+column_rule-none : (t : Table) (r c : ℕ) → texts (column_rule t r c) ≡ []
+column_rule-none t r c =
+    before_none (rule_begin t r c ++ dash t (column t c).right) (column_rule_end t r (sum c 1)) (column_rule_end-none t r (sum c 1))
+    ∙ after_none (rule_begin t r c) (dash t (column t c).right)
+    (either_none (not (was_ruled t r c) && (bars_seen t r c == 0)) (To (bar_place t c) ∷ []) [] refl refl)
 
 crossing_begin-none : (t : Table) (above below : Option ℕ) (c : ℕ) → texts (crossing_begin t above below c) ≡ []
 crossing_begin-none t above below c =
@@ -130,38 +138,46 @@ and-false : (b : Bool) → (b && false) ≡ false
 and-false true = refl
 and-false false = refl
 
--- whether it begins in this row, and in this column; is a rule; goes on over rows below, and stands on this line; has text
-stands-text : (top here rule falls on has : Bool) (rs ss : List Stroke) (text : List ℕ)
-    → texts rs ≡ [] → texts ss ≡ (if has then text ∷ [] else []) → (rule ≡ true → has ≡ false)
-    → texts (if top && here then (if rule then rs else if falls then (if falls && here && on then ss else []) else ss) else if falls && here && on then ss else [])
+-- whether it begins in this row, and in this column; goes on over rows below, and stands on this line; has text
+stands-text : (top here falls on has : Bool) (ss : List Stroke) (text : List ℕ)
+    → texts ss ≡ (if has then text ∷ [] else [])
+    → texts (if top && here then (if falls then (if falls && here && on then ss else []) else ss) else if falls && here && on then ss else [])
     ≡ (if (here && (if falls then on else top)) && has then text ∷ [] else [])
-stands-text top here rule falls on false rs ss text r s h =
-    either_none (top && here) (if rule then rs else if falls then (if falls && here && on then ss else []) else ss) (if falls && here && on then ss else [])
-    (either_none rule rs (if falls then (if falls && here && on then ss else []) else ss) r
-    (either_none falls (if falls && here && on then ss else []) ss (either_none (falls && here && on) ss [] s refl) s))
+stands-text top here falls on false ss text s =
+    either_none (top && here) (if falls then (if falls && here && on then ss else []) else ss) (if falls && here && on then ss else [])
+    (either_none falls (if falls && here && on then ss else []) ss (either_none (falls && here && on) ss [] s refl) s)
     (either_none (falls && here && on) ss [] s refl)
     ∙ ap (λ b. if b then text ∷ [] else []) (sym (and-false (here && (if falls then on else top))))
-stands-text top here true falls on true rs ss text r s h = let e = h refl in cc
-stands-text true true false false on true rs ss text r s h = s
-stands-text true false false false on true rs ss text r s h = refl
-stands-text false true false false on true rs ss text r s h = refl
-stands-text false false false false on true rs ss text r s h = refl
-stands-text true false false true on true rs ss text r s h = refl
-stands-text false false false true on true rs ss text r s h = refl
-stands-text true true false true true true rs ss text r s h = s
-stands-text false true false true true true rs ss text r s h = s
-stands-text true true false true false true rs ss text r s h = refl
-stands-text false true false true false true rs ss text r s h = refl
+stands-text true true false on true ss text s = s
+stands-text true false false on true ss text s = refl
+stands-text false true false on true ss text s = refl
+stands-text false false false on true ss text s = refl
+stands-text true false true on true ss text s = refl
+stands-text false false true on true ss text s = refl
+stands-text true true true true true ss text s = s
+stands-text false true true true true ss text s = s
+stands-text true true true false true ss text s = refl
+stands-text false true true false true ss text s = refl
+
+-- a rule has none
+ruled-text : (rule top has b : Bool) (rs ss : List Stroke) (text : List ℕ) → texts rs ≡ [] → (rule ≡ true → has ≡ false)
+    → texts ss ≡ (if b && has then text ∷ [] else []) → texts (if rule && top then rs else ss) ≡ (if b && has then text ∷ [] else [])
+ruled-text false top has b rs ss text r h s = s
+ruled-text true false has b rs ss text r h s = s
+ruled-text true true has b rs ss text r h s =
+    r ∙ ap (λ x. if x then text ∷ [] else []) (sym (ap (λ x. b && x) (h refl) ∙ and-false b))
 
 content-text : (t : Table) (r : ℕ) (line : Option ℕ) (c : ℕ) → texts (content t r c line) ≡ text_at t r line c
 content-text t r line c =
     let f : Cell = cell t r c in
-    stands-text (f.top == r) (f.first == c) (is_rule f.field.form) f.falls (stands_on line f) (has_text f.field) (field_rule t r c) (field_strokes t f) (field_text t f)
-    (field_rule-none t r c) (field-text t f) (rule_has-none f.field.form (nat_lt f.field.span.start f.field.span.«end»))
+    ruled-text (is_rule f.field.form) (f.top == r) (has_text f.field) ((f.first == c) && (if f.falls then stands_on line f else (f.top == r)))
+    (column_rule t r c) (if (f.top == r) && (f.first == c) then (if f.falls then falling t r c line else field_strokes t f) else falling t r c line) (field_text t f)
+    (column_rule-none t r c) (rule_has-none f.field.form (nat_lt f.field.span.start f.field.span.«end»))
+    (stands-text (f.top == r) (f.first == c) f.falls (stands_on line f) (has_text f.field) (field_strokes t f) (field_text t f) (field-text t f))
 
 row_cell-text : (t : Table) (r : ℕ) (line : Option ℕ) (c : ℕ) → texts (row_cell t r c line) ≡ text_at t r line c
 row_cell-text t r line c =
-    after_none (bar t r c (was_ruled t r c) (is_ruled t r c)) (content t r c line) (bar-none t r c (was_ruled t r c) (is_ruled t r c)) ∙ content-text t r line c
+    after_none (row_bar t r c (was_ruled t r c) (is_ruled t r c)) (content t r c line) (row_bar-none t r c (was_ruled t r c) (is_ruled t r c)) ∙ content-text t r line c
 
 -- ---- lines have those of their columns
 
@@ -175,7 +191,7 @@ row_cells-texts (suc c) t r line =
 
 pub row-texts : (t : Table) (r : ℕ) (line : Option ℕ) → texts (row_strokes t r line) ≡ row_texts t r line
 row-texts t r line =
-    before_none (row_cells (columns t) t r line) (bar t r (columns t) (was_ruled t r (columns t)) false) (bar-none t r (columns t) (was_ruled t r (columns t)) false)
+    before_none (row_cells (columns t) t r line) (row_bar t r (columns t) (was_ruled t r (columns t)) false) (row_bar-none t r (columns t) (was_ruled t r (columns t)) false)
     ∙ row_cells-texts (columns t) t r line
 
 bars_cell-text : (t : Table) (r : ℕ) (line : Option ℕ) (c : ℕ) → texts (bars_cell t r c line) ≡ falling_text t r line c

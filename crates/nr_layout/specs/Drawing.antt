@@ -12,7 +12,7 @@ use Rattle.nr_layout.specs.declared.table.Form.TheVariants as forms
 use Rattle.nr_layout.specs.declared.table.Span.{Span}
 use Rattle.nr_layout.specs.declared.table.Table.{Table}
 use Rattle.nr_layout.specs.Extent.{cells_of}
-use Rattle.nr_layout.specs.Frames.{bar_place, bars_of, begins_with_rule, count, framing_at, is_covered, meeting, table_end, width_end}
+use Rattle.nr_layout.specs.Frames.{bar_place, bars_of, bars_seen, begins_with_rule, count, framing_at, is_covered, is_ruled, meeting, table_end, was_ruled, width_end}
 use Rattle.nr_layout.specs.Held.{cell, column, columns, has_text, is_block, is_double, is_rule, is_text, text_of}
 use Rattle.nr_layout.specs.Pens as pens
 use Rattle.nr_layout.specs.Pens.{Stroke, Start, To, Leave, Bytes, Text, Pass}
@@ -190,9 +190,13 @@ text_strokes t f =
 abbrev pub dash : Table → Place → List Stroke
 dash t place = pens.dash t.signs.rule place
 
+-- a rule as wide as what stands in a column has a cell more, if the space after it has more than a bar
+abbrev pub inner_end : Table → ℕ → Place
+inner_end t c = on (count (nat_lt 1 (column t c).gap)) (column t c).right
+
 abbrev pub field_in : Form → Table → Cell → List Stroke
 field_in forms.Text t f = if has_text f.field then text_strokes t f else []
-field_in forms.Inner t f = To (column t f.first).left ∷ dash t (column t f.last).right
+field_in forms.Inner t f = To (column t f.first).left ∷ dash t (inner_end t f.last)
 field_in (forms.Repeat b) t f = To (column t f.first).left ∷ pens.fill b (column t f.last).right
 field_in form t f = []
 
@@ -222,30 +226,41 @@ some_bars t c was now n = go t was (bar_place t c) ++ pens.bars (joint t.signs t
 abbrev pub bar : Table → ℕ → ℕ → Bool → Bool → List Stroke
 bar t r c was now = if bars_of t r c == 0 then [] else some_bars t c was now (bars_of t r c)
 
-abbrev pub is_ruled : Table → ℕ → ℕ → Bool
-is_ruled t r c = ((cell t r c).top == r) && is_rule (cell t r c).field.form
+-- the bars that are seen before a column of a row, after a rule of a field or before one
+abbrev pub row_bar : Table → ℕ → ℕ → Bool → Bool → List Stroke
+row_bar t r c was now = if bars_seen t r c == 0 then [] else some_bars t c was now (bars_seen t r c)
 
--- before a column
-abbrev pub was_ruled : Table → ℕ → ℕ → Bool
-was_ruled t r c = nat_lt 0 c && is_ruled t r (c - 1)
-
--- where no bar stands, and no rule before it, it begins with its column
+-- a rule of a field: where none stands before it, and no bar is seen, it begins where bars would stand
 abbrev pub rule_begin : Table → ℕ → ℕ → List Stroke
-rule_begin t r c = if not (was_ruled t r c) && (bars_of t r c == 0) then To (column t c).left ∷ [] else []
+rule_begin t r c =
+    if not (was_ruled t r c) && (bars_seen t r c == 0) then To (bar_place t c) ∷ [] else []
 
-abbrev pub field_rule : Table → ℕ → ℕ → List Stroke
-field_rule t r c = rule_begin t r c ++ dash t (column t (cell t r c).last).right
+-- beside a field without one, and at the table's end, it ends there too, with a cell, but where columns have no space between them
+abbrev pub turn_end : Table → ℕ → Place
+turn_end t c = on (count (nat_lt 0 (column t (c - 1)).gap)) (bar_place t c)
+
+abbrev pub rule_stop : Table → ℕ → Place
+rule_stop t c = if nat_lt c (columns t) then turn_end t c else width_end t
+
+abbrev pub goes_on : Table → ℕ → ℕ → Bool
+goes_on t r c = (nat_lt c (columns t) && is_ruled t r c) || nat_lt 0 (bars_seen t r c)
+
+abbrev pub column_rule_end : Table → ℕ → ℕ → List Stroke
+column_rule_end t r c = if goes_on t r c then [] else dash t (rule_stop t c)
+
+abbrev pub column_rule : Table → ℕ → ℕ → List Stroke
+column_rule t r c = rule_begin t r c ++ dash t (column t c).right ++ column_rule_end t r (sum c 1)
 
 abbrev pub content : Table → ℕ → ℕ → Option ℕ → List Stroke
 content t r c line =
     let f = cell t r c in
-    if (f.top == r) && (f.first == c) then
-    (if is_rule f.field.form then field_rule t r c else if f.falls then falling t r c line
-    else field_strokes t f)
+    if is_rule f.field.form && (f.top == r) then column_rule t r c else
+    if (f.top == r) && (f.first == c)
+    then (if f.falls then falling t r c line else field_strokes t f)
     else falling t r c line
 
 abbrev pub row_cell : Table → ℕ → ℕ → Option ℕ → List Stroke
-row_cell t r c line = bar t r c (was_ruled t r c) (is_ruled t r c) ++ content t r c line
+row_cell t r c line = row_bar t r c (was_ruled t r c) (is_ruled t r c) ++ content t r c line
 
 -- of the first columns
 abbrev pub row_cells : ℕ → Table → ℕ → Option ℕ → List Stroke
@@ -253,7 +268,8 @@ row_cells zero t r line = []
 row_cells (suc c) t r line = row_cells c t r line ++ row_cell t r c line
 
 abbrev pub row_strokes : Table → ℕ → Option ℕ → List Stroke
-row_strokes t r line = row_cells (columns t) t r line ++ bar t r (columns t) (was_ruled t r (columns t)) false
+row_strokes t r line =
+    row_cells (columns t) t r line ++ row_bar t r (columns t) (was_ruled t r (columns t)) false
 
 -- ---- the bars of a row alone
 
@@ -309,11 +325,7 @@ abbrev pub some_crossing : Table → Option ℕ → Option ℕ → ℕ → ℕ �
 some_crossing t above below c n =
     crossing_begin t above below c ++ pens.bars (crossing_byte t above below c) n
 
--- where no bars meet it, it ends beside a field that goes on, or begins there: where bars would stand, with a cell there, but where
--- columns have no space between them
-abbrev pub turn_end : Table → ℕ → Place
-turn_end t c = on (count (nat_lt 0 (column t (c - 1)).gap)) (bar_place t c)
-
+-- where no bars meet it, it ends beside a field that goes on, or begins there: where bars would stand
 abbrev pub turned : Table → ℕ → Bool → Bool → List Stroke
 turned t c false true = dash t (turn_end t c)
 turned t c true false = To (bar_place t c) ∷ []

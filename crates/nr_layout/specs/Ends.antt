@@ -1,12 +1,12 @@
 -- Where the lines of a table end (Lesk, "Global options"; tbl(1), "Region options"): rules all at one place, a cell after the table's end,
--- and so do rows with a bar there, and the outer rules of a double box: in a box all lines are of one width, that of the table. Rows without a
--- bar there end within the table, before the rules. What stands in their columns must stand within the table.
+-- and so do rows where a bar is seen there, and the outer rules of a double box: in a box all lines are of one width, that of the table. Rows
+-- where none is end within the table, before the rules. What stands in their columns must stand within the table.
 use Rattle.std.specs.Prelude.{◌≡◌, ℕ, ◌≤◌, Bool, true, List, ◌∷◌, Option, Some}
 use Rattle.nr_layout.specs.declared.places.Mark.TheVariants as marks
 use Rattle.nr_layout.specs.declared.places.Place.{Place}
 use Rattle.nr_layout.specs.declared.table.Table.{Table}
 use Rattle.nr_layout.specs.Drawing.{edge_strokes, row_cells, row_strokes, rule_cells, rule_strokes}
-use Rattle.nr_layout.specs.Frames.{bars_of, table_end, width_end}
+use Rattle.nr_layout.specs.Frames.{bars_seen, table_end, width_end}
 use Rattle.nr_layout.specs.Held.{columns}
 use Rattle.nr_layout.specs.Pens.{Stroke, Start, after_all, first}
 use Rattle.nr_layout.specs.Places.{is_same_mark}
@@ -24,13 +24,13 @@ pub record StandsWithin (t : Table) (strokes : List Stroke) : Type 0 where
 
 abbrev pub RowsEndTogether : Type 0
 RowsEndTogether =
-    (t : Table) (r : ℕ) (line : Option ℕ) → bars_of t r (columns t) ≡ 1
+    (t : Table) (r : ℕ) (line : Option ℕ) → bars_seen t r (columns t) ≡ 1
     → StandsWithin t (row_cells (columns t) t r line)
     → end_of (row_strokes t r line) ≡ Some (width_end t)
 
 abbrev pub RowsEndWithin : Type 0
 RowsEndWithin =
-    (t : Table) (r : ℕ) (line : Option ℕ) → bars_of t r (columns t) ≡ 0
+    (t : Table) (r : ℕ) (line : Option ℕ) → bars_seen t r (columns t) ≡ 0
     → StandsWithin t (row_cells (columns t) t r line) → StandsWithin t (row_strokes t r line)
 
 abbrev pub RulesEndTogether : Type 0

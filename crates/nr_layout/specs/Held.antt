@@ -1,6 +1,6 @@
 -- A table as it is held: its text, its lines of formats with their letters, its rows with their fields, and what was made of these, cells in
 -- columns. Lists are read by number; what lies beyond them is empty.
-use Rattle.std.specs.Prelude.{ℕ, ◌-◌, ◌*◌, Bool, true, false, ◌==◌, ◌&&◌, not, nat_le, nat_lt, List, [], length, take, drop, get_or, None, Some, min, if◌then◌else◌}
+use Rattle.std.specs.Prelude.{ℕ, ◌-◌, ◌*◌, Bool, true, false, ◌==◌, ◌&&◌, not, nat_le, nat_lt, List, [], length, take, drop, get_or, None, Some, min, if◌then◌else◌, ◌||◌, suc, zero, ◌+◌}
 use Prim.Native.Char.{code}
 use Rattle.nr_layout.specs.declared.table.Cell.{Cell}
 use Rattle.nr_layout.specs.declared.table.Column.{Column}
@@ -168,6 +168,14 @@ is_block form = false
 
 abbrev pub has_text : Field → Bool
 has_text f = is_text f.form && nat_lt f.span.start f.span.«end»
+
+abbrev pub prints : Field → Bool
+prints f = has_text f || is_block f.form
+
+-- so many fields from one on
+abbrev pub some_print : ℕ → Table → ℕ → Bool
+some_print zero t n = false
+some_print (suc k) t n = prints (field t n) || some_print k t (n + 1)
 
 -- ---- frames
 

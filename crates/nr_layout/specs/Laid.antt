@@ -9,10 +9,10 @@ use Rattle.nr_layout.specs.declared.table.Table.{Table}
 use Rattle.nr_layout.specs.Cells.{over}
 use Rattle.nr_layout.specs.Columns.{measures}
 use Rattle.nr_layout.specs.Drawing.{is_given, spans}
-use Rattle.nr_layout.specs.Frames.{left_edge}
+use Rattle.nr_layout.specs.Frames.{first_place}
 use Rattle.nr_layout.specs.Held.{cell_of, column, columns, is_block}
 use Rattle.nr_layout.specs.Lists.{in_turn, put}
-use Rattle.nr_layout.specs.Places.{after, edge, on, sum}
+use Rattle.nr_layout.specs.Places.{after, on, sum}
 
 -- ---- which columns are known before the table is printed
 
@@ -86,7 +86,7 @@ laid_column n l = record {
 }
 
 abbrev pub first_laying : Table → Laying
-first_laying t = laying t (on (left_edge t) edge)
+first_laying t = laying t (first_place t)
 
 abbrev pub laid_out : Table → Table
 laid_out t = (in_turn (columns t) laid_column (first_laying t)).table

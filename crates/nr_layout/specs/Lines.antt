@@ -59,7 +59,7 @@ boxed t = text_if (is_boxed t) (codes ".nr *box 1\n")
 abbrev pub middle : Table → List ℕ
 middle t =
     line (codes ".nr *O \\n(.l-\\n(.i-" ∷ decimal (table_end t).cells ∷ codes "n/48*24" ∷ [])
-    ++ codes ".if \\n(*O>0 .in +\\n(*Ou\n"
+    ++ codes ".in +\\n(*Ou\n"
 
 abbrev pub centered : Table → List ℕ
 centered t = if t.looks.center then middle t else []

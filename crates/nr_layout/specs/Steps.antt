@@ -4,7 +4,6 @@
 use Rattle.std.specs.Prelude.{ℕ, zero, suc, ◌+◌, ◌-◌, ◌/◌, min, Bool, true, false, ◌&&◌, ◌||◌, not, nat_lt, length, Option, None, Some, if◌then◌else◌}
 use Rattle.nr_layout.specs.declared.steps.Walk.{Walk}
 use Rattle.nr_layout.specs.declared.table.Cell.{Cell}
-use Rattle.nr_layout.specs.declared.table.Field.{Field}
 use Rattle.nr_layout.specs.declared.table.Item.{Item}
 use Rattle.nr_layout.specs.declared.table.Item.TheVariants as items
 use Rattle.nr_layout.specs.declared.table.Row.{Row}
@@ -16,7 +15,7 @@ use Rattle.nr_layout.specs.declared.table.StepKind.{StepKind}
 use Rattle.nr_layout.specs.declared.table.StepKind.TheVariants as steps
 use Rattle.nr_layout.specs.declared.table.Table.{Table}
 use Rattle.nr_layout.specs.Frames.{has_bars, is_rule_item}
-use Rattle.nr_layout.specs.Held.{cell_of, field, has_text, is_all, is_block, is_boxed, is_double, item, none_of, row, step, text_of}
+use Rattle.nr_layout.specs.Held.{cell_of, is_all, is_boxed, is_double, item, none_of, row, some_print, step, text_of}
 use Rattle.nr_layout.specs.Lists.{added, in_turn, put}
 use Rattle.nr_layout.specs.Places.{sum}
 use Rattle.nr_layout.specs.Requests.{space_of}
@@ -84,13 +83,6 @@ walked_request s w = asked (space_in w.table s) (row_asked w.table (space_in w.t
 -- ---- a row
 
 -- fields stand in no column
-abbrev pub prints : Field → Bool
-prints f = has_text f || is_block f.form
-
-abbrev pub some_print : ℕ → Table → ℕ → Bool
-some_print zero t n = false
-some_print (suc k) t n = prints (field t n) || some_print k t (n + 1)
-
 abbrev pub has_beyond : Table → Row → Bool
 has_beyond t r = some_print (r.«end» - r.beyond) t r.beyond
 

@@ -106,7 +106,8 @@ places_told t = laid_out (known_columns t)
 
 abbrev pub middle_text : Table → List ℕ
 middle_text t =
-    if t.looks.center then codes ".if \\n(*L-\\n(*I>\\n(*W .nr *O \\n(*L-\\n(*I-\\n(*W/48*24+\\n(*I\n" else []
+    if t.looks.center
+    then codes ".nr *O \\n(*L-\\n(*I-\\n(*W/48*24+\\n(*I\n.if \\n(*O<0 .nr *O 0\n" else []
 
 abbrev pub places_strokes : Table → Told → List Stroke
 places_strokes t told =

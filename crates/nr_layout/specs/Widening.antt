@@ -39,9 +39,13 @@ parts_end count all =
     else parts (codes "\\n(*S*24/" ∷ decimal all ∷ codes "*" ∷ decimal count ∷ codes "+11/24" ∷ [])
 
 -- up to there, but not what ends before
+abbrev pub parts_in : ℕ → ℕ → ℕ → List ℕ
+parts_in before count all =
+    codes "(" ++ parts_end count all ++ codes "-(" ++ parts_end before all ++ codes ")*24)\n"
+
+-- added to a register
 abbrev pub parts_between : ℕ → ℕ → ℕ → List ℕ
-parts_between before count all =
-    codes " +(" ++ parts_end count all ++ codes "-(" ++ parts_end before all ++ codes ")*24)\n"
+parts_between before count all = codes " +" ++ parts_in before count all
 
 abbrev pub widened_column : ℕ → ℕ → ℕ → List ℕ
 widened_column all n c = parts (codes ".nr *w" ∷ decimal c ∷ []) ++ parts_between n (sum n 1) all

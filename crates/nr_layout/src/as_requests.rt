@@ -163,7 +163,7 @@ impl Table {
         ensures { Draws out.old out.new (Bytes (specs.middle_text self.now) ∷ []) }
     {
         if self.looks.center {
-            out.add(b".if \\n(*L-\\n(*I>\\n(*W .nr *O \\n(*L-\\n(*I-\\n(*W/48*24+\\n(*I\n");
+            out.add(b".nr *O \\n(*L-\\n(*I-\\n(*W/48*24+\\n(*I\n.if \\n(*O<0 .nr *O 0\n");
         }
     }
 

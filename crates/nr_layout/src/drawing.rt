@@ -2,10 +2,13 @@
 ghost use Rattle.std.specs.Prelude.{◌≡◌, ◌==◌, ◌&&◌, false};
 ghost use Rattle.nr_layout.specs.Contents as contents;
 ghost use Rattle.nr_layout.specs.Drawing as specs;
+ghost use Rattle.nr_layout.specs.Frames as frames;
 ghost use Rattle.nr_layout.specs.Held as held;
 ghost use Rattle.nr_layout.specs.declared.table.Form.TheVariants as forms;
 ghost use Rattle.nr_layout.specs.Tapes.{Draws};
 
+use super::frames::Near;
+use super::heights::count_of;
 use super::places::Place;
 use super::table::{Cell, Form, Table};
 use super::writing::Out;
@@ -29,11 +32,11 @@ impl Cell {
         self.top == row && self.first == column
     }
 
-    /// Whether it is a rule through its columns.
-    fn is_ruled(self) -> bool
-        ensures { result ≡ held.is_rule self.field.form }
+    /// Whether it is a rule through its columns, and begins in a row.
+    fn rules(self, row: usize) -> bool
+        ensures { result ≡ (held.is_rule self.field.form && (self.top == row)) }
     {
-        matches!(self.field.form, Form::Rule)
+        matches!(self.field.form, Form::Rule) && self.top == row
     }
 }
 
@@ -63,12 +66,20 @@ impl Table {
         out.fill(byte, self.column(cell.last).right);
     }
 
+    /// Where a rule ends that is as wide as what stands in a column: a cell after it, if the space there has more than a bar.
+    fn inner_end(&self, column: usize) -> Place
+        ensures { result ≡ specs.inner_end self.now column }
+    {
+        let last = self.column(column);
+        last.right.on(count_of(last.gap > 1))
+    }
+
     /// A rule as wide as what stands in the columns of a field.
     fn draw_inner<W: Sink>(&self, cell: Cell, out: &mut Out<'_, W>)
         ensures { Draws out.old out.new (specs.field_in forms.Inner self.now cell) }
     {
         out.to(self.column(cell.first).left);
-        self.draw_dash(self.column(cell.last).right, out);
+        self.draw_dash(self.inner_end(cell.last), out);
     }
 
     /// A field.
@@ -141,37 +152,67 @@ impl Table {
     }
 
     /// Whether a field of a row is a rule in a column.
-    fn is_ruled(&self, row: usize, column: usize) -> bool
-        ensures { result ≡ specs.is_ruled self.now row column }
+    pub(crate) fn is_ruled(&self, row: usize, column: usize) -> bool
+        ensures { result ≡ frames.is_ruled self.now row column }
     {
         let cell = self.cell(row, column);
         cell.top == row && matches!(cell.field.form, Form::Rule)
     }
 
+    /// Whether a rule of a field ends or begins before a column, or after the last one.
+    pub(crate) fn rules_meet(&self, row: usize, column: usize) -> bool
+        ensures { result ≡ frames.rules_meet self.now row column }
+    {
+        self.was_ruled(row, column) || (column < self.columns.len() && self.is_ruled(row, column))
+    }
+
     /// Whether one is before a column.
     fn was_ruled(&self, row: usize, column: usize) -> bool
-        ensures { result ≡ specs.was_ruled self.now row column }
+        ensures { result ≡ frames.was_ruled self.now row column }
     {
         0 < column && self.is_ruled(row, column - 1)
     }
 
-    /// Where no bar stands, and no rule before it, a rule begins with its column.
+    /// Where no bar is seen, and no rule before it, a rule begins where bars would stand.
     #[tactic(auto, using(crate::proofs::Tapes::draws_nothing))]
-    fn begin_rule<W: Sink>(&self, row: usize, column: usize, out: &mut Out<'_, W>)
+    fn begin_rule<W: Sink>(&self, row: usize, column: usize, near: Near, out: &mut Out<'_, W>)
+        requires { near ≡ frames.near self.now row }
         ensures { Draws out.old out.new (specs.rule_begin self.now row column) }
     {
-        if !self.was_ruled(row, column) && self.bars_of(row, column) == 0 {
-            out.to(self.column(column).left);
+        if !self.was_ruled(row, column) && self.bars_seen(row, near, column) == 0 {
+            out.to(self.bar_place(column));
         }
     }
 
-    /// A rule through the columns of a field.
-    fn draw_field_rule<W: Sink>(&self, row: usize, column: usize, out: &mut Out<'_, W>)
-        ensures { Draws out.old out.new (specs.field_rule self.now row column) }
+    /// Whether a rule of a field goes on before a column, or bars are seen there, or after the last one.
+    fn goes_on(&self, row: usize, column: usize, near: Near) -> bool
+        requires { near ≡ frames.near self.now row }
+        ensures { result ≡ specs.goes_on self.now row column }
     {
-        self.begin_rule(row, column, out);
-        let cell = self.cell(row, column);
-        self.draw_dash(self.column(cell.last).right, out);
+        (column < self.columns.len() && self.is_ruled(row, column))
+            || self.bars_seen(row, near, column) > 0
+    }
+
+    /// Where it doesn't, it ends with a cell there.
+    #[tactic(auto, using(crate::proofs::Tapes::draws_nothing))]
+    fn end_column_rule<W: Sink>(&self, row: usize, column: usize, near: Near, out: &mut Out<'_, W>)
+        requires { near ≡ frames.near self.now row }
+        ensures { Draws out.old out.new (specs.column_rule_end self.now row column) }
+    {
+        if self.goes_on(row, column, near) {
+            return;
+        }
+        self.draw_dash(self.rule_stop(column), out);
+    }
+
+    /// A rule through a column of a field.
+    fn draw_column_rule<W: Sink>(&self, row: usize, column: usize, near: Near, out: &mut Out<'_, W>)
+        requires { near ≡ frames.near self.now row }
+        ensures { Draws out.old out.new (specs.column_rule self.now row column) }
+    {
+        self.begin_rule(row, column, near, out);
+        self.draw_dash(self.column(column).right, out);
+        self.end_column_rule(row, column.saturating_add(1), near, out);
     }
 
     /// What stands in a column in which its field begins.
@@ -186,13 +227,28 @@ impl Table {
     )
         ensures { Draws out.old out.new (contents.own self.now row column line cell) }
     {
-        if cell.is_ruled() {
-            return self.draw_field_rule(row, column, out);
-        }
         if cell.falls {
             return self.draw_falling(row, column, line, out);
         }
         self.draw_field(cell, out);
+    }
+
+    /// What stands in a column of a row that has no rule there.
+    #[inline(always)]
+    fn draw_text_in<W: Sink>(
+        &self,
+        row: usize,
+        column: usize,
+        cell: Cell,
+        line: Option<usize>,
+        out: &mut Out<'_, W>,
+    )
+        ensures { Draws out.old out.new (contents.text_in self.now row column line cell) }
+    {
+        if !cell.begins(row, column) {
+            return self.draw_falling(row, column, line, out);
+        }
+        self.draw_own(row, column, cell, line, out);
     }
 
     /// What stands in a column of a row.
@@ -201,25 +257,29 @@ impl Table {
         &self,
         row: usize,
         column: usize,
+        near: Near,
         line: Option<usize>,
         out: &mut Out<'_, W>,
     )
+        requires { near ≡ frames.near self.now row }
         ensures { Draws out.old out.new (specs.content self.now row column line) }
     {
         let cell = self.cell(row, column);
-        if !cell.begins(row, column) {
-            return self.draw_falling(row, column, line, out);
+        if cell.rules(row) {
+            return self.draw_column_rule(row, column, near, out);
         }
-        self.draw_own(row, column, cell, line, out);
+        self.draw_text_in(row, column, cell, line, out);
     }
 
     /// The bars before a column of a row.
+    #[inline(always)]
     #[tactic(auto, using(crate::proofs::Tapes::draws_nothing))]
-    fn draw_row_bar<W: Sink>(&self, row: usize, column: usize, out: &mut Out<'_, W>)
-        ensures { Draws out.old out.new (specs.bar self.now row column (specs.was_ruled self.now row column)
-            (specs.is_ruled self.now row column)) }
+    fn draw_row_bar<W: Sink>(&self, row: usize, column: usize, near: Near, out: &mut Out<'_, W>)
+        requires { near ≡ frames.near self.now row }
+        ensures { Draws out.old out.new (specs.row_bar self.now row column
+            (frames.was_ruled self.now row column) (frames.is_ruled self.now row column)) }
     {
-        let bars = self.bars_of(row, column);
+        let bars = self.bars_seen(row, near, column);
         if bars == 0 {
             return;
         }
@@ -234,31 +294,35 @@ impl Table {
         &self,
         row: usize,
         column: usize,
+        near: Near,
         line: Option<usize>,
         out: &mut Out<'_, W>,
     )
+        requires { near ≡ frames.near self.now row }
         ensures { Draws out.old out.new (specs.row_cell self.now row column line) }
     {
-        self.draw_row_bar(row, column, out);
-        self.draw_content(row, column, line, out);
+        self.draw_row_bar(row, column, near, out);
+        self.draw_content(row, column, near, line, out);
     }
 
     /// The columns of a row.
-    fn draw_cells<W: Sink>(&self, row: usize, line: Option<usize>, out: &mut Out<'_, W>)
+    fn draw_cells<W: Sink>(&self, row: usize, near: Near, line: Option<usize>, out: &mut Out<'_, W>)
+        requires { near ≡ frames.near self.now row }
         ensures { Draws out.old out.new (specs.row_cells (held.columns self.now) self.now row line) }
     {
         for column in 0..self.columns.len() {
-            self.draw_cell(row, column, line, out);
+            self.draw_cell(row, column, near, line, out);
         }
     }
 
     /// The bars after the last column of a row.
     #[tactic(auto, using(crate::proofs::Tapes::draws_nothing))]
-    fn end_row_bar<W: Sink>(&self, row: usize, columns: usize, out: &mut Out<'_, W>)
+    fn end_row_bar<W: Sink>(&self, row: usize, columns: usize, near: Near, out: &mut Out<'_, W>)
+        requires { near ≡ frames.near self.now row }
         ensures { Draws out.old out.new
-            (specs.bar self.now row columns (specs.was_ruled self.now row columns) false) }
+            (specs.row_bar self.now row columns (frames.was_ruled self.now row columns) false) }
     {
-        let bars = self.bars_of(row, columns);
+        let bars = self.bars_seen(row, near, columns);
         if bars == 0 {
             return;
         }
@@ -269,8 +333,9 @@ impl Table {
     pub(crate) fn draw_row<W: Sink>(&self, row: usize, line: Option<usize>, out: &mut Out<'_, W>)
         ensures { Draws out.old out.new (specs.row_strokes self.now row line) }
     {
-        self.draw_cells(row, line, out);
-        self.end_row_bar(row, self.columns.len(), out);
+        let near = self.near(row);
+        self.draw_cells(row, near, line, out);
+        self.end_row_bar(row, self.columns.len(), near, out);
     }
 
     /// A column of the bars of a row alone.

@@ -7,7 +7,16 @@ ghost use Rattle.nr_layout.specs.Laid as laid;
 
 use super::lists::set_item;
 use super::places::{Mark, Place};
-use super::table::{Cell, Column, Form, Line, Table};
+use super::table::{Cell, Column, Form, Item, Line, Table};
+
+/// The rows right beside one, no rules between them, if they have other lines of formats.
+#[derive(Clone, Copy)]
+pub(crate) struct Near {
+    /// The one above.
+    pub above: Option<usize>,
+    /// The one below, if it is more than rules.
+    pub below: Option<usize>,
+}
 
 impl Column {
     /// Where a column ends that begins at a place.
@@ -46,6 +55,7 @@ impl Column {
 
 impl Table {
     /// Whether a column of a row goes on from the left.
+    #[inline(always)]
     fn is_inside(&self, line: Line, row: usize, column: usize) -> bool
         requires { line ≡ held.line self.now (held.row self.now row).line }
         ensures { result ≡ specs.is_inside self.now row column }
@@ -67,14 +77,15 @@ impl Table {
         if framed { 1 } else { 0 }
     }
 
-    /// The bars that formats or a frame put before a column of this row, or after the last one.
+    /// The bars that formats or a frame put before a column of this row, or after the last one: at an edge one.
     #[inline(always)]
     fn bars_put(&self, line: Line, column: usize, between: bool) -> usize
-        ensures { result ≡ specs.or_else (held.bars_in self.now line column) (specs.framing self.now between) }
+        ensures { result ≡ specs.or_else (specs.edged between (held.bars_in self.now line column))
+            (specs.framing self.now between) }
     {
         let bars = self.bars_in(line, column);
         if bars > 0 {
-            return bars;
+            return if between { bars } else { 1 };
         }
         self.framing_bars(between)
     }
@@ -90,6 +101,136 @@ impl Table {
             return 0;
         }
         bars
+    }
+
+    /// The row right below one, no rule between them, that has another line of formats and is more than rules.
+    pub(crate) fn row_below(&self, row: usize) -> Option<usize>
+        ensures { result ≡ specs.row_below self.now row }
+    {
+        if self.lines.len() < 2 || self.is_all_boxed() {
+            return None;
+        }
+        let this = self.row(row);
+        match self.item(this.item.saturating_add(1)) {
+            Item::Row(next) => self.other_row(this.line, next),
+            _ => None,
+        }
+    }
+
+    /// A row, if it has another line of formats than this, and fields that print something.
+    fn other_row(&self, line: usize, next: usize) -> Option<usize>
+        ensures { result ≡ specs.other_row self.now line next }
+    {
+        let row = self.row(next);
+        if row.line != line && self.some_print(row.first, row.end) {
+            Some(next)
+        } else {
+            None
+        }
+    }
+
+    /// Whether bars of a row below may be seen before a column of a row: not in a field over several columns, but in a rule.
+    fn shows_below(&self, row: usize, column: usize) -> bool
+        ensures { result ≡ specs.shows_below self.now row column }
+    {
+        let between = 0 < column && column < self.columns.len();
+        let line = self.line(self.row(row).line);
+        !between || self.is_ruled(row, column) || !self.is_inside(line, row, column)
+    }
+
+    /// How many bars of the row below are seen before a column of a row that has none there.
+    fn bars_from_below(&self, row: usize, below: usize, column: usize) -> usize
+        ensures { result ≡ specs.from_below self.now row column below }
+    {
+        if self.shows_below(row, column) {
+            self.bars_of(below, column)
+        } else {
+            0
+        }
+    }
+
+    /// The same, if there is such a row.
+    #[inline(always)]
+    fn bars_from(&self, row: usize, below: Option<usize>, column: usize) -> usize
+        ensures { result ≡ specs.from_row self.now row column below }
+    {
+        match below {
+            Some(below) => self.bars_from_below(row, below, column),
+            None => 0,
+        }
+    }
+
+    /// The row right above one, no rule between them, that has another line of formats.
+    fn row_above(&self, row: usize) -> Option<usize>
+        ensures { result ≡ specs.row_above self.now row }
+    {
+        let this = self.row(row);
+        if this.item == 0 || self.lines.len() < 2 || self.is_all_boxed() {
+            return None;
+        }
+        match self.item(this.item.saturating_sub(1)) {
+            Item::Row(last) if self.row(last).line != this.line => Some(last),
+            _ => None,
+        }
+    }
+
+    /// The rows right beside one.
+    pub(crate) fn near(&self, row: usize) -> Near
+        ensures { result ≡ specs.near self.now row }
+    {
+        Near {
+            above: self.row_above(row),
+            below: self.row_below(row),
+        }
+    }
+
+    /// How many bars of the row above meet a rule of a field before a column, or after the last one.
+    fn bars_from_above(&self, row: usize, above: usize, column: usize) -> usize
+        ensures { result ≡ specs.from_above self.now row column above }
+    {
+        if self.rules_meet(row, column) {
+            self.bars_of(above, column)
+        } else {
+            0
+        }
+    }
+
+    /// The same, if there is such a row.
+    #[inline(always)]
+    fn bars_to(&self, row: usize, above: Option<usize>, column: usize) -> usize
+        ensures { result ≡ specs.from_last self.now row column above }
+    {
+        match above {
+            Some(above) => self.bars_from_above(row, above, column),
+            None => 0,
+        }
+    }
+
+    /// How many bars of the rows beside one are seen before a column that has none of its own.
+    #[inline(always)]
+    fn bars_beside(&self, row: usize, near: Near, column: usize) -> usize
+        requires { near ≡ specs.near self.now row }
+        ensures { result ≡ specs.bars_beside self.now row column }
+    {
+        let bars = self.bars_from(row, near.below, column);
+        if bars > 0 {
+            return bars;
+        }
+        self.bars_to(row, near.above, column)
+    }
+
+    /// How many bars are seen before a column of a row, or after the last one: its own, those that begin in the row below, or
+    /// those of the row above that meet a rule of a field.
+    #[inline(always)]
+    pub(crate) fn bars_seen(&self, row: usize, near: Near, column: usize) -> usize
+        requires { near ≡ specs.near self.now row }
+        ensures { result ≡ specs.bars_seen self.now row column }
+    {
+        let bars = self.bars_of(row, column);
+        if bars > 0 {
+            return bars;
+        }
+        self.bars_beside(row, near, column)
     }
 
     /// How many bars stand before a column of a row, if there is one, or after the last one.
@@ -148,7 +289,10 @@ impl Table {
     pub(crate) fn left_edge(&self) -> usize
         ensures { result ≡ specs.left_edge self.now }
     {
-        self.most_bars(0).max(self.framing_bars(false))
+        if self.is_boxed() {
+            return 1;
+        }
+        self.most_bars(0).min(1)
     }
 
     /// What stands at the right edge.
@@ -271,13 +415,30 @@ impl Table {
         column.next_after(told, number, right)
     }
 
+    /// Whether the space at an edge where so many bars stand takes a share of the line.
+    pub(crate) fn shares_edge(&self, bars: usize) -> bool
+        ensures { result ≡ specs.shares_edge self.now bars }
+    {
+        self.looks.expand && bars > 0
+    }
+
+    /// Where the first column begins.
+    fn first_place(&self) -> Place
+        ensures { result ≡ specs.first_place self.now }
+    {
+        if self.shares_edge(self.left_edge()) {
+            return Place::after(Mark::Begin(0));
+        }
+        Place::edge().on(self.left_edge())
+    }
+
     /// The places of columns.
     #[tactic(auto, using(crate::proofs::Turns::one_more))]
     pub(crate) fn lay_out(&mut self)
         ensures value { self.new ≡ laid.laid_out self.old }
         ensures room { held.emptied self.new ≡ held.emptied self.old }
     {
-        let mut place = Place::edge().on(self.left_edge());
+        let mut place = self.first_place();
         for number in 0..self.columns.len() {
             place = self.lay_column(number, place);
         }
@@ -290,6 +451,9 @@ impl Table {
         let columns = self.columns.len();
         if columns == 0 {
             return Place::edge();
+        }
+        if self.shares_edge(self.right_edge()) {
+            return Place::after(Mark::Bar(columns));
         }
         self.column(columns - 1).right.on(self.right_edge())
     }

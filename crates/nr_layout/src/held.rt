@@ -1,6 +1,6 @@
 //! What is held of a table, by number, and what stands for what isn't there.
 
-ghost use Rattle.std.specs.Prelude.{◌≡◌};
+ghost use Rattle.std.specs.Prelude.{◌≡◌, ◌-◌};
 ghost use Rattle.nr_layout.specs.Held as held;
 
 use super::block_lines::Lines;
@@ -240,6 +240,20 @@ impl Table {
         ensures { result ≡ held.step self.now number }
     {
         item_at(&self.steps, number, Step::nothing())
+    }
+
+    /// Whether fields print something, from one up to another.
+    #[tactic(auto, using(crate::proofs::Nexts::prints_next))]
+    pub(crate) fn some_print(&self, first: usize, end: usize) -> bool
+        ensures { result ≡ held.some_print (end - first) self.now first }
+    {
+        for number in first..end {
+            let field = self.field(number);
+            if field.has_text() || matches!(field.form, Form::Block) {
+                return true;
+            }
+        }
+        false
     }
 
     /// Whether it has a box.

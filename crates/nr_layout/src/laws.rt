@@ -15,9 +15,9 @@ pub fn each_text_once()
     ensures bytes { TextsGoOut }
 {}
 
-/// Rules end at one place, a cell after the table's end, with a bar or without one, and so do rows with one bar there and the
-/// outer rules of a double box, where what stands in their columns stands within the table: in a box they are of one width,
-/// that of the table. Rows without a bar there end within the table.
+/// Rules end at one place, a cell after the table's end, with a bar or without one, and so do rows where one is seen there and
+/// the outer rules of a double box, where what stands in their columns stands within the table: in a box they are of one width,
+/// that of the table. Rows where no bar is seen there end within the table.
 pub fn lines_end_together()
     ensures rows { RowsEndTogether }
     ensures within { RowsEndWithin }

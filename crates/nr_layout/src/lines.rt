@@ -129,7 +129,7 @@ impl Table {
     {
         let width = self.end().cells;
         out.line(&[T(b".nr *O \\n(.l-\\n(.i-"), N(width), T(b"n/48*24")]);
-        out.ask(b".if \\n(*O>0 .in +\\n(*Ou\n");
+        out.ask(b".in +\\n(*Ou\n");
     }
 
     /// Room is asked for a table in a box, if it may not be cut.

@@ -45,6 +45,16 @@ impl Table {
         self.go(!was, self.bar_place(column), out);
     }
 
+    /// Where a rule of a field ends that meets no bars before a column, or after the last one.
+    pub(crate) fn rule_stop(&self, column: usize) -> Place
+        ensures { result ≡ specs.rule_stop self.now column }
+    {
+        if column < self.columns.len() {
+            return self.turn_end(column);
+        }
+        self.end().on(1)
+    }
+
     /// Where a rule ends that meets no bars, beside a field that goes on over a column.
     fn turn_end(&self, column: usize) -> Place
         ensures { result ≡ specs.turn_end self.now column }

@@ -46,12 +46,22 @@ impl Table {
         self.put_gap(before, out)
     }
 
+    /// The space at an edge, which is the register of this number or so many cells.
+    fn put_edge_space<W: Sink>(&self, number: usize, bars: usize, out: &mut Out<'_, W>)
+        ensures { Draws out.old out.new (Bytes (specs.edge_space self.now number bars) ∷ []) }
+    {
+        if self.shares_edge(bars) {
+            return out.pieces(&[T(b"\\n[*s"), N(number), T(b"]u")]);
+        }
+        out.pieces(&[N(bars), T(b"n")])
+    }
+
     /// Where a column begins.
     fn put_column_begin<W: Sink>(&self, number: usize, out: &mut Out<'_, W>)
         ensures { Draws out.old out.new (Bytes (specs.column_begin self.now number) ∷ []) }
     {
         if number == 0 {
-            return out.pieces(&[N(self.left_edge()), T(b"n")]);
+            return self.put_edge_space(self.columns.len(), self.left_edge(), out);
         }
         self.put_next_begin(number.saturating_sub(1), out)
     }
@@ -61,7 +71,7 @@ impl Table {
         ensures { Draws out.old out.new (Bytes (specs.middle self.now number) ∷ []) }
     {
         if self.looks.expand {
-            return out.line(&[T(b"(\\n[*s"), N(number), T(b"]u/2/24*24)")]);
+            return out.line(&[T(b"\\n[*m"), N(number), T(b"]u")]);
         }
         out.line(&[N(self.column(number).gap / 2), T(b"n")])
     }
@@ -134,13 +144,20 @@ impl Table {
         ensures { Draws out.old out.new (Bytes (specs.table_width self.now) ∷ []) }
     {
         let last = self.columns.len().saturating_sub(1);
-        out.line(&[
-            T(b".nr *W \\n[*e"),
-            N(last),
-            T(b"]u+"),
-            N(self.right_edge()),
-            T(b"n"),
-        ])
+        out.pieces(&[T(b".nr *W \\n[*e"), N(last), T(b"]u+")]);
+        self.put_edge_space(last, self.right_edge(), out);
+        out.ask(b"\n");
+        self.put_end_place(out)
+    }
+
+    /// The place of the bars at the right edge, where only the formatter knows it.
+    fn put_end_place<W: Sink>(&self, out: &mut Out<'_, W>)
+        ensures { Draws out.old out.new (Bytes (specs.end_place self.now) ∷ []) }
+    {
+        if self.shares_edge(self.right_edge()) {
+            return out.line(&[T(b".nr *b"), N(self.columns.len()), T(b" \\n(*W")]);
+        }
+        out.ask(b"")
     }
 
     /// The places of columns.

@@ -6,7 +6,7 @@ ghost use Rattle.nr_layout.specs.Steps as specs;
 
 use super::lists::{add_item, set_item};
 use super::requests::space_of;
-use super::table::{Cell, Form, Item, Row, Span, Stand, Step, StepKind, Table};
+use super::table::{Cell, Item, Row, Span, Stand, Step, StepKind, Table};
 
 /// What a walk over the items of a table has met.
 #[derive(Clone, Copy)]
@@ -96,17 +96,10 @@ impl Table {
     }
 
     /// Whether fields of a row stand in no column.
-    #[tactic(auto, using(crate::proofs::Nexts::prints_next))]
     fn has_beyond(&self, row: Row) -> bool
         ensures { result ≡ specs.has_beyond self.now row }
     {
-        for number in row.beyond..row.end {
-            let field = self.field(number);
-            if field.has_text() || matches!(field.form, Form::Block) {
-                return true;
-            }
-        }
-        false
+        self.some_print(row.beyond, row.end)
     }
 
     /// A row's step is the next one.

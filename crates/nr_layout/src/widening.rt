@@ -28,20 +28,23 @@ fn put_parts_end<W: Sink>(count: usize, all: usize, out: &mut Out<'_, W>)
     out.pieces(&[T(b"\\n(*S*24/"), N(all), T(b"*"), N(count), T(b"+11/24")])
 }
 
-/// What of it lies up to there, but not what ends before, is added to a register.
-pub(crate) fn put_parts_between<W: Sink>(
-    before: usize,
-    count: usize,
-    all: usize,
-    out: &mut Out<'_, W>,
-)
-    ensures { Draws out.old out.new (Bytes (specs.parts_between before count all) ∷ []) }
+/// What of it lies up to there, but not what ends before, to the end of a line.
+pub(crate) fn put_parts_in<W: Sink>(before: usize, count: usize, all: usize, out: &mut Out<'_, W>)
+    ensures { Draws out.old out.new (Bytes (specs.parts_in before count all) ∷ []) }
 {
-    out.ask(b" +(");
+    out.ask(b"(");
     put_parts_end(count, all, out);
     out.ask(b"-(");
     put_parts_end(before, all, out);
     out.ask(b")*24)\n")
+}
+
+/// That is added to a register.
+fn put_parts_between<W: Sink>(before: usize, count: usize, all: usize, out: &mut Out<'_, W>)
+    ensures { Draws out.old out.new (Bytes (specs.parts_between before count all) ∷ []) }
+{
+    out.ask(b" +");
+    put_parts_in(before, count, all, out)
 }
 
 /// A column takes its share, as one of all these.

@@ -7,4 +7,4 @@ pub loop-number-init : goal.loop-number-init
 loop-number-init g c = draws_no_bytes _
 
 pub loop-number-preserved : goal.loop-number-preserved
-loop-number-preserved g c = bytes_more c.loop-number.number no_gap c.loop-number.invariant c.line.ensures
+loop-number-preserved g c = bytes_more c.loop-number.number no_gap c.loop-number.invariant c.put_no_gap.ensures

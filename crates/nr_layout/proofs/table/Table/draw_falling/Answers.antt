@@ -1,4 +1,4 @@
-use Rattle.std.proofs.Common.{◌≡◌, ◌==◌, ◌&&◌, false, ap, sym, ◌∙◌, []}
+use Rattle.std.proofs.Common.{◌==◌, ◌&&◌, ap, sym, ◌∙◌, []}
 use Rattle.std.specs.Prelude.{if◌then◌else◌}
 use Rattle.nr_layout.specs.Drawing.{field_strokes, stands_on}
 use Rattle.nr_layout.specs.declared.table.Cell.{Cell}
