@@ -186,7 +186,7 @@ begins_out macros.Title q h c f u = never h
 begins_out macros.System q h c f u = never h
 begins_out macros.Section q h c f u = never h
 begins_out macros.Subsection q h c f u =
-    out _ q acts.Subsection acts.Nothing acts.Nothing [] refl refl refl refl (kept_taking (after lasts.Heading q) q Roman u (kept_after lasts.Heading q f))
+    out _ q acts.Subsection acts.Nothing acts.Nothing [] refl refl refl refl (kept_after lasts.Heading q f)
 begins_out macros.Paragraph q h c f u = out _ q acts.Space acts.Nothing acts.Nothing [] refl refl refl refl (kept_after lasts.Heading q f)
 begins_out macros.Describes q h c f u = out q q (acts.Text texts.Description) acts.Nothing acts.Nothing [] refl refl refl refl (same_page q f)
 begins_out macros.Silent q h c f u = never h

@@ -13,16 +13,17 @@ use Rattle.nr_mdoc.specs.Laying.{with_lay}
 use Rattle.nr_mdoc.specs.LayingOut.{lay_out}
 use Rattle.nr_mdoc.specs.Reading.{State, said}
 use Rattle.nr_mdoc.specs.Scanning.{meet}
-use Rattle.nr_mdoc.specs.Seeing.{Met, met, left}
+use Rattle.nr_mdoc.specs.Seeing.{Met, met, left, three}
+use Rattle.nr_mdoc.specs.Taking.{prefix}
 use Rattle.nr_mdoc.specs.WrittenLines.{Usual, way_of}
 use Rattle.nr_mdoc.specs.Words.{begins_anew, closing_mark, holding, is_closing, is_prefix, is_text, mark, mark_as_word, marked_or, most_marks, parsed, stands, takes_marks, taken_by_same}
-use Rattle.nr_mdoc.proofs.Escapes.{and_left, and_right, is_not}
+use Rattle.nr_mdoc.proofs.Escapes.{and_left, is_not}
 use Rattle.nr_mdoc.proofs.Given.{Whole, whole_of, whole_behind, whole_within, given_met}
 use Rattle.nr_mdoc.proofs.Meeting.{with_page, leads_by}
-use Rattle.nr_mdoc.proofs.Outcomes.{is_quiet, of_word, never, takes_plain, Out, out, out_if, leaves_out}
+use Rattle.nr_mdoc.proofs.Outcomes.{is_quiet, of_word, never, takes_plain, Out, out, leaves_out}
 use Rattle.nr_mdoc.proofs.Stepping.{At, Head, Left, out_lays, out_step, out_next, step_at, leaves_step, marks_step, true_is_false}
 use Rattle.nr_mdoc.proofs.Taken.{prefix_out}
-use Rattle.nr_mdoc.proofs.Ways.{due_usual, marks_usual}
+use Rattle.nr_mdoc.proofs.Ways.{due_usual, prefix_usual}
 
 -- ---- closing marks
 
@@ -55,13 +56,22 @@ pub not_some : (s t : Bool) → (not s && t) ≡ true → s ≡ false
 not_some s t h = is_not s (and_left (not s) t h)
 
 -- a word that is a mark, and ends no sentence
-pub mark_out : (p : Page) → takes_plain p.call.taker ≡ true → way_of p.call.taker ≡ Usual → Out (mark_as_word p) (with_scan scans.Between p) p.word
-unfolding is_quiet of_word
-mark_out p f u =
+mark_as_by : Bool → Page → Met
+mark_as_by t q =
+    if t then prefix q else met (with_call (record q.call { some = true }) q) (three (acts.Word Roman) (acts.Close texts.Empty) acts.Nothing)
+
+mark_out_by : (t : Bool) (p : Page) → takes_plain p.call.taker ≡ true → is_prefix p.call.taker ≡ t
+    → Out (mark_as_by t (with_scan scans.Between p)) (with_scan scans.Between p) p.word
+unfolding is_quiet of_word mark_as_by
+mark_out_by true p f e = prefix_out (with_scan scans.Between p) f (prefix_usual p.call.taker e)
+mark_out_by false p f e =
     let q = with_scan scans.Between p in
-    out_if (is_prefix p.call.taker) _ _ q q.word (prefix_out q f u)
-    (out (with_call (record q.call { some = true }) q) q (acts.Word Roman) (acts.Close texts.Empty) acts.Nothing q.word refl refl refl (append-nil q.word)
-    (record { scan = refl; word = refl; marks = refl; few = λ l. l; going = refl; comment = refl; line = refl; fits = f; way = refl }))
+    out (with_call (record q.call { some = true }) q) q (acts.Word Roman) (acts.Close texts.Empty) acts.Nothing q.word refl refl refl (append-nil q.word)
+    (record { scan = refl; word = refl; marks = refl; few = λ l. l; going = refl; comment = refl; line = refl; fits = f; way = refl })
+
+pub mark_out : (p : Page) → takes_plain p.call.taker ≡ true → Out (mark_as_word p) (with_scan scans.Between p) p.word
+unfolding mark_as_by
+mark_out p f = mark_out_by (is_prefix p.call.taker) p f refl
 
 pub one_at_most : 1 ≤ 1
 one_at_most = omega arith
@@ -121,12 +131,11 @@ unfolding mark_by
 text_whole true head b c s word marks at e due text =
     let p = s.page in
     let none : marks ≡ [] = at.free (not_some p.call.some (takes_marks p.call.taker) text) in
-    let usual = marks_usual p.call.taker (and_right (not p.call.some) (takes_marks p.call.taker) text) in
     whole_of head b s 1 2 p.word p.word marks (marks ++ word) two_at_most
     (out_step head b s (mark_as_word p) (with_scan scans.Between p) p.word marks
     (mark_met head b c s word marks at e ∙ mark_is c p
     ∙ ap (λ (t : Bool). mark_by t (is_text p) (length p.marks == most_marks) c p) due ∙ ap (λ (t : Bool). mark_by false t (length p.marks == most_marks) c p) text)
-    (mark_out p at.fits usual) at.marks_are at.few at.going at.comment at.line at.way (λ h. none))
+    (mark_out p at.fits) at.marks_are at.few at.going at.comment at.line at.way (λ h. none))
     (ap (λ (xs : List ℕ). p.word ++ xs) none ∙ append-nil p.word ∙ at.word_is ∙ ap (λ (xs : List ℕ). xs ++ word) (sym none))
 text_whole false head b c s word marks at e due text = full_whole (length s.page.marks == most_marks) head b c s word marks at e due text refl
 

@@ -49,6 +49,7 @@ is_quiet (acts.Tag width) = true
 is_quiet (acts.Numbered n width) = true
 is_quiet (acts.Stops gap hang) = true
 is_quiet acts.Subsection = true
+is_quiet acts.Naming = true
 is_quiet act = false
 
 -- what they say of a word
@@ -103,6 +104,7 @@ quiet-page (acts.Tag width) p h = (_, refl)
 quiet-page (acts.Numbered n width) p h = (_, refl)
 quiet-page (acts.Stops gap hang) p h = (_, refl)
 quiet-page acts.Subsection p h = (_, refl)
+quiet-page acts.Naming p h = (_, refl)
 quiet-page act p h = never h
 
 pub quiet-word : (act : Act) (p : Page) → is_quiet act ≡ true → (part_of act p).word ≡ of_word act p.word
@@ -129,6 +131,7 @@ quiet-word (acts.Tag width) p h = refl
 quiet-word (acts.Numbered n width) p h = refl
 quiet-word (acts.Stops gap hang) p h = refl
 quiet-word acts.Subsection p h = refl
+quiet-word acts.Naming p h = refl
 quiet-word act p h = never h
 
 -- ---- three such acts

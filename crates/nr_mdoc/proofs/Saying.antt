@@ -4,11 +4,12 @@ use Rattle.nr_mdoc.specs.declared.acts.Act.{Act}
 use Rattle.nr_mdoc.specs.declared.acts.Act.TheVariants as acts
 use Rattle.nr_mdoc.specs.declared.page.Page.{Page}
 use Rattle.nr_mdoc.specs.declared.seen.Seen.{Seen}
-use Rattle.nr_mdoc.specs.Laying.{before_hyphen, first_of, gap}
+use Rattle.nr_mdoc.specs.Laying.{before_hyphen, first_of, gap, word_end}
 use Rattle.nr_mdoc.specs.LayingOut.{lay_out}
 use Rattle.nr_mdoc.specs.Reading.{State, Told, told, said, once, heard_in, heard}
 use Rattle.nr_mdoc.specs.Scanning.{meet}
 use Rattle.nr_mdoc.specs.Saying.{Part, part_of, parts_seen, parts_in, parts_at, text_of, words_of}
+use Rattle.nr_mdoc.specs.Texts.{font_end}
 
 -- ---- parts in a row
 
@@ -39,7 +40,7 @@ part-text (acts.Joined font) p = refl
 part-text acts.Flag p = refl
 part-text acts.Release p = refl
 part-text acts.More p = sym (append-nil (before_hyphen p.word ++ p.word))
-part-text acts.LastMore p = refl
+part-text acts.LastMore p = append_assoc (before_hyphen p.word ++ p.word) (word_end p.lay.font p) (font_end p.lay.font)
 part-text acts.Marks p = sym (append-nil (gap true (first_of p.marks) p ++ p.marks))
 part-text act p = only_before (lay_out act p).bytes
 

@@ -22,7 +22,7 @@ use Rattle.nr_mdoc.specs.declared.page.Split.TheVariants.{Never, Next, Always}
 use Rattle.nr_mdoc.specs.Calls.{with_call, with_place, is_nothing, is_none, heads_line, after_name, takes_no_more, called}
 use Rattle.nr_mdoc.specs.Macros.{part_font}
 use Rattle.nr_mdoc.specs.Seeing.{Met, met, three}
-use Rattle.nr_mdoc.specs.Taking.{author, author_line_by, named_author, splits, behind_later, include, keeps_link, link, prefix, taken_by, taken_word, taken_alone_by, naming, named, parameter, is_outside, is_first, is_listed, behind_first, listing, reference, function_begins, function}
+use Rattle.nr_mdoc.specs.Taking.{author, author_line_by, named_author, splits, behind_later, include, keeps_link, link, prefix, taken_by, taken_word, taken_alone_by, naming, named, named_under_condition, is_conditional, parameter, is_outside, is_first, is_listed, behind_first, listing, reference, function_begins, function}
 use Rattle.nr_mdoc.specs.Texts.{closer}
 use Rattle.nr_mdoc.specs.WrittenLines.{Authors, Usual, said_of, way_of}
 use Rattle.nr_mdoc.proofs.Outcomes.{is_quiet, of_word, never, takes_plain, Keeps, keeps_if, keeps_no_more, Out, out, out_if, out_seen_if, out_act_if, same_page, function_closes_out}
@@ -98,12 +98,18 @@ name_headed q p i = record {
   way = i.way;
 }
 
+conditional_kept : (q : Page) → takes_plain q.call.taker ≡ true → Keeps q (named_under_condition q)
+conditional_kept q f =
+    record { scan = refl; word = refl; marks = refl; few = λ l. l; going = refl; comment = refl; line = refl; fits = f; way = refl }
+
 named_out : (q : Page) → takes_plain q.call.taker ≡ true → Out (named q) q q.word
 unfolding is_quiet of_word
 named_out q f =
-    out_if (heads_line (naming q)) _ _ q q.word
+    out_if (is_conditional q.place.section) _ _ q q.word
+    (behind_act acts.Naming Bold (named_under_condition q) q refl refl (conditional_kept q f))
+    (out_if (heads_line (naming q)) _ _ q q.word
     (behind_act (acts.Hanging _) Bold (after_name (naming q)) q refl refl (name_headed q (naming q) (name_kept q f)))
-    (said_in Bold (naming q) q (name_kept q f))
+    (said_in Bold (naming q) q (name_kept q f)))
 
 listing_kept : (q p : Page) → Keeps q p → Keeps q (listing p)
 listing_kept q p i = record {
@@ -303,6 +309,7 @@ taken_by_out (macros.Part letter) q e h f =
 taken_by_out macros.Flag q e h f = out q q acts.Flag acts.Nothing acts.Nothing q.word refl refl refl (append-nil q.word) (same_page q f)
 taken_by_out macros.Argument q e h f = said_in Italic q q (same_page q f)
 taken_by_out macros.Path q e h f = said_in Italic q q (same_page q f)
+taken_by_out macros.SectionName q e h f = said_in Italic q q (same_page q f)
 taken_by_out macros.Variable q e h f = said_in Italic q q (same_page q f)
 taken_by_out macros.ResultType q e h f = said_in Italic q q (same_page q f)
 taken_by_out macros.Declaration q e h f = said_in Bold q q (same_page q f)
@@ -313,6 +320,7 @@ taken_by_out macros.Reference q e h f = reference_out q f (usual_is macros.Refer
 taken_by_out macros.Author q e h f = author_out q f
 taken_by_out macros.Section q e h f = never h
 taken_by_out macros.Describes q e h f = subst (λ (k : Macro). Out (taken_alone_by k q) q q.word) (sym e) (said_in Roman q q (same_page q f))
+taken_by_out macros.Subsection q e h f = subst (λ (k : Macro). Out (taken_alone_by k q) q q.word) (sym e) (said_in Roman q q (same_page q f))
 taken_by_out macros.Link q e h f = link_out q f (usual_is macros.Link q e refl)
 taken_by_out macros.Function q e h f = function_out q f
 taken_by_out (macros.Stands system) q e h f =

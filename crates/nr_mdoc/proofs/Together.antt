@@ -14,7 +14,7 @@ use Rattle.nr_mdoc.specs.declared.page.Split.TheVariants.{Never, Next, Always}
 use Rattle.nr_mdoc.specs.Calls.{heads_line, is_in_synopsis, is_none, with_place, takes_no_more}
 use Rattle.nr_mdoc.specs.Keeping.{is_whole, whole_for}
 use Rattle.nr_mdoc.specs.Seeing.{Met}
-use Rattle.nr_mdoc.specs.Taking.{author, author_line_by, behind_first, behind_later, function, function_begins, include, is_first, is_outside, keeps_link, link, listing, named, named_author, naming, parameter, prefix, reference, taken_alone_by, taken_by, taken_word}
+use Rattle.nr_mdoc.specs.Taking.{author, author_line_by, behind_first, behind_later, function, function_begins, include, is_conditional, is_first, is_outside, keeps_link, link, listing, named, named_author, naming, parameter, prefix, reference, taken_alone_by, taken_by, taken_word}
 use Rattle.nr_mdoc.proofs.Outcomes.{never}
 
 -- ---- pages that are the same in this
@@ -51,7 +51,7 @@ apart_page false p q h i = i
 named_apart : (q : Page) → apart q.call.taker ≡ true → apart (named q).page.call.taker ≡ true
 named_apart q h =
     let n = apart_page (is_none q.name) (record q { name = q.word; place = record q.place { width = q.call.width } }) q h h in
-    apart_if (heads_line (naming q)) _ _ n n
+    apart_if (is_conditional q.place.section) _ _ h (apart_if (heads_line (naming q)) _ _ n n)
 
 author_line_apart : (split : Split) (q : Page) → apart q.call.taker ≡ true → apart (author_line_by split q).page.call.taker ≡ true
 author_line_apart Always q h = h
@@ -106,6 +106,7 @@ taken_apart (macros.Part letter) q i h = h
 taken_apart macros.Flag q i h = h
 taken_apart macros.Argument q i h = h
 taken_apart macros.Path q i h = h
+taken_apart macros.SectionName q i h = h
 taken_apart macros.Variable q i h = h
 taken_apart macros.ResultType q i h = h
 taken_apart macros.Declaration q i h = h

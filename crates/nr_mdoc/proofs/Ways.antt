@@ -11,7 +11,7 @@ use Rattle.nr_mdoc.specs.Calls.{is_due, is_due_from, is_enclosure_due, is_none, 
 use Rattle.nr_mdoc.specs.Keeping.{ends_in_hyphen, has_dashes, is_title, looks_up}
 use Rattle.nr_mdoc.specs.Options.{is_heading, reads_for}
 use Rattle.nr_mdoc.specs.Taking.{is_bar, is_opening}
-use Rattle.nr_mdoc.specs.Words.{takes_marks}
+use Rattle.nr_mdoc.specs.Words.{is_prefix}
 use Rattle.nr_mdoc.specs.WrittenLines.{is_held, is_hyphen, kept_first, kept_letter, Letter, Plain, Escape, prints_otherwise, Way, Usual, Titled, Authors, Headed, way_of, way_of_part, said_of, holds_hyphen}
 use Rattle.nr_mdoc.proofs.Escapes.{and_left, and_right, is_not, same_byte}
 use Rattle.nr_mdoc.proofs.Outcomes.{never, takes_as, takes_plain}
@@ -23,6 +23,8 @@ due_from_usual macros.Describes some named h = never h
 due_from_usual (macros.Part letter) some named h = never h
 due_from_usual macros.Author some named h = never h
 due_from_usual macros.Section some named h = never h
+due_from_usual macros.SectionName some named h = never h
+due_from_usual macros.Subsection some named h = never h
 due_from_usual m some named h = refl
 
 pub due_usual : (p : Page) → is_due p ≡ true → way_of p.call.taker ≡ Usual
@@ -33,17 +35,16 @@ opened_by_usual macros.Describes h = never h
 opened_by_usual (macros.Part letter) h = never h
 opened_by_usual macros.Author h = never h
 opened_by_usual macros.Section h = never h
+opened_by_usual macros.SectionName h = never h
+opened_by_usual macros.Subsection h = never h
 opened_by_usual m h = refl
 
 pub opened_usual : (p : Page) → is_enclosure_due p ≡ true → way_of p.call.taker ≡ Usual
 opened_usual p h = opened_by_usual p.call.taker (and_left (is_opened_by p.call.taker) (not p.call.some) h)
 
-pub marks_usual : (m : Macro) → takes_marks m ≡ true → way_of m ≡ Usual
-marks_usual macros.Describes h = never h
-marks_usual (macros.Part letter) h = never h
-marks_usual macros.Author h = never h
-marks_usual macros.Section h = never h
-marks_usual m h = refl
+pub prefix_usual : (m : Macro) → is_prefix m ≡ true → way_of m ≡ Usual
+prefix_usual macros.Prefix h = refl
+prefix_usual m h = never h
 
 -- ---- hyphens
 
@@ -58,6 +59,8 @@ holds_by : (m : Macro) (dash : Bool) → prints_otherwise m ≡ false → reads_
     → (not (looks_up m) || (has_dashes m && dash)) ≡ holds_hyphen (way_of m) dash
 holds_by macros.Standard dash h e = never (sym h)
 holds_by macros.Describes dash h e = refl
+holds_by macros.SectionName dash h e = refl
+holds_by macros.Subsection dash h e = refl
 holds_by (macros.Part letter) dash h e = part_holds (is_title letter) dash
 holds_by macros.Author dash h e = refl
 holds_by macros.Section dash h e = never (sym e)

@@ -46,7 +46,7 @@ abbrev pub usual_width : Kind → ℕ
 usual_width kinds.Bullet = 2
 usual_width kinds.Dash = 2
 usual_width kinds.Number = 3
-usual_width kind = 8
+usual_width kind = 6
 
 -- what tags take, with the gap of two after them
 abbrev pub tag_width_of : Option ℕ → Kind → ℕ

@@ -68,10 +68,12 @@ is_title b = (b == code "B") || (b == code "N") || (b == code "O") || (b == code
 abbrev pub ends_in_hyphen : List ℕ → Bool
 ends_in_hyphen bs = nat_lt 0 (length bs) && (slice_index bs (length bs - 1) == code "-")
 
--- hyphens stay as they are in words that tables have, and in descriptions and titles
+-- hyphens stay as they are in words that tables have, and in descriptions, titles and headings
 abbrev pub looks_up : Macro → Bool
 looks_up macros.Standard = true
 looks_up macros.Describes = true
+looks_up macros.SectionName = true
+looks_up macros.Subsection = true
 looks_up (macros.Part letter) = is_title letter
 looks_up m = reads_for m
 
@@ -80,6 +82,8 @@ is_looked_up p = looks_up p.call.taker
 
 abbrev pub has_dashes : Macro → Bool
 has_dashes macros.Describes = true
+has_dashes macros.SectionName = true
+has_dashes macros.Subsection = true
 has_dashes (macros.Part letter) = true
 has_dashes m = false
 

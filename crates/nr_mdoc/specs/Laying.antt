@@ -1,5 +1,5 @@
 -- Words with fonts and joints are laid out as text.
-use Rattle.std.specs.Prelude.{ℕ, List, [], ◌∷◌, ◌++◌, Bool, true, false, not, ◌==◌, ◌&&◌, ◌||◌, if◌then◌else◌, codes, Option, None, Some}
+use Rattle.std.specs.Prelude.{ℕ, ◌-◌, List, [], ◌∷◌, ◌++◌, length, Bool, true, false, not, ◌==◌, ◌&&◌, ◌||◌, nat_lt, if◌then◌else◌, slice_index, codes, Option, None, Some}
 use Prim.Native.Char.{code}
 use Rattle.nr_mdoc.specs.declared.acts.Act.{Act}
 use Rattle.nr_mdoc.specs.declared.acts.Act.TheVariants as acts
@@ -88,11 +88,29 @@ is_joined p = p.lay.joined || (not p.lay.spaced && is_middle p.lay.at)
 abbrev pub put : Bool → List ℕ → Page → Laid
 put joined text p = laid (was_put p) (gap joined (first_of text) p ++ text)
 
+abbrev pub is_stop : ℕ → Bool
+is_stop b = (b == code ".") || (b == code "?") || (b == code "!")
+
+-- a word that would end a sentence at the end of its line
+abbrev pub ends_sentence : List ℕ → Bool
+ends_sentence word =
+    nat_lt 0 (length word) && is_stop (slice_index word (length word - 1))
+
+abbrev pub is_roman : Font → Bool
+is_roman Roman = true
+is_roman font = false
+
+-- a word of a macro ends no sentence, but in roman within an enclosure of its line
+abbrev pub word_end : Font → Page → List ℕ
+word_end font p =
+    let within = is_roman font && not (length p.closers == 0) in
+    if ends_sentence p.word && not within then codes "\\&" else []
+
 -- the font of a word ends, unless more of the word comes
 abbrev pub end_word : Font → Page → Laid
 end_word font p =
     if p.lay.front then laid (with_lay (record p.lay { front = false; font = font }) p) []
-    else laid p (font_end font)
+    else laid p (word_end font p ++ font_end font)
 
 abbrev pub put_word : Bool → Font → Page → Laid
 put_word joined font p =
@@ -105,7 +123,7 @@ put_more p = laid (was_put p) (before_hyphen p.word ++ p.word)
 abbrev pub put_last_more : Page → Laid
 put_last_more p =
     laid (was_put (with_lay (record p.lay { font = Roman }) p)) (before_hyphen p.word ++ p.word
-    ++ font_end p.lay.font)
+    ++ word_end p.lay.font p ++ font_end p.lay.font)
 
 abbrev pub put_flag : Page → Laid
 put_flag p =
@@ -158,10 +176,12 @@ put_library (Some text) p = put (is_joined p) (before_nul text) p
 abbrev pub put_release : Page → Laid
 put_release p = behind (codes "-") (put_word true Roman p)
 
--- ---- a line of the input ends
+-- ---- a line of the input ends: a joint does, too, where lines stay as they are
 
 abbrev pub end_line : Page → Page
-end_line p = if is_middle p.lay.at then with_lay (record p.lay { at = Ended }) p else p
+end_line p =
+    if is_middle p.lay.at
+    then with_lay (record p.lay { at = Ended; joined = p.lay.joined && not p.lay.literal }) p else p
 
 -- ---- names of standards, libraries and versions
 

@@ -5,7 +5,7 @@ use Rattle.nr_mdoc.specs.declared.acts.Act.TheVariants as acts
 use Rattle.nr_mdoc.specs.declared.page.Page.{Page}
 use Rattle.nr_mdoc.specs.Columns.{column_text, put_cell, put_row, put_stops}
 use Rattle.nr_mdoc.specs.Laying.{Laid, laid, with_lay, put, is_joined, end_line, lay_word}
-use Rattle.nr_mdoc.specs.OwnLines.{freshen, end_tag, quiet_down, put_space, put_request, put_sized, put_hanging, put_tag, put_numbered, put_title, end_title, put_head, put_control}
+use Rattle.nr_mdoc.specs.OwnLines.{freshen, end_tag, quiet_down, put_space, put_request, put_sized, put_hanging, put_tag, put_numbered, put_title, end_title, put_head, put_control, put_naming}
 use Rattle.nr_mdoc.specs.References.{put_part_begin, put_reference}
 use Rattle.nr_mdoc.specs.Texts.{text_of, front_of}
 
@@ -31,6 +31,7 @@ lay_request acts.Row p = put_row p
 lay_request (acts.Part letter) p = put_part_begin letter p
 lay_request acts.Reference p = put_reference p
 lay_request acts.Control p = put_control p
+lay_request acts.Naming p = put_naming p
 lay_request act p = lay_word act p
 
 unfoldable pub lay_out : Act → Page → Laid

@@ -13,6 +13,7 @@ pub mod OwnLines
 pub mod Passing
 pub mod Reading
 pub mod References
+pub mod Rows
 pub mod Running
 pub mod Saying
 pub mod Scanning

@@ -1,5 +1,6 @@
 -- Lines: what the macro that begins one says, and what its end says (mdoc(7), MACRO OVERVIEW).
-use Rattle.std.specs.Prelude.{◌≡◌, ℕ, ◌-◌, List, [], ◌∷◌, length, take, Bool, true, false, not, ◌==◌, ◌&&◌, nat_le, if◌then◌else◌, slice_index, Option, None, Some}
+use Rattle.std.specs.Prelude.{◌≡◌, ℕ, ◌-◌, List, [], ◌∷◌, length, take, Bool, true, false, not, ◌==◌, ◌&&◌, ◌||◌, nat_le, if◌then◌else◌, slice_index, codes, Option, None, Some}
+use Rattle.std.specs.Str.{bytes_eq}
 use Prim.Native.Char.{code}
 use Rattle.nr_mdoc.specs.declared.acts.Act.{Act}
 use Rattle.nr_mdoc.specs.declared.acts.Act.TheVariants as acts
@@ -15,13 +16,14 @@ use Rattle.nr_mdoc.specs.declared.page.Kind.TheVariants as kinds
 use Rattle.nr_mdoc.specs.declared.page.Last.{Last}
 use Rattle.nr_mdoc.specs.declared.page.Last.TheVariants as lasts
 use Rattle.nr_mdoc.specs.declared.page.Page.{Page}
+use Rattle.nr_mdoc.specs.declared.page.Row.TheVariants as rows
 use Rattle.nr_mdoc.specs.declared.page.Scan.TheVariants as scans
 use Rattle.nr_mdoc.specs.declared.page.Section.{Section}
 use Rattle.nr_mdoc.specs.declared.page.Section.TheVariants as sections
 use Rattle.nr_mdoc.specs.declared.page.Split.TheVariants as splits
 use Rattle.nr_mdoc.specs.declared.page.Wanted.TheVariants as wanteds
 use Rattle.nr_mdoc.specs.declared.seen.Seen.{Seen}
-use Rattle.nr_mdoc.specs.Blocks.{block_opens, item, item_ends, list_begins, list_ends, display_begins, display_ends, outer_goes_on, line_opens, tag_ends, with_literal, is_literal}
+use Rattle.nr_mdoc.specs.Blocks.{block_opens, item, item_ends, list_begins, list_ends, display_begins, display_ends, outer_goes_on, line_opens, tag_ends}
 use Rattle.nr_mdoc.specs.Macros.{macro_of}
 use Rattle.nr_mdoc.specs.Options.{none}
 use Rattle.nr_mdoc.specs.Seeing.{Met, met, left, two, three, and_taken}
@@ -123,8 +125,7 @@ section p =
 
 abbrev pub subsection : Page → Met
 subsection p =
-    met (after lasts.Heading (record p { call = record p.call { taker = macros.Words Roman } }))
-    (left acts.Subsection)
+    met (after lasts.Heading p) (left acts.Subsection)
 
 abbrev pub paragraph : Page → Met
 paragraph p = met (after lasts.Heading p) (left acts.Space)
@@ -140,13 +141,15 @@ defines p = met (with_scan (scans.Ignored dots.Other) p) (left acts.Control)
 abbrev pub keeps : Bool → Page → Met
 keeps kept p = silent (record p { lay = record p.lay { kept = kept } })
 
--- ---- lines for tbl stay as they are, but for macros
+-- ---- tables: what divides one prints nothing outside of one
 
 abbrev pub table : Page → Met
-table p = met (with_scan scans.Rest (with_literal true p)) (left acts.Control)
+table p =
+    if bytes_eq p.word (codes "TS") then met (with_scan (scans.Table rows.Rest) p) (left acts.Control)
+    else silent p
 
 abbrev pub table_ends : Page → Met
-table_ends p = met (with_scan scans.Rest (with_literal (is_literal p.block.kind) p)) (left acts.Control)
+table_ends p = met (with_scan scans.Rest p) (left acts.Control)
 
 -- ---- references
 
@@ -211,10 +214,24 @@ begins macros.Exits p = met p (two (acts.Request requests.Break) (acts.Text text
 begins macros.Returns p = met p (left (acts.Request requests.Break))
 begins m p = begins_block m p
 
+abbrev pub is_condition : List ℕ → Bool
+is_condition name =
+    bytes_eq name (codes "if") || bytes_eq name (codes "ie") || bytes_eq name (codes "el")
+
+abbrev pub is_in_name : Section → Bool
+is_in_name sections.Name = true
+is_in_name s = false
+
+-- a condition in NAME: which of several names is the page's, nroff says
+abbrev pub under_condition : Page → Page
+under_condition p =
+    if is_in_name p.place.section && is_condition p.word
+    then record p { place = record p.place { section = sections.Condition } } else p
+
 -- requests pass; the words of a macro that is none are printed
 abbrev pub other_line : Page → Met
 other_line p =
-    if is_request p.word then met (with_scan scans.Rest p) (left acts.Control) else
+    if is_request p.word then met (with_scan scans.Rest (under_condition p)) (left acts.Control) else
     none (record p { call = call_of (macros.Words Roman) })
 
 abbrev pub begins_or_other : Option Macro → Page → Met

@@ -70,6 +70,7 @@ is_callable_too m = false
 -- a word of a line that another macro began calls it
 abbrev pub is_callable : Macro → Bool
 is_callable (macros.Words x) = true
+is_callable macros.SectionName = true
 is_callable macros.Flag = true
 is_callable macros.Argument = true
 is_callable macros.Path = true

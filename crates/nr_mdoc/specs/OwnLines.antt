@@ -127,3 +127,7 @@ put_head head p = laid (with_lay (record (fresh p).lay { at = Middle }) (fresh p
 
 abbrev pub put_control : Page → Laid
 put_control p = laid (fresh p) (line_end p ++ codes "." ++ p.word)
+
+-- the string that keeps the page's name
+abbrev pub put_naming : Page → Laid
+put_naming p = laid (fresh p) (line_end p ++ codes ".ds %n \"" ++ p.word ++ codes "\n")

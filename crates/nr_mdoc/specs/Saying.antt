@@ -7,7 +7,7 @@ use Rattle.nr_mdoc.specs.declared.macros.Font.{Font}
 use Rattle.nr_mdoc.specs.declared.macros.Font.TheVariants.{Roman, Bold}
 use Rattle.nr_mdoc.specs.declared.page.Page.{Page}
 use Rattle.nr_mdoc.specs.declared.seen.Seen.{Seen}
-use Rattle.nr_mdoc.specs.Laying.{gap, first_in, first_of, before_hyphen, is_joined, was_put, end_word}
+use Rattle.nr_mdoc.specs.Laying.{gap, first_in, first_of, before_hyphen, is_joined, was_put, end_word, word_end}
 use Rattle.nr_mdoc.specs.LayingOut.{lay_out}
 use Rattle.nr_mdoc.specs.Reading.{State, once, heard}
 use Rattle.nr_mdoc.specs.Scanning.{meet}
@@ -48,7 +48,7 @@ part_of (acts.Joined font) p = part_word true font p
 part_of acts.Flag p = part_flag p
 part_of acts.Release p = part_release p
 part_of acts.More p = part (before_hyphen p.word) p.word []
-part_of acts.LastMore p = part (before_hyphen p.word) p.word (font_end p.lay.font)
+part_of acts.LastMore p = part (before_hyphen p.word) p.word (word_end p.lay.font p ++ font_end p.lay.font)
 part_of acts.Marks p = part (gap true (first_of p.marks) p) p.marks []
 part_of act p = part (lay_out act p).bytes [] []
 

@@ -19,6 +19,7 @@ use Rattle.nr_mdoc.specs.declared.seen.Seen.{Seen}
 use Rattle.nr_mdoc.specs.Keeping.{ends_word, turns, word_begins, in_word, in_quotes, closing, in_escape}
 use Rattle.nr_mdoc.specs.Laying.{is_control}
 use Rattle.nr_mdoc.specs.Lines.{call_of, named_line, ends}
+use Rattle.nr_mdoc.specs.Rows.{in_table}
 use Rattle.nr_mdoc.specs.Seeing.{Met, met, left, two, taken, and_taken}
 use Rattle.nr_mdoc.specs.Words.{given, long, goes_on}
 
@@ -187,6 +188,7 @@ meet_whole_at scans.Rest b p = in_rest b p
 meet_whole_at scans.Passes b p = met p (taken (acts.Byte b))
 meet_whole_at scans.Dropped b p = dropped b p
 meet_whole_at (scans.Ignored d) b p = ignored d b p
+meet_whole_at (scans.Table row) b p = in_table row b p
 meet_whole_at scan b p = ends p
 
 unfoldable pub meet_whole : ℕ → Page → Met

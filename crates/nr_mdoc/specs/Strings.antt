@@ -1,6 +1,8 @@
 -- Strings that mdoc names (mdoc(7), Predefined Strings): `\*(xx` and `\*[xx]`.
 use Rattle.std.specs.Prelude.{ℕ, List, Bool, true, false, ◌==◌, ◌&&◌, if◌then◌else◌, slice_index, Option, None, Some}
 use Prim.Native.Char.{code}
+use Rattle.nr_mdoc.specs.declared.page.Row.{Row}
+use Rattle.nr_mdoc.specs.declared.page.Row.TheVariants as rows
 use Rattle.nr_mdoc.specs.declared.page.Scan.{Scan}
 use Rattle.nr_mdoc.specs.declared.page.Scan.TheVariants as scans
 use Rattle.nr_mdoc.specs.declared.strings.TheConstants.{STRINGS}
@@ -21,6 +23,13 @@ says (Some text) = Says (slice_index text 0) (slice_index text 1) (slice_index t
 abbrev pub named : ℕ → ℕ → Next
 named a b = says (string_named a b)
 
+abbrev pub row_takes_strings : Row → Bool
+row_takes_strings rows.Control = false
+row_takes_strings rows.Escape = false
+row_takes_strings rows.Comment = false
+row_takes_strings rows.Name = false
+row_takes_strings row = true
+
 -- not in lines that pass, nor before a macro's name has ended
 abbrev pub takes_strings : Scan → Bool
 takes_strings (scans.Asleep front lines) = false
@@ -32,6 +41,7 @@ takes_strings scans.Name = false
 takes_strings scans.Rest = false
 takes_strings scans.Dropped = false
 takes_strings (scans.Ignored d) = false
+takes_strings (scans.Table row) = row_takes_strings row
 takes_strings scan = true
 
 -- names of one letter

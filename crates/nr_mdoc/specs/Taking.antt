@@ -16,6 +16,8 @@ use Rattle.nr_mdoc.specs.declared.page.Page.{Page}
 use Rattle.nr_mdoc.specs.declared.page.Parameters.{Parameters}
 use Rattle.nr_mdoc.specs.declared.page.Parameters.TheVariants.{Outside, First, Further}
 use Rattle.nr_mdoc.specs.declared.page.Scan.TheVariants as scans
+use Rattle.nr_mdoc.specs.declared.page.Section.{Section}
+use Rattle.nr_mdoc.specs.declared.page.Section.TheVariants as sections
 use Rattle.nr_mdoc.specs.declared.page.Split.{Split}
 use Rattle.nr_mdoc.specs.declared.page.Split.TheVariants.{Never, Next, Always}
 use Rattle.nr_mdoc.specs.Calls.{hanging, with_call, with_place, with_scan, seen_with, is_none, is_enclosure_due, is_due, takes_no_more, heads_line, after_name, leaves}
@@ -42,8 +44,22 @@ abbrev pub naming : Page → Page
 naming p =
     if is_none p.name then record p { name = p.word; place = record p.place { width = p.call.width } } else p
 
+abbrev pub is_conditional : Section → Bool
+is_conditional sections.Condition = true
+is_conditional s = false
+
+-- under a condition it is a string of nroff, which keeps the word that is read
+abbrev pub named_under_condition : Page → Page
+named_under_condition p =
+    record p {
+      name = codes "\\*(%n";
+      place = record p.place { section = sections.Name; width = p.call.width };
+    }
+
 abbrev pub named : Page → Met
 named p =
+    if is_conditional p.place.section
+    then met (named_under_condition p) (two acts.Naming (acts.Word Bold)) else
     if heads_line (naming p)
     then met (after_name (naming p)) (two (acts.Hanging (hanging p.call.width)) (acts.Word Bold))
     else met (naming p) (left (acts.Word Bold))
@@ -180,6 +196,7 @@ taken_alone p = taken_alone_by p.call.taker p
 
 abbrev pub taken_by : Macro → Page → Met
 taken_by (macros.Words font) p = met p (left (acts.Word font))
+taken_by macros.SectionName p = met p (left (acts.Word Italic))
 taken_by (macros.Part letter) p = met p (left (acts.Word (part_font letter)))
 taken_by macros.Flag p = met p (left acts.Flag)
 taken_by macros.Argument p = met p (left (acts.Word Italic))

@@ -50,6 +50,8 @@ is_prefix m = false
 
 abbrev pub takes_marks : Macro → Bool
 takes_marks (macros.Words font) = true
+takes_marks macros.SectionName = true
+takes_marks macros.Subsection = true
 takes_marks m = is_prefix m
 
 -- a closing mark that comes first is a word for some macros, one that ends no sentence

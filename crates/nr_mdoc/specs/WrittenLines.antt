@@ -48,6 +48,8 @@ way_of_part title = if title then Titled else Usual
 
 abbrev pub way_of : Macro → Way
 way_of macros.Describes = Titled
+way_of macros.SectionName = Titled
+way_of macros.Subsection = Titled
 way_of (macros.Part letter) = way_of_part (is_title letter)
 way_of macros.Author = Authors
 way_of macros.Section = Headed

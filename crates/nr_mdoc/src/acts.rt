@@ -133,6 +133,8 @@ pub(crate) enum Act {
     LastMore,
     /// The page's name.
     Own,
+    /// The word becomes the string that keeps that.
+    Naming,
     /// The name that was held back, after a comma.
     Held,
     /// The last of the names, after `and`, and after a comma too where there are more than two.

@@ -62,12 +62,12 @@ fn has_tags(kind: Kind) -> bool
 /// What tags take without `-width`.
 fn usual_width(kind: Kind) -> u16
     ensures value { result ≡ specs.usual_width kind }
-    ensures few { result ≤ 8 }
+    ensures few { result ≤ 6 }
 {
     match kind {
         Kind::Bullet | Kind::Dash => 2,
         Kind::Number => 3,
-        _ => 8,
+        _ => 6,
     }
 }
 

@@ -64,8 +64,8 @@ impl Page {
         ensures { result ≡ specs.is_looked_up self.now }
     {
         match self.call.taker {
-            Macro::Standard | Macro::Describes => true,
             Macro::Part(letter) => is_title(letter),
+            Macro::Standard | Macro::Describes | Macro::SectionName | Macro::Subsection => true,
             _ => self.reads_options(),
         }
     }
@@ -74,8 +74,10 @@ impl Page {
     fn is_dash(&self) -> bool
         ensures { result ≡ specs.is_dash self.now }
     {
-        matches!(self.call.taker, Macro::Describes | Macro::Part(_))
-            && ends_in_hyphen(self.word.as_bytes())
+        matches!(
+            self.call.taker,
+            Macro::Describes | Macro::SectionName | Macro::Subsection | Macro::Part(_)
+        ) && ends_in_hyphen(self.word.as_bytes())
     }
 
     /// A byte of a word is kept: a hyphen that doesn't begin it as an escape, since no line is broken after that.

@@ -13,7 +13,7 @@ use nr_units::Name;
 use nr_units::slice_vec::SliceVec;
 
 /// Whether a line that begins with this byte would be a control line.
-fn is_control(byte: u8) -> bool
+pub(crate) fn is_control(byte: u8) -> bool
     ensures { result ≡ specs.is_control byte }
 {
     byte == b'.' || byte == b'\''
@@ -44,6 +44,14 @@ fn before_hyphen(word: &[u8]) -> &'static [u8]
         [first, ..] if *first == b'-' => b"\\",
         _ => b"",
     }
+}
+
+/// Whether a word would end a sentence at the end of its line.
+fn ends_sentence(word: &[u8]) -> bool
+    ensures { result ≡ specs.ends_sentence word.now }
+{
+    let len = word.len();
+    len > 0 && matches!(word[len - 1], b'.' | b'?' | b'!')
 }
 
 /// The first byte of a text.
@@ -143,12 +151,25 @@ impl Page {
         self.was_put();
     }
 
+    /// What stands behind a word: it ends no sentence, but in roman within an enclosure of its line.
+    fn word_end(&self, font: Font) -> &'static [u8]
+        ensures value { result.now ≡ specs.word_end font self.now }
+        ensures few { length result.now ≤ 2 }
+    {
+        let within = matches!(font, Font::Roman) && !self.closers.is_empty();
+        if ends_sentence(self.word.as_bytes()) && !within {
+            b"\\&"
+        } else {
+            b""
+        }
+    }
+
     /// The font of a word ends, unless more of the word comes.
     fn end_word(&mut self, font: Font, out: &mut SliceVec<'_, u8>)
-        requires { length out.old.items + 3 ≤ out.old.room }
+        requires { length out.old.items + 5 ≤ out.old.room }
         ensures page { self.new ≡ (specs.end_word font self.old).page }
         ensures items { out.new.items ≡ out.old.items ++ (specs.end_word font self.old).bytes }
-        ensures few { length out.new.items ≤ length out.old.items + 3 }
+        ensures few { length out.new.items ≤ length out.old.items + 5 }
         ensures room { out.new.room ≡ out.old.room }
     {
         if self.lay.front {
@@ -156,6 +177,7 @@ impl Page {
             self.lay.font = font;
             return;
         }
+        out.extend(self.word_end(font));
         out.extend(font_end(font));
     }
 
@@ -198,6 +220,7 @@ impl Page {
     {
         out.extend(before_hyphen(self.word.as_bytes()));
         out.extend(self.word.as_bytes());
+        out.extend(self.word_end(self.lay.font));
         out.extend(font_end(self.lay.font));
         self.lay.font = Font::Roman;
         self.was_put();
@@ -330,12 +353,13 @@ impl Page {
         self.put_word(true, Font::Roman, out);
     }
 
-    /// The line of the input ends.
+    /// The line of the input ends: a joint does, too, where lines stay as they are.
     pub(crate) fn end_line(&mut self)
         ensures { self.new ≡ specs.end_line self.old }
     {
         if matches!(self.lay.at, At::Middle) {
             self.lay.at = At::Ended;
+            self.lay.joined = self.lay.joined && !self.lay.literal;
         }
     }
 

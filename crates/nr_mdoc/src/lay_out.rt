@@ -38,6 +38,7 @@ impl Page {
             Act::Part(letter) => self.put_part_begin(letter, out),
             Act::Reference => self.put_reference(out),
             Act::Control => self.put_control(out),
+            Act::Naming => self.put_naming(out),
             _ => self.lay_word(act, out),
         }
     }

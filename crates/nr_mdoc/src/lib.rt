@@ -1,8 +1,8 @@
 //! Pages of mdoc(7) become pages of man(7).
 //!
 //! It stands on nr_units. To read: `macros`, `page`, `acts`, `seen`; `texts`, `names`, `libraries`, `lookup`, `lay`,
-//! `own_lines`, `references`, `lay_out`; `options`, `calls`, `taking`, `words`, `blocks`, `lines`, `keeping`, `scan`,
-//! which puts them together; `pending`, `reader`, `strings`, `at_hand`, `running`; `passing`, `word_laws`.
+//! `own_lines`, `references`, `lay_out`; `options`, `calls`, `taking`, `words`, `blocks`, `lines`, `keeping`, `rows`,
+//! `scan`, which puts them together; `pending`, `reader`, `strings`, `at_hand`, `running`; `passing`, `word_laws`.
 #![tactic(auto)]
 
 mod acts;
@@ -25,6 +25,7 @@ mod passing;
 mod pending;
 mod reader;
 mod references;
+mod rows;
 mod running;
 mod scan;
 mod seen;

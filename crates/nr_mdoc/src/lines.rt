@@ -5,18 +5,25 @@ ghost use Rattle.nr_mdoc.specs.Lines as specs;
 
 use super::acts::{Act, Request, Text};
 use super::macros::{Font, Macro, macro_of};
-use super::page::{Behind, Call, Dots, Kind, Last, Page, Scan, Section, Split, Wanted};
+use super::page::{Behind, Call, Dots, Kind, Last, Page, Row, Scan, Section, Split, Wanted};
 use super::seen::Seen;
 use nr_units::Name;
 
 /// Whether a name is that of a request, not of a macro.
-fn is_request(name: &[u8]) -> bool
+pub(crate) fn is_request(name: &[u8]) -> bool
     ensures { result ≡ specs.is_request name.now }
 {
     match name {
         [first, ..] => !matches!(*first, b'A'..=b'Z') && *first != b'%',
         [] => false,
     }
+}
+
+/// Whether it is that of a condition.
+fn is_condition(name: &[u8]) -> bool
+    ensures { result ≡ specs.is_condition name.now }
+{
+    matches!(name, b"if" | b"ie" | b"el")
 }
 
 /// The call of a line's macro.
@@ -73,6 +80,9 @@ impl Page {
         ensures { met self.new result ≡ specs.other_line self.old }
     {
         if is_request(self.word.as_bytes()) {
+            if matches!(self.place.section, Section::Name) && is_condition(self.word.as_bytes()) {
+                self.place.section = Section::Condition;
+            }
             self.scan = Scan::Rest;
             return Seen::left(Act::Control);
         }
@@ -169,7 +179,6 @@ impl Page {
     fn subsection(&mut self) -> Seen
         ensures { met self.new result ≡ specs.subsection self.old }
     {
-        self.call.taker = Macro::Words(Font::Roman);
         self.place.last = Last::Heading;
         Seen::left(Act::Subsection)
     }
@@ -217,20 +226,21 @@ impl Page {
         self.silent()
     }
 
-    /// Lines for tbl come: they stay as they are, but for macros.
+    /// Lines for tbl come. What divides a table stands outside of one for nothing.
     fn table(&mut self) -> Seen
         ensures { met self.new result ≡ specs.table self.old }
     {
-        self.lay.literal = true;
-        self.scan = Scan::Rest;
+        if self.word.as_bytes() != b"TS".as_slice() {
+            return self.silent();
+        }
+        self.scan = Scan::Table(Row::Rest);
         Seen::left(Act::Control)
     }
 
-    /// They have ended.
+    /// What ends a table passes.
     fn table_ends(&mut self) -> Seen
         ensures { met self.new result ≡ specs.table_ends self.old }
     {
-        self.lay.literal = matches!(self.block.kind, Kind::Literal);
         self.scan = Scan::Rest;
         Seen::left(Act::Control)
     }

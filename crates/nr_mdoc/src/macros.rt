@@ -60,6 +60,8 @@ pub(crate) enum System {
 pub(crate) enum Macro {
     /// Its words are in a font, up to the next macro.
     Words(Font),
+    /// `.Sx`: the heading of a section.
+    SectionName,
     /// `.Fl`: each word is an option.
     Flag,
     /// `.Ar`.
@@ -275,7 +277,7 @@ static NAMES: [(u8, u8, Macro); 110] = [
     (b'S', b'q', Macro::Encloses(Pair::SingleQuotes)),
     (b'S', b's', Macro::Subsection),
     (b'S', b't', Macro::Standard),
-    (b'S', b'x', Macro::Words(Font::Italic)),
+    (b'S', b'x', Macro::SectionName),
     (b'S', b'y', Macro::Words(Font::Bold)),
     (b'T', b'&', Macro::Table),
     (b'T', b'E', Macro::TableEnds),
@@ -378,6 +380,7 @@ impl Macro {
     {
         match self {
             Macro::Words(_)
+            | Macro::SectionName
             | Macro::Flag
             | Macro::Argument
             | Macro::Path

@@ -73,7 +73,8 @@ static FONTS: [([u8; 15], Font); 4] = [
 ];
 
 /// The sections in which macros print otherwise, by the first word of their headings.
-static SECTIONS: [([u8; 15], Section); 3] = [
+static SECTIONS: [([u8; 15], Section); 4] = [
+    (*b"NAME\0\0\0\0\0\0\0\0\0\0\0", Section::Name),
     (*b"SYNOPSIS\0\0\0\0\0\0\0", Section::Synopsis),
     (*b"AUTHORS\0\0\0\0\0\0\0\0", Section::Authors),
     (*b"SEE\0\0\0\0\0\0\0\0\0\0\0\0", Section::SeeAlso),

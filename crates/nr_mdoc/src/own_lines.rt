@@ -268,4 +268,18 @@ impl Page {
         out.push(b'.');
         out.extend(self.word.as_bytes());
     }
+
+    /// The string that keeps the page's name.
+    pub(crate) fn put_naming(&mut self, out: &mut SliceVec<'_, u8>)
+        requires { length out.old.items + 48 ≤ out.old.room }
+        ensures page { self.new ≡ (specs.put_naming self.old).page }
+        ensures items { out.new.items ≡ out.old.items ++ (specs.put_naming self.old).bytes }
+        ensures few { length out.new.items ≤ length out.old.items + 48 }
+        ensures room { out.new.room ≡ out.old.room }
+    {
+        self.freshen(out);
+        out.extend(b".ds %n \"");
+        out.extend(self.word.as_bytes());
+        out.push(b'\n');
+    }
 }

@@ -16,6 +16,25 @@ pub(crate) enum Dots {
     Other,
 }
 
+/// Where a line of a table is read.
+#[derive(Clone, Copy)]
+pub(crate) enum Row {
+    /// At its beginning.
+    Start,
+    /// After the control character.
+    Control,
+    /// After the control character and a backslash.
+    Escape,
+    /// In a comment.
+    Comment,
+    /// In the name of a control line.
+    Name,
+    /// After the name of a macro.
+    Words,
+    /// The rest of it passes.
+    Rest,
+}
+
 /// What was read of `.Dd` at the beginning of a line, before a page is known to be one of mdoc.
 #[derive(Clone, Copy)]
 pub(crate) enum Front {
@@ -108,6 +127,8 @@ pub(crate) enum Scan {
     Dropped,
     /// Lines pass, up to `..`.
     Ignored(Dots),
+    /// Lines of a table pass, up to `.TE`.
+    Table(Row),
     /// The line ends.
     Ends,
 }
@@ -128,6 +149,10 @@ pub(crate) enum At {
 pub(crate) enum Section {
     /// Any other.
     Other,
+    /// NAME.
+    Name,
+    /// NAME, after a condition: the next name may be the page's.
+    Condition,
     /// SYNOPSIS.
     Synopsis,
     /// AUTHORS.

@@ -338,6 +338,7 @@ impl Page {
             Scan::Passes => Seen::taken(Act::Byte(byte)),
             Scan::Dropped => self.dropped(byte),
             Scan::Ignored(dots) => self.ignored(dots, byte),
+            Scan::Table(row) => self.in_table(row, byte),
             _ => self.ends(),
         }
     }

@@ -5,7 +5,7 @@ ghost use Rattle.nr_mdoc.specs.Reading.{state};
 ghost use Rattle.nr_mdoc.specs.Strings as strings;
 
 use super::macros::looked_up;
-use super::page::{Block, Scan};
+use super::page::{Block, Row, Scan};
 use super::pending::Pending;
 use super::reader::Reader;
 use super::texts::front_of;
@@ -80,7 +80,8 @@ fn takes_strings(scan: Scan) -> bool
         | Scan::Name
         | Scan::Rest
         | Scan::Dropped
-        | Scan::Ignored(_) => false,
+        | Scan::Ignored(_)
+        | Scan::Table(Row::Control | Row::Escape | Row::Comment | Row::Name) => false,
         _ => true,
     }
 }

@@ -6,8 +6,9 @@ ghost use Rattle.nr_mdoc.specs.Taking as specs;
 use super::acts::{Act, Request, Text};
 use super::calls::hanging;
 use super::macros::{Font, Macro, Pair, part_font};
-use super::page::{Behind, Last, Page, Parameters, Scan, Split};
+use super::page::{Behind, Last, Page, Parameters, Scan, Section, Split};
 use super::seen::Seen;
+use nr_units::Name;
 
 /// Whether a word is an opening mark.
 fn is_opening(word: &[u8]) -> bool
@@ -62,9 +63,11 @@ impl Page {
             Macro::Words(font) => Seen::left(Act::Word(font)),
             Macro::Part(letter) => Seen::left(Act::Word(part_font(letter))),
             Macro::Flag => Seen::left(Act::Flag),
-            Macro::Argument | Macro::Path | Macro::Variable | Macro::ResultType => Seen::left(
-                Act::Word(Font::Italic),
-            ),
+            Macro::Argument
+            | Macro::Path
+            | Macro::SectionName
+            | Macro::Variable
+            | Macro::ResultType => Seen::left(Act::Word(Font::Italic)),
             Macro::Declaration | Macro::Configuration => Seen::left(Act::Word(Font::Bold)),
             Macro::Name => self.named(),
             Macro::Parameter => self.parameter(),
@@ -103,10 +106,23 @@ impl Page {
         Seen::left(act)
     }
 
+    /// A name under a condition: the page's is a string of nroff, which keeps the one that is read.
+    fn named_under_condition(&mut self)
+        ensures { self.new ≡ specs.named_under_condition self.old }
+    {
+        self.name = Name::of(b"\\*(%n");
+        self.place.section = Section::Name;
+        self.place.width = self.call.width;
+    }
+
     /// A word of `.Nm`: the first of all is the page's name.
     fn named(&mut self) -> Seen
         ensures { met self.new result ≡ specs.named self.old }
     {
+        if matches!(self.place.section, Section::Condition) {
+            self.named_under_condition();
+            return Seen::two(Act::Naming, Act::Word(Font::Bold));
+        }
         if self.name.is_empty() {
             self.name = self.word;
             self.place.width = self.call.width;

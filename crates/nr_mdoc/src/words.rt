@@ -144,7 +144,11 @@ impl Page {
     fn is_text(&self) -> bool
         ensures { result ≡ specs.is_text self.now }
     {
-        !self.call.some && matches!(self.call.taker, Macro::Words(_) | Macro::Prefix)
+        !self.call.some
+            && matches!(
+                self.call.taker,
+                Macro::Words(_) | Macro::SectionName | Macro::Subsection | Macro::Prefix
+            )
     }
 
     /// Such a word ends no sentence.
