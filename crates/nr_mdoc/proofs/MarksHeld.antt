@@ -1,7 +1,6 @@
 -- A word that is a closing mark is held back, or said where it comes first.
 use Rattle.std.proofs.Common.{◌≡◌, ℕ, ◌≤◌, List, [], ◌∷◌, ◌++◌, length, Bool, true, false, not, ◌&&◌, ◌==◌, if◌then◌else◌, Option, None, Some, refl, sym, ◌∙◌, ap, append-nil, arith}
 use Rattle.nr_mdoc.specs.declared.acts.Act.TheVariants as acts
-use Rattle.nr_mdoc.specs.declared.acts.Text.TheVariants as texts
 use Rattle.nr_mdoc.specs.declared.macros.Font.TheVariants.{Roman}
 use Rattle.nr_mdoc.specs.declared.macros.Macro.{Macro}
 use Rattle.nr_mdoc.specs.declared.macros.Macro.TheVariants as macros
@@ -13,7 +12,7 @@ use Rattle.nr_mdoc.specs.Laying.{with_lay}
 use Rattle.nr_mdoc.specs.LayingOut.{lay_out}
 use Rattle.nr_mdoc.specs.Reading.{State, said}
 use Rattle.nr_mdoc.specs.Scanning.{meet}
-use Rattle.nr_mdoc.specs.Seeing.{Met, met, left, three}
+use Rattle.nr_mdoc.specs.Seeing.{Met, met, left}
 use Rattle.nr_mdoc.specs.Taking.{prefix}
 use Rattle.nr_mdoc.specs.WrittenLines.{Usual, way_of}
 use Rattle.nr_mdoc.specs.Words.{begins_anew, closing_mark, holding, is_closing, is_prefix, is_text, mark, mark_as_word, marked_or, most_marks, parsed, stands, takes_marks, taken_by_same}
@@ -55,10 +54,10 @@ mark_is c p = refl
 pub not_some : (s t : Bool) → (not s && t) ≡ true → s ≡ false
 not_some s t h = is_not s (and_left (not s) t h)
 
--- a word that is a mark, and ends no sentence
+-- a word that is a mark
 mark_as_by : Bool → Page → Met
 mark_as_by t q =
-    if t then prefix q else met (with_call (record q.call { some = true }) q) (three (acts.Word Roman) (acts.Close texts.Empty) acts.Nothing)
+    if t then prefix q else met (with_call (record q.call { some = true }) q) (left (acts.Word Roman))
 
 mark_out_by : (t : Bool) (p : Page) → takes_plain p.call.taker ≡ true → is_prefix p.call.taker ≡ t
     → Out (mark_as_by t (with_scan scans.Between p)) (with_scan scans.Between p) p.word
@@ -66,7 +65,7 @@ unfolding is_quiet of_word mark_as_by
 mark_out_by true p f e = prefix_out (with_scan scans.Between p) f (prefix_usual p.call.taker e)
 mark_out_by false p f e =
     let q = with_scan scans.Between p in
-    out (with_call (record q.call { some = true }) q) q (acts.Word Roman) (acts.Close texts.Empty) acts.Nothing q.word refl refl refl (append-nil q.word)
+    out (with_call (record q.call { some = true }) q) q (acts.Word Roman) acts.Nothing acts.Nothing q.word refl refl refl (append-nil q.word)
     (record { scan = refl; word = refl; marks = refl; few = λ l. l; going = refl; comment = refl; line = refl; fits = f; way = refl })
 
 pub mark_out : (p : Page) → takes_plain p.call.taker ≡ true → Out (mark_as_word p) (with_scan scans.Between p) p.word

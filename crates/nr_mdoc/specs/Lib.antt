@@ -2,6 +2,7 @@ pub mod AtHand
 pub mod Blocks
 pub mod Calls
 pub mod Columns
+pub mod Definitions
 pub mod Keeping
 pub mod Laying
 pub mod LayingOut

@@ -11,7 +11,6 @@ use Rattle.nr_mdoc.specs.declared.macros.Macro.{Macro}
 use Rattle.nr_mdoc.specs.declared.macros.Macro.TheVariants as macros
 use Rattle.nr_mdoc.specs.declared.page.Behind.TheVariants as behinds
 use Rattle.nr_mdoc.specs.declared.page.Call.{Call}
-use Rattle.nr_mdoc.specs.declared.page.Dots.TheVariants as dots
 use Rattle.nr_mdoc.specs.declared.page.Kind.TheVariants as kinds
 use Rattle.nr_mdoc.specs.declared.page.Last.{Last}
 use Rattle.nr_mdoc.specs.declared.page.Last.TheVariants as lasts
@@ -24,6 +23,7 @@ use Rattle.nr_mdoc.specs.declared.page.Split.TheVariants as splits
 use Rattle.nr_mdoc.specs.declared.page.Wanted.TheVariants as wanteds
 use Rattle.nr_mdoc.specs.declared.seen.Seen.{Seen}
 use Rattle.nr_mdoc.specs.Blocks.{block_opens, item, item_ends, list_begins, list_ends, display_begins, display_ends, outer_goes_on, line_opens, tag_ends}
+use Rattle.nr_mdoc.specs.Definitions.{is_own}
 use Rattle.nr_mdoc.specs.Macros.{macro_of}
 use Rattle.nr_mdoc.specs.Options.{none}
 use Rattle.nr_mdoc.specs.Seeing.{Met, met, left, two, three, and_taken}
@@ -135,17 +135,18 @@ abbrev pub asks_space : Page → Met
 asks_space p = if p.lay.quiet then silent p else met (with_scan scans.Rest p) (left acts.Control)
 
 abbrev pub defines : Page → Met
-defines p = met (with_scan (scans.Ignored dots.Other) p) (left acts.Control)
+defines p = met (with_scan scans.Defines p) (left acts.Control)
 
 -- the words of a line stay together between `.Bk` and `.Ek`
 abbrev pub keeps : Bool → Page → Met
 keeps kept p = silent (record p { lay = record p.lay { kept = kept } })
 
--- ---- tables: what divides one prints nothing outside of one
+-- ---- tables: no space stands before one; what divides one prints nothing outside of one
 
 abbrev pub table : Page → Met
 table p =
-    if bytes_eq p.word (codes "TS") then met (with_scan (scans.Table rows.Rest) p) (left acts.Control)
+    if bytes_eq p.word (codes "TS")
+    then met (with_scan (scans.Table rows.Rest) p) (two (acts.Request requests.NoDistance) acts.Control)
     else silent p
 
 abbrev pub table_ends : Page → Met
@@ -228,10 +229,10 @@ under_condition p =
     if is_in_name p.place.section && is_condition p.word
     then record p { place = record p.place { section = sections.Condition } } else p
 
--- requests pass; the words of a macro that is none are printed
+-- requests pass, and macros of the page's own; the words of a macro that is none are printed
 abbrev pub other_line : Page → Met
 other_line p =
-    if is_request p.word then met (with_scan scans.Rest (under_condition p)) (left acts.Control) else
+    if is_request p.word || is_own p then met (with_scan scans.Rest (under_condition p)) (left acts.Control) else
     none (record p { call = call_of (macros.Words Roman) })
 
 abbrev pub begins_or_other : Option Macro → Page → Met

@@ -99,6 +99,7 @@ first_page = record {
   parts = [];
   closers = [];
   name = [];
+  own = [];
   title = [];
   chapter = [];
   month = [];

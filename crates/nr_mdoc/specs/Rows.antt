@@ -3,6 +3,7 @@ use Rattle.std.specs.Prelude.{ℕ, List, [], ◌∷◌, ◌++◌, Bool, true, fa
 use Prim.Native.Char.{code}
 use Rattle.nr_units.specs.Name.{is_full}
 use Rattle.nr_mdoc.specs.declared.acts.Act.TheVariants as acts
+use Rattle.nr_mdoc.specs.declared.acts.Request.TheVariants as requests
 use Rattle.nr_mdoc.specs.declared.macros.Macro.{Macro}
 use Rattle.nr_mdoc.specs.declared.macros.Macro.TheVariants as macros
 use Rattle.nr_mdoc.specs.declared.page.Page.{Page}
@@ -58,7 +59,7 @@ behind_row_escape b p =
 -- of another line the words are text
 abbrev pub named_row : Page → Met
 named_row p =
-    if ends_table p.word then turns scans.Rest (left acts.Control) p else
+    if ends_table p.word then turns scans.Rest (two (acts.Request requests.Distance) acts.Control) p else
     if passes p.word then turns (scans.Table rows.Rest) (left acts.Control) p else
     turns (scans.Table rows.Words) (left acts.Nothing) p
 

@@ -16,6 +16,7 @@ use Rattle.nr_mdoc.specs.declared.page.Dots.TheVariants as dots
 use Rattle.nr_mdoc.specs.declared.page.Front.{Front}
 use Rattle.nr_mdoc.specs.declared.page.Front.TheVariants as fronts
 use Rattle.nr_mdoc.specs.declared.seen.Seen.{Seen}
+use Rattle.nr_mdoc.specs.Definitions.{in_definition}
 use Rattle.nr_mdoc.specs.Keeping.{ends_word, turns, word_begins, in_word, in_quotes, closing, in_escape}
 use Rattle.nr_mdoc.specs.Laying.{is_control}
 use Rattle.nr_mdoc.specs.Lines.{call_of, named_line, ends}
@@ -187,6 +188,7 @@ meet_whole_at (scans.Goes inside) b p = goes_on inside p
 meet_whole_at scans.Rest b p = in_rest b p
 meet_whole_at scans.Passes b p = met p (taken (acts.Byte b))
 meet_whole_at scans.Dropped b p = dropped b p
+meet_whole_at scans.Defines b p = in_definition b p
 meet_whole_at (scans.Ignored d) b p = ignored d b p
 meet_whole_at (scans.Table row) b p = in_table row b p
 meet_whole_at scan b p = ends p

@@ -40,6 +40,7 @@ takes_strings scans.ControlEscape = false
 takes_strings scans.Name = false
 takes_strings scans.Rest = false
 takes_strings scans.Dropped = false
+takes_strings scans.Defines = false
 takes_strings (scans.Ignored d) = false
 takes_strings (scans.Table row) = row_takes_strings row
 takes_strings scan = true

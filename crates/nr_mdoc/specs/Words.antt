@@ -54,7 +54,7 @@ takes_marks macros.SectionName = true
 takes_marks macros.Subsection = true
 takes_marks m = is_prefix m
 
--- a closing mark that comes first is a word for some macros, one that ends no sentence
+-- a closing mark that comes first is a word for some macros
 abbrev pub is_text : Page → Bool
 is_text p = not p.call.some && takes_marks p.call.taker
 
@@ -62,7 +62,7 @@ abbrev pub mark_as_word : Page → Met
 mark_as_word p =
     let q = with_scan scans.Between p in
     if is_prefix p.call.taker then prefix q else
-    met (with_call (record q.call { some = true }) q) (two (acts.Word Roman) (acts.Close texts.Empty))
+    met (with_call (record q.call { some = true }) q) (left (acts.Word Roman))
 
 -- a macro whose element a mark ends: behind marks it begins another
 abbrev pub begins_anew : Macro → Bool

@@ -5,7 +5,7 @@ ghost use Rattle.nr_mdoc.specs.Lines as specs;
 
 use super::acts::{Act, Request, Text};
 use super::macros::{Font, Macro, macro_of};
-use super::page::{Behind, Call, Dots, Kind, Last, Page, Row, Scan, Section, Split, Wanted};
+use super::page::{Behind, Call, Kind, Last, Page, Row, Scan, Section, Split, Wanted};
 use super::seen::Seen;
 use nr_units::Name;
 
@@ -75,11 +75,11 @@ impl Page {
         }
     }
 
-    /// A request, or a line whose macro is none.
+    /// A request, a macro of the page's own, or a line whose macro is none.
     fn other_line(&mut self) -> Seen
         ensures { met self.new result ≡ specs.other_line self.old }
     {
-        if is_request(self.word.as_bytes()) {
+        if is_request(self.word.as_bytes()) || self.is_own() {
             if matches!(self.place.section, Section::Name) && is_condition(self.word.as_bytes()) {
                 self.place.section = Section::Condition;
             }
@@ -214,7 +214,7 @@ impl Page {
     fn defines(&mut self) -> Seen
         ensures { met self.new result ≡ specs.defines self.old }
     {
-        self.scan = Scan::Ignored(Dots::Other);
+        self.scan = Scan::Defines;
         Seen::left(Act::Control)
     }
 
@@ -234,7 +234,7 @@ impl Page {
             return self.silent();
         }
         self.scan = Scan::Table(Row::Rest);
-        Seen::left(Act::Control)
+        Seen::two(Act::Request(Request::NoDistance), Act::Control)
     }
 
     /// What ends a table passes.

@@ -125,6 +125,8 @@ pub(crate) enum Scan {
     Rest,
     /// The rest of the line is dropped.
     Dropped,
+    /// In the line that begins a definition.
+    Defines,
     /// Lines pass, up to `..`.
     Ignored(Dots),
     /// Lines of a table pass, up to `.TE`.
@@ -393,6 +395,8 @@ pub(crate) struct Page {
     pub closers: Name,
     /// The page's name.
     pub name: Name,
+    /// The names of macros that the page defines, of two bytes each.
+    pub own: Name,
     /// The page's title.
     pub title: Name,
     /// The section of the manual.

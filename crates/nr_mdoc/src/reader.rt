@@ -213,6 +213,7 @@ impl Page {
             parts: Name::new(),
             closers: Name::new(),
             name: Name::new(),
+            own: Name::new(),
             title: Name::new(),
             chapter: Name::new(),
             month: Name::new(),

@@ -3,7 +3,7 @@ ghost use Rattle.std.specs.Prelude.{◌≡◌};
 ghost use Rattle.nr_mdoc.specs.Seeing.{met};
 ghost use Rattle.nr_mdoc.specs.Rows as specs;
 
-use super::acts::Act;
+use super::acts::{Act, Request};
 use super::keeping::ends_word;
 use super::lay::is_control;
 use super::lines::is_request;
@@ -112,7 +112,10 @@ impl Page {
         ensures { met self.new result ≡ specs.named_row self.old }
     {
         if ends_table(self.word.as_bytes()) {
-            return self.turns(Scan::Rest, Seen::left(Act::Control));
+            return self.turns(
+                Scan::Rest,
+                Seen::two(Act::Request(Request::Distance), Act::Control),
+            );
         }
         if passes(self.word.as_bytes()) {
             return self.turns(Scan::Table(Row::Rest), Seen::left(Act::Control));

@@ -302,6 +302,7 @@ impl Page {
     }
 
     /// What a byte does.
+    #[inline(always)]
     #[tactic(auto, unfolding(crate::specs::Scanning::meet))]
     pub(crate) fn meet(&mut self, byte: u8) -> Seen
         ensures { met self.new result ≡ specs.meet byte self.old }
@@ -337,6 +338,7 @@ impl Page {
             Scan::Rest => self.in_rest(byte),
             Scan::Passes => Seen::taken(Act::Byte(byte)),
             Scan::Dropped => self.dropped(byte),
+            Scan::Defines => self.in_definition(byte),
             Scan::Ignored(dots) => self.ignored(dots, byte),
             Scan::Table(row) => self.in_table(row, byte),
             _ => self.ends(),

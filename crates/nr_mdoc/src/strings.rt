@@ -80,6 +80,7 @@ fn takes_strings(scan: Scan) -> bool
         | Scan::Name
         | Scan::Rest
         | Scan::Dropped
+        | Scan::Defines
         | Scan::Ignored(_)
         | Scan::Table(Row::Control | Row::Escape | Row::Comment | Row::Name) => false,
         _ => true,

@@ -151,7 +151,7 @@ impl Page {
             )
     }
 
-    /// Such a word ends no sentence.
+    /// Such a word is read for the macro.
     fn mark_as_word(&mut self) -> Seen
         ensures { met self.new result ≡ specs.mark_as_word self.old }
     {
@@ -160,7 +160,7 @@ impl Page {
             return self.prefix();
         }
         self.call.some = true;
-        Seen::two(Act::Word(Font::Roman), Act::Close(Text::Empty))
+        Seen::left(Act::Word(Font::Roman))
     }
 
     /// The last part of a long word.
