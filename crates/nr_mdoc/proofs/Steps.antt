@@ -1,6 +1,7 @@
 -- In how many steps bytes are read.
 use Rattle.std.proofs.Common.{ℕ, zero, suc, ◌+◌, ◌*◌, ◌≤◌, ◌==◌, List, [], ◌∷◌, length, Bool, true, false, if◌then◌else◌, arith}
 use Prim.Native.Char.{code}
+use Rattle.nr_mdoc.specs.declared.page.Row.TheVariants as rows
 use Rattle.nr_mdoc.specs.declared.page.Scan.{Scan}
 use Rattle.nr_mdoc.specs.declared.page.Scan.TheVariants as scans
 use Rattle.nr_mdoc.specs.declared.strings.Next.{Next}
@@ -102,6 +103,7 @@ finished_at-quick : (scan : Scan) (s : State) → (finished_at scan s).steps ≤
 finished_at-quick (scans.Asleep front lines) s = none_quick
 finished_at-quick scans.Passes s = none_quick
 finished_at-quick scans.Start s = none_quick
+finished_at-quick (scans.Table rows.Start) s = none_quick
 finished_at-quick scan s = line_finished-quick s
 
 pub finished-quick : (s : State) → (finished s).steps ≤ 96

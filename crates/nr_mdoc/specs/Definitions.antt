@@ -46,6 +46,7 @@ keep_own p = with_name p.word p
 -- the words of the line that begins a definition: names are among them
 abbrev pub in_definition : ℕ → Page → Met
 in_definition b p =
-    if (b == code " ") || (b == code "\t") then met (record (keep_own p) { word = [] }) (taken (acts.Byte b)) else
+    if (b == code " ") || (b == code "\t")
+    then met (record (keep_own p) { word = [] }) (taken (acts.Byte b)) else
     if b == code "\n" then turns (scans.Ignored dots.Start) (taken (acts.Byte b)) (keep_own p) else
     met (if is_full p.word then p else record p { word = p.word ++ b ∷ [] }) (taken (acts.Byte b))

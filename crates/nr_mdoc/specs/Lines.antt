@@ -232,7 +232,8 @@ under_condition p =
 -- requests pass, and macros of the page's own; the words of a macro that is none are printed
 abbrev pub other_line : Page → Met
 other_line p =
-    if is_request p.word || is_own p then met (with_scan scans.Rest (under_condition p)) (left acts.Control) else
+    if is_request p.word || is_own p
+    then met (with_scan scans.Rest (under_condition p)) (left acts.Control) else
     none (record p { call = call_of (macros.Words Roman) })
 
 abbrev pub begins_or_other : Option Macro → Page → Met

@@ -13,6 +13,7 @@ use Rattle.nr_mdoc.specs.declared.page.Lay.{Lay}
 use Rattle.nr_mdoc.specs.declared.page.Page.{Page}
 use Rattle.nr_mdoc.specs.declared.page.Parameters.TheVariants.{Outside}
 use Rattle.nr_mdoc.specs.declared.page.Place.{Place}
+use Rattle.nr_mdoc.specs.declared.page.Row.TheVariants as rows
 use Rattle.nr_mdoc.specs.declared.page.Scan.{Scan}
 use Rattle.nr_mdoc.specs.declared.page.Scan.TheVariants as scans
 use Rattle.nr_mdoc.specs.declared.page.Section.TheVariants as sections
@@ -215,6 +216,7 @@ abbrev pub finished_at : Scan → State → Told
 finished_at (scans.Asleep front lines) s = told s (front_of front) 0
 finished_at scans.Passes s = told s [] 0
 finished_at scans.Start s = told s (line_end s.page) 0
+finished_at (scans.Table rows.Start) s = told s (line_end s.page) 0
 finished_at scan s = line_finished s
 
 abbrev pub page_finished : State → Told

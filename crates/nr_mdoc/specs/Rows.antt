@@ -1,4 +1,4 @@
--- Lines of a table, which are for tbl: they pass, but for the names of macros (tbl(7); mdoc(7), language syntax).
+-- Lines of a table, which are for tbl: they pass, but for the names of macros (tbl(7)).
 use Rattle.std.specs.Prelude.{ℕ, List, [], ◌∷◌, ◌++◌, Bool, true, false, ◌==◌, ◌||◌, if◌then◌else◌, codes, Option, Some}
 use Prim.Native.Char.{code}
 use Rattle.nr_units.specs.Name.{is_full}

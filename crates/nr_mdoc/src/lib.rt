@@ -2,7 +2,8 @@
 //!
 //! It stands on nr_units. To read: `macros`, `page`, `acts`, `seen`; `texts`, `names`, `libraries`, `lookup`, `lay`,
 //! `own_lines`, `references`, `lay_out`; `options`, `calls`, `taking`, `words`, `blocks`, `lines`, `keeping`, `rows`,
-//! `definitions`, `scan`, which puts them together; `pending`, `reader`, `strings`, `at_hand`, `running`; `passing`, `word_laws`.
+//! `definitions`, `scan`, which puts them together; `pending`, `reader`, `strings`, `at_hand`, `running`; `passing`,
+//! `word_laws`.
 #![tactic(auto)]
 
 mod acts;

@@ -362,7 +362,7 @@ impl Reader {
                 0
             }
             Scan::Passes => 0,
-            Scan::Start => {
+            Scan::Start | Scan::Table(Row::Start) => {
                 self.page.freshen(out);
                 0
             }
