@@ -1,6 +1,6 @@
 -- Bytes that stand together in whole cells.
 use Prim.Native.Char.{code}
-use Rattle.std.proofs.Common.{◌≡◌, ℕ, zero, suc, ◌+◌, ◌*◌, ◌-◌, ◌<◌, ◌≤◌, List, [], ◌∷◌, ◌++◌, length, take, drop, get_or, Bool, true, false, ◌==◌, ◌&&◌, ◌||◌, ◌⊎◌, inl, inr, refl, sym, subst, ap, ◌∙◌, append_assoc, length-drop, arith}
+use Rattle.std.proofs.Common.{◌≡◌, ℕ, zero, suc, ◌+◌, ◌*◌, ◌-◌, ◌<◌, ◌≤◌, List, [], ◌∷◌, ◌++◌, length, take, drop, get_or, Bool, true, false, ◌==◌, ◌&&◌, ◌||◌, ◌⊎◌, nat_lt, inl, inr, refl, sym, subst, ap, ◌∙◌, append_assoc, length-drop, arith}
 use Rattle.std.proofs.lemmas.List.{get_or-take, length-append, length-take, length-take-le, get_or-drop, take-append-drop, take-append-le, take-take, take_all}
 use Rattle.std.proofs.lemmas.Bool.Decides.{nat_tests}
 use Rattle.std.proofs.lemmas.Str.{encode_ascii}
@@ -12,8 +12,8 @@ use Rattle.nr_utf8.specs.declared.reader.Reader.{Reader}
 use Rattle.nr_utf8.specs.declared.reader.Underlining.TheVariants.{Backspaces}
 use Rattle.nr_utf8.specs.declared.spelling.Spelling.{Spelling}
 use Rattle.nr_utf8.specs.Reading.{IsOwnCell, Told, behind, closed, fed, fresh, is_shown, is_underlined, lone, read, read_behind, spelled, then_told, told, underscore, with_half}
-use Rattle.nr_utf8.specs.Shapes.{IsWhole, Shapes, ShowAll, StandAll, is_begun, is_shaped, may_stand}
-use Rattle.nr_utf8.specs.Spelling.{AllSpelled, Goes, IsChunk, IsShaped, Puts, Spells, byte_of, bytes_of, count_of}
+use Rattle.nr_utf8.specs.Shapes.{IsWhole, Shapes, StandAll, is_begun, is_shaped, may_stand}
+use Rattle.nr_utf8.specs.Spelling.{AllLow, AllSpelled, Goes, IsChunk, IsShaped, Puts, Spells, byte_of, bytes_of, count_of}
 use Rattle.nr_utf8.proofs.CellsAlone.{Puts-front, all-spelled, byte-as-is, bytes-as-are, bytes_append, comes-append, read-alone}
 use Rattle.nr_utf8.proofs.Plain.{IsIdle, read-cell, told-not}
 use Rattle.nr_utf8.proofs.Reading.{told-eq}
@@ -211,6 +211,9 @@ first_or_behind : (k : ℕ) → (k ≡ 0) ⊎ (k - 1 + 1 ≡ k)
 first_or_behind zero = inl refl
 first_or_behind (suc k) = inr (omega arith)
 
+abbrev ShowAll : List ℕ → Type 0
+ShowAll bytes = (k : ℕ) → k < length bytes → is_shown (get_or bytes k 0) ≡ true
+
 abbrev Small : List ℕ → Type 0
 Small bytes = (k : ℕ) → get_or bytes k 0 < 256
 
@@ -226,6 +229,25 @@ stand-chunk s r bytes long small spells whole all =
       some = all-spelled r.table s.all s.whole (take 32 bytes)
           (λ k below. let same = get_or-take 32 bytes k 0 (omega (arith, below, cut)) in let fits = small k in omega (arith, same, fits))
           spells whole (λ k below. may_or_back (get_or (take 32 bytes) k 0) (all k (omega (arith, below, cut))));
+    }
+
+shown_low : (b : ℕ) → may_stand b ≡ true → nat_lt b 127 ≡ true → is_shown b ≡ true
+shown_low b may low = grind (arith, nat_tests)
+
+-- those of ASCII that may stand anywhere
+pub stand-shown : (bytes : List ℕ) → 34 ≤ length bytes → StandAll (length (take 32 bytes)) (take 32 bytes) → AllLow (take 32 bytes) → ShowAll (take 32 bytes)
+stand-shown bytes long all low k below = shown_low (get_or (take 32 bytes) k 0) (all k below) (low k below)
+
+-- they are whole cells where the last begins none
+pub whole-row : (bytes : List ℕ) → 34 ≤ length bytes → StandAll (length (take 32 bytes)) (take 32 bytes) → (get_or (take 32 bytes) 31 0 == code "_") ≡ false → IsWhole 32 (take 32 bytes)
+whole-row bytes long all other =
+    let cut = length-take-le 32 bytes (omega (arith, long)) in
+    let alone = stands_alone (get_or (take 32 bytes) 31 0) other (all 31 (omega (arith, cut))) in
+    let P : ℕ → Type 0 = λ k. is_begun (get_or (take 32 bytes) k 0) ≡ false in
+    record {
+      within = omega (arith, cut);
+      last = λ k at. (let there : 31 ≡ k = omega (arith, at) in subst P there alone);
+      rest = λ k far below. absurd (omega (arith, far, below, cut));
     }
 
 -- bytes that are shown

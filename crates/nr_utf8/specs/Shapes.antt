@@ -19,9 +19,6 @@ is_shaped before b behind = may_stand b || is_backed before b behind
 abbrev pub is_begun : ℕ → Bool
 is_begun b = (b == code "_") || (b == 8)
 
-abbrev pub ShowAll : List ℕ → Type 0
-ShowAll bytes = (k : ℕ) → k < length bytes → is_shown (get_or bytes k 0) ≡ true
-
 abbrev pub StandAll : ℕ → List ℕ → Type 0
 StandAll n bytes = (k : ℕ) → k < n → may_stand (get_or bytes k 0) ≡ true
 

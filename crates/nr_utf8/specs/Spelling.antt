@@ -5,11 +5,9 @@ use Rattle.nr_characters.specs.Tables.{character_of}
 use Rattle.nr_utf8.specs.declared.reader.Reader.{Reader}
 use Rattle.nr_utf8.specs.declared.spelling.Spelling.{Spelling}
 use Rattle.nr_utf8.specs.declared.reader.Underlining.TheVariants.{Backspaces}
-use Rattle.nr_utf8.specs.declared.shapes.Kind.{Kind}
-use Rattle.nr_utf8.specs.declared.shapes.Kind.TheVariants.{Plain, Cells, Other}
 use Rattle.nr_utf8.specs.Idle.{is_idle}
 use Rattle.nr_utf8.specs.Reading.{fed, is_shown, spelled, told}
-use Rattle.nr_utf8.specs.Shapes.{ShowAll, is_begun, is_shaped, may_stand}
+use Rattle.nr_utf8.specs.Shapes.{is_begun, is_shaped, may_stand}
 
 abbrev pub if_spelled : Option ℕ → List ℕ
 if_spelled None = []
@@ -25,6 +23,10 @@ bytes_of table (b ∷ bs) = byte_of table b ++ bytes_of table bs
 
 abbrev pub AreLow : ℕ → List ℕ → Type 0
 AreLow n bytes = (k : ℕ) → k < n → nat_lt (get_or bytes k 0) 128 ≡ true
+
+-- of ASCII, and none is DEL
+abbrev pub AllLow : List ℕ → Type 0
+AllLow bytes = (k : ℕ) → k < length bytes → nat_lt (get_or bytes k 0) 127 ≡ true
 
 -- ---- what is kept of a table
 
@@ -69,6 +71,11 @@ pub record Goes (r : Reader) (bytes : List ℕ) (taken : ℕ) (old : List ℕ) (
   pub within : taken ≤ length bytes
   pub few : end ≤ from + 4 * taken
 
+-- the first 32 were, or none
+abbrev pub GoesOrStays : Reader → List ℕ → List ℕ → ℕ → List ℕ → Option ℕ → Type 0
+GoesOrStays r bytes old from new None = new ≡ old
+GoesOrStays r bytes old from new (Some end) = Goes r bytes 32 old from new end
+
 -- ---- what stands together
 
 -- Each of these goes out in a cell that is whole: each stands where it may, and the last is not begun.
@@ -87,8 +94,3 @@ pub record IsChunk (s : Spelling) (r : Reader) (bytes : List ℕ) : Type 0 where
       → is_shaped (get_or bytes k 0) (get_or bytes (k + 1) 0) (get_or bytes (k + 2) 0) ≡ true
   pub way : (k : ℕ) → k < 32 → get_or bytes k 0 ≡ 8 → r.underlining ≡ Backspaces
   pub some : AllSpelled s.all (take 32 bytes)
-
-abbrev pub IsAhead : Spelling → Reader → Kind → List ℕ → Type 0
-IsAhead s r Plain bytes = ShowAll (take 32 bytes)
-IsAhead s r Cells bytes = IsChunk s r bytes
-IsAhead s r Other bytes = Unit {0}

@@ -1,9 +1,9 @@
 //! Which bytes stand together in whole cells.
-ghost use Rattle.std.specs.Prelude.{◌≡◌, ◌+◌, ◌<◌, ◌≤◌, length, IsTrue};
+ghost use Rattle.std.specs.Prelude.{◌≡◌, ◌+◌, ◌<◌, ◌≤◌, length, nat_lt, IsTrue};
 ghost use Rattle.nr_utf8.specs.Shapes as specs;
-ghost use Rattle.nr_utf8.specs.Spelling.{AreLow};
+ghost use Rattle.nr_utf8.specs.Spelling.{AllLow, AreLow};
 
-use super::reader::{is_shown, is_underlined};
+use super::reader::is_underlined;
 
 /// How many bytes are looked at together.
 pub(crate) const CHUNK: usize = 32;
@@ -14,34 +14,11 @@ pub(crate) const SEEN: usize = CHUNK + 2;
 /// The highest bit of each byte of a piece.
 const HIGH: u64 = 0x8080_8080_8080_8080;
 
-/// What some bytes are.
-#[derive(Clone, Copy)]
-pub(crate) enum Kind {
-    /// All go out as they are.
-    Plain,
-    /// So they do, or are beyond ASCII.
-    Cells,
-    /// Anything.
-    Other,
-}
-
 /// Whether a byte is shown or is beyond ASCII.
 fn may_stand(byte: u8) -> bool
     ensures { result ≡ specs.may_stand byte }
 {
     (byte == b'\n') | ((byte >= b' ') & (byte != 127))
-}
-
-/// Whether all of these go out as they are.
-#[inline]
-pub(crate) fn are_shown(bytes: &[u8]) -> bool
-    ensures { IsTrue result → specs.ShowAll bytes.now }
-{
-    let mut all = true;
-    for byte in bytes {
-        all &= is_shown(*byte);
-    }
-    all
 }
 
 /// Whether all of these go out as they are, or are beyond ASCII.
@@ -52,6 +29,25 @@ pub(crate) fn may_all_stand(bytes: &[u8]) -> bool
     let mut all = true;
     for byte in bytes {
         all &= may_stand(*byte);
+    }
+    all
+}
+
+/// Whether a byte is of ASCII, but for DEL.
+fn is_low(byte: u8) -> bool
+    ensures { result ≡ nat_lt byte 127 }
+{
+    byte < 127
+}
+
+/// Whether all of these are of ASCII, and none is DEL.
+#[inline]
+pub(crate) fn are_all_low(bytes: &[u8]) -> bool
+    ensures { IsTrue result → AllLow bytes.now }
+{
+    let mut all = true;
+    for byte in bytes {
+        all &= is_low(*byte);
     }
     all
 }
@@ -72,7 +68,7 @@ fn is_shaped(before: u8, byte: u8, behind: u8) -> bool
 }
 
 /// Whether each of these bytes but the last may stand where it does.
-#[inline(never)]
+#[inline]
 pub(crate) fn are_shaped(bytes: &[u8; 34]) -> bool
     ensures { IsTrue result → specs.Shapes 32 bytes.now }
 {

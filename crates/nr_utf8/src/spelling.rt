@@ -5,7 +5,7 @@ ghost use Rattle.nr_utf8.specs.Spelling as specs;
 
 use super::reader::{Reader, is_shown};
 use super::shapes::{
-    CHUNK, Kind, SEEN, are_low, are_shaped, are_shown, is_begun, may_all_stand, whole_front,
+    CHUNK, SEEN, are_all_low, are_low, are_shaped, is_begun, may_all_stand, whole_front,
 };
 use nr_characters::Table;
 
@@ -32,8 +32,6 @@ pub(crate) struct Spelling {
     pub all: [Spelled; 256],
     /// Whether the table has a character for each byte from 128 on.
     pub whole: bool,
-    /// Whether most letters are beyond ASCII.
-    pub dense: bool,
 }
 
 /// How far bytes were taken, and how far a room is filled.
@@ -77,11 +75,6 @@ fn is_covered(byte: usize, one: &Spelled) -> bool
     byte < 128 || count_of(one) > 0
 }
 
-/// Whether most letters of a table's languages are beyond ASCII.
-fn is_dense(table: Table) -> bool {
-    matches!(table, Table::Cyrillic | Table::Greek)
-}
-
 /// Of a chunk that was put up to here that front is taken which ends in a whole cell.
 #[inline(always)]
 fn cut(chunk: &[u8], to: usize) -> Reached
@@ -108,11 +101,7 @@ impl Spelling {
             all[place] = one;
             whole &= is_covered(place, &one);
         }
-        Spelling {
-            all,
-            whole,
-            dense: is_dense(table),
-        }
+        Spelling { all, whole }
     }
 
     /// What goes out of a byte is put into a room, and tells up to where it is filled then.
@@ -145,19 +134,28 @@ impl Spelling {
         to
     }
 
-    /// What goes out of a piece is put into a room: at once where all bytes are of ASCII.
+    /// What goes out of a piece is put into a room: at once where all bytes are of ASCII. They are passed twice, so that
+    /// each is read where it lies, and not shifted out of the eight that were looked at.
     #[inline]
-    fn put_piece(&self, reader: &Reader, bytes: &[u8], room: &mut [u8], end: usize) -> usize
+    fn put_piece(
+        &self,
+        reader: &Reader,
+        bytes: &[u8],
+        same: &[u8],
+        room: &mut [u8],
+        end: usize,
+    ) -> usize
         requires serves { specs.Serves self.now reader.now }
         requires some { specs.AllSpelled self.now.all bytes.now }
         requires eight { length bytes.now ≡ 8 }
+        requires same { same.now ≡ bytes.now }
         requires begins { end < 2048 }
         requires room { 2176 ≤ length room.old }
         ensures put { specs.Puts room.old end room.new result (specs.bytes_of reader.now.table bytes.now) }
         ensures few { result ≤ end + 32 }
     {
         let mut piece = [0; PIECE];
-        piece.copy_from_slice(bytes);
+        piece.copy_from_slice(same);
         if are_low(&piece) {
             room[end..end + PIECE].copy_from_slice(&piece);
             return end + PIECE;
@@ -167,10 +165,18 @@ impl Spelling {
 
     /// The same of all pieces of a chunk.
     #[inline(never)]
-    fn put_chunk(&self, reader: &Reader, bytes: &[u8], room: &mut [u8], end: usize) -> usize
+    fn put_chunk(
+        &self,
+        reader: &Reader,
+        bytes: &[u8],
+        same: &[u8],
+        room: &mut [u8],
+        end: usize,
+    ) -> usize
         requires serves { specs.Serves self.now reader.now }
         requires some { specs.AllSpelled self.now.all bytes.now }
         requires chunk { length bytes.now ≡ 32 }
+        requires same { same.now ≡ bytes.now }
         requires begins { end ≤ 1408 }
         requires room { 2176 ≤ length room.old }
         ensures put { specs.Puts room.old end room.new result (specs.bytes_of reader.now.table bytes.now) }
@@ -179,40 +185,35 @@ impl Spelling {
         let mut at = 0;
         let mut to = end;
         while at < CHUNK {
-            to = self.put_piece(reader, &bytes[at..at + PIECE], room, to);
+            let piece = &bytes[at..at + PIECE];
+            to = self.put_piece(reader, piece, &same[at..at + PIECE], room, to);
             at += PIECE;
         }
         to
     }
 
-    /// The same of a chunk, byte by byte: for few of its pieces are of ASCII.
-    #[inline(never)]
-    fn put_dense(&self, reader: &Reader, bytes: &[u8], room: &mut [u8], end: usize) -> usize
+    /// The first of these bytes that are looked at together go out, if each is a cell of its own. Tells up to where the
+    /// room is filled then, or nothing where none was put.
+    #[inline(always)]
+    fn put_row(&self, reader: &Reader, bytes: &[u8], room: &mut [u8], end: usize) -> Option<usize>
         requires serves { specs.Serves self.now reader.now }
-        requires chunk { length bytes.now ≡ 32 }
+        requires seen { 34 ≤ length bytes.now }
         requires begins { end ≤ 1408 }
         requires room { 2176 ≤ length room.old }
-        ensures put { specs.Puts room.old end room.new result (specs.bytes_of reader.now.table bytes.now) }
-        ensures few { result ≤ end + 128 }
+        ensures { specs.GoesOrStays reader.now bytes.now room.old end room.new result }
     {
-        self.put_each(reader, bytes, room, end)
-    }
-
-    /// What goes out of a chunk is put into a room.
-    #[inline]
-    fn put_whole(&self, reader: &Reader, bytes: &[u8], room: &mut [u8], end: usize) -> usize
-        requires serves { specs.Serves self.now reader.now }
-        requires some { specs.AllSpelled self.now.all bytes.now }
-        requires chunk { length bytes.now ≡ 32 }
-        requires begins { end ≤ 1408 }
-        requires room { 2176 ≤ length room.old }
-        ensures put { specs.Puts room.old end room.new result (specs.bytes_of reader.now.table bytes.now) }
-        ensures few { result ≤ end + 128 }
-    {
-        if self.dense {
-            return self.put_dense(reader, bytes, room, end);
+        let chunk = &bytes[..CHUNK];
+        if !may_all_stand(chunk) || chunk[CHUNK - 1] == b'_' {
+            return None;
         }
-        self.put_chunk(reader, bytes, room, end)
+        if are_all_low(chunk) {
+            room[end..end + CHUNK].copy_from_slice(chunk);
+            return Some(end + CHUNK);
+        }
+        if self.whole {
+            return Some(self.put_chunk(reader, chunk, chunk, room, end));
+        }
+        None
     }
 
     /// One cell goes out: that of a byte, or an underlined one. Nothing is taken where there is none.
@@ -256,32 +257,23 @@ impl Spelling {
         Reached { taken, end: to }
     }
 
-    /// What the first of these bytes are that are looked at together: cells only where all of them go out.
+    /// Whether the first of these bytes that are looked at together are cells, some of them underlined, and all go out.
     #[inline]
-    fn kind_ahead(&self, reader: &Reader, bytes: &[u8]) -> Kind
+    fn are_cells(&self, reader: &Reader, bytes: &[u8]) -> bool
         requires serves { specs.Serves self.now reader.now }
         requires seen { 34 ≤ length bytes.now }
-        ensures { specs.IsAhead self.now reader.now result bytes.now }
+        ensures { IsTrue result → specs.IsChunk self.now reader.now bytes.now }
     {
-        let chunk = &bytes[..CHUNK];
-        if are_shown(chunk) {
-            return Kind::Plain;
-        }
-        if !self.whole {
-            return Kind::Other;
-        }
-        if may_all_stand(chunk) {
-            return Kind::Cells;
+        if !self.whole || !reader.keeps_backspaces() {
+            return false;
         }
         let mut seen = [0; SEEN];
         seen.copy_from_slice(&bytes[..SEEN]);
-        if reader.keeps_backspaces() && are_shaped(&seen) {
-            return Kind::Cells;
-        }
-        Kind::Other
+        are_shaped(&seen)
     }
 
     /// Some cells go out: nearly all of those that are looked at together, or some of them.
+    #[inline(never)]
     fn put_some(&self, reader: &Reader, bytes: &[u8], room: &mut [u8], end: usize) -> Reached
         requires serves { specs.Serves self.now reader.now }
         requires seen { 34 ≤ length bytes.now }
@@ -291,17 +283,11 @@ impl Spelling {
         ensures few { result.taken ≤ 32 }
     {
         let chunk = &bytes[..CHUNK];
-        match self.kind_ahead(reader, bytes) {
-            Kind::Plain => {
-                room[end..end + CHUNK].copy_from_slice(chunk);
-                cut(chunk, end + CHUNK)
-            }
-            Kind::Cells => {
-                let to = self.put_whole(reader, chunk, room, end);
-                cut(chunk, to)
-            }
-            Kind::Other => self.put_cells(reader, chunk, room, end),
+        if self.are_cells(reader, bytes) {
+            let to = self.put_chunk(reader, chunk, chunk, room, end);
+            return cut(chunk, to);
         }
+        self.put_cells(reader, chunk, room, end)
     }
 
     /// Those of these bytes that come first and are cells go out, as long as the room isn't full.
@@ -311,21 +297,28 @@ impl Spelling {
         ensures goes { specs.Goes reader.now bytes.now result.taken room.old 0 room.new result.end }
         ensures few { result.end ≤ 1536 }
     {
+        if bytes.len() < SEEN {
+            return self.put_cells(reader, bytes, room, 0);
+        }
+        let last = bytes.len() - SEEN;
         let mut taken = 0;
         let mut end = 0;
-        while bytes.len() - taken >= SEEN {
-            if end > FULL {
-                return Reached { taken, end };
+        while taken <= last && end <= FULL {
+            let rest = &bytes[taken..];
+            match self.put_row(reader, rest, room, end) {
+                Some(to) => {
+                    taken += CHUNK;
+                    end = to;
+                }
+                None => {
+                    let some = self.put_some(reader, rest, room, end);
+                    taken += some.taken;
+                    end = some.end;
+                    if some.taken == 0 {
+                        return Reached { taken, end };
+                    }
+                }
             }
-            let some = self.put_some(reader, &bytes[taken..], room, end);
-            taken += some.taken;
-            end = some.end;
-            if some.taken == 0 {
-                return Reached { taken, end };
-            }
-        }
-        if taken == 0 {
-            return self.put_cells(reader, bytes, room, 0);
         }
         Reached { taken, end }
     }

@@ -1,4 +1,4 @@
-use Rattle.std.proofs.Common.{◌≡◌, ℕ, ◌+◌, ◌-◌, take, drop, subst, arith}
+use Rattle.std.proofs.Common.{◌≡◌, ℕ, ◌+◌, ◌-◌, List, ap, take, drop, subst, arith}
 use Rattle.nr_utf8.specs.Spelling.{Puts, bytes_of}
 use Rattle.nr_utf8.proofs.Pieces.{Puts-piece, piece-spelled}
 use Rattle.nr_utf8.proofs.spelling.Spelling.put_chunk.Goals as goal
@@ -9,6 +9,9 @@ put_piece-to-requires-clause-some c =
     let whole = c.loop-at.invariant.whole in
     let more = c.loop-at-test.true in
     piece-spelled c.args.self.now.all c.args.bytes.now c.loop-at.at c.requires.some (omega (arith, chunk, whole, more))
+
+pub put_piece-to-requires-clause-same : goal.put_piece-to-requires-clause-same
+put_piece-to-requires-clause-same c = ap (λ (xs : List ℕ). take (c.loop-at.at + 8 - c.loop-at.at) (drop c.loop-at.at xs)) c.requires.same
 
 pub loop-at-preserved : goal.loop-at-preserved
 loop-at-preserved c =
