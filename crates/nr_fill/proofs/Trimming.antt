@@ -1,11 +1,11 @@
 -- Rows of cells, and the blanks at their ends.
-use Rattle.std.proofs.Common.{◌≡◌, ℕ, ◌+◌, ◌-◌, ◌^◌, ◌<◌, ◌≤◌, min, List, ◌++◌, length, take, replicate, get_or, reverse, refl, ap, ap₂, sym, ◌∙◌, arith, length-take, length-append, true, false, cond, eqb, inl, inr}
+use Rattle.std.proofs.Common.{◌≡◌, ℕ, ◌+◌, ◌-◌, ◌^◌, ◌<◌, ◌≤◌, min, List, ◌++◌, length, take, replicate, reverse, refl, ap, ap₂, sym, ◌∙◌, arith, length-take, length-append, true, false, cond, eqb, inl, inr}
 use Rattle.std.specs.List.{suffix_len, prefix_len}
 use Rattle.std.proofs.Math.Seq.{take-append-add}
 use Rattle.std.proofs.lemmas.Bool.{cases_lt, eq-eqb, ne_eqb}
-use Rattle.std.proofs.lemmas.List.{append-nil, reverse-append, length-reverse, length-replicate, take_all, take_min, take-append-le, take-replicate, length-take-le, get_or-replicate, get_or-reverse}
+use Rattle.std.proofs.lemmas.List.{append-nil, reverse-append, length-reverse, length-replicate, take_all, take_min, take-append-le, take-replicate, length-take-le, get_or-replicate}
 use Rattle.std.proofs.lemmas.List.Folds.{prefix_len-append}
-use Rattle.std.proofs.lemmas.List.Sums.{suffix_len-le-length, suffix_len-take_no, suffix_len_is, prefix_len_stops}
+use Rattle.std.proofs.lemmas.List.Sums.{suffix_len-le-length, suffix_len_is}
 use Rattle.nr_units.specs.Cell.{blank, is_blank, trimmed}
 use Rattle.nr_units.specs.declared.cell.Cell.{Cell}
 use Rattle.nr_fill.specs.CellRow.{Row, row_of}
@@ -45,22 +45,6 @@ written-replicate n =
     let all = suffix_len_is is_blank (replicate n blank) 0 blank (omega arith)
     (λ k low high. ap is_blank (get_or-replicate n k blank blank (omega (arith, length-replicate n blank)))) (λ some. absurd (omega arith)) in
     omega arith
-
--- what was trimmed ends with no blank
-pub written-trimmed : (xs : List Cell) → written (trimmed xs) ≡ written xs
-written-trimmed xs =
-    let long = length-trimmed xs in
-    elim (cases_lt 0 (written xs)) [
-      | inl some ↦
-          let k = suffix_len is_blank xs in
-          let below : k < length (reverse xs) = omega (arith, length-reverse xs) in
-          let place : length xs - 1 - k ≡ written xs - 1 = omega arith in
-          let last : is_blank (get_or xs (written xs - 1) blank) ≡ false =
-          ap (λ i. is_blank (get_or xs i blank)) (sym place) ∙ ap is_blank (sym (get_or-reverse xs k blank (omega arith))) ∙ prefix_len_stops is_blank (reverse xs) blank below in
-          let none = suffix_len-take_no is_blank xs (written xs) blank some (omega arith) last in
-          omega arith
-      | inr none ↦ omega arith
-    ]
 
 -- what there is room for of two rows
 pub take_append : (room : ℕ) (xs ys : List Cell) → take room (xs ++ ys) ≡ take room xs ++ take (min (length ys) (room - length (take room xs))) ys

@@ -96,14 +96,6 @@ begun-limit : {K : Type 0} (d : Due) (v : Stored K) → (begun_to d v).limit ≡
 begun-limit (dues.Put b) v = refl
 begun-limit d v = refl
 
-begun-levels : {K : Type 0} (d : Due) (v : Stored K) → (begun_to d v).levels ≡ v.levels
-begun-levels (dues.Put b) v = refl
-begun-levels d v = refl
-
-begun-deepest : {K : Type 0} (d : Due) (v : Stored K) → (begun_to d v).deepest ≡ v.deepest
-begun-deepest (dues.Put b) v = refl
-begun-deepest d v = refl
-
 stored_there : (full : Bool) → full ≡ false → storing_by (if full then Err (record {}) else Ok tt) ≡ Ok tt
 stored_there full few = rw few refl
 
@@ -123,12 +115,6 @@ module _ {K : Type 0} (bytes : List ℕ) (v w : Stored K) (r s : Reader) (begins
       let charge = ap (λ (x : Stored K). charge_of x) stored_is in
       let limit = ap (λ (x : Stored K). x.limit) stored_is in
       omega (arith, charge, limit, begun-charge d v, begun-limit d v, room)
-
-  pub begun_levels : w.levels ≡ v.levels
-  begun_levels = ap (λ (x : Stored K). x.levels) stored_is ∙ begun-levels d v
-
-  pub begun_deepest : w.deepest ≡ v.deepest
-  begun_deepest = ap (λ (x : Stored K). x.deepest) stored_is ∙ begun-deepest d v
 
   module _ (t : ℕ) (within : t ≤ length bytes) where
     there_is : begun_to d (in_level t bytes v) ≡ in_level t bytes w

@@ -5,7 +5,6 @@ use Rattle.nr_symbol_tables.specs.Table.{find}
 use Rattle.nr_store.specs.Store.{Stored, begun, words, reading, shared_by, entered, reading_bytes}
 use Rattle.nr_store.specs.Laws.{named_weighs}
 use Rattle.nr_store.specs.declared.element.Element.{Element}
-use Rattle.nr_store.specs.declared.refusal.StoredBytes.{StoredBytes}
 use Rattle.nr_reading.specs.declared.half.Half.{Half}
 use Rattle.nr_reading.specs.declared.mode.Due.{Due}
 use Rattle.nr_reading.specs.declared.mode.Due.TheVariants as dues
@@ -17,16 +16,14 @@ use Rattle.nr_reading.specs.declared.mode.Standing.{Standing}
 use Rattle.nr_reading.specs.declared.notes.Notes.{Notes}
 use Rattle.nr_reading.specs.declared.mode.Standing.TheVariants as standings
 use Rattle.nr_reading.specs.Conditionals.{in_mode, part_mode, answer_of, remembering, judged}
-use Rattle.nr_reading.specs.Setting.{sprung, resumed, defining}
+use Rattle.nr_reading.specs.Setting.{sprung, resumed}
 use Rattle.nr_reading.specs.Weights.{weight_of_text, weight_of_judged, weight_by, weight_of_mode, weight_of_backslash, weight_of_half, held_by_mode, blanks_owed}
 use Rattle.nr_input.specs.declared.reader.Reader.{Reader}
 use Rattle.nr_input.specs.declared.refusal.Refusal.{Refusal}
-use Rattle.nr_input.specs.declared.splicing.Definition.{Definition}
-use Rattle.nr_input.specs.declared.splicing.Definition.TheVariants as definitions
 use Rattle.nr_input.specs.Acting.{on_half, idle, expanded}
-use Rattle.nr_input.specs.Refusal.{Called, called, splicing_answer}
-use Rattle.nr_input.specs.Splicing.{giving, springing, springing_text, base, base_answer, keeps, beginning, defining_lines}
-use Rattle.nr_input.specs.Weights.{CostsAtMost, cost_of_standing, cost_of_defining, Defines, Splices, Springs, expansions_worth}
+use Rattle.nr_input.specs.Refusal.{called, splicing_answer}
+use Rattle.nr_input.specs.Splicing.{giving, springing, springing_text, base_answer, defining_lines}
+use Rattle.nr_input.specs.Weights.{CostsAtMost, cost_of_standing, Splices, Springs, expansions_worth}
 use Rattle.nr_input.proofs.Items.{expansions_worth-spent}
 use Rattle.nr_input.proofs.Refusals.{called-ok}
 use Rattle.nr_input.proofs.Spending.{Opens, opened, bytes_open, splicing-fits, idle-le}
@@ -69,25 +66,6 @@ part_costs false n h = omega (arith, in_mode-le h.reading.due h.reading.mode (mo
 
 pub judged_costs : (b : Bool) (h : Half) → CostsAtMost weight_of_judged h (judged b h)
 judged_costs b h = part_costs (answer_of b h.notes) (remembering b h).notes h
-
-defining_costs : (h : Half) (name ending : List ℕ) (kept : Bool) → CostsAtMost cost_of_defining h (defining name ending kept h)
-defining_costs h name ending kept = omega (arith, in_mode-le h.reading.due h.reading.mode (modes.BodyStart 0) h.reading.escape 23 (omega arith) (omega arith) refl)
-
--- ---- definitions whose lines follow
-
-base_levels : {K : Type 0} (d : Definition) (name : List ℕ) (v : Stored K) → ((base d name v).levels ≡ v.levels) × ((base d name v).limit ≡ v.limit)
-base_levels definitions.De name v = (refl, refl)
-base_levels definitions.Am name v = (refl, refl)
-base_levels definitions.Ig name v = (refl, refl)
-
-beginning_defines : {K : Type 0} (x : Result (Unit {0}) StoredBytes) (d : Definition) (name ending : List ℕ) (v w : Stored K) (r s : Reader)
-    → called w s (Ok tt) ≡ beginning x d name ending v r → Defines v r w s
-beginning_defines {K} (Ok x) d name ending v w r s is =
-    let stored : w ≡ base d name v = ap (λ (y : Called K (Result (Unit {0}) StoredBytes)). y.stored) is in
-    let read : s ≡ on_half (defining name ending (keeps d)) r = ap (λ (y : Called K (Result (Unit {0}) StoredBytes)). y.reader) is in
-    let levels = base_levels d name v in
-    rw (stored, read) (record { levels = levels.0; limit = levels.1; burst = refl; most = refl; costs = defining_costs r.half name ending (keeps d) })
-beginning_defines {K} (Err e) d name ending v w r s is = let answers = ap (λ (y : Called K (Result (Unit {0}) StoredBytes)). y.answer) is in let wrong : ⊥ = cc in absurd wrong
 
 -- ---- splices
 

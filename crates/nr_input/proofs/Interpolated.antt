@@ -42,7 +42,7 @@ use Rattle.nr_input.proofs.PuttingLevel.{AreFront, level_added, level_added_pays
 use Rattle.nr_input.proofs.Rows.{reads_nothing}
 use Rattle.nr_input.proofs.RowsRead.{level_read, level_pays, bytes_are}
 use Rattle.nr_input.proofs.Spending.{act_pays}
-use Rattle.nr_input.proofs.Targets.{levels-with_more, limit-with_more, nothing_added}
+use Rattle.nr_input.proofs.Targets.{limit-with_more, nothing_added}
 
 -- ---- moves that tell nothing, from what was read
 
@@ -248,10 +248,6 @@ more-reading : {K : Type 0} (t : Target) (xs bytes : List ℕ) (v : Stored K) �
 more-reading Argument xs bytes v = refl
 more-reading Text xs bytes v = refl
 
-deepest-with_more : {K : Type 0} (t : Target) (bs : List ℕ) (v : Stored K) → (with_more t bs v).deepest ≡ v.deepest
-deepest-with_more Argument bs v = refl
-deepest-with_more Text bs v = refl
-
 module _ {K : Type 0} (t : Target) (n : ℕ) (bytes : List ℕ) (v w : Stored K) (r : Reader) (added : w ≡ with_more t (take n bytes) v) (within : n ≤ length bytes) where
   -- after the bytes that were added, in their level
   behind_added : left_times n (with_more t (take n bytes) (reading_bytes bytes v)) ≡ left_times n (reading_bytes bytes w)
@@ -262,12 +258,6 @@ module _ {K : Type 0} (t : Target) (n : ℕ) (bytes : List ℕ) (v w : Stored K)
       let is = ap (λ (x : Stored K). charge_of x) added in
       let limits = ap (λ (x : Stored K). x.limit) added ∙ limit-with_more t (take n bytes) v in
       omega (arith, room, is, limits, charge-more t (take n bytes) v, length-take n bytes, within)
-
-  pub added_levels : w.levels ≡ v.levels
-  added_levels = ap (λ (x : Stored K). x.levels) added ∙ levels-with_more t (take n bytes) v
-
-  pub added_deepest : w.deepest ≡ v.deepest
-  added_deepest = ap (λ (x : Stored K). x.deepest) added ∙ deepest-with_more t (take n bytes) v
 
   pub added_pays : (q : Reached) → PaysAll (2 * n) (reading_bytes bytes v) q r events.Nothing (left_times n (reading_bytes bytes w)) q r
   added_pays q =

@@ -1,7 +1,7 @@
 -- Rows of the newest level, in which the names of control lines are looked up, as moves of the machine that reads.
 use Rattle.std.specs.Prelude.{map}
-use Rattle.std.proofs.Common.{◌≡◌, ℕ, zero, suc, ◌+◌, ◌≤◌, Bool, true, false, List, [], ◌∷◌, length, drop, Option, Result, Ok, refl, ap, sym, ◌∙◌, subst, length-drop, arith}
-use Rattle.std.proofs.lemmas.List.{length-map, drop-map, drop_all}
+use Rattle.std.proofs.Common.{◌≡◌, ℕ, zero, suc, ◌+◌, ◌≤◌, Bool, true, false, List, [], ◌∷◌, length, drop, Option, Result, Ok, refl, ap, sym, ◌∙◌, subst, arith}
+use Rattle.std.proofs.lemmas.List.{drop-map, drop_all}
 use Rattle.nr_units.specs.Source.{Supply}
 use Rattle.nr_store.specs.Store.{Stored, Level, Read, Mark, left}
 use Rattle.nr_store.specs.Windows.{rest_of, left_times, levels_behind}
@@ -89,9 +89,6 @@ module _ {K : Type 0} (t : ℕ) (v : Stored K) (m : Meaning) (r s : Reader) (e :
 
     begun_is : begun ≡ there
     begun_is = ap (λ b. begun_by b there) other
-
-    pub behind_within : t + q.taken ≤ length (rest_of v.levels)
-    behind_within = omega (arith, met_there.within, length-map (rest_of there.levels) element_front, ap length (rest-left_times t v few), length-drop t (rest_of v.levels), few)
 
     pub named_read : (c : Coming) (p : Reached) (supply : Option Supply) → HoldsComing c p supply → HasRead (n + 1) (situation there c r) q.event (left_times (t + q.taken) v) (record s { half = q.half }) p supply
     named_read c p supply holds =

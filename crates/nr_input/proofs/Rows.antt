@@ -116,11 +116,6 @@ module _ {K : Type 0} (l : Reading K) (ls : List (Level K)) (xs : List Element) 
 
 -- ---- bytes of the source
 
-later-none : (f : Faults) → later 0 f ≡ f
-later-none Never = refl
-later-none (After m) = ap After (omega arith)
-later-none Anytime = refl
-
 one_later-later : (n : ℕ) (f : Faults) → one_later (later n f) ≡ later (suc n) f
 one_later-later n Never = refl
 one_later-later n (After m) = let counts : m - n - 1 ≡ m - suc n = omega arith in ap After counts

@@ -2,7 +2,7 @@
 use Rattle.std.specs.Prelude.{slice_get, slice_index}
 use Rattle.std.specs.Option.{option_map}
 use Rattle.std.proofs.Common.{◌≡◌, ℕ, zero, suc, ◌+◌, ◌-◌, ◌<◌, ◌≤◌, false, List, [], ◌∷◌, ◌++◌, length, take, drop, get_or, Option, None, Some, IfSome, refl, ap, sym, ◌∙◌, subst, length-drop, arith, Bool}
-use Rattle.std.proofs.lemmas.List.{get_or-drop, get_or-take, length-map, length-take, take-append-drop, take-append-le}
+use Rattle.std.proofs.lemmas.List.{get_or-drop, get_or-take, length-take, take-append-drop, take-append-le}
 use Rattle.std.proofs.lemmas.Option.{slice_get-get_or, slice_get-map, slice_get_within}
 use Rattle.nr_store.specs.Store.{Stored, Level}
 use Rattle.nr_store.specs.Windows.{rest_of, left_times}
@@ -126,9 +126,6 @@ module _ {K : Type 0} (bytes : List ℕ) (items taken : ℕ) (v : Stored K) (r :
           subst (λ bs. Leaves false s.moves bs v r (left_times part (opened s.named own s.asked behind)) reader) all
           (subst (λ n. Leaves false s.moves (take s.before bytes ++ take part own) v r (left_times n (opened s.named own s.asked behind)) reader) count
           (leaves_some s.moves (take part own) (take s.before bytes) v (opened s.named own s.asked behind) r reader some is.opens (own_next part s.named own s.asked behind)))
-
-      pub within_within : part ≤ length (rest_of (opened s.named own s.asked behind).levels)
-      within_within = omega (arith, before, begun, own_long, ap length (rest-opened s.named own s.asked behind), length-map own elements.Byte)
 
 -- ---- the splice that was begun last
 

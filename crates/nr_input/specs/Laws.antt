@@ -1,5 +1,5 @@
--- What is half read weighs no more than this, whatever it is; what is counted of a source that has not failed; and where a read fault is told.
-use Rattle.std.specs.Prelude.{◌≡◌, ℕ, ◌+◌, ◌*◌, ◌≤◌, Bool, true, false, not, ◌&&◌, List, [], ◌∷◌, length, sum_by, Result, Ok, Err}
+-- What is half read weighs no more than this, whatever it is; and all bytes count where the source fails.
+use Rattle.std.specs.Prelude.{◌≡◌, ℕ, ◌+◌, ◌*◌, ◌≤◌, List, [], ◌∷◌, length, sum_by, Result, Ok, Err}
 use Rattle.std.proofs.Common.{refl, sym, ap, ◌∙◌, subst, arith}
 use Rattle.std.proofs.lemmas.List.Sums.{sum_by-cons}
 use Rattle.nr_reading.specs.declared.ask.Ask.{Ask}
@@ -13,13 +13,10 @@ use Rattle.nr_reading.specs.declared.mode.Escape.{Escape}
 use Rattle.nr_reading.specs.declared.mode.Escape.TheVariants as escapes
 use Rattle.nr_reading.specs.declared.mode.Mode.{Mode}
 use Rattle.nr_reading.specs.declared.mode.Mode.TheVariants as modes
-use Rattle.nr_input.specs.declared.place.Ahead.{Ahead}
 use Rattle.nr_store.specs.Store.{afforded}
 use Rattle.nr_store.specs.declared.refusal.StoredBytes.{StoredBytes}
-use Rattle.nr_input.specs.declared.refusal.Refusal.{Refusal}
 use Rattle.nr_input.specs.declared.refusal.Refusal.TheVariants as refusals
 use Rattle.nr_input.specs.Acting.{base_of, is_look}
-use Rattle.nr_input.specs.Place.{is_read_fault, has_failed, fails_now}
 use Rattle.nr_input.specs.Moving.{Situation, RefusesBy, Refuses}
 use Rattle.nr_input.specs.Refusal.{answer, storing_by, uncounted_by, place_told}
 use Rattle.nr_reading.specs.Weights.{backslash_elsewhere, weight_of_argument, weight_by, weight_of_escape, weight_of_backslash, weight_of_mode, weight_of_due, held_by_mode, weight_of_stage, weight_of_ask, weight_of_half}
@@ -88,19 +85,7 @@ pub weight_of_half-le : (h : Half)
 weight_of_half-le h =
     omega (arith, weight_by-le h.reading.due h.reading.mode h.reading.escape, weight_of_asks-le h.asks)
 
--- ---- failures
-
-and_not : (told failed : Bool) → failed ≡ false → (told && not failed) ≡ told
-and_not true true going = let wrong : ⊥ = cc in absurd wrong
-and_not true false going = refl
-and_not false failed going = refl
-
--- where the source has not failed, a read fault is that of this very call
-pub fails_now-going : {X : Type 0} (ahead : Ahead) (r : Result X Refusal) → has_failed ahead ≡ false
-    → fails_now ahead r ≡ is_read_fault r
-fails_now-going ahead r going = and_not (is_read_fault r) (has_failed ahead) going
-
--- ---- the place that is told
+-- ---- the place that is reported
 
 -- a text that can't be stored is no read fault
 storing_told : (x : Result (Unit {0}) StoredBytes) → storing_by x ≡ Err refusals.ReadFault → ⊥

@@ -1,8 +1,7 @@
 -- Lemmas on bytes that are cut up by lengths.
-use Rattle.std.proofs.Common.{◌≡◌, ℕ, zero, suc, ◌+◌, ◌-◌, ◌<◌, ◌≤◌, List, [], ◌∷◌, ◌++◌, length, take, drop, sum, map, set, refl, ap, ap₂, sym, ◌∙◌, length-append, eqb, inl, inr, arith}
-use Rattle.std.proofs.lemmas.List.{take-append-le, drop-append-le, length-take-le, length-drop, take_all, drop_all, drop-drop, length-map, length-set, take_more_set}
-use Rattle.std.proofs.lemmas.List.Sums.{sum_by-append}
-use Rattle.std.proofs.lemmas.Bool.{cases_lt, cond-true, cond-false, eq-eqb, ne_eqb}
+use Rattle.std.proofs.Common.{◌≡◌, ℕ, zero, suc, ◌+◌, ◌-◌, ◌<◌, ◌≤◌, List, [], ◌∷◌, ◌++◌, length, take, drop, sum, map, set, refl, ap, ap₂, sym, ◌∙◌, eqb, inl, inr, arith}
+use Rattle.std.proofs.lemmas.List.{take-append-le, drop-append-le, length-take-le, length-drop, take_all, drop_all, drop-drop, length-map, take_more_set}
+use Rattle.std.proofs.lemmas.Bool.{cases_lt, cond-false, eq-eqb, ne_eqb}
 use Rattle.nr_levels.specs.Levels.{cut}
 use Rattle.nr_levels.specs.Laws.{sum-cons, length-joined, with_bytes-full, with_bytes-more}
 use Rattle.nr_levels.specs.Gathering.{Gathered, joined, gathered_len, with_byte, with_bytes, with_end, gathered_of, IsGathering}
@@ -75,16 +74,10 @@ module _ (lens bytes : List ℕ) (count from room : ℕ) (h : IsGathering lens b
   pub full_is : (eqb count 9) ≡ (eqb (length now.kept) 9)
   full_is = ap (λ n. eqb n 9) (sym kept_count)
 
-  pub unchanged_byte : count ≡ 9 → (byte : ℕ) → now ≡ with_byte byte now
-  unchanged_byte full byte = sym (cond-true (eqb (length now.kept) 9) now _ (eq-eqb (length now.kept) 9 (kept_count ∙ full)))
-
   pub pushed_byte : (count ≡ 9 → ⊥) → (byte : ℕ) → gathered_of (take count lens) (bytes ++ byte ∷ []) from ≡ with_byte byte now
   pushed_byte more byte =
       ap₂ (λ ks l. record { kept = ks; last = l }) (cut_more (take count lens) bytes (byte ∷ []) sum_within) (drop-append-le from bytes (byte ∷ []) h.within)
       ∙ sym (cond-false (eqb (length now.kept) 9) now _ (ne_eqb (length now.kept) 9 (λ e. more (sym kept_count ∙ e))))
-
-  pub pushed_stands : (byte : ℕ) → IsGathering lens (bytes ++ byte ∷ []) count from room
-  pushed_stands byte = record { nine = h.nine; all = h.all; start = h.start; within = (let within = h.within in omega (arith, length-append bytes (byte ∷ []))); small = h.small }
 
   pub unchanged_bytes : count ≡ 9 → (more : List ℕ) → now ≡ with_bytes more now
   unchanged_bytes full more = sym (with_bytes-full more now (eq-eqb (length now.kept) 9 (kept_count ∙ full)))
@@ -93,12 +86,6 @@ module _ (lens bytes : List ℕ) (count from room : ℕ) (h : IsGathering lens b
   extended_bytes fewer more =
       ap₂ (λ ks l. record { kept = ks; last = l }) (cut_more (take count lens) bytes more sum_within) (drop-append-le from bytes more h.within)
       ∙ sym (with_bytes-more more now (ne_eqb (length now.kept) 9 (λ e. fewer (sym kept_count ∙ e))))
-
-  pub extended_stands : (more : List ℕ) → IsGathering lens (bytes ++ more) count from room
-  extended_stands more = record { nine = h.nine; all = h.all; start = h.start; within = (let within = h.within in omega (arith, length-append bytes more)); small = h.small }
-
-  pub unchanged_end : count ≡ 9 → now ≡ with_end now
-  unchanged_end full = sym (cond-true (eqb (length now.kept) 9) now _ (eq-eqb (length now.kept) 9 (kept_count ∙ full)))
 
   -- the lengths with one more
   abbrev more_lens : List ℕ
@@ -118,21 +105,3 @@ module _ (lens bytes : List ℕ) (count from room : ℕ) (h : IsGathering lens b
       ap₂ (λ ls l. record { kept = cut ls bytes; last = l }) (ended_lens below) (drop_all (length bytes) bytes (omega arith))
       ∙ ap (λ ks. record { kept = ks; last = [] }) (cut_one (take count lens) bytes (length bytes - from) ∙ ap (λ k. cut (take count lens) bytes ++ k ∷ []) ended_kept)
       ∙ sym (cond-false (eqb (length now.kept) 9) now _ (ne_eqb (length now.kept) 9 (λ e. more (sym kept_count ∙ e))))
-
-  pub ended_stands : (count ≡ 9 → ⊥) → IsGathering more_lens bytes (count + 1) (length bytes) room
-  ended_stands more =
-      let nine = h.nine in
-      let all = h.all in
-      let below : count < 9 = elim (cases_lt count 9) [ inl b ↦ b | inr a ↦ absurd (more (omega arith)) ] in
-      let total = ap sum (ended_lens below) in
-      let start = h.start in
-      let within = h.within in
-      let one = sum_by-append (λ (x : ℕ). x) (take count lens) ((length bytes - from) ∷ []) in
-      let single = sum-cons (length bytes - from) [] in
-      record {
-        nine = omega arith;
-        all = length-set lens count (length bytes - from) ∙ h.all;
-        start = omega arith;
-        within = omega arith;
-        small = h.small;
-      }

@@ -3,7 +3,7 @@ use Rattle.std.specs.Prelude.{◌≡◌, ◌≢◌, ℕ, ◌+◌, ◌-◌, ◌<�
 use Rattle.std.proofs.Common.{ap, ◌∙◌, inl, inr, arith, sym, leb}
 use Rattle.std.proofs.lemmas.List.{get_or-set_same, get_or-set_other, get_or_past, set-set, set-get_or, set_past}
 use Rattle.std.proofs.lemmas.List.Sums.{sum_by-set}
-use Rattle.std.proofs.lemmas.Option.{slice_get_within, get_or_from_slice_get}
+use Rattle.std.proofs.lemmas.Option.{get_or_from_slice_get}
 use Rattle.std.proofs.lemmas.Bool.{cases_lt, cases_eq, cond-true, cond-false, le-leb, lt-leb}
 use Rattle.nr_pool.specs.Texts.{Held, Texts, no_text, entry, text, holders, used, IsOpen, with_entry, opened, with_text, with_holders, without_text, released}
 
@@ -85,12 +85,6 @@ open-without_text p id other apart is_open =
     let same : holders (without_text p id) other ≡ holders p other =
     ap (λ (t : Held _). t.holders) (entry-with_entry_other p id other no_text apart) in omega arith
 
--- and keeps its text
-pub text-without_text : {T : Type 0} (p : Texts T) (id other : ℕ) → other ≢ id
-    → text (without_text p id) other ≡ text p other
-text-without_text p id other apart =
-    ap (λ (t : Held _). t.elements) (entry-with_entry_other p id other no_text apart)
-
 -- a text with more than one holder stays where one lets it go
 pub released-held : {T : Type 0} (p : Texts T) (id : ℕ) → 1 < holders p id
     → released p id ≡ with_holders p id (holders p id - 1)
@@ -110,13 +104,6 @@ entry-released_other p id other apart = elim (cases_lt 1 (holders p id)) [
       ∙ entry-with_entry_other p id other _ apart
 ]
 
--- each other number stays open where one lets a text go
-pub open-released : {T : Type 0} (p : Texts T) (id other : ℕ) → other ≢ id → IsOpen p other
-    → IsOpen (released p id) other
-open-released p id other apart is_open =
-    let same : holders (released p id) other ≡ holders p other =
-    ap (λ (t : Held _). t.holders) (entry-released_other p id other apart) in omega arith
-
 -- a number that has no text is none of those that have one
 pub apart_of_unused : {T : Type 0} (p : Texts T) (id other : ℕ) → slice_get p.texts id ≡ Some no_text
     → IsOpen p other → other ≢ id
@@ -125,13 +112,6 @@ apart_of_unused p id other free is_open same =
     ap (holders p) same ∙ ap (λ (t : Held _). t.holders)
     (get_or_from_slice_get p.texts id no_text no_text free) in
     absurd (omega arith)
-
--- each other text stays where one is opened
-pub text-opened : {T : Type 0} (p : Texts T) (id other : ℕ) → slice_get p.texts id ≡ Some no_text
-    → IsOpen p other → text (opened p id) other ≡ text p other
-text-opened p id other free is_open =
-    ap (λ (t : Held _). t.elements)
-    (entry-with_entry_other p id other _ (apart_of_unused p id other free is_open))
 
 -- ---- how many elements all texts have
 
@@ -144,37 +124,6 @@ used-with_entry p id t within = sum_by-set (λ (u : Held _). length u.elements) 
 pub used-with_text : {T : Type 0} (p : Texts T) (id : ℕ) (xs : List T) → id < length p.texts
     → used (with_text p id xs) + length (text p id) ≡ used p + length xs
 used-with_text p id xs within = used-with_entry p id (record { elements = xs; holders = holders p id }) within
-
--- where a text is opened
-pub used-opened : {T : Type 0} (p : Texts T) (id : ℕ) → slice_get p.texts id ≡ Some no_text
-    → used (opened p id) ≡ used p
-used-opened p id free =
-    let none : length (text p id) ≡ 0 =
-    ap (λ (t : Held _). length t.elements) (get_or_from_slice_get p.texts id no_text no_text free) in
-    let sum =
-    used-with_entry p id (record { elements = []; holders = 1 })
-    (slice_get_within p.texts id no_text free) in
-    omega arith
-
--- where the number of holders changes
-pub used-with_holders : {T : Type 0} (p : Texts T) (id n : ℕ) → id < length p.texts
-    → used (with_holders p id n) ≡ used p
-used-with_holders p id n within =
-    let sum = used-with_entry p id (record { elements = text p id; holders = n }) within in omega arith
-
--- where a text is removed
-pub used-without_text : {T : Type 0} (p : Texts T) (id : ℕ) → id < length p.texts
-    → used (without_text p id) + length (text p id) ≡ used p
-used-without_text p id within = let sum = used-with_entry p id no_text within in omega arith
-
--- where one lets a text go
-pub used-released : {T : Type 0} (p : Texts T) (id : ℕ) → id < length p.texts → used (released p id) ≤ used p
-used-released p id within = elim (cases_lt 1 (holders p id)) [
-  | inl more ↦ let is = ap used (released-held p id more) in
-      let same = used-with_holders p id (holders p id - 1) within in omega arith
-  | inr last ↦ let is = ap used (released-last p id last) in
-      let less = used-without_text p id within in omega arith
-]
 
 -- the later of two writes stays
 pub with_text-with_text : {T : Type 0} (p : Texts T) (id : ℕ) (xs ys : List T)
@@ -195,21 +144,6 @@ append_more p q r id xs ys within wrote more =
     let now : text q id ≡ xs = ap (λ (s : Texts _). text s id) wrote ∙ text-with_text_same p id xs within in
     more ∙ ap (λ zs. with_text q id (zs ++ ys)) now ∙ ap (λ (s : Texts _). with_text s id (xs ++ ys)) wrote
     ∙ with_text-with_text p id xs (xs ++ ys)
-
--- for `grind`: what each number has after a change
-pub ruleset text_laws = (
-  within_of_open,
-  text-with_text_same,
-  text-with_text_other,
-  holders-with_text,
-  text-with_holders,
-  holders-with_holders_same,
-  holders-with_holders_other,
-  open-with_text,
-  open-without_text,
-  text-without_text,
-  open-released,
-)
 
 -- a write of one text leaves each number open that was
 pub open_after_text : {T : Type 0} (p q : Texts T) (id : ℕ) (xs : List T) → q ≡ with_text p id xs

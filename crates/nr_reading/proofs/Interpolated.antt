@@ -1,8 +1,8 @@
 -- Interpolations that stand whole in a row, met at once.
 use Prim.Native.Char.{code}
 use Rattle.std.specs.Prelude.{slice_get, ◌==◌, ◌||◌, not}
-use Rattle.std.proofs.Common.{◌≡◌, ℕ, ◌+◌, ◌-◌, ◌<◌, ◌≤◌, Bool, true, false, if◌then◌else◌, List, [], ◌∷◌, length, Some, inl, inr, refl, sym, subst, ap, ◌∙◌, arith}
-use Rattle.std.proofs.lemmas.Bool.{cases_Bool, and_parts, not-true, le-leb, ne_eqb}
+use Rattle.std.proofs.Common.{◌≡◌, ℕ, ◌+◌, ◌-◌, ◌<◌, Bool, true, false, if◌then◌else◌, List, [], ◌∷◌, length, Some, inl, inr, refl, sym, subst, ap, ◌∙◌, arith}
+use Rattle.std.proofs.lemmas.Bool.{cases_Bool, and_parts, not-true}
 use Rattle.nr_reading.specs.declared.ask.Ask.{Ask}
 use Rattle.nr_reading.specs.declared.ask.Kind.{Kind}
 use Rattle.nr_reading.specs.declared.ask.Kind.TheVariants as kinds
@@ -120,13 +120,6 @@ module _ (c n : Bool) (s : Signs) (d : Texts) (o : Notes) where
   font_begins m is = rw is refl
 
   -- ---- what is asked for
-
-  -- the number of an argument
-  number_ends : (b : ℕ) (m : Mode) → code "1" ≤ b → b ≤ code "9" → Tells b (asking_half m (begun_ask kinds.Argument)) (half_at (record (at m escapes.Plain c n) { due = dues.Argument (b - code "1") }) s [] d o) events.Nothing
-  number_ends b m least most =
-      let escape : (b == code "\\") ≡ false = ne_eqb b (code "\\") (λ e. omega (arith, e, most)) in
-      let newline : (b == code "\n") ≡ false = ne_eqb b (code "\n") (λ e. omega (arith, e, least)) in
-      rw (escape, newline, le-leb (code "1") b least, le-leb b (code "9") most) refl
 
   -- a register's sign
   plus_read : (m : Mode) → Tells (code "+") (asking_half m (begun_ask (kinds.Register signs.None))) (asking_half m (begun_ask (kinds.Register signs.Plus))) events.Nothing
@@ -276,16 +269,6 @@ module _ (fs : List Front) (place : ℕ) (j : Half) (is : interpolates j ≡ tru
   pub minus_met : place + 2 < length fs → slice_get fs (place + 2) ≡ Some (fronts.Byte (code "-"))
       → (h : Half) (m : ℕ) → HasMet (m + 2) fs h (quiet (place + 2) (begun (kinds.Register signs.None) j)) → HasMet (m + 3) fs h (quiet (place + 3) (begun (kinds.Register signs.Minus) j))
   minus_met within next = ask_more (kinds.Register signs.None) (kinds.Register signs.Minus) 2 (code "-") within next (minus_read c n j.signs j.delimited j.notes j.reading.mode)
-
-  pub number_met : (b : ℕ) → place + 2 < length fs → slice_get fs (place + 2) ≡ Some (fronts.Byte b) → code "1" ≤ b → b ≤ code "9"
-      → (h : Half) (m : ℕ) → HasMet (m + 2) fs h (quiet (place + 2) (begun kinds.Argument j)) → HasMet (m + 3) fs h (quiet (place + 3) (record j { reading = record j.reading { due = dues.Argument (b - code "1") } }))
-  number_met b within next least most = λ h m has.
-      let ended : Half = record there { reading = record there.reading { due = dues.Argument (b - code "1") } } in
-      let one = tells_more (m + 2) (place + 2) b fs h (asking_there (begun_ask kinds.Argument)) ended events.Nothing
-      (subst (λ (x : Half). HasMet (m + 2) fs h (quiet (place + 2) x)) (ap (begun kinds.Argument) j_is) has) within refl next
-      (number_ends c n j.signs j.delimited j.notes b j.reading.mode least most) in
-      recount (m + 2 + 1) (m + 3) (place + 2 + 1) (place + 3) ended _ events.Nothing fs h one (omega arith) (omega arith)
-      (ap (λ (x : Half). let y : Half = record x { reading = record x.reading { due = dues.Argument (b - code "1") } } in y) (sym j_is))
 
   -- a name
   module _ (k : Kind) (before : ℕ) (kind : is_named k ≡ true) where

@@ -124,10 +124,6 @@ module _ (fs : List Front) (from made : ℕ) where
     longest = λ silent due less byte some. let none = slice_get_past fs to past in let wrong = sym none ∙ some in absurd cc;
   }
 
--- something is told
-pub told : (e : Event) (h : Half) → (e ≡ events.Nothing → ⊥) → e ≡ events.Nothing → h.reading.due ≡ dues.Look → ⊥
-told e h is silent due = is silent
-
 pub met_here : (fs : List Front) (h new : Half) (run : Run) → MeetsRest fs 0 0 h run new → HasMet run.moves fs h (spot run new)
 met_here fs h new run rest = rest.met h (nothing_met fs h)
 

@@ -58,18 +58,6 @@ module _ {K : Type 0} (p : Texts Element) (names : List (Named Sense)) (drafts :
       let same : f b ≡ b = ap (λ o. record { text = b.text; diversion = option_map (λ (e : Diversion). record e { trap = trap }) o }) none ∙ ap (λ o. record { text = b.text; diversion = o }) (sym none) in
       sym (ap (λ ls. record v { building = on_newest f ls }) first ∙ ap (λ c. record v { building = c ∷ bs }) same ∙ ap (λ ls. record v { building = ls }) (sym first))
 
-  -- it is one
-  pub trapped_is : (trap : Option Trap) (e : Diversion) → d.diversion ≡ Some e
-      → stored_of p names (record { id = d.id; diversion = Some (record e { trap = trap }) } ∷ drop 1 drafts) levels beside limit ≡ trapped trap v
-  trapped_is trap e some =
-      let f = λ (o : Option Diversion). option_map (λ (x : Diversion). record x { trap = trap }) o in
-      let w = stored_of p names drafts levels beside limit in
-      let t = (built_of p d).text in
-      let bs = map (built_of p) (drop 1 drafts) in
-      sym (ap (λ o. record w { building = record { text = t; diversion = f o } ∷ bs }) some)
-      ∙ sym (ap (λ ls. record w { building = on_newest (λ (b : Built). record b { diversion = f b.diversion }) (map (built_of p) ls) }) (cons_of drafts d top))
-      ∙ ap (trapped trap) view
-
   pub not_ended : d.diversion ≡ None → v ≡ diversion_ended v
   not_ended none = sym (ap (λ o. ended_by o v) (newest_is ∙ none))
 

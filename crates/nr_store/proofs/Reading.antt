@@ -10,7 +10,7 @@ use Rattle.nr_units.specs.Items.{Items}
 use Rattle.nr_pool.specs.Texts.{Texts, text, holders, IsOpen, released}
 use Rattle.nr_symbol_tables.specs.Table.{Named}
 use Rattle.nr_symbol_tables.specs.Rows.{Table}
-use Rattle.nr_levels.specs.Levels.{Source, Text, Own, Mark as Marked, Open, Levels, front, front_of, behind, advanced, marks, closed, resumed, charge_of_newest}
+use Rattle.nr_levels.specs.Levels.{Source, Text, Own, Mark as Marked, Open, Levels, front, front_of, behind, advanced, marks, closed, charge_of_newest}
 use Rattle.nr_levels.specs.declared.frame.Front.TheVariants as fronts
 use Rattle.nr_store.specs.declared.named.Sense.{Sense}
 use Rattle.nr_store.specs.declared.element.Element.{Element}
@@ -33,10 +33,6 @@ source_text (Text i j) id place is = let same : i ≡ id = cc in let at : j ≡ 
 source_text (Own []) id place is = cc
 source_text (Own (b ∷ bs)) id place is = cc
 source_text (Marked mode) id place is = cc
-
-pub record Bytes {K : Type 0} (s : Source K) (b : ℕ) : Type 0 where
-  pub rest : List ℕ
-  pub is : s ≡ Own (b ∷ rest)
 
 pub newest_text : {K : Type 0} (levels : List (Open K)) (id place : ℕ) → front_of levels ≡ Some (fronts.Text id place) → Newest levels (Text id place)
 newest_text [] id place is = let no : ⊥ = cc in absurd no
@@ -72,10 +68,6 @@ module _ {K : Type 0} (p : Texts Element) (names : List (Named Sense)) (drafts :
   pub after_is : after levels.levels ≡ left_in (level_in p s n.level) (map (level_of p) (drop 1 levels.levels)) (with (n.level ∷ drop 1 levels.levels))
   after_is = ap after n.first ∙ ap (λ t. left_in (level_in p t n.level) (map (level_of p) (drop 1 levels.levels)) (with (n.level ∷ drop 1 levels.levels))) n.reads
 
-  -- the levels are those of the view
-  pub with_first : with (n.level ∷ drop 1 levels.levels) ≡ with levels.levels
-  with_first = ap with (sym n.first)
-
 module _ {K : Type 0} (p : Texts Element) (names : List (Named Sense)) (drafts : List Draft) (levels : Levels K) (beside : Beside) (limit id place : ℕ) (n : Newest levels.levels (Text id place)) where
   module _ (x : Element) (is : slice_get (text p id) place ≡ Some x) where
     pub item_shown : shown (map (level_of p) levels.levels) ≡ shows.Item x
@@ -91,9 +83,6 @@ module _ {K : Type 0} (p : Texts Element) (names : List (Named Sense)) (drafts :
         ∙ sym (after_is p names drafts levels beside limit (Text id place) n)
 
   module _ (none : length (text p id) ≤ place) where
-    pub end_shown : shown (map (level_of p) levels.levels) ≡ shows.End
-    end_shown = shown_is p names drafts levels beside limit (Text id place) n ∙ ap shown_of (drop_all place (text p id) none)
-
     pub end_left : left (map (level_of p) levels.levels) (stored_of p names drafts levels beside limit)
         ≡ record (stored_of p names drafts levels beside limit) { levels = mark_of n.level.resume ++ map (level_of p) (drop 1 levels.levels); texts = texts_in p names (drop 1 levels.levels); arguments = n.level.old }
     end_left =
@@ -282,48 +271,6 @@ module _ {K : Type 0} (p : Texts Element) (names : Table Sense) (drafts : Items 
 
   pub text_paid : lone p id + charge_of_newest levels.levels ≤ charge
   text_paid = newest_paid p (released p id) names drafts levels beside charge limit (Text id place) n h held_after keeps_after alone_after (released_capacity p id) (released_slots p id) (lone p id) charged own_is
-
--- ---- the end of a level that reads bytes, and a mode that is resumed
-
-module _ {K : Type 0} (p : Texts Element) (names : Table Sense) (drafts : Items Draft) (levels : Levels K) (beside : Beside) (charge limit : ℕ) (s : Source K) (n : Newest levels.levels s) (none : ids_of_source s ≡ []) (h : IsStore p names drafts levels beside charge limit) where
-  same_ids : ids_of levels.levels ≡ ids_of (drop 1 levels.levels)
-  same_ids = ap ids_of n.first ∙ ap (λ t. ids_of_source t ++ ids_of (drop 1 levels.levels)) n.reads ∙ ap (λ ks. ks ++ ids_of (drop 1 levels.levels)) none
-
-  held_still : IsHeld p (held_ids names.entries (draft_ids drafts.items) (drop 1 levels.levels))
-  held_still = subst (λ ks. IsHeld p (values names.entries ++ (draft_ids drafts.items ++ ks))) same_ids h.held
-
-  keeps_still : Keeps p p (held_ids names.entries (draft_ids drafts.items) (drop 1 levels.levels))
-  keeps_still = record { kept = λ k some. refl }
-
-  free : source_charge p names.entries (ids_of (drop 1 levels.levels)) s ≡ 0 → source_charge p names.entries (ids_of (drop 1 levels.levels)) n.level.source ≡ 0
-  free none_charged = ap (source_charge p names.entries (ids_of (drop 1 levels.levels))) n.reads ∙ none_charged
-
-  pub bytes_ended : stored_of p names.entries drafts.items (closed levels.levels levels) beside limit
-      ≡ record (stored_of p names.entries drafts.items levels beside limit) { levels = mark_of n.level.resume ++ map (level_of p) (drop 1 levels.levels); texts = texts_in p names.entries (drop 1 levels.levels); arguments = n.level.old }
-  bytes_ended = closed_view p p names drafts levels beside charge limit s n h held_still keeps_still h.alone refl refl
-
-  pub bytes_ended_stands : level_charge (level_in p s n.level) ≡ n.level.charge → source_charge p names.entries (ids_of (drop 1 levels.levels)) s ≡ 0 → IsStore p names drafts (closed levels.levels levels) beside (charge - charge_of_newest levels.levels) limit
-  bytes_ended_stands paid none_charged =
-      subst (λ m. IsStore p names drafts (closed levels.levels levels) beside (charge - m) limit) (let e : 0 + charge_of_newest levels.levels ≡ charge_of_newest levels.levels = omega arith in e)
-      (closed_stands p p names drafts levels beside charge limit s n h held_still keeps_still h.alone refl refl 0 (ap (λ t. level_charge (level_in p t n.level)) n.reads ∙ paid) (free none_charged))
-
-  pub bytes_paid : level_charge (level_in p s n.level) ≡ n.level.charge → source_charge p names.entries (ids_of (drop 1 levels.levels)) s ≡ 0 → charge_of_newest levels.levels ≤ charge
-  bytes_paid paid none_charged = let all = newest_paid p p names drafts levels beside charge limit s n h held_still keeps_still h.alone refl refl 0 (ap (λ t. level_charge (level_in p t n.level)) n.reads ∙ paid) (free none_charged) in omega arith
-
-  pub mark_gone : text_in p names.entries (ids_of (drop 1 levels.levels)) s ≡ [] → stored_of p names.entries drafts.items (resumed levels.levels levels) beside limit
-      ≡ record (stored_of p names.entries drafts.items levels beside limit) { levels = map (level_of p) (drop 1 levels.levels) }
-  mark_gone no_text =
-      ap (λ ks. stored_of p names.entries drafts.items (resumed ks levels) beside limit) n.first
-      ∙ ap (λ ts. record (stored_of p names.entries drafts.items levels beside limit) { levels = map (level_of p) (drop 1 levels.levels); texts = ts })
-      (ap (λ ts. ts ++ texts_in p names.entries (drop 1 levels.levels)) (sym no_text) ∙ ap (λ t. text_in p names.entries (ids_of (drop 1 levels.levels)) t ++ texts_in p names.entries (drop 1 levels.levels)) (sym n.reads) ∙ ap (texts_in p names.entries) (sym n.first))
-
-  pub mark_gone_stands : level_charge (level_in p s n.level) ≡ 0 → source_charge p names.entries (ids_of (drop 1 levels.levels)) s ≡ 0 → IsStore p names drafts (resumed levels.levels levels) beside charge limit
-  mark_gone_stands unpaid none_charged =
-      let nothing : level_charge (level_of p n.level) ≡ 0 = ap (λ t. level_charge (level_in p t n.level)) n.reads ∙ unpaid in
-      let no_texts = free none_charged in
-      subst (λ ks. IsStore p names drafts (resumed ks levels) beside charge limit) (sym n.first)
-      (subst (λ m. IsStore p names drafts (record levels { levels = drop 1 levels.levels }) beside m limit) (let e : charge - 0 ≡ charge = omega arith in e)
-      (now_stands p p names drafts levels beside charge limit s n h held_still keeps_still h.alone refl refl (drop 1 levels.levels) [] levels.arguments (λ r. refl) refl (λ r. refl) (λ pays. pays) (omega arith) refl 0 (omega (arith, nothing, no_texts))))
 
 -- ---- levels that go, their texts unread
 

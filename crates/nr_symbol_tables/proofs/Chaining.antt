@@ -184,16 +184,6 @@ module _ (bytes : List ℕ) (w : Word) where
         ∙ ap (λ t. t || bytes_eq bytes (w.letters ++ code "s" ∷ [])) other ∙ (bytes_eq-Decides bytes (w.letters ++ code "s" ∷ [])).1 (sym is)
   ]
 
--- no bytes are no word
-pub latest_none : (bytes : List ℕ) (ws : List Word) → length bytes ≡ 0 → IsLatestGiven bytes ws 0
-latest_none bytes ws none = record {
-  within = omega arith;
-  is = λ some. absurd (omega arith);
-  last = λ k above below. not_given bytes (word_at ws k)
-      (λ same some. (let long : length (word_at ws k).letters ≡ length bytes = ap length same in some (omega arith)))
-      (λ same some. (let long : length ((word_at ws k).letters ++ code "s" ∷ []) ≡ length bytes = ap length same in let more = length-append (word_at ws k).letters (code "s" ∷ []) in absurd (omega arith)));
-}
-
 -- bytes that don't end with an `s`, or are one byte
 pub latest_whole : (bytes : List ℕ) (ws : List Word) (at : ℕ) → 0 < length bytes → (length bytes ≢ 1 → get_or bytes (length bytes - 1) 0 ≢ code "s") → IsLatest bytes ws at → IsLatestGiven bytes ws at
 latest_whole bytes ws at some ends h = record {

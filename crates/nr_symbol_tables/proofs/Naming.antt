@@ -151,7 +151,7 @@ inserted_behind a name x (n ∷ ns) lower all = elim (cases_Bool (is_before name
   | inr later ↦ subst (λ l. AllBehind a l) (sym (cond-false (is_before name n.name) (record { name = name; value = x } ∷ (n ∷ ns)) (n ∷ inserted name x ns) later)) (all.0, inserted_behind a name x ns lower all.1)
 ]
 
--- a name that is replaced among those behind one comes behind it too
+-- a name that is replaced among those after one comes after it too
 replaced_up : {X : Type 0} (a name : List ℕ) (x : X) (ns : List (Named X)) → AllBehind a ns → AllBehind a (replaced name x ns)
 replaced_up a name x [] all = all
 replaced_up a name x (n ∷ ns) all = elim (cases_Bool (is_same n.name name)) [
@@ -244,13 +244,6 @@ same_finds (n ∷ ns) (m ∷ ms) up up' same = elim (same_or_not n.name m.name) 
 ]
 
 -- ---- how many
-
-length-replaced : {X : Type 0} (name : List ℕ) (x : X) (ns : List (Named X)) → length (replaced name x ns) ≡ length ns
-length-replaced name x [] = refl
-length-replaced name x (n ∷ ns) = elim (cases_Bool (is_same n.name name)) [
-  | inl hit ↦ ap length (cond-true (is_same n.name name) (record { name = name; value = x } ∷ ns) (n ∷ replaced name x ns) hit)
-  | inr miss ↦ ap length (cond-false (is_same n.name name) (record { name = name; value = x } ∷ ns) (n ∷ replaced name x ns) miss) ∙ ap suc (length-replaced name x ns)
-]
 
 length-inserted : {X : Type 0} (name : List ℕ) (x : X) (ns : List (Named X)) → length (inserted name x ns) ≡ suc (length ns)
 length-inserted name x [] = refl

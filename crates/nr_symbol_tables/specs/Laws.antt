@@ -122,6 +122,3 @@ find-without_other name other (n ∷ ns) apart = elim (cases_Bool (is_same n.nam
       ap (find other) (cond-false (is_same n.name name) ns (n ∷ without name ns) missed)
       ∙ ap (λ o. cond (is_same n.name other) (Some n.value) o) (find-without_other name other ns apart)
 ]
-
--- for `grind`: what each name has after a change
-pub ruleset name_laws = (find-put_same, find-put_other, find-without_other)

@@ -26,7 +26,7 @@ use Rattle.nr_units.proofs.Runs.{run-append, run-then, run-one}
 use Rattle.nr_units.proofs.Texts.{IsByteOf, symbol_tells}
 use Rattle.nr_units.proofs.ExpressionFronts.{IsRead, expression_read, read_spelled, open_ends, run-front, open_fresh, depth, outermost-nil, value_outer}
 
--- ---- fronts by the scan
+-- ---- prefixes by the scan
 
 pub front_read : (c : Ctx) (text : List ℕ) (m : ℕ) (e : Expression) → IsFront text m e → IsRead c (take m text) (expression_value c e)
 front_read c text m e f = subst (λ u. IsRead c u (expression_value c e)) (sym f.front) (expression_read c e)
@@ -44,7 +44,7 @@ is_front c text m s v within h value =
     let e = read_spelled c (take m text) s v h value in
     (e.expression, record { within = within; front = sym e.text }, sym e.value)
 
--- a longer front begins with a shorter one
+-- a longer prefix begins with a shorter one
 take-more : (i m : ℕ) (text : List ℕ) → i ≤ m → (v : List ℕ) × (take m text ≡ take i text ++ v)
 take-more zero m text h = (take m text, refl)
 take-more (suc i) zero text h = absurd (omega arith)

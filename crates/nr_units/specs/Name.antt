@@ -8,10 +8,6 @@ use Rattle.std.specs.Cmp.Lexicographic.{slice_cmp}
 abbrev pub capacity : ℕ
 capacity = 32
 
--- the bytes of a name; the empty one names nothing
-abbrev pub IsName : List ℕ → Type 0
-IsName bytes = length bytes ≤ capacity
-
 -- a name that holds no byte more
 abbrev pub is_full : List ℕ → Bool
 is_full bytes = length bytes == capacity
