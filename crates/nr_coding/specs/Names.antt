@@ -11,9 +11,10 @@ ends_with ending name =
 abbrev pub without : List ℕ → List ℕ → List ℕ
 without ending name = if ends_with ending name then take (length name - length ending) name else name
 
--- the name without what tells how lines end, and without a `-` of `-*-` that stands right behind it
+-- the name without what tells how lines end, and without a `-` of `-*-` that stands right after it
 abbrev pub base_of : List ℕ → List ℕ
-base_of name = without (codes "-unix") (without (codes "-mac") (without (codes "-dos") (without (codes "-") name)))
+base_of name =
+    without (codes "-unix") (without (codes "-mac") (without (codes "-dos") (without (codes "-") name)))
 
 -- what stands before the first NUL
 abbrev pub before_nul : List ℕ → List ℕ
@@ -23,7 +24,8 @@ before_nul (b ∷ bs) = if b == 0 then [] else b ∷ before_nul bs
 -- what these have for a name, which stands in them before a NUL
 abbrev pub named_in : List (List ℕ × Coding) → List ℕ → Option Coding
 named_in [] name = None
-named_in (entry ∷ entries) name = if bytes_eq (before_nul entry.0) name then Some entry.1 else named_in entries name
+named_in (entry ∷ entries) name =
+    if bytes_eq (before_nul entry.0) name then Some entry.1 else named_in entries name
 
 -- the coding of a name, if it is known
 unfoldable pub coding_named : List ℕ → Option Coding

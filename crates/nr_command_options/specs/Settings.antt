@@ -60,7 +60,8 @@ abbrev pub IsValue : Meaning → List ℕ → Type 0
 IsValue (PrintOnly pages) value = IsPageList pages value
 IsValue (BeginAt n) value = WritesNumber n value
 IsValue (SetRegister name n) value =
-    (number : List ℕ) × (value ≡ name ∷ number) × (code "!" ≤ name) × (name ≤ code "~") × WritesInteger n number
+    (number : List ℕ) × (value ≡ name ∷ number) × (code "!" ≤ name) × (name ≤ code "~")
+    × WritesInteger n number
 IsValue (ReadMacros name) value = (value ≡ name) × (name ≢ [])
 IsValue (MacrosIn folder) value = (value ≡ folder) × (folder ≢ [])
 IsValue ReadInput value = value ≡ []

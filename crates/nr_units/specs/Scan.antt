@@ -38,7 +38,8 @@ symbols =
     ∷ (code " ", Blank) ∷ []
 
 abbrev pub symbol_of : ℕ → Option Symbol
-symbol_of b = if nat_le (code "0") b && nat_le b (code "9") then Some (Digit (b - code "0")) else found b symbols
+symbol_of b =
+    if nat_le (code "0") b && nat_le b (code "9") then Some (Digit (b - code "0")) else found b symbols
 
 -- an operator with `=` after it, where that is one
 abbrev pub widened : Operator → Option Operator
