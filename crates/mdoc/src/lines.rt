@@ -29,7 +29,7 @@ pub enum Line {
     Quoted(bool),
     /// After the quote that ends them.
     Closed,
-    /// After blanks behind it.
+    /// After the blanks that follow it.
     Apart,
     /// After the control character and a backslash.
     ControlEscape,
@@ -65,7 +65,7 @@ pub struct Half {
     pub looked: u8,
     /// Where it is read.
     pub line: Line,
-    /// It begins with a dot, and nothing stands behind that before the name.
+    /// It begins with a dot, and nothing stands between that and the name.
     pub dotted: bool,
     /// The first bytes of the name of its macro, or of a word.
     pub name: Name,
@@ -265,7 +265,7 @@ impl Half {
         }
     }
 
-    /// After blanks behind the control character.
+    /// After the blanks that follow the control character.
     fn apart(&mut self, byte: u8)
         ensures { self.new ≡ specs.apart byte self.old }
     {

@@ -46,7 +46,7 @@ head_at second k = Head (record { second = second; tag = Key k; name = [] })
 not_whole : (j : ℕ) → j < 7 → (j == 7) ≡ false
 not_whole j few = grind (arith, nat_tests)
 
--- what stands behind a byte of these lines, by whether it is a newline
+-- what stands after a byte of these lines, by whether it is a newline
 abbrev pub behind : Bool → Bool → ℕ → ℕ → Part
 behind x second k b = told (if x then line_ended (record { second = second; tag = Key k; name = [] }) else behind_key (key_read k b) (record { second = second; tag = Key k; name = [] }))
 

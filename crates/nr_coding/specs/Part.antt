@@ -1,4 +1,4 @@
--- The mark at the beginning of a text (RFC 2781, section 3.2; RFC 3629, section 6), and what is half read behind it.
+-- The mark at the beginning of a text (RFC 2781, section 3.2; RFC 3629, section 6), and what is half read after it.
 use Rattle.std.specs.Prelude.{ℕ, List, [], ◌∷◌, Bool, true, false, ◌==◌, ◌&&◌, ◌||◌, if◌then◌else◌}
 use Rattle.nr_coding.specs.declared.wide.Order.TheVariants.{Big, Little}
 use Rattle.nr_coding.specs.declared.wide.Units.{Units}

@@ -67,7 +67,7 @@ in_blanks b h =
 abbrev pub in_key : ℕ → ℕ → Head → Tells
 in_key count b h = if b == code "\n" then line_ended h else behind_key (key_read count b) h
 
--- a byte comes: in the name, behind the key, or before it
+-- a byte comes: in the name, after the key, or before it
 abbrev pub taken_at : Tag → ℕ → Head → Tells
 taken_at Value b h = in_value b h
 taken_at Blanks b h = in_blanks b h

@@ -100,7 +100,7 @@ fn without<'a>(ending: &[u8], name: &'a [u8]) -> &'a [u8]
     if back == ending { front } else { name }
 }
 
-/// A name without what tells how lines end, and without a `-` of `-*-` that stands right behind it.
+/// A name without what tells how lines end, and without a `-` of `-*-` that stands right after it.
 fn base_of(name: &[u8]) -> &[u8]
     ensures { result.now ≡ specs.base_of name.now }
 {

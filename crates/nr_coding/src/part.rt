@@ -1,4 +1,4 @@
-//! The mark at the beginning of a text (RFC 2781, section 3.2; RFC 3629, section 6), and what is half read behind it.
+//! The mark at the beginning of a text (RFC 2781, section 3.2; RFC 3629, section 6), and what is half read after it.
 ghost use Rattle.std.specs.Prelude.{◌≡◌, ◌≤◌, length};
 ghost use Rattle.nr_coding.specs.Part as specs;
 
@@ -21,7 +21,7 @@ pub(crate) enum Part {
     Head(Head),
     /// Bytes go out as they are.
     Plain,
-    /// The same, behind the name of a coding that is not known.
+    /// The same, after the name of a coding that is not known.
     Unknown(Head),
     /// Characters of a set of eight bits.
     Eight(Set),
@@ -49,7 +49,7 @@ fn plain(part: Part, bytes: &[u8]) -> Step
     }
 }
 
-/// What stands behind a byte of the first two lines.
+/// What stands after a byte of the first two lines.
 fn told(tells: Tells) -> Part
     ensures { result ≡ specs.told tells }
 {

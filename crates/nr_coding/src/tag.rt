@@ -121,7 +121,7 @@ impl Head {
         }
     }
 
-    /// A byte comes in the name of a coding, or behind it.
+    /// A byte comes in the name of a coding, or after it.
     fn in_value(self, byte: u8) -> Tells
         ensures { result ≡ specs.in_value byte self }
     {
@@ -131,7 +131,7 @@ impl Head {
         self.names()
     }
 
-    /// A byte comes behind the key.
+    /// A byte comes after the key.
     fn in_blanks(self, byte: u8) -> Tells
         ensures { result ≡ specs.in_blanks byte self }
     {

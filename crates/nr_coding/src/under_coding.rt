@@ -15,7 +15,7 @@ pub struct Unknown {
 }
 
 /// The text of a source in UTF-8. Where it begins with the mark of UTF-16 these are its characters, U+FFFD for what is none.
-/// Else they are its bytes, but for the mark of UTF-8; behind the name of a set of eight bits in its first two lines, as
+/// Else they are its bytes, but for the mark of UTF-8; after the name of a set of eight bits in its first two lines, as
 /// `coding: koi8-r`, a byte is a character of the set. What it gives may fail at any call, where what is to come of the
 /// source is known.
 #[derive(Drop)]

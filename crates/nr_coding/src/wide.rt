@@ -53,7 +53,7 @@ pub(crate) fn utf8_of(character: char) -> Name
     Name::of(character.encode_utf8(&mut bytes).as_bytes())
 }
 
-/// One text behind another.
+/// One text after another.
 fn joined(front: Name, rest: &[u8]) -> Name
     requires { length front + length rest.now ≤ 32 }
     ensures { result ≡ front ++ rest.now }

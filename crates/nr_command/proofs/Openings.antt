@@ -20,7 +20,7 @@ pub if_ok : {T E A : Type 0} (r : Result T E) (a b : A) → IsOk r → (if is_ok
 if_ok (Ok x) a b ok = refl
 if_ok (Err e) a b ok = cc
 
--- the front that ends with the item at a place
+-- the prefix that ends with the item at a place
 take-get_suc : {A : Type 0} (xs : List A) (n : ℕ) (x : A) → slice_get xs n ≡ Some x → take (suc n) xs ≡ take n xs ++ x ∷ []
 take-get_suc [] n x e = cc
 take-get_suc (y ∷ xs) zero x e = cc

@@ -20,7 +20,7 @@ struct Row<'a> {
     ends: &'a str,
 }
 
-/// Whether a row meets each fault as it must: its line is a name and, behind a colon, where its pages end. Prints its name
+/// Whether a row meets each fault as it must: its line is a name and, after a colon, where its pages end. Prints its name
 /// where it does not.
 pub(crate) fn passes<R: Files + AllocGlobal + Print>(
     rt: &R,

@@ -40,7 +40,7 @@ impl Turner {
 }
 
 /// Whether a row gives its pages and ends so, read in large pieces and byte by byte: its line is a name, the
-/// limits that it sets, and behind a colon how it ends. Prints its name and how it ends where it does not.
+/// limits that it sets, and after a colon how it ends. Prints its name and how it ends where it does not.
 pub(crate) fn passes<R: Files + AllocGlobal + Print>(
     rt: &R,
     desk: &mut Desk,

@@ -1,4 +1,4 @@
--- What a move does that is due, whatever limits it passes. Where it is refused is told in Refusals.
+-- What a move does that is due, whatever limits it passes. Where it is refused stands in Refusal.
 use Rattle.std.specs.Prelude.{ℕ, ◌+◌, ◌-◌, nat_le, nat_lt, Bool, true, false, if◌then◌else◌, List, [], ◌∷◌, slice_index, Option, None, Some, is_some}
 use Rattle.nr_units.specs.NumberText.{number_text}
 use Rattle.nr_levels.specs.Levels.{argument}

@@ -1,4 +1,4 @@
--- Why a move is not made, where it stays then, and where that is told.
+-- Why a move is not made, where it stays then, and where that is reported.
 use Rattle.std.specs.Prelude.{ℕ, ◌-◌, ◌==◌, nat_le, Bool, true, false, if◌then◌else◌, Result, Ok, Err}
 use Rattle.nr_reading.specs.declared.ask.Sign.TheVariants as signs
 use Rattle.nr_reading.specs.declared.event.Event.{Event}
@@ -93,7 +93,7 @@ pub record Called (K A : Type 0) : Type 0 where
 abbrev pub called : {K A : Type 0} → Stored K → Reader → A → Called K A
 called v r a = record { stored = v; reader = r; answer = a }
 
--- Where a call is allowed it leads to `new` and `behind`. Above the limit of splices the level that was opened stays, and the same is
+-- Where a call is allowed it leads to `new` and `after`. Above the limit of splices the level that was opened stays, and the same is
 -- refused from then on; above another limit nothing has changed.
 abbrev pub stored_by : {K : Type 0} → Result (Unit {0}) Refusal → Stored K → Stored K → Stored K
 stored_by (Ok x) new v = new
@@ -101,9 +101,9 @@ stored_by (Err refusals.Expansions) new v = new
 stored_by (Err e) new v = v
 
 abbrev pub reader_by : Result (Unit {0}) Refusal → Reader → Reader → Reader
-reader_by (Ok x) behind r = behind
-reader_by (Err refusals.Expansions) behind r = then_due dues.Expanded r
-reader_by (Err e) behind r = r
+reader_by (Ok x) after r = after
+reader_by (Err refusals.Expansions) after r = then_due dues.Expanded r
+reader_by (Err e) after r = r
 
 -- what it answers then
 abbrev pub answered : {A : Type 0} → Result (Unit {0}) Refusal → A → Result A Refusal
@@ -113,7 +113,7 @@ answered (Err e) a = Err e
 -- what comes of a call that is allowed or not
 abbrev pub called_by : {K A : Type 0} → Result (Unit {0}) Refusal → Stored K → Reader → A → Stored K → Reader
     → Called K (Result A Refusal)
-called_by x new behind a v r = called (stored_by x new v) (reader_by x behind r) (answered x a)
+called_by x new after a v r = called (stored_by x new v) (reader_by x after r) (answered x a)
 
 abbrev pub acted_by : {K : Type 0} → Result (Unit {0}) Refusal → Acted K → Stored K → Reader
     → Called K (Result Event Refusal)
@@ -123,7 +123,7 @@ acted_by x a v r = called_by x a.stored a.reader a.event v r
 abbrev pub acted : {K : Type 0} → Due → Stored K → Reader → Called K (Result Event Refusal)
 acted d v r = acted_by (answer d v r) (act d v r) v r
 
--- ---- the place of the input that is told
+-- ---- the place of the input that is reported
 
 -- A string's text is charged before its first element is taken. Where that element begins with a `\`, what stands after the `\`
 -- tells so: this byte was read, and counts with its element. One that a level gave is no byte of the input: there is a level
@@ -135,6 +135,6 @@ uncounted_by d e burst = 0
 abbrev pub uncounted : Reader → ℕ
 uncounted r = uncounted_by r.half.reading.due r.half.reading.escape r.burst
 
--- where a limit is told, so many bytes having been read
+-- where a limit is reported, so many bytes having been read
 abbrev pub place_told : ℕ → Reader → ℕ
 place_told taken r = taken - uncounted r

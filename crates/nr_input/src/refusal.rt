@@ -1,4 +1,4 @@
-//! Why a move is not made, and where that is told.
+//! Why a move is not made, and where that is reported.
 ghost use Rattle.std.specs.Prelude.{◌≡◌};
 
 use super::reader::Reader;

@@ -59,7 +59,7 @@ most-front line (suc m) ps qs clean more full (suc k) is =
     let none : fits line (suc k) (ps ++ qs) ≡ false = no_fit (front_width (length ps) ps) (front_width (suc k) (ps ++ qs)) line (omega arith) full in
     if-false (fits line (suc k) (ps ++ qs)) (suc k) (most_that_fit line (ps ++ qs) k) none ∙ most-front line m ps qs clean more full k (omega arith)
 
--- within them both have the same fronts
+-- within them both have the same prefixes
 same-front : (line k : ℕ) (ps qs : List Piece) → NoSoft ps → NoSoft qs → k ≤ length ps → most_that_fit line (ps ++ qs) k ≡ most_that_fit line ps k
 same-front line zero ps qs clean more h = refl
 same-front line (suc k) ps qs clean more h =

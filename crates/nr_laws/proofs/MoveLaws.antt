@@ -200,7 +200,7 @@ module _ (b : Bounds) (options : Options) (supply : Supply) where
       let bytes : worth s * (state_after n s).coming.taken ≡ worth s * s.coming.taken = ap (λ k. worth s * k) taken in
       omega (arith, paid, bytes)
 
-  -- behind a byte no text is read, and all splices are allowed
+  -- after a byte no text is read, and all splices are allowed
 
   texts-are : (f : Formatter) → f.store.levels ≡ [] → f.reader.burst ≡ 0 → f.reader.most ≡ b.expansions → f.store.limit ≡ b.stored → moves_of_texts f ≡ 256 * (b.expansions * (b.stored + 3))
   texts-are f levels burst most limit =

@@ -120,7 +120,7 @@ moves_on_top b f =
     + cost_of_piece * parts_of (collected f).word + weight_of_argument * (length f.reader.half.asks - 10)
 
 -- Between the takings of two bytes, before the first and after the last there are no more moves than the number for a byte and what comes on
--- top behind the first of the two.
+-- top after the first of the two.
 abbrev pub MovesBetween : Type 0
 MovesBetween =
     (b : Bounds) (options : Options) (supply : Supply) (m n : ℕ) → AreLimits b

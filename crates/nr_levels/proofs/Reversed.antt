@@ -4,7 +4,7 @@ use Rattle.std.proofs.lemmas.List.{take_more, take_all, reverse-append, set_at, 
 use Rattle.nr_levels.specs.declared.frame.Frame.{Frame}
 use Rattle.nr_levels.specs.Moving.{NewestMayGoOn}
 
--- a row is its front and its last item
+-- a list is its items before the last, and the last
 split_last : {X : Type 0} (xs : List X) (n : ℕ) (d : X) → n + 1 ≡ length xs → xs ≡ take n xs ++ get_or xs n d ∷ []
 split_last xs n d is = sym (take_all (n + 1) xs (omega arith)) ∙ take_more xs n d (omega arith)
 

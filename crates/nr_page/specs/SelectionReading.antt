@@ -1,4 +1,4 @@
--- What the readers of a page list say of the front that they read, and of the rest.
+-- What the readers of a page list say of the prefix that they read, and of the rest.
 use Rattle.std.specs.Prelude.{◌≡◌, ℕ, ◌≤◌, List, [], ◌∷◌}
 use Rattle.std.specs.Char.{digit_value}
 use Rattle.nr_page.specs.Selection.{comma}

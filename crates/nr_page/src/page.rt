@@ -23,7 +23,7 @@ use std::marker::Model;
 #[derive(Clone, Copy)]
 pub struct PageCells;
 
-/// The sink failed: a front of the page's bytes went out.
+/// The sink failed: a prefix of the page's bytes went out.
 #[derive(Clone, Copy, Debug, PartialEq, Eq)]
 pub struct WriteFault;
 

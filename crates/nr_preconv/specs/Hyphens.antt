@@ -26,7 +26,7 @@ is_letter c = is_ascii_letter c || is_within 256 8191 c || nat_le 11264 c || is_
 
 -- ---- what stands before the next character
 
--- behind an opening bracket or a quote a word begins: ( [ < " and the opening quotes of Unicode
+-- after an opening bracket or a quote a word begins: ( [ < " and the opening quotes of Unicode
 abbrev pub is_opening : ℕ → Bool
 is_opening c =
     (c == code "(") || (c == code "[") || (c == code "<") || (c == code "\"") || (c == 8216) || (c == 8220)
@@ -34,7 +34,7 @@ is_opening c =
 abbrev pub mark_by : Bool → ℕ → Mark
 mark_by letter c = if letter then Letter else if is_opening c then Opening else Other
 
--- what an ASCII character is for what stands behind it, and another
+-- what an ASCII character is for what stands after it, and another
 abbrev pub mark_of : ℕ → Mark
 mark_of b = mark_by (is_ascii_letter b) b
 

@@ -81,7 +81,7 @@ dot h =
     if h.defining || not (is_start h.line) then ends_with (code ".") h
     else control false (code ".") (without_escape h)
 
--- By the byte after the backslash. `\%` behind an opening bracket or a quote only keeps a word whole, and is no place to cut it.
+-- By the byte after the backslash. `\%` after an opening bracket or a quote only keeps a word whole, and is no place to cut it.
 abbrev pub letter : ℕ → Half → Met
 letter b h =
     if b == code "(" then going_on b (escapes.Pair kinds.Glyph) h else

@@ -21,9 +21,9 @@ pub(crate) enum Line {
     Text,
     /// In the rest of a control line.
     Request,
-    /// In the rest of a line `.IP`, behind which a paragraph begins.
+    /// In the rest of a line `.IP`, after which a paragraph begins.
     Paragraph,
-    /// At the beginning of the line behind one.
+    /// At the beginning of the line after one.
     Behind,
     /// In the text of a string, which may have two backslashes for one.
     Stored,
@@ -73,12 +73,12 @@ pub(crate) enum Dots {
     Other,
 }
 
-/// What a character is for what stands behind it.
+/// What a character is for what stands after it.
 #[derive(Clone, Copy)]
 pub(crate) enum Mark {
     /// A letter.
     Letter,
-    /// An opening bracket or a quote, behind which a word begins.
+    /// An opening bracket or a quote, after which a word begins.
     Opening,
     /// Anything else.
     Other,

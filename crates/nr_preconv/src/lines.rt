@@ -170,7 +170,7 @@ impl Half {
         self.says(byte, line)
     }
 
-    /// The line behind one begins as any other, but in a manual page an empty one breaks first.
+    /// The line after one begins as any other, but in a manual page an empty one breaks first.
     fn behind_paragraph(&mut self, breaks: bool) -> Seen
         ensures { met self.new result ≡ specs.behind_paragraph breaks self.old }
     {

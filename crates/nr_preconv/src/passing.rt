@@ -99,7 +99,7 @@ impl Reader {
         run + self.pass_stop(&bytes[run..])
     }
 
-    /// Takes a text line, or its front, from its first byte on.
+    /// Takes a text line, or a prefix of it, from its first byte on.
     #[inline(always)]
     fn pass_line(&mut self, bytes: &[u8]) -> usize
         requires pending { self.old.pending ≡ Nothing }

@@ -213,7 +213,7 @@ abbrev pub line_of : ℕ → List Cell → ℕ → List Element
 line_of indent cells height =
     replicate indent blank_cell ++ (map elements.Cell cells ++ elements.LineEnd height ∷ [])
 
--- the greatest height and width that are told
+-- the greatest height and width that are reported
 abbrev pub greatest : ℕ
 greatest = 2147483647
 

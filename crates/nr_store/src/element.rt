@@ -8,7 +8,7 @@ use nr_symbol_tables::Trap;
 use nr_units::Name;
 use nr_units::cell::Cell;
 
-// The greatest height and width that are told, in u.
+// The greatest height and width that are reported, in u.
 const GREATEST: u64 = 2147483647;
 
 /// One element of a text.

@@ -84,7 +84,7 @@ fn begin_line_if(begins: bool, table: &mut Table)
     }
 }
 
-/// What a byte of formats says, behind what has ended before it.
+/// What a byte of formats says, after what has ended before it.
 pub(crate) fn tell_called(called: Called, table: &mut Table)
     ensures value { table.new ≡ specs.called_heard called table.old }
     ensures room { emptied table.new ≡ emptied table.old }

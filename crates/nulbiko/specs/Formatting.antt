@@ -44,7 +44,7 @@ abbrev pub limit_told : Outcome → ℕ
 limit_told (Limit which at) = limit_number which
 limit_told outcome = 0
 
--- behind how many bytes of the text
+-- after how many bytes of the text
 abbrev pub place_told : Outcome → ℕ
 place_told (Limit which at) = at
 place_told outcome = 0

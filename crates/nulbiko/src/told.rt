@@ -29,7 +29,7 @@ pub(crate) const UNREADABLE: u32 = 9;
 pub struct Report {
     /// How many bytes were put at the front of the output.
     pub written: usize,
-    /// Behind how many bytes of the text a limit would be passed, or on which line something is wrong, or 0.
+    /// After how many bytes of the text a limit would be passed, or on which line something is wrong, or 0.
     pub at: u64,
     /// How many moves or steps were made; 2^64 - 1 where there were more.
     pub moves: u64,

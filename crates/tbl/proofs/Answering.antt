@@ -16,7 +16,7 @@ use Rattle.tbl.specs.Words.{ComesTo, IsAnswer, IsBad, Means, Named, Sets, Stands
 use Rattle.tbl.proofs.Parting.{texts-from}
 use Rattle.tbl.proofs.Reading.{Bad-means, Bad-one, Means-one}
 
--- ---- a word, and those behind it
+-- ---- a word, and those after it
 
 pub named : (job : Job) (place : ℕ) (name : List ℕ) (words : List (List ℕ)) (answer : Result Job BadWord) (t : Table) → table_named name ≡ Some t
     → ComesTo false (with_table t job) (place + 1) words answer → ComesTo true job place (name ∷ words) answer

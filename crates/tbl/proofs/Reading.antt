@@ -14,7 +14,7 @@ second v w is = ap (λ (bytes : List ℕ). get_or bytes 1 0) is
 third : (v w : List ℕ) → v ≡ w → get_or v 2 0 ≡ get_or w 2 0
 third v w is = ap (λ (bytes : List ℕ). get_or bytes 2 0) is
 
--- two options that are one word set the same, and the same stands after their fronts
+-- two options that are one word set the same, and the same stands after their prefixes
 same_front : (a b : Which) (v w : List ℕ) → front_of a ++ v ≡ front_of b ++ w → (a ≡ b) × (v ≡ w)
 same_front Formats Formats v w is = (refl, cc)
 same_front Formats Row v w is = absurd (omega (arith, third (front_of Formats ++ v) (front_of Row ++ w) is))

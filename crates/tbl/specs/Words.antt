@@ -36,7 +36,7 @@ least_of Formats = 1
 least_of Row = 64
 least_of Line = 1
 
--- the option sets this: decimal digits stand after its front, and the number that they write is in range
+-- the option sets this: decimal digits stand after its prefix, and the number that they write is in range
 pub record Means (setting : Setting) (word : List ℕ) : Type 0 where
   pub digits : List ℕ
   pub word_is : word ≡ front_of setting.which ++ digits
@@ -92,7 +92,7 @@ Stands false names file table option = file
 Stands true true file table option = table
 Stands true false file table option = option
 
--- it sets something, and the words behind it come to the rest; or it is bad
+-- it sets something, and the words after it come to the rest; or it is bad
 abbrev pub Sets : List ℕ → ℕ → Result Job BadWord → (Setting → Type 0) → Type 0
 Sets word place answer next =
     ((setting : Setting) × Means setting word × next setting)

@@ -95,7 +95,7 @@ fn is_option(word: &str) -> bool
     bytes.len() > 1 && bytes[0] == b'-'
 }
 
-/// What an option sets, and what stands after its front: `-LtN`, `-LrN` or `-lN`.
+/// What an option sets, and what stands after its prefix: `-LtN`, `-LrN` or `-lN`.
 fn split_option(word: &str) -> Option<(Which, &str)>
     ensures found { IfSome result (λ parts. word.now ≡ front_of parts.0 ++ parts.1.now) }
     ensures none { IfNone result ((which : Which) (rest : List ℕ) → word.now ≢ front_of which ++ rest) }

@@ -22,7 +22,7 @@ abbrev pub job_of : Bool → ℕ → List ℕ → Option Table → Result Job Wr
 job_of escapes place word None = Err (wrong_at place word)
 job_of escapes place word (Some table) = Ok (Turn table escapes (place + 1))
 
--- the word at this place names the table, and files stand behind it
+-- the word at this place names the table, and files stand after it
 abbrev pub table_at : Bool → ℕ → Option (List ℕ) → Result Job Wrong
 table_at escapes place None = Err NoTable
 table_at escapes place (Some word) = job_of escapes place word (table_named word)
@@ -43,7 +43,7 @@ asked (word ∷ words) =
     if bytes_eq word (codes "-c") then table_asked true 1 (word ∷ words)
     else table_asked false 0 (word ∷ words)
 
--- no place lies behind that of the last of so many words, but that of the first file where there is none
+-- no place lies after that of the last of so many words, but that of the first file where there is none
 abbrev pub IsWithin : ℕ → Result Job Wrong → Type 0
 IsWithin count (Ok (Turn table escapes files)) = files ≤ count
 IsWithin count (Ok Choose) = 0 < count

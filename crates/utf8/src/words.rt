@@ -17,7 +17,7 @@ pub enum Job {
         /// The place of the first file among the words: there may be none.
         files: usize,
     },
-    /// A table is chosen for the file behind the first word, if there is one.
+    /// A table is chosen for the file after the first word, if there is one.
     Choose,
     /// The version is told.
     Version,
@@ -65,7 +65,7 @@ fn read_table(words: &[&str], at: usize, escapes: bool) -> Result<Job, Wrong>
     }
 }
 
-/// Reads the words behind `--choose`: one file at most.
+/// Reads the words after `--choose`: one file at most.
 fn read_choice(words: &[&str]) -> Result<Job, Wrong>
     requires { 0 < length words.now }
     ensures answer { result ≡ choice_asked (texts words.now) }

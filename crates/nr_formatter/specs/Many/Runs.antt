@@ -96,7 +96,7 @@ abbrev pub is_read : Gap → Bool
 is_read gaps.Left = false
 is_read gap = true
 
--- A front of these bytes was put, and a blank after it read: as many bytes as could be, and the blank where it could be.
+-- A prefix of these bytes was put, and a blank after it read: as many bytes as could be, and the blank where it could be.
 pub record PutsWord (bs : List ℕ) (f : Formatter) (word : WordPut) (g : Formatter) : Type 0 where
   pub front : word.count ≤ length bs
   pub plain : All IsPlain (take word.count bs)

@@ -133,7 +133,7 @@ static ROWS: [Row; 28] = [
         status: 0,
         line: b"",
     },
-    // A word is cut behind a letter alone, and what names a font is left.
+    // A word is cut after a letter alone, and what names a font is left.
     Row {
         words: &[b"preconv", b"names"],
         output: b".TH x\n(a b\\%c \\%d \\f\\*[B]e\n",
@@ -147,7 +147,7 @@ static ROWS: [Row; 28] = [
         status: 0,
         line: b"",
     },
-    // In a manual page an empty line behind `.IP` breaks first, but in a table.
+    // In a manual page an empty line after `.IP` breaks first, but in a table.
     Row {
         words: &[b"preconv", b"tags"],
         output: b".IP a\n\n.TH x\n.IP a\n.br\n\nb\n.IP\ne\n.TS\n.IP\n\n.TE\n.IP \\(bu\n\\&c\n",
