@@ -1,10 +1,10 @@
 -- What is to come after each call, and that a call ends.
-use Rattle.std.proofs.Common.{◌≡◌, ℕ, suc, ◌<◌, List, [], ◌∷◌, ◌++◌, length, take, drop, get_or, Bool, true, false, ◌==◌, ◌&&◌, if◌then◌else◌, Option, None, Some, Result, Ok, Err, refl, sym, ◌∙◌, ap, subst, append-nil, length-append, nat_lt, arith}
+use Rattle.std.proofs.Common.{◌≡◌, ℕ, suc, ◌<◌, List, [], ◌∷◌, ◌++◌, length, take, drop, Bool, true, false, ◌==◌, ◌&&◌, if◌then◌else◌, Option, None, Some, Ok, refl, sym, ◌∙◌, ap, subst, length-append, nat_lt, arith}
 use Rattle.std.proofs.lemmas.Bool.{eqb-true}
 use Rattle.std.proofs.lemmas.List.{nil_from_length}
 use Rattle.std.specs.Prelude.{⊤}
 use Rattle.std.specs.Char.{encode_utf8}
-use Rattle.nr_units.specs.Source.{Supply, Faults, Never, After, Anytime, Gives, Offers, Skips, MayGiveAll}
+use Rattle.nr_units.specs.Source.{Supply, Anytime, Gives, Offers, Skips}
 use Rattle.nr_units.specs.declared.source.Fault.{Fault}
 use Rattle.nr_coding.specs.declared.part.Part.{Part}
 use Rattle.nr_coding.specs.declared.part.Part.TheVariants.{Start, Mark, LongMark, Head, Plain, Unknown, Eight, Wide}
@@ -14,8 +14,8 @@ use Rattle.nr_coding.specs.Sets.{character_of as set_character}
 use Rattle.nr_coding.specs.declared.wide.Units.{Units}
 use Rattle.nr_coding.specs.declared.wide.Wide.{Wide as Wides}
 use Rattle.nr_coding.specs.Wide.{replacement, character_of, is_high, is_low, pair_code, unit, first_wide, fresh, behind_high, behind_first}
-use Rattle.nr_coding.specs.Part.{taken, ended, is_marking, is_plain}
-use Rattle.nr_coding.specs.UnderCoding.{text_from, given, supply_from, hand_of}
+use Rattle.nr_coding.specs.Part.{taken, is_marking, is_plain}
+use Rattle.nr_coding.specs.UnderCoding.{text_from, supply_from, hand_of}
 
 -- what was known is as it was
 abbrev pub Stays : Option Supply → Option Supply → Type 0
@@ -26,14 +26,6 @@ Stays-trans : (a b c : Option Supply) → Stays a b → Stays b c → Stays a c
 Stays-trans None b c p q = tt
 Stays-trans (Some x) None c p q = cc
 Stays-trans (Some x) (Some y) c p q = q ∙ p
-
-pub Stays-first : (a : Option Supply) → Stays a a
-Stays-first None = tt
-Stays-first (Some q) = refl
-
-Stays-gives : (a b c : Option Supply) (r : Result (Option ℕ) Fault) → Stays a b → Gives b r c → Gives a r c
-Stays-gives None b c r p q = tt
-Stays-gives (Some x) b c r p q = subst (λ (known : Option Supply). Gives known r c) p q
 
 -- ---- one call
 
@@ -49,61 +41,6 @@ pub byte_stays : (a : Option Supply) (part : Part) (b : ℕ) (ready : List ℕ) 
     → Stays a (supply_from (taken b part).part (taken b part).text new)
 byte_stays a part b ready known new none stays gives =
     Stays-trans a (supply_from part [] known) _ (subst (λ (xs : List ℕ). Stays a (supply_from part xs known)) none stays) (byte_came part b known new gives)
-
--- the end came
-end_same : (part : Part) (q t : Supply) → q.bytes ≡ [] → t ≡ q → given Plain (ended part) t ≡ given part [] q
-end_same part q t none same =
-    let left : t.bytes ≡ [] = ap (λ (s : Supply). s.bytes) same ∙ none in
-    let P : List ℕ → Supply = λ bytes. record { bytes = bytes; faults = Anytime } in
-    ap (λ (bytes : List ℕ). P (ended part ++ text_from Plain bytes)) left
-    ∙ ap P (append-nil (ended part))
-    ∙ ap (λ (bytes : List ℕ). P (text_from part bytes)) (sym none)
-
-end_came : (part : Part) (known new : Option Supply) → Gives {E = Fault} known (Ok None) new → Stays (supply_from part [] known) (supply_from Plain (ended part) new)
-end_came part None new gives = tt
-end_came part (Some q) None gives = absurd gives
-end_came part (Some q) (Some t) gives = ap (λ (s : Supply). Some s) (end_same part q t gives.0 gives.1)
-
-pub end_stays : (a : Option Supply) (part : Part) (ready : List ℕ) (known new : Option Supply) → ready ≡ [] → Stays a (supply_from part ready known) → Gives {E = Fault} known (Ok None) new
-    → Stays a (supply_from Plain (ended part) new)
-end_stays a part ready known new none stays gives =
-    Stays-trans a (supply_from part [] known) _ (subst (λ (xs : List ℕ). Stays a (supply_from part xs known)) none stays) (end_came part known new gives)
-
-end_told : (part : Part) (known new : Option Supply) → Gives {E = Fault} known (Ok None) new → ended part ≡ []
-    → Gives {E = Fault} (supply_from part [] known) (Ok None) (supply_from part [] new)
-end_told part None new gives none = tt
-end_told part (Some q) None gives none = absurd gives
-end_told part (Some q) (Some t) gives none = (ap (text_from part) gives.0 ∙ none, ap (given part []) gives.1, tt)
-
-pub end_gives : (a : Option Supply) (part : Part) (ready : List ℕ) (known new : Option Supply) → ready ≡ [] → Stays a (supply_from part ready known) → Gives {E = Fault} known (Ok None) new → ended part ≡ []
-    → Gives {E = Fault} a (Ok None) (supply_from part ready new)
-end_gives a part ready known new none stays gives last =
-    let told = end_told part known new gives last in
-    let with_ready = subst (λ (xs : List ℕ). Gives {E = Fault} (supply_from part xs known) (Ok None) (supply_from part xs new)) (sym none) told in
-    Stays-gives a (supply_from part ready known) _ (Ok None) stays with_ready
-
--- a call failed
-fault_told : (part : Part) (ready : List ℕ) (known new : Option Supply) (e : Fault) → Gives known (Err e) new → Gives (supply_from part ready known) (Err e) (supply_from part ready new)
-fault_told part ready None new e gives = tt
-fault_told part ready (Some q) None e gives = absurd gives
-fault_told part ready (Some q) (Some t) e gives = (ap (given part ready) gives.0, tt)
-
-pub fault_gives : (a : Option Supply) (part : Part) (ready : List ℕ) (known new : Option Supply) (e : Fault) → Stays a (supply_from part ready known) → Gives known (Err e) new
-    → Gives a (Err e) (supply_from part ready new)
-fault_gives a part ready known new e stays gives =
-    Stays-gives a (supply_from part ready known) _ (Err e) stays (fault_told part ready known new e gives)
-
--- the first byte of what is ready goes out
-ready_told : (part : Part) (ready : List ℕ) (known : Option Supply) → 0 < length ready
-    → Gives {E = Fault} (supply_from part ready known) (Ok (Some (get_or ready 0 0))) (supply_from part (drop 1 ready) known)
-ready_told part [] known some = absurd (omega arith)
-ready_told part (b ∷ rest) None some = tt
-ready_told part (b ∷ rest) (Some q) some = (refl, refl, tt)
-
-pub ready_gives : (a : Option Supply) (part : Part) (ready : List ℕ) (known : Option Supply) → 0 < length ready → Stays a (supply_from part ready known)
-    → Gives {E = Fault} a (Ok (Some (get_or ready 0 0))) (supply_from part (drop 1 ready) known)
-ready_gives a part ready known some stays =
-    Stays-gives a (supply_from part ready known) _ (Ok (Some (get_or ready 0 0))) stays (ready_told part ready known some)
 
 -- ---- bytes at hand
 
@@ -129,15 +66,6 @@ as_it_is (Wide w) is bs = absurd (let no : false ≡ true = is in cc)
 pub plain_offers : (part : Part) → is_plain part ≡ true → (known : Option Supply) (bs : List ℕ) → Offers known bs → Offers (supply_from part [] known) bs
 plain_offers part is None bs offers = tt
 plain_offers part is (Some q) bs offers = (ap (take (length bs)) (as_it_is part is q.bytes) ∙ offers.0, tt)
-
-pub none_offered : (known : Option Supply) → Offers known []
-none_offered None = tt
-none_offered (Some q) = (refl, may_give_none q.faults)
-  where
-    may_give_none : (f : Faults) → MayGiveAll 0 f
-    may_give_none Never = tt
-    may_give_none (After m) = omega arith
-    may_give_none Anytime = tt
 
 pub plain_skips : (part : Part) → is_plain part ≡ true → (known new : Option Supply) (n : ℕ) → Skips known n new → Skips (supply_from part [] known) n (supply_from part [] new)
 plain_skips part is None new n skips = tt

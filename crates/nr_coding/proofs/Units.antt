@@ -33,10 +33,6 @@ if_first : {T : Type 0} (x : Bool) (a b : T) → x ≡ true → (if x then a els
 if_first true a b is = refl
 if_first false a b is = absurd (let no : false ≡ true = is in cc)
 
-if_second : {T : Type 0} (x : Bool) (a b : T) → x ≡ false → (if x then a else b) ≡ b
-if_second false a b is = refl
-if_second true a b is = absurd (let no : true ≡ false = is in cc)
-
 high_no : (c : ℕ) → scalar c ≡ true → c < 0x10000 → is_high c ≡ false
 high_no c is small = grind (arith, nat_tests)
 

@@ -106,10 +106,6 @@ in_place-add n m e f g a b = record {
 pub in_place-none : (e : Shape) → MakesInPlace 0 e e
 in_place-none e = record { makes = λ supply. makes_none e supply; place = refl }
 
--- none were made, and then some
-pub in_place-later : (n m : ℕ) (e f g : Shape) → n ≡ 0 → MakesInPlace n e f → MakesInPlace m f g → MakesInPlace m e g
-in_place-later n m e f g none a b = let same : n + m ≡ m = omega (arith, none) in subst (λ k. MakesInPlace k e g) same (in_place-add n m e f g a b)
-
 -- some were made, and then none
 pub in_place-before : (n m : ℕ) (e f g : Shape) → m ≡ 0 → MakesInPlace n e f → MakesInPlace m f g → MakesInPlace n e g
 in_place-before n m e f g none a b = let same : n + m ≡ n = omega (arith, none) in subst (λ k. MakesInPlace k e g) same (in_place-add n m e f g a b)

@@ -1,6 +1,6 @@
 -- Requests, and what is read beside text, splice nothing.
 use Rattle.std.proofs.Common.{ℕ, ◌≤◌, List, Bool, true, false, if◌then◌else◌, Option, Some, None, ℤ, pos, negsuc}
-use Rattle.std.specs.Prelude.{◌&&◌, ◌||◌, not, nat_lt, int_lt, is_none}
+use Rattle.std.specs.Prelude.{◌&&◌, not, nat_lt, int_lt, is_none}
 use Rattle.nr_store.specs.declared.request.Request.{Request}
 use Rattle.nr_store.specs.declared.request.Request.TheVariants as requests
 use Rattle.nr_store.specs.Store.{is_held}
@@ -17,22 +17,16 @@ use Rattle.nr_settings.specs.declared.traps.PageTrap.{PageTrap}
 use Rattle.nr_settings.specs.declared.traps.PageTrap.TheVariants as page_traps
 use Rattle.nr_settings.specs.declared.traps.TrapMove.{TrapMove}
 use Rattle.nr_units.specs.declared.number_text.Format.{Format}
-use Rattle.nr_reading.specs.declared.event.Event.{Event}
-use Rattle.nr_reading.specs.declared.event.Event.TheVariants as events
 use Rattle.nr_formatter.specs.declared.formatter.Formatter.{Formatter}
 use Rattle.nr_formatter.specs.declared.built_in.BuiltInRegister.{BuiltInRegister}
 use Rattle.nr_formatter.specs.declared.built_in.BuiltInRegister.TheVariants as given
 use Rattle.nr_formatter.specs.declared.paper.PageState.{PageState}
 use Rattle.nr_formatter.specs.declared.paper.PageState.TheVariants as states
-use Rattle.nr_formatter.specs.declared.tasks.Task.{Task}
-use Rattle.nr_formatter.specs.declared.tasks.Task.TheVariants as tasks
 use Rattle.nr_formatter.specs.Access.{line, long, spacing, diversion}
 use Rattle.nr_formatter.specs.BuiltIn.{given_named}
-use Rattle.nr_formatter.specs.Moves.{control, gone_on}
 use Rattle.nr_formatter.specs.Names as naming
 use Rattle.nr_formatter.specs.Numbering as numbering
-use Rattle.nr_formatter.specs.Pages.{turned}
-use Rattle.nr_formatter.specs.Places.{is_open, is_diverting, outlet, present_place, page_place, distance_below, to_read}
+use Rattle.nr_formatter.specs.Places.{is_diverting, outlet, present_place, page_place, distance_below, to_read}
 use Rattle.nr_formatter.specs.Registers as registers
 use Rattle.nr_formatter.specs.Requests.{act}
 use Rattle.nr_formatter.specs.Spacing as spaces
@@ -42,9 +36,6 @@ use Rattle.nr_store.specs.Store.{newest_diversion, diversion_ended}
 use Rattle.nr_settings.specs.declared.traps.DiversionTrap.{DiversionTrap}
 use Rattle.nr_settings.specs.declared.traps.DiversionTrap.TheVariants as diversion_traps
 use Rattle.nr_formatter.specs.Diversions as diversions
-use Rattle.nr_formatter.specs.Ending as ending
-use Rattle.nr_formatter.specs.declared.tasks.Step.{Step}
-use Rattle.nr_formatter.specs.declared.tasks.Step.TheVariants as steps
 
 -- the splices after the last byte are no more than they may be
 abbrev pub IsCalm : Formatter → Type 0
@@ -125,9 +116,6 @@ calm-bp_at states.Unbegun n f h = h
 calm-bp_at states.Open n f h = calm-number_next n f h
 calm-bp_at states.Closed n f h = calm-number_next n f h
 
-calm-turned : (b : Bool) (f : Formatter) → IsCalm f → IsCalm (turned b f)
-calm-turned b f h = calm-if (is_open f.paper.state && (b || not f.settings.pages.no_space)) _ _ h h
-
 -- ---- vertical space
 
 calm-sp_by : (n : ℤ) (f : Formatter) → IsCalm f → IsCalm (spaces.sp_by n f)
@@ -163,10 +151,6 @@ calm-with_diversion_trap (diversion_traps.Set place name) f h = h
 calm-with_diversion_trap diversion_traps.Remove f h = h
 calm-with_diversion_trap diversion_traps.Nothing f h = h
 
-calm-finish_at : (s : Step) (f : Formatter) → IsCalm f → IsCalm (ending.finish_at s f)
-calm-finish_at steps.Diversions f h = calm-if (is_diverting (newest_diversion f.store.building)) _ _ (calm-end_diversion f h) h
-calm-finish_at s f h = h
-
 -- ---- requests
 
 pub calm-act : (r : Request) (f : Formatter) → IsCalm f → IsCalm (act r f)
@@ -189,15 +173,3 @@ calm-act requests.Rt f h = calm-returned (space_lines.rt (line f) (spacing f) (p
 calm-act requests.Sp f h = calm-sp_by (space_lines.sp (line f) (spacing f) (present_place f)) f h
 calm-act requests.Wh f h = calm-with_page_trap (trap_lines.wh (line f) (long f) (spacing f) (present_place f)) f h
 calm-act r f h = h
-
--- ---- what is read beside text, and what goes on
-
-pub calm-control : (e : Event) (f : Formatter) → IsCalm f → IsCalm (control e f)
-calm-control (events.DivertedEnd None) f h = h
-calm-control (events.DivertedEnd (Some height)) f h = h
-calm-control e f h = h
-
-pub calm-gone_on : (t : Task) (f : Formatter) → IsCalm f → IsCalm (gone_on t f)
-calm-gone_on (tasks.Turn b) f h = calm-turned b f h
-calm-gone_on tasks.Finish f h = calm-finish_at f.step f h
-calm-gone_on t f h = h

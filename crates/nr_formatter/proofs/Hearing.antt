@@ -6,7 +6,6 @@ use Rattle.nr_fill.specs.declared.line.LineCells.{LineCells}
 use Rattle.nr_fill.specs.Piece.{line_cells}
 use Rattle.nr_fill.specs.Line as lined
 use Rattle.nr_store.specs.declared.request.Request.{Request}
-use Rattle.nr_input.specs.declared.refusal.Refusal.{Refusal}
 use Rattle.nr_reading.specs.declared.event.Event.{Event}
 use Rattle.nr_formatter.specs.declared.formatter.Formatter.{Formatter}
 use Rattle.nr_formatter.specs.declared.built_in.BuiltInRegister.{BuiltInRegister}
@@ -28,10 +27,6 @@ use Rattle.nr_formatter.proofs.TextKeeps.{Keeps, keeps-text, keeps-title, judged
 pub ok_line : (r : Result (Unit {0}) LineCells) (answer : Result (Unit {0}) Passed) (f g h : Formatter) → answer ≡ line_answer r → g ≡ h → OnOk r (f ≡ g) → OnOk answer (f ≡ h)
 ok_line (Ok x) answer f g h same is ok = subst (λ a. OnOk a (f ≡ h)) (sym same) (ok ∙ is)
 ok_line (Err e) answer f g h same is ok = subst (λ a. OnOk a (f ≡ h)) (sym same) tt
-
-pub ok_splice : (r : Result (Unit {0}) Refusal) (answer : Result (Unit {0}) Passed) (f g h : Formatter) → answer ≡ splice_answer r → g ≡ h → OnOk r (f ≡ g) → OnOk answer (f ≡ h)
-ok_splice (Ok x) answer f g h same is ok = subst (λ a. OnOk a (f ≡ h)) (sym same) (ok ∙ is)
-ok_splice (Err e) answer f g h same is ok = subst (λ a. OnOk a (f ≡ h)) (sym same) tt
 
 -- ---- text
 

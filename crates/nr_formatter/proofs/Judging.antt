@@ -3,7 +3,6 @@ use Rattle.std.proofs.Common.{◌≡◌, ◌≤◌, length, Bool, true, false, R
 use Rattle.std.proofs.lemmas.Bool.{le-ltb}
 use Rattle.nr_fill.specs.Piece.{line_cells}
 use Rattle.nr_fill.specs.Line as lined
-use Rattle.nr_store.specs.declared.refusal.StoredBytes.{StoredBytes}
 use Rattle.nr_store.specs.Store as stored
 use Rattle.nr_input.specs.declared.refusal.Refusal.{Refusal}
 use Rattle.nr_input.specs.declared.refusal.Refusal.TheVariants as refusals
@@ -58,11 +57,3 @@ judged_line g charge depth burst =
 -- a move that splices
 pub judged_splice : (g : Formatter) → line_cells (collected g) ≤ g.line.limit → judged g ≡ splice_answer (splice_checked g)
 judged_splice g line = splice_by _ _ _ _ (le-ltb g.line.limit (line_cells (collected g)) line)
-
--- what is refused by the store is refused first
-abbrev stored_result : Bool → Result (Unit {0}) StoredBytes
-stored_result s = if s then Err (record {}) else Ok tt
-
-refused_by : (s d l b : Bool) (e : StoredBytes) → stored_result s ≡ Err e → tested s d l b ≡ Err measures.Stored
-refused_by true d l b e _ = refl
-refused_by false d l b e h = cc

@@ -2,13 +2,11 @@ pub mod Below
 pub mod Calm
 pub mod CellBytes
 pub mod CellBytesAtOnce
-pub mod Cells
 pub mod DivertedFalls
 pub mod DivertedRows
 pub mod EmptyLines
 pub mod Falling
 pub mod Filled
-pub mod GivenNames
 pub mod Hearing
 pub mod HearingFalls
 pub mod HeldRows

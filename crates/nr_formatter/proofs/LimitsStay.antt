@@ -1,52 +1,34 @@
 -- No call changes the limits, whether it is refused or not.
-use Rattle.std.specs.Prelude.{OnOk, OnErr, ◌&&◌, ◌||◌, not, nat_lt, int_lt, is_none, length}
-use Rattle.std.proofs.Common.{◌≡◌, ℕ, suc, ◌+◌, ◌-◌, Bool, true, false, if◌then◌else◌, List, [], ◌∷◌, Option, None, Some, Result, Ok, Err, ℤ, pos, negsuc, refl, ap, ◌∙◌}
-use Rattle.nr_fill.specs.Line.{Lined}
+use Rattle.std.specs.Prelude.{◌&&◌, not, nat_lt, int_lt, is_none, length}
+use Rattle.std.proofs.Common.{◌≡◌, ℕ, suc, ◌+◌, ◌-◌, Bool, true, false, if◌then◌else◌, List, [], Option, None, Some, ℤ, pos, negsuc, refl, ap}
 use Rattle.nr_input.specs.Limits as input
 use Rattle.nr_input.specs.declared.reader.Reader.{Reader}
 use Rattle.nr_symbol_tables.specs.Table.{find, is_same}
-use Rattle.nr_store.specs.declared.element.Diversion.{Diversion}
 use Rattle.nr_store.specs.declared.register.Register.{Register}
-use Rattle.nr_store.specs.Store.{Stored, Built, Means, named_newest, ended_by, moved, renamed, worded, written, newest_diversion, diversion_ended, is_held, unregistered}
+use Rattle.nr_store.specs.Store.{Stored, Means, moved, renamed, worded, written, unregistered}
 use Rattle.nr_settings.specs.Arguments.{name_in}
 use Rattle.nr_settings.specs.Spacing as space_lines
 use Rattle.nr_settings.specs.Traps as trap_lines
 use Rattle.nr_settings.specs.declared.traps.DiversionTrap.{DiversionTrap}
 use Rattle.nr_settings.specs.declared.traps.DiversionTrap.TheVariants as diversion_traps
 use Rattle.nr_settings.specs.declared.traps.TrapMove.{TrapMove}
-use Rattle.nr_reading.specs.declared.event.Event.{Event}
-use Rattle.nr_reading.specs.declared.event.Event.TheVariants as events
 use Rattle.nr_formatter.specs.declared.formatter.Formatter.{Formatter}
-use Rattle.nr_formatter.specs.declared.built_in.BuiltInRegister.{BuiltInRegister}
-use Rattle.nr_formatter.specs.declared.built_in.BuiltInRegister.TheVariants as given
 use Rattle.nr_formatter.specs.declared.paper.PageState.{PageState}
 use Rattle.nr_formatter.specs.declared.paper.PageState.TheVariants as states
-use Rattle.nr_formatter.specs.declared.tasks.Ejected.TheVariants as ejecteds
 use Rattle.nr_formatter.specs.declared.tasks.Resume.{Resume}
-use Rattle.nr_formatter.specs.declared.tasks.Room.{Room}
-use Rattle.nr_formatter.specs.declared.tasks.Room.TheVariants as rooms
-use Rattle.nr_formatter.specs.declared.tasks.Step.{Step}
-use Rattle.nr_formatter.specs.declared.tasks.Step.TheVariants as steps
-use Rattle.nr_formatter.specs.declared.tasks.Task.{Task}
-use Rattle.nr_formatter.specs.declared.tasks.Task.TheVariants as tasks
 use Rattle.nr_formatter.specs.Access.{line, long, spacing, diversion}
 use Rattle.nr_formatter.specs.Diversions as diversions
-use Rattle.nr_formatter.specs.Ending as ending
 use Rattle.nr_formatter.specs.BuiltIn.{given_named}
 use Rattle.nr_formatter.specs.Limits.{StoredLimits, stored_limits, limits_of}
-use Rattle.nr_formatter.specs.Moves as moves
 use Rattle.nr_formatter.specs.Names as naming
 use Rattle.nr_formatter.specs.Numbering as numbering
 use Rattle.nr_formatter.specs.Pages as pages
-use Rattle.nr_formatter.specs.Places.{is_diverting, is_open, outlet, page_place, present_place, distance_below, to_read}
+use Rattle.nr_formatter.specs.Places.{is_diverting, outlet, page_place, present_place, distance_below, to_read}
 use Rattle.nr_formatter.specs.Registers as registers
 use Rattle.nr_formatter.specs.Spacing as spaces
 use Rattle.nr_formatter.specs.Traps as traps
 
 -- ---- where a part of the formatter keeps its limits
-
-pub line-limits : (f : Formatter) (l : Lined) → l.limit ≡ f.line.limit → limits_of (record f { line = l }) ≡ limits_of f
-line-limits f l same = ap (λ n. record (limits_of f) { cells = n }) same
 
 pub store-limits : (f : Formatter) (v : Stored Resume) → stored_limits v ≡ stored_limits f.store → limits_of (record f { store = v }) ≡ limits_of f
 store-limits f v same = ap (λ (l : StoredLimits). record (limits_of f) { stored = l.stored; depth = l.depth }) same
@@ -55,14 +37,6 @@ pub input-limits : (f : Formatter) (v : Stored Resume) (r : Reader) → input.li
 input-limits f v r same = ap (λ (l : input.Limits). record (limits_of f) { stored = l.stored; depth = l.depth; expansions = l.expansions }) same
 
 -- ---- what is stored
-
-named-limits : (building : List Built) (name : List ℕ) (v : Stored Resume) → stored_limits (named_newest building name v) ≡ stored_limits v
-named-limits [] name v = refl
-named-limits (b ∷ bs) name v = refl
-
-ended-limits : (d : Option Diversion) (v : Stored Resume) → stored_limits (ended_by d v) ≡ stored_limits v
-ended-limits None v = refl
-ended-limits (Some d) v = named-limits v.building d.name v
 
 moved-limits : (m : Option Means) (from to : List ℕ) (v : Stored Resume) → stored_limits (moved m from to v) ≡ stored_limits v
 moved-limits None from to v = refl
@@ -148,15 +122,6 @@ with_diversion_trap-limits diversion_traps.Nothing f = refl
 pub dt-limits : (f : Formatter) → limits_of (diversions.dt f) ≡ limits_of f
 dt-limits f = with_diversion_trap-limits (trap_lines.dt (line f) (long f) (spacing f) (present_place f)) f
 
-measured-limits : (d : Option Diversion) (f : Formatter) → limits_of (diversions.measured d f) ≡ limits_of f
-measured-limits None f = refl
-measured-limits (Some d) f = refl
-
-pub end_diversion-limits : (f : Formatter) → limits_of (diversions.end_diversion f) ≡ limits_of f
-end_diversion-limits f =
-    let d = newest_diversion f.store.building in
-    measured-limits d (record f { store = diversion_ended f.store }) ∙ store-limits f (diversion_ended f.store) (ended-limits d f.store)
-
 without_name-limits : (name : Option (List ℕ)) (f : Formatter) → limits_of (naming.without_name name f) ≡ limits_of f
 without_name-limits None f = refl
 without_name-limits (Some name) f = refl
@@ -178,37 +143,3 @@ register_removed-limits (Some name) f = either-limits (is_none (given_named name
 
 pub rr-limits : (f : Formatter) → limits_of (registers.rr f) ≡ limits_of f
 rr-limits f = register_removed-limits (name_in (long f) (line f)) (to_read f)
-
-given_set-limits : (r : BuiltInRegister) (n : ℤ) (f : Formatter) → limits_of (registers.given_set r n f) ≡ limits_of f
-given_set-limits given.Page n f = refl
-given_set-limits given.Height n f = refl
-given_set-limits given.Width n f = refl
-given_set-limits r n f = refl
-
-pub set_given-limits : (r : BuiltInRegister) (name : List ℕ) (n : ℤ) (step : Option ℤ) (f : Formatter) → limits_of (registers.register_set_by (Some r) name n step f) ≡ limits_of f
-set_given-limits r name n step f = either-limits (is_held n) f (registers.given_set r n f) f (given_set-limits r n f) refl
-
-turned-limits : (given : Bool) (f : Formatter) → limits_of (pages.turned given f) ≡ limits_of f
-turned-limits given f =
-    either-limits (is_open f.paper.state && (given || not f.settings.pages.no_space)) f (record f { paper = record f.paper { ejecting = true }; task = tasks.Eject ejecteds.Request }) (to_read f) refl refl
-
-finish_at-limits : (s : Step) (f : Formatter) → limits_of (ending.finish_at s f) ≡ limits_of f
-finish_at-limits steps.Diversions f = either-limits (is_diverting (newest_diversion f.store.building)) f (diversions.end_diversion f) (ending.eject_last f) (end_diversion-limits f) refl
-finish_at-limits s f = refl
-
--- what is under way and adds nothing to what has a limit
-pub gone_on-limits : (t : Task) (f : Formatter) → limits_of (moves.gone_on t f) ≡ limits_of f
-gone_on-limits (tasks.Turn given) f = turned-limits given f
-gone_on-limits tasks.Finish f = finish_at-limits f.step f
-gone_on-limits t f = refl
-
--- what was read and is no text
-pub control-limits : (e : Event) (f : Formatter) → limits_of (moves.control e f) ≡ limits_of f
-control-limits (events.DivertedEnd None) f = refl
-control-limits (events.DivertedEnd (Some height)) f = refl
-control-limits e f = refl
-
--- there is room for what is read then
-pub read_in-limits : (room : Room) (f : Formatter) → limits_of (moves.read_in room f) ≡ limits_of f
-read_in-limits rooms.Title f = refl
-read_in-limits rooms.Line f = refl

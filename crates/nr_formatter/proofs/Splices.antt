@@ -1,9 +1,8 @@
 -- What a spring answers is what judges the move.
 use Rattle.std.specs.Prelude.{is_some, length}
 use Rattle.std.proofs.lemmas.Bool.{le-ltb}
-use Rattle.std.proofs.Common.{◌≡◌, ℕ, ◌≤◌, Bool, true, false, List, Option, None, Some, Result, Ok, Err, refl, ap}
+use Rattle.std.proofs.Common.{◌≡◌, ℕ, Bool, true, false, List, Option, None, Some, Result, Ok, Err, refl, ap}
 use Rattle.nr_symbol_tables.specs.Table.{find}
-use Rattle.nr_fill.specs.Piece.{line_cells}
 use Rattle.nr_store.specs.declared.element.Element.{Element}
 use Rattle.nr_store.specs.Store.{Stored, charge_of, entered, words}
 use Rattle.nr_input.specs.Refusal.{Called, called, answered, splicing_answer}
@@ -11,14 +10,9 @@ use Rattle.nr_input.specs.Splicing.{springing, springing_text}
 use Rattle.nr_input.specs.declared.reader.Reader.{Reader}
 use Rattle.nr_input.specs.declared.refusal.Refusal.{Refusal}
 use Rattle.nr_formatter.specs.declared.formatter.Formatter.{Formatter}
-use Rattle.nr_formatter.specs.Access.{collected}
 use Rattle.nr_formatter.specs.Limits.{IsWithin}
 use Rattle.nr_formatter.specs.Registers.{splice_checked}
 use Rattle.nr_formatter.specs.Springing.{sprung_text}
-
-text_within : (f : Formatter) (name : List ℕ) (text : Option (List Element)) → line_cells (collected f) ≤ f.line.limit → line_cells (collected (sprung_text name text f)) ≤ (sprung_text name text f).line.limit
-text_within f name None h = h
-text_within f name (Some text) h = h
 
 -- ---- a name without text
 

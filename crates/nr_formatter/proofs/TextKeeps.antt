@@ -17,10 +17,10 @@ use Rattle.nr_formatter.specs.declared.tasks.Resume.{Resume}
 use Rattle.nr_input.specs.declared.reader.Reader.{Reader}
 use Rattle.nr_formatter.specs.Access.{is_filling, asked}
 use Rattle.nr_formatter.specs.Lines.{reads_a_field}
-use Rattle.nr_formatter.specs.Text.{blank, tab, text_byte, special_at, special, blanks_dropped, line_end, finish_dash, text}
+use Rattle.nr_formatter.specs.Text.{blank, tab, text_byte, special_at, special, blanks_dropped, line_end, text}
 use Rattle.nr_formatter.specs.Limits.{IsWithin, judged}
 use Rattle.nr_formatter.specs.Passed.{line_answer}
-use Rattle.nr_formatter.specs.Titles.{reads_title, title_special, title}
+use Rattle.nr_formatter.specs.Titles.{title_special, title}
 use Rattle.nr_formatter.proofs.Judging.{judged_line}
 
 -- g has the store, the reader and the line's limit of f
@@ -83,9 +83,6 @@ keeps-title_special (Some s) f = record { store = refl; reader = refl; limit = r
 pub keeps-title : (e : Event) (f : Formatter) → Keeps f (title e f)
 keeps-title events.Special f = keeps-title_special (special_of (asked f)) f
 keeps-title e f = record { store = refl; reader = refl; limit = refl }
-
-pub keeps-finish_dash : (f : Formatter) → Keeps f (finish_dash f)
-keeps-finish_dash f = keeps-if (reads_title f) f _ _ (record { store = refl; reader = refl; limit = refl }) (record { store = refl; reader = refl; limit = refl })
 
 -- such a move is refused by the line alone
 pub judged-keeps : (f g : Formatter) → Keeps f g → IsWithin f → judged g ≡ line_answer (afforded g.line)

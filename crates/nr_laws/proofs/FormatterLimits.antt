@@ -97,10 +97,6 @@ module _ (b : Bounds) where
 
   -- ---- words and lines
 
-  pointed-under : (f : Formatter) → lines.pointed (under b f) ≡ lines.pointed f
-  unfolding lines.pointed
-  pointed-under f = refl
-
   word_ended-under : (f : Formatter) → lines.word_ended (under b f) ≡ under b (lines.word_ended f)
   unfolding lines.pointed
   word_ended-under f = refl

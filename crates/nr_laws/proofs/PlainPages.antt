@@ -180,10 +180,6 @@ above-more n m (l ∷ ls) h a = (let x = a.0 in omega arith, above-more n m ls h
 abbrev pub lines_ink : List Placed → List ℕ
 lines_ink ls = flat_map (λ (l : Placed). ink l.cells) ls
 
-ascends-less : (j k : ℕ) (ls : List Placed) → j ≤ k → Ascends k ls → Ascends j ls
-ascends-less j k [] h a = tt
-ascends-less j k (l ∷ ls) h a = (let x = a.0 in omega arith, a.1)
-
 -- the row of another
 pub other_row : (l : Placed) (ls : List Placed) (r : ℕ) → (l.row == r) ≡ false → on_row (l ∷ ls) r ≡ on_row ls r
 other_row l ls r is = if-false (l.row == r) (l ∷ on_row ls r) (on_row ls r) is

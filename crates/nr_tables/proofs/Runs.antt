@@ -127,14 +127,6 @@ faults-counted : (b : Bool) (c d : SinkFailures) (f : Bool) → d ≡ put_counte
 faults-counted b c d true counted is = counted ∙ ap (λ (x : Bool). put_counted_if x c) is
 faults-counted b c d false counted is = counted ∙ ap (λ (x : Bool). put_counted_if x c) is
 
--- a read fault is told as it was found, but where the output failed in the end
-pub reads-end : (wanted o : Outcome) (before after : ℕ) (t : Tape) → reading.TellsReads wanted before after → EndsAs wanted o t → reading.TellsReads o before after
-reads-end wanted o before after t tells (inl (same, live, empty)) = subst (λ x. reading.TellsReads x before after) (sym same) tells
-reads-end Done o before after t tells (inr (same, fails)) = subst (λ x. reading.TellsReads x before after) (sym same) (inl tells)
-reads-end (ReadFault at) o before after t tells (inr (same, fails)) = subst (λ x. reading.TellsReads x before after) (sym same) (inr tells)
-reads-end TooLong o before after t tells (inr (same, fails)) = subst (λ x. reading.TellsReads x before after) (sym same) (inl tells)
-reads-end WriteFault o before after t tells (inr (same, fails)) = subst (λ x. reading.TellsReads x before after) (sym same) tells
-
 -- what a run comes to, and what stays of what was lent
 pub record RunsTo (g : Signs) (l : Limits) (cells : ℕ) (first last : Option Supply) (s : Shown) (b : Tape) (table : MutBor Table) (kept : MutBor (Items Complaint)) (missed : Bool) (o : Outcome) : Type 0 where
   pub ran : Ran g l cells first last s.held b.held kept.now missed o

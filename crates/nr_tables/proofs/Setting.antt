@@ -13,7 +13,7 @@ use Rattle.nr_layout.proofs.Tapes.{draws_as, draws_same, draws_then}
 use Rattle.nr_layout.specs.Pens.{Stroke, after_all, bytes_of}
 use Rattle.nr_layout.specs.Tapes.{Tape, Draws}
 use Rattle.nr_tables.specs.Hearing.{line_heard}
-use Rattle.nr_tables.specs.Setting.{Becomes, IsSame, Keeps, Notes, Shown, Shows, block_added, block_byte, block_strokes, hears, relief, relieved, room_strokes, set, set_in, strokes, strokes_in, wrong_in, wrongs}
+use Rattle.nr_tables.specs.Setting.{Becomes, Keeps, Notes, Shown, Shows, block_added, block_byte, block_strokes, hears, relief, relieved, room_strokes, set, set_in, strokes, strokes_in, wrong_in, wrongs}
 
 -- ---- what is known once pieces were heard
 
@@ -76,13 +76,6 @@ wrongs-said tells.TableEnd text = refl
 wrongs-said tells.Plain text = refl
 wrongs-said tells.PlainEnd text = refl
 wrongs-said (tells.Wrong c) text = refl
-
--- nothing was told
-pub notes-nothing : (old new : MutBor (Items Complaint)) (before missed : Bool) → IsSame old before new missed → Notes old new before missed []
-notes-nothing old new before missed same =
-    subst (λ m. Notes old new before m []) (sym same.1)
-    (subst (λ n. Notes old n before before []) (sym same.0)
-    (record { same = refl; room = refl; keeps = λ all keeps. subst (λ l. Keeps l old.now before) (sym (append-nil all)) keeps }))
 
 -- text that passes goes out as it is
 pass-pen : (text : List ℕ) (t : Table) (p : Pen) → after_all (strokes (each tells.Pass text) t) p ≡ p
