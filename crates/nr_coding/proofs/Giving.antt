@@ -13,7 +13,7 @@ use Rattle.nr_coding.specs.declared.tag.Head.{Head as Heads}
 use Rattle.nr_coding.specs.Sets.{character_of as set_character}
 use Rattle.nr_coding.specs.declared.wide.Units.{Units}
 use Rattle.nr_coding.specs.declared.wide.Wide.{Wide as Wides}
-use Rattle.nr_coding.specs.Wide.{replacement, character_of, is_high, is_low, pair_code, unit, first_wide, fresh, behind_high, behind_first}
+use Rattle.nr_coding.specs.Wide.{replacement, character_of, is_high, is_low, pair_code, unit, first_wide, fresh, after_high, after_first}
 use Rattle.nr_coding.specs.Part.{taken, is_marking, is_plain}
 use Rattle.nr_coding.specs.UnderCoding.{text_from, supply_from, hand_of}
 
@@ -117,8 +117,8 @@ pub encoded : (c : ℕ) → 0 < length (encode_utf8 c)
 unfolding encode_utf8
 encoded c = some_split (nat_lt c 128) _ _ (omega arith) (some_split (nat_lt c 2048) _ _ (omega arith) (some_split (nat_lt c 65536) _ _ (omega arith) (omega arith)))
 
-lost_behind : (text : List ℕ) → 0 < length (encode_utf8 replacement ++ text)
-lost_behind text = omega (arith, length-append (encode_utf8 replacement) text, encoded replacement)
+lost_after : (text : List ℕ) → 0 < length (encode_utf8 replacement ++ text)
+lost_after text = omega (arith, length-append (encode_utf8 replacement) text, encoded replacement)
 
 -- where text came, none is waited for
 abbrev pub Nearer : ℕ → Part → List ℕ → Type 0
@@ -146,18 +146,18 @@ fresh_by : (u : ℕ) (w : Wides) (x : Bool)
 fresh_by u w true = omega arith
 fresh_by u w false = let none = ready_patience (Wide (record { order = w.order; high = None; first = None })) (encode_utf8 (character_of u)) (encoded (character_of u)) in omega (arith, none)
 
-unit_nearer : (u : ℕ) (w : Wides) (high : Option ℕ) → NearerUnits (rank_by high (Some 0)) (behind_high high u w)
+unit_nearer : (u : ℕ) (w : Wides) (high : Option ℕ) → NearerUnits (rank_by high (Some 0)) (after_high high u w)
 unit_nearer u w None = fresh_by u w (is_high u)
 unit_nearer u w (Some high) =
     units_split 0 (is_low u) _ _ (nearer 0 (Wide (first_wide w.order)) (encode_utf8 (character_of (pair_code high u))) (encoded (character_of (pair_code high u))))
-    (nearer 0 (Wide (fresh u w).wide) (encode_utf8 replacement ++ (fresh u w).text) (lost_behind (fresh u w).text))
+    (nearer 0 (Wide (fresh u w).wide) (encode_utf8 replacement ++ (fresh u w).text) (lost_after (fresh u w).text))
 
-byte_nearer : (b : ℕ) (w : Wides) (high first : Option ℕ) → w.high ≡ high → NearerUnits (rank_by high first) (behind_first first b w)
+byte_nearer : (b : ℕ) (w : Wides) (high first : Option ℕ) → w.high ≡ high → NearerUnits (rank_by high first) (after_first first b w)
 byte_nearer b w None None is = rw is (omega arith)
 byte_nearer b w (Some h) None is = rw is (omega arith)
-byte_nearer b w None (Some a) is = subst (λ (h : Option ℕ). NearerUnits 2 (behind_high h (unit w.order a b) w)) (sym is) (unit_nearer (unit w.order a b) w None)
+byte_nearer b w None (Some a) is = subst (λ (h : Option ℕ). NearerUnits 2 (after_high h (unit w.order a b) w)) (sym is) (unit_nearer (unit w.order a b) w None)
 byte_nearer b w (Some h) (Some a) is =
-    subst (λ (high : Option ℕ). NearerUnits 0 (behind_high high (unit w.order a b) w)) (sym is) (unit_nearer (unit w.order a b) w (Some h))
+    subst (λ (high : Option ℕ). NearerUnits 0 (after_high high (unit w.order a b) w)) (sym is) (unit_nearer (unit w.order a b) w (Some h))
 
 pub takes_nearer : (b : ℕ) (part : Part) → NearerStep (rank part) (taken b part)
 takes_nearer b Start = step_split 6 (is_marking b) _ _ (omega arith) (omega arith)

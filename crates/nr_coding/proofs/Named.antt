@@ -123,9 +123,9 @@ is_not_empty full some = grind (arith, nat_tests)
 named_is : (full : List ℕ) → 0 < length full → named (value full) ≡ of_name (coding_named full) (value full)
 named_is full some = if_second (length full == 0) _ _ (is_not_empty full some)
 
-behind_name : (full bs : List ℕ) → 0 < length full
+after_name : (full bs : List ℕ) → 0 < length full
     → text_from (Head (value full)) (code " " ∷ bs) ≡ code " " ∷ text_from (told (of_name (coding_named full) (value full))) bs
-behind_name full bs some = ap (λ (t : Tells). code " " ∷ text_from (told t) bs) (named_is full some)
+after_name full bs some = ap (λ (t : Tells). code " " ∷ text_from (told t) bs) (named_is full some)
 
 some_lowered : (name : List ℕ) → is_name name ≡ true → 0 < length (all_lowered name)
 some_lowered [] is = absurd (let no : false ≡ true = is in cc)
@@ -136,7 +136,7 @@ line_read : (name bs : List ℕ) → is_name name ≡ true
 line_read name bs is =
     ap (λ (xs : List ℕ). front ++ text_from (Head blanks) xs) (append_assoc name tail bs)
     ∙ ap (λ (xs : List ℕ). front ++ xs) (name_read name (tail ++ bs) is)
-    ∙ ap (λ (xs : List ℕ). front ++ name ++ xs) (behind_name (all_lowered name) (codes "-*-\n" ++ bs) (some_lowered name is))
+    ∙ ap (λ (xs : List ℕ). front ++ name ++ xs) (after_name (all_lowered name) (codes "-*-\n" ++ bs) (some_lowered name is))
 
 whole_line : (name bs : List ℕ) → front ++ (name ++ (tail ++ bs)) ≡ line_of name ++ bs
 whole_line name bs = ap (λ (xs : List ℕ). front ++ xs) (sym (append_assoc name tail bs))

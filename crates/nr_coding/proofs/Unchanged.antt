@@ -6,7 +6,7 @@ use Rattle.nr_coding.specs.declared.part.Part.{Part}
 use Rattle.nr_coding.specs.declared.part.Part.TheVariants.{Mark, Head}
 use Rattle.nr_coding.specs.declared.part.Step.{Step}
 use Rattle.nr_coding.specs.declared.tag.Tag.TheVariants.{Key, Blanks}
-use Rattle.nr_coding.specs.Tag.{key_read, behind_key, line_ended}
+use Rattle.nr_coding.specs.Tag.{key_read, after_key, line_ended}
 use Rattle.nr_coding.specs.Part.{told, plain, first, silent}
 use Rattle.nr_coding.specs.UnderCoding.{text_from}
 use Rattle.nr_coding.specs.Laws.{names_nothing, PlainStays}
@@ -47,8 +47,8 @@ not_whole : (j : ℕ) → j < 7 → (j == 7) ≡ false
 not_whole j few = grind (arith, nat_tests)
 
 -- what stands after a byte of these lines, by whether it is a newline
-abbrev pub behind : Bool → Bool → ℕ → ℕ → Part
-behind x second k b = told (if x then line_ended (record { second = second; tag = Key k; name = [] }) else behind_key (key_read k b) (record { second = second; tag = Key k; name = [] }))
+abbrev pub after_byte : Bool → Bool → ℕ → ℕ → Part
+after_byte x second k b = told (if x then line_ended (record { second = second; tag = Key k; name = [] }) else after_key (key_read k b) (record { second = second; tag = Key k; name = [] }))
 
 and-both : (x y : Bool) → (not x && y) ≡ true → (x ≡ false) × (y ≡ true)
 and-both false y e = (refl, e)
@@ -60,7 +60,7 @@ Stays bs = (second : Bool) (k : ℕ) → k < 7 → names_nothing second bs ≡ t
 
 byte_stays : (b : ℕ) (bs : List ℕ) (x second : Bool) (k : ℕ) → Stays bs → k < 7
     → (if x then second || names_nothing true bs else not (b == code ":") && names_nothing second bs) ≡ true
-    → b ∷ text_from (behind x second k b) bs ≡ b ∷ bs
+    → b ∷ text_from (after_byte x second k b) bs ≡ b ∷ bs
 byte_stays b bs true true k rest few is = ap (λ (xs : List ℕ). b ∷ xs) (plain_text bs)
 byte_stays b bs true false k rest few is = ap (λ (xs : List ℕ). b ∷ xs) (rest true 0 (omega arith) is)
 byte_stays b bs false second k rest few is =

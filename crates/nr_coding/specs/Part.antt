@@ -33,8 +33,8 @@ abbrev pub is_marking : ℕ → Bool
 is_marking b = (b == 0xEF) || (b == 0xFE) || (b == 0xFF)
 
 -- FE FF, FF FE, or EF BB of EF BB BF
-abbrev pub behind_mark : ℕ → ℕ → Step
-behind_mark a b =
+abbrev pub after_mark : ℕ → ℕ → Step
+after_mark a b =
     if (a == 0xFE) && (b == 0xFF) then silent (Wide (wides.first_wide Big)) else
     if (a == 0xFF) && (b == 0xFE) then silent (Wide (wides.first_wide Little)) else
     if (a == 0xEF) && (b == 0xBB) then silent LongMark else plain Plain (a ∷ b ∷ [])
@@ -45,7 +45,7 @@ of_units u = record { part = Wide u.wide; text = u.text }
 -- a byte comes
 abbrev pub taken : ℕ → Part → Step
 taken b Start = if is_marking b then silent (Mark b) else plain (first b) (b ∷ [])
-taken b (Mark a) = behind_mark a b
+taken b (Mark a) = after_mark a b
 taken b LongMark = if b == 0xBF then silent Plain else plain Plain (0xEF ∷ 0xBB ∷ b ∷ [])
 taken b (Head head) = plain (told (tags.taken b head)) (b ∷ [])
 taken b Plain = plain Plain (b ∷ [])

@@ -45,8 +45,8 @@ spelling b h = More (record { second = h.second; tag = Value; name = h.name ++ l
 abbrev pub line_ended : Head → Tells
 line_ended h = if h.second then Reads Plain else More (record { second = true; tag = Key 0; name = [] })
 
-abbrev pub behind_key : ℕ → Head → Tells
-behind_key read h = going (if read == 7 then Blanks else Key read) h
+abbrev pub after_key : ℕ → Head → Tells
+after_key read h = going (if read == 7 then Blanks else Key read) h
 
 abbrev pub of_name : Option Coding → Head → Tells
 of_name (Some coding) h = Reads coding
@@ -65,7 +65,7 @@ in_blanks b h =
     if b == code " " then going Blanks h else in_value b h
 
 abbrev pub in_key : ℕ → ℕ → Head → Tells
-in_key count b h = if b == code "\n" then line_ended h else behind_key (key_read count b) h
+in_key count b h = if b == code "\n" then line_ended h else after_key (key_read count b) h
 
 -- a byte comes: in the name, after the key, or before it
 abbrev pub taken_at : Tag → ℕ → Head → Tells

@@ -46,21 +46,21 @@ fresh u w = record {
 }
 
 -- the first of a pair without its second is lost
-abbrev pub behind_high : Option ℕ → ℕ → Wide → Units
-behind_high None u w = fresh u w
-behind_high (Some high) u w =
+abbrev pub after_high : Option ℕ → ℕ → Wide → Units
+after_high None u w = fresh u w
+after_high (Some high) u w =
     if is_low u then units (first_wide w.order) (encode_utf8 (character_of (pair_code high u))) else
     units (fresh u w).wide (encode_utf8 replacement ++ (fresh u w).text)
 
 abbrev pub unit_taken : ℕ → Wide → Units
-unit_taken u w = behind_high w.high u w
+unit_taken u w = after_high w.high u w
 
-abbrev pub behind_first : Option ℕ → ℕ → Wide → Units
-behind_first None b w = units (record { order = w.order; high = w.high; first = Some b }) []
-behind_first (Some a) b w = unit_taken (unit w.order a b) w
+abbrev pub after_first : Option ℕ → ℕ → Wide → Units
+after_first None b w = units (record { order = w.order; high = w.high; first = Some b }) []
+after_first (Some a) b w = unit_taken (unit w.order a b) w
 
 abbrev pub taken : ℕ → Wide → Units
-taken b w = behind_first w.first b w
+taken b w = after_first w.first b w
 
 -- what is half read at the end is lost
 abbrev pub lost_of : Option ℕ → Option ℕ → List ℕ

@@ -79,8 +79,8 @@ fn silent(part: Part) -> Step
 }
 
 /// A byte after one that a mark may begin with.
-fn behind_mark(first: u8, byte: u8) -> Step
-    ensures { result ≡ specs.behind_mark first byte }
+fn after_mark(first: u8, byte: u8) -> Step
+    ensures { result ≡ specs.after_mark first byte }
 {
     match (first, byte) {
         (0xFE, 0xFF) => silent(Part::Wide(Wide::new(Order::Big))),
@@ -97,7 +97,7 @@ impl Part {
     {
         match self {
             Part::Start if matches!(byte, 0xEF | 0xFE | 0xFF) => silent(Part::Mark(byte)),
-            Part::Mark(first) => behind_mark(first, byte),
+            Part::Mark(first) => after_mark(first, byte),
             Part::LongMark if byte == 0xBF => silent(Part::Plain),
             Part::LongMark => plain(Part::Plain, &[0xEF, 0xBB, byte]),
             Part::Start => plain(first(byte), &[byte]),
