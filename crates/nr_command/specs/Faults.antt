@@ -1,4 +1,4 @@
--- The line that tells how a run ended.
+-- The line that reports how a run ended.
 use Rattle.std.specs.Prelude.{◌≡◌, ℕ, List, [], ◌++◌, true, Option, ◌⊎◌, codes, decimal}
 use Rattle.std.specs.Io.KnownBytes.{Appends}
 use Rattle.nr_units.specs.Failures.{SinkFailures, put_counted_if}
@@ -20,7 +20,7 @@ limited_text Expansions = codes "expansions"
 abbrev pub place_text : ℕ → List ℕ
 place_text at = codes " at byte " ++ decimal at ++ codes "\n"
 
--- the line that tells how a run ended: nothing where it is done
+-- the line that reports how a run ended: nothing where it is done
 abbrev pub line_of : Outcome → List ℕ
 line_of Done = []
 line_of (Limit which at) = codes "nroff: " ++ limited_text which ++ codes " limit passed" ++ place_text at

@@ -41,6 +41,6 @@ name_of (ReadsMacros folder name) = macro_path folder name
 name_of (ReadsFile name) = name
 name_of ReadsStandard = codes "-"
 
--- the line that tells that it can't be opened
+-- the line that reports that it can't be opened
 abbrev pub unopened_text : Reading → List ℕ
 unopened_text reading = codes "nroff: cannot open " ++ name_of reading ++ codes "\n"

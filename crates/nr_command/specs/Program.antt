@@ -16,7 +16,7 @@ use Rattle.nr_command.specs.Running.{Ran, status_of, memory_line}
 use Rattle.nr_command.specs.declared.opening.NotRun.{NotRun}
 use Rattle.nr_command.specs.declared.opening.NotRun.TheVariants.{CannotOpen, OutOfMemory}
 
--- The text that is told as not to be opened is the first that can't be. Where memory is wanting, no text was asked for or each
+-- The text that is reported as not to be opened is the first that can't be. Where memory is wanting, no text was asked for or each
 -- was.
 abbrev pub IsRefused : (Reading → Opening → Type 0) → Option (List Reading) → Option (List Reading)
     → List Reading → NotRun → Type 0
@@ -24,7 +24,7 @@ IsRefused may_come asked asked' readings (CannotOpen input) =
     IsFirstRefused may_come asked asked' readings (reading_of input)
 IsRefused may_come asked asked' readings OutOfMemory = Asks asked asked' [] ⊎ Asks asked asked' readings
 
--- want of memory is told
+-- want of memory is reported
 abbrev pub lacks_memory : {A : Type 0} → Result A NotRun → Bool
 lacks_memory (Ok x) = false
 lacks_memory (Err (CannotOpen input)) = false
@@ -40,7 +40,7 @@ pub record RanOver {T : Type 0} (supply : T → Option Supply) (failures : T →
   pub left : List T
   pub opened : AreOpen may_come (readings (asked_of job)) (map supply texts)
   pub each : Asks asked asked' (readings (asked_of job))
-  -- a read fault is told where a call of one of them failed, and nowhere else
+  -- a read fault is reported where a call of one of them failed, and nowhere else
   pub ran : Ran job.limits job.options (files_supply (map supply texts)) (failures_in failures texts)
       (failures_in failures left) old new writes writes' passed_on outcome
   pub passed : outcome ≢ WriteFault → IsTrue passed_on
@@ -60,13 +60,13 @@ status_of_end (Ok outcome) = status_of outcome
 status_of_end (Err (CannotOpen input)) = 3
 status_of_end (Err OutOfMemory) = 5
 
--- the line that tells the end
+-- the line that reports the end
 abbrev pub line_of_end : Result Outcome NotRun → List ℕ
 line_of_end (Ok outcome) = line_of outcome
 line_of_end (Err (CannotOpen input)) = unopened_text (reading_of input)
 line_of_end (Err OutOfMemory) = memory_line
 
--- The program ran a job: it came to an end, for which so much memory was asked for, and the status and the line tell which.
+-- The program ran a job: it came to an end, for which so much memory was asked for, and the status and the line report which.
 pub record Comes {T : Type 0} (supply : T → Option Supply) (failures : T → ℕ) (may_come : Reading → Opening
     → Type 0) (asked asked' : Option (List Reading)) (taken taken' : Option (List Taking)) (job : Job)
     (old new : Option (List ℕ)) (writes writes' : SinkFailures) (passed_on : Bool)

@@ -18,7 +18,7 @@ status_of TooLong = 1
 status_of (ReadFault at) = 3
 status_of WriteFault = 4
 
--- the line that tells want of memory
+-- the line that reports want of memory
 abbrev pub memory_line : List ℕ
 memory_line = codes "nroff: out of memory\n"
 

@@ -1,4 +1,4 @@
-// The line that tells how a run ended.
+// The line that reports how a run ended.
 ghost use Rattle.std.specs.Prelude.{◌≡◌, OnOk, OnErr, IsOk};
 ghost use Rattle.std.specs.Io.KnownBytes.{Appends};
 ghost use Rattle.nr_units.specs.Failures.{put_counted};
@@ -8,7 +8,7 @@ ghost use Rattle.nr_command.specs.Faults.{limited_text, line_of, place_text};
 use itoa::Buffer;
 use nr_engine::{Fault, Measure, Outcome, Sink, WriteFault};
 
-/// Writes the one line that tells how a run ended, and nothing where it is done.
+/// Writes the one line that reports how a run ended, and nothing where it is done.
 ///
 /// `WriteFault` where the sink failed; a prefix of the line went out then.
 pub fn fault_line<W: Sink>(outcome: &Outcome, errors: &mut W) -> Result<(), WriteFault>

@@ -115,7 +115,7 @@ pub fn open_texts<'a, 'b, O: Opener<'b>, M: Memory>(
     Ok(texts)
 }
 
-/// Writes the one line that tells a text that can't be opened.
+/// Writes the one line that reports a text that can't be opened.
 ///
 /// `WriteFault` where the sink failed; a prefix of the line went out then.
 pub fn unopened_line<W: Sink>(input: &Input<'_>, errors: &mut W) -> Result<(), WriteFault>

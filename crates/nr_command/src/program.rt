@@ -68,8 +68,8 @@ fn borrowed(words: &[String], alloc: Global) -> Result<Vec<&str>, AllocError>
 }
 
 /// Runs the program over the words after its name, and gives its status: 2 where a word is bad, and
-/// then nothing is opened, read or written but the line that tells the first bad one; 3 where a text
-/// can't be opened, the first of which is told; 5 where memory was refused, which is told; and else that
+/// then nothing is opened, read or written but the line that reports the first bad one; 3 where a text
+/// can't be opened, the first of which is reported; 5 where memory was refused, which is reported; and else that
 /// of `run_over`.
 ///
 /// First memory is taken for the buffers of the texts, which come to stand in `buffers`, and for the list
@@ -99,7 +99,7 @@ pub fn run_words<'b, M: Memory, O: Opener<'b>, W: Sink, E: Sink>(
         (E.held errors.old) (E.held errors.new) (E.failures errors.old) (E.failures errors.new) result }
     ensures quiet { result ≡ 0 → errors.new ≡ errors.old }
 
-    // Want of memory is told where memory was refused, and nowhere else.
+    // Want of memory is reported where memory was refused, and nowhere else.
     ensures memory { M.refusals memory.new ≡ counted_if (result == 5) (M.refusals memory.old) }
 {
     match read_words(words) {
@@ -118,7 +118,7 @@ fn refuse_word<E: Sink>(usage: &Usage<'_>, errors: &mut E) -> u8
     usage.status()
 }
 
-/// Runs a job, tells how it ended, as far as `errors` takes the line, and gives the status of the
+/// Runs a job, reports how it ended, as far as `errors` takes the line, and gives the status of the
 /// program.
 fn run_job<'b, M: Memory, O: Opener<'b>, W: Sink, E: Sink>(
     memory: &mut M,

@@ -8,12 +8,12 @@ use super::faults::fault_line;
 use nr_engine::{Desk, Fault, Options, Outcome, Sink, Source, format};
 use std::alloc::AllocError;
 
-/// Formats the input within the desk, flushes the output, writes the one line that tells a fault to
+/// Formats the input within the desk, flushes the output, writes the one line that reports a fault to
 /// `errors`, where a further fault is ignored, and gives the status of the program: 0 done, 1 a limit
 /// passed or the input too long, 3 read fault, 4 write fault. A fault of the flush makes it a write
 /// fault, however the run ended.
 ///
-/// Without a desk there was no memory: then it tells so, and the status is 5. Nothing is read, and the
+/// Without a desk there was no memory: then it says so, and the status is 5. Nothing is read, and the
 /// output is left alone.
 pub fn run_over<R: Source, W: Sink, E: Sink>(
     desk: Result<Desk, AllocError>,
@@ -22,7 +22,7 @@ pub fn run_over<R: Source, W: Sink, E: Sink>(
     output: &mut W,
     errors: &mut E,
 ) -> u8
-    // The status and the line tell the outcome of the run.
+    // The status and the line report the outcome of the run.
     ensures ran { IfOk desk (λ limits. (outcome : Outcome)
         × Ran limits options.now (R.supply input.old) (R.failures input.old) (R.failures input.new)
         (W.held output.old) (W.held output.new) (W.failures output.old) (W.failures output.new)
@@ -79,7 +79,7 @@ pub(crate) fn tell<E: Sink>(outcome: Outcome, errors: &mut E) -> u8
     status(outcome)
 }
 
-/// The status that tells an outcome.
+/// The status of an outcome.
 fn status(outcome: Outcome) -> u8
     ensures { result ≡ status_of outcome }
 {

@@ -21,7 +21,7 @@ delayed n Never = Never
 delayed n (After k) = After (n + k)
 delayed n Anytime = Anytime
 
--- When calls fail where a file of n bytes, which come as m, stands before others: one that fails before its end was told
+-- When calls fail where a file of n bytes, which come as m, stands before others: one that fails before its end came
 -- stops all.
 abbrev pub faults_before : Faults → ℕ → ℕ → Faults → Faults
 faults_before Never n m others = delayed m others

@@ -16,7 +16,7 @@ lacks_newline (byte ∷ next ∷ bytes) = lacks_newline (next ∷ bytes)
 abbrev pub completed : List ℕ → List ℕ
 completed bytes = if lacks_newline bytes then bytes ++ code "\n" ∷ [] else bytes
 
--- When calls fail: a file that fails before its end was told stops all, once the files before it were given.
+-- When calls fail: a file that fails before its end came stops all, once the files before it were given.
 abbrev pub faults_of_all : List Supply → Faults
 faults_of_all [] = Never
 faults_of_all (file ∷ files) =

@@ -4,7 +4,7 @@ ghost use Rattle.std.specs.Prelude.{◌≡◌, map, false};
 use nr_units::source::{Fault, Source};
 
 /// Files read one after the other, each to its end, with a newline added after each that is not empty
-/// and doesn't end with one. A fault of a file is told as it comes, and that file is read again at the
+/// and doesn't end with one. A fault of a file is reported as it comes, and that file is read again at the
 /// next call.
 pub struct Chain<'a, F> {
     files: &'a mut [F],

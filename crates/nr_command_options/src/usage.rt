@@ -40,7 +40,7 @@ impl Usage<'_> {
     }
 }
 
-/// Writes the one line that tells a bad word.
+/// Writes the one line that reports a bad word.
 ///
 /// `WriteFault` where the sink failed; a prefix of the line went out then.
 pub fn usage_line<W: Sink>(usage: &Usage<'_>, errors: &mut W) -> Result<(), WriteFault>

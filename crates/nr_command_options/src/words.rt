@@ -9,7 +9,7 @@ use crate::usage::Usage;
 /// Reads the words after the program's name (CSTR 54, "Usage").
 ///
 /// Options are the words before the first that is `-` or does not begin with `-`; that one and all
-/// after it are files. The first bad option is told, with how it is bad.
+/// after it are files. The first bad option is reported, with how it is bad.
 pub fn read_words<'a>(words: &'a [&'a str]) -> Result<Job<'a>, Usage<'a>>
     ensures answer { IsAnswer (texts words.now) (answer_of result) }
 

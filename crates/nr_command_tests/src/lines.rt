@@ -1,4 +1,4 @@
-// The lines that tell how a run ended, or why there was none, byte for byte; and the error that tells the same.
+// The lines that report how a run ended, or why there was none, byte for byte; and the error that says the same.
 
 use nr_command::{NotRun, fault_line, unopened_line};
 use nr_command_options::{Input, MacroFile};

@@ -247,7 +247,7 @@ static ROWS: [Row; 19] = [
         line: b"nroff: read fault at byte 11\n",
         opened: 2,
     },
-    // The first bad word is told, before anything is opened.
+    // The first bad word is reported, before anything is opened.
     Row {
         words: &["-o5-3", "-s", "none"],
         output: b"",
@@ -278,7 +278,7 @@ static ROWS: [Row; 19] = [
     },
 ];
 
-/// What a run prints and tells, with its status.
+/// What a run prints and reports, with its status.
 #[derive(Drop)]
 struct Ran {
     status: u8,

@@ -176,7 +176,7 @@ abbrev pub unwritten : Result (Unit {0}) Measure → Result (Unit {0}) Stop
 unwritten (Ok x) = Ok x
 unwritten (Err which) = Err (stops.Limit which)
 
--- ---- faults are told where a call failed, and nowhere else
+-- ---- faults are reported where a call failed, and nowhere else
 
 abbrev pub is_write_fault : Outcome → Bool
 is_write_fault WriteFault = true
@@ -201,7 +201,7 @@ fails_writing (Ok x) = false
 fails_writing (Err (stops.Limit which)) = false
 fails_writing (Err stops.WriteFault) = true
 
--- A fault of the source or the sink is told where a call of it failed, and no other call failed: by the counts of failed calls.
+-- A fault of the source or the sink is reported where a call of it failed, and no other call failed: by the counts of failed calls.
 pub record ToldFaults (outcome : Outcome) (reads reads' : ℕ) (writes writes' : SinkFailures) : Type 0 where
   pub read_failures : reads' ≡ counted_if (is_read_fault outcome) reads
   pub write_failures : writes' ≡ put_counted_if (is_write_fault outcome) writes

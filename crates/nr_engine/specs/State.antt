@@ -19,7 +19,7 @@ pub record Ended : Type 0 where
   pub rows : ℕ
   pub lines : List Placed
 
--- what a run is told before its input
+-- what a run is given before its input
 pub data Choice : Type 0 where
   -- the number of the first page
   First : ℤ → Choice

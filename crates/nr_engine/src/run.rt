@@ -190,7 +190,7 @@ pub fn format<R: Source, W: Sink>(
     ensures answers { (supply : Supply) → R.supply input.old ≡ Some supply →
         Answers work.entry.desk.now (start work.entry.desk.now options.now supply) moves.new result
         (W.held output.old) (W.held output.new) }
-    // A fault is told where a call failed, and nowhere else.
+    // A fault is reported where a call failed, and nowhere else.
     ensures faults { ToldFaults result (R.failures input.old) (R.failures input.new) (W.failures output.old)
         (W.failures output.new) }
     ensures limits { work.exit.0.now ≡ work.entry.desk.now }

@@ -1,4 +1,4 @@
--- How a program ended: its status, and the line that tells it.
+-- How a program ended: its status, and the line that reports it.
 use Rattle.std.specs.Prelude.{◌≡◌, ℕ, List, [], ◌∷◌, true, Option, None, Some, ◌⊎◌, codes, decimal}
 use Rattle.std.specs.Borrow.{Bor}
 use Rattle.std.specs.Io.KnownBytes.{Appends}
@@ -34,7 +34,7 @@ abbrev pub told_of : List ℕ → Option (Bor (List ℕ)) → List ℕ → List 
 told_of program None what word = told program what word
 told_of program (Some name) what word = told_named program name.now what word
 
--- the line that tells how a program ended: nothing where all went out
+-- the line that reports how a program ended: nothing where all went out
 abbrev pub line_of : List ℕ → Ending → List ℕ
 line_of program Done = []
 line_of program Complained = []

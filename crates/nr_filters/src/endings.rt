@@ -1,4 +1,4 @@
-// How a program ended: its status, and the line that tells it.
+// How a program ended: its status, and the line that reports it.
 ghost use Rattle.std.specs.Prelude.{◌≡◌};
 ghost use Rattle.nr_filters.specs.Endings.{Tells, line_of, status_of, told, told_named, told_of};
 
@@ -11,11 +11,11 @@ use nr_units::sink::Sink;
 pub enum Ending<'a> {
     /// All went out.
     Done,
-    /// All went out, and something was wrong with a text, which is told by now.
+    /// All went out, and something was wrong with a text, which is reported by now.
     Complained,
-    /// A text has 2^40 bytes or more: its name, where the program tells it.
+    /// A text has 2^40 bytes or more: its name, where the program reports it.
     TooLong(Option<&'a str>),
-    /// A text failed after so many bytes: its name, where the program tells it.
+    /// A text failed after so many bytes: its name, where the program reports it.
     ReadFault(Option<&'a str>, u64),
     /// The output failed.
     WriteFault,
@@ -29,7 +29,7 @@ pub enum Ending<'a> {
     OutOfMemory,
 }
 
-/// The status that tells an ending.
+/// The status of an ending.
 fn status(ending: Ending<'_>) -> u8
     ensures { result ≡ status_of ending.entry }
 {
@@ -75,7 +75,7 @@ fn put_named_line<E: Sink>(program: &str, name: &str, what: &str, word: &str, er
     let _ = put_all(&parts, errors);
 }
 
-/// Writes a line about a text, by its name where the program tells it.
+/// Writes a line about a text, by its name where the program reports it.
 fn put_line_of<E: Sink>(program: &str, name: Option<&str>, what: &str, word: &str, errors: &mut E)
     ensures { Tells (E.held errors.old) (E.held errors.new) (E.failures errors.old) (E.failures errors.new)
         (told_of program.now name.entry what.now word.now) }
@@ -86,7 +86,7 @@ fn put_line_of<E: Sink>(program: &str, name: Option<&str>, what: &str, word: &st
     }
 }
 
-/// Writes the line that tells an ending, as far as `errors` takes it, and nothing where all went out.
+/// Writes the line that reports an ending, as far as `errors` takes it, and nothing where all went out.
 fn put_ending<E: Sink>(program: &str, ending: Ending<'_>, errors: &mut E)
     ensures { Tells (E.held errors.old) (E.held errors.new) (E.failures errors.old) (E.failures errors.new)
         (line_of program.now ending.entry) }

@@ -13,7 +13,7 @@ use std::rt::{Env, Files};
 
 /// A program that turns texts.
 pub trait Filter {
-    /// Its name, with which the lines begin that it tells.
+    /// Its name, with which the lines begin that it reports.
     const NAME: &'static str;
 
     /// Runs it over the words after its name. All texts are opened before the first is read, and nothing is opened
@@ -27,7 +27,7 @@ pub trait Filter {
     ) -> Ending<'a>;
 }
 
-/// Runs a program in a system, tells how it ended, and gives its status.
+/// Runs a program in a system, reports how it ended, and gives its status.
 pub fn run_program<
     F: Filter,
     R: Env + Files,

@@ -33,7 +33,7 @@ impl Buffers {
 
 /// What turns texts, each by itself.
 pub trait Turns {
-    /// Turns the text of this name, and tells what is wrong with it.
+    /// Turns the text of this name, and reports what is wrong with it.
     fn turn<'a, T: Read + Drop, W: Sink, E: Sink>(
         &mut self,
         name: &'a str,

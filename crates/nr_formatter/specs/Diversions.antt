@@ -68,7 +68,7 @@ with_diverted_end cells height f = record (without_no_space f) {
 
 -- ---- requests
 
--- `dn` and `dl` tell the height and the greatest width of the diversion that ends
+-- `dn` and `dl` hold the height and the greatest width of the diversion that ends
 abbrev pub measured : Option Diversion → Formatter → Formatter
 measured None f = f
 measured (Some d) f =

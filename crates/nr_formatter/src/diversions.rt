@@ -188,7 +188,7 @@ impl Formatter {
         }
     }
 
-    /// The innermost diversion ends. `dn` and `dl` tell its height and its greatest width. Answers whether one ended.
+    /// The innermost diversion ends. `dn` and `dl` then hold its height and its greatest width. Answers whether one ended.
     pub(crate) fn end_diversion(&mut self) -> bool
         ensures ended { result ≡ is_diverting (newest_diversion self.old.store.building) }
         ensures is { self.new ≡ end_diversion self.old }

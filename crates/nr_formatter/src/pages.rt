@@ -178,7 +178,7 @@ impl Formatter {
         matches!(self.store.lookup(name), Meaning::Text)
     }
 
-    /// The next trap below that names a text; those without text are passed. Its place is told from the top, in u.
+    /// The next trap below that names a text; those without text are passed. Its place is counted from the top, in u.
     pub fn next_springing(&self) -> Option<Trap>
         ensures value { result ≡ next_springing self.now }
         ensures below { IfSome result (λ t. IsBelow 0 self.now t.place) }

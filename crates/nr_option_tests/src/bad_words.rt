@@ -2,7 +2,7 @@
 use nr_command_options::{read_words, usage_line};
 use nr_units::fakes::Slate;
 
-/// Words of which one is bad, and the line that tells it.
+/// Words of which one is bad, and the line that reports it.
 static LINES: [(&[&str], &[u8]); 56] = [
     (&["-o3-1"], b"nroff: bad value in -o3-1\n"),
     (&["-o"], b"nroff: bad value in -o\n"),
@@ -68,7 +68,7 @@ static LINES: [(&[&str], &[u8]); 56] = [
     (&["-i", "-i", "-I"], b"nroff: unknown option -I\n"),
 ];
 
-/// Whether one of the words is bad, with status 2, and this line tells it.
+/// Whether one of the words is bad, with status 2, and this line reports it.
 fn tells(words: &[&str], line: &[u8]) -> bool {
     let mut out = [0; 200];
     let mut errors = Slate::over(&mut out);
@@ -90,7 +90,7 @@ fn tells_the_first_bad_word(rt: HostRuntime) {
     }
 }
 
-// 32 registers and 32 macro files are taken, and one more is told; but a word that is bad by its form before it.
+// 32 registers and 32 macro files are taken, and one more is reported; but a word that is bad by its form before it.
 #[test]
 fn tells_one_too_many(rt: HostRuntime) {
     let rows = [

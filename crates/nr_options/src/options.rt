@@ -1,4 +1,4 @@
-//! What a run is told beside its input and its limits.
+//! What a run is given beside its input and its limits.
 ghost use Rattle.std.specs.Prelude.{◌≡◌, [], pos, None};
 
 use arrayvec::ArrayVec;

@@ -82,7 +82,7 @@ box_like c =
     if c == 9492 then Some (code "`") else
     if is_within 9476 9599 c then Some (code "+") else None
 
--- ---- what has no likeness is told by its code
+-- ---- what has no likeness is spelled by its code
 
 abbrev pub hex_digit : ℕ → ℕ
 hex_digit value = if nat_lt value 10 then code "0" + value else code "A" - 10 + value

@@ -135,7 +135,7 @@ EndsAs wanted Done held new pending = (wanted ≡ Done) × Appends held new pend
 EndsAs wanted (ReadFault at) held new pending = (wanted ≡ ReadFault at) × Appends held new pending
 EndsAs wanted TooLong held new pending = (wanted ≡ TooLong) × Appends held new pending
 
--- a read fault is told where a call of the source failed, and else none failed, but where the sink did
+-- a read fault is reported where a call of the source failed, and else none failed, but where the sink did
 abbrev pub TellsReads : Outcome → ℕ → ℕ → Type 0
 TellsReads Done before after = after ≡ before
 TellsReads (ReadFault at) before after = after ≡ next_count before

@@ -105,7 +105,7 @@ fn sign_text(code: u32) -> Option<[u8; 6]>
     text_in(&SIGNS, code)
 }
 
-/// The word that tells a character.
+/// The word that stands for a character.
 fn word_text(code: u32) -> Option<[u8; 21]>
     ensures { result ≡ word_text code }
 {

@@ -202,7 +202,7 @@ pub fn convert<R: Source, W: Sink>(
     requires { 1536 ≤ length buffer.old }
     ensures ran { specs.Ran table (R.supply input.old) (R.supply input.new) (W.held output.old)
         (W.held output.new) steps.new result }
-    // A read fault is told only where the source failed once, and then always, but where the output fails too.
+    // A read fault is reported only where the source failed once, and then always, but where the output fails too.
     ensures read_faults { specs.TellsReads result (R.failures input.old) (R.failures input.new) }
     ensures write_faults { W.failures output.new ≡ put_counted_if (specs.is_write_fault result)
         (W.failures output.old) }

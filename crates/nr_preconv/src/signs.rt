@@ -372,7 +372,7 @@ pub(crate) static SIGNS: [(u32, [u8; 6]); 360] = [
     (0xFB06, *b"st\0\0\0\0"),
 ];
 
-/// The same of those that are told by a word.
+/// The same of those for which a word stands.
 pub(crate) static WORDS: [(u32, [u8; 21]); 50] = [
     (0x00A7, *b"<section>\0\0\0\0\0\0\0\0\0\0\0\0"),
     (0x00B0, *b"<degree>\0\0\0\0\0\0\0\0\0\0\0\0\0"),

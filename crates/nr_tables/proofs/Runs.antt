@@ -111,7 +111,7 @@ module _ {A : Type 0} (shows : A → Shown → Type 0) (old new : A) (g : Signs)
   heard-all TooLong r = heard-it (said_so_far l cells r.bytes) r.told
   heard-all WriteFault r = heard-some (said_so_far l cells r.bytes) (page_said l cells r.bytes) r.told
 
--- a write fault is told where the output failed
+-- a write fault is reported where the output failed
 live_before : (f g : Bool) (h i : Option (List ℕ)) (v w xs : List ℕ) → SendsIn f g h v i w xs → g ≡ false → f ≡ false
 live_before false g h i v w xs sends live = refl
 live_before true true h i v w xs sends live = live

@@ -166,9 +166,9 @@ pub fn convert<R: Source, W: Sink>(
     ensures ran { specs.Ran rooms.old.signs rooms.old.limits rooms.old.cells (R.supply input.old)
         (R.supply input.new) (W.held output) (W.held result.1) complaints.new result.0.missed
         result.0.outcome }
-    // A read fault is told only where the source failed once, and then always, but where the output fails too.
+    // A read fault is reported only where the source failed once, and then always, but where the output fails too.
     ensures read_faults { TellsReads result.0.outcome (R.failures input.old) (R.failures input.new) }
-    // A write fault is told where a call of the sink failed, and else none did.
+    // A write fault is reported where a call of the sink failed, and else none did.
     ensures write_faults { W.failures result.1 ≡ put_counted_if (is_write_fault result.0.outcome)
         (W.failures output) }
     ensures room { complaints.new.room ≡ complaints.old.room }

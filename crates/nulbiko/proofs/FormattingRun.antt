@@ -16,7 +16,7 @@ carried b b' o q n outcome old old' new new' a same before after =
     (subst (λ y. Answers b' (start b' o q) n outcome y new) before
     (subst (λ x. Answers x (start x o q) n outcome old new) same a))
 
--- where no call failed, none is told
+-- where no call failed, none is reported
 pub unread : (told : Bool) → 0 ≡ counted_if told 0 → told ≡ false
 unfolding next_count
 unread false e = refl

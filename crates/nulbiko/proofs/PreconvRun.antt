@@ -15,7 +15,7 @@ carried e q q' left old old' new new' steps o ran same before after =
     (subst (λ y. Ran e q' left y new steps o) before
     (subst (λ x. Ran e x left old new steps o) same ran))
 
--- where no call of the source failed, none is told
+-- where no call of the source failed, none is reported
 pub unread : (o : Outcome) → TellsReads o 0 0 → is_read_fault o ≡ false
 unfolding next_count
 unread Done e = refl

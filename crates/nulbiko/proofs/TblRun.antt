@@ -21,7 +21,7 @@ carried g g' l l' cells cells' q q' left old old' new new' kept missed o ran sig
     (subst (λ m. Ran g' m cells q left old new kept missed o) limits
     (subst (λ s. Ran s l cells q left old new kept missed o) signs ran)))))
 
--- where no call of the source failed, none is told
+-- where no call of the source failed, none is reported
 pub unread : (o : Outcome) → TellsReads o 0 0 → is_read_fault o ≡ false
 unfolding next_count
 unread Done e = refl

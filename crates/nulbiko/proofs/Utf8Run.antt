@@ -20,7 +20,7 @@ carried t e q q' left old old' new new' strays o ran same before after =
     (subst (λ y. Ran t e q' left y new strays o) before
     (subst (λ x. Ran t e x left old new strays o) same ran))
 
--- where no call of the source failed, none is told
+-- where no call of the source failed, none is reported
 pub unread : (o : Outcome) → TellsReads o 0 0 → is_read_fault o ≡ false
 unfolding next_count
 unread Done e = refl

@@ -22,14 +22,14 @@ bounds_of limits =
       expansions = limits.expansions;
     }
 
--- the number that tells an outcome
+-- the number of an outcome
 abbrev pub code_of : Outcome → ℕ
 code_of Done = 0
 code_of (Limit which at) = 1
 -- there is no room for the next byte
 code_of WriteFault = 4
 code_of TooLong = 6
--- never told
+-- never reported
 code_of (ReadFault at) = 9
 
 abbrev pub limit_number : Measure → ℕ

@@ -7,12 +7,12 @@ use Rattle.nr_mdoc.specs.declared.running.Outcome.TheVariants.{Done, ReadFault, 
 use Rattle.nulbiko.specs.Told.{IsHanded, code_within, whole_text}
 use Rattle.nulbiko.specs.declared.told.Report.{Report}
 
--- the number that tells an outcome
+-- the number of an outcome
 abbrev pub code_of : Outcome → ℕ
 code_of Done = 0
 code_of WriteFault = 4
 code_of TooLong = 6
--- never told
+-- never reported
 code_of (ReadFault at) = 9
 
 -- The page was turned into one of man(7), and what came out was handed over.

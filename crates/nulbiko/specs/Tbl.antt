@@ -13,12 +13,12 @@ use Rattle.nr_tbl.specs.declared.running.Outcome.TheVariants.{Done, ReadFault, T
 use Rattle.nulbiko.specs.Told.{IsHanded, code_within, whole_text}
 use Rattle.nulbiko.specs.declared.told.Report.{Report}
 
--- the number that tells an outcome
+-- the number of an outcome
 abbrev pub code_of : Outcome → ℕ
 code_of Done = 0
 code_of WriteFault = 4
 code_of TooLong = 6
--- never told
+-- never reported
 code_of (ReadFault at) = 9
 
 abbrev pub kind_number : Kind → ℕ
@@ -47,7 +47,7 @@ first_line (c ∷ cs) = c.line
 abbrev pub limits : Limits
 limits = record { formats = 262144; row = 16384 }
 
--- The tables of the text were set for a line of so many cells, with frames in ASCII, what came out was handed over, and what was wrong first is told.
+-- The tables of the text were set for a line of so many cells, with frames in ASCII, what came out was handed over, and what was wrong first is reported.
 pub record SetsTables (line : ℕ) (text output : List ℕ) (report : Report) (code : ℕ) : Type 0 where
   pub outcome : Outcome
   pub left : Option Supply

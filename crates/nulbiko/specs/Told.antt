@@ -1,4 +1,4 @@
--- What a call from C is told beside its bytes, and what is handed over.
+-- What a call from C gets beside its bytes, and what is handed over.
 use Rattle.std.specs.Prelude.{◌≡◌, ℕ, List, length, take, min, nat_lt, if◌then◌else◌}
 use Rattle.nr_units.specs.Source.{Supply, Never}
 use Rattle.nulbiko.specs.declared.told.Report.{Report}
@@ -15,7 +15,7 @@ nothing_told = record { written = 0; at = 0; moves = 0; limit = 0; dropped = 0 }
 abbrev pub code_within : ℕ → ℕ → ℕ → ℕ
 code_within code came fit = if nat_lt fit came then 4 else code
 
--- These bytes came out: as many as fit stand at the front of the output, and their count is told.
+-- These bytes came out: as many as fit stand at the front of the output, and their count is reported.
 pub record IsHanded (bytes output : List ℕ) (written : ℕ) : Type 0 where
   pub front : take written output ≡ take written bytes
   pub count : written ≡ min (length bytes) (length output)

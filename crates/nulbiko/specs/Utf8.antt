@@ -10,15 +10,15 @@ use Rattle.nulbiko.specs.Tables.{number_of}
 use Rattle.nulbiko.specs.Told.{IsHanded, code_within, whole_text}
 use Rattle.nulbiko.specs.declared.told.Report.{Report}
 
--- the number that tells an outcome
+-- the number of an outcome
 abbrev pub code_of : Outcome → ℕ
 code_of Done = 0
 code_of WriteFault = 4
 code_of TooLong = 6
--- never told
+-- never reported
 code_of (ReadFault at) = 9
 
--- The bytes became characters of the table, and what came out was handed over; how many were dropped is told.
+-- The bytes became characters of the table, and what came out was handed over; how many were dropped is reported.
 pub record TurnsBytes (table : Table) (escapes : Bool) (text output : List ℕ) (report : Report)
     (code : ℕ) : Type 0 where
   pub outcome : Outcome

@@ -27,7 +27,7 @@ pub struct TextLimits {
     pub expansions: u64,
 }
 
-/// What a run is told beside its text and its limits.
+/// What a run is given beside its text and its limits.
 #[repr(C)]
 #[derive(Clone, Copy)]
 pub struct TextOptions {
@@ -35,7 +35,7 @@ pub struct TextOptions {
     pub first: i64,
 }
 
-/// The number that tells a limit: 1 for stored bytes, 2 depth, 3 cells of a line, 4 cells of a page, 5 expansions.
+/// The number of a limit: 1 for stored bytes, 2 depth, 3 cells of a line, 4 cells of a page, 5 expansions.
 fn limit_number(which: Measure) -> u32
     ensures { result ≡ limit_number which }
 {
@@ -48,7 +48,7 @@ fn limit_number(which: Measure) -> u32
     }
 }
 
-/// The number that tells an outcome.
+/// The number of an outcome.
 fn code(outcome: Outcome) -> u32
     ensures value { result ≡ code_of outcome }
     ensures not_range { result ≢ 2 }
@@ -63,7 +63,7 @@ fn code(outcome: Outcome) -> u32
     }
 }
 
-/// What is told of a run of so many moves that wrote so many bytes.
+/// What is reported of a run of so many moves that wrote so many bytes.
 fn report_of(outcome: Outcome, written: usize, moves: u128) -> Report
     ensures written { result.written ≡ written }
     ensures moves { result.moves ≡ count_told moves }
@@ -93,7 +93,7 @@ fn options_of(first: i64) -> Options
     options
 }
 
-/// Formats the text in a desk, hands its pages over and gives the number that tells how it ended.
+/// Formats the text in a desk, hands its pages over and gives the number of the outcome.
 fn run_desk(
     alloc: Global,
     desk: &mut Desk,
@@ -136,7 +136,7 @@ fn format_text(
     run_desk(alloc, &mut desk, first, input, output, told)
 }
 
-/// Formats a text under limits into a buffer, tells how it went, and gives the number of the outcome: 0 done, 1 a limit would
+/// Formats a text under limits into a buffer, reports how it went, and gives the number of the outcome: 0 done, 1 a limit would
 /// be passed, 2 the limits are out of range, 4 the buffer is full, 5 there is not enough memory, 6 the text is too long.
 #[unsafe(no_mangle)]
 pub extern "C" fn nulbiko_format_lent(

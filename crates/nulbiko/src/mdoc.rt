@@ -15,7 +15,7 @@ const PENDING_SIZE: usize = 131_072;
 /// The room for lists and displays that are open.
 const MOST_BLOCKS: usize = 64;
 
-/// The number that tells an outcome.
+/// The number of an outcome.
 fn code(outcome: Outcome) -> u32
     ensures value { result ≡ code_of outcome }
     ensures not_range { result ≢ 2 }
@@ -29,7 +29,7 @@ fn code(outcome: Outcome) -> u32
     }
 }
 
-/// Turns the page, hands over what comes out and gives the number that tells how it ended.
+/// Turns the page, hands over what comes out and gives the number of the outcome.
 fn turn_page(
     alloc: Global,
     input: &[u8],
@@ -58,7 +58,7 @@ fn turn_page(
     Ok(code_within(code(outcome), bytes.len(), output.len()))
 }
 
-/// Turns a page of mdoc(7) into one of man(7), into a buffer, tells how it went, and gives the number of the outcome: 0 done,
+/// Turns a page of mdoc(7) into one of man(7), into a buffer, reports how it went, and gives the number of the outcome: 0 done,
 /// 4 the buffer is full, 5 there is not enough memory, 6 the text is too long. A text that isn't one goes out as it is.
 #[unsafe(no_mangle)]
 pub extern "C" fn nulbiko_mdoc_lent(

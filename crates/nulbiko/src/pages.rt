@@ -65,7 +65,7 @@ impl Sink for Pages {
     }
 }
 
-/// Copies bytes to the front of the output, as many as fit, and tells how many.
+/// Copies bytes to the front of the output, as many as fit, and answers how many.
 pub(crate) fn hand_over(bytes: &[u8], output: &mut [u8]) -> usize
     ensures front { take result output.new ≡ take result bytes.now }
     ensures count { result ≡ min (length bytes.now) (length output.new) }

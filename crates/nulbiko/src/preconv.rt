@@ -17,7 +17,7 @@ use std::alloc::{AllocError, Global};
 /// The bytes of what is to go out.
 const PENDING_SIZE: usize = 65_536;
 
-/// The number that tells an outcome.
+/// The number of an outcome.
 fn code(outcome: Outcome) -> u32
     ensures value { result ≡ code_of outcome }
     ensures not_range { result ≢ 2 }
@@ -31,7 +31,7 @@ fn code(outcome: Outcome) -> u32
     }
 }
 
-/// Turns the text, hands over what comes out and gives the number that tells how it ended.
+/// Turns the text, hands over what comes out and gives the number of the outcome.
 fn turn_text(
     alloc: Global,
     table: Option<Table>,
@@ -61,7 +61,7 @@ fn turn_text(
     Ok(code_within(code(outcome), bytes.len(), output.len()))
 }
 
-/// Turns what manual pages use into the language of the formatter, into a buffer, tells how it went, and gives the number of
+/// Turns what manual pages use into the language of the formatter, into a buffer, reports how it went, and gives the number of
 /// the outcome: 0 done, 2 no table has the number, 4 the buffer is full, 5 there is not enough memory, 6 the text is too
 /// long. Characters of the table become its bytes; 0 is the number of none, and then all is spelled in ASCII.
 #[unsafe(no_mangle)]

@@ -16,7 +16,7 @@ const TABLE: usize = 262_144;
 /// The most bytes of a line of a row.
 const ROW: usize = 16_384;
 
-/// The number that tells an outcome.
+/// The number of an outcome.
 fn code(outcome: Outcome) -> u32
     ensures value { result ≡ code_of outcome }
     ensures not_range { result ≢ 2 }
@@ -30,7 +30,7 @@ fn code(outcome: Outcome) -> u32
     }
 }
 
-/// The number that tells what is wrong.
+/// The number of what is wrong.
 fn kind_number(kind: Kind) -> u32
     ensures { result ≡ kind_number kind }
 {
@@ -48,7 +48,7 @@ fn kind_number(kind: Kind) -> u32
     }
 }
 
-/// What is told of the first complaint: its number and its line, and 0 where there is none.
+/// What is reported of the first complaint: its number and its line, and 0 where there is none.
 fn first_wrong(complaints: &[Complaint]) -> (u32, u64)
     ensures kind { result.0 ≡ first_kind complaints.now }
     ensures place { result.1 ≡ first_line complaints.now }
@@ -59,7 +59,7 @@ fn first_wrong(complaints: &[Complaint]) -> (u32, u64)
     }
 }
 
-/// Sets the tables, hands over what comes out and gives the number that tells how it ended.
+/// Sets the tables, hands over what comes out and gives the number of the outcome.
 fn set_tables(
     alloc: Global,
     line: usize,
@@ -90,7 +90,7 @@ fn set_tables(
     Ok(code_within(code(report.outcome), bytes.len(), output.len()))
 }
 
-/// Turns the tables of a text into the language of the formatter, for a line of so many cells, into a buffer, tells how it went
+/// Turns the tables of a text into the language of the formatter, for a line of so many cells, into a buffer, reports how it went
 /// and what was wrong first, and gives the number of the outcome: 0 done, 4 the buffer is full, 5 there is not enough memory,
 /// 6 the text is too long.
 #[unsafe(no_mangle)]

@@ -1,4 +1,4 @@
-// What a call tells beside its bytes, in numbers.
+// What a call reports beside its bytes, in numbers.
 ghost use Rattle.std.specs.Prelude.{◌≡◌, ◌≢◌};
 ghost use Rattle.nulbiko.specs.Told.{code_within, count_told, nothing_told};
 
@@ -20,10 +20,10 @@ pub(crate) const OUT_OF_MEMORY: u32 = 5;
 /// The text has 2^40 bytes or more.
 pub(crate) const TOO_LONG: u32 = 6;
 
-/// The text can't be read: never told, as a slice doesn't fail.
+/// The text can't be read: never reported, as a slice doesn't fail.
 pub(crate) const UNREADABLE: u32 = 9;
 
-/// What a call tells beside its bytes.
+/// What a call reports beside its bytes.
 #[repr(C)]
 #[derive(Clone, Copy)]
 pub struct Report {

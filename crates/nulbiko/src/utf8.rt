@@ -18,7 +18,7 @@ use std::alloc::{AllocError, Global};
 /// The bytes of what is to go out.
 const PENDING_SIZE: usize = 65_536;
 
-/// The number that tells an outcome.
+/// The number of an outcome.
 fn code(outcome: Outcome) -> u32
     ensures value { result ≡ code_of outcome }
     ensures not_range { result ≢ 2 }
@@ -32,7 +32,7 @@ fn code(outcome: Outcome) -> u32
     }
 }
 
-/// Turns the bytes, hands over what comes out and gives the number that tells how it ended.
+/// Turns the bytes, hands over what comes out and gives the number of the outcome.
 fn turn_bytes(
     alloc: Global,
     table: Table,
@@ -70,7 +70,7 @@ fn turn_bytes(
     Ok(code_within(code(outcome), bytes.len(), output.len()))
 }
 
-/// Turns the bytes that a table has into its characters, in UTF-8, into a buffer, tells how it went and how many bytes were
+/// Turns the bytes that a table has into its characters, in UTF-8, into a buffer, reports how it went and how many bytes were
 /// dropped, and gives the number of the outcome: 0 done, 2 no table has the number, 4 the buffer is full, 5 there is not
 /// enough memory, 6 the text is too long. With `escapes` underlined text stands between escape sequences.
 #[unsafe(no_mangle)]

@@ -99,7 +99,7 @@ Sets word place answer next =
     ⊎ ((wrong : Wrong) × IsBad wrong word × (answer ≡ is_wrong place wrong))
 
 -- Words from this place on, up to the first file, where a table's name may be awaited and this is asked for so far: the last that sets the
--- same counts. The first that can't be taken is told by its place.
+-- same counts. The first that can't be taken is reported by its place.
 abbrev pub ComesTo : Bool → Job → ℕ → List (List ℕ) → Result Job BadWord → Type 0
 ComesTo true job place [] answer = answer ≡ is_wrong (place - 1) NoTable
 ComesTo false job place [] answer = answer ≡ Ok (at place job)

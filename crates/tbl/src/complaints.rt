@@ -1,4 +1,4 @@
-// The lines that tell what is wrong with tables.
+// The lines that report what is wrong with tables.
 
 use itoa::Buffer;
 use nr_filters::put_all;

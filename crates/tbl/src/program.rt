@@ -38,7 +38,7 @@ impl Filter for Tbl {
     }
 }
 
-/// What is told of a word.
+/// What is reported of a word.
 fn ending_of(wrong: Wrong, word: &str) -> Ending<'_> {
     match wrong {
         Wrong::Unknown => Ending::BadWord("unknown option ", word),

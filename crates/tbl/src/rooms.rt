@@ -10,7 +10,7 @@ use nr_units::slice_vec::SliceVec;
 use std::alloc::{AllocError, Global};
 use std::io::Read;
 
-/// How many complaints about the tables of a text are told.
+/// How many complaints about the tables of a text are reported.
 const MOST_COMPLAINTS: usize = 64;
 
 /// The memory that texts are turned in, taken once.

@@ -198,7 +198,7 @@ impl Job {
 }
 
 /// Reads the words: options up to the first file, the last of each counts. The first that can't be taken is
-/// told by its place.
+/// reported by its place.
 pub fn read_words(words: &[&str]) -> Result<Job, BadWord>
     ensures answer { IsAnswer (texts words.now) result }
 

@@ -15,7 +15,7 @@ use std::rt::Files;
 #[cfg(test)]
 mod tests;
 
-/// What `--version` tells: that of the file VERSION.
+/// What `--version` prints: that of the file VERSION.
 const VERSION: &str = "0.1.0";
 
 /// The program.
@@ -57,7 +57,7 @@ fn put_out<'a, W: Sink>(parts: &[&[u8]], output: &mut W) -> Ending<'a> {
     Ending::Done
 }
 
-/// Chooses a table for the first of these files, or for standard input where there is none, and tells its name.
+/// Chooses a table for the first of these files, or for standard input where there is none, and prints its name.
 fn choose_for<'a, R: Files, I: Read + Copy + Drop, W: Sink>(
     names: &[&'a str],
     disk: &Disk<'_, R, I>,
@@ -87,7 +87,7 @@ fn choose_for<'a, R: Files, I: Read + Copy + Drop, W: Sink>(
     }
 }
 
-/// Turns the files of these names, or standard input, and tells how many bytes were dropped.
+/// Turns the files of these names, or standard input, and reports how many bytes were dropped.
 fn turn_files<'a, R: Files, I: Read + Copy + Drop, W: Sink, E: Sink>(
     how: (Table, bool),
     names: &[&'a str],

@@ -19,7 +19,7 @@ pub enum Job {
     },
     /// A table is chosen for the file after the first word, if there is one.
     Choose,
-    /// The version is told.
+    /// The version is printed.
     Version,
 }
 

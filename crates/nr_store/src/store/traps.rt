@@ -58,7 +58,7 @@ impl<K: Copy> Store<K> {
     }
 
     /// The nearest trap that lies beyond a place and has effect on a page of this length: that of least place, and of
-    /// these the first planted. Its place is told from the top. Beyond -1 a trap at the top is found too.
+    /// these the first planted. Its place is counted from the top. Beyond -1 a trap at the top is found too.
     pub fn next_trap(&self, above: i32, length: i32) -> Option<Trap>
         ensures { result ≡ nearest above length self.now.traps }
     {

@@ -179,7 +179,7 @@ static ROWS: [Row; 28] = [
         status: 0,
         line: b"",
     },
-    // A coding that is not known is told.
+    // A coding that is not known is reported.
     Row {
         words: &[b"preconv", b"japanese", b"half"],
         output: b".TH x\n.\\\" -*- coding: EUC-JP-unix -*-\nae\n\\(l\n",
@@ -206,7 +206,7 @@ static ROWS: [Row; 28] = [
         status: 3,
         line: b"preconv: cannot open -x\n",
     },
-    // The first that can't be opened is told, before anything is read.
+    // The first that can't be opened is reported, before anything is read.
     Row {
         words: &[b"preconv", b"folder", b"none", b"nor"],
         output: b"",
@@ -219,7 +219,7 @@ static ROWS: [Row; 28] = [
         status: 3,
         line: b"preconv: cannot open \n",
     },
-    // The first word that is no option is told, before anything is opened.
+    // The first word that is no option is reported, before anything is opened.
     Row {
         words: &[b"preconv", b"-8", b"-88", b"-x", b"none"],
         output: b"",
@@ -272,7 +272,7 @@ fn runs_in_a_system(rt: HostRuntime) {
     }
 }
 
-// A write that fails, and a flush; a read fault is not told then.
+// A write that fails, and a flush; a read fault is not reported then.
 #[test]
 fn tells_an_output_that_fails(rt: HostRuntime) {
     for (takes, text) in [

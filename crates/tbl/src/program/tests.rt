@@ -99,7 +99,7 @@ static ROWS: [Row; 27] = [
         status: 3,
         lines: b"tbl: cannot open -x\n",
     },
-    // The first that can't be opened is told, before anything is read.
+    // The first that can't be opened is reported, before anything is read.
     Row {
         words: &[b"tbl", b"folder", b"none", b"nor"],
         output: b"",
@@ -112,7 +112,7 @@ static ROWS: [Row; 27] = [
         status: 3,
         lines: b"tbl: cannot open \n",
     },
-    // The first word that can't be taken is told, before anything is opened.
+    // The first word that can't be taken is reported, before anything is opened.
     Row {
         words: &[b"tbl", b"-Lt9", b"-C", b"-Lt0", b"none"],
         output: b"",
@@ -223,7 +223,7 @@ static TOLD: [Told; 7] = [
         status: 1,
         lines: b"tbl: bad:3: more fields than columns\ntbl: bad:6: table without an end\n",
     },
-    // A table wider than the line is told, and nothing is wrong with it.
+    // A table wider than the line is reported, and nothing is wrong with it.
     Told {
         words: &[b"tbl", b"-l8", b"wide"],
         status: 0,
@@ -293,7 +293,7 @@ fn runs_in_a_system(rt: HostRuntime) {
     }
 }
 
-// A write that fails, and a flush; a read fault is not told then.
+// A write that fails, and a flush; a read fault is not reported then.
 #[test]
 fn tells_an_output_that_fails(rt: HostRuntime) {
     for (takes, text) in [

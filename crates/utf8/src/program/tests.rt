@@ -220,7 +220,7 @@ fn runs_in_a_system(rt: HostRuntime) {
     }
 }
 
-// A write that fails, and a flush; a read fault is not told then.
+// A write that fails, and a flush; a read fault is not reported then.
 #[test]
 fn tells_an_output_that_fails(rt: HostRuntime) {
     for (takes, text) in [
