@@ -1,7 +1,6 @@
 -- Strokes that are drawn after others.
 use Rattle.std.proofs.Common.{◌≡◌, ℕ, Bool, true, false, ◌||◌, nat_lt, List, [], ◌∷◌, ◌++◌, replicate, Option, refl, sym, ap, subst, ◌∙◌, append_assoc, append-nil}
 use Prim.Native.Char.{code}
-use Rattle.std.specs.Io.KnownBytes.{Appends}
 use Rattle.std.proofs.KnownBytes.{Appends-nil, Appends-trans, Appends-kept, Keeps-refl, Keeps-trans}
 use Rattle.nr_units.specs.Failures.{SinkFailures, put_counted_if}
 use Rattle.nr_units.specs.Sink.{AppendsFront}
@@ -115,26 +114,3 @@ pub draws_no_end : (a : Tape) (told : Bool) → guard_end told a.pen.begun ≡ [
 draws_no_end a told none = draws_as (GuardEnd told ∷ []) (draws_nothing a) refl (ap (λ (l : List ℕ). l ++ []) none)
 
 -- ---- what a call of the sink, or more that waits, comes to
-
-waiting_in : (h : Option (List ℕ)) (w x bs : List ℕ) → x ≡ w ++ bs → SendsIn false false h w h x (bs ++ [])
-waiting_in h w x bs is = ([], Appends-nil h, ap (λ l. w ++ l) (append-nil bs) ∙ sym is)
-
--- more waits
-pub draws_waiting : (h : Option (List ℕ)) (c : SinkFailures) (w x bs : List ℕ) (n : Pen) → x ≡ w ++ bs
-    → Draws (record { held = h; failures = c; pending = w; failed = false; pen = n }) (record { held = h; failures = c; pending = x; failed = false; pen = n }) (Bytes bs ∷ [])
-draws_waiting h c w x bs n is = record { pen = refl; sends = record { failures = refl; sends = waiting_in h w x bs is } }
-
--- nothing goes after a fault
-pub draws_failed : (h : Option (List ℕ)) (c : SinkFailures) (w bs : List ℕ) (n : Pen)
-    → Draws (record { held = h; failures = c; pending = w; failed = true; pen = n }) (record { held = h; failures = c; pending = w; failed = true; pen = n }) (Bytes bs ∷ [])
-draws_failed h c w bs n = record { pen = refl; sends = record { failures = refl; sends = Keeps-refl h } }
-
--- all that waits went
-pub draws_sent : (h i : Option (List ℕ)) (c : SinkFailures) (w bs : List ℕ) (n : Pen) → Appends h i (w ++ bs)
-    → Draws (record { held = h; failures = c; pending = w; failed = false; pen = n }) (record { held = i; failures = c; pending = []; failed = false; pen = n }) (Bytes bs ∷ [])
-draws_sent h i c w bs n goes = record { pen = refl; sends = record { failures = refl; sends = (w ++ bs, goes, ap (λ l. w ++ l) (append-nil bs) ∙ sym (append-nil (w ++ bs))) } }
-
--- the sink failed
-pub draws_fault : (h i : Option (List ℕ)) (c : SinkFailures) (w x bs : List ℕ) (n : Pen) → AppendsFront h i (w ++ bs)
-    → Draws (record { held = h; failures = c; pending = w; failed = false; pen = n }) (record { held = i; failures = put_counted_if true c; pending = x; failed = true; pen = n }) (Bytes bs ∷ [])
-draws_fault h i c w x bs n goes = record { pen = refl; sends = record { failures = refl; sends = subst (λ l. AppendsFront h i (w ++ l)) (sym (append-nil bs)) goes } }

@@ -93,10 +93,6 @@ record Over (l : Met) : Type 0 where
   no_y : (q : Page) → (part_of y q).word ≡ []
   no_z : (q : Page) → (part_of z q).word ++ [] ≡ []
 
-over_if : (t : Bool) (k l : Met) → Over k → Over l → Over (if t then k else l)
-over_if true k l i j = i
-over_if false k l i j = j
-
 -- a line that says up to two things at its end, and then ends
 over_two : (p : Page) (x y : Act) → p.marks ≡ [] → is_laid x ≡ true → is_laid y ≡ true → ((q : Page) → (part_of x q).word ≡ []) → ((q : Page) → (part_of y q).word ≡ [])
     → Over (met p (two x y))

@@ -83,9 +83,6 @@ ended_within b s j k xs ys l e w = record {
   fresh = w.fresh;
 }
 
-pub ended_after : (b : ℕ) (s t : State) (j k : ℕ) (xs ys : List ℕ) → Leads b s t j xs → Ended b t k ys → Ended b s (j + k) (xs ++ ys)
-ended_after b s t j k xs ys p e = ended_behind b s t j k xs ys p e
-
 -- ---- the line is over
 
 line_over : Met → Met
@@ -267,9 +264,6 @@ fewer cs k l = rw (length-take k cs) (omega arith)
 
 one_fewer : (cs : List ℕ) (n : ℕ) → length cs ≤ suc n → length (take (length cs - 1) cs) ≤ n
 one_fewer cs n l = rw (length-take (length cs - 1) cs) (omega arith)
-
-without_last : Page → Page
-without_last p = record p { closers = take (length p.closers - 1) p.closers }
 
 closes_out : (p : Page) → takes_plain p.call.taker ≡ true → Out (closes_last p) p []
 unfolding closes_last is_quiet of_word

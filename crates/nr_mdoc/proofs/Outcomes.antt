@@ -185,19 +185,6 @@ pub keeps_if : (t : Bool) (q p r : Page) → Keeps q p → Keeps q r → Keeps q
 keeps_if true q p r i j = i
 keeps_if false q p r i j = j
 
-pub keeps_then : (q p r : Page) → Keeps q p → Keeps p r → Keeps q r
-keeps_then q p r i j = record {
-  scan = j.scan ∙ i.scan;
-  word = j.word ∙ i.word;
-  marks = j.marks ∙ i.marks;
-  few = λ l. j.few (i.few l);
-  going = j.going ∙ i.going;
-  comment = j.comment ∙ i.comment;
-  line = j.line ∙ i.line;
-  fits = j.fits;
-  way = j.way ∙ i.way;
-}
-
 pub keeps_no_more : (q p : Page) → way_of q.call.taker ≡ Usual → Keeps q p → Keeps q (takes_no_more p)
 unfolding takes_plain
 keeps_no_more q p u i = record {
@@ -250,10 +237,6 @@ out_act_if false a b p q xs i j = j
 pub same_page : (q : Page) → takes_plain q.call.taker ≡ true → Keeps q q
 same_page q f =
     record { scan = refl; word = refl; marks = refl; few = λ l. l; going = refl; comment = refl; line = refl; fits = f; way = refl }
-
-pub silent_one : (p q : Page) (x : Act) → is_quiet x ≡ true → of_word x q.word ≡ [] → Keeps q p → Out (met p (three x acts.Nothing acts.Nothing)) q []
-unfolding is_quiet of_word
-silent_one p q x i e keeps = out p q x acts.Nothing acts.Nothing [] i refl refl (ap (λ (xs : List ℕ). xs ++ []) e) keeps
 
 pub function_closes_out : (p : Page) → takes_plain p.call.taker ≡ true → Out (function_closes p) p []
 unfolding is_quiet of_word

@@ -47,10 +47,6 @@ same_if : (t : Bool) (q : Page) (k l : Laid) → Same q k.page → Same q l.page
 same_if true q k l i j = i
 same_if false q k l i j = j
 
-same_page_if : (t : Bool) (q k l : Page) → Same q k → Same q l → Same q (if t then k else l)
-same_page_if true q k l i j = i
-same_page_if false q k l i j = j
-
 put_same : (p : Page) → Same p (was_put p)
 put_same p = record { scan = refl; word = refl; marks = refl; closers = refl; call = refl }
 

@@ -27,9 +27,6 @@ pub heard-quick : (b : ℕ) (s : State) → (heard b s).steps ≤ 16
 unfolding heard
 heard-quick b s = heard_in-quick 16 b s
 
-then-quick : (m n : ℕ) (t : Told) (f : State → Told) → t.steps ≤ m → ((s : State) → (f s).steps ≤ n) → (then_told t f).steps ≤ m + n
-then-quick m n t f l rest = let r : (f t.state).steps ≤ n = rest t.state in omega arith
-
 none_quick : 0 ≤ 16
 none_quick = omega arith
 

@@ -39,21 +39,11 @@ Comes-next None b byte h = tt
 Comes-next (Some q) None byte h = absurd h
 Comes-next (Some q) (Some t) byte h = h.0
 
-pub Comes-end : (a b : Option Supply) → Gives {E = Fault} a (Ok None) b → Comes a [] b × Ends a b
-Comes-end None b h = (tt, tt)
-Comes-end (Some q) None h = absurd h
-Comes-end (Some q) (Some t) h = (ap (λ (x : Supply). x.bytes) (sym h.1), ap (λ (x : Supply). x.bytes) h.1 ∙ h.0)
-
 pub Ends-after : (a b c : Option Supply) (xs : List ℕ) → Comes a xs b → Ends b c → Ends a c
 Ends-after None b c xs p q = tt
 Ends-after (Some a) None c xs p q = absurd p
 Ends-after (Some a) (Some b) None xs p q = absurd q
 Ends-after (Some a) (Some b) (Some c) xs p q = q
-
-pub Comes-fault : (a b : Option Supply) (e : Fault) → Gives a (Err e) b → Comes a [] b
-Comes-fault None b e h = tt
-Comes-fault (Some q) None e h = absurd h
-Comes-fault (Some q) (Some t) e h = ap (λ (x : Supply). x.bytes) (sym h.0)
 
 some-injective : (x y : Supply) → Some x ≡ Some y → x ≡ y
 some-injective x y h = cc

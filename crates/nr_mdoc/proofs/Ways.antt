@@ -168,9 +168,6 @@ said_opening way [] h = never h
 said_opening way (b ∷ []) h = said_one way b
 said_opening way (a ∷ b ∷ rest) h = never h
 
-pub said_usual : (way : Way) (word : List ℕ) → way ≡ Usual → word ≡ said_of way word
-said_usual way word e = ap (λ (w : Way). said_of w word) (sym e)
-
 part_said : (t : Bool) (word : List ℕ) → word ≡ said_of (way_of_part t) word
 part_said true word = refl
 part_said false word = refl

@@ -2,7 +2,7 @@
 use Rattle.std.proofs.Common.{◌≡◌, ℕ, zero, suc, ◌+◌, ◌-◌, ◌<◌, List, [], ◌∷◌, ◌++◌, length, get_or, take, drop, Bool, true, false, ◌==◌, ◌&&◌, not, Option, None, Some, if◌then◌else◌, refl, sym, ◌∙◌, ap, arith}
 use Prim.Native.Char.{code}
 use Rattle.std.proofs.lemmas.List.{take-append-drop, take_all, drop_more, length-drop}
-use Rattle.nr_tbl.specs.Fields.{before_comment, behind, cleaned, comment_in, continues, cut, has_comment, is_comment, is_given, open_behind, paired, place_of}
+use Rattle.nr_tbl.specs.Fields.{before_comment, behind, cleaned, comment_in, continues, cut, has_comment, is_comment, open_behind, paired, place_of}
 use Rattle.nr_tbl.proofs.Finding.{moved}
 
 -- a line without a backslash stays
@@ -118,6 +118,3 @@ cut_there start at xs e =
 pub cut_nowhere : (start : ℕ) (xs : List ℕ) → None ≡ comment_in (drop start xs) → xs ≡ take start xs ++ before_comment (drop start xs)
 cut_nowhere start xs e =
     sym (take-append-drop start xs) ∙ ap (λ (o : Option ℕ). take start xs ++ cut o (drop start xs)) e
-
-pub cut_given : (o p : Option ℕ) → o ≡ p → is_given o ≡ is_given p
-cut_given o p e = ap is_given e

@@ -70,10 +70,6 @@ at_least (modes.Plain start) p = omega arith
 record Light (k : ℕ) (e : Effect) : Type 0 where
   pub few : length e.pieces + weight e.page ≤ k
 
-light_then : (k m : ℕ) (e : Effect) (f : Page → Effect) → Light k e → Light (weight e.page + m) (f e.page) → Light (k + m) (and_then e f)
-light_then k m e f h g =
-    let x = h.few in let y = g.few in let z = length-append e.pieces (f e.page).pieces in record { few = omega (arith, x, y, z) }
-
 more : (k m : ℕ) (e : Effect) → k ≤ m → Light k e → Light m e
 more k m e few h = let x = h.few in record { few = omega (arith, x, few) }
 

@@ -339,9 +339,6 @@ take_add zero n xs = let e : 0 + n ≡ n = omega arith in rw e refl
 take_add (suc m) n [] = let e : suc m + n ≡ suc (m + n) = omega arith in rw e (sym (take_nil n))
 take_add (suc m) n (x ∷ xs) = let e : suc m + n ≡ suc (m + n) = omega arith in rw e (ap (λ (ys : List ℕ). x ∷ ys) (take_add m n xs))
 
-pub free_none : (bytes : List ℕ) → AreFree (record { count = 0; len = 0 }) bytes
-free_none bytes p = let e : p.state.line + 0 ≡ p.state.line = omega arith in rw e refl
-
 -- one line more
 pub free_more : (bytes : List ℕ) (count len n : ℕ) → AreFree (record { count = count; len = len }) bytes → n ≡ line_len (drop len bytes)
     → n < length (drop len bytes) → may_command (drop len bytes) ≡ false → AreFree (record { count = count + 1; len = len + (n + 1) }) bytes

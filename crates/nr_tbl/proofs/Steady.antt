@@ -24,7 +24,7 @@ use Rattle.nr_tbl.specs.HeadLines as heads
 use Rattle.nr_tbl.specs.Heads.{options_end, is_dotted}
 use Rattle.nr_tbl.specs.Measure as measures
 use Rattle.nr_tbl.specs.Pages.{Page, Effect, effect, and_then, with_state, at_mode, forgotten, rest_of, line_of, wrong}
-use Rattle.nr_tbl.specs.Reading.{Fits, is_kept, limit_in, limit_of, line_ended_in, overflown_in, overflown, kept_more}
+use Rattle.nr_tbl.specs.Reading.{Fits, is_kept, limit_of, line_ended_in, overflown_in, overflown, kept_more}
 use Rattle.nr_tbl.specs.RowLines.{Said, saying, trimmed, are_empty, text_said, shape_said, field_said, last_said, ended_at, fields_ended, row_ended, last_ended, all_ended, line_cleaned, rest_said, line_continued, row_line, line_between, long_end, row_overflown}
 use Rattle.nr_tbl.specs.States as states
 
@@ -302,12 +302,3 @@ more_in false p e = record { limits = refl; same = same p.state; fits = (let few
 
 pub fitting_more : (p : Page) → Fitting p (kept_more p).page
 fitting_more p = more_in (nat_lt (limit_of p) (length p.kept)) p refl
-
-pub limit_within : (mode : Mode) (l : Limits) (room : ℕ) → l.formats < room → l.row < room → limit_in mode l < room
-limit_within modes.Head l room formats row = formats
-limit_within modes.Rows l room formats row = row
-limit_within modes.Row l room formats row = row
-limit_within modes.Block l room formats row = row
-limit_within modes.BlockLine l room formats row = row
-limit_within (modes.Passing start) l room formats row = row
-limit_within (modes.Plain start) l room formats row = row

@@ -6,7 +6,7 @@ use Rattle.nr_units.specs.declared.source.Fault.{Fault}
 use Rattle.nr_tbl.specs.declared.reader.Limits.{Limits}
 use Rattle.nr_tbl.specs.Ending.{finished, first_page, page_said}
 use Rattle.nr_tbl.specs.Pages.{Page}
-use Rattle.nr_tbl.specs.Reading.{read, fed, Fits}
+use Rattle.nr_tbl.specs.Reading.{read, fed}
 use Rattle.nr_tbl.specs.Reading as read_some
 use Rattle.nr_tbl.specs.Running.{Came, Ends, Took, Ended, Turns, Stands, IsDone, IsCut, IsBroken}
 use Rattle.nr_tbl.specs.declared.running.Turn.{Turn}
@@ -178,18 +178,6 @@ Took-fault shows hears a b c p q old new n e zero_is t gives = record {
   told = t.told;
   fits = t.fits;
   lines = (let x = t.lines in omega (arith, x, zero_is));
-}
-
--- none at hand
-pub Took-none : {A S : Type 0} (shows : A → S → Type 0) (hears : Piece → S → S) (a : Option Supply) (p : Page) (old : A) → Fits p → Took shows hears a a p p old old 0
-Took-none shows hears a p old fits = record {
-  bytes = [];
-  came = Came-nil a;
-  count = refl;
-  page = refl;
-  told = λ s h. h;
-  fits = fits;
-  lines = omega arith;
 }
 
 -- bytes at hand

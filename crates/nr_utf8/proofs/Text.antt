@@ -110,10 +110,6 @@ letter_no_end c p = grind (arith, nat_tests)
 fits_no_end : (c : ℕ) → is_one_cell c ≡ true → (c == code "\n") ≡ false
 fits_no_end c p = grind (arith, nat_tests)
 
-marks_if : (x : Bool) (ms ns : List Mark) → x ≡ true → (if x then ms else ns) ≡ ms
-marks_if true ms ns p = refl
-marks_if false ms ns p = absurd (let no : false ≡ true = p in cc)
-
 marks_else : (x : Bool) (ms ns : List Mark) → x ≡ false → (if x then ms else ns) ≡ ns
 marks_else true ms ns p = absurd (let no : true ≡ false = p in cc)
 marks_else false ms ns p = refl

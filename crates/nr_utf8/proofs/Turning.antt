@@ -1,10 +1,9 @@
 -- How a run goes on and ends.
-use Rattle.std.proofs.Common.{◌≡◌, ℕ, ◌+◌, ◌*◌, ◌≤◌, List, [], ◌∷◌, ◌++◌, length, take, drop, Bool, Option, None, Some, Result, Ok, Err, OnOk, refl, sym, ◌∙◌, ap, subst, append_assoc, append-nil, arith, length-append}
+use Rattle.std.proofs.Common.{◌≡◌, ℕ, ◌+◌, ◌*◌, ◌≤◌, List, [], ◌∷◌, ◌++◌, length, Bool, Option, None, Some, Result, Ok, Err, OnOk, refl, sym, ◌∙◌, ap, subst, append_assoc, append-nil, arith, length-append}
 use Rattle.std.specs.Io.KnownBytes.{Appends}
 use Rattle.std.proofs.KnownBytes.{Appends-trans, Appends-nil}
-use Rattle.std.proofs.lemmas.List.{take-append-drop, take-take, length-take}
 use Rattle.nr_units.specs.Sink.{AppendsFront}
-use Rattle.nr_units.specs.Source.{Supply, Gives, Offers, Skips, skipped}
+use Rattle.nr_units.specs.Source.{Supply, Gives}
 use Rattle.nr_units.specs.declared.source.Fault.{Fault}
 use Rattle.nr_units.proofs.Fronts.{AppendsFront-append, AppendsFront-after}
 use Rattle.nr_characters.specs.declared.table.Table.{Table}
@@ -13,8 +12,8 @@ use Rattle.nr_utf8.specs.declared.running.Outcome.{Outcome}
 use Rattle.nr_utf8.specs.declared.running.Outcome.TheVariants.{Done, ReadFault, TooLong, WriteFault}
 use Rattle.nr_utf8.specs.declared.running.Turn.{Turn}
 use Rattle.nr_utf8.specs.declared.running.Turn.TheVariants as turns
-use Rattle.nr_utf8.specs.Reading.{Told, first_reader, read, fed, finished, left_over, converted, strays_of, told}
-use Rattle.nr_utf8.specs.Spelling.{Goes, Spells}
+use Rattle.nr_utf8.specs.Reading.{Told, first_reader, read, fed, finished, left_over, converted, strays_of}
+use Rattle.nr_utf8.specs.Spelling.{Spells}
 use Rattle.nr_utf8.specs.Running.{Comes, Ends, Flushes, Took, Turns, Stands, IsCut, IsBroken, Ran, EndsAs}
 use Rattle.nr_utf8.proofs.Text.{fed-text, converted-text, converted-lines}
 use Rattle.nr_utf8.proofs.CellsAlone.{fed-table}
@@ -42,55 +41,13 @@ Comes-next None b byte h = tt
 Comes-next (Some q) None byte h = absurd h
 Comes-next (Some q) (Some t) byte h = h.0
 
-pub Comes-end : (a b : Option Supply) → Gives {E = Fault} a (Ok None) b → Comes a [] b × Ends a b
-Comes-end None b h = (tt, tt)
-Comes-end (Some q) None h = absurd h
-Comes-end (Some q) (Some t) h = (ap (λ (x : Supply). x.bytes) (sym h.1), ap (λ (x : Supply). x.bytes) h.1 ∙ h.0)
-
 pub Ends-after : (a b c : Option Supply) (xs : List ℕ) → Comes a xs b → Ends b c → Ends a c
 Ends-after None b c xs p q = tt
 Ends-after (Some a) None c xs p q = absurd p
 Ends-after (Some a) (Some b) None xs p q = absurd q
 Ends-after (Some a) (Some b) (Some c) xs p q = q
 
-pub Comes-fault : (a b : Option Supply) (e : Fault) → Gives a (Err e) b → Comes a [] b
-Comes-fault None b e h = tt
-Comes-fault (Some q) None e h = absurd h
-Comes-fault (Some q) (Some t) e h = ap (λ (x : Supply). x.bytes) (sym h.0)
-
-some-injective : (x y : Supply) → Some x ≡ Some y → x ≡ y
-some-injective x y h = cc
-
-skipped-bytes : (q t : Supply) (n : ℕ) → Some t ≡ Some (skipped n q) → t.bytes ≡ drop n q.bytes
-skipped-bytes q t n h = ap (λ (x : Supply). x.bytes) (some-injective t (skipped n q) h)
-
--- those at hand that are skipped came
-pub Comes-skip : (a b : Option Supply) (window : List ℕ) (n : ℕ) → n ≤ length window → Offers a window → Skips a n b → Comes a (take n window) b
-Comes-skip None b window n l o s = tt
-Comes-skip (Some q) None window n l o s = absurd (let no : None ≡ Some (skipped n q) = s in cc)
-Comes-skip (Some q) (Some t) window n l o s =
-    let front : take n window ≡ take n q.bytes =
-    ap (λ (ys : List ℕ). take n ys) (sym o.0) ∙ take-take n (length window) q.bytes l in
-    let rest : t.bytes ≡ drop n q.bytes = skipped-bytes q t n s in
-    rw (front, rest) (sym (take-append-drop n q.bytes))
-
 -- ---- cells are taken
-
-pub Took-cells : (a b : Option Supply) (window old room : List ℕ) (most n end : ℕ) (r : Reader) (pending left : List ℕ)
-    → Goes r (take most window) n old 0 room end → n ≤ most → n ≤ length window → Offers a window → Skips a n b
-    → left ≡ pending ++ take end room → Took a b r r pending left n 0
-Took-cells a b window old room most n end r pending left g m k o skips out =
-    let front : take n (take most window) ≡ take n window = take-take n most window m in
-    let told_so : fed r (take n window) ≡ told r g.out 0 =
-    (let P : List ℕ → Type 0 = λ xs. fed r xs ≡ told r g.out 0 in subst P front g.comes) in
-    record {
-      bytes = take n window;
-      came = Comes-skip a b window n k o skips;
-      count = omega (arith, length-take n window);
-      reader = sym (ap (λ (t : Told). t.reader) told_so);
-      out = out ∙ ap (λ (xs : List ℕ). pending ++ xs) (g.put ∙ sym (ap (λ (t : Told). t.bytes) told_so));
-      made = sym (ap (λ (t : Told). t.strays) told_so);
-    }
 
 pub Took-none : (a : Option Supply) (r : Reader) (pending : List ℕ) → Took a a r r pending pending 0 0
 Took-none a r pending = record {
@@ -104,23 +61,6 @@ Took-none a r pending = record {
 
 both_made : {a b c d : ℕ} → a ≡ c → b ≡ d → a + b ≡ c + d
 both_made p q = cc
-
-pub Took-trans : (a b c : Option Supply) (r s u : Reader) (p q left : List ℕ) (n m i j : ℕ)
-    → Took a b r s p q n i → Took b c s u q left m j → Took a c r u p left (n + m) (i + j)
-Took-trans a b c r s u p q left n m i j f g =
-    let here : fed (fed r f.bytes).reader g.bytes ≡ fed s g.bytes = ap (λ (x : Reader). fed x g.bytes) (sym f.reader) in
-    let more : (fed r (f.bytes ++ g.bytes)).bytes ≡ (fed r f.bytes).bytes ++ (fed s g.bytes).bytes =
-    fed-append_bytes r f.bytes g.bytes ∙ ap (λ (x : Told). (fed r f.bytes).bytes ++ x.bytes) here in
-    record {
-      bytes = f.bytes ++ g.bytes;
-      came = Comes-trans a b c f.bytes g.bytes f.came g.came;
-      count = (let lengths : length (f.bytes ++ g.bytes) ≡ length f.bytes + length g.bytes = length-append f.bytes g.bytes in
-          let first : length f.bytes ≡ n = f.count in let second : length g.bytes ≡ m = g.count in omega arith);
-      reader = g.reader ∙ ap (λ (x : Told). x.reader) (sym here) ∙ sym (fed-append_reader r f.bytes g.bytes);
-      out = g.out ∙ ap (λ (xs : List ℕ). xs ++ (fed s g.bytes).bytes) f.out
-          ∙ append_assoc p (fed r f.bytes).bytes (fed s g.bytes).bytes ∙ ap (λ (xs : List ℕ). p ++ xs) (sym more);
-      made = both_made f.made (g.made ∙ ap (λ (x : Told). x.strays) (sym here)) ∙ sym (fed-append_strays r f.bytes g.bytes);
-    }
 
 nil_where_none : (xs : List ℕ) → length xs ≡ 0 → xs ≡ []
 nil_where_none [] p = refl
