@@ -22,7 +22,17 @@ use Rattle.nr_mdoc.specs.Seeing.{Met, met, left, two, three, with_stack}
 
 abbrev pub fresh_block : Kind → ℕ → Block
 fresh_block kind offset =
-    record { kind = kind; width = None; hang = 0; last = 0; columns = 0; offset = offset; items = 0; compact = false; begun = false }
+    record {
+      kind = kind;
+      width = None;
+      hang = 0;
+      last = 0;
+      columns = 0;
+      offset = offset;
+      items = 0;
+      compact = false;
+      begun = false;
+    }
 
 -- no block, or none of whose options was read
 abbrev pub no_block : Block

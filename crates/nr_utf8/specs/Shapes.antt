@@ -25,7 +25,8 @@ StandAll n bytes = (k : ℕ) → k < n → may_stand (get_or bytes k 0) ≡ true
 -- the first may stand anywhere, and each of the n behind it where it stands
 pub record Shapes (n : ℕ) (bytes : List ℕ) : Type 0 where
   pub first : may_stand (get_or bytes 0 0) ≡ true
-  pub each : (k : ℕ) → k < n → is_shaped (get_or bytes k 0) (get_or bytes (k + 1) 0) (get_or bytes (k + 2) 0) ≡ true
+  pub each : (k : ℕ) → k < n
+      → is_shaped (get_or bytes k 0) (get_or bytes (k + 1) 0) (get_or bytes (k + 2) 0) ≡ true
 
 -- the first n of these end in a cell that is whole, and what is left of them is begun
 pub record IsWhole (n : ℕ) (bytes : List ℕ) : Type 0 where
