@@ -45,6 +45,7 @@ impl<T> Vec<T> {
     /// Adds an item for which there is memory.
     #[inline]
     pub fn push_reserved(&mut self, item: T) {
+        assert!(self.0.len() < self.0.capacity());
         self.0.push(item);
     }
 
