@@ -103,7 +103,7 @@ impl<T: Copy> FixedVec<T> {
         self.slots[place] = item;
     }
 
-    /// Adds an item at the end.
+    /// Adds an item at the end. Where it is the first there, it is written once.
     #[inline]
     pub fn push(&mut self, item: T)
         requires { length self.old.items < self.old.room }
@@ -111,7 +111,11 @@ impl<T: Copy> FixedVec<T> {
         ensures room { self.new.room ≡ self.old.room }
     {
         let len = self.len;
-        self.slots.lengthen(len + 1, item);
+        if len == self.slots.len() {
+            self.slots.push(item);
+            self.len = len + 1;
+            return;
+        }
         self.slots[len] = item;
         self.len = len + 1;
     }
