@@ -133,6 +133,7 @@ impl<'t, 'p, 'k, 'c, W: Sink> Press<'t, 'p, 'k, 'c, W> {
     }
 
     /// What was read is set, or goes out.
+    #[inline(always)]
     fn hear(&mut self, tell: Tell, text: &[u8])
         ensures draws { Draws self.old.out self.new.out (specs.strokes_in tell text.now self.old.table.now) }
         ensures table { Becomes self.old.table self.new.table
@@ -193,6 +194,7 @@ impl<'t, 'p, 'k, 'c, W: Sink> Setter for Press<'t, 'p, 'k, 'c, W> {
 
     ghost failed = { λ p. p.out.failed };
 
+    #[inline(always)]
     fn tell(&mut self, tell: Tell, text: &[u8]) {
         self.hear(tell, text);
     }
