@@ -91,6 +91,7 @@ impl Table {
     }
 
     /// How many bars stand before a column of this row, or after the last one. Most rows have none, whatever their fields.
+    #[inline(always)]
     pub(crate) fn bars_of(&self, row: usize, column: usize) -> usize
         ensures { result ≡ specs.bars_of self.now row column }
     {

@@ -225,7 +225,11 @@ impl Table {
     pub(crate) fn cell_of(&self, number: usize) -> Cell
         ensures { result ≡ held.cell_of self.now number }
     {
-        item_at(&self.cells, number, Cell::empty())
+        if number < self.cells.len() {
+            self.cells.get(number)
+        } else {
+            Cell::empty()
+        }
     }
 
     /// A column.

@@ -17,6 +17,7 @@ impl<'a, W: Sink> Out<'a, W> {
     }
 
     /// Blanks go out.
+    #[inline(always)]
     #[tactic(auto, using(crate::proofs::Tapes::draws_no_blanks))]
     fn release(&mut self)
         ensures { Draws self.old self.new (specs.Release ∷ []) }
@@ -39,6 +40,7 @@ impl<'a, W: Sink> Out<'a, W> {
     }
 
     /// It goes on at a place, by a motion.
+    #[inline(never)]
     fn jump(&mut self, place: Place)
         ensures { Draws self.old self.new (specs.Jump place ∷ []) }
     {
@@ -51,6 +53,7 @@ impl<'a, W: Sink> Out<'a, W> {
     }
 
     /// It goes on at a place.
+    #[inline(always)]
     pub(crate) fn to(&mut self, place: Place)
         ensures { Draws self.old self.new (specs.To place ∷ []) }
     {
@@ -120,6 +123,7 @@ impl<'a, W: Sink> Out<'a, W> {
     }
 
     /// Before bytes that stand in the line, of which this is the first: a control character at its beginning is none.
+    #[inline(always)]
     pub(crate) fn begin(&mut self, first: u8)
         ensures { Draws self.old self.new (specs.begin first) }
     {
