@@ -8,12 +8,14 @@ pub(crate) fn line_len(bytes: &[u8]) -> usize
     ensures value { result ≡ specs.line_len bytes.now }
     ensures within { result ≤ length bytes.now }
 {
-    for (at, byte) in bytes.iter().enumerate() {
+    let mut len = 0;
+    for byte in bytes {
         if *byte == b'\n' {
-            return at;
+            return len;
         }
+        len += 1;
     }
-    bytes.len()
+    len
 }
 
 /// Whether a line that begins with these bytes may begin with `.T`, or is a point alone.

@@ -27,10 +27,12 @@ fn place_of(byte: u8, text: &[u8]) -> Option<usize>
     ensures value { result ≡ specs.place_of byte text.now }
     ensures within { IfSome result (λ place. place < length text.now) }
 {
-    for (at, other) in text.iter().enumerate() {
+    let mut at = 0;
+    for other in text {
         if *other == byte {
             return Some(at);
         }
+        at += 1;
     }
     None
 }
