@@ -4,12 +4,12 @@ use Rattle.nr_units.specs.Items.{Items}
 use Rattle.nr_rooms.proofs.Written.{take_pushed}
 use Rattle.nr_rooms.proofs.fixed_vec.FixedVec.push.Goals as goal
 
-pub returns-then-len-eq-len-clause-items : goal.returns-then-len-eq-len-clause-items
-returns-then-len-eq-len-clause-items g c =
+pub returns-then-len-clause-items : goal.returns-then-len-clause-items
+returns-then-len-clause-items g c =
     let s = c.self.inside in
     let xs = s.slots.items in
     let ys = c.push.new.self.items in
-    let full = c.if-len-eq-len.true in
+    let full = c.if-len.true in
     let is = c.push.ensures.items in
     let long = ap length is in
     let more = length-append xs (c.args.item ∷ []) in
@@ -21,5 +21,5 @@ returns-then-len-eq-len-clause-items g c =
 pub returns-clause-items : goal.returns-clause-items
 returns-clause-items g c =
     let s = c.self.inside in
-    take_pushed s.slots.items s.len c.args.item (omega (arith, c.self.invariant.0, c.if-len-eq-len.false, c.len.ensures))
+    take_pushed s.slots.items s.len c.args.item (omega (arith, c.self.invariant.0, c.if-len.false, c.len.ensures))
     ∙ ap (λ (v : Items _). v.items ++ c.args.item ∷ []) c.self.view_is
