@@ -11,14 +11,14 @@ pub record AllTold : Type 0 where
   pub missed : Bool
 
 abbrev pub nothing_told : ℕ → AllTold
-nothing_told room = record { complaints = record { items = []; room = room }; missed = false }
+nothing_told capacity = record { complaints = record { items = []; capacity = capacity }; missed = false }
 
 abbrev pub with_complaint : Complaint → AllTold → AllTold
 with_complaint c t = record t { complaints = record t.complaints { items = t.complaints.items ++ c ∷ [] } }
 
 abbrev pub told : Kind → ℕ → AllTold → AllTold
 told kind line t =
-    if length t.complaints.items == t.complaints.room then record t { missed = true } else
+    if length t.complaints.items == t.complaints.capacity then record t { missed = true } else
     with_complaint (record { kind = kind; line = line }) t
 
 -- a heading or an item ends blocks: the last that was opened first

@@ -25,7 +25,7 @@ pub record Page : Type 0 where
 abbrev pub first_page : ℕ → ℕ → Page
 first_page blocks complaints = record {
   half = lines.first;
-  blocks = record { items = []; room = blocks };
+  blocks = record { items = []; capacity = blocks };
   told = telling.nothing_told complaints;
 }
 
@@ -39,7 +39,7 @@ with_blocks blocks p = record p { blocks = record p.blocks { items = blocks } }
 
 abbrev pub opened : List ℕ → Page → Page
 opened name p =
-    if length p.blocks.items == p.blocks.room then told (kinds.TooMany name) p else
+    if length p.blocks.items == p.blocks.capacity then told (kinds.TooMany name) p else
     with_blocks (insert p.blocks.items 0 (record { name = name; line = p.half.number })) p
 
 -- blocks that were opened in the one that is ended stay open

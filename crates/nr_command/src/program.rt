@@ -5,7 +5,7 @@ ghost use Rattle.nr_engine.specs.declared.outcome.Outcome.{Outcome};
 ghost use Rattle.nr_command_options.specs.declared.job.Job.{Job};
 ghost use Rattle.nr_command_options.specs.Job.{asked_of, texts};
 ghost use Rattle.nr_command_options.specs.Usage.{usage_text};
-ghost use Rattle.nr_command_options.specs.Words.{Complaint, IsAnswer};
+ghost use Rattle.nr_command_options.specs.Arguments.{Complaint, IsAnswer};
 ghost use Rattle.nr_command.specs.Faults.{Tells};
 ghost use Rattle.nr_command.specs.Memory.{Takes};
 ghost use Rattle.nr_command.specs.Program.{Comes, Ends, lacks_memory, line_of_end, status_of_end};

@@ -3,7 +3,7 @@ use Rattle.std.proofs.Common.{◌≡◌, ℕ, Bool, true, false, ◌||◌, List,
 use Rattle.std.proofs.lemmas.List.Elements.{filter_map-append}
 use Rattle.std.specs.List.{last_or, list_any, fold, AllZip}
 use Rattle.nr_command_options.specs.Settings.{Meaning, PrintOnly, BeginAt, SetRegister, ReadMacros, MacrosIn, ReadInput, SetLimit}
-use Rattle.nr_command_options.specs.Words.{AreFew, asked_by, last_of}
+use Rattle.nr_command_options.specs.Arguments.{AreFew, asked_by, last_of}
 use Rattle.nr_command_options.specs.Job.{Taken, OnlyMeans, HasRoom, with_meaning}
 
 pub last_of-append : {A : Type 0} (d : A) (xs : List A) (x : A) → last_of d (xs ++ x ∷ []) ≡ x

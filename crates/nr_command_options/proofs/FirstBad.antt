@@ -6,7 +6,7 @@ use Rattle.std.specs.List.{filter_map, AllZip}
 use Rattle.nr_command_options.specs.declared.usage.Case.{Case}
 use Rattle.nr_command_options.specs.declared.usage.Case.TheVariants.{LeftOut, Unknown, BadValue, TooMany}
 use Rattle.nr_command_options.specs.Settings.{Meaning, PrintOnly, BeginAt, SetRegister, ReadMacros, MacrosIn, ReadInput, SetLimit, Means, IsIllFormed, hyphen, letter_of, is_among, known_letters, left_out_letters}
-use Rattle.nr_command_options.specs.Words.{AreFew, IsFull, IsBad, Asked, Complaint, IsAnswer, IsGood, IsFirstBad, Mean, asked_by, register, macro_name, options, files}
+use Rattle.nr_command_options.specs.Arguments.{AreFew, IsFull, IsBad, Asked, Complaint, IsAnswer, IsGood, IsFirstBad, Mean, asked_by, register, macro_name, options, files}
 use Rattle.nr_command_options.specs.Job.{OnlyMeans, Taken, LacksRoom, Refuses}
 
 -- ---- a word is not bad and good

@@ -5,7 +5,7 @@ use Rattle.std.specs.Option.{ok_or}
 use Rattle.nr_command_options.specs.declared.usage.Case.TheVariants.{Unknown, BadValue}
 use Rattle.nr_command_options.specs.declared.settings.Setting.{Setting}
 use Rattle.nr_command_options.specs.Settings.{Meaning, SetRegister, hyphen, letter_of, IsValue, Means, WritesInteger, known_letters, left_out_letters, is_among, IsIllFormed}
-use Rattle.nr_command_options.specs.Words.{is_option}
+use Rattle.nr_command_options.specs.Arguments.{is_option}
 use Rattle.nr_command_options.specs.Job.{HasValue, Reads, ReadsOption}
 
 -- the letters are ASCII bytes

@@ -5,7 +5,7 @@ use Rattle.std.proofs.lemmas.List.Folds.{length-prefix_len}
 use Rattle.std.proofs.lemmas.List.Sums.{prefix_len_passes}
 use Rattle.std.specs.List.{prefix_len}
 use Rattle.std.specs.Borrow.{Bor}
-use Rattle.nr_command_options.specs.Words.{is_option, options, files}
+use Rattle.nr_command_options.specs.Arguments.{is_option, options, files}
 use Rattle.nr_command_options.specs.Job.{texts}
 
 pub texts-take : (n : ℕ) (words : List (Bor (List ℕ))) → texts (take n words) ≡ take n (texts words)

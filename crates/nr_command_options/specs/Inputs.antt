@@ -1,7 +1,7 @@
 -- What the program reads, in order.
 use Rattle.std.specs.Prelude.{ℕ, List, [], ◌∷◌, ◌++◌, map, ◌==◌, if◌then◌else◌, codes}
 use Rattle.nr_command_options.specs.Settings.{hyphen}
-use Rattle.nr_command_options.specs.Words.{Asked}
+use Rattle.nr_command_options.specs.Arguments.{Asked}
 use Rattle.nr_command_options.specs.declared.inputs.Input.{Input}
 use Rattle.nr_command_options.specs.declared.inputs.Input.TheVariants.{Macros, File, Standard}
 

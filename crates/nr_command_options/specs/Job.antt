@@ -10,7 +10,7 @@ use Rattle.nr_command_options.specs.declared.job.Job.{Job}
 use Rattle.nr_command_options.specs.declared.settings.Setting.{Setting}
 use Rattle.nr_command_options.specs.declared.settings.Setting.TheVariants.{Select, First, Register, Macros, Folder, Input, Limit}
 use Rattle.nr_command_options.specs.Settings.{Meaning, PrintOnly, BeginAt, SetRegister, ReadMacros, MacrosIn, ReadInput, SetLimit, Means, IsIllFormed, letter_of, IsValue}
-use Rattle.nr_command_options.specs.Words.{Asked, AreFew, asked_by, Complaint}
+use Rattle.nr_command_options.specs.Arguments.{Asked, AreFew, asked_by, Complaint}
 
 -- the texts that references point to
 abbrev pub texts : List (Bor (List ℕ)) → List (List ℕ)

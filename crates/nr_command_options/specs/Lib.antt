@@ -4,4 +4,4 @@ pub mod Inputs
 pub mod Settings
 pub mod Job
 pub mod Usage
-pub mod Words
+pub mod Arguments

@@ -1,6 +1,6 @@
 //! What the command line asks the program to do.
 ghost use Rattle.std.specs.Prelude.{◌≡◌, [], true};
-ghost use Rattle.nr_command_options.specs.Words.{asked_by, is_option};
+ghost use Rattle.nr_command_options.specs.Arguments.{asked_by, is_option};
 ghost use Rattle.nr_command_options.specs.Job.{Adds, CanBeAsked, Takes, asked_of, meaning_of, texts};
 
 use crate::settings::{Setting, read_option};

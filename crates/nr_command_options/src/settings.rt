@@ -2,7 +2,7 @@
 ghost use Rattle.std.specs.Prelude.{◌≡◌, ◌≢◌, ℕ, ◌<◌, List, ◌∷◌, IfSome, IfNone, true};
 ghost use Rattle.nr_units.specs.Character.{code};
 ghost use Rattle.nr_command_options.specs.Settings.{hyphen};
-ghost use Rattle.nr_command_options.specs.Words.{is_option};
+ghost use Rattle.nr_command_options.specs.Arguments.{is_option};
 ghost use Rattle.nr_command_options.specs.Job.{Reads, ReadsOption};
 
 use crate::texts::{LARGEST_NUMBER, read_integer, read_number, split_ascii};

@@ -5,10 +5,10 @@
 #![tactic(auto)]
 
 #[cfg(test)]
+mod arguments;
+#[cfg(test)]
 mod lines;
 #[cfg(test)]
 mod statuses;
 #[cfg(test)]
 mod systems;
-#[cfg(test)]
-mod words;

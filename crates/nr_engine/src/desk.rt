@@ -7,8 +7,8 @@ use crate::lengths::Sizes;
 use nr_fill::line::Line;
 use nr_options::Limits;
 use nr_page::page::room;
-use nr_rooms::CountedAlloc;
 use nr_store::memory::Room;
+use nr_vectors::CountedAlloc;
 use std::alloc::AllocError;
 use std::marker::Model;
 

@@ -31,7 +31,7 @@ pub struct Engine {
     pub(crate) resumed: Resume,
     /// What was gathered of levels last.
     pub(crate) gathered: Gathered,
-    ghost has_row: { row.room ≡ page.limit + 4096 },
+    ghost has_row: { row.capacity ≡ page.limit + 4096 },
 }
 
 impl Engine {

@@ -17,10 +17,10 @@ use nr_input::{Gathered, Place};
 use nr_options::{Limits, Options};
 use nr_page::Select;
 use nr_page::page::Page;
-use nr_rooms::CountedAlloc;
 use nr_units::Name;
 use nr_units::sink::Sink;
 use nr_units::source::Source;
+use nr_vectors::CountedAlloc;
 use std::alloc::AllocError;
 
 /// The greatest number that a register holds, and without its sign the least.

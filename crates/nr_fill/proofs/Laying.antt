@@ -14,7 +14,7 @@ use Rattle.nr_fill.proofs.PiecesOf.{length-pieces_of, pieces_of-append, pieces_o
 
 -- the parts of a row's value
 pub same_laid : {p p' : List Piece} {l l' t t' : List Cell} {r r' : ℕ} → p ≡ p' → l ≡ l' → t ≡ t' → r ≡ r'
-    → ◌≡◌ {A = Laid} (record { pieces = p; last = l; title = t; room = r }) (record { pieces = p'; last = l'; title = t'; room = r' })
+    → ◌≡◌ {A = Laid} (record { pieces = p; last = l; title = t; capacity = r }) (record { pieces = p'; last = l'; title = t'; capacity = r' })
 same_laid p_is l_is t_is r_is = rw (p_is, l_is, t_is, r_is) refl
 
 -- ---- lengths
@@ -197,24 +197,24 @@ cells_behind-laid_of {slots} {cells} {pieced = pieced} {read = read} room n part
 
 -- there is room for n cells more
 pub room_left : {slots : List PieceSlot} {cells : List Cell} {slot_room cell_room pieced read : ℕ} (now : Laid) (n : ℕ) → IsLaid slots cells slot_room cell_room pieced read
-    → laid_of slots cells pieced read (min slot_room cell_room) ≡ now → now.title ≡ [] → read_cells now + n ≤ now.room
+    → laid_of slots cells pieced read (min slot_room cell_room) ≡ now → now.title ≡ [] → read_cells now + n ≤ now.capacity
     → (read ≡ length cells) × (length cells + n ≤ cell_room)
 room_left {slot_room = slot_room} {cell_room} {read = read} now n h is none within =
     let room = min slot_room cell_room in
     let all = all_read room h (ap (λ (l : Laid). l.title) is ∙ none) in
     let cells_is : read ≡ read_cells now = sym (read_cells-laid_of room h) ∙ ap read_cells is in
-    let room_is : room ≡ now.room = ap (λ (l : Laid). l.room) is in
+    let room_is : room ≡ now.capacity = ap (λ (l : Laid). l.capacity) is in
     (all, omega arith)
 
 -- there is room for one cell more of a title
 pub title_room_left : {slots : List PieceSlot} {cells : List Cell} {slot_room cell_room pieced read : ℕ} (now : Laid) → IsLaid slots cells slot_room cell_room pieced read
-    → laid_of slots cells pieced read (min slot_room cell_room) ≡ now → read_cells now + length now.title < now.room
+    → laid_of slots cells pieced read (min slot_room cell_room) ≡ now → read_cells now + length now.title < now.capacity
     → length cells < cell_room
 title_room_left {cells = cells} {slot_room} {cell_room} {read = read} now h is within =
     let room = min slot_room cell_room in
     let cells_is : read ≡ read_cells now = sym (read_cells-laid_of room h) ∙ ap read_cells is in
     let title_is : length (drop read cells) ≡ length now.title = ap (λ (l : Laid). length l.title) is in
-    let room_is : room ≡ now.room = ap (λ (l : Laid). l.room) is in
+    let room_is : room ≡ now.capacity = ap (λ (l : Laid). l.capacity) is in
     omega (arith, length-drop read cells, h.read_within)
 
 -- how many cells stand after the last piece

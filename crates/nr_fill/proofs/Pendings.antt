@@ -79,7 +79,7 @@ is_line_pending {w = w} p b h needed =
 
 -- the numbers of a word are small
 pub record AreSmall (row : Laid) (limit pieces wide : ℕ) (w : WordState) : Type 0 where
-  pub room : limit ≤ row.room
+  pub room : limit ≤ row.capacity
   pub small : limit < 2 ^ 32
   pub text : pieces + read_cells row ≤ limit
   pub parted : w.parted + length row.last ≤ read_cells row

@@ -63,7 +63,7 @@ take_append room xs ys =
 
 -- the parts of a row
 pub same_row : {k k' : List Cell} {c c' w w' r r' : ℕ} → k ≡ k' → c ≡ c' → w ≡ w' → r ≡ r'
-    → ◌≡◌ {A = Row} (record { kept = k; count = c; written = w; room = r }) (record { kept = k'; count = c'; written = w'; room = r' })
+    → ◌≡◌ {A = Row} (record { kept = k; count = c; written = w; capacity = r }) (record { kept = k'; count = c'; written = w'; capacity = r' })
 same_row k_is c_is w_is r_is = rw (k_is, c_is, w_is, r_is) refl
 
 -- how many are written once more cells are added
@@ -88,7 +88,7 @@ pub row_extended : (room : ℕ) (xs ys : List Cell) (m : ℕ) → m ≡ min (len
       kept = take room xs ++ take m ys;
       count = min (counted (length xs) + length ys) (2 ^ 64 - 1);
       written = written_behind (counted (length (trimmed xs))) (counted (length xs)) (written ys);
-      room = room;
+      capacity = room;
     }) (row_of room (xs ++ ys))
 row_extended room xs ys m m_is =
     same_row (ap (λ n. take room xs ++ take n ys) m_is ∙ sym (take_append room xs ys)) (omega (arith, length-append xs ys)) (written_more xs ys) refl
@@ -99,7 +99,7 @@ pub row_blanked : (room : ℕ) (xs : List Cell) (n m : ℕ) → m ≡ min n (roo
       kept = take room xs ++ replicate m blank;
       count = min (counted (length xs) + n) (2 ^ 64 - 1);
       written = counted (length (trimmed xs));
-      room = room;
+      capacity = room;
     }) (row_of room (xs ++ replicate n blank))
 row_blanked room xs n m m_is =
     let many = length-replicate n blank in
@@ -133,7 +133,7 @@ row_whole {room = room} xs items_is count_is small none_gone = let long = ap len
 -- a row with more cells for which there is room, and none of whose own are gone
 pub row_laid : {items : List Cell} {count reached room : ℕ} (xs ys : List Cell) (n w : ℕ) → items ≡ take room xs → count ≡ counted (length xs) → reached ≡ counted (length (trimmed xs))
     → room < 2 ^ 32 → count ≡ length items → length items + length ys ≤ room → n ≡ counted (length ys) → w ≡ counted (length (trimmed ys))
-    → ◌≡◌ {A = Row} (record { kept = items ++ ys; count = length items + n; written = written_behind reached (length items) w; room = room }) (row_of room (xs ++ ys))
+    → ◌≡◌ {A = Row} (record { kept = items ++ ys; count = length items + n; written = written_behind reached (length items) w; capacity = room }) (row_of room (xs ++ ys))
 row_laid {items} {count} {reached} {room} xs ys n w items_is count_is reached_is small none_gone fits n_is w_is =
     let long = ap length items_is in
     let part = length-take room xs in

@@ -14,26 +14,26 @@ pub record Row : Type 0 where
   pub count : ℕ
   -- how many there are up to the last that is no blank
   pub written : ℕ
-  pub room : ℕ
+  pub capacity : ℕ
 
 -- what is kept of these cells
 abbrev pub row_of : ℕ → List Cell → Row
-row_of room cells =
+row_of capacity cells =
     record {
-      kept = take room cells;
+      kept = take capacity cells;
       count = counted (length cells);
       written = counted (length (trimmed cells));
-      room = room;
+      capacity = capacity;
     }
 
 -- the row holds these cells
 abbrev pub IsRow : List Cell → Row → Type 0
-IsRow cells r = r ≡ row_of r.room cells
+IsRow cells r = r ≡ row_of r.capacity cells
 
 -- these cells were added to a row
 abbrev pub AddsToRow : Row → List Cell → Row → Type 0
 AddsToRow old more new =
-    (new.room ≡ old.room) × ((cells : List Cell) → IsRow cells old → IsRow (cells ++ more) new)
+    (new.capacity ≡ old.capacity) × ((cells : List Cell) → IsRow cells old → IsRow (cells ++ more) new)
 
 -- nothing was added
 pub AddsToRow-nothing : (row : Row) → AddsToRow row [] row

@@ -11,18 +11,18 @@ pub record Laid : Type 0 where
   pub last : List Cell
   pub title : List Cell
   -- how many pieces there may be, and how many cells
-  pub room : ℕ
+  pub capacity : ℕ
 
 -- all cells but the title's
 abbrev pub read_cells : Laid → ℕ
 read_cells l = cells_in l.pieces + length l.last
 
 abbrev pub laid_of : List PieceSlot → List Cell → ℕ → ℕ → ℕ → Laid
-laid_of slots cells pieced read room = record {
+laid_of slots cells pieced read capacity = record {
   pieces = pieces_of slots cells;
   last = take (read - pieced) (drop pieced cells);
   title = drop read cells;
-  room = room;
+  capacity = capacity;
 }
 
 -- what is always true of the slices

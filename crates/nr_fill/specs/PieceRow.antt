@@ -55,7 +55,7 @@ pub record IsWord (w : WordState) (ps : List Piece) (cells : List Cell) : Type 0
 -- what is always true of a line's fields
 pub record IsLine (row : Laid) (limit pieces wide : ℕ) (word : Option WordState) (gap : ℕ)
     (title : Option TitleState) : Type 0 where
-  pub room : row.room ≡ limit
+  pub room : row.capacity ≡ limit
   pub is_small : limit < 2 ^ 32
   pub within : pieces + read_cells row + length row.title ≤ limit
   pub pieces_within : pieces ≤ length row.pieces

@@ -8,29 +8,29 @@ ghost use Rattle.nr_fill.specs.Spreading.{cells_in_line};
 use crate::cutting::{blanks_of, gap_behind};
 use crate::piece::PieceSlot;
 use crate::setting::Extra;
-use nr_rooms::FixedVec;
 use nr_units::cell::Cell;
 use nr_units::slice_vec::SliceVec;
+use nr_vectors::FixedVec;
 
-/// Cells in memory, with room for a number of them that stays.
+/// Cells in memory, with a capacity that stays.
 pub trait CellRow {
-    /// Its cells and its room.
+    /// Its cells and its capacity.
     ghost Holds: { Self → Items CellValue };
 
     /// Adds the first n of these cells.
     fn add_front(&mut self, cells: &[Cell], n: usize)
         requires front { n ≤ length cells.now }
-        requires room { length (Holds self.old).items + n ≤ (Holds self.old).room }
+        requires room { length (Holds self.old).items + n ≤ (Holds self.old).capacity }
         ensures items { (Holds self.new).items ≡ (Holds self.old).items ++ take n cells.now }
-        ensures room { (Holds self.new).room ≡ (Holds self.old).room };
+        ensures room { (Holds self.new).capacity ≡ (Holds self.old).capacity };
 
     /// Adds copies of a cell, and after them the first n of these cells.
     fn add_behind_copies(&mut self, cell: Cell, copies: usize, cells: &[Cell], n: usize)
         requires front { n ≤ length cells.now }
-        requires room { length (Holds self.old).items + copies + n ≤ (Holds self.old).room }
+        requires room { length (Holds self.old).items + copies + n ≤ (Holds self.old).capacity }
         ensures items { (Holds self.new).items ≡ (Holds self.old).items ++ replicate copies cell
             ++ take n cells.now }
-        ensures room { (Holds self.new).room ≡ (Holds self.old).room };
+        ensures room { (Holds self.new).capacity ≡ (Holds self.old).capacity };
 }
 
 impl CellRow for FixedVec<Cell> {
@@ -69,10 +69,10 @@ pub fn lay_line<R: CellRow>(slots: &[PieceSlot], cells: &[Cell], extra: Extra, r
     requires each { extra.each < 2 ^ 62 }
     requires few { length slots.now < 2 ^ 32 }
     requires room { length (R.Holds row.old).items
-        + length (cells_in_line extra (pieces_of slots.now cells.now)) ≤ (R.Holds row.old).room }
+        + length (cells_in_line extra (pieces_of slots.now cells.now)) ≤ (R.Holds row.old).capacity }
     ensures items { (R.Holds row.new).items ≡ (R.Holds row.old).items
         ++ cells_in_line extra (pieces_of slots.now cells.now) }
-    ensures room { (R.Holds row.new).room ≡ (R.Holds row.old).room }
+    ensures room { (R.Holds row.new).capacity ≡ (R.Holds row.old).capacity }
 {
     let mut taken = slots[0].len as usize;
     row.add_front(cells, taken);

@@ -1,7 +1,7 @@
 //! The collected line: text that is read and not set yet, cutting lines off it, spreading them, setting them in
 //! a row of cells, tab stops, and titles.
 //!
-//! It stands on nr_units, nr_rooms and nr_settings. To read: `piece`, `margins`, `setting`, `stops`; `measured`,
+//! It stands on nr_units, nr_vectors and nr_settings. To read: `piece`, `margins`, `setting`, `stops`; `measured`,
 //! `cells`, `title`; `cutting`, `cell_row`, `out`; `plain`, `queue`, `piece_row`; then `line`, and its calls in `words`,
 //! `runs`, `tabs`, `taking`, `titling`.
 #![tactic(auto)]

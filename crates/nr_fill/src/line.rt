@@ -9,8 +9,8 @@ use crate::piece::Join;
 use crate::piece_row::PieceRow;
 use crate::stops::Pending;
 use crate::title::TitleState;
-use nr_rooms::CountedAlloc;
 use nr_units::cell::Cell;
+use nr_vectors::CountedAlloc;
 use std::alloc::AllocError;
 use std::marker::Model;
 

@@ -13,12 +13,12 @@ use crate::cells::CellSink;
 use crate::measured::{Extent, written_behind, written_len};
 use crate::piece::PieceSlot;
 use crate::setting::Extra;
-use nr_rooms::{CountedAlloc, FixedVec};
 use nr_units::cell::Cell;
+use nr_vectors::{CountedAlloc, FixedVec};
 use std::alloc::AllocError;
 use std::marker::Model;
 
-/// A row of cells, with room for a number of them that stays. Cells for which it has no room are only counted: how many there are,
+/// A row of cells, with a capacity that stays. Cells for which it has no room are only counted: how many there are,
 /// and how many up to the last that is no blank.
 ///
 /// Clauses see what is kept of a row as a value of its own, and say of each call what it does to whatever row that may be.
@@ -39,21 +39,21 @@ impl Model for Out {
       kept = o.cells.items;
       count = o.count;
       written = o.written;
-      room = o.cells.room;
+      capacity = o.cells.capacity;
     } };
 
-    ghost invariant = { λ o. o.cells.room < 2 ^ 32 };
+    ghost invariant = { λ o. o.cells.capacity < 2 ^ 32 };
 }
 
 impl Out {
     /// A row with no cells, and room for so many: `AllocError` where there is no memory for them. No other call allocates.
-    pub fn new(alloc: &mut CountedAlloc, room: usize) -> Result<Out, AllocError>
-        requires { room < 2 ^ 32 }
-        ensures made { IfOk result (λ made. made ≡ row_of room []) }
-        ensures taken { IfOk result (λ made. alloc.new ≡ alloc.old + room) }
+    pub fn new(alloc: &mut CountedAlloc, capacity: usize) -> Result<Out, AllocError>
+        requires { capacity < 2 ^ 32 }
+        ensures made { IfOk result (λ made. made ≡ row_of capacity []) }
+        ensures taken { IfOk result (λ made. alloc.new ≡ alloc.old + capacity) }
     {
         Ok(Out {
-            cells: FixedVec::new(alloc, room)?,
+            cells: FixedVec::new(alloc, capacity)?,
             count: 0,
             written: 0,
         })
@@ -61,7 +61,7 @@ impl Out {
 
     /// How many cells there is memory for, as their vector tells.
     pub fn memory(&self) -> usize
-        ensures { result ≡ self.now.room }
+        ensures { result ≡ self.now.capacity }
     {
         self.cells.memory()
     }
@@ -69,7 +69,7 @@ impl Out {
     /// The row without the blanks at its end, where there was room for it.
     pub fn row(&self) -> Option<&[Cell]>
         ensures { (cells : List CellValue) → IsRow cells self.now →
-            MatchOption result (self.now.room < length (trimmed cells)) (λ row. row.now ≡ trimmed cells) }
+            MatchOption result (self.now.capacity < length (trimmed cells)) (λ row. row.now ≡ trimmed cells) }
     {
         if self.written <= self.cells.len() {
             Some(&self.cells.as_slice()[..self.written])
@@ -97,7 +97,7 @@ impl Out {
     /// Takes all cells away.
     #[inline]
     pub fn clear(&mut self)
-        ensures { self.new ≡ row_of self.old.room [] }
+        ensures { self.new ≡ row_of self.old.capacity [] }
     {
         self.cells.clear();
         self.count = 0;
@@ -111,7 +111,7 @@ impl CellSink for Out {
     #[inline]
     fn push(&mut self, cell: Cell) {
         let one = [cell];
-        let kept = one.len().min(self.cells.room() - self.cells.len());
+        let kept = one.len().min(self.cells.capacity() - self.cells.len());
         self.cells.extend_copies(cell, kept);
         self.written = written_behind(self.written, self.count, written_len(&one));
         self.count = self.count.saturating_add(one.len());
@@ -119,7 +119,7 @@ impl CellSink for Out {
 
     #[inline]
     fn extend(&mut self, cells: &[Cell]) {
-        let n = cells.len().min(self.cells.room() - self.cells.len());
+        let n = cells.len().min(self.cells.capacity() - self.cells.len());
         self.cells.extend(&cells[..n]);
         self.written = written_behind(self.written, self.count, written_len(cells));
         self.count = self.count.saturating_add(cells.len());
@@ -127,7 +127,7 @@ impl CellSink for Out {
 
     #[inline]
     fn blanks(&mut self, n: usize) {
-        let kept = n.min(self.cells.room() - self.cells.len());
+        let kept = n.min(self.cells.capacity() - self.cells.len());
         self.cells.extend_copies(Cell::blank(), kept);
         self.count = self.count.saturating_add(n);
     }
@@ -152,10 +152,10 @@ impl CellSink for Out {
             extent.written) }
         ensures none { result ≡ None → self.new ≡ self.old }
         ensures laid { (before : List CellValue) → IsRow before self.old
-            → (IsSome result ↔ (length before + most ≤ self.old.room)) }
+            → (IsSome result ↔ (length before + most ≤ self.old.capacity)) }
     {
         let start = self.cells.len();
-        if self.count != start || most > self.cells.room() - start {
+        if self.count != start || most > self.cells.capacity() - start {
             return None;
         }
         lay_line(slots, cells, extra, &mut self.cells);

@@ -15,8 +15,8 @@ use crate::measured::Extent;
 use crate::piece::{Join, PieceSlot};
 use crate::queue::Queue;
 use crate::setting::Extra;
-use nr_rooms::CountedAlloc;
 use nr_units::cell::Cell;
+use nr_vectors::CountedAlloc;
 use std::alloc::AllocError;
 use std::marker::Model;
 
@@ -38,9 +38,11 @@ impl Model for PieceRow {
 
     ghost Value = { Laid };
 
-    ghost view = { λ r. laid_of r.slots.items r.cells.items r.pieced r.read (min r.slots.room r.cells.room) };
+    ghost view = { λ r.
+        laid_of r.slots.items r.cells.items r.pieced r.read (min r.slots.capacity r.cells.capacity) };
 
-    ghost invariant = { λ r. IsLaid r.slots.items r.cells.items r.slots.room r.cells.room r.pieced r.read };
+    ghost invariant = { λ r.
+        IsLaid r.slots.items r.cells.items r.slots.capacity r.cells.capacity r.pieced r.read };
 }
 
 impl PieceRow {
@@ -56,7 +58,7 @@ impl PieceRow {
           pieces = [];
           last = [];
           title = [];
-          room = min pieces cells;
+          capacity = min pieces cells;
         }) }
         ensures taken { IfOk result (λ made. alloc.new ≡ alloc.old + cells + pieces) }
     {
@@ -80,14 +82,14 @@ impl PieceRow {
 
     /// How many cells there is memory for, as their vector tells.
     pub(crate) fn cell_memory(&self) -> usize
-        ensures { result ≡ self.now.room }
+        ensures { result ≡ self.now.capacity }
     {
         self.cells.memory()
     }
 
     /// How many pieces there is memory for, as their vector tells.
     pub(crate) fn piece_memory(&self) -> usize
-        ensures { result ≡ self.now.room }
+        ensures { result ≡ self.now.capacity }
     {
         self.slots.memory()
     }
@@ -135,7 +137,7 @@ impl PieceRow {
     /// One more cell after the last piece.
     #[inline]
     pub(crate) fn push(&mut self, cell: Cell)
-        requires room { read_cells self.old < self.old.room }
+        requires room { read_cells self.old < self.old.capacity }
         requires no_title { self.old.title ≡ [] }
         ensures { self.new ≡ record self.old { last = self.old.last ++ cell ∷ [] } }
     {
@@ -147,7 +149,7 @@ impl PieceRow {
     /// are.
     #[inline]
     pub(crate) fn push_plain(&mut self, under: bool, bytes: &[u8]) -> usize
-        requires room { read_cells self.old + length bytes.now ≤ self.old.room }
+        requires room { read_cells self.old + length bytes.now ≤ self.old.capacity }
         requires no_title { self.old.title ≡ [] }
         ensures front { result ≤ length bytes.now }
         ensures plain { All IsPlain (take result bytes.now) }
@@ -163,7 +165,7 @@ impl PieceRow {
     /// Puts n copies of a cell in, so many cells after the last piece.
     pub(crate) fn insert_copies(&mut self, place: usize, cell: Cell, n: usize)
         requires within { place ≤ length self.old.last }
-        requires room { read_cells self.old + n ≤ self.old.room }
+        requires room { read_cells self.old + n ≤ self.old.capacity }
         requires no_title { self.old.title ≡ [] }
         ensures { self.new ≡ record self.old
             { last = take place self.old.last ++ replicate n cell ++ drop place self.old.last } }
@@ -175,7 +177,7 @@ impl PieceRow {
     /// n copies of a cell more after the last piece.
     #[inline]
     pub(crate) fn push_copies(&mut self, cell: Cell, n: usize)
-        requires room { read_cells self.old + n ≤ self.old.room }
+        requires room { read_cells self.old + n ≤ self.old.capacity }
         requires no_title { self.old.title ≡ [] }
         ensures { self.new ≡ record self.old { last = self.old.last ++ replicate n cell } }
     {
@@ -197,7 +199,7 @@ impl PieceRow {
     #[inline]
     pub(crate) fn close(&mut self, join: Join, n: usize)
         requires within { n ≤ length self.old.last }
-        requires room { length self.old.pieces < self.old.room }
+        requires room { length self.old.pieces < self.old.capacity }
         ensures { self.new ≡ record self.old {
           pieces = self.old.pieces ++ record { join = join; cells = take n self.old.last } ∷ [];
           last = drop n self.old.last;
@@ -237,7 +239,7 @@ impl PieceRow {
 
     /// One more cell of a title.
     pub(crate) fn push_title(&mut self, cell: Cell)
-        requires { read_cells self.old + length self.old.title < self.old.room }
+        requires { read_cells self.old + length self.old.title < self.old.capacity }
         ensures { self.new ≡ record self.old { title = self.old.title ++ cell ∷ [] } }
     {
         self.cells.push(cell);

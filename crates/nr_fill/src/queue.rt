@@ -1,10 +1,10 @@
-// Items that come in at the end and go out at the front, for which room is taken once.
+// Items that come in at the end and go out at the front, whose capacity is taken once.
 ghost use Rattle.std.specs.Prelude.{◌≡◌, ◌+◌, ◌-◌, ◌<◌, ◌≤◌, [], ◌∷◌, ◌++◌, length, map, take, drop, replicate, slice_index, All, IfOk};
 ghost use Rattle.nr_fill.specs.Plain.{IsPlain, run_cell};
 
 use crate::plain::set_plain;
-use nr_rooms::{CountedAlloc, ReservedVec};
 use nr_units::cell::Cell;
+use nr_vectors::{CountedAlloc, ReservedVec};
 use std::alloc::AllocError;
 use std::marker::Model;
 
@@ -17,7 +17,7 @@ pub(crate) struct Queue<T: Copy> {
     slots: ReservedVec<T>,
     start: usize,
     end: usize,
-    room: usize,
+    capacity: usize,
 }
 
 impl<T: Copy> Model for Queue<T> {
@@ -26,10 +26,11 @@ impl<T: Copy> Model for Queue<T> {
 
     ghost Value = { Items T };
 
-    ghost view = { λ q. record { items = drop q.start (take q.end q.slots.items); room = q.room } };
+    ghost view = { λ q. record { items = drop q.start (take q.end q.slots.items); capacity = q.capacity } };
 
     ghost invariant = { λ q. (q.start ≤ q.end)
-        × ((q.end ≤ length q.slots.items) × ((length q.slots.items ≤ q.room) × (q.slots.room ≡ q.room))) };
+        × ((q.end ≤ length q.slots.items)
+        × ((length q.slots.items ≤ q.capacity) × (q.slots.capacity ≡ q.capacity))) };
 }
 
 /// Where items stand in a vector.
@@ -43,27 +44,27 @@ struct Span {
 #[inline]
 fn make_room<T: Copy>(
     slots: &mut ReservedVec<T>,
-    room: usize,
+    capacity: usize,
     span: Span,
     n: usize,
     item: T,
 ) -> Span
     requires ordered { span.start ≤ span.end }
     requires within { span.end ≤ length slots.old.items }
-    requires held { length slots.old.items ≤ room }
-    requires capacity { slots.old.room ≡ room }
-    requires room { span.end - span.start + n ≤ room }
+    requires held { length slots.old.items ≤ capacity }
+    requires capacity { slots.old.capacity ≡ capacity }
+    requires room { span.end - span.start + n ≤ capacity }
     ensures items { drop result.start (take result.end slots.new.items)
         ≡ drop span.start (take span.end slots.old.items) }
     ensures ordered { result.start ≤ result.end }
     ensures free { result.end + n ≤ length slots.new.items }
-    ensures held { length slots.new.items ≤ room }
-    ensures capacity { slots.new.room ≡ slots.old.room }
+    ensures held { length slots.new.items ≤ capacity }
+    ensures capacity { slots.new.capacity ≡ slots.old.capacity }
 {
     if n <= slots.len() - span.end {
         return span;
     }
-    move_to_front(slots, room, span, n, item)
+    move_to_front(slots, capacity, span, n, item)
 }
 
 /// The same where there are not so many: the items move to the front. There are slots for twice as many items and n more then, if
@@ -71,26 +72,26 @@ fn make_room<T: Copy>(
 #[cold]
 fn move_to_front<T: Copy>(
     slots: &mut ReservedVec<T>,
-    room: usize,
+    capacity: usize,
     span: Span,
     n: usize,
     item: T,
 ) -> Span
     requires ordered { span.start ≤ span.end }
     requires within { span.end ≤ length slots.old.items }
-    requires held { length slots.old.items ≤ room }
-    requires capacity { slots.old.room ≡ room }
-    requires room { span.end - span.start + n ≤ room }
+    requires held { length slots.old.items ≤ capacity }
+    requires capacity { slots.old.capacity ≡ capacity }
+    requires room { span.end - span.start + n ≤ capacity }
     ensures items { drop result.start (take result.end slots.new.items)
         ≡ drop span.start (take span.end slots.old.items) }
     ensures ordered { result.start ≤ result.end }
     ensures free { result.end + n ≤ length slots.new.items }
-    ensures held { length slots.new.items ≤ room }
-    ensures capacity { slots.new.room ≡ slots.old.room }
+    ensures held { length slots.new.items ≤ capacity }
+    ensures capacity { slots.new.capacity ≡ slots.old.capacity }
 {
     slots.copy_within(span.start..span.end, 0);
     let end = span.end - span.start;
-    let least = end.saturating_mul(2).saturating_add(n).min(room);
+    let least = end.saturating_mul(2).saturating_add(n).min(capacity);
     slots.lengthen(least, item);
     Span { start: 0, end }
 }
@@ -108,19 +109,19 @@ impl Queue<Cell> {
     /// Puts the cells of these bytes at the end, up to the first that is not plain, and tells how many these are.
     #[inline]
     pub(crate) fn push_plain(&mut self, under: bool, bytes: &[u8]) -> usize
-        requires { length self.old.items + length bytes.now ≤ self.old.room }
+        requires { length self.old.items + length bytes.now ≤ self.old.capacity }
         ensures front { result ≤ length bytes.now }
         ensures plain { All IsPlain (take result bytes.now) }
         ensures stops { result < length bytes.now → ¬ IsPlain (slice_index bytes.now result) }
         ensures items { self.new.items ≡ self.old.items ++ map (run_cell under) (take result bytes.now) }
-        ensures room { self.new.room ≡ self.old.room }
+        ensures room { self.new.capacity ≡ self.old.capacity }
     {
         let span = Span {
             start: self.start,
             end: self.end,
         };
         let n = bytes.len();
-        let span = make_room(&mut self.slots, self.room, span, n, Cell::blank());
+        let span = make_room(&mut self.slots, self.capacity, span, n, Cell::blank());
         let slots = self.slots.as_mut_slice();
         let count = set_plain(&mut slots[span.end..span.end + n], under, bytes);
         self.start = span.start;
@@ -131,22 +132,22 @@ impl Queue<Cell> {
 
 impl<T: Copy> Queue<T> {
     /// No items, and room for so many: `AllocError` where there is no memory for them.
-    pub(crate) fn new(alloc: &mut CountedAlloc, room: usize) -> Result<Queue<T>, AllocError>
-        ensures made { IfOk result (λ made. made ≡ record { items = []; room = room }) }
-        ensures taken { IfOk result (λ made. alloc.new ≡ alloc.old + room) }
+    pub(crate) fn new(alloc: &mut CountedAlloc, capacity: usize) -> Result<Queue<T>, AllocError>
+        ensures made { IfOk result (λ made. made ≡ record { items = []; capacity = capacity }) }
+        ensures taken { IfOk result (λ made. alloc.new ≡ alloc.old + capacity) }
     {
-        let slots = ReservedVec::new(alloc, room)?;
+        let slots = ReservedVec::new(alloc, capacity)?;
         Ok(Queue {
             slots,
             start: 0,
             end: 0,
-            room,
+            capacity,
         })
     }
 
     /// How many items there is memory for, as its vector tells.
     pub(crate) fn memory(&self) -> usize
-        ensures { result ≡ self.now.room }
+        ensures { result ≡ self.now.capacity }
     {
         self.slots.capacity()
     }
@@ -154,7 +155,7 @@ impl<T: Copy> Queue<T> {
     #[inline]
     pub(crate) fn len(&self) -> usize
         ensures value { result ≡ length self.now.items }
-        ensures within { result ≤ self.now.room }
+        ensures within { result ≤ self.now.capacity }
     {
         self.end - self.start
     }
@@ -162,7 +163,7 @@ impl<T: Copy> Queue<T> {
     #[inline]
     pub(crate) fn as_slice(&self) -> &[T]
         ensures value { result.now ≡ self.now.items }
-        ensures within { length result.now ≤ self.now.room }
+        ensures within { length result.now ≤ self.now.capacity }
     {
         let slots = self.slots.as_slice();
         &slots[self.start..self.end]
@@ -170,15 +171,15 @@ impl<T: Copy> Queue<T> {
 
     #[inline]
     pub(crate) fn push(&mut self, item: T)
-        requires { length self.old.items < self.old.room }
+        requires { length self.old.items < self.old.capacity }
         ensures items { self.new.items ≡ self.old.items ++ item ∷ [] }
-        ensures room { self.new.room ≡ self.old.room }
+        ensures room { self.new.capacity ≡ self.old.capacity }
     {
         let span = Span {
             start: self.start,
             end: self.end,
         };
-        let span = make_room(&mut self.slots, self.room, span, 1, item);
+        let span = make_room(&mut self.slots, self.capacity, span, 1, item);
         self.slots[span.end] = item;
         self.start = span.start;
         self.end = span.end + 1;
@@ -187,15 +188,15 @@ impl<T: Copy> Queue<T> {
     /// Puts n copies of an item at the end.
     #[inline]
     pub(crate) fn push_copies(&mut self, item: T, n: usize)
-        requires { length self.old.items + n ≤ self.old.room }
+        requires { length self.old.items + n ≤ self.old.capacity }
         ensures items { self.new.items ≡ self.old.items ++ replicate n item }
-        ensures room { self.new.room ≡ self.old.room }
+        ensures room { self.new.capacity ≡ self.old.capacity }
     {
         let span = Span {
             start: self.start,
             end: self.end,
         };
-        let span = make_room(&mut self.slots, self.room, span, n, item);
+        let span = make_room(&mut self.slots, self.capacity, span, n, item);
         let slots = self.slots.as_mut_slice();
         set_all(&mut slots[span.end..span.end + n], item);
         self.start = span.start;
@@ -205,16 +206,16 @@ impl<T: Copy> Queue<T> {
     /// Puts n copies of an item before the item at a place, or at the end.
     pub(crate) fn insert_copies(&mut self, place: usize, item: T, n: usize)
         requires within { place ≤ length self.old.items }
-        requires room { length self.old.items + n ≤ self.old.room }
+        requires room { length self.old.items + n ≤ self.old.capacity }
         ensures items { self.new.items ≡ take place self.old.items ++ replicate n item
             ++ drop place self.old.items }
-        ensures room { self.new.room ≡ self.old.room }
+        ensures room { self.new.capacity ≡ self.old.capacity }
     {
         let span = Span {
             start: self.start,
             end: self.end,
         };
-        let span = make_room(&mut self.slots, self.room, span, n, item);
+        let span = make_room(&mut self.slots, self.capacity, span, n, item);
         let at = span.start + place;
         self.slots.copy_within(at..span.end, at + n);
         let slots = self.slots.as_mut_slice();
@@ -227,7 +228,7 @@ impl<T: Copy> Queue<T> {
     pub(crate) fn remove_front(&mut self, n: usize)
         requires { n ≤ length self.old.items }
         ensures items { self.new.items ≡ drop n self.old.items }
-        ensures room { self.new.room ≡ self.old.room }
+        ensures room { self.new.capacity ≡ self.old.capacity }
     {
         let start = self.start + n;
         let left = self.end - start;
@@ -243,7 +244,7 @@ impl<T: Copy> Queue<T> {
     /// Takes all items away.
     pub(crate) fn clear(&mut self)
         ensures items { self.new.items ≡ [] }
-        ensures room { self.new.room ≡ self.old.room }
+        ensures room { self.new.capacity ≡ self.old.capacity }
     {
         self.start = 0;
         self.end = 0;
@@ -254,7 +255,7 @@ impl<T: Copy> Queue<T> {
     pub(crate) fn truncate(&mut self, n: usize)
         requires { n ≤ length self.old.items }
         ensures items { self.new.items ≡ take n self.old.items }
-        ensures room { self.new.room ≡ self.old.room }
+        ensures room { self.new.capacity ≡ self.old.capacity }
     {
         self.end = self.start + n;
     }

@@ -4,7 +4,7 @@ use Rattle.std.proofs.lemmas.List.{take_more}
 use Rattle.std.specs.Borrow.{Bor}
 use Rattle.nr_filters.specs.declared.disk.Text.{Text}
 use Rattle.nr_filters.specs.Disk.{AreNamed, IsNamed}
-use Rattle.nr_filters.specs.Words.{texts}
+use Rattle.nr_filters.specs.Arguments.{texts}
 
 texts-last : (words : List (Bor (List ℕ))) (word : Bor (List ℕ)) → texts (words ++ word ∷ []) ≡ texts words ++ word.now ∷ []
 texts-last [] word = refl

@@ -1,4 +1,4 @@
 pub mod Disk
 pub mod Endings
 pub mod Lines
-pub mod Words
+pub mod Arguments

@@ -1,7 +1,7 @@
 // The texts of a system: files by their names, and standard input.
 ghost use Rattle.std.specs.Prelude.{◌≡◌, IfOk};
 ghost use Rattle.nr_filters.specs.Disk.{AreNamed, IsNamed, named};
-ghost use Rattle.nr_filters.specs.Words.{texts};
+ghost use Rattle.nr_filters.specs.Arguments.{texts};
 
 use super::endings::Ending;
 use std::alloc::Global;

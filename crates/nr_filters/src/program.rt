@@ -1,9 +1,9 @@
 // A program over its words, its texts and given streams.
 ghost use Rattle.std.specs.Prelude.{◌≤◌};
 
+use super::arguments::borrowed;
 use super::disk::Disk;
 use super::endings::{Ending, tell};
-use super::words::borrowed;
 use nr_command_line::{SystemWords, words_of};
 use nr_units::over_std::ToWriter;
 use nr_units::sink::Sink;

@@ -11,10 +11,10 @@ use crate::paper::{Given, Outlet, Paper};
 use crate::tasks::{Resume, Step, Task};
 use nr_fill::line::Line;
 use nr_input::{Event, Reader};
-use nr_rooms::CountedAlloc;
 use nr_settings::Settings;
 use nr_store::Store;
 use nr_units::Name;
+use nr_vectors::CountedAlloc;
 use std::alloc::AllocError;
 
 /// An input line trap. (CSTR 54, section 7.5)

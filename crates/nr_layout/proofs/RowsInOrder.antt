@@ -32,7 +32,7 @@ own_rows-append t (i ∷ a) b = ap (λ (l : List ℕ). own_row t i ++ l) (own_ro
 
 record Met (t : Table) (lines : ℕ) (rows : List ℕ) (u : Table) : Type 0 where
   few : length u.steps.items ≤ lines
-  room : u.steps.room ≡ t.steps.room
+  room : u.steps.capacity ≡ t.steps.capacity
   are : rows_of u.steps.items ≡ rows
   items : u.items ≡ t.items
   own : (r : ℕ) → (row u r).own ≡ (row t r).own
@@ -43,18 +43,18 @@ more_lines n h m = record { few = omega (arith, h, m.few); room = m.room; are = 
 with_rows : {t : Table} {lines : ℕ} {rows : List ℕ} {u : Table} (more : List ℕ) → rows ≡ more → Met t lines rows u → Met t lines more u
 with_rows more e m = record { few = m.few; room = m.room; are = m.are ∙ e; items = m.items; own = m.own }
 
-added_items : (s : Step) (xs : Items Step) → length xs.items < xs.room → (added s xs).items ≡ xs.items ++ s ∷ []
-added_items s xs h = fits (nat_lt (length xs.items) xs.room) (grind (arith, nat_tests, h))
+added_items : (s : Step) (xs : Items Step) → length xs.items < xs.capacity → (added s xs).items ≡ xs.items ++ s ∷ []
+added_items s xs h = fits (nat_lt (length xs.items) xs.capacity) (grind (arith, nat_tests, h))
   where
     fits : (b : Bool) → b ≡ true → (if b then xs.items ++ s ∷ [] else xs.items) ≡ xs.items ++ s ∷ []
     fits true e = refl
     fits false e = cc
 
-step_met : (t : Table) (lines : ℕ) (rows : List ℕ) (kind : StepKind) (n : ℕ) (w : Walking) → lines < t.steps.room → Met t lines rows w.table
+step_met : (t : Table) (lines : ℕ) (rows : List ℕ) (kind : StepKind) (n : ℕ) (w : Walking) → lines < t.steps.capacity → Met t lines rows w.table
     → Met t (suc lines) (rows ++ row_of kind) (stepped kind n w).table
 step_met t lines rows kind n w h m =
     let s : Step = step_at kind w.walk.line in
-    let inside : length w.table.steps.items < w.table.steps.room = omega (arith, h, m.few, m.room) in
+    let inside : length w.table.steps.items < w.table.steps.capacity = omega (arith, h, m.few, m.room) in
     let are : (added s w.table.steps).items ≡ w.table.steps.items ++ s ∷ [] = added_items s w.table.steps inside in
     let more : length (w.table.steps.items ++ s ∷ []) ≡ length w.table.steps.items + 1 = length-append w.table.steps.items (s ∷ []) in
     record {
@@ -68,7 +68,7 @@ step_met t lines rows kind n w h m =
     }
 
 -- a line that is no row
-other_met : (t : Table) (lines : ℕ) (rows : List ℕ) (kind : StepKind) (n : ℕ) (w : Walking) → row_of kind ≡ [] → lines < t.steps.room
+other_met : (t : Table) (lines : ℕ) (rows : List ℕ) (kind : StepKind) (n : ℕ) (w : Walking) → row_of kind ≡ [] → lines < t.steps.capacity
     → Met t lines rows w.table → Met t (suc lines) rows (stepped kind n w).table
 other_met t lines rows kind n w e h m =
     with_rows rows (ap (λ (l : List ℕ). rows ++ l) e ∙ append-nil rows) (step_met t lines rows kind n w h m)
@@ -78,7 +78,7 @@ if_met : (t : Table) (lines : ℕ) (rows : List ℕ) (b : Bool) (x y : Walking) 
 if_met t lines rows true x y m k = m
 if_met t lines rows false x y m k = k
 
-released_met : (t : Table) (lines : ℕ) (rows : List ℕ) (below : Option ℕ) (w : Walking) → lines < t.steps.room → Met t lines rows w.table
+released_met : (t : Table) (lines : ℕ) (rows : List ℕ) (below : Option ℕ) (w : Walking) → lines < t.steps.capacity → Met t lines rows w.table
     → Met t (suc lines) rows (released below w).table
 released_met t lines rows below w h m =
     if_met t (suc lines) rows w.walk.ruled (stepped (steps.Rule w.walk.last below) 1 w) w
@@ -86,7 +86,7 @@ released_met t lines rows below w h m =
 
 -- ---- an item
 
-request_met : (t : Table) (lines : ℕ) (rows : List ℕ) (space last : Option ℕ) (s : Span) (w : Walking) → suc lines < t.steps.room
+request_met : (t : Table) (lines : ℕ) (rows : List ℕ) (space last : Option ℕ) (s : Span) (w : Walking) → suc lines < t.steps.capacity
     → Met t lines rows w.table → Met t (suc (suc lines)) rows (asked space last s w).table
 request_met t lines rows None last s w h m =
     more_lines (suc (suc lines)) (omega arith) (other_met t lines rows (steps.Request s) 1 w refl (omega (arith, h)) m)
@@ -107,7 +107,7 @@ row_step_met t lines rows n r u e m = record {
       set_same (λ (x : Row). x.own) u.rows.items n (record r { step = length u.steps.items }) no_row (e ∙ sym (m.own n)) i ∙ m.own i;
 }
 
-own_row_met : (t : Table) (lines : ℕ) (rows : List ℕ) (n : ℕ) (r : Row) (w : Walking) → lines + 4 ≤ t.steps.room → r.own ≡ (row t n).own
+own_row_met : (t : Table) (lines : ℕ) (rows : List ℕ) (n : ℕ) (r : Row) (w : Walking) → lines + 4 ≤ t.steps.capacity → r.own ≡ (row t n).own
     → Met t lines rows w.table → Met t (suc (suc (suc (suc lines)))) (rows ++ n ∷ []) (walked_own_row n r w).table
 own_row_met t lines rows n r w h e m =
     let before : Walking = stepped (steps.Before n w.walk.ruled) 0 w in
@@ -123,7 +123,7 @@ own_row_met t lines rows n r w h e m =
     (other_met t (suc (suc (suc lines))) (rows ++ n ∷ []) (steps.Beyond n) 1 line refl (omega (arith, h)) m4)
     (more_lines (suc (suc (suc (suc lines)))) (omega arith) m4)
 
-row_met : (t : Table) (lines : ℕ) (rows : List ℕ) (n : ℕ) (r : Row) (w : Walking) → lines + 4 ≤ t.steps.room → r.own ≡ (row t n).own
+row_met : (t : Table) (lines : ℕ) (rows : List ℕ) (n : ℕ) (r : Row) (w : Walking) → lines + 4 ≤ t.steps.capacity → r.own ≡ (row t n).own
     → Met t lines rows w.table → (b : Bool) → r.own ≡ b
     → Met t (suc (suc (suc (suc lines)))) (rows ++ (if b then n ∷ [] else [])) (if b then walked_own_row n r w else stepped (steps.Before n false) 0 w).table
 row_met t lines rows n r w h e m true is = own_row_met t lines rows n r w h e m
@@ -131,7 +131,7 @@ row_met t lines rows n r w h e m false is =
     with_rows (rows ++ []) (sym (append-nil rows))
     (more_lines (suc (suc (suc (suc lines)))) (omega arith) (other_met t lines rows (steps.Before n false) 0 w refl (omega (arith, h)) m))
 
-item_met : (t : Table) (lines : ℕ) (rows : List ℕ) (i : Item) (w : Walking) → lines + 4 ≤ t.steps.room → Met t lines rows w.table
+item_met : (t : Table) (lines : ℕ) (rows : List ℕ) (i : Item) (w : Walking) → lines + 4 ≤ t.steps.capacity → Met t lines rows w.table
     → Met t (suc (suc (suc (suc lines)))) (rows ++ own_row t i) (walked_item i w).table
 item_met t lines rows items.Rule w h m =
     with_rows (rows ++ []) (sym (append-nil rows))
@@ -146,7 +146,7 @@ item_met t lines rows (items.Row n) w h m =
 
 -- ---- all items
 
-all_met : (t : Table) (k : ℕ) (w : Walking) → k ≤ length t.items.items → 4 * length t.items.items + 4 ≤ t.steps.room → Met t 1 [] w.table
+all_met : (t : Table) (k : ℕ) (w : Walking) → k ≤ length t.items.items → 4 * length t.items.items + 4 ≤ t.steps.capacity → Met t 1 [] w.table
     → Met t (4 * k + 1) (own_rows t (take k t.items.items)) (in_turn k walked_at w).table
 all_met t zero w h room m = more_lines (4 * zero + 1) (omega arith) m
 all_met t (suc k) w h room m =
@@ -163,14 +163,14 @@ all_met t (suc k) w h room m =
     ∙ ap (own_rows t) (sym (take-suc t.items.items k items.Rule (omega (arith, h)))) in
     with_rows (own_rows t (take (suc k) t.items.items)) more (more_lines (4 * suc k + 1) (omega arith) now)
 
-begun_met : (t : Table) → 4 ≤ t.steps.room → Met t 1 [] (walk_begun (without_steps t)).table
+begun_met : (t : Table) → 4 ≤ t.steps.capacity → Met t 1 [] (walk_begun (without_steps t)).table
 begun_met t room =
     let u : Table = without_steps t in
     let first : Met t 0 [] u = record { few = omega arith; room = refl; are = refl; items = refl; own = λ r. refl } in
     if_met t 1 [] (is_double t.looks.frame && not t.begun) (stepped (steps.Edge true) 1 (walking_on u)) (walking_on u)
     (other_met t 0 [] (steps.Edge true) 1 (walking_on u) refl (omega (arith, room)) first) (more_lines 1 (omega arith) first)
 
-ended_met : (t : Table) (ends : Bool) (lines : ℕ) (rows : List ℕ) (w : Walking) → lines + 3 ≤ t.steps.room → Met t lines rows w.table
+ended_met : (t : Table) (ends : Bool) (lines : ℕ) (rows : List ℕ) (w : Walking) → lines + 3 ≤ t.steps.capacity → Met t lines rows w.table
     → Met t (suc (suc (suc lines))) rows (walk_ended ends w).table
 ended_met t ends lines rows w h m =
     let rule : Walking = closed_rule ends w in

@@ -16,7 +16,7 @@ one_further {T} first n change x h =
     ∙ ap (λ (m : ℕ). change m (in_turn (n - first) (λ k. change (first + k)) x)) at
 
 -- lent room stays
-pub each_room : {T : Type 0} (n : ℕ) (x : T) (xs : Items T) → (added_each n x xs).room ≡ xs.room
+pub each_room : {T : Type 0} (n : ℕ) (x : T) (xs : Items T) → (added_each n x xs).capacity ≡ xs.capacity
 each_room zero x xs = refl
 each_room (suc n) x xs = each_room n x xs
 

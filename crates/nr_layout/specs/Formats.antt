@@ -14,11 +14,14 @@ use Rattle.nr_layout.specs.Places.{sum}
 -- one more, if there is room
 abbrev pub with_one : {A : Type 0} → A → Items A → Items A
 with_one a i =
-    record { items = if nat_lt (length i.items) i.room then i.items ++ a ∷ [] else i.items; room = i.room }
+    record {
+      items = if nat_lt (length i.items) i.capacity then i.items ++ a ∷ [] else i.items;
+      capacity = i.capacity;
+    }
 
 -- the last of some is another, if there is one
 abbrev pub with_last : {A : Type 0} → A → Items A → Items A
-with_last a i = record { items = slice_set i.items (length i.items - 1) a; room = i.room }
+with_last a i = record { items = slice_set i.items (length i.items - 1) a; capacity = i.capacity }
 
 abbrev pub text_added : ℕ → Table → Table
 text_added b t = record t { text = with_one b t.text }
@@ -50,7 +53,7 @@ one_counted t = with_last_line (record (last_line t) { count = sum (last_line t)
 
 abbrev pub key_added : ℕ → ℕ → Table → Table
 key_added kind bars t =
-    if nat_le t.keys.room (length t.keys.items) then t else
+    if nat_le t.keys.capacity (length t.keys.items) then t else
     one_counted (record t { keys = with_one (record usual { kind = kind; bars = bars }) t.keys })
 
 -- ---- what modifies the last letter

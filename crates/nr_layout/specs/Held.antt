@@ -200,7 +200,7 @@ abbrev pub plain : Looks
 plain = record { center = false; expand = false; frame = frames.Open; nokeep = false }
 
 abbrev pub none_of : {A : Type 0} → Items A → Items A
-none_of i = record { items = []; room = i.room }
+none_of i = record { items = []; capacity = i.capacity }
 
 abbrev pub emptied : Table → Table
 emptied t = record {

@@ -4,7 +4,8 @@ use Rattle.nr_units.specs.Items.{Items}
 
 -- with one more, if there is room
 abbrev pub added : {T : Type 0} → T → Items T → Items T
-added x xs = record xs { items = if nat_lt (length xs.items) xs.room then xs.items ++ x ∷ [] else xs.items }
+added x xs =
+    record xs { items = if nat_lt (length xs.items) xs.capacity then xs.items ++ x ∷ [] else xs.items }
 
 -- with another at a place, if there is one
 abbrev pub put : {T : Type 0} → ℕ → T → Items T → Items T

@@ -31,5 +31,5 @@ own_rows t (i ∷ is) = own_row t i ++ own_rows t is
 -- where there is room for four lines an item
 abbrev pub RowsGoOut : Type 0
 RowsGoOut =
-    (t : Table) (ends : Bool) → 4 * length t.items.items + 4 ≤ t.steps.room
+    (t : Table) (ends : Bool) → 4 * length t.items.items + 4 ≤ t.steps.capacity
     → rows_of (steps_taken ends t).steps.items ≡ own_rows t t.items.items

@@ -49,9 +49,9 @@ joined text = if joins text then 2 else 0
 abbrev pub texts_added : List ℕ → Table → Table
 texts_added text t = record t {
   text = record {
-    items = if nat_le (length text) (t.text.room - length t.text.items) then t.text.items ++ text
+    items = if nat_le (length text) (t.text.capacity - length t.text.items) then t.text.items ++ text
         else t.text.items;
-    room = t.text.room;
+    capacity = t.text.capacity;
   };
 }
 
@@ -128,7 +128,8 @@ row_added t = record t {
 
 -- there is room for no other row
 abbrev pub has_all_rows : Table → Bool
-has_all_rows t = nat_le t.rows.room (length t.rows.items) || nat_le t.items.room (length t.items.items)
+has_all_rows t =
+    nat_le t.rows.capacity (length t.rows.items) || nat_le t.items.capacity (length t.items.items)
 
 abbrev pub row_ended_in : Table → Table
 row_ended_in t = if has_all_rows t then t else row_added t
@@ -139,7 +140,7 @@ row_ended t = row_ended_in (rules_skipped t)
 -- ---- how much was read
 
 abbrev pub is_full : Table → Bool
-is_full t = nat_le t.text.room (length t.text.items)
+is_full t = nat_le t.text.capacity (length t.text.items)
 
 abbrev pub row_len : Table → ℕ
 row_len t = length t.fields.items - t.row_from
@@ -151,5 +152,6 @@ has_begun t = t.begun || nat_lt 0 (length t.items.items)
 -- the rows that were read are to go out before another comes
 abbrev pub is_tight : Table → Bool
 is_tight t =
-    nat_le t.most_text (length t.text.items - t.rows_from) || nat_lt (t.rows.room - length t.rows.items) 2
-    || nat_lt (t.fields.room - length t.fields.items) 66 || nat_lt (t.items.room - length t.items.items) 258
+    nat_le t.most_text (length t.text.items - t.rows_from) || nat_lt (t.rows.capacity - length t.rows.items) 2
+    || nat_lt (t.fields.capacity - length t.fields.items) 66
+    || nat_lt (t.items.capacity - length t.items.items) 258

@@ -10,7 +10,7 @@ use Rattle.nr_layout.specs.Held.{none_of, plain}
 use Rattle.nr_layout.specs.Places.{sum}
 
 abbrev pub room_for : {A : Type 0} → ℕ → Items A
-room_for n = record { items = []; room = n }
+room_for n = record { items = []; capacity = n }
 
 -- for so many bytes, whose rows have so many at most: 64 columns, and 256 lines of formats
 abbrev pub text_room : ℕ → ℕ → ℕ
@@ -58,7 +58,7 @@ first_table signs most row = record {
 -- its rows are forgotten, and what was made of them; its formats stay
 abbrev pub forgotten : Table → Table
 forgotten t = record t {
-  text = record { items = take t.rows_from t.text.items; room = t.text.room };
+  text = record { items = take t.rows_from t.text.items; capacity = t.text.capacity };
   fields = none_of t.fields;
   rows = none_of t.rows;
   items = none_of t.items;

@@ -114,7 +114,7 @@ impl Table {
         ensures value { self.new ≡ specs.key_added kind bars self.old }
         ensures room { held.emptied self.new ≡ held.emptied self.old }
     {
-        if self.keys.len() >= self.keys.room() {
+        if self.keys.len() >= self.keys.capacity() {
             return;
         }
         let key = Key::usual();

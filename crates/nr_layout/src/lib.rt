@@ -1,6 +1,6 @@
 //! Tables as they are held, measured and laid out.
 //!
-//! It stands on nr_units and nr_rooms. To read: `lists`, `places`, `signs`, `requests`, `block_lines`, `table`, `held`,
+//! It stands on nr_units and nr_vectors. To read: `lists`, `places`, `signs`, `requests`, `block_lines`, `table`, `held`,
 //! `formats`, `rows`; `extent`, `cells`; `pen`, `writing`, `strokes`, `fields`; `counted`, `columns`, `frames`; `steps`;
 //! `drawing`, `ruling`, `lines`; `told`, `names`, `registers`, `widening`, `standing`, `heights`, `blocks`,
 //! `sharing`, `kept`, `beside`, `measured`, `as_requests`; `laws`.

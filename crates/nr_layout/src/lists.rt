@@ -2,7 +2,7 @@
 ghost use Rattle.std.specs.Prelude.{◌≡◌, get_or};
 ghost use Rattle.nr_layout.specs.Lists as specs;
 
-use nr_rooms::FixedVec;
+use nr_vectors::FixedVec;
 
 /// The item at a place, or another where there is none.
 pub(crate) fn item_at<T: Copy>(items: &FixedVec<T>, place: usize, other: T) -> T
@@ -28,7 +28,7 @@ pub(crate) fn set_item<T: Copy>(items: &mut FixedVec<T>, place: usize, item: T)
 pub(crate) fn add_item<T: Copy>(items: &mut FixedVec<T>, item: T)
     ensures { items.new ≡ specs.added item items.old }
 {
-    if items.len() < items.room() {
+    if items.len() < items.capacity() {
         items.push(item);
     }
 }

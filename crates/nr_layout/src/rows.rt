@@ -66,7 +66,7 @@ impl Table {
         ensures room { held.emptied self.new ≡ held.emptied self.old }
     {
         self.from = self.text.len();
-        if text.len() <= self.text.room() - self.text.len() {
+        if text.len() <= self.text.capacity() - self.text.len() {
             self.text.extend(text);
         }
         let end = self.text.len();
@@ -148,7 +148,7 @@ impl Table {
         self.skip_rules();
         let number = self.rows.len();
         let item = self.items.len();
-        if number >= self.rows.room() || item >= self.items.room() {
+        if number >= self.rows.capacity() || item >= self.items.capacity() {
             return;
         }
         let first = self.row_from;
@@ -175,7 +175,7 @@ impl Table {
     pub fn is_full(&self) -> bool
         ensures { result ≡ specs.is_full self.now }
     {
-        self.text.len() >= self.text.room()
+        self.text.len() >= self.text.capacity()
     }
 
     /// How many fields the row has that is read.
@@ -197,8 +197,8 @@ impl Table {
         ensures { result ≡ specs.is_tight self.now }
     {
         self.text.len().saturating_sub(self.rows_from) >= self.most_text
-            || self.rows.room() - self.rows.len() < 2
-            || self.fields.room() - self.fields.len() < COLUMNS + 2
-            || self.items.room() - self.items.len() < LINES + 2
+            || self.rows.capacity() - self.rows.len() < 2
+            || self.fields.capacity() - self.fields.len() < COLUMNS + 2
+            || self.items.capacity() - self.items.len() < LINES + 2
     }
 }

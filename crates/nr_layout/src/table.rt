@@ -7,7 +7,7 @@ ghost use Rattle.nr_layout.specs.Table as specs;
 use super::block_lines::Lines;
 use super::places::Place;
 use super::signs::Signs;
-use nr_rooms::{CountedAlloc, FixedVec};
+use nr_vectors::{CountedAlloc, FixedVec};
 use std::alloc::{AllocError, Global};
 
 /// The greatest number of columns.

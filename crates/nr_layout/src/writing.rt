@@ -9,9 +9,9 @@ ghost use Rattle.nr_layout.specs.Writing as specs;
 
 use super::pen::Pen;
 use super::places::{Mark, Place};
-use nr_rooms::FixedVec;
 use nr_units::sink::Sink;
 use nr_units::source::Fault;
+use nr_vectors::FixedVec;
 use std::marker::Model;
 
 /// What is to go out, and where to.
@@ -161,7 +161,7 @@ impl<'a, W: Sink> Out<'a, W> {
         if self.failed {
             return;
         }
-        if self.pending.room() - self.pending.len() >= bytes.len() {
+        if self.pending.capacity() - self.pending.len() >= bytes.len() {
             self.pending.extend(bytes);
             return;
         }
@@ -185,7 +185,7 @@ impl<'a, W: Sink> Out<'a, W> {
     pub(crate) fn repeat(&mut self, byte: u8, count: usize)
         ensures { Draws self.old self.new (Bytes (replicate count byte) ∷ []) }
     {
-        if !self.failed && self.pending.room() - self.pending.len() >= count {
+        if !self.failed && self.pending.capacity() - self.pending.len() >= count {
             self.pending.extend_copies(byte, count);
             return;
         }

@@ -12,8 +12,8 @@ use Rattle.nr_levels.specs.declared.frame.Reads.{Reads}
 use Rattle.nr_levels.proofs.Stacked.{same_levels, same_arguments, same_stack, same_below, end_by_more, stacked_total, stacked_places, readers_deep, readers_total, length-opens_of, modes_deep}
 
 -- items that are the same, with the same room
-pub items_are : {T : Type 0} (v w : Items T) → v.items ≡ w.items → v.room ≡ w.room → v ≡ w
-items_are v w items room = ap₂ (λ xs n. record { items = xs; room = n }) items room
+pub items_are : {T : Type 0} (v w : Items T) → v.items ≡ w.items → v.capacity ≡ w.capacity → v ≡ w
+items_are v w items room = ap₂ (λ xs n. record { items = xs; capacity = n }) items room
 
 -- there is room for what a level brings
 pub record HasRoom (bytes : List ℕ) (places : List Span) (more room count most place_room : ℕ) : Type 0 where
@@ -21,14 +21,14 @@ pub record HasRoom (bytes : List ℕ) (places : List Span) (more room count most
   pub places_fit : length places + 9 ≤ place_room
 
 pub has_room : {K : Type 0} → (fs : List Frame) (ms : List K) (xs : List ℕ) (ps : List Span) (now : Span) (room most place_room : ℕ) (v : Levels K) (more charge : ℕ) → AreLevels fs xs ps now room most place_room → levels_of fs ms xs ps now room most ≡ v
-    → 16 + more ≤ charge → total v.levels + charge ≤ v.room → length v.levels < v.most → HasRoom xs ps more room (length fs) most place_room
+    → 16 + more ≤ charge → total v.levels + charge ≤ v.capacity → length v.levels < v.most → HasRoom xs ps more room (length fs) most place_room
 has_room fs ms xs ps now room most place_room v more charge h view paid fits deep =
     let all = stacked_total xs ps ps fs ms now (length xs) h.stacked in
     let few = stacked_places ps fs now (length xs) h.stacked in
     let less = readers_deep fs in
     let read = readers_total xs ps ps fs ms now (length xs) h.stacked in
     let is : total (opens_of xs ps fs ms) ≡ total v.levels = ap (λ (w : Levels _). total w.levels) view in
-    let same_room : room ≡ v.room = ap (λ (w : Levels _). w.room) view in
+    let same_room : room ≡ v.capacity = ap (λ (w : Levels _). w.capacity) view in
     let same_most : most ≡ v.most = ap (λ (w : Levels _). w.most) view in
     let long : length (opens_of xs ps fs ms) ≡ length v.levels = ap (λ (w : Levels _). length w.levels) view in
     let mapped = length-opens_of xs ps fs ms in
@@ -66,7 +66,7 @@ module _ (fs : List Frame) (xs ys : List ℕ) (ps qs : List Span) (now inforce :
       ≡ deeper (source_of ys r (mode_of has ms)) (arguments_of ys qs inforce) charge (resume_of r (mode_of has ms)) (levels_of fs (modes_behind has ms) xs ps now room most)
   pushed_is ms =
       let top = h.top in
-      ap₂ (λ ls os. record { levels = record { source = source_of ys r (mode_of has ms); old = os; charge = charge; resume = resume_of r (mode_of has ms) } ∷ ls; arguments = arguments_of ys qs inforce; room = room; most = most })
+      ap₂ (λ ls os. record { levels = record { source = source_of ys r (mode_of has ms); old = os; charge = charge; resume = resume_of r (mode_of has ms) } ∷ ls; arguments = arguments_of ys qs inforce; capacity = room; most = most })
       (same_levels ys xs qs ps (length xs) (length ps) fs (modes_behind has ms) now (length xs) bytes places (omega arith) (omega arith) h.stacked)
       (same_arguments ys xs qs ps (length xs) (length ps) now bytes places (omega arith) h.now)
 

@@ -211,10 +211,10 @@ module _ (fs : List Frame) (xs : List ℕ) (ps : List Span) (now : Span) (room m
   places_same = take-take f.old.last f.old.last ps (omega arith)
 
   below_is : {K : Type 0} (ms : List K) → levels_of (drop 1 fs) ms low_bytes low_places f.old room most
-      ≡ record { levels = opens_of xs ps (drop 1 fs) ms; arguments = arguments_of xs ps f.old; room = room; most = most }
+      ≡ record { levels = opens_of xs ps (drop 1 fs) ms; arguments = arguments_of xs ps f.old; capacity = room; most = most }
   below_is ms =
       let on = stacked.0 in
-      ap₂ (λ ls os. record { levels = ls; arguments = os; room = room; most = most })
+      ap₂ (λ ls os. record { levels = ls; arguments = os; capacity = room; most = most })
       (same_levels low_bytes xs low_places ps f.height f.old.last (drop 1 fs) ms f.old f.height bytes_same places_same (omega arith) (omega arith) stacked.1)
       (same_arguments low_bytes xs low_places ps f.height f.old.last f.old bytes_same places_same (omega arith) on.old)
 
@@ -225,7 +225,7 @@ module _ (fs : List Frame) (xs : List ℕ) (ps : List Span) (now : Span) (room m
   marked = record { reads = reads.Mark; old = f.old; charge = 0; height = f.height; has_mode = true }
 
   pub marked_is : {K : Type 0} (mode : K) (ms : List K) → levels_of (marked ∷ drop 1 fs) (mode ∷ ms) low_bytes low_places f.old room most
-      ≡ record { levels = marks (Some mode) (arguments_of xs ps f.old) ++ opens_of xs ps (drop 1 fs) ms; arguments = arguments_of xs ps f.old; room = room; most = most }
+      ≡ record { levels = marks (Some mode) (arguments_of xs ps f.old) ++ opens_of xs ps (drop 1 fs) ms; arguments = arguments_of xs ps f.old; capacity = room; most = most }
   marked_is mode ms =
       ap₂ (λ (v : Levels _) os. record v { levels = record { source = Mark mode; old = os; charge = 0; resume = None } ∷ v.levels }) (below_is ms) same_old
 
@@ -274,8 +274,8 @@ module _ (fs : List Frame) (xs : List ℕ) (ps : List Span) (now : Span) (room m
   pub closed_is : {K : Type 0} (ms : List K) (v : Levels K) → levels_of fs ms xs ps now room most ≡ v → f.has_mode ≡ false → levels_of (drop 1 fs) ms low_bytes low_places f.old room most ≡ closed v.levels v
   closed_is ms v view none =
       below_is ms
-      ∙ sym (ap (λ o. record { levels = marks o (arguments_of xs ps f.old) ++ opens_of xs ps (drop 1 fs) ms; arguments = arguments_of xs ps f.old; room = room; most = most }) (no_resume _ f.reads))
-      ∙ sym (ap (λ has. record { levels = marks (resume_of f.reads (mode_of has ms)) (arguments_of xs ps f.old) ++ opens_of xs ps (drop 1 fs) (modes_behind has ms); arguments = arguments_of xs ps f.old; room = room; most = most }) none)
+      ∙ sym (ap (λ o. record { levels = marks o (arguments_of xs ps f.old) ++ opens_of xs ps (drop 1 fs) ms; arguments = arguments_of xs ps f.old; capacity = room; most = most }) (no_resume _ f.reads))
+      ∙ sym (ap (λ has. record { levels = marks (resume_of f.reads (mode_of has ms)) (arguments_of xs ps f.old) ++ opens_of xs ps (drop 1 fs) (modes_behind has ms); arguments = arguments_of xs ps f.old; capacity = room; most = most }) none)
       ∙ whole ms v view
 
   -- with one
@@ -284,8 +284,8 @@ module _ (fs : List Frame) (xs : List ℕ) (ps : List Span) (now : Span) (room m
   closed_marked (m ∷ ms) v view some end more =
       let here = front_is fs (m ∷ ms) xs ps now room most v f f.reads view top refl ∙ ap (λ has. Some (front (source_of xs f.reads (mode_of has (m ∷ ms))))) some in
       marked_is m ms
-      ∙ sym (ap (λ o. record { levels = marks o (arguments_of xs ps f.old) ++ opens_of xs ps (drop 1 fs) ms; arguments = arguments_of xs ps f.old; room = room; most = most }) (end_resumes xs f.reads m (subst HasEnd here end)))
-      ∙ sym (ap (λ has. record { levels = marks (resume_of f.reads (mode_of has (m ∷ ms))) (arguments_of xs ps f.old) ++ opens_of xs ps (drop 1 fs) (modes_behind has (m ∷ ms)); arguments = arguments_of xs ps f.old; room = room; most = most }) some)
+      ∙ sym (ap (λ o. record { levels = marks o (arguments_of xs ps f.old) ++ opens_of xs ps (drop 1 fs) ms; arguments = arguments_of xs ps f.old; capacity = room; most = most }) (end_resumes xs f.reads m (subst HasEnd here end)))
+      ∙ sym (ap (λ has. record { levels = marks (resume_of f.reads (mode_of has (m ∷ ms))) (arguments_of xs ps f.old) ++ opens_of xs ps (drop 1 fs) (modes_behind has (m ∷ ms)); arguments = arguments_of xs ps f.old; capacity = room; most = most }) some)
       ∙ whole (m ∷ ms) v view
 
 -- the modes of the frames below the newest, and of one whose end was taken

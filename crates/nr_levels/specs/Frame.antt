@@ -57,10 +57,10 @@ opens_of bytes places (f ∷ fs) modes =
 
 -- the levels of a row of frames
 abbrev pub levels_of : {K : Type 0} → List Frame → List K → List ℕ → List Span → Span → ℕ → ℕ → Levels K
-levels_of frames modes bytes places inforce room most = record {
+levels_of frames modes bytes places inforce capacity most = record {
   levels = opens_of bytes places frames modes;
   arguments = arguments_of bytes places inforce;
-  room = room;
+  capacity = capacity;
   most = most;
 }
 
@@ -142,13 +142,13 @@ IsStacked places (f ∷ fs) inforce h = IsOn places f inforce h × IsStacked pla
 
 -- what is always true of the fields
 pub record AreLevels (frames : List Frame) (bytes : List ℕ) (places : List Span) (inforce : Span)
-    (room most place_room : ℕ) : Type 0 where
+    (capacity most place_room : ℕ) : Type 0 where
   pub stacked : IsStacked places frames inforce (length bytes)
   pub now : AreBelow places (length bytes) inforce
   pub top : inforce.last ≡ length places
-  pub places_suffice : place_room ≡ 9 * min most (room / 16)
+  pub places_suffice : place_room ≡ 9 * min most (capacity / 16)
   pub places_small : place_room < 2 ^ 32
-  pub small : room < 2 ^ 32
+  pub small : capacity < 2 ^ 32
 
 -- parts of these lengths, one after another
 abbrev pub spans_from : ℕ → List ℕ → List Span

@@ -40,16 +40,16 @@ with_end g = if length g.kept == 9 then g else record { kept = g.kept ++ g.last 
 -- what arguments and room there are
 pub record Gathering : Type 0 where
   pub gathered : Gathered
-  pub room : ℕ
+  pub capacity : ℕ
 
 -- the arguments of these lengths, one after another
 abbrev pub gathered_of : List ℕ → List ℕ → ℕ → Gathered
 gathered_of lens bytes start = record { kept = cut lens bytes; last = drop start bytes }
 
 -- what is always true of the fields
-pub record IsGathering (lens bytes : List ℕ) (count from room : ℕ) : Type 0 where
+pub record IsGathering (lens bytes : List ℕ) (count from capacity : ℕ) : Type 0 where
   pub nine : count ≤ 9
   pub all : length lens ≡ 9
   pub start : from ≡ sum (take count lens)
   pub within : from ≤ length bytes
-  pub small : room < 2 ^ 32
+  pub small : capacity < 2 ^ 32

@@ -20,7 +20,7 @@ pub record Open (K : Type 0) : Type 0 where
 pub record Levels (K : Type 0) : Type 0 where
   pub levels : List (Open K)
   pub arguments : List (List ℕ)
-  pub room : ℕ
+  pub capacity : ℕ
   pub most : ℕ
 
 -- the bytes cut up by these lengths

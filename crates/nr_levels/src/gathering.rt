@@ -2,14 +2,14 @@
 ghost use Rattle.std.specs.Prelude.{◌≡◌, ◌==◌, ◌+◌, ◌^◌, ◌<◌, ◌≤◌, length, map, IfOk};
 ghost use Rattle.nr_levels.specs.Gathering.{joined, none_gathered, gathered_len, with_byte, with_bytes, with_end};
 
-use nr_rooms::{CountedAlloc, FixedVec};
+use nr_vectors::{CountedAlloc, FixedVec};
 use std::alloc::AllocError;
 use std::marker::Model;
 
 /// How many arguments a macro has at most.
 pub const MOST: usize = 9;
 
-/// Arguments that are being read, with room for a number of bytes that stays: nine at most, further ones are dropped
+/// Arguments that are being read, with a capacity that stays: nine at most, further ones are dropped
 /// (CSTR 54, macros with arguments). Each call takes constant time; `new` is the only one that allocates.
 #[derive(Drop)]
 pub struct Gathering {
@@ -28,21 +28,21 @@ impl Model for Gathering {
 
     ghost view = { λ g. record {
       gathered = gathered_of (take g.count g.lens) g.bytes.items g.start;
-      room = g.bytes.room;
+      capacity = g.bytes.capacity;
     } };
 
-    ghost invariant = { λ g. IsGathering g.lens g.bytes.items g.count g.start g.bytes.room };
+    ghost invariant = { λ g. IsGathering g.lens g.bytes.items g.count g.start g.bytes.capacity };
 }
 
 impl Gathering {
     /// No arguments, and room for so many bytes: `AllocError` where there is no memory for them.
-    pub fn new(alloc: &mut CountedAlloc, room: usize) -> Result<Gathering, AllocError>
-        requires { room < 2 ^ 32 }
-        ensures made { IfOk result (λ made. made ≡ record { gathered = none_gathered; room = room }) }
-        ensures taken { IfOk result (λ made. alloc.new ≡ alloc.old + room) }
+    pub fn new(alloc: &mut CountedAlloc, capacity: usize) -> Result<Gathering, AllocError>
+        requires { capacity < 2 ^ 32 }
+        ensures made { IfOk result (λ made. made ≡ record { gathered = none_gathered; capacity = capacity }) }
+        ensures taken { IfOk result (λ made. alloc.new ≡ alloc.old + capacity) }
     {
         Ok(Gathering {
-            bytes: FixedVec::new(alloc, room)?,
+            bytes: FixedVec::new(alloc, capacity)?,
             lens: [0; MOST],
             count: 0,
             start: 0,
@@ -51,7 +51,7 @@ impl Gathering {
 
     /// How many bytes there is memory for, as their vector tells.
     pub fn memory(&self) -> usize
-        ensures { result ≡ self.now.room }
+        ensures { result ≡ self.now.capacity }
     {
         self.bytes.memory()
     }
@@ -83,7 +83,7 @@ impl Gathering {
     /// Adds a byte to the one under way, where fewer than nine are read whole.
     #[inline]
     pub fn push(&mut self, byte: u8)
-        requires { gathered_len self.old.gathered < self.old.room }
+        requires { gathered_len self.old.gathered < self.old.capacity }
         ensures { self.new ≡ record self.old { gathered = with_byte byte self.old.gathered } }
     {
         if self.count == MOST {
@@ -95,7 +95,7 @@ impl Gathering {
     /// Adds bytes to the one under way, where fewer than nine are read whole.
     #[inline]
     pub fn extend(&mut self, bytes: &[u8])
-        requires { gathered_len self.old.gathered + length bytes.now ≤ self.old.room }
+        requires { gathered_len self.old.gathered + length bytes.now ≤ self.old.capacity }
         ensures { self.new ≡ record self.old { gathered = with_bytes bytes.now self.old.gathered } }
     {
         if self.count == MOST {

@@ -11,11 +11,11 @@ use crate::frame::{Frame, Next, Reads, Rest, Span};
 use crate::spans::{push_spans, span_of};
 use crate::stack::Stack;
 use nr_pool::Id;
-use nr_rooms::{CountedAlloc, FixedVec};
+use nr_vectors::{CountedAlloc, FixedVec};
 use std::alloc::AllocError;
 use std::marker::Model;
 
-/// The levels that are open, the newest first, with room for a number of them that stays. Bytes that a level brings
+/// The levels that are open, the newest first, with a capacity that stays. Bytes that a level brings
 /// lie on a stack, and so do the places of arguments: a level's end takes away what came with it, and nothing is ever
 /// moved. The modes to resume lie on a stack of their own. Each call takes constant time, and that of a copy of the
 /// bytes that it is given; `new` is the only one that allocates.
@@ -39,21 +39,21 @@ impl<K: Copy> Model for Levels<K> {
     ghost Value = { Levels K };
 
     ghost view = { λ s. levels_of s.frames.items s.modes.items s.bytes.items s.places.items s.in_force
-        s.bytes.room s.frames.room };
+        s.bytes.capacity s.frames.capacity };
 
     ghost invariant = { λ s. (AreLevels s.frames.items s.bytes.items s.places.items s.in_force
-        s.bytes.room s.frames.room s.places.room)
-        × (AreModes s.frames.items s.modes.items s.modes.room s.frames.room) };
+        s.bytes.capacity s.frames.capacity s.places.capacity)
+        × (AreModes s.frames.items s.modes.items s.modes.capacity s.frames.capacity) };
 }
 
 // Keeps a mode, if there is one. Tells whether there is.
 #[inline(always)]
 fn keep<K: Copy>(modes: &mut Stack<K>, mode: Option<K>) -> bool
-    requires { length modes.old.items < modes.old.room }
+    requires { length modes.old.items < modes.old.capacity }
     ensures mode { mode_of result modes.new.items ≡ mode }
     ensures rest { modes_behind result modes.new.items ≡ modes.old.items }
     ensures count { length modes.new.items ≡ modes_in result + length modes.old.items }
-    ensures room { modes.new.room ≡ modes.old.room }
+    ensures room { modes.new.capacity ≡ modes.old.capacity }
 {
     match mode {
         Some(mode) => {
@@ -65,24 +65,28 @@ fn keep<K: Copy>(modes: &mut Stack<K>, mode: Option<K>) -> bool
 }
 
 impl<K: Copy> Levels<K> {
-    /// No levels, with room for `most` of them, and for the bytes of levels that are charged `room` together: `AllocError`
-    /// where there is no memory for them.
-    pub fn new(alloc: &mut CountedAlloc, room: usize, most: usize) -> Result<Levels<K>, AllocError>
-        requires { room < 2 ^ 32 }
+    /// No levels, with room for `most` of them, and for the bytes of levels that are charged `capacity` together:
+    /// `AllocError` where there is no memory for them.
+    pub fn new(
+        alloc: &mut CountedAlloc,
+        capacity: usize,
+        most: usize,
+    ) -> Result<Levels<K>, AllocError>
+        requires { capacity < 2 ^ 32 }
         ensures made { IfOk result (λ made. made ≡ record {
           levels = [];
           arguments = [];
-          room = room;
+          capacity = capacity;
           most = most;
         }) }
         ensures taken { IfOk result (λ made.
-            alloc.new ≡ alloc.old + 2 * most + room + 9 * min most (room / 16)) }
+            alloc.new ≡ alloc.old + 2 * most + capacity + 9 * min most (capacity / 16)) }
     {
         Ok(Levels {
             frames: Stack::new(alloc, most)?,
             modes: Stack::new(alloc, most)?,
-            bytes: FixedVec::new(alloc, room)?,
-            places: FixedVec::new(alloc, 9 * most.min(room / 16))?,
+            bytes: FixedVec::new(alloc, capacity)?,
+            places: FixedVec::new(alloc, 9 * most.min(capacity / 16))?,
             in_force: Span { first: 0, last: 0 },
         })
     }
@@ -114,14 +118,14 @@ impl<K: Copy> Levels<K> {
 
     /// How many bytes there is memory for, as their vector tells.
     pub fn byte_memory(&self) -> usize
-        ensures { result ≡ self.now.room }
+        ensures { result ≡ self.now.capacity }
     {
         self.bytes.memory()
     }
 
     /// How many places of arguments there is memory for, as their vector tells.
     pub fn place_memory(&self) -> usize
-        ensures { result ≡ 9 * min self.now.most (self.now.room / 16) }
+        ensures { result ≡ 9 * min self.now.most (self.now.capacity / 16) }
     {
         self.places.memory()
     }
@@ -140,7 +144,7 @@ impl<K: Copy> Levels<K> {
     pub fn is_full(&self) -> bool
         ensures { result ≡ nat_le self.now.most (length self.now.levels) }
     {
-        self.frames.len() >= self.frames.room()
+        self.frames.len() >= self.frames.capacity()
     }
 
     /// What the newest level gives next.
@@ -228,7 +232,7 @@ impl<K: Copy> Levels<K> {
     pub fn open_text(&mut self, id: Id, charge: u32, resume: Option<K>)
         requires room { length self.old.levels < self.old.most }
         requires paid { 16 ≤ charge }
-        requires bytes { total self.old.levels + charge ≤ self.old.room }
+        requires bytes { total self.old.levels + charge ≤ self.old.capacity }
         ensures { self.new ≡ deeper (Text id 0) [] charge resume self.old }
     {
         let has_mode = keep(&mut self.modes, resume);
@@ -251,7 +255,7 @@ impl<K: Copy> Levels<K> {
     pub fn open_call(&mut self, id: Id, bytes: &[u8], lens: &[u32], charge: u32)
         requires room { length self.old.levels < self.old.most }
         requires paid { 16 + length bytes.now ≤ charge }
-        requires bytes { total self.old.levels + charge ≤ self.old.room }
+        requires bytes { total self.old.levels + charge ≤ self.old.capacity }
         requires lens { sum lens.now ≡ length bytes.now }
         requires nine { length lens.now ≤ 9 }
         ensures { self.new ≡ deeper (Text id 0) (cut lens.now bytes.now) charge None self.old }
@@ -275,7 +279,7 @@ impl<K: Copy> Levels<K> {
     pub fn open_bytes(&mut self, bytes: &[u8], charge: u32)
         requires room { length self.old.levels < self.old.most }
         requires paid { 16 + length bytes.now ≤ charge }
-        requires bytes { total self.old.levels + charge ≤ self.old.room }
+        requires bytes { total self.old.levels + charge ≤ self.old.capacity }
         ensures { self.new ≡ deeper (Own bytes.now) self.old.arguments charge None self.old }
     {
         let first = self.bytes.len() as u32;
@@ -324,7 +328,7 @@ impl<K: Copy> Levels<K> {
     pub fn open_argument(&mut self, n: usize, charge: u32)
         requires room { length self.old.levels < self.old.most }
         requires paid { 16 ≤ charge }
-        requires bytes { total self.old.levels + charge ≤ self.old.room }
+        requires bytes { total self.old.levels + charge ≤ self.old.capacity }
         ensures { self.new
             ≡ deeper (Own (argument self.old.arguments n)) self.old.arguments charge None self.old }
     {

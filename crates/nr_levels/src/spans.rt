@@ -3,11 +3,11 @@ ghost use Rattle.std.specs.Prelude.{◌≡◌, ◌+◌, ◌^◌, ◌<◌, ◌≤
 ghost use Rattle.nr_levels.specs.Frame.{part, spans_from, no_span};
 
 use crate::frame::Span;
-use nr_rooms::FixedVec;
+use nr_vectors::FixedVec;
 
 /// Adds the places of parts of these lengths, the first of which begins at `start`.
 pub(crate) fn push_spans(places: &mut FixedVec<Span>, start: u32, lens: &[u32])
-    requires room { length places.old.items + length lens.now ≤ places.old.room }
+    requires room { length places.old.items + length lens.now ≤ places.old.capacity }
     requires small { start + sum lens.now < 2 ^ 32 }
     ensures { places.new ≡ record places.old { items = places.old.items ++ spans_from start lens.now } }
 {

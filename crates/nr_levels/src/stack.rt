@@ -1,17 +1,17 @@
-//! A stack for which room is taken once.
+//! A stack whose capacity is taken once.
 ghost use Rattle.std.specs.Prelude.{◌+◌, ◌≡◌, ◌==◌, ◌<◌, ◌≤◌, [], ◌∷◌, length, drop, slice_get, Some, IfOk};
 
 use crate::frame::Frame;
-use nr_rooms::{CountedAlloc, ReservedVec};
+use nr_vectors::{CountedAlloc, ReservedVec};
 use std::alloc::AllocError;
 use std::marker::Model;
 
 /// Items, and room for a number of them that stays; `new` is the only call that allocates. A clause sees the last that
-/// came as the first, and the room, the greatest number of items. Each call takes constant time.
+/// came as the first, and the capacity, the greatest number of items. Each call takes constant time.
 #[derive(Drop)]
 pub struct Stack<T: Copy> {
     items: ReservedVec<T>,
-    room: usize,
+    capacity: usize,
 }
 
 impl<T: Copy> Model for Stack<T> {
@@ -20,41 +20,41 @@ impl<T: Copy> Model for Stack<T> {
 
     ghost Value = { Items T };
 
-    ghost view = { λ v. record { items = reverse v.items.items; room = v.room } };
+    ghost view = { λ v. record { items = reverse v.items.items; capacity = v.capacity } };
 
-    ghost invariant = { λ v. (length v.items.items ≤ v.room) × (v.items.room ≡ v.room) };
+    ghost invariant = { λ v. (length v.items.items ≤ v.capacity) × (v.items.capacity ≡ v.capacity) };
 }
 
 impl<T: Copy> Stack<T> {
     /// No items, and room for so many: `AllocError` where there is no memory for them.
-    pub fn new(alloc: &mut CountedAlloc, room: usize) -> Result<Stack<T>, AllocError>
-        ensures made { IfOk result (λ made. made ≡ record { items = []; room = room }) }
-        ensures taken { IfOk result (λ made. alloc.new ≡ alloc.old + room) }
+    pub fn new(alloc: &mut CountedAlloc, capacity: usize) -> Result<Stack<T>, AllocError>
+        ensures made { IfOk result (λ made. made ≡ record { items = []; capacity = capacity }) }
+        ensures taken { IfOk result (λ made. alloc.new ≡ alloc.old + capacity) }
     {
-        let items = ReservedVec::new(alloc, room)?;
-        Ok(Stack { items, room })
+        let items = ReservedVec::new(alloc, capacity)?;
+        Ok(Stack { items, capacity })
     }
 
     /// The number of items.
     #[inline]
     pub fn len(&self) -> usize
         ensures value { result ≡ length self.now.items }
-        ensures within { result ≤ self.now.room }
+        ensures within { result ≤ self.now.capacity }
     {
         self.items.len()
     }
 
     /// The greatest number of items.
     #[inline]
-    pub fn room(&self) -> usize
-        ensures { result ≡ self.now.room }
+    pub fn capacity(&self) -> usize
+        ensures { result ≡ self.now.capacity }
     {
-        self.room
+        self.capacity
     }
 
     /// How many items there is memory for, as its vector tells.
     pub fn memory(&self) -> usize
-        ensures { result ≡ self.now.room }
+        ensures { result ≡ self.now.capacity }
     {
         self.items.capacity()
     }
@@ -81,7 +81,7 @@ impl<T: Copy> Stack<T> {
     /// Adds an item.
     #[inline]
     pub fn push(&mut self, item: T)
-        requires { length self.old.items < self.old.room }
+        requires { length self.old.items < self.old.capacity }
         ensures { self.new ≡ record self.old { items = item ∷ self.old.items } }
     {
         self.items.push(item);

@@ -119,7 +119,7 @@ put_title p =
 abbrev pub end_title : Page → Laid
 end_title p =
     laid (with_lay (record p.lay { at = Start; joined = false; quiet = true }) p)
-        (codes "\"\n.nr IN 5n\n.ad l\n")
+    (codes "\"\n.nr IN 5n\n.ad l\n")
 
 -- ---- headings, and requests of the page itself
 

@@ -48,10 +48,10 @@ fn last_of(block: Block) -> u16
 /// A request with a width.
 fn put_moved(request: &[u8], width: u16, out: &mut SliceVec<'_, u8>)
     requires short { length request.now ≤ 8 }
-    requires space { length out.old.items + 16 ≤ out.old.room }
+    requires space { length out.old.items + 16 ≤ out.old.capacity }
     ensures items { out.new.items ≡ out.old.items ++ specs.moved request.now width }
     ensures few { length out.new.items ≤ length out.old.items + 16 }
-    ensures room { out.new.room ≡ out.old.room }
+    ensures room { out.new.capacity ≡ out.old.capacity }
 {
     out.extend(request);
     put_number(at_most(999, width), out);
@@ -61,10 +61,10 @@ fn put_moved(request: &[u8], width: u16, out: &mut SliceVec<'_, u8>)
 impl Page {
     /// A tab stop after the ones before.
     pub(crate) fn put_column(&self, width: u16, out: &mut SliceVec<'_, u8>)
-        requires { length out.old.items + 20 ≤ out.old.room }
+        requires { length out.old.items + 20 ≤ out.old.capacity }
         ensures items { out.new.items ≡ out.old.items ++ specs.column_text width }
         ensures few { length out.new.items ≤ length out.old.items + 20 }
-        ensures room { out.new.room ≡ out.old.room }
+        ensures room { out.new.capacity ≡ out.old.capacity }
     {
         out.extend(b" +");
         put_number(width, out);
@@ -73,11 +73,11 @@ impl Page {
 
     /// Tab stops of columns, and their text as far to the right as that of the last.
     pub(crate) fn put_stops(&mut self, gap: u16, hang: u16, out: &mut SliceVec<'_, u8>)
-        requires { length out.old.items + 80 ≤ out.old.room }
+        requires { length out.old.items + 80 ≤ out.old.capacity }
         ensures page { self.new ≡ (specs.put_stops gap hang self.old).page }
         ensures items { out.new.items ≡ out.old.items ++ (specs.put_stops gap hang self.old).bytes }
         ensures few { length out.new.items ≤ length out.old.items + 80 }
-        ensures room { out.new.room ≡ out.old.room }
+        ensures room { out.new.capacity ≡ out.old.capacity }
     {
         self.put_sized(Sized::Inner, hang, out);
         out.extend(b".nr %g ");
@@ -94,11 +94,11 @@ impl Page {
 
     /// A row begins.
     pub(crate) fn put_row(&mut self, out: &mut SliceVec<'_, u8>)
-        requires { length out.old.items + 40 ≤ out.old.room }
+        requires { length out.old.items + 40 ≤ out.old.capacity }
         ensures page { self.new ≡ (specs.put_row self.old).page }
         ensures items { out.new.items ≡ out.old.items ++ (specs.put_row self.old).bytes }
         ensures few { length out.new.items ≤ length out.old.items + 40 }
-        ensures room { out.new.room ≡ out.old.room }
+        ensures room { out.new.capacity ≡ out.old.capacity }
     {
         self.freshen(out);
         if self.is_past() {
@@ -111,11 +111,11 @@ impl Page {
 
     /// A cell ends, and another begins.
     pub(crate) fn put_cell(&mut self, out: &mut SliceVec<'_, u8>)
-        requires { length out.old.items + 40 ≤ out.old.room }
+        requires { length out.old.items + 40 ≤ out.old.capacity }
         ensures page { self.new ≡ (specs.put_cell self.old).page }
         ensures items { out.new.items ≡ out.old.items ++ (specs.put_cell self.old).bytes }
         ensures few { length out.new.items ≤ length out.old.items + 40 }
-        ensures room { out.new.room ≡ out.old.room }
+        ensures room { out.new.capacity ≡ out.old.capacity }
     {
         let cell = at_most(99, self.lay.cell) + 1;
         let columns = self.block.columns;

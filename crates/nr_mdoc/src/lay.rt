@@ -140,11 +140,11 @@ impl Page {
 
     /// Text stands apart from what is before, if it is not joined to it.
     pub(crate) fn put(&mut self, joined: bool, text: &[u8], out: &mut SliceVec<'_, u8>)
-        requires { length out.old.items + length text.now + 3 ≤ out.old.room }
+        requires { length out.old.items + length text.now + 3 ≤ out.old.capacity }
         ensures page { self.new ≡ (specs.put joined text.now self.old).page }
         ensures items { out.new.items ≡ out.old.items ++ (specs.put joined text.now self.old).bytes }
         ensures few { length out.new.items ≤ length out.old.items + length text.now + 3 }
-        ensures room { out.new.room ≡ out.old.room }
+        ensures room { out.new.capacity ≡ out.old.capacity }
     {
         out.extend(self.gap(joined, first_of(text)));
         out.extend(text);
@@ -166,11 +166,11 @@ impl Page {
 
     /// The font of a word ends, unless more of the word comes.
     fn end_word(&mut self, font: Font, out: &mut SliceVec<'_, u8>)
-        requires { length out.old.items + 5 ≤ out.old.room }
+        requires { length out.old.items + 5 ≤ out.old.capacity }
         ensures page { self.new ≡ (specs.end_word font self.old).page }
         ensures items { out.new.items ≡ out.old.items ++ (specs.end_word font self.old).bytes }
         ensures few { length out.new.items ≤ length out.old.items + 5 }
-        ensures room { out.new.room ≡ out.old.room }
+        ensures room { out.new.capacity ≡ out.old.capacity }
     {
         if self.lay.front {
             self.lay.front = false;
@@ -183,11 +183,11 @@ impl Page {
 
     /// The word, or its front, in a font.
     fn put_word(&mut self, joined: bool, font: Font, out: &mut SliceVec<'_, u8>)
-        requires { length out.old.items + 48 ≤ out.old.room }
+        requires { length out.old.items + 48 ≤ out.old.capacity }
         ensures page { self.new ≡ (specs.put_word joined font self.old).page }
         ensures items { out.new.items ≡ out.old.items ++ (specs.put_word joined font self.old).bytes }
         ensures few { length out.new.items ≤ length out.old.items + 48 }
-        ensures room { out.new.room ≡ out.old.room }
+        ensures room { out.new.capacity ≡ out.old.capacity }
     {
         out.extend(self.gap(joined, first_in(font, self.word.as_bytes())));
         out.extend(font_begin(font));
@@ -199,11 +199,11 @@ impl Page {
 
     /// A further part of a word.
     fn put_more(&mut self, out: &mut SliceVec<'_, u8>)
-        requires { length out.old.items + 48 ≤ out.old.room }
+        requires { length out.old.items + 48 ≤ out.old.capacity }
         ensures page { self.new ≡ (specs.put_more self.old).page }
         ensures items { out.new.items ≡ out.old.items ++ (specs.put_more self.old).bytes }
         ensures few { length out.new.items ≤ length out.old.items + 48 }
-        ensures room { out.new.room ≡ out.old.room }
+        ensures room { out.new.capacity ≡ out.old.capacity }
     {
         out.extend(before_hyphen(self.word.as_bytes()));
         out.extend(self.word.as_bytes());
@@ -212,11 +212,11 @@ impl Page {
 
     /// Its last part.
     fn put_last_more(&mut self, out: &mut SliceVec<'_, u8>)
-        requires { length out.old.items + 48 ≤ out.old.room }
+        requires { length out.old.items + 48 ≤ out.old.capacity }
         ensures page { self.new ≡ (specs.put_last_more self.old).page }
         ensures items { out.new.items ≡ out.old.items ++ (specs.put_last_more self.old).bytes }
         ensures few { length out.new.items ≤ length out.old.items + 48 }
-        ensures room { out.new.room ≡ out.old.room }
+        ensures room { out.new.capacity ≡ out.old.capacity }
     {
         out.extend(before_hyphen(self.word.as_bytes()));
         out.extend(self.word.as_bytes());
@@ -228,11 +228,11 @@ impl Page {
 
     /// The word as an option.
     fn put_flag(&mut self, out: &mut SliceVec<'_, u8>)
-        requires { length out.old.items + 48 ≤ out.old.room }
+        requires { length out.old.items + 48 ≤ out.old.capacity }
         ensures page { self.new ≡ (specs.put_flag self.old).page }
         ensures items { out.new.items ≡ out.old.items ++ (specs.put_flag self.old).bytes }
         ensures few { length out.new.items ≤ length out.old.items + 48 }
-        ensures room { out.new.room ≡ out.old.room }
+        ensures room { out.new.capacity ≡ out.old.capacity }
     {
         out.extend(self.gap(self.is_joined(), b'\\'));
         out.extend(b"\\fB\\-");
@@ -244,11 +244,11 @@ impl Page {
 
     /// A name in bold.
     fn put_name(&mut self, name: Name, out: &mut SliceVec<'_, u8>)
-        requires { length out.old.items + 48 ≤ out.old.room }
+        requires { length out.old.items + 48 ≤ out.old.capacity }
         ensures page { self.new ≡ (specs.put_name name self.old).page }
         ensures items { out.new.items ≡ out.old.items ++ (specs.put_name name self.old).bytes }
         ensures few { length out.new.items ≤ length out.old.items + 48 }
-        ensures room { out.new.room ≡ out.old.room }
+        ensures room { out.new.capacity ≡ out.old.capacity }
     {
         out.extend(self.gap(self.is_joined(), b'\\'));
         out.extend(b"\\fB");
@@ -259,11 +259,11 @@ impl Page {
 
     /// The name that was held back, after a comma: the word is held back then.
     fn put_held(&mut self, out: &mut SliceVec<'_, u8>)
-        requires { length out.old.items + 64 ≤ out.old.room }
+        requires { length out.old.items + 64 ≤ out.old.capacity }
         ensures page { self.new ≡ (specs.put_held self.old).page }
         ensures items { out.new.items ≡ out.old.items ++ (specs.put_held self.old).bytes }
         ensures few { length out.new.items ≤ length out.old.items + 64 }
-        ensures room { out.new.room ≡ out.old.room }
+        ensures room { out.new.capacity ≡ out.old.capacity }
     {
         self.put(true, b",", out);
         self.put_name(self.held, out);
@@ -272,11 +272,11 @@ impl Page {
 
     /// The last of several names.
     fn put_last_held(&mut self, many: bool, out: &mut SliceVec<'_, u8>)
-        requires { length out.old.items + 64 ≤ out.old.room }
+        requires { length out.old.items + 64 ≤ out.old.capacity }
         ensures page { self.new ≡ (specs.put_last_held many self.old).page }
         ensures items { out.new.items ≡ out.old.items ++ (specs.put_last_held many self.old).bytes }
         ensures few { length out.new.items ≤ length out.old.items + 64 }
-        ensures room { out.new.room ≡ out.old.room }
+        ensures room { out.new.capacity ≡ out.old.capacity }
     {
         if many {
             self.put(true, b",", out);
@@ -288,11 +288,11 @@ impl Page {
 
     /// The marks that were held back.
     fn put_marks(&mut self, out: &mut SliceVec<'_, u8>)
-        requires { length out.old.items + 48 ≤ out.old.room }
+        requires { length out.old.items + 48 ≤ out.old.capacity }
         ensures page { self.new ≡ (specs.put_marks self.old).page }
         ensures items { out.new.items ≡ out.old.items ++ (specs.put_marks self.old).bytes }
         ensures few { length out.new.items ≤ length out.old.items + 48 }
-        ensures room { out.new.room ≡ out.old.room }
+        ensures room { out.new.capacity ≡ out.old.capacity }
     {
         let marks = self.marks;
         self.put(true, marks.as_bytes(), out);
@@ -301,11 +301,11 @@ impl Page {
 
     /// What a table has for the word, or the word itself.
     fn put_named(&mut self, text: Option<[u8; 78]>, out: &mut SliceVec<'_, u8>)
-        requires { length out.old.items + 96 ≤ out.old.room }
+        requires { length out.old.items + 96 ≤ out.old.capacity }
         ensures page { self.new ≡ (specs.put_named text self.old).page }
         ensures items { out.new.items ≡ out.old.items ++ (specs.put_named text self.old).bytes }
         ensures few { length out.new.items ≤ length out.old.items + 96 }
-        ensures room { out.new.room ≡ out.old.room }
+        ensures room { out.new.capacity ≡ out.old.capacity }
     {
         let joined = self.is_joined();
         match text {
@@ -316,11 +316,11 @@ impl Page {
 
     /// The word between quotes, as a library.
     fn put_other_library(&mut self, out: &mut SliceVec<'_, u8>)
-        requires { length out.old.items + 96 ≤ out.old.room }
+        requires { length out.old.items + 96 ≤ out.old.capacity }
         ensures page { self.new ≡ (specs.put_other_library self.old).page }
         ensures items { out.new.items ≡ out.old.items ++ (specs.put_other_library self.old).bytes }
         ensures few { length out.new.items ≤ length out.old.items + 96 }
-        ensures room { out.new.room ≡ out.old.room }
+        ensures room { out.new.capacity ≡ out.old.capacity }
     {
         self.put(self.is_joined(), b"library \\(lq", out);
         self.put_word(true, Font::Roman, out);
@@ -329,11 +329,11 @@ impl Page {
 
     /// The library of the word.
     fn put_library(&mut self, text: Option<[u8; 78]>, out: &mut SliceVec<'_, u8>)
-        requires { length out.old.items + 96 ≤ out.old.room }
+        requires { length out.old.items + 96 ≤ out.old.capacity }
         ensures page { self.new ≡ (specs.put_library text self.old).page }
         ensures items { out.new.items ≡ out.old.items ++ (specs.put_library text self.old).bytes }
         ensures few { length out.new.items ≤ length out.old.items + 96 }
-        ensures room { out.new.room ≡ out.old.room }
+        ensures room { out.new.capacity ≡ out.old.capacity }
     {
         match text {
             Some(text) => self.put(self.is_joined(), before_nul(&text), out),
@@ -343,11 +343,11 @@ impl Page {
 
     /// The word as a release of BSD.
     fn put_release(&mut self, out: &mut SliceVec<'_, u8>)
-        requires { length out.old.items + 64 ≤ out.old.room }
+        requires { length out.old.items + 64 ≤ out.old.capacity }
         ensures page { self.new ≡ (specs.put_release self.old).page }
         ensures items { out.new.items ≡ out.old.items ++ (specs.put_release self.old).bytes }
         ensures few { length out.new.items ≤ length out.old.items + 64 }
-        ensures room { out.new.room ≡ out.old.room }
+        ensures room { out.new.capacity ≡ out.old.capacity }
     {
         out.push(b'-');
         self.put_word(true, Font::Roman, out);
@@ -365,11 +365,11 @@ impl Page {
 
     /// Words and their like.
     pub(crate) fn lay_word(&mut self, act: Act, out: &mut SliceVec<'_, u8>)
-        requires { length out.old.items + 256 ≤ out.old.room }
+        requires { length out.old.items + 256 ≤ out.old.capacity }
         ensures page { self.new ≡ (specs.lay_word act self.old).page }
         ensures items { out.new.items ≡ out.old.items ++ (specs.lay_word act self.old).bytes }
         ensures few { length out.new.items ≤ length out.old.items + 256 }
-        ensures room { out.new.room ≡ out.old.room }
+        ensures room { out.new.capacity ≡ out.old.capacity }
     {
         match act {
             Act::Word(font) => self.put_word(self.is_joined(), font, out),

@@ -10,11 +10,11 @@ use nr_units::slice_vec::SliceVec;
 impl Page {
     /// Requests and their like.
     pub(crate) fn lay_request(&mut self, act: Act, out: &mut SliceVec<'_, u8>)
-        requires { length out.old.items + 256 ≤ out.old.room }
+        requires { length out.old.items + 256 ≤ out.old.capacity }
         ensures page { self.new ≡ (specs.lay_request act self.old).page }
         ensures items { out.new.items ≡ out.old.items ++ (specs.lay_request act self.old).bytes }
         ensures few { length out.new.items ≤ length out.old.items + 256 }
-        ensures room { out.new.room ≡ out.old.room }
+        ensures room { out.new.capacity ≡ out.old.capacity }
     {
         match act {
             Act::Fresh => self.freshen(out),
@@ -46,11 +46,11 @@ impl Page {
     /// What is said is laid out.
     #[tactic(auto, unfolding(crate::specs::LayingOut::lay_out))]
     pub(crate) fn lay_out(&mut self, act: Act, out: &mut SliceVec<'_, u8>)
-        requires { length out.old.items + 256 ≤ out.old.room }
+        requires { length out.old.items + 256 ≤ out.old.capacity }
         ensures page { self.new ≡ (specs.lay_out act self.old).page }
         ensures items { out.new.items ≡ out.old.items ++ (specs.lay_out act self.old).bytes }
         ensures few { length out.new.items ≤ length out.old.items + 256 }
-        ensures room { out.new.room ≡ out.old.room }
+        ensures room { out.new.capacity ≡ out.old.capacity }
     {
         match act {
             Act::Nothing => {}

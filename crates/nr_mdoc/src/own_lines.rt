@@ -29,10 +29,10 @@ fn digit(n: u16) -> u8
 
 /// A number below ten thousand.
 pub(crate) fn put_number(n: u16, out: &mut SliceVec<'_, u8>)
-    requires { length out.old.items + 4 ≤ out.old.room }
+    requires { length out.old.items + 4 ≤ out.old.capacity }
     ensures items { out.new.items ≡ out.old.items ++ specs.digits n }
     ensures few { length out.new.items ≤ length out.old.items + 4 }
-    ensures room { out.new.room ≡ out.old.room }
+    ensures room { out.new.capacity ≡ out.old.capacity }
 {
     if n < 10 {
         out.extend(&[digit(n)]);
@@ -59,11 +59,11 @@ impl Page {
 
     /// What was begun is put on a line, and a tag is whole.
     pub(crate) fn freshen(&mut self, out: &mut SliceVec<'_, u8>)
-        requires { length out.old.items + 3 ≤ out.old.room }
+        requires { length out.old.items + 3 ≤ out.old.capacity }
         ensures page { self.new ≡ (specs.freshen self.old).page }
         ensures items { out.new.items ≡ out.old.items ++ (specs.freshen self.old).bytes }
         ensures few { length out.new.items ≤ length out.old.items + 3 }
-        ensures room { out.new.room ≡ out.old.room }
+        ensures room { out.new.capacity ≡ out.old.capacity }
     {
         out.extend(self.line_end());
         self.lay.at = At::Start;
@@ -74,11 +74,11 @@ impl Page {
 
     /// A tag is whole: text stands behind it where it is one line, and no wider than this.
     pub(crate) fn end_tag(&mut self, width: u16, out: &mut SliceVec<'_, u8>)
-        requires { length out.old.items + 128 ≤ out.old.room }
+        requires { length out.old.items + 128 ≤ out.old.capacity }
         ensures page { self.new ≡ (specs.end_tag width self.old).page }
         ensures items { out.new.items ≡ out.old.items ++ (specs.end_tag width self.old).bytes }
         ensures few { length out.new.items ≤ length out.old.items + 128 }
-        ensures room { out.new.room ≡ out.old.room }
+        ensures room { out.new.capacity ≡ out.old.capacity }
     {
         self.freshen(out);
         out.extend(b".br\n.if \\n(nl-\\n(%tu=1v&(\\n(.nu<=");
@@ -88,11 +88,11 @@ impl Page {
 
     /// The same, and nothing was put since space was made.
     pub(crate) fn quiet_down(&mut self, out: &mut SliceVec<'_, u8>)
-        requires { length out.old.items + 3 ≤ out.old.room }
+        requires { length out.old.items + 3 ≤ out.old.capacity }
         ensures page { self.new ≡ (specs.quiet_down self.old).page }
         ensures items { out.new.items ≡ out.old.items ++ (specs.quiet_down self.old).bytes }
         ensures few { length out.new.items ≤ length out.old.items + 3 }
-        ensures room { out.new.room ≡ out.old.room }
+        ensures room { out.new.capacity ≡ out.old.capacity }
     {
         self.freshen(out);
         self.lay.quiet = true;
@@ -100,11 +100,11 @@ impl Page {
 
     /// Space as before a paragraph, once.
     pub(crate) fn put_space(&mut self, out: &mut SliceVec<'_, u8>)
-        requires { length out.old.items + 16 ≤ out.old.room }
+        requires { length out.old.items + 16 ≤ out.old.capacity }
         ensures page { self.new ≡ (specs.put_space self.old).page }
         ensures items { out.new.items ≡ out.old.items ++ (specs.put_space self.old).bytes }
         ensures few { length out.new.items ≤ length out.old.items + 16 }
-        ensures room { out.new.room ≡ out.old.room }
+        ensures room { out.new.capacity ≡ out.old.capacity }
     {
         self.freshen(out);
         if !self.lay.quiet {
@@ -115,11 +115,11 @@ impl Page {
 
     /// A request on a line.
     pub(crate) fn put_request(&mut self, request: Request, out: &mut SliceVec<'_, u8>)
-        requires { length out.old.items + 64 ≤ out.old.room }
+        requires { length out.old.items + 64 ≤ out.old.capacity }
         ensures page { self.new ≡ (specs.put_request request self.old).page }
         ensures items { out.new.items ≡ out.old.items ++ (specs.put_request request self.old).bytes }
         ensures few { length out.new.items ≤ length out.old.items + 64 }
-        ensures room { out.new.room ≡ out.old.room }
+        ensures room { out.new.capacity ≡ out.old.capacity }
     {
         self.freshen(out);
         out.extend(request_of(request));
@@ -139,11 +139,11 @@ impl Page {
 
     /// A request with a number of ens.
     pub(crate) fn put_sized(&mut self, sized: Sized, n: u16, out: &mut SliceVec<'_, u8>)
-        requires { length out.old.items + 48 ≤ out.old.room }
+        requires { length out.old.items + 48 ≤ out.old.capacity }
         ensures page { self.new ≡ (specs.put_sized sized n self.old).page }
         ensures items { out.new.items ≡ out.old.items ++ (specs.put_sized sized n self.old).bytes }
         ensures few { length out.new.items ≤ length out.old.items + 48 }
-        ensures room { out.new.room ≡ out.old.room }
+        ensures room { out.new.capacity ≡ out.old.capacity }
     {
         self.freshen(out);
         out.extend(sized_of(sized));
@@ -154,11 +154,11 @@ impl Page {
 
     /// A paragraph that hangs.
     pub(crate) fn put_hanging(&mut self, n: u16, out: &mut SliceVec<'_, u8>)
-        requires { length out.old.items + 64 ≤ out.old.room }
+        requires { length out.old.items + 64 ≤ out.old.capacity }
         ensures page { self.new ≡ (specs.put_hanging n self.old).page }
         ensures items { out.new.items ≡ out.old.items ++ (specs.put_hanging n self.old).bytes }
         ensures few { length out.new.items ≤ length out.old.items + 64 }
-        ensures room { out.new.room ≡ out.old.room }
+        ensures room { out.new.capacity ≡ out.old.capacity }
     {
         self.put_sized(Sized::Hanging, n, out);
         out.extend(request_of(Request::Distance));
@@ -166,11 +166,11 @@ impl Page {
 
     /// A tag begins, which hangs.
     pub(crate) fn put_tag(&mut self, n: u16, out: &mut SliceVec<'_, u8>)
-        requires { length out.old.items + 64 ≤ out.old.room }
+        requires { length out.old.items + 64 ≤ out.old.capacity }
         ensures page { self.new ≡ (specs.put_tag n self.old).page }
         ensures items { out.new.items ≡ out.old.items ++ (specs.put_tag n self.old).bytes }
         ensures few { length out.new.items ≤ length out.old.items + 64 }
-        ensures room { out.new.room ≡ out.old.room }
+        ensures room { out.new.capacity ≡ out.old.capacity }
     {
         self.put_sized(Sized::Tag, n, out);
         out.extend(b".nr %t \\n(nl\n");
@@ -178,11 +178,11 @@ impl Page {
 
     /// A numbered item.
     pub(crate) fn put_numbered(&mut self, n: u16, width: u16, out: &mut SliceVec<'_, u8>)
-        requires { length out.old.items + 48 ≤ out.old.room }
+        requires { length out.old.items + 48 ≤ out.old.capacity }
         ensures page { self.new ≡ (specs.put_numbered n width self.old).page }
         ensures items { out.new.items ≡ out.old.items ++ (specs.put_numbered n width self.old).bytes }
         ensures few { length out.new.items ≤ length out.old.items + 48 }
-        ensures room { out.new.room ≡ out.old.room }
+        ensures room { out.new.capacity ≡ out.old.capacity }
     {
         self.freshen(out);
         out.extend(b".PD 0\n.IP ");
@@ -195,11 +195,11 @@ impl Page {
 
     /// The page's date.
     fn put_date(&mut self, out: &mut SliceVec<'_, u8>)
-        requires { length out.old.items + 100 ≤ out.old.room }
+        requires { length out.old.items + 100 ≤ out.old.capacity }
         ensures page { self.new ≡ (specs.put_date self.old).page }
         ensures items { out.new.items ≡ out.old.items ++ (specs.put_date self.old).bytes }
         ensures few { length out.new.items ≤ length out.old.items + 100 }
-        ensures room { out.new.room ≡ out.old.room }
+        ensures room { out.new.capacity ≡ out.old.capacity }
     {
         out.extend(self.month.as_bytes());
         out.push(b' ');
@@ -210,11 +210,11 @@ impl Page {
 
     /// The page's title, up to its source.
     pub(crate) fn put_title(&mut self, out: &mut SliceVec<'_, u8>)
-        requires { length out.old.items + 192 ≤ out.old.room }
+        requires { length out.old.items + 192 ≤ out.old.capacity }
         ensures page { self.new ≡ (specs.put_title self.old).page }
         ensures items { out.new.items ≡ out.old.items ++ (specs.put_title self.old).bytes }
         ensures few { length out.new.items ≤ length out.old.items + 192 }
-        ensures room { out.new.room ≡ out.old.room }
+        ensures room { out.new.capacity ≡ out.old.capacity }
     {
         self.freshen(out);
         out.extend(b".TH ");
@@ -231,11 +231,11 @@ impl Page {
 
     /// The title's line ends.
     pub(crate) fn end_title(&mut self, out: &mut SliceVec<'_, u8>)
-        requires { length out.old.items + 18 ≤ out.old.room }
+        requires { length out.old.items + 18 ≤ out.old.capacity }
         ensures page { self.new ≡ (specs.end_title self.old).page }
         ensures items { out.new.items ≡ out.old.items ++ (specs.end_title self.old).bytes }
         ensures few { length out.new.items ≤ length out.old.items + 18 }
-        ensures room { out.new.room ≡ out.old.room }
+        ensures room { out.new.capacity ≡ out.old.capacity }
     {
         out.extend(b"\"\n.nr IN 5n\n.ad l\n");
         self.lay.at = At::Start;
@@ -245,11 +245,11 @@ impl Page {
 
     /// A line that goes on with words.
     pub(crate) fn put_head(&mut self, head: &[u8], out: &mut SliceVec<'_, u8>)
-        requires { length out.old.items + length head.now + 3 ≤ out.old.room }
+        requires { length out.old.items + length head.now + 3 ≤ out.old.capacity }
         ensures page { self.new ≡ (specs.put_head head.now self.old).page }
         ensures items { out.new.items ≡ out.old.items ++ (specs.put_head head.now self.old).bytes }
         ensures few { length out.new.items ≤ length out.old.items + length head.now + 3 }
-        ensures room { out.new.room ≡ out.old.room }
+        ensures room { out.new.capacity ≡ out.old.capacity }
     {
         self.freshen(out);
         out.extend(head);
@@ -258,11 +258,11 @@ impl Page {
 
     /// A request of the page itself.
     pub(crate) fn put_control(&mut self, out: &mut SliceVec<'_, u8>)
-        requires { length out.old.items + 48 ≤ out.old.room }
+        requires { length out.old.items + 48 ≤ out.old.capacity }
         ensures page { self.new ≡ (specs.put_control self.old).page }
         ensures items { out.new.items ≡ out.old.items ++ (specs.put_control self.old).bytes }
         ensures few { length out.new.items ≤ length out.old.items + 48 }
-        ensures room { out.new.room ≡ out.old.room }
+        ensures room { out.new.capacity ≡ out.old.capacity }
     {
         self.freshen(out);
         out.push(b'.');
@@ -271,11 +271,11 @@ impl Page {
 
     /// The string that keeps the page's name.
     pub(crate) fn put_naming(&mut self, out: &mut SliceVec<'_, u8>)
-        requires { length out.old.items + 48 ≤ out.old.room }
+        requires { length out.old.items + 48 ≤ out.old.capacity }
         ensures page { self.new ≡ (specs.put_naming self.old).page }
         ensures items { out.new.items ≡ out.old.items ++ (specs.put_naming self.old).bytes }
         ensures few { length out.new.items ≤ length out.old.items + 48 }
-        ensures room { out.new.room ≡ out.old.room }
+        ensures room { out.new.capacity ≡ out.old.capacity }
     {
         self.freshen(out);
         out.extend(b".ds %n \"");

@@ -82,15 +82,15 @@ impl Reader {
         blocks: &mut SliceVec<'_, Block>,
         out: &mut SliceVec<'_, u8>,
     ) -> bool
-        requires room { length out.old.items + 768 ≤ out.old.room }
-        requires blocks { 64 ≤ blocks.old.room }
+        requires room { length out.old.items + 768 ≤ out.old.capacity }
+        requires blocks { 64 ≤ blocks.old.capacity }
         ensures state { state self.new blocks.new.items
             ≡ (specs.once byte (state self.old blocks.old.items)).state }
         ensures items { out.new.items ≡ out.old.items
             ++ (specs.once byte (state self.old blocks.old.items)).bytes }
         ensures few { length out.new.items ≤ length out.old.items + 768 }
-        ensures room { out.new.room ≡ out.old.room }
-        ensures blocks { blocks.new.room ≡ blocks.old.room }
+        ensures room { out.new.capacity ≡ out.old.capacity }
+        ensures blocks { blocks.new.capacity ≡ blocks.old.capacity }
         ensures takes { result ≡ (specs.once byte (state self.old blocks.old.items)).takes }
     {
         let outer = self.page.block;
@@ -102,10 +102,10 @@ impl Reader {
 
     /// What becomes of the open blocks.
     fn stack(&mut self, stack: Stack, outer: Block, blocks: &mut SliceVec<'_, Block>)
-        requires { 64 ≤ blocks.old.room }
+        requires { 64 ≤ blocks.old.capacity }
         ensures state { state self.new blocks.new.items ≡ specs.stacked stack outer
             (state self.old blocks.old.items) }
-        ensures blocks { blocks.new.room ≡ blocks.old.room }
+        ensures blocks { blocks.new.capacity ≡ blocks.old.capacity }
     {
         match stack {
             Stack::Stay => {}
@@ -133,15 +133,15 @@ impl Reader {
         blocks: &mut SliceVec<'_, Block>,
         out: &mut SliceVec<'_, u8>,
     ) -> u64
-        requires room { length out.old.items + 768 * most ≤ out.old.room }
-        requires blocks { 64 ≤ blocks.old.room }
+        requires room { length out.old.items + 768 * most ≤ out.old.capacity }
+        requires blocks { 64 ≤ blocks.old.capacity }
         ensures state { state self.new blocks.new.items
             ≡ (specs.heard_in most byte (state self.old blocks.old.items)).state }
         ensures items { out.new.items ≡ out.old.items
             ++ (specs.heard_in most byte (state self.old blocks.old.items)).bytes }
         ensures few { length out.new.items ≤ length out.old.items + 768 * most }
-        ensures room { out.new.room ≡ out.old.room }
-        ensures blocks { blocks.new.room ≡ blocks.old.room }
+        ensures room { out.new.capacity ≡ out.old.capacity }
+        ensures blocks { blocks.new.capacity ≡ blocks.old.capacity }
         ensures steps { result ≡ (specs.heard_in most byte (state self.old blocks.old.items)).steps }
         ensures quick { result ≤ most }
     {
@@ -162,15 +162,15 @@ impl Reader {
         blocks: &mut SliceVec<'_, Block>,
         out: &mut SliceVec<'_, u8>,
     ) -> u64
-        requires room { length out.old.items + 12288 ≤ out.old.room }
-        requires blocks { 64 ≤ blocks.old.room }
+        requires room { length out.old.items + 12288 ≤ out.old.capacity }
+        requires blocks { 64 ≤ blocks.old.capacity }
         ensures state { state self.new blocks.new.items
             ≡ (specs.heard byte (state self.old blocks.old.items)).state }
         ensures items { out.new.items ≡ out.old.items
             ++ (specs.heard byte (state self.old blocks.old.items)).bytes }
         ensures few { length out.new.items ≤ length out.old.items + 12288 }
-        ensures room { out.new.room ≡ out.old.room }
-        ensures blocks { blocks.new.room ≡ blocks.old.room }
+        ensures room { out.new.capacity ≡ out.old.capacity }
+        ensures blocks { blocks.new.capacity ≡ blocks.old.capacity }
         ensures steps { result ≡ (specs.heard byte (state self.old blocks.old.items)).steps }
         ensures quick { result ≤ 16 }
     {
@@ -184,15 +184,15 @@ impl Reader {
         blocks: &mut SliceVec<'_, Block>,
         out: &mut SliceVec<'_, u8>,
     ) -> u64
-        requires room { length out.old.items + 12544 ≤ out.old.room }
-        requires blocks { 64 ≤ blocks.old.room }
+        requires room { length out.old.items + 12544 ≤ out.old.capacity }
+        requires blocks { 64 ≤ blocks.old.capacity }
         ensures items { out.new.items ≡ out.old.items
             ++ (specs.line_finished (state self.old blocks.old.items)).bytes }
         ensures few { length out.new.items ≤ length out.old.items + 12544 }
-        ensures room { out.new.room ≡ out.old.room }
+        ensures room { out.new.capacity ≡ out.old.capacity }
         ensures steps { result ≡ (specs.line_finished (state self.old blocks.old.items)).steps }
         ensures quick { result ≤ 16 }
-        ensures blocks { blocks.new.room ≡ blocks.old.room }
+        ensures blocks { blocks.new.capacity ≡ blocks.old.capacity }
     {
         let steps = self.hear(b'\n', blocks, out);
         self.page.freshen(out);
@@ -229,11 +229,11 @@ impl Page {
     /// What a meeting says is laid out.
     #[tactic(auto, unfolding(crate::specs::Reading::said))]
     fn say(&mut self, seen: Seen, out: &mut SliceVec<'_, u8>)
-        requires { length out.old.items + 768 ≤ out.old.room }
+        requires { length out.old.items + 768 ≤ out.old.capacity }
         ensures page { self.new ≡ (specs.said seen self.old).page }
         ensures items { out.new.items ≡ out.old.items ++ (specs.said seen self.old).bytes }
         ensures few { length out.new.items ≤ length out.old.items + 768 }
-        ensures room { out.new.room ≡ out.old.room }
+        ensures room { out.new.capacity ≡ out.old.capacity }
     {
         self.lay_out(seen.first, out);
         self.lay_out(seen.second, out);

@@ -36,11 +36,11 @@ impl Page {
 
     /// The line of an author begins: the one before is put to those before it.
     fn put_author_head(&mut self, out: &mut SliceVec<'_, u8>)
-        requires { length out.old.items + 48 ≤ out.old.room }
+        requires { length out.old.items + 48 ≤ out.old.capacity }
         ensures page { self.new ≡ (specs.put_author_head self.old).page }
         ensures items { out.new.items ≡ out.old.items ++ (specs.put_author_head self.old).bytes }
         ensures few { length out.new.items ≤ length out.old.items + 48 }
-        ensures room { out.new.room ≡ out.old.room }
+        ensures room { out.new.capacity ≡ out.old.capacity }
     {
         match self.place.authors {
             0 => self.put_head(b".ds %A \"", out),
@@ -54,11 +54,11 @@ impl Page {
 
     /// The line of a part begins, which is the first of its letter or not.
     fn put_part_head(&mut self, letter: u8, out: &mut SliceVec<'_, u8>)
-        requires { length out.old.items + 48 ≤ out.old.room }
+        requires { length out.old.items + 48 ≤ out.old.capacity }
         ensures page { self.new ≡ (specs.put_part_head letter self.old).page }
         ensures items { out.new.items ≡ out.old.items ++ (specs.put_part_head letter self.old).bytes }
         ensures few { length out.new.items ≤ length out.old.items + 48 }
-        ensures room { out.new.room ≡ out.old.room }
+        ensures room { out.new.capacity ≡ out.old.capacity }
     {
         if self.has_part(letter) {
             self.put_head(b".as %", out);
@@ -76,11 +76,11 @@ impl Page {
 
     /// The line of a part of a reference begins.
     pub(crate) fn put_part_begin(&mut self, letter: u8, out: &mut SliceVec<'_, u8>)
-        requires { length out.old.items + 48 ≤ out.old.room }
+        requires { length out.old.items + 48 ≤ out.old.capacity }
         ensures page { self.new ≡ (specs.put_part_begin letter self.old).page }
         ensures items { out.new.items ≡ out.old.items ++ (specs.put_part_begin letter self.old).bytes }
         ensures few { length out.new.items ≤ length out.old.items + 48 }
-        ensures room { out.new.room ≡ out.old.room }
+        ensures room { out.new.capacity ≡ out.old.capacity }
     {
         if letter == b'A' {
             self.put_author_head(out);
@@ -112,11 +112,11 @@ impl Page {
 
     /// A comma, where some of the reference was printed.
     fn put_comma(&mut self, out: &mut SliceVec<'_, u8>)
-        requires { length out.old.items + 4 ≤ out.old.room }
+        requires { length out.old.items + 4 ≤ out.old.capacity }
         ensures page { self.new ≡ (specs.put_comma self.old).page }
         ensures items { out.new.items ≡ out.old.items ++ (specs.put_comma self.old).bytes }
         ensures few { length out.new.items ≤ length out.old.items + 4 }
-        ensures room { out.new.room ≡ out.old.room }
+        ensures room { out.new.capacity ≡ out.old.capacity }
     {
         if self.place.listed {
             self.put(true, b",", out);
@@ -127,11 +127,11 @@ impl Page {
     /// The title.
     #[tactic(auto, unfolding(crate::specs::References::put_title_part))]
     fn put_title_part(&mut self, out: &mut SliceVec<'_, u8>)
-        requires { length out.old.items + 24 ≤ out.old.room }
+        requires { length out.old.items + 24 ≤ out.old.capacity }
         ensures page { self.new ≡ (specs.put_title_part self.old).page }
         ensures items { out.new.items ≡ out.old.items ++ (specs.put_title_part self.old).bytes }
         ensures few { length out.new.items ≤ length out.old.items + 24 }
-        ensures room { out.new.room ≡ out.old.room }
+        ensures room { out.new.capacity ≡ out.old.capacity }
     {
         if !self.has_part(b'T') {
             return;
@@ -147,11 +147,11 @@ impl Page {
 
     /// Another part.
     fn put_part(&mut self, letter: u8, out: &mut SliceVec<'_, u8>)
-        requires { length out.old.items + 12 ≤ out.old.room }
+        requires { length out.old.items + 12 ≤ out.old.capacity }
         ensures page { self.new ≡ (specs.put_part letter self.old).page }
         ensures items { out.new.items ≡ out.old.items ++ (specs.put_part letter self.old).bytes }
         ensures few { length out.new.items ≤ length out.old.items + 12 }
-        ensures room { out.new.room ≡ out.old.room }
+        ensures room { out.new.capacity ≡ out.old.capacity }
     {
         if !self.has_part(letter) {
             return;
@@ -166,11 +166,11 @@ impl Page {
     /// The parts of these letters, in their order.
     #[tactic(auto, unfolding(crate::specs::References::put_parts))]
     fn put_parts(&mut self, letters: &[u8], out: &mut SliceVec<'_, u8>)
-        requires { length out.old.items + 12 * length letters.now ≤ out.old.room }
+        requires { length out.old.items + 12 * length letters.now ≤ out.old.capacity }
         ensures page { self.new ≡ (specs.put_parts letters.now self.old).page }
         ensures items { out.new.items ≡ out.old.items ++ (specs.put_parts letters.now self.old).bytes }
         ensures few { length out.new.items ≤ length out.old.items + 12 * length letters.now }
-        ensures room { out.new.room ≡ out.old.room }
+        ensures room { out.new.capacity ≡ out.old.capacity }
     {
         match letters {
             [first, rest @ ..] => {
@@ -184,11 +184,11 @@ impl Page {
     /// The authors.
     #[tactic(auto, unfolding(crate::specs::References::put_authors))]
     fn put_authors(&mut self, out: &mut SliceVec<'_, u8>)
-        requires { length out.old.items + 24 ≤ out.old.room }
+        requires { length out.old.items + 24 ≤ out.old.capacity }
         ensures page { self.new ≡ (specs.put_authors self.old).page }
         ensures items { out.new.items ≡ out.old.items ++ (specs.put_authors self.old).bytes }
         ensures few { length out.new.items ≤ length out.old.items + 24 }
-        ensures room { out.new.room ≡ out.old.room }
+        ensures room { out.new.capacity ≡ out.old.capacity }
     {
         self.place.listed = self.place.authors > 0;
         if self.place.authors > 0 {
@@ -199,11 +199,11 @@ impl Page {
     /// A full stop, where some of the reference was printed.
     #[tactic(auto, unfolding(crate::specs::References::put_stop))]
     fn put_stop(&mut self, out: &mut SliceVec<'_, u8>)
-        requires { length out.old.items + 4 ≤ out.old.room }
+        requires { length out.old.items + 4 ≤ out.old.capacity }
         ensures page { self.new ≡ (specs.put_stop self.old).page }
         ensures items { out.new.items ≡ out.old.items ++ (specs.put_stop self.old).bytes }
         ensures few { length out.new.items ≤ length out.old.items + 4 }
-        ensures room { out.new.room ≡ out.old.room }
+        ensures room { out.new.capacity ≡ out.old.capacity }
     {
         if self.place.listed {
             self.put(true, b".", out);
@@ -212,11 +212,11 @@ impl Page {
 
     /// A reference: its authors, its title, its other parts, and a full stop.
     pub(crate) fn put_reference(&mut self, out: &mut SliceVec<'_, u8>)
-        requires { length out.old.items + 196 ≤ out.old.room }
+        requires { length out.old.items + 196 ≤ out.old.capacity }
         ensures page { self.new ≡ (specs.put_reference self.old).page }
         ensures items { out.new.items ≡ out.old.items ++ (specs.put_reference self.old).bytes }
         ensures few { length out.new.items ≤ length out.old.items + 196 }
-        ensures room { out.new.room ≡ out.old.room }
+        ensures room { out.new.capacity ≡ out.old.capacity }
     {
         self.put_authors(out);
         self.put_title_part(out);

@@ -52,7 +52,7 @@ fn put_pending<W: Sink>(out: &mut SliceVec<'_, u8>, output: &mut W) -> Result<()
     ensures err { specs.FrontAtErr result (W.held output.old) (W.held output.new) out.old.items }
     ensures empty { OnOk result (out.new.items ≡ []) }
     ensures failures { W.failures output.new ≡ put_counted (W.failures output.old) result }
-    ensures room { out.new.room ≡ out.old.room }
+    ensures room { out.new.capacity ≡ out.old.capacity }
 {
     output.put(out.as_slice())?;
     out.clear();
@@ -61,15 +61,15 @@ fn put_pending<W: Sink>(out: &mut SliceVec<'_, u8>, output: &mut W) -> Result<()
 
 /// Room is made for what one turn says: where there is none, all that is pending goes out.
 fn make_room<W: Sink>(out: &mut SliceVec<'_, u8>, output: &mut W) -> Result<(), Fault>
-    requires { 73984 ≤ out.old.room }
+    requires { 73984 ≤ out.old.capacity }
     ensures ok { OnOk result (specs.Flushes (W.held output.old) (W.held output.new) out.old.items
         out.new.items) }
     ensures err { specs.FrontAtErr result (W.held output.old) (W.held output.new) out.old.items }
-    ensures fits { OnOk result (length out.new.items + 73984 ≤ out.new.room) }
+    ensures fits { OnOk result (length out.new.items + 73984 ≤ out.new.capacity) }
     ensures failures { W.failures output.new ≡ put_counted (W.failures output.old) result }
-    ensures room { out.new.room ≡ out.old.room }
+    ensures room { out.new.capacity ≡ out.old.capacity }
 {
-    if out.room() - out.len() >= MOST {
+    if out.capacity() - out.len() >= MOST {
         return Ok(());
     }
     put_pending(out, output)
@@ -95,11 +95,11 @@ fn passing_at_hand<R: Source>(reader: &Reader, input: &R, most: u64) -> usize
 /// So many of the bytes at hand go out as they are.
 fn pass<R: Source>(input: &mut R, out: &mut SliceVec<'_, u8>, count: usize)
     requires within { count ≤ length (R.at_hand input.old) }
-    requires room { length out.old.items + count ≤ out.old.room }
+    requires room { length out.old.items + count ≤ out.old.capacity }
     ensures came { specs.Comes (R.supply input.old) (take count (R.at_hand input.old)) (R.supply input.new) }
     ensures items { out.new.items ≡ out.old.items ++ take count (R.at_hand input.old) }
     ensures failures { R.failures input.new ≡ R.failures input.old }
-    ensures room { out.new.room ≡ out.old.room }
+    ensures room { out.new.capacity ≡ out.old.capacity }
 {
     out.extend(&input.window()[..count]);
     input.skip(count);
@@ -113,15 +113,15 @@ fn make_turn<R: Source>(
     out: &mut SliceVec<'_, u8>,
     most: u64,
 ) -> Turn
-    requires room { length out.old.items + 73984 ≤ out.old.room }
+    requires room { length out.old.items + 73984 ≤ out.old.capacity }
     requires some { 0 < most }
-    requires blocks { 64 ≤ blocks.old.room }
+    requires blocks { 64 ≤ blocks.old.capacity }
     ensures turns { specs.Turns (R.supply input.old) (R.supply input.new) (state reader.old blocks.old.items)
         (state reader.new blocks.new.items) out.old.items out.new.items result }
     ensures measured { specs.IsMeasured most (length out.old.items) (length out.new.items) result }
     ensures failures { R.failures input.new ≡ counted_if (specs.is_fault result) (R.failures input.old) }
-    ensures room { out.new.room ≡ out.old.room }
-    ensures blocks { specs.is_end result ≡ false → blocks.new.room ≡ blocks.old.room }
+    ensures room { out.new.capacity ≡ out.old.capacity }
+    ensures blocks { specs.is_end result ≡ false → blocks.new.capacity ≡ blocks.old.capacity }
 {
     let count = passing_at_hand(reader, input, most);
     if count > 0 {
@@ -167,8 +167,8 @@ fn run<R: Source, W: Sink>(
 ) -> Outcome
     requires first { reader.old ≡ first_reader }
     requires none { blocks.old.items ≡ [] }
-    requires blocks { 64 ≤ blocks.old.room }
-    requires room { 73984 ≤ out.old.room }
+    requires blocks { 64 ≤ blocks.old.capacity }
+    requires room { 73984 ≤ out.old.capacity }
     requires empty { out.old.items ≡ [] }
     ensures ran { specs.Ran (R.supply input.old) (R.supply input.new) (W.held output.old) (W.held output.new)
         steps.new result }

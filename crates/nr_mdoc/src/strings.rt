@@ -135,8 +135,8 @@ impl Reader {
         blocks: &mut SliceVec<'_, Block>,
         out: &mut SliceVec<'_, u8>,
     ) -> u64
-        requires room { length out.old.items + 12288 ≤ out.old.room }
-        requires blocks { 64 ≤ blocks.old.room }
+        requires room { length out.old.items + 12288 ≤ out.old.capacity }
+        requires blocks { 64 ≤ blocks.old.capacity }
         ensures state { state self.new blocks.new.items
             ≡ (specs.heard_some byte (state self.old blocks.old.items)).state }
         ensures items { out.new.items ≡ out.old.items
@@ -144,8 +144,8 @@ impl Reader {
         ensures steps { result ≡ (specs.heard_some byte (state self.old blocks.old.items)).steps }
         ensures few { length out.new.items ≤ length out.old.items + 12288 }
         ensures quick { result ≤ 16 }
-        ensures room { out.new.room ≡ out.old.room }
-        ensures blocks { blocks.new.room ≡ blocks.old.room }
+        ensures room { out.new.capacity ≡ out.old.capacity }
+        ensures blocks { blocks.new.capacity ≡ blocks.old.capacity }
     {
         if byte == 0 {
             return 0;
@@ -160,8 +160,8 @@ impl Reader {
         blocks: &mut SliceVec<'_, Block>,
         out: &mut SliceVec<'_, u8>,
     ) -> u64
-        requires room { length out.old.items + 49152 ≤ out.old.room }
-        requires blocks { 64 ≤ blocks.old.room }
+        requires room { length out.old.items + 49152 ≤ out.old.capacity }
+        requires blocks { 64 ≤ blocks.old.capacity }
         ensures state { state self.new blocks.new.items
             ≡ (specs.heard_text (slice_index text 0) (slice_index text 1) (slice_index text 2)
             (slice_index text 3) (state self.old blocks.old.items)).state }
@@ -173,8 +173,8 @@ impl Reader {
             (slice_index text 3) (state self.old blocks.old.items)).steps }
         ensures few { length out.new.items ≤ length out.old.items + 49152 }
         ensures quick { result ≤ 64 }
-        ensures room { out.new.room ≡ out.old.room }
-        ensures blocks { blocks.new.room ≡ blocks.old.room }
+        ensures room { out.new.capacity ≡ out.old.capacity }
+        ensures blocks { blocks.new.capacity ≡ blocks.old.capacity }
     {
         self.hear_some(text[0], blocks, out)
             + self.hear_some(text[1], blocks, out)
@@ -184,8 +184,8 @@ impl Reader {
 
     /// A backslash and a star.
     fn hear_star(&mut self, blocks: &mut SliceVec<'_, Block>, out: &mut SliceVec<'_, u8>) -> u64
-        requires room { length out.old.items + 24576 ≤ out.old.room }
-        requires blocks { 64 ≤ blocks.old.room }
+        requires room { length out.old.items + 24576 ≤ out.old.capacity }
+        requires blocks { 64 ≤ blocks.old.capacity }
         ensures state { state self.new blocks.new.items
             ≡ (specs.heard_star (state self.old blocks.old.items)).state }
         ensures items { out.new.items ≡ out.old.items
@@ -193,8 +193,8 @@ impl Reader {
         ensures steps { result ≡ (specs.heard_star (state self.old blocks.old.items)).steps }
         ensures few { length out.new.items ≤ length out.old.items + 24576 }
         ensures quick { result ≤ 32 }
-        ensures room { out.new.room ≡ out.old.room }
-        ensures blocks { blocks.new.room ≡ blocks.old.room }
+        ensures room { out.new.capacity ≡ out.old.capacity }
+        ensures blocks { blocks.new.capacity ≡ blocks.old.capacity }
     {
         self.hear(b'\\', blocks, out) + self.hear(b'*', blocks, out)
     }
@@ -206,8 +206,8 @@ impl Reader {
         blocks: &mut SliceVec<'_, Block>,
         out: &mut SliceVec<'_, u8>,
     ) -> u64
-        requires room { length out.old.items + 36864 ≤ out.old.room }
-        requires blocks { 64 ≤ blocks.old.room }
+        requires room { length out.old.items + 36864 ≤ out.old.capacity }
+        requires blocks { 64 ≤ blocks.old.capacity }
         ensures state { state self.new blocks.new.items
             ≡ (specs.heard_then specs.heard_star byte (state self.old blocks.old.items)).state }
         ensures items { out.new.items ≡ out.old.items
@@ -216,8 +216,8 @@ impl Reader {
             ≡ (specs.heard_then specs.heard_star byte (state self.old blocks.old.items)).steps }
         ensures few { length out.new.items ≤ length out.old.items + 36864 }
         ensures quick { result ≤ 48 }
-        ensures room { out.new.room ≡ out.old.room }
-        ensures blocks { blocks.new.room ≡ blocks.old.room }
+        ensures room { out.new.capacity ≡ out.old.capacity }
+        ensures blocks { blocks.new.capacity ≡ blocks.old.capacity }
     {
         self.hear_star(blocks, out) + self.hear(byte, blocks, out)
     }
@@ -230,8 +230,8 @@ impl Reader {
         blocks: &mut SliceVec<'_, Block>,
         out: &mut SliceVec<'_, u8>,
     ) -> u64
-        requires room { length out.old.items + 49152 ≤ out.old.room }
-        requires blocks { 64 ≤ blocks.old.room }
+        requires room { length out.old.items + 49152 ≤ out.old.capacity }
+        requires blocks { 64 ≤ blocks.old.capacity }
         ensures state { state self.new blocks.new.items
             ≡ (specs.heard_then (specs.heard_then specs.heard_star byte) first
             (state self.old blocks.old.items)).state }
@@ -243,8 +243,8 @@ impl Reader {
             (state self.old blocks.old.items)).steps }
         ensures few { length out.new.items ≤ length out.old.items + 49152 }
         ensures quick { result ≤ 64 }
-        ensures room { out.new.room ≡ out.old.room }
-        ensures blocks { blocks.new.room ≡ blocks.old.room }
+        ensures room { out.new.capacity ≡ out.old.capacity }
+        ensures blocks { blocks.new.capacity ≡ blocks.old.capacity }
     {
         self.hear_open(byte, blocks, out) + self.hear(first, blocks, out)
     }
@@ -257,8 +257,8 @@ impl Reader {
         blocks: &mut SliceVec<'_, Block>,
         out: &mut SliceVec<'_, u8>,
     ) -> u64
-        requires room { length out.old.items + 61440 ≤ out.old.room }
-        requires blocks { 64 ≤ blocks.old.room }
+        requires room { length out.old.items + 61440 ≤ out.old.capacity }
+        requires blocks { 64 ≤ blocks.old.capacity }
         ensures state { state self.new blocks.new.items
             ≡ (specs.heard_then (specs.heard_then (specs.heard_then specs.heard_star 91) first) second
             (state self.old blocks.old.items)).state }
@@ -270,8 +270,8 @@ impl Reader {
             (state self.old blocks.old.items)).steps }
         ensures few { length out.new.items ≤ length out.old.items + 61440 }
         ensures quick { result ≤ 80 }
-        ensures room { out.new.room ≡ out.old.room }
-        ensures blocks { blocks.new.room ≡ blocks.old.room }
+        ensures room { out.new.capacity ≡ out.old.capacity }
+        ensures blocks { blocks.new.capacity ≡ blocks.old.capacity }
     {
         self.hear_pair(b'[', first, blocks, out) + self.hear(second, blocks, out)
     }
@@ -283,8 +283,8 @@ impl Reader {
         blocks: &mut SliceVec<'_, Block>,
         out: &mut SliceVec<'_, u8>,
     ) -> u64
-        requires room { length out.old.items + 61440 ≤ out.old.room }
-        requires blocks { 64 ≤ blocks.old.room }
+        requires room { length out.old.items + 61440 ≤ out.old.capacity }
+        requires blocks { 64 ≤ blocks.old.capacity }
         ensures state { state self.new blocks.new.items
             ≡ (specs.heard_raw pending (state self.old blocks.old.items)).state }
         ensures items { out.new.items ≡ out.old.items
@@ -292,8 +292,8 @@ impl Reader {
         ensures steps { result ≡ (specs.heard_raw pending (state self.old blocks.old.items)).steps }
         ensures few { length out.new.items ≤ length out.old.items + 61440 }
         ensures quick { result ≤ 80 }
-        ensures room { out.new.room ≡ out.old.room }
-        ensures blocks { blocks.new.room ≡ blocks.old.room }
+        ensures room { out.new.capacity ≡ out.old.capacity }
+        ensures blocks { blocks.new.capacity ≡ blocks.old.capacity }
     {
         match pending {
             Pending::Nothing => 0,
@@ -315,8 +315,8 @@ impl Reader {
         blocks: &mut SliceVec<'_, Block>,
         out: &mut SliceVec<'_, u8>,
     ) -> u64
-        requires room { length out.old.items + 73728 ≤ out.old.room }
-        requires blocks { 64 ≤ blocks.old.room }
+        requires room { length out.old.items + 73728 ≤ out.old.capacity }
+        requires blocks { 64 ≤ blocks.old.capacity }
         ensures state { state self.new blocks.new.items
             ≡ (specs.read byte (state self.old blocks.old.items)).state }
         ensures items { out.new.items ≡ out.old.items
@@ -324,8 +324,8 @@ impl Reader {
         ensures steps { result ≡ (specs.read byte (state self.old blocks.old.items)).steps }
         ensures few { length out.new.items ≤ length out.old.items + 73728 }
         ensures quick { result ≤ 96 }
-        ensures room { out.new.room ≡ out.old.room }
-        ensures blocks { blocks.new.room ≡ blocks.old.room }
+        ensures room { out.new.capacity ≡ out.old.capacity }
+        ensures blocks { blocks.new.capacity ≡ blocks.old.capacity }
     {
         let pending = self.pending;
         match met_by(pending, byte, takes_strings(self.page.scan)) {
@@ -346,15 +346,15 @@ impl Reader {
 
     /// What is half read of the page goes out.
     fn finish_page(&mut self, blocks: &mut SliceVec<'_, Block>, out: &mut SliceVec<'_, u8>) -> u64
-        requires room { length out.old.items + 12544 ≤ out.old.room }
-        requires blocks { 64 ≤ blocks.old.room }
+        requires room { length out.old.items + 12544 ≤ out.old.capacity }
+        requires blocks { 64 ≤ blocks.old.capacity }
         ensures items { out.new.items ≡ out.old.items
             ++ (specs.page_finished (state self.old blocks.old.items)).bytes }
         ensures steps { result ≡ (specs.page_finished (state self.old blocks.old.items)).steps }
         ensures few { length out.new.items ≤ length out.old.items + 12544 }
         ensures quick { result ≤ 16 }
-        ensures room { out.new.room ≡ out.old.room }
-        ensures blocks { blocks.new.room ≡ blocks.old.room }
+        ensures room { out.new.capacity ≡ out.old.capacity }
+        ensures blocks { blocks.new.capacity ≡ blocks.old.capacity }
     {
         match self.page.scan {
             Scan::Asleep(front, _) => {
@@ -377,15 +377,15 @@ impl Reader {
         blocks: &mut SliceVec<'_, Block>,
         out: &mut SliceVec<'_, u8>,
     ) -> u64
-        requires room { length out.old.items + 73984 ≤ out.old.room }
-        requires blocks { 64 ≤ blocks.old.room }
+        requires room { length out.old.items + 73984 ≤ out.old.capacity }
+        requires blocks { 64 ≤ blocks.old.capacity }
         ensures items { out.new.items ≡ out.old.items
             ++ (specs.finished (state self.old blocks.old.items)).bytes }
         ensures steps { result ≡ (specs.finished (state self.old blocks.old.items)).steps }
         ensures few { length out.new.items ≤ length out.old.items + 73984 }
         ensures quick { result ≤ 96 }
-        ensures room { out.new.room ≡ out.old.room }
-        ensures blocks { blocks.new.room ≡ blocks.old.room }
+        ensures room { out.new.capacity ≡ out.old.capacity }
+        ensures blocks { blocks.new.capacity ≡ blocks.old.capacity }
     {
         let pending = self.pending;
         self.pending = Pending::Nothing;

@@ -14,7 +14,7 @@ use Rattle.nr_page.specs.Rows.{text_count, sheet_of, IsKept}
 holds_none : (texts : Texts Cell) (rows : List RowSlot) (limit : ℕ) → rows ≡ [] → Holds [] (sheet_of texts rows 0 0 limit)
 holds_none texts rows limit none = rw none record { shows = λ row column. refl; reaches = refl; charged = refl }
 
-pub kept_new : (texts : Texts Cell) (rows : Items RowSlot) (limit n : ℕ) → limit < 2 ^ 32 → texts.capacity ≡ limit → texts.texts ≡ replicate n no_text → n ≡ limit / 2 → rows.items ≡ [] → rows.room ≡ limit / 2 → IsKept texts rows 0 0 limit
+pub kept_new : (texts : Texts Cell) (rows : Items RowSlot) (limit n : ℕ) → limit < 2 ^ 32 → texts.capacity ≡ limit → texts.texts ≡ replicate n no_text → n ≡ limit / 2 → rows.items ≡ [] → rows.capacity ≡ limit / 2 → IsKept texts rows 0 0 limit
 kept_new texts rows limit n small capacity empty n_is none room =
     let few : length rows.items ≡ 0 = ap length none in
     let no_cells : used texts ≡ 0 = ap (λ ts. sum_by (λ (t : Held Cell). length t.elements) ts) empty ∙ sum_by-replicate (λ (t : Held Cell). length t.elements) n no_text ∙ omega arith in

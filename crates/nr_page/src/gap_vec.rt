@@ -1,7 +1,7 @@
-// A list that grows at any place, for which room is taken once.
+// A list that grows at any place, whose capacity is taken once.
 ghost use Rattle.std.specs.Prelude.{◌≡◌, ℕ, ◌+◌, ◌<◌, ◌≤◌, List, [], ◌++◌, length, take, drop, insert, slice_get, slice_set, Some, IfOk};
 
-use nr_rooms::{CountedAlloc, ReservedVec};
+use nr_vectors::{CountedAlloc, ReservedVec};
 use std::alloc::AllocError;
 use std::marker::Model;
 
@@ -14,7 +14,7 @@ pub(crate) struct GapVec<T: Copy> {
     // The items before the gap stand at the front of the slots, and those after it at their end.
     front: usize,
     gap: usize,
-    room: usize,
+    capacity: usize,
 }
 
 impl<T: Copy> Model for GapVec<T> {
@@ -25,30 +25,30 @@ impl<T: Copy> Model for GapVec<T> {
 
     ghost view = { λ v. record {
       items = take v.front v.slots.items ++ drop (v.front + v.gap) v.slots.items;
-      room = v.room;
+      capacity = v.capacity;
     } };
 
     ghost invariant = { λ v. (v.front + v.gap ≤ length v.slots.items)
-        × ((length v.slots.items ≤ v.room) × (v.slots.room ≡ v.room)) };
+        × ((length v.slots.items ≤ v.capacity) × (v.slots.capacity ≡ v.capacity)) };
 }
 
 impl<T: Copy> GapVec<T> {
     /// No items, and room for so many: `AllocError` where there is no memory for them.
-    pub(crate) fn new(alloc: &mut CountedAlloc, room: usize) -> Result<GapVec<T>, AllocError>
-        ensures made { IfOk result (λ made. made ≡ record { items = []; room = room }) }
-        ensures taken { IfOk result (λ made. alloc.new ≡ alloc.old + room) }
+    pub(crate) fn new(alloc: &mut CountedAlloc, capacity: usize) -> Result<GapVec<T>, AllocError>
+        ensures made { IfOk result (λ made. made ≡ record { items = []; capacity = capacity }) }
+        ensures taken { IfOk result (λ made. alloc.new ≡ alloc.old + capacity) }
     {
-        let slots = ReservedVec::new(alloc, room)?;
+        let slots = ReservedVec::new(alloc, capacity)?;
         Ok(GapVec {
             slots,
             front: 0,
             gap: 0,
-            room,
+            capacity,
         })
     }
 
     pub(crate) fn memory(&self) -> usize
-        ensures { result ≡ self.now.room }
+        ensures { result ≡ self.now.capacity }
     {
         self.slots.capacity()
     }
@@ -74,7 +74,7 @@ impl<T: Copy> GapVec<T> {
     pub(crate) fn set(&mut self, place: usize, item: T)
         requires { place < length self.old.items }
         ensures items { self.new.items ≡ slice_set self.old.items place item }
-        ensures room { self.new.room ≡ self.old.room }
+        ensures room { self.new.capacity ≡ self.old.capacity }
     {
         if place < self.front {
             self.slots[place] = item;
@@ -85,12 +85,12 @@ impl<T: Copy> GapVec<T> {
 
     pub(crate) fn insert(&mut self, place: usize, item: T)
         requires within { place ≤ length self.old.items }
-        requires fits { length self.old.items < self.old.room }
+        requires fits { length self.old.items < self.old.capacity }
         ensures items { self.new.items ≡ insert self.old.items place item }
-        ensures room { self.new.room ≡ self.old.room }
+        ensures room { self.new.capacity ≡ self.old.capacity }
     {
         move_gap(self.slots.as_mut_slice(), self.front, self.gap, place);
-        let gap = make_gap(&mut self.slots, self.room, place, self.gap, item);
+        let gap = make_gap(&mut self.slots, self.capacity, place, self.gap, item);
         self.slots[place] = item;
         self.front = place + 1;
         self.gap = gap - 1;
@@ -98,7 +98,7 @@ impl<T: Copy> GapVec<T> {
 
     pub(crate) fn clear(&mut self)
         ensures items { self.new.items ≡ [] }
-        ensures room { self.new.room ≡ self.old.room }
+        ensures room { self.new.capacity ≡ self.old.capacity }
     {
         self.front = 0;
         self.gap = self.slots.len();
@@ -109,21 +109,21 @@ impl<T: Copy> GapVec<T> {
 #[inline]
 fn make_gap<T: Copy>(
     slots: &mut ReservedVec<T>,
-    room: usize,
+    capacity: usize,
     place: usize,
     gap: usize,
     item: T,
 ) -> usize
     requires here { place + gap ≤ length slots.old.items }
-    requires held { length slots.old.items < room + gap }
-    requires within { length slots.old.items ≤ room }
-    requires capacity { slots.old.room ≡ room }
+    requires held { length slots.old.items < capacity + gap }
+    requires within { length slots.old.items ≤ capacity }
+    requires capacity { slots.old.capacity ≡ capacity }
     ensures items { take place slots.new.items ++ drop (place + result) slots.new.items
         ≡ take place slots.old.items ++ drop (place + gap) slots.old.items }
     ensures some { 0 < result }
     ensures here { place + result ≤ length slots.new.items }
-    ensures within { length slots.new.items ≤ room }
-    ensures capacity { slots.new.room ≡ slots.old.room }
+    ensures within { length slots.new.items ≤ capacity }
+    ensures capacity { slots.new.capacity ≡ slots.old.capacity }
 {
     if gap > 0 {
         return gap;

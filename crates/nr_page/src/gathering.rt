@@ -24,14 +24,14 @@ pub(crate) fn make_room<W: Sink>(
     more: usize,
     output: &mut W,
 ) -> Result<(), Fault>
-    requires { more ≤ pending.old.room }
+    requires { more ≤ pending.old.capacity }
     ensures gathers { GathersOrFails (W.held output.old) (W.held output.new) pending.old.items
         pending.new.items [] result }
-    ensures fits { OnOk result (length pending.new.items + more ≤ pending.new.room) }
+    ensures fits { OnOk result (length pending.new.items + more ≤ pending.new.capacity) }
     ensures failures { W.failures output.new ≡ put_counted (W.failures output.old) result }
-    ensures room { pending.new.room ≡ pending.old.room }
+    ensures room { pending.new.capacity ≡ pending.old.capacity }
 {
-    if pending.room() - pending.len() >= more {
+    if pending.capacity() - pending.len() >= more {
         return Ok(());
     }
     output.put(pending.as_slice())?;
@@ -40,10 +40,10 @@ pub(crate) fn make_room<W: Sink>(
 }
 
 fn gather_cell(pending: &mut SliceVec<'_, u8>, cell: Cell)
-    requires { length pending.old.items + 3 ≤ pending.old.room }
+    requires { length pending.old.items + 3 ≤ pending.old.capacity }
     ensures items { pending.new.items ≡ pending.old.items ++ cell_bytes cell }
     ensures few { length pending.new.items ≤ length pending.old.items + 3 }
-    ensures room { pending.new.room ≡ pending.old.room }
+    ensures room { pending.new.capacity ≡ pending.old.capacity }
 {
     if cell.under && cell.byte.is_ascii_alphanumeric() {
         pending.extend(&[b'_', 8, cell.byte]);
@@ -65,9 +65,9 @@ fn any_under(cells: &[Cell]) -> bool
 
 /// Most rows have no cell that is underlined, and their bytes are copied in one plain loop.
 fn gather_cells(pending: &mut SliceVec<'_, u8>, cells: &[Cell])
-    requires { length pending.old.items + 3 * length cells.now ≤ pending.old.room }
+    requires { length pending.old.items + 3 * length cells.now ≤ pending.old.capacity }
     ensures items { pending.new.items ≡ pending.old.items ++ flat_map cell_bytes cells.now }
-    ensures room { pending.new.room ≡ pending.old.room }
+    ensures room { pending.new.capacity ≡ pending.old.capacity }
 {
     if !any_under(cells) {
         pending.extend_bytes(cells);
@@ -84,11 +84,11 @@ pub(crate) fn write_cells<W: Sink>(
     cells: &[Cell],
     output: &mut W,
 ) -> Result<(), Fault>
-    requires { 3 * RUN ≤ pending.old.room }
+    requires { 3 * RUN ≤ pending.old.capacity }
     ensures gathers { GathersOrFails (W.held output.old) (W.held output.new) pending.old.items
         pending.new.items (flat_map cell_bytes cells.now) result }
     ensures failures { W.failures output.new ≡ put_counted (W.failures output.old) result }
-    ensures room { pending.new.room ≡ pending.old.room }
+    ensures room { pending.new.capacity ≡ pending.old.capacity }
 {
     let mut at = 0;
     while at < cells.len() {
@@ -106,11 +106,11 @@ pub(crate) fn write_newlines<W: Sink>(
     count: usize,
     output: &mut W,
 ) -> Result<(), Fault>
-    requires { 0 < pending.old.room }
+    requires { 0 < pending.old.capacity }
     ensures gathers { GathersOrFails (W.held output.old) (W.held output.new) pending.old.items
         pending.new.items (replicate count (code "\n")) result }
     ensures failures { W.failures output.new ≡ put_counted (W.failures output.old) result }
-    ensures room { pending.new.room ≡ pending.old.room }
+    ensures room { pending.new.capacity ≡ pending.old.capacity }
 {
     for _line in 0..count {
         make_room(pending, 1, output)?;

@@ -12,10 +12,10 @@ use crate::placing::put;
 use crate::row::RowSlot;
 use crate::writing::write_all;
 use nr_pool::Pool;
-use nr_rooms::CountedAlloc;
 use nr_units::cell::Cell;
 use nr_units::sink::Sink;
 use nr_units::source::Fault;
+use nr_vectors::CountedAlloc;
 use std::alloc::AllocError;
 use std::marker::Model;
 
@@ -78,7 +78,7 @@ impl Model for Page {
 }
 
 impl Page {
-    /// An empty page: `AllocError` where there is not the memory that `room` tells.
+    /// An empty page: `AllocError` where there is not the memory that `capacity` tells.
     pub fn new(alloc: &mut CountedAlloc, limit: usize) -> Result<Page, AllocError>
         requires in_range { limit < 2 ^ 32 }
         ensures empty { IfOk result (λ page. Holds [] page) }

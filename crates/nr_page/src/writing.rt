@@ -36,11 +36,11 @@ fn write_row<W: Sink>(
     cells: &[Cell],
     output: &mut W,
 ) -> Result<(), Fault>
-    requires { 3 * RUN ≤ pending.old.room }
+    requires { 3 * RUN ≤ pending.old.capacity }
     ensures gathers { GathersOrFails (W.held output.old) (W.held output.new) pending.old.items
         pending.new.items (replicate empty (code "\n") ++ line_bytes cells.now) result }
     ensures failures { W.failures output.new ≡ put_counted (W.failures output.old) result }
-    ensures room { pending.new.room ≡ pending.old.room }
+    ensures room { pending.new.capacity ≡ pending.old.capacity }
 {
     write_newlines(pending, empty, output)?;
     write_cells(pending, &cells[..trimmed_len(cells)], output)?;
@@ -57,11 +57,11 @@ fn write_rows<W: Sink>(
 ) -> Result<(), Fault>
     requires kept { AreKept texts.now rows.now.items }
     requires above { AreAbove count rows.now.items }
-    requires room { 3 * RUN ≤ pending.old.room }
+    requires room { 3 * RUN ≤ pending.old.capacity }
     ensures gathers { GathersOrFails (W.held output.old) (W.held output.new) pending.old.items
         pending.new.items (rows_bytes (rows_of texts.now rows.now.items) 0 count) result }
     ensures failures { W.failures output.new ≡ put_counted (W.failures output.old) result }
-    ensures room { pending.new.room ≡ pending.old.room }
+    ensures room { pending.new.capacity ≡ pending.old.capacity }
 {
     let mut done = 0;
     for place in 0..rows.len() {
@@ -93,6 +93,6 @@ pub(crate) fn write_all<W: Sink>(
     let mut bytes = [0; GATHERED];
     let mut pending = SliceVec::over(&mut bytes);
     write_rows(&mut pending, texts, rows, count, output)?;
-    let room = pending.room();
+    let room = pending.capacity();
     make_room(&mut pending, room, output)
 }

@@ -1,7 +1,7 @@
-//! Texts in two vectors for which room is taken once. The elements of all texts lie in the one, without holes, and the
+//! Texts in two vectors whose capacity is taken once. The elements of all texts lie in the one, without holes, and the
 //! other says where each text lies and how many hold it.
 //!
-//! It stands on nr_rooms. To read: this file, and then `slot`.
+//! It stands on nr_vectors. To read: this file, and then `slot`.
 #![tactic(auto)]
 
 ghost use Rattle.std.specs.Prelude.{◌≡◌, ◌≢◌, ℕ, ◌+◌, ◌^◌, ◌<◌, ◌≤◌, ◌↔◌, [], ◌∷◌, ◌++◌, length, take, replicate, All, IsErr, IfOk, OnOk, OnErr, IsTrue, slice_get, slice_set, Some};
@@ -10,7 +10,7 @@ ghost use Rattle.nr_pool.specs.Texts.{IsOpen, text, holders, used, no_text, open
 
 pub use crate::slot::Slot;
 use crate::slot::{bring_last, remove_text, spare_of};
-use nr_rooms::{CountedAlloc, ReservedVec};
+use nr_vectors::{CountedAlloc, ReservedVec};
 use std::alloc::AllocError;
 use std::marker::Model;
 
@@ -73,7 +73,7 @@ impl<T: Copy> Model for Pool<T> {
     ghost view = { λ p. texts_within p.capacity p.most p.elements.items p.slots.items };
 
     ghost invariant = { λ p. IsKept p.elements.items p.slots.items p.used p.spares p.first_spare p.capacity
-        p.most × ((p.elements.room ≡ p.capacity) × (p.slots.room ≡ p.most)) };
+        p.most × ((p.elements.capacity ≡ p.capacity) × (p.slots.capacity ≡ p.most)) };
 }
 
 impl Id {
@@ -379,7 +379,7 @@ fn write_at<T: Copy>(elements: &mut ReservedVec<T>, place: usize, more: &[T])
     requires { place + length more.now ≤ length elements.old.items }
     ensures items { elements.new.items ≡ written elements.old.items place more.now }
     ensures len { length elements.new.items ≡ length elements.old.items }
-    ensures room { elements.new.room ≡ elements.old.room }
+    ensures room { elements.new.capacity ≡ elements.old.capacity }
 {
     let places = elements.as_mut_slice();
     places[place..place + more.len()].copy_from_slice(more);

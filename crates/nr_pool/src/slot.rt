@@ -5,7 +5,7 @@ ghost use Rattle.nr_pool.specs.Spares.{HasSpares};
 ghost use Rattle.nr_pool.specs.Exchange.{LiesAt, IsSwapped, IsExchanged};
 ghost use Rattle.nr_pool.specs.Removal.{spare_before, IsRemoved};
 
-use nr_rooms::ReservedVec;
+use nr_vectors::ReservedVec;
 
 /// How many elements are moved one by one, and among how many.
 const FEW: usize = 8;
@@ -69,14 +69,14 @@ pub(crate) fn spare_of(
     requires spares { HasSpares slots.old.items count first }
     requires few { length slots.old.items ≤ most }
     requires small { most < 2 ^ 32 }
-    requires room { most ≤ slots.old.room }
+    requires room { most ≤ slots.old.capacity }
     ensures none { result ≡ None → (count ≡ 0) × ((length slots.old.items ≡ most) × (slots.new ≡ slots.old)) }
     ensures some { IfSome result (λ found. 0 < found.0) }
     ensures spares { IfSome result (λ found. HasSpares slots.new.items found.0 found.1) }
     ensures same { (slots.new.items ≡ slots.old.items) ⊎ (slots.new.items ≡ slots.old.items
         ++ blank_slot ∷ []) }
     ensures few { length slots.new.items ≤ most }
-    ensures room { slots.new.room ≡ slots.old.room }
+    ensures room { slots.new.capacity ≡ slots.old.capacity }
 {
     if count > 0 {
         return Some((count, first));
@@ -223,8 +223,8 @@ pub(crate) fn bring_last<T: Copy>(
     ensures same { texts_of elements.new.items slots.new.items ≡ texts_of elements.old.items slots.old.items }
     ensures elements { length elements.new.items ≡ length elements.old.items }
     ensures slots { length slots.new.items ≡ length slots.old.items }
-    ensures elements_room { elements.new.room ≡ elements.old.room }
-    ensures slots_room { slots.new.room ≡ slots.old.room }
+    ensures elements_room { elements.new.capacity ≡ elements.old.capacity }
+    ensures slots_room { slots.new.capacity ≡ slots.old.capacity }
 {
     let Slot { start, len, .. } = slots[index];
     if len == 0 {
@@ -286,8 +286,8 @@ pub(crate) fn remove_text<T: Copy>(
     ensures within { result ≤ used }
     ensures elements { length elements.new.items ≡ length elements.old.items }
     ensures slots { length slots.new.items ≡ length slots.old.items }
-    ensures elements_room { elements.new.room ≡ elements.old.room }
-    ensures slots_room { slots.new.room ≡ slots.old.room }
+    ensures elements_room { elements.new.capacity ≡ elements.old.capacity }
+    ensures slots_room { slots.new.capacity ≡ slots.old.capacity }
 {
     let Slot { start, len, .. } = slots[index];
     if len == 0 || start + len == used {

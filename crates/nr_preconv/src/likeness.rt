@@ -50,10 +50,10 @@ fn text_in<const N: usize>(table: &[(u32, [u8; N])], code: u32) -> Option<[u8; N
 
 /// Puts the bytes before the first NUL after what goes out.
 fn put_text(text: &[u8], out: &mut SliceVec<'_, u8>)
-    requires { length out.old.items + length text.now ≤ out.old.room }
+    requires { length out.old.items + length text.now ≤ out.old.capacity }
     ensures items { out.new.items ≡ out.old.items ++ before_nul text.now }
     ensures few { length out.new.items ≤ length out.old.items + length text.now }
-    ensures room { out.new.room ≡ out.old.room }
+    ensures room { out.new.capacity ≡ out.old.capacity }
 {
     for byte in text {
         if *byte == 0 {
@@ -77,10 +77,10 @@ fn hex_digit(value: u32) -> u8
 
 /// Puts `<U+XXXX>`, at most ten bytes, after what goes out.
 fn put_code(code: u32, out: &mut SliceVec<'_, u8>)
-    requires { length out.old.items + 10 ≤ out.old.room }
+    requires { length out.old.items + 10 ≤ out.old.capacity }
     ensures items { out.new.items ≡ out.old.items ++ code_told code }
     ensures few { length out.new.items ≤ length out.old.items + 10 }
-    ensures room { out.new.room ≡ out.old.room }
+    ensures room { out.new.capacity ≡ out.old.capacity }
 {
     out.extend(b"<U+");
     if code >= 0x0010_0000 {
@@ -114,10 +114,10 @@ fn word_text(code: u32) -> Option<[u8; 21]>
 
 /// Puts what a sign or a word stands for, or else its code: at most 21 bytes.
 fn put_sign(code: u32, out: &mut SliceVec<'_, u8>)
-    requires { length out.old.items + 24 ≤ out.old.room }
+    requires { length out.old.items + 24 ≤ out.old.capacity }
     ensures items { out.new.items ≡ out.old.items ++ sign_like code }
     ensures few { length out.new.items ≤ length out.old.items + 24 }
-    ensures room { out.new.room ≡ out.old.room }
+    ensures room { out.new.capacity ≡ out.old.capacity }
 {
     if matches!(code, 0x3040..=0xFAFF) {
         put_code(code, out);
@@ -184,10 +184,10 @@ fn box_like(code: u32) -> Option<u8>
 /// Puts what a character beyond ASCII looks like: at most 24 bytes.
 #[tactic(auto, unfolding(crate::specs::Likeness::beyond_like))]
 fn put_beyond(code: u32, out: &mut SliceVec<'_, u8>)
-    requires { length out.old.items + 24 ≤ out.old.room }
+    requires { length out.old.items + 24 ≤ out.old.capacity }
     ensures items { out.new.items ≡ out.old.items ++ beyond_like code }
     ensures few { length out.new.items ≤ length out.old.items + 24 }
-    ensures room { out.new.room ≡ out.old.room }
+    ensures room { out.new.capacity ≡ out.old.capacity }
 {
     if is_mark(code) {
         return;
@@ -209,10 +209,10 @@ fn put_beyond(code: u32, out: &mut SliceVec<'_, u8>)
 
 /// Puts an ASCII character that stood as an escape, so that it is read as itself, and by tbl as text: at most 4 bytes.
 fn put_ascii(byte: u8, out: &mut SliceVec<'_, u8>)
-    requires { length out.old.items + 4 ≤ out.old.room }
+    requires { length out.old.items + 4 ≤ out.old.capacity }
     ensures items { out.new.items ≡ out.old.items ++ ascii_like byte }
     ensures few { length out.new.items ≤ length out.old.items + 4 }
-    ensures room { out.new.room ≡ out.old.room }
+    ensures room { out.new.capacity ≡ out.old.capacity }
 {
     match byte {
         b' ' => out.extend(b"\\ "),
@@ -229,10 +229,10 @@ fn put_ascii(byte: u8, out: &mut SliceVec<'_, u8>)
 
 /// Puts a character with a stroke through it: at most 25 bytes.
 pub(crate) fn put_struck(code: u32, table: Option<Table>, out: &mut SliceVec<'_, u8>)
-    requires { length out.old.items + 25 ≤ out.old.room }
+    requires { length out.old.items + 25 ≤ out.old.capacity }
     ensures items { out.new.items ≡ out.old.items ++ struck_like table code }
     ensures few { length out.new.items ≤ length out.old.items + 25 }
-    ensures room { out.new.room ≡ out.old.room }
+    ensures room { out.new.capacity ≡ out.old.capacity }
 {
     out.push(b'!');
     put_likeness(code, table, out);
@@ -240,10 +240,10 @@ pub(crate) fn put_struck(code: u32, table: Option<Table>, out: &mut SliceVec<'_,
 
 /// Puts what a character looks like after what goes out: at most 24 bytes.
 pub(crate) fn put_likeness(code: u32, table: Option<Table>, out: &mut SliceVec<'_, u8>)
-    requires { length out.old.items + 24 ≤ out.old.room }
+    requires { length out.old.items + 24 ≤ out.old.capacity }
     ensures items { out.new.items ≡ out.old.items ++ likeness table code }
     ensures few { length out.new.items ≤ length out.old.items + 24 }
-    ensures room { out.new.room ≡ out.old.room }
+    ensures room { out.new.capacity ≡ out.old.capacity }
 {
     if code < 128 {
         put_ascii(code as u8, out);

@@ -96,7 +96,7 @@ impl Reader {
     /// A character comes, and is taken in one step where it goes out as it is.
     #[inline(always)]
     fn hears_as_is(&mut self, coming: Coming, most: u8, out: &mut SliceVec<'_, u8>) -> bool
-        requires { 0 < most → length out.old.items < out.old.room }
+        requires { 0 < most → length out.old.items < out.old.capacity }
         ensures reader { result ≡ true → self.new ≡ (specs.heard_in most coming self.old).reader }
         ensures items { result ≡ true
             → out.new.items ≡ out.old.items ++ (specs.heard_in most coming self.old).bytes }
@@ -104,7 +104,7 @@ impl Reader {
         ensures left { result ≡ false → self.new ≡ self.old }
         ensures none { result ≡ false → out.new.items ≡ out.old.items }
         ensures few { length out.new.items ≤ length out.old.items + 1 }
-        ensures room { out.new.room ≡ out.old.room }
+        ensures room { out.new.capacity ≡ out.old.capacity }
     {
         match coming {
             Coming::Byte(byte) if most > 0 && self.half.takes_as_is(byte) => {
@@ -118,13 +118,13 @@ impl Reader {
 
     /// A character comes, and is met so many times at most. Tells how many steps that took.
     fn hear_in(&mut self, coming: Coming, most: u8, out: &mut SliceVec<'_, u8>) -> u64
-        requires { length out.old.items + 64 * most ≤ out.old.room }
+        requires { length out.old.items + 64 * most ≤ out.old.capacity }
         ensures reader { self.new ≡ (specs.heard_in most coming self.old).reader }
         ensures items { out.new.items ≡ out.old.items ++ (specs.heard_in most coming self.old).bytes }
         ensures steps { result ≡ (specs.heard_in most coming self.old).steps }
         ensures few { length out.new.items ≤ length out.old.items + 64 * most }
         ensures quick { result ≤ most }
-        ensures room { out.new.room ≡ out.old.room }
+        ensures room { out.new.capacity ≡ out.old.capacity }
     {
         if most == 0 {
             return 0;
@@ -143,39 +143,39 @@ impl Reader {
     /// A character comes. Tells how many steps that took, as all below do.
     #[tactic(auto, unfolding(crate::specs::Reading::heard))]
     fn hear(&mut self, coming: Coming, out: &mut SliceVec<'_, u8>) -> u64
-        requires { length out.old.items + 384 ≤ out.old.room }
+        requires { length out.old.items + 384 ≤ out.old.capacity }
         ensures reader { self.new ≡ (specs.heard coming self.old).reader }
         ensures items { out.new.items ≡ out.old.items ++ (specs.heard coming self.old).bytes }
         ensures steps { result ≡ (specs.heard coming self.old).steps }
         ensures few { length out.new.items ≤ length out.old.items + 384 }
         ensures quick { result ≤ 6 }
-        ensures room { out.new.room ≡ out.old.room }
+        ensures room { out.new.capacity ≡ out.old.capacity }
     {
         self.hear_in(coming, MEETINGS, out)
     }
 
     /// A byte that is no part of a character of several bytes comes as Latin-1.
     fn hear_stray(&mut self, byte: u8, out: &mut SliceVec<'_, u8>) -> u64
-        requires { length out.old.items + 384 ≤ out.old.room }
+        requires { length out.old.items + 384 ≤ out.old.capacity }
         ensures reader { self.new ≡ (specs.stray byte self.old).reader }
         ensures items { out.new.items ≡ out.old.items ++ (specs.stray byte self.old).bytes }
         ensures steps { result ≡ (specs.stray byte self.old).steps }
         ensures few { length out.new.items ≤ length out.old.items + 384 }
         ensures quick { result ≤ 6 }
-        ensures room { out.new.room ≡ out.old.room }
+        ensures room { out.new.capacity ≡ out.old.capacity }
     {
         self.hear(Coming::Wide(u32::from(byte)), out)
     }
 
     /// What was read of a character was none: its bytes come one by one.
     fn hear_pending(&mut self, out: &mut SliceVec<'_, u8>) -> u64
-        requires { length out.old.items + 1152 ≤ out.old.room }
+        requires { length out.old.items + 1152 ≤ out.old.capacity }
         ensures reader { self.new ≡ (specs.pending_heard self.old).reader }
         ensures items { out.new.items ≡ out.old.items ++ (specs.pending_heard self.old).bytes }
         ensures steps { result ≡ (specs.pending_heard self.old).steps }
         ensures few { length out.new.items ≤ length out.old.items + 1152 }
         ensures quick { result ≤ 18 }
-        ensures room { out.new.room ≡ out.old.room }
+        ensures room { out.new.capacity ≡ out.old.capacity }
     {
         let pending = self.pending;
         self.pending = Pending::Nothing;
@@ -192,13 +192,13 @@ impl Reader {
     /// A byte comes, and no part of a character is pending.
     #[inline]
     fn hear_fresh(&mut self, byte: u8, out: &mut SliceVec<'_, u8>) -> u64
-        requires { length out.old.items + 384 ≤ out.old.room }
+        requires { length out.old.items + 384 ≤ out.old.capacity }
         ensures reader { self.new ≡ (specs.fresh byte self.old).reader }
         ensures items { out.new.items ≡ out.old.items ++ (specs.fresh byte self.old).bytes }
         ensures steps { result ≡ (specs.fresh byte self.old).steps }
         ensures few { length out.new.items ≤ length out.old.items + 384 }
         ensures quick { result ≤ 6 }
-        ensures room { out.new.room ≡ out.old.room }
+        ensures room { out.new.capacity ≡ out.old.capacity }
     {
         if byte < 127 {
             return self.hear(Coming::Byte(byte), out);
@@ -212,26 +212,26 @@ impl Reader {
 
     /// What is pending and then this byte come one by one.
     fn hear_apart(&mut self, byte: u8, out: &mut SliceVec<'_, u8>) -> u64
-        requires { length out.old.items + 1536 ≤ out.old.room }
+        requires { length out.old.items + 1536 ≤ out.old.capacity }
         ensures reader { self.new ≡ (specs.apart byte self.old).reader }
         ensures items { out.new.items ≡ out.old.items ++ (specs.apart byte self.old).bytes }
         ensures steps { result ≡ (specs.apart byte self.old).steps }
         ensures few { length out.new.items ≤ length out.old.items + 1536 }
         ensures quick { result ≤ 24 }
-        ensures room { out.new.room ≡ out.old.room }
+        ensures room { out.new.capacity ≡ out.old.capacity }
     {
         self.hear_pending(out) + self.hear_fresh(byte, out)
     }
 
     /// A character of several bytes is whole.
     fn hear_whole(&mut self, code: u32, out: &mut SliceVec<'_, u8>) -> u64
-        requires { length out.old.items + 384 ≤ out.old.room }
+        requires { length out.old.items + 384 ≤ out.old.capacity }
         ensures reader { self.new ≡ (specs.whole code self.old).reader }
         ensures items { out.new.items ≡ out.old.items ++ (specs.whole code self.old).bytes }
         ensures steps { result ≡ (specs.whole code self.old).steps }
         ensures few { length out.new.items ≤ length out.old.items + 384 }
         ensures quick { result ≤ 6 }
-        ensures room { out.new.room ≡ out.old.room }
+        ensures room { out.new.capacity ≡ out.old.capacity }
     {
         self.pending = Pending::Nothing;
         self.hear(Coming::Wide(code), out)
@@ -240,13 +240,13 @@ impl Reader {
     /// A byte comes that is read.
     #[inline]
     fn hear_byte(&mut self, byte: u8, out: &mut SliceVec<'_, u8>) -> u64
-        requires { length out.old.items + 1536 ≤ out.old.room }
+        requires { length out.old.items + 1536 ≤ out.old.capacity }
         ensures reader { self.new ≡ (specs.heard_byte byte self.old).reader }
         ensures items { out.new.items ≡ out.old.items ++ (specs.heard_byte byte self.old).bytes }
         ensures steps { result ≡ (specs.heard_byte byte self.old).steps }
         ensures few { length out.new.items ≤ length out.old.items + 1536 }
         ensures quick { result ≤ 24 }
-        ensures room { out.new.room ≡ out.old.room }
+        ensures room { out.new.capacity ≡ out.old.capacity }
     {
         match self.pending {
             Pending::Nothing => self.hear_fresh(byte, out),
@@ -282,13 +282,13 @@ impl Reader {
     /// A byte comes. At most 1536 bytes go out, in 24 steps at most.
     #[inline]
     pub(crate) fn read(&mut self, byte: u8, out: &mut SliceVec<'_, u8>) -> u64
-        requires { length out.old.items + 1536 ≤ out.old.room }
+        requires { length out.old.items + 1536 ≤ out.old.capacity }
         ensures reader { self.new ≡ (specs.read byte self.old).reader }
         ensures items { out.new.items ≡ out.old.items ++ (specs.read byte self.old).bytes }
         ensures steps { result ≡ (specs.read byte self.old).steps }
         ensures few { length out.new.items ≤ length out.old.items + 1536 }
         ensures quick { result ≤ 24 }
-        ensures room { out.new.room ≡ out.old.room }
+        ensures room { out.new.capacity ≡ out.old.capacity }
     {
         if self.half.is_raw() {
             self.half.passes(byte);
@@ -300,12 +300,12 @@ impl Reader {
 
     /// The end comes: what is half read goes out as it is. At most 1536 bytes go out, in 18 steps at most.
     pub(crate) fn finish(&mut self, out: &mut SliceVec<'_, u8>) -> u64
-        requires { length out.old.items + 1536 ≤ out.old.room }
+        requires { length out.old.items + 1536 ≤ out.old.capacity }
         ensures items { out.new.items ≡ out.old.items ++ specs.finished self.old }
         ensures steps { result ≡ (specs.pending_heard self.old).steps }
         ensures few { length out.new.items ≤ length out.old.items + 1536 }
         ensures quick { result ≤ 18 }
-        ensures room { out.new.room ≡ out.old.room }
+        ensures room { out.new.capacity ≡ out.old.capacity }
     {
         let steps = self.hear_pending(out);
         put_sent(self.half.kept.as_bytes(), self.table, out);
@@ -321,14 +321,14 @@ impl Reader {
     fn take_first(&mut self, bytes: &[u8], out: &mut SliceVec<'_, u8>) -> Taken
         requires some { 0 < length bytes.now }
         requires few { length bytes.now ≤ 1536 }
-        requires room { length out.old.items + 1536 ≤ out.old.room }
+        requires room { length out.old.items + 1536 ≤ out.old.capacity }
         ensures taken { specs.Takes result.count bytes.now self.old self.new out.old.items out.new.items
             result.steps }
         ensures within { result.count ≤ length bytes.now }
         ensures some { 0 < result.count }
         ensures few { length out.new.items ≤ length out.old.items + 1536 * result.count }
         ensures quick { result.steps ≤ 24 * result.count }
-        ensures room { out.new.room ≡ out.old.room }
+        ensures room { out.new.capacity ≡ out.old.capacity }
     {
         if self.pass_word(bytes[0]) {
             out.push(bytes[0]);
@@ -355,14 +355,14 @@ impl Reader {
     fn take_front(&mut self, bytes: &[u8], out: &mut SliceVec<'_, u8>) -> Taken
         requires some { 0 < length bytes.now }
         requires few { length bytes.now ≤ 1536 }
-        requires room { length out.old.items + 1536 ≤ out.old.room }
+        requires room { length out.old.items + 1536 ≤ out.old.capacity }
         ensures taken { specs.Takes result.count bytes.now self.old self.new out.old.items out.new.items
             result.steps }
         ensures within { result.count ≤ length bytes.now }
         ensures some { 0 < result.count }
         ensures few { length out.new.items ≤ length out.old.items + 1536 * result.count }
         ensures quick { result.steps ≤ 24 * result.count }
-        ensures room { out.new.room ≡ out.old.room }
+        ensures room { out.new.capacity ≡ out.old.capacity }
     {
         let run = self.pass(bytes);
         if run > 0 {
@@ -392,11 +392,11 @@ impl Reader {
         ensures within { result.count ≤ length bytes.now }
         ensures few { length out.new.items ≤ length out.old.items + 1536 * result.count }
         ensures quick { result.steps ≤ 24 * result.count }
-        ensures room { out.new.room ≡ out.old.room }
+        ensures room { out.new.capacity ≡ out.old.capacity }
     {
         let mut count = 0;
         let mut steps = 0;
-        while count < bytes.len() && out.room() - out.len() >= MOST {
+        while count < bytes.len() && out.capacity() - out.len() >= MOST {
             let more = self.take_front(&bytes[count..], out);
             count += more.count;
             steps += more.steps;

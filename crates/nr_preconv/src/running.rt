@@ -50,7 +50,7 @@ fn put_pending<W: Sink>(out: &mut SliceVec<'_, u8>, output: &mut W) -> Result<()
     ensures err { specs.FrontAtErr result (W.held output.old) (W.held output.new) out.old.items }
     ensures empty { OnOk result (out.new.items ≡ []) }
     ensures failures { W.failures output.new ≡ put_counted (W.failures output.old) result }
-    ensures room { out.new.room ≡ out.old.room }
+    ensures room { out.new.capacity ≡ out.old.capacity }
 {
     output.put(out.as_slice())?;
     out.clear();
@@ -59,15 +59,15 @@ fn put_pending<W: Sink>(out: &mut SliceVec<'_, u8>, output: &mut W) -> Result<()
 
 /// Room is made for what one turn says: where there is none, all that is pending goes out.
 fn make_room<W: Sink>(out: &mut SliceVec<'_, u8>, output: &mut W) -> Result<(), Fault>
-    requires { 1536 ≤ out.old.room }
+    requires { 1536 ≤ out.old.capacity }
     ensures ok { OnOk result (specs.Flushes (W.held output.old) (W.held output.new) out.old.items
         out.new.items) }
     ensures err { specs.FrontAtErr result (W.held output.old) (W.held output.new) out.old.items }
-    ensures fits { OnOk result (length out.new.items + 1536 ≤ out.new.room) }
+    ensures fits { OnOk result (length out.new.items + 1536 ≤ out.new.capacity) }
     ensures failures { W.failures output.new ≡ put_counted (W.failures output.old) result }
-    ensures room { out.new.room ≡ out.old.room }
+    ensures room { out.new.capacity ≡ out.old.capacity }
 {
-    if out.room() - out.len() >= MOST {
+    if out.capacity() - out.len() >= MOST {
         return Ok(());
     }
     put_pending(out, output)
@@ -80,14 +80,14 @@ fn take_some<R: Source>(
     out: &mut SliceVec<'_, u8>,
     most: u64,
 ) -> Taken
-    requires { length out.old.items + 1536 ≤ out.old.room }
+    requires { length out.old.items + 1536 ≤ out.old.capacity }
     ensures took { specs.Took (R.supply input.old) (R.supply input.new) reader.old reader.new out.old.items
         out.new.items result.count result.steps }
     ensures few { result.count ≤ most }
     ensures grown { length out.new.items ≤ length out.old.items + 1536 * result.count }
     ensures quick { result.steps ≤ 24 * result.count }
     ensures failures { R.failures input.new ≡ R.failures input.old }
-    ensures room { out.new.room ≡ out.old.room }
+    ensures room { out.new.capacity ≡ out.old.capacity }
 {
     let window = input.window();
     let len = window.len().min(MOST).min(most as usize);
@@ -103,13 +103,13 @@ fn make_turn<R: Source>(
     out: &mut SliceVec<'_, u8>,
     most: u64,
 ) -> Turn
-    requires room { length out.old.items + 1536 ≤ out.old.room }
+    requires room { length out.old.items + 1536 ≤ out.old.capacity }
     requires some { 0 < most }
     ensures turns { specs.Turns (R.supply input.old) (R.supply input.new) reader.old reader.new out.old.items
         out.new.items result }
     ensures measured { specs.IsMeasured most (length out.old.items) (length out.new.items) result }
     ensures failures { R.failures input.new ≡ counted_if (specs.is_fault result) (R.failures input.old) }
-    ensures room { out.new.room ≡ out.old.room }
+    ensures room { out.new.capacity ≡ out.old.capacity }
 {
     let taken = take_some(reader, input, out, most);
     if taken.count > 0 {
@@ -152,7 +152,7 @@ fn run<R: Source, W: Sink>(
     steps: &mut u64,
 ) -> Outcome
     requires first { reader.old ≡ first_reader reader.old.table }
-    requires room { 1536 ≤ out.old.room }
+    requires room { 1536 ≤ out.old.capacity }
     requires empty { out.old.items ≡ [] }
     ensures ran { specs.Ran reader.old.table (R.supply input.old) (R.supply input.new) (W.held output.old)
         (W.held output.new) steps.new result }

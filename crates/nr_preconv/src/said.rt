@@ -76,10 +76,10 @@ pub(crate) fn sent(table: Option<Table>, byte: u8) -> u8
 
 /// Puts these bytes, as they may go out, after what goes out.
 pub(crate) fn put_sent(text: &[u8], table: Option<Table>, out: &mut SliceVec<'_, u8>)
-    requires { length out.old.items + length text.now ≤ out.old.room }
+    requires { length out.old.items + length text.now ≤ out.old.capacity }
     ensures items { out.new.items ≡ out.old.items ++ all_sent table text.now }
     ensures few { length out.new.items ≤ length out.old.items + length text.now }
-    ensures room { out.new.room ≡ out.old.room }
+    ensures room { out.new.capacity ≡ out.old.capacity }
 {
     for byte in text {
         out.push(sent(table, *byte));
@@ -88,10 +88,10 @@ pub(crate) fn put_sent(text: &[u8], table: Option<Table>, out: &mut SliceVec<'_,
 
 /// Puts what is said: at most 64 bytes.
 fn put_said(said: Said, table: Option<Table>, out: &mut SliceVec<'_, u8>)
-    requires { length out.old.items + 64 ≤ out.old.room }
+    requires { length out.old.items + 64 ≤ out.old.capacity }
     ensures items { out.new.items ≡ out.old.items ++ text_of table said }
     ensures few { length out.new.items ≤ length out.old.items + 64 }
-    ensures room { out.new.room ≡ out.old.room }
+    ensures room { out.new.capacity ≡ out.old.capacity }
 {
     match said {
         Said::Nothing => {}
@@ -120,10 +120,10 @@ fn put_said(said: Said, table: Option<Table>, out: &mut SliceVec<'_, u8>)
 
 /// Puts what is said, as it may go out, by way of a buffer: at most 64 bytes.
 fn say_through(said: Said, table: Option<Table>, out: &mut SliceVec<'_, u8>)
-    requires { length out.old.items + 64 ≤ out.old.room }
+    requires { length out.old.items + 64 ≤ out.old.capacity }
     ensures items { out.new.items ≡ out.old.items ++ bytes_of table said }
     ensures few { length out.new.items ≤ length out.old.items + 64 }
-    ensures room { out.new.room ≡ out.old.room }
+    ensures room { out.new.capacity ≡ out.old.capacity }
 {
     let mut bytes = [0; 64];
     let mut text = SliceVec::over(&mut bytes);
@@ -133,10 +133,10 @@ fn say_through(said: Said, table: Option<Table>, out: &mut SliceVec<'_, u8>)
 
 /// Puts what is said, as it may go out, after what goes out: at most 64 bytes.
 pub(crate) fn say(said: Said, table: Option<Table>, out: &mut SliceVec<'_, u8>)
-    requires { length out.old.items + 64 ≤ out.old.room }
+    requires { length out.old.items + 64 ≤ out.old.capacity }
     ensures items { out.new.items ≡ out.old.items ++ bytes_of table said }
     ensures few { length out.new.items ≤ length out.old.items + 64 }
-    ensures room { out.new.room ≡ out.old.room }
+    ensures room { out.new.capacity ≡ out.old.capacity }
 {
     match said {
         Said::Nothing => {}

@@ -74,7 +74,7 @@ module _ {K : Type 0} (p : Texts Element) (names : Table Sense) (drafts : Items 
       let of_texts : sum_by text_charge (texts_in p names.entries levels.levels) ≡ 0 = ap (λ ls. sum_by text_charge (texts_in p names.entries ls)) no_levels in
       omega arith
 
-  pub begins_empty : limit < 2 ^ 32 → p.capacity ≡ limit → length p.texts ≡ limit / 16 + 1 → names.room ≡ limit / 48 + 1 + length REQUESTS → drafts.room ≡ limit / 48 + 1 → levels.room ≡ limit → Suffice beside limit
+  pub begins_empty : limit < 2 ^ 32 → p.capacity ≡ limit → length p.texts ≡ limit / 16 + 1 → names.capacity ≡ limit / 48 + 1 + length REQUESTS → drafts.capacity ≡ limit / 48 + 1 → levels.capacity ≡ limit → Suffice beside limit
       → IsStore p names drafts levels beside 0 limit
   begins_empty small elements slots room drafts_room bytes suffice =
       let held : IsHeld p (held_ids names.entries (draft_ids drafts.items) levels.levels) = record {
@@ -157,12 +157,12 @@ shows p ns ds ls g rs ts ws limit = record {
 }
 
 pub begun : {K : Type 0} (p : Texts Element) (entries : List (Named Sense)) (drafts : Items Draft) (levels : Levels K) (gathering : Gathering) (registers : Table Register) (traps : Items Trap) (words : Items HyphenationWord) (limit room most : ℕ)
-    → entries ≡ with_senses REQUESTS [] → drafts.items ≡ [] → levels ≡ record { levels = []; arguments = []; room = room; most = most } → gathering.gathered ≡ none_gathered → registers.entries ≡ [] → traps.items ≡ [] → words.items ≡ []
+    → entries ≡ with_senses REQUESTS [] → drafts.items ≡ [] → levels ≡ record { levels = []; arguments = []; capacity = room; most = most } → gathering.gathered ≡ none_gathered → registers.entries ≡ [] → traps.items ≡ [] → words.items ≡ []
     → stored_of p entries drafts.items levels (beside_of gathering registers traps words) limit ≡ nothing request_names limit most
 unfolding shows
 begun {K = K} p entries drafts levels gathering registers traps words limit room most named no_drafts levels_is no_gathered no_registers no_traps no_words =
     let base = with_senses REQUESTS [] in
-    let none : Levels K = record { levels = []; arguments = []; room = room; most = most } in
+    let none : Levels K = record { levels = []; arguments = []; capacity = room; most = most } in
     ap (λ ns. shows p ns drafts.items levels gathering.gathered registers.entries traps.items words.items limit) named
     ∙ ap (λ ds. shows p base ds levels gathering.gathered registers.entries traps.items words.items limit) no_drafts
     ∙ ap (λ (ls : Levels K). shows p base [] ls gathering.gathered registers.entries traps.items words.items limit) levels_is

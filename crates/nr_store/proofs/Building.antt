@@ -168,7 +168,7 @@ building_length (b ∷ bs) =
 
 -- where 48 more are within the limit, there is room for a draft
 pub room_for_a_draft : {K : Type 0} (p : Texts Element) (names : Table Sense) (drafts : Items Draft) (levels : Levels K) (beside : Beside) (charge limit : ℕ) → IsStore p names drafts levels beside charge limit → charge + 48 ≤ limit
-    → length drafts.items < drafts.room
+    → length drafts.items < drafts.capacity
 room_for_a_draft p names drafts levels beside charge limit h room =
     let long = building_length (map (built_of p) drafts.items) in
     let mapped = length-map drafts.items (built_of p) in

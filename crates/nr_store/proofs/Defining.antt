@@ -59,7 +59,7 @@ count-held k names building levels =
     count-append k (values names) (building ++ ids_of levels) ∙ ap₂ (λ a b. a + b) (count-values k names) (count-append k building (ids_of levels))
 
 module _ {K : Type 0} (p : Texts Element) (names : Table Sense) (drafts : Items Draft) (levels : Levels K) (beside : Beside) (charge limit : ℕ) (h : IsStore p names drafts levels beside charge limit) where
-  pub room_for_a_name : 0 < length drafts.items → length names.entries < names.room
+  pub room_for_a_name : 0 < length drafts.items → length names.entries < names.capacity
   room_for_a_name some =
       let of_names = names_charge p names.entries in
       let long = names_length p names.entries in

@@ -196,7 +196,7 @@ module _ {K : Type 0} (p : Texts Element) (names : Table Sense) (drafts : Items 
   again_named : AreNamed (put to m (without from names.entries))
   again_named = moved_named from to m names.entries h.named (sym was ∙ some)
 
-  pub room_again : length (without from names.entries) < names.room
+  pub room_again : length (without from names.entries) < names.capacity
   room_again =
       let of_names = names_charge p names.entries in
       let long = names_length p (without from names.entries) in

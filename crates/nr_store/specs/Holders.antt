@@ -36,10 +36,10 @@ beside_of gathering registers traps words =
 
 -- there is room for as much of it as may be charged, and for no more
 pub record Suffice (beside : Beside) (limit : ℕ) : Type 0 where
-  pub gathering : beside.gathering.room ≡ limit
-  pub registers : beside.registers.room ≡ limit / 48 + 1
-  pub traps : beside.traps.room ≡ limit / 48 + 1
-  pub words : beside.words.room ≡ limit / 16 + 1
+  pub gathering : beside.gathering.capacity ≡ limit
+  pub registers : beside.registers.capacity ≡ limit / 48 + 1
+  pub traps : beside.traps.capacity ≡ limit / 48 + 1
+  pub words : beside.words.capacity ≡ limit / 16 + 1
 
 -- what a name stands for
 abbrev pub means_of : Texts Element → Sense → Means
@@ -208,7 +208,7 @@ pub record IsStore {K : Type 0} (p : Texts Element) (names : Table Sense) (draft
   pub small : limit < 2 ^ 32
   pub elements_suffice : p.capacity ≡ limit
   pub slots_suffice : length p.texts ≡ limit / 16 + 1
-  pub names_suffice : names.room ≡ limit / 48 + 1 + length REQUESTS
-  pub drafts_suffice : drafts.room ≡ limit / 48 + 1
-  pub bytes_suffice : levels.room ≡ limit
+  pub names_suffice : names.capacity ≡ limit / 48 + 1 + length REQUESTS
+  pub drafts_suffice : drafts.capacity ≡ limit / 48 + 1
+  pub bytes_suffice : levels.capacity ≡ limit
   pub beside_suffices : Suffice beside limit

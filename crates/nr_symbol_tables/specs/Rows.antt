@@ -8,7 +8,7 @@ use Rattle.nr_symbol_tables.specs.declared.table.Entry.{Entry}
 -- what a table holds, and how many names it has room for
 pub record Table (V : Type 0) : Type 0 where
   pub entries : List (Named V)
-  pub room : ℕ
+  pub capacity : ℕ
 
 -- what an entry stands for
 abbrev pub named : {V : Type 0} → Entry V → Named V

@@ -5,8 +5,8 @@ ghost use Rattle.nr_symbol_tables.specs.Given.{word_in};
 ghost use Rattle.nr_symbol_tables.specs.Hyphenation.{kind, kinds, earliers, words_in, IsChained, IsLatest, IsLatestGiven};
 
 use crate::word::{HyphenationWord, stem};
-use nr_rooms::{CountedAlloc, FixedVec};
 use nr_units::cell::Cell;
+use nr_vectors::{CountedAlloc, FixedVec};
 use std::alloc::AllocError;
 use std::marker::Model;
 
@@ -85,8 +85,8 @@ fn set_latest(latest: &mut [usize; KINDS], kind: usize, at: usize)
     latest[kind] = at;
 }
 
-/// Hyphenation words, with room for a number of them that stays; `new` is the only call that allocates. A clause sees
-/// the last that came as the first, and the room, the greatest number of words. A word is found among those of its
+/// Hyphenation words, with a capacity that stays; `new` is the only call that allocates. A clause sees
+/// the last that came as the first, and the capacity, the greatest number of words. A word is found among those of its
 /// kind, of 256 kinds.
 #[derive(Drop)]
 pub struct HyphenationWords {
@@ -106,7 +106,7 @@ impl Model for HyphenationWords {
 
     ghost view = { λ w. record {
       items = reverse (map (λ (l : Linked). l.word) w.row.items);
-      room = w.row.room;
+      capacity = w.row.capacity;
     } };
 
     ghost invariant = { λ w. IsChained (kinds w.row.items) (earliers w.row.items) w.latest.value };
@@ -114,12 +114,12 @@ impl Model for HyphenationWords {
 
 impl HyphenationWords {
     /// No words, and room for so many: `AllocError` where there is no memory for them.
-    pub fn new(alloc: &mut CountedAlloc, room: usize) -> Result<HyphenationWords, AllocError>
-        ensures made { IfOk result (λ made. made ≡ record { items = []; room = room }) }
-        ensures taken { IfOk result (λ made. alloc.new ≡ alloc.old + room + 256) }
+    pub fn new(alloc: &mut CountedAlloc, capacity: usize) -> Result<HyphenationWords, AllocError>
+        ensures made { IfOk result (λ made. made ≡ record { items = []; capacity = capacity }) }
+        ensures taken { IfOk result (λ made. alloc.new ≡ alloc.old + capacity + 256) }
     {
         Ok(HyphenationWords {
-            row: FixedVec::new(alloc, room)?,
+            row: FixedVec::new(alloc, capacity)?,
             latest: alloc.boxed([0; KINDS])?,
         })
     }
@@ -142,7 +142,7 @@ impl HyphenationWords {
 
     /// How many words there is memory for, as their vector tells.
     pub fn memory(&self) -> usize
-        ensures { result ≡ self.now.room }
+        ensures { result ≡ self.now.capacity }
     {
         self.row.memory()
     }
@@ -156,7 +156,7 @@ impl HyphenationWords {
 
     /// Adds a word.
     pub fn push(&mut self, word: HyphenationWord)
-        requires { length self.old.items < self.old.room }
+        requires { length self.old.items < self.old.capacity }
         ensures { self.new ≡ record self.old { items = word ∷ self.old.items } }
     {
         let kind = kind_of(word.letters());

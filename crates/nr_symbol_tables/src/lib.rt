@@ -1,6 +1,6 @@
 //! What the store keeps beside texts: tables of what has a name, traps, hyphenation words.
 //!
-//! It stands on nr_units and nr_rooms. To read: `table`; `trap`, `traps`; `word`, `hyphenation`.
+//! It stands on nr_units and nr_vectors. To read: `table`; `trap`, `traps`; `word`, `hyphenation`.
 #![tactic(auto)]
 
 pub mod hyphenation;

@@ -3,8 +3,8 @@ ghost use Rattle.std.specs.Prelude.{◌+◌, ◌≡◌, ◌<◌, ◌≤◌, ◌-
 ghost use Rattle.nr_symbol_tables.specs.Table.{find, put, without};
 ghost use Rattle.nr_symbol_tables.specs.Rows.{named, names, kind, long_kind, kinds, earliers, IsPlace, AreChains, IsLink, IsLed};
 
-use nr_rooms::{CountedAlloc, FixedVec};
 use nr_units::Name;
+use nr_vectors::{CountedAlloc, FixedVec};
 use std::alloc::AllocError;
 use std::marker::Model;
 
@@ -117,7 +117,7 @@ fn lead<V: Copy>(
     requires few { kind < 512 }
     requires within { over ≤ length row.old.items }
     ensures led { IsLed kind over to row.old.items row.new.items latest.old latest.new }
-    ensures room { row.new.room ≡ row.old.room }
+    ensures room { row.new.capacity ≡ row.old.capacity }
 {
     if over == 0 {
         latest[kind] = to;
@@ -143,10 +143,10 @@ fn set_latest(latest: &mut [usize; KINDS], kind: usize, at: usize)
     latest[kind] = at;
 }
 
-/// What has a name, with room for a number of names that stays. A name is found among those of its kind alone, of 512
+/// What has a name, with a capacity that stays. A name is found among those of its kind alone, of 512
 /// kinds, and takes no other's place when it is new or goes.
 ///
-/// Clauses see the list of names with their values, in the order of the names, and the room, the greatest number of names.
+/// Clauses see the list of names with their values, in the order of the names, and the capacity, the greatest number of names.
 #[derive(Drop)]
 pub struct Table<V: Copy> {
     entries: FixedVec<Entry<V>>,
@@ -160,19 +160,22 @@ impl<V: Copy> Model for Table<V> {
 
     ghost Value = { Table V };
 
-    ghost view = { λ t. record { entries = in_order (map named t.entries.items); room = t.entries.room } };
+    ghost view = { λ t. record {
+      entries = in_order (map named t.entries.items);
+      capacity = t.entries.capacity;
+    } };
 
     ghost invariant = { λ t. IsLinked t.entries.items t.latest.value };
 }
 
 impl<V: Copy> Table<V> {
     /// No names, and room for so many: `AllocError` where there is no memory for them. No other call allocates.
-    pub fn new(alloc: &mut CountedAlloc, room: usize) -> Result<Table<V>, AllocError>
-        ensures made { IfOk result (λ made. made ≡ record { entries = []; room = room }) }
-        ensures taken { IfOk result (λ made. alloc.new ≡ alloc.old + room + 512) }
+    pub fn new(alloc: &mut CountedAlloc, capacity: usize) -> Result<Table<V>, AllocError>
+        ensures made { IfOk result (λ made. made ≡ record { entries = []; capacity = capacity }) }
+        ensures taken { IfOk result (λ made. alloc.new ≡ alloc.old + capacity + 512) }
     {
         Ok(Table {
-            entries: FixedVec::new(alloc, room)?,
+            entries: FixedVec::new(alloc, capacity)?,
             latest: alloc.boxed([0; KINDS])?,
         })
     }
@@ -187,7 +190,7 @@ impl<V: Copy> Table<V> {
 
     /// How many names there is memory for, as their vector tells.
     pub fn memory(&self) -> usize
-        ensures { result ≡ self.now.room }
+        ensures { result ≡ self.now.capacity }
     {
         self.entries.memory()
     }
@@ -234,7 +237,7 @@ impl<V: Copy> Table<V> {
 
     /// Gives a name a value, and answers the one that it had.
     pub fn put(&mut self, name: Name, value: V) -> Option<V>
-        requires { find name self.old.entries ≡ None → length self.old.entries < self.old.room }
+        requires { find name self.old.entries ≡ None → length self.old.entries < self.old.capacity }
         ensures was { result ≡ find name self.old.entries }
         ensures is { self.new ≡ record self.old { entries = put name value self.old.entries } }
     {
@@ -291,7 +294,7 @@ fn put_at<V: Copy>(row: &mut FixedVec<Entry<V>>, at: usize, entry: Entry<V>, ear
     requires within { at ≤ length row.old.items }
     ensures named { map named row.new.items ≡ slice_set (map named row.old.items) (at - 1) (named entry) }
     ensures earliers { earliers row.new.items ≡ slice_set (earliers row.old.items) (at - 1) earlier }
-    ensures room { row.new.room ≡ row.old.room }
+    ensures room { row.new.capacity ≡ row.old.capacity }
 {
     row.set(
         at - 1,
@@ -315,7 +318,7 @@ fn replace<V: Copy>(
     requires chains { AreChains (kinds (map named row.old.items)) (earliers row.old.items) latest.old }
     ensures named { map named row.new.items ≡ slice_set (map named row.old.items) (at - 1) (named entry) }
     ensures chains { AreChains (kinds (map named row.new.items)) (earliers row.new.items) latest.new }
-    ensures room { row.new.room ≡ row.old.room }
+    ensures room { row.new.capacity ≡ row.old.capacity }
 {
     let gone = row.get(at - 1);
     let from = kind_of(&gone.name);

@@ -134,7 +134,7 @@ pub record RunsTo (g : Signs) (l : Limits) (cells : ℕ) (first last : Option Su
   pub table_same : table.ghost_name ≡ s.table_name
   pub table_room : emptied table.now ≡ emptied s.table
   pub same : kept.ghost_name ≡ s.name
-  pub room : kept.now.room ≡ s.room
+  pub room : kept.now.capacity ≡ s.capacity
 
 pub runs_to : {A : Type 0} (shows : A → Shown → Type 0) (old new : A) (g : Signs) (l : Limits) (cells : ℕ) (first last : Option Supply)
     (s : Shown) (a b : Tape) (table table' : MutBor Table) (kept kept' : MutBor (Items Complaint)) (missed missed' : Bool) (wanted o : Outcome)
@@ -175,7 +175,7 @@ lent out table kept = record {
   said = [];
   table_name = table.ghost_name;
   name = kept.ghost_name;
-  room = kept.now.room;
+  capacity = kept.now.capacity;
 }
 
 pub begins : (out : Tape) (table : MutBor Table) (kept : MutBor (Items Complaint)) (missed : Bool)
@@ -187,5 +187,5 @@ begins out table kept missed same empty none = record {
   table_room = refl;
   same = refl;
   room = refl;
-  keeps = record { first = empty ∙ sym (take_none kept.now.room [] refl); others = none ∙ sym (none_more kept.now.room) };
+  keeps = record { first = empty ∙ sym (take_none kept.now.capacity [] refl); others = none ∙ sym (none_more kept.now.capacity) };
 }

@@ -140,8 +140,8 @@ wrongs (p ∷ ps) = wrong_in p.tell ++ wrongs ps
 
 -- of these complaints the first are kept, as many as there is room for
 pub record Keeps (all : List Complaint) (kept : Items Complaint) (missed : Bool) : Type 0 where
-  pub first : kept.items ≡ take kept.room all
-  pub others : missed ≡ nat_lt kept.room (length all)
+  pub first : kept.items ≡ take kept.capacity all
+  pub others : missed ≡ nat_lt kept.capacity (length all)
 
 -- what was told with them stays, and these were told too
 abbrev pub KeepsMore : Items Complaint → Bool → Items Complaint → Bool → List Complaint → Type 0
@@ -152,7 +152,7 @@ KeepsMore old before new missed more =
 pub record Notes (old new : MutBor (Items Complaint)) (before missed : Bool)
     (more : List Complaint) : Type 0 where
   pub same : new.ghost_name ≡ old.ghost_name
-  pub room : new.now.room ≡ old.now.room
+  pub room : new.now.capacity ≡ old.now.capacity
   pub keeps : KeepsMore old.now before new.now missed more
 
 -- nothing was told
@@ -180,7 +180,7 @@ pub record Shown : Type 0 where
   pub said : List Piece
   pub table_name : ℕ
   pub name : ℕ
-  pub room : ℕ
+  pub capacity : ℕ
 
 abbrev pub hears : Piece → Shown → Shown
 hears p s = record s { said = s.said ++ p ∷ [] }
@@ -192,7 +192,7 @@ pub record Shows (tape : Tape) (table : MutBor Table) (kept : MutBor (Items Comp
   pub table_now : table.now ≡ set s.said s.table
   pub table_room : emptied table.now ≡ emptied s.table
   pub same : kept.ghost_name ≡ s.name
-  pub room : kept.now.room ≡ s.room
+  pub room : kept.now.capacity ≡ s.capacity
   pub keeps : Keeps (wrongs s.said) kept.now missed
 
 -- all that waits went out, or the output failed

@@ -1,6 +1,6 @@
 //! Pages with tables are turned: what nr_tbl reads is told to nr_layout, and goes out.
 //!
-//! It stands on nr_units, nr_rooms, nr_characters, nr_layout and nr_tbl. To read: `drawing`, `hearing`, `press`,
+//! It stands on nr_units, nr_vectors, nr_characters, nr_layout and nr_tbl. To read: `drawing`, `hearing`, `press`,
 //! `turning`.
 #![tactic(auto)]
 

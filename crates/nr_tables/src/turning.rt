@@ -11,11 +11,11 @@ use super::drawing::signs_of;
 use super::press::Press;
 use nr_characters::Table as Characters;
 use nr_layout::{Out, Table};
-use nr_rooms::{CountedAlloc, FixedVec};
 use nr_tbl::{Complaint, Limits, Outcome, Reader, read_page};
 use nr_units::sink::Sink;
 use nr_units::slice_vec::SliceVec;
 use nr_units::source::Source;
+use nr_vectors::{CountedAlloc, FixedVec};
 use std::alloc::{AllocError, Global};
 use std::marker::Model;
 
@@ -102,7 +102,7 @@ fn run<R: Source, W: Sink>(
     ensures table_same { press.new.table.ghost_name ≡ press.old.table.ghost_name }
     ensures table_room { emptied press.new.table.now ≡ emptied press.old.table.now }
     ensures same { press.new.complaints.ghost_name ≡ press.old.complaints.ghost_name }
-    ensures room { press.new.complaints.now.room ≡ press.old.complaints.now.room }
+    ensures room { press.new.complaints.now.capacity ≡ press.old.complaints.now.capacity }
     ensures read_faults { TellsReads result (R.failures input.old) (R.failures input.new) }
     ensures write_faults { press.new.out.failures ≡ put_counted_if (is_write_fault result)
         press.old.out.failures }
@@ -128,7 +128,7 @@ fn turn<R: Source, W: Sink>(
         (R.supply input.old) (R.supply input.new) out.entry.held (W.held result.1) complaints.new
         result.0.missed result.0.outcome }
     ensures table_room { emptied table.new ≡ emptied table.old }
-    ensures room { complaints.new.room ≡ complaints.old.room }
+    ensures room { complaints.new.capacity ≡ complaints.old.capacity }
     ensures read_faults { TellsReads result.0.outcome (R.failures input.old) (R.failures input.new) }
     ensures write_faults { W.failures result.1 ≡ put_counted_if (is_write_fault result.0.outcome)
         out.entry.failures }
@@ -171,7 +171,7 @@ pub fn convert<R: Source, W: Sink>(
     // A write fault is reported where a call of the sink failed, and else none did.
     ensures write_faults { W.failures result.1 ≡ put_counted_if (is_write_fault result.0.outcome)
         (W.failures output) }
-    ensures room { complaints.new.room ≡ complaints.old.room }
+    ensures room { complaints.new.capacity ≡ complaints.old.capacity }
     // The next page is turned by the same limits, for a line of as many cells.
     ensures same { rooms.new ≡ rooms.old }
 {

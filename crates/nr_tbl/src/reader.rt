@@ -15,7 +15,7 @@ use super::complaint::Kind;
 use super::passing::{Lines, free_lines, line_len};
 use super::state::{Mode, State};
 use super::telling::{Setter, Tell};
-use nr_rooms::{CountedAlloc, FixedVec};
+use nr_vectors::{CountedAlloc, FixedVec};
 use std::alloc::{AllocError, Global};
 use std::marker::Model;
 
@@ -55,7 +55,7 @@ impl Model for Reader {
       start = r.start;
     } };
 
-    ghost invariant = { λ r. (r.limits.formats < r.kept.room) × (r.limits.row < r.kept.room) };
+    ghost invariant = { λ r. (r.limits.formats < r.kept.capacity) × (r.limits.row < r.kept.capacity) };
 }
 
 impl Reader {

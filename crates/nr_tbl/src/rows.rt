@@ -13,7 +13,7 @@ use super::numbers::is_digit;
 use super::reader::{Reader, behind};
 use super::state::{Mode, State};
 use super::telling::{Setter, Tell};
-use nr_rooms::FixedVec;
+use nr_vectors::FixedVec;
 
 /// Whether a line between rows is a request.
 fn is_request(line: &[u8]) -> bool
@@ -68,7 +68,7 @@ fn pair_backslashes(kept: &mut FixedVec<u8>, start: usize) -> bool
     ensures items { kept.new.items ≡ take start kept.old.items
         ++ specs.paired false (drop start kept.old.items) }
     ensures alone { result ≡ specs.open_behind false (drop start kept.old.items) }
-    ensures room { kept.new.room ≡ kept.old.room }
+    ensures room { kept.new.capacity ≡ kept.old.capacity }
 {
     let mut alone = false;
     for at in start..kept.len() {
@@ -105,7 +105,7 @@ fn cut_comment(kept: &mut FixedVec<u8>, start: usize) -> bool
     ensures items { kept.new.items ≡ take start kept.old.items
         ++ specs.before_comment (drop start kept.old.items) }
     ensures cut { result ≡ specs.has_comment (drop start kept.old.items) }
-    ensures room { kept.new.room ≡ kept.old.room }
+    ensures room { kept.new.capacity ≡ kept.old.capacity }
 {
     match comment_in(behind(kept.as_slice(), start)) {
         Some(at) => {
@@ -121,7 +121,7 @@ fn cut_comment(kept: &mut FixedVec<u8>, start: usize) -> bool
 fn clean_line(kept: &mut FixedVec<u8>, start: usize) -> bool
     ensures items { kept.new.items ≡ take start kept.old.items ++ specs.cleaned (drop start kept.old.items) }
     ensures alone { result ≡ specs.continues (drop start kept.old.items) }
-    ensures room { kept.new.room ≡ kept.old.room }
+    ensures room { kept.new.capacity ≡ kept.old.capacity }
 {
     if place_of(b'\\', behind(kept.as_slice(), start)).is_none() {
         return false;

@@ -11,7 +11,7 @@ const CHUNK: usize = 8;
 
 /// Items in a slice that is lent, from its start on. What lies after them is of no account.
 ///
-/// Clauses see the items and the room, the greatest number of them. No call allocates; each takes
+/// Clauses see the items and the capacity, the greatest number of them. No call allocates; each takes
 /// constant time or one move of memory.
 #[derive(Drop)]
 pub struct SliceVec<'a, T: Copy> {
@@ -25,7 +25,7 @@ impl<'a, T: Copy> Model for SliceVec<'a, T> {
 
     ghost Value = { Items T };
 
-    ghost view = { λ v. record { items = take v.len v.slots.now; room = length v.slots.now } };
+    ghost view = { λ v. record { items = take v.len v.slots.now; capacity = length v.slots.now } };
 
     ghost invariant = { λ v. v.len ≤ length v.slots.now };
 }
@@ -34,7 +34,7 @@ impl<'a, T: Copy> SliceVec<'a, T> {
     /// No items yet, and room for as many as the slice has.
     pub fn over(slots: &'a mut [T]) -> Self
         ensures empty { result.items ≡ [] }
-        ensures room { result.room ≡ length slots.entry.now }
+        ensures room { result.capacity ≡ length slots.entry.now }
     {
         SliceVec { slots, len: 0 }
     }
@@ -43,15 +43,15 @@ impl<'a, T: Copy> SliceVec<'a, T> {
     #[inline]
     pub fn len(&self) -> usize
         ensures value { result ≡ length self.now.items }
-        ensures within { result ≤ self.now.room }
+        ensures within { result ≤ self.now.capacity }
     {
         self.len
     }
 
     /// The greatest number of items.
     #[inline]
-    pub fn room(&self) -> usize
-        ensures value { result ≡ self.now.room }
+    pub fn capacity(&self) -> usize
+        ensures value { result ≡ self.now.capacity }
         ensures holds { length self.now.items ≤ result }
     {
         self.slots.len()
@@ -68,8 +68,8 @@ impl<'a, T: Copy> SliceVec<'a, T> {
     /// Whether no item can be added.
     #[inline]
     pub fn is_full(&self) -> bool
-        ensures value { result ≡ (length self.now.items == self.now.room) }
-        ensures holds { length self.now.items ≤ self.now.room }
+        ensures value { result ≡ (length self.now.items == self.now.capacity) }
+        ensures holds { length self.now.items ≤ self.now.capacity }
     {
         self.len == self.slots.len()
     }
@@ -78,7 +78,7 @@ impl<'a, T: Copy> SliceVec<'a, T> {
     #[inline]
     pub fn as_slice(&self) -> &[T]
         ensures value { result.now ≡ self.now.items }
-        ensures within { length result.now ≤ self.now.room }
+        ensures within { length result.now ≤ self.now.capacity }
     {
         &self.slots[..self.len]
     }
@@ -110,7 +110,7 @@ impl<'a, T: Copy> SliceVec<'a, T> {
     pub fn set(&mut self, place: usize, item: T)
         requires { place < length self.old.items }
         ensures items { self.new.items ≡ slice_set self.old.items place item }
-        ensures room { self.new.room ≡ self.old.room }
+        ensures room { self.new.capacity ≡ self.old.capacity }
     {
         let slots = &mut *self.slots;
         slots[place] = item;
@@ -119,9 +119,9 @@ impl<'a, T: Copy> SliceVec<'a, T> {
     /// Adds an item at the end.
     #[inline]
     pub fn push(&mut self, item: T)
-        requires { length self.old.items < self.old.room }
+        requires { length self.old.items < self.old.capacity }
         ensures items { self.new.items ≡ self.old.items ++ item ∷ [] }
-        ensures room { self.new.room ≡ self.old.room }
+        ensures room { self.new.capacity ≡ self.old.capacity }
     {
         self.slots[self.len] = item;
         self.len += 1;
@@ -132,7 +132,7 @@ impl<'a, T: Copy> SliceVec<'a, T> {
     pub fn pop(&mut self) -> Option<T>
         ensures value { result ≡ slice_get self.old.items (length self.old.items - 1) }
         ensures items { self.new.items ≡ take (length self.old.items - 1) self.old.items }
-        ensures room { self.new.room ≡ self.old.room }
+        ensures room { self.new.capacity ≡ self.old.capacity }
     {
         let item = self.last();
         if self.len > 0 {
@@ -144,9 +144,9 @@ impl<'a, T: Copy> SliceVec<'a, T> {
     /// Adds items at the end.
     #[inline]
     pub fn extend(&mut self, more: &[T])
-        requires { length self.old.items + length more.now ≤ self.old.room }
+        requires { length self.old.items + length more.now ≤ self.old.capacity }
         ensures items { self.new.items ≡ self.old.items ++ more.now }
-        ensures room { self.new.room ≡ self.old.room }
+        ensures room { self.new.capacity ≡ self.old.capacity }
     {
         let end = self.len + more.len();
         self.slots[self.len..end].copy_from_slice(more);
@@ -158,9 +158,9 @@ impl<'a, T: Copy> SliceVec<'a, T> {
     #[inline]
     pub fn extend_front(&mut self, more: &[T], n: usize)
         requires front { n ≤ length more.now }
-        requires room { length self.old.items + n ≤ self.old.room }
+        requires room { length self.old.items + n ≤ self.old.capacity }
         ensures items { self.new.items ≡ self.old.items ++ take n more.now }
-        ensures room { self.new.room ≡ self.old.room }
+        ensures room { self.new.capacity ≡ self.old.capacity }
     {
         let len = self.len;
         if n <= CHUNK && more.len() >= CHUNK && self.slots.len() - len >= CHUNK {
@@ -174,9 +174,9 @@ impl<'a, T: Copy> SliceVec<'a, T> {
     /// Adds n copies of an item. A few more are written than are added where there is room, as with `extend_front`.
     #[inline]
     pub fn extend_copies(&mut self, item: T, n: usize)
-        requires { length self.old.items + n ≤ self.old.room }
+        requires { length self.old.items + n ≤ self.old.capacity }
         ensures items { self.new.items ≡ self.old.items ++ replicate n item }
-        ensures room { self.new.room ≡ self.old.room }
+        ensures room { self.new.capacity ≡ self.old.capacity }
     {
         let len = self.len;
         if n <= CHUNK && self.slots.len() - len >= CHUNK {
@@ -192,9 +192,9 @@ impl<'a, T: Copy> SliceVec<'a, T> {
     #[inline]
     pub fn insert(&mut self, place: usize, item: T)
         requires within { place ≤ length self.old.items }
-        requires room { length self.old.items < self.old.room }
+        requires room { length self.old.items < self.old.capacity }
         ensures items { self.new.items ≡ insert self.old.items place item }
-        ensures room { self.new.room ≡ self.old.room }
+        ensures room { self.new.capacity ≡ self.old.capacity }
     {
         let len = self.len;
         let slots = &mut *self.slots;
@@ -208,7 +208,7 @@ impl<'a, T: Copy> SliceVec<'a, T> {
     pub fn remove(&mut self, place: usize)
         requires { place < length self.old.items }
         ensures items { self.new.items ≡ remove self.old.items place }
-        ensures room { self.new.room ≡ self.old.room }
+        ensures room { self.new.capacity ≡ self.old.capacity }
     {
         let len = self.len;
         let slots = &mut *self.slots;
@@ -221,7 +221,7 @@ impl<'a, T: Copy> SliceVec<'a, T> {
     pub fn remove_front(&mut self, n: usize)
         requires { n ≤ length self.old.items }
         ensures items { self.new.items ≡ drop n self.old.items }
-        ensures room { self.new.room ≡ self.old.room }
+        ensures room { self.new.capacity ≡ self.old.capacity }
     {
         let len = self.len;
         self.slots.copy_within(n..len, 0);
@@ -233,7 +233,7 @@ impl<'a, T: Copy> SliceVec<'a, T> {
     pub fn truncate(&mut self, n: usize)
         requires { n ≤ length self.old.items }
         ensures items { self.new.items ≡ take n self.old.items }
-        ensures room { self.new.room ≡ self.old.room }
+        ensures room { self.new.capacity ≡ self.old.capacity }
     {
         self.len = n;
     }
@@ -242,7 +242,7 @@ impl<'a, T: Copy> SliceVec<'a, T> {
     #[inline]
     pub fn clear(&mut self)
         ensures items { self.new.items ≡ [] }
-        ensures room { self.new.room ≡ self.old.room }
+        ensures room { self.new.capacity ≡ self.old.capacity }
     {
         self.len = 0;
     }
@@ -252,9 +252,9 @@ impl<'a> SliceVec<'a, u8> {
     /// Adds the byte of each cell.
     #[inline]
     pub fn extend_bytes(&mut self, cells: &[Cell])
-        requires { length self.old.items + length cells.now ≤ self.old.room }
+        requires { length self.old.items + length cells.now ≤ self.old.capacity }
         ensures items { self.new.items ≡ self.old.items ++ map (λ (cell : CellValue). cell.byte) cells.now }
-        ensures room { self.new.room ≡ self.old.room }
+        ensures room { self.new.capacity ≡ self.old.capacity }
     {
         let end = self.len + cells.len();
         set_bytes(&mut self.slots[self.len..end], cells);

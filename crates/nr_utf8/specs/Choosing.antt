@@ -118,6 +118,6 @@ abbrev pub chosen_by : List ℕ → Table
 chosen_by counts = if_any (covered_by counts (fullest_by counts)) (fullest_by counts)
 
 -- these bytes came first, as many as there is room for, or all
-pub record IsFront (old new : Option Supply) (room : ℕ) (items : List ℕ) : Type 0 where
+pub record IsFront (old new : Option Supply) (capacity : ℕ) (items : List ℕ) : Type 0 where
   pub came : Comes old items new
-  pub whole : (length items ≡ room) ⊎ Ends old new
+  pub whole : (length items ≡ capacity) ⊎ Ends old new

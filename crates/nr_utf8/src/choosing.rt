@@ -181,10 +181,10 @@ fn chosen(counts: &[u32]) -> Table
 /// Takes what the input gives first, as much as there is room for.
 fn read_front<R: Source>(input: &mut R, page: &mut SliceVec<'_, u8>) -> Result<(), Fault>
     requires { page.old.items ≡ [] }
-    ensures front { OnOk result (specs.IsFront (R.supply input.old) (R.supply input.new) page.new.room
+    ensures front { OnOk result (specs.IsFront (R.supply input.old) (R.supply input.new) page.new.capacity
         page.new.items) }
     ensures failures { R.failures input.new ≡ counted (R.failures input.old) result }
-    ensures room { page.new.room ≡ page.old.room }
+    ensures room { page.new.capacity ≡ page.old.capacity }
 {
     while !page.is_full() {
         match input.next() {

@@ -57,10 +57,10 @@ pub(crate) fn is_shown(byte: u8) -> bool
 
 /// Puts a character: at most 4 bytes.
 fn put(character: char, out: &mut SliceVec<'_, u8>)
-    requires { length out.old.items + 4 ≤ out.old.room }
+    requires { length out.old.items + 4 ≤ out.old.capacity }
     ensures items { out.new.items ≡ out.old.items ++ specs.spelled character }
     ensures few { length out.new.items ≤ length out.old.items + 4 }
-    ensures room { out.new.room ≡ out.old.room }
+    ensures room { out.new.capacity ≡ out.old.capacity }
 {
     let mut bytes = [0; 4];
     out.extend(character.encode_utf8(&mut bytes).as_bytes());
@@ -84,11 +84,11 @@ impl Reader {
 
     /// Underlined text that is open ends: at most 5 bytes go out.
     fn close(&mut self, out: &mut SliceVec<'_, u8>)
-        requires { length out.old.items + 5 ≤ out.old.room }
+        requires { length out.old.items + 5 ≤ out.old.capacity }
         ensures reader { self.new ≡ specs.closed self.old }
         ensures items { out.new.items ≡ out.old.items ++ specs.closing self.old.underlining }
         ensures few { length out.new.items ≤ length out.old.items + 5 }
-        ensures room { out.new.room ≡ out.old.room }
+        ensures room { out.new.capacity ≡ out.old.capacity }
     {
         if matches!(self.underlining, Underlining::Open) {
             out.extend(b"\x1B[24m");
@@ -98,11 +98,11 @@ impl Reader {
 
     /// A character goes out that is not underlined: at most 9 bytes.
     fn put_plain(&mut self, character: char, out: &mut SliceVec<'_, u8>)
-        requires { length out.old.items + 9 ≤ out.old.room }
+        requires { length out.old.items + 9 ≤ out.old.capacity }
         ensures reader { self.new ≡ specs.closed self.old }
         ensures items { out.new.items ≡ out.old.items ++ specs.plain self.old.underlining character }
         ensures few { length out.new.items ≤ length out.old.items + 9 }
-        ensures room { out.new.room ≡ out.old.room }
+        ensures room { out.new.capacity ≡ out.old.capacity }
     {
         self.close(out);
         put(character, out);
@@ -110,11 +110,11 @@ impl Reader {
 
     /// A letter or a digit goes out that is underlined: at most 5 bytes.
     fn put_underlined(&mut self, byte: u8, out: &mut SliceVec<'_, u8>)
-        requires { length out.old.items + 5 ≤ out.old.room }
+        requires { length out.old.items + 5 ≤ out.old.capacity }
         ensures reader { self.new ≡ specs.opened self.old }
         ensures items { out.new.items ≡ out.old.items ++ specs.underlined self.old.underlining byte }
         ensures few { length out.new.items ≤ length out.old.items + 5 }
-        ensures room { out.new.room ≡ out.old.room }
+        ensures room { out.new.capacity ≡ out.old.capacity }
     {
         match self.underlining {
             Underlining::Backspaces => out.extend(&[b'_', b'\x08', byte]),
@@ -128,13 +128,13 @@ impl Reader {
 
     /// A byte comes, and nothing is half read. Tells how many bytes were dropped, as all below do.
     fn read_fresh(&mut self, byte: u8, out: &mut SliceVec<'_, u8>) -> u64
-        requires { length out.old.items + 9 ≤ out.old.room }
+        requires { length out.old.items + 9 ≤ out.old.capacity }
         ensures reader { self.new ≡ (specs.fresh byte self.old).reader }
         ensures items { out.new.items ≡ out.old.items ++ (specs.fresh byte self.old).bytes }
         ensures strays { result ≡ (specs.fresh byte self.old).strays }
         ensures few { length out.new.items ≤ length out.old.items + 9 }
         ensures least { result ≤ 1 }
-        ensures room { out.new.room ≡ out.old.room }
+        ensures room { out.new.capacity ≡ out.old.capacity }
     {
         if byte == b'_' {
             self.half = Half::Underscore;
@@ -155,11 +155,11 @@ impl Reader {
 
     /// The `_` that is half read goes out.
     fn put_underscore(&mut self, out: &mut SliceVec<'_, u8>)
-        requires { length out.old.items + 9 ≤ out.old.room }
+        requires { length out.old.items + 9 ≤ out.old.capacity }
         ensures reader { self.new ≡ specs.closed (specs.with_half Nothing self.old) }
         ensures items { out.new.items ≡ out.old.items ++ specs.lone self.old.underlining }
         ensures few { length out.new.items ≤ length out.old.items + 9 }
-        ensures room { out.new.room ≡ out.old.room }
+        ensures room { out.new.capacity ≡ out.old.capacity }
     {
         self.half = Half::Nothing;
         self.put_plain('_', out);
@@ -167,13 +167,13 @@ impl Reader {
 
     /// A byte comes. At most 18 bytes go out.
     pub(crate) fn read(&mut self, byte: u8, out: &mut SliceVec<'_, u8>) -> u64
-        requires { length out.old.items + 18 ≤ out.old.room }
+        requires { length out.old.items + 18 ≤ out.old.capacity }
         ensures reader { self.new ≡ (specs.read byte self.old).reader }
         ensures items { out.new.items ≡ out.old.items ++ (specs.read byte self.old).bytes }
         ensures strays { result ≡ (specs.read byte self.old).strays }
         ensures few { length out.new.items ≤ length out.old.items + 18 }
         ensures least { result ≤ 2 }
-        ensures room { out.new.room ≡ out.old.room }
+        ensures room { out.new.capacity ≡ out.old.capacity }
     {
         match self.half {
             Half::Nothing => self.read_fresh(byte, out),
@@ -199,12 +199,12 @@ impl Reader {
 
     /// The end comes. At most 14 bytes go out.
     pub(crate) fn finish(&mut self, out: &mut SliceVec<'_, u8>) -> u64
-        requires { length out.old.items + 18 ≤ out.old.room }
+        requires { length out.old.items + 18 ≤ out.old.capacity }
         ensures items { out.new.items ≡ out.old.items ++ specs.finished self.old }
         ensures strays { result ≡ specs.left_over self.old }
         ensures few { length out.new.items ≤ length out.old.items + 18 }
         ensures least { result ≤ 1 }
-        ensures room { out.new.room ≡ out.old.room }
+        ensures room { out.new.capacity ≡ out.old.capacity }
     {
         match self.half {
             Half::Nothing => {

@@ -51,7 +51,7 @@ fn put_pending<W: Sink>(out: &mut SliceVec<'_, u8>, output: &mut W) -> Result<()
     ensures err { specs.FrontAtErr result (W.held output.old) (W.held output.new) out.old.items }
     ensures empty { OnOk result (out.new.items ≡ []) }
     ensures failures { W.failures output.new ≡ put_counted (W.failures output.old) result }
-    ensures room { out.new.room ≡ out.old.room }
+    ensures room { out.new.capacity ≡ out.old.capacity }
 {
     output.put(out.as_slice())?;
     out.clear();
@@ -60,15 +60,15 @@ fn put_pending<W: Sink>(out: &mut SliceVec<'_, u8>, output: &mut W) -> Result<()
 
 /// Room is made for what one turn says: where there is none, all that is pending goes out.
 fn make_room<W: Sink>(out: &mut SliceVec<'_, u8>, output: &mut W) -> Result<(), Fault>
-    requires { 1536 ≤ out.old.room }
+    requires { 1536 ≤ out.old.capacity }
     ensures ok { OnOk result (specs.Flushes (W.held output.old) (W.held output.new) out.old.items
         out.new.items) }
     ensures err { specs.FrontAtErr result (W.held output.old) (W.held output.new) out.old.items }
-    ensures fits { OnOk result (length out.new.items + 1536 ≤ out.new.room) }
+    ensures fits { OnOk result (length out.new.items + 1536 ≤ out.new.capacity) }
     ensures failures { W.failures output.new ≡ put_counted (W.failures output.old) result }
-    ensures room { out.new.room ≡ out.old.room }
+    ensures room { out.new.capacity ≡ out.old.capacity }
 {
-    if out.room() - out.len() >= MOST {
+    if out.capacity() - out.len() >= MOST {
         return Ok(());
     }
     put_pending(out, output)
@@ -83,7 +83,7 @@ fn take_cells<R: Source>(
     out: &mut SliceVec<'_, u8>,
     most: u64,
 ) -> u64
-    requires room { length out.old.items + 1536 ≤ out.old.room }
+    requires room { length out.old.items + 1536 ≤ out.old.capacity }
     requires spells { Spells reader.now.table 256 spelling.now.all spelling.now.whole }
     requires long { length room.old ≡ 2176 }
     ensures took { specs.Took (R.supply input.old) (R.supply input.new) reader.now reader.now out.old.items
@@ -91,7 +91,7 @@ fn take_cells<R: Source>(
     ensures few { result ≤ most }
     ensures grown { length out.new.items ≤ length out.old.items + 4 * result }
     ensures failures { R.failures input.new ≡ R.failures input.old }
-    ensures room { out.new.room ≡ out.old.room }
+    ensures room { out.new.capacity ≡ out.old.capacity }
 {
     if !reader.is_idle() {
         return 0;
@@ -111,13 +111,13 @@ fn take_next<R: Source>(
     out: &mut SliceVec<'_, u8>,
     most: u64,
 ) -> Turn
-    requires room { length out.old.items + 1536 ≤ out.old.room }
+    requires room { length out.old.items + 1536 ≤ out.old.capacity }
     requires some { 0 < most }
     ensures turns { specs.Turns (R.supply input.old) (R.supply input.new) reader.old reader.new out.old.items
         out.new.items result }
     ensures measured { specs.IsMeasured most (length out.old.items) (length out.new.items) result }
     ensures failures { R.failures input.new ≡ counted_if (specs.is_fault result) (R.failures input.old) }
-    ensures room { out.new.room ≡ out.old.room }
+    ensures room { out.new.capacity ≡ out.old.capacity }
 {
     match input.next() {
         Ok(Some(byte)) => {
@@ -141,7 +141,7 @@ fn make_turn<R: Source>(
     out: &mut SliceVec<'_, u8>,
     most: u64,
 ) -> Turn
-    requires room { length out.old.items + 1536 ≤ out.old.room }
+    requires room { length out.old.items + 1536 ≤ out.old.capacity }
     requires some { 0 < most }
     requires spells { Spells reader.old.table 256 spelling.now.all spelling.now.whole }
     requires long { length room.old ≡ 2176 }
@@ -149,7 +149,7 @@ fn make_turn<R: Source>(
         out.new.items result }
     ensures measured { specs.IsMeasured most (length out.old.items) (length out.new.items) result }
     ensures failures { R.failures input.new ≡ counted_if (specs.is_fault result) (R.failures input.old) }
-    ensures room { out.new.room ≡ out.old.room }
+    ensures room { out.new.capacity ≡ out.old.capacity }
 {
     let count = take_cells(spelling, reader, room, input, out, most);
     if count > 0 {
@@ -182,7 +182,7 @@ fn run<R: Source, W: Sink>(
     out: &mut SliceVec<'_, u8>,
     strays: &mut u64,
 ) -> Outcome
-    requires room { 1536 ≤ out.old.room }
+    requires room { 1536 ≤ out.old.capacity }
     requires empty { out.old.items ≡ [] }
     ensures ran { specs.Ran table escapes (R.supply input.old) (R.supply input.new) (W.held output.old)
         (W.held output.new) strays.new result }

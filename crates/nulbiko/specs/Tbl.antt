@@ -56,7 +56,7 @@ pub record SetsTables (line : ℕ) (text output : List ℕ) (report : Report) (c
   pub missed : Bool
   pub ran : Ran (signs_of None) limits line (Some (whole_text text)) left (Some []) (Some bytes) kept
       missed outcome
-  pub room : kept.room ≡ 1
+  pub room : kept.capacity ≡ 1
   pub handed : IsHanded bytes output report.written
   pub code_is : code ≡ code_within (code_of outcome) (length bytes) (length output)
   pub no_moves : report.moves ≡ 0

@@ -2,9 +2,9 @@
 ghost use Rattle.std.specs.Prelude.{◌≡◌, [], length, take, min, Some, IfOk};
 ghost use Rattle.nr_units.specs.Failures.{no_failures};
 
-use nr_rooms::{CountedAlloc, FixedVec};
 use nr_units::sink::Sink;
 use nr_units::source::{Fault, next_count};
+use nr_vectors::{CountedAlloc, FixedVec};
 use std::alloc::{AllocError, Global};
 
 /// Takes what fits, and fails at a call that brings more.
@@ -46,7 +46,7 @@ impl Sink for Pages {
     ghost failures = { λ s. record { puts = s.failed_puts; flushes = 0 } };
 
     fn put(&mut self, bytes: &[u8]) -> Result<(), Fault> {
-        let room = self.bytes.room() - self.bytes.len();
+        let room = self.bytes.capacity() - self.bytes.len();
         if bytes.len() <= room {
             self.bytes.extend(bytes);
             if !bytes.is_empty() {

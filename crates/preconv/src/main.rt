@@ -1,11 +1,11 @@
 //! The program preconv: it turns what manual pages use into the language of nroff, to standard output.
 //!
-//! It stands on nr_filters, nr_preconv, nr_coding, nr_characters and nr_units. To read: `words`, `lines`, `program`.
+//! It stands on nr_filters, nr_preconv, nr_coding, nr_characters and nr_units. To read: `arguments`, `lines`, `program`.
 #![tactic(auto)]
 
+mod arguments;
 mod lines;
 mod program;
-mod words;
 
 use nr_filters::run_program;
 use program::Preconv;

@@ -1,7 +1,7 @@
 // The program over its words and its texts.
 
+use super::arguments::{Wrong, read_words};
 use super::lines::Lines;
-use super::words::{Wrong, read_words};
 use itoa::Buffer;
 use nr_characters::Table;
 use nr_coding::{UnderCoding, Unknown};

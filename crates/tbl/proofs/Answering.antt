@@ -5,14 +5,14 @@ use Rattle.std.specs.Borrow.{Bor}
 use Rattle.std.specs.Str.{bytes_eq}
 use Rattle.nr_characters.specs.declared.table.Table.{Table}
 use Rattle.nr_characters.specs.Tables.{table_named}
-use Rattle.tbl.specs.declared.words.BadWord.{BadWord}
-use Rattle.tbl.specs.declared.words.Job.{Job}
-use Rattle.tbl.specs.declared.words.Setting.{Setting}
-use Rattle.tbl.specs.declared.words.Which.{Which}
-use Rattle.tbl.specs.declared.words.Which.TheVariants.{Formats, Row, Line}
-use Rattle.tbl.specs.declared.words.Wrong.{Wrong}
-use Rattle.tbl.specs.declared.words.Wrong.TheVariants.{UnknownTable}
-use Rattle.tbl.specs.Words.{ComesTo, IsAnswer, IsBad, Means, Named, Sets, Stands, at, is_option, is_wrong, texts, usual_job, with_number, with_setting, with_table}
+use Rattle.tbl.specs.declared.arguments.BadWord.{BadWord}
+use Rattle.tbl.specs.declared.arguments.Job.{Job}
+use Rattle.tbl.specs.declared.arguments.Setting.{Setting}
+use Rattle.tbl.specs.declared.arguments.Which.{Which}
+use Rattle.tbl.specs.declared.arguments.Which.TheVariants.{Formats, Row, Line}
+use Rattle.tbl.specs.declared.arguments.Wrong.{Wrong}
+use Rattle.tbl.specs.declared.arguments.Wrong.TheVariants.{UnknownTable}
+use Rattle.tbl.specs.Arguments.{ComesTo, IsAnswer, IsBad, Means, Named, Sets, Stands, at, is_option, is_wrong, texts, usual_job, with_number, with_setting, with_table}
 use Rattle.tbl.proofs.Parting.{texts-from}
 use Rattle.tbl.proofs.Reading.{Bad-means, Bad-one, Means-one}
 

@@ -1,12 +1,12 @@
 -- An option is read in one way.
 use Rattle.std.proofs.Common.{◌≡◌, ℕ, List, ◌∷◌, ◌++◌, ◌⊎◌, inl, inr, codes, get_or, refl, sym, ap, ◌∙◌, arith}
 use Rattle.std.specs.Str.Parse.{digits_value}
-use Rattle.tbl.specs.declared.words.Setting.{Setting}
-use Rattle.tbl.specs.declared.words.Which.{Which}
-use Rattle.tbl.specs.declared.words.Which.TheVariants.{Formats, Row, Line}
-use Rattle.tbl.specs.declared.words.Wrong.{Wrong}
-use Rattle.tbl.specs.declared.words.Wrong.TheVariants.{Unknown, BadValue, UnknownTable, NoTable}
-use Rattle.tbl.specs.Words.{BeginsWith, IsBad, Means, front_of}
+use Rattle.tbl.specs.declared.arguments.Setting.{Setting}
+use Rattle.tbl.specs.declared.arguments.Which.{Which}
+use Rattle.tbl.specs.declared.arguments.Which.TheVariants.{Formats, Row, Line}
+use Rattle.tbl.specs.declared.arguments.Wrong.{Wrong}
+use Rattle.tbl.specs.declared.arguments.Wrong.TheVariants.{Unknown, BadValue, UnknownTable, NoTable}
+use Rattle.tbl.specs.Arguments.{BeginsWith, IsBad, Means, front_of}
 
 second : (v w : List ℕ) → v ≡ w → get_or v 1 0 ≡ get_or w 1 0
 second v w is = ap (λ (bytes : List ℕ). get_or bytes 1 0) is

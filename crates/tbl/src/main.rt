@@ -1,13 +1,13 @@
 //! The program tbl: it turns the tables of a page into the language of nroff, to standard output.
 //!
-//! It stands on nr_filters, nr_tables, nr_characters and nr_units. To read: `words`, `complaints`, `rooms`,
+//! It stands on nr_filters, nr_tables, nr_characters and nr_units. To read: `arguments`, `complaints`, `rooms`,
 //! `program`.
 #![tactic(auto)]
 
+mod arguments;
 mod complaints;
 mod program;
 mod rooms;
-mod words;
 
 use nr_filters::run_program;
 use program::Tbl;

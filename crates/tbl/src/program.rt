@@ -1,7 +1,7 @@
 // The program over its words and its texts.
 
+use super::arguments::{Wrong, read_words};
 use super::rooms::Rooms;
-use super::words::{Wrong, read_words};
 use nr_filters::{Disk, Ending, Filter, turn_all};
 use nr_units::sink::Sink;
 use std::io::Read;

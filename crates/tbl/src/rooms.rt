@@ -1,7 +1,7 @@
 // The memory that texts are turned in.
 
+use super::arguments::Job;
 use super::complaints::tell_complaints;
-use super::words::Job;
 use nr_filters::{BUFFER_SIZE, Ending, Turns};
 use nr_tables::{Complaint, Outcome, convert};
 use nr_units::buffered::Buffered;

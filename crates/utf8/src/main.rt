@@ -1,10 +1,10 @@
 //! The program utf8: it turns the bytes of a table of characters into UTF-8, to standard output.
 //!
-//! It stands on nr_filters, nr_utf8, nr_coding, nr_characters and nr_units. To read: `words`, `program`.
+//! It stands on nr_filters, nr_utf8, nr_coding, nr_characters and nr_units. To read: `arguments`, `program`.
 #![tactic(auto)]
 
+mod arguments;
 mod program;
-mod words;
 
 use nr_filters::run_program;
 use program::Utf8;

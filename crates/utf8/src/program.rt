@@ -1,6 +1,6 @@
 // The program over its words and its texts.
 
-use super::words::{Job, Wrong, read_words};
+use super::arguments::{Job, Wrong, read_words};
 use itoa::Buffer;
 use nr_characters::Table;
 use nr_coding::UnderCoding;

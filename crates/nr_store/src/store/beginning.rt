@@ -11,14 +11,14 @@ use crate::request::{REQUESTS, Request};
 use crate::store::Store;
 use nr_levels::{Gathering, Levels, Stack};
 use nr_pool::Pool;
-use nr_rooms::CountedAlloc;
 use nr_symbol_tables::{HyphenationWords, Table, Traps};
 use nr_units::Name;
+use nr_vectors::CountedAlloc;
 use std::alloc::AllocError;
 
 // Puts these requests under their names.
 fn name_requests(names: &mut Table<Sense>, requests: &[(u8, u8, Request)])
-    requires room { length names.old.entries + length requests.now ≤ names.old.room }
+    requires room { length names.old.entries + length requests.now ≤ names.old.capacity }
     ensures { names.new ≡ record names.old { entries = with_senses requests.now names.old.entries } }
 {
     for entry in requests {

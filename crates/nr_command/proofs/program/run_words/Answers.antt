@@ -1,6 +1,6 @@
 use Rattle.std.proofs.Common.{◌≡◌, Result, Ok, Err, refl}
 use Rattle.nr_command_options.specs.Job.{asked_of, complaint_of}
-use Rattle.nr_command_options.specs.Words.{Asked, Complaint}
+use Rattle.nr_command_options.specs.Arguments.{Asked, Complaint}
 use Rattle.nr_command.proofs.program.run_words.Goals as goal
 
 -- there is no other answer than the one that was read

@@ -8,7 +8,7 @@ abbrev pub invariant-loop-slot : goal.invariant-loop-slot
 invariant-loop-slot g l = record {
   gap : l.gap ≤ l.slot-index + 1;
   taken : l.taken + cells_in_slots (drop l.slot-index l.others) ≡ cells_in_slots l.slots;
-  room : (g.R.CellRow.Holds l.row).room ≡ (g.R.CellRow.Holds l.fn.row).room;
+  room : (g.R.CellRow.Holds l.row).capacity ≡ (g.R.CellRow.Holds l.fn.row).capacity;
   set : (done : List Cell) × ((g.R.CellRow.Holds l.row).items ≡ (g.R.CellRow.Holds l.fn.row).items ++ done)
       × (done ++ cells_behind l.extra l.gap (pieces_of (drop l.slot-index l.others) (drop l.taken l.cells)) ≡ cells_in_line l.extra (pieces_of l.slots l.cells));
 }

@@ -6,7 +6,7 @@ abbrev pub invariant-loop-len : goal.invariant-loop-len
 invariant-loop-len l =
     record {
       items : l.places.items ++ spans_from l.first (drop l.len-index l.lens) ≡ l.initial.places.items ++ spans_from l.start l.lens;
-      room : l.places.room ≡ l.initial.places.room;
+      room : l.places.capacity ≡ l.initial.places.capacity;
       count : length l.places.items ≡ length l.initial.places.items + l.len-index;
       sum : l.first + sum (drop l.len-index l.lens) ≡ l.start + sum l.lens;
     }

@@ -8,8 +8,8 @@ invariant-loop-taken g l = record {
   stands : Stands (g.R.Source.supply l.fn.input) (g.R.Source.supply l.input) (g.W.Sink.held l.fn.output) (g.W.Sink.held l.output) l.out.items (state l.reader l.blocks.items) l.taken l.steps;
   source : g.R.Source.failures l.input ≡ g.R.Source.failures l.fn.input;
   sink : g.W.Sink.failures l.output ≡ g.W.Sink.failures l.fn.output;
-  room : l.out.room ≡ l.fn.out.room;
-  blocks : l.blocks.room ≡ l.fn.blocks.room;
+  room : l.out.capacity ≡ l.fn.out.capacity;
+  blocks : l.blocks.capacity ≡ l.fn.blocks.capacity;
   taken : l.taken ≤ 1099511627776;
   steps : l.steps ≤ 96 * l.taken;
 }

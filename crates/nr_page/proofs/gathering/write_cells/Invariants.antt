@@ -9,7 +9,7 @@ invariant-loop-at g l = record {
   within : l.at ≤ length l.cells;
   gathers : Gathers (g.W.Sink.held l.initial.output) (g.W.Sink.held l.output) l.initial.pending.items l.pending.items (flat_map cell_bytes (take l.at l.cells));
   failures : g.W.Sink.failures l.output ≡ g.W.Sink.failures l.initial.output;
-  room : l.pending.room ≡ l.initial.pending.room;
+  room : l.pending.capacity ≡ l.initial.pending.capacity;
 }
 
 abbrev pub decreases-loop-at : goal.decreases-loop-at

@@ -7,5 +7,5 @@ abbrev pub invariant-loop-line : goal.invariant-loop-line
 invariant-loop-line g l = record {
   gathers : Gathers (g.W.Sink.held l.initial.output) (g.W.Sink.held l.output) l.initial.pending.items l.pending.items (replicate l._line (code "\n"));
   failures : g.W.Sink.failures l.output ≡ g.W.Sink.failures l.initial.output;
-  room : l.pending.room ≡ l.initial.pending.room;
+  room : l.pending.capacity ≡ l.initial.pending.capacity;
 }

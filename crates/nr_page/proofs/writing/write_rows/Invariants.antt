@@ -11,5 +11,5 @@ invariant-loop-place g l = record {
   within : l.done ≤ l.count;
   gathers : Gathers (g.W.Sink.held l.initial.output) (g.W.Sink.held l.output) l.initial.pending.items l.pending.items (rows_bytes (rows_of l.texts l.rows.items) 0 l.done);
   failures : g.W.Sink.failures l.output ≡ g.W.Sink.failures l.initial.output;
-  room : l.pending.room ≡ l.initial.pending.room;
+  room : l.pending.capacity ≡ l.initial.pending.capacity;
 }

@@ -1,8 +1,8 @@
 use Rattle.nr_utf8.proofs.Turning.{Flushes-none, Flushes-on}
 use Rattle.nr_utf8.proofs.running.make_room.Goals as goal
 
-pub returns-then-room-len-ge-MOST-clause-ok : goal.returns-then-room-len-ge-MOST-clause-ok
-returns-then-room-len-ge-MOST-clause-ok g c = Flushes-none (g.W.Sink.held c.args.output.now) c.args.out.now.items
+pub returns-then-capacity-len-ge-MOST-clause-ok : goal.returns-then-capacity-len-ge-MOST-clause-ok
+returns-then-capacity-len-ge-MOST-clause-ok g c = Flushes-none (g.W.Sink.held c.args.output.now) c.args.out.now.items
 
 pub returns-clause-ok : goal.returns-clause-ok
 returns-clause-ok g c =

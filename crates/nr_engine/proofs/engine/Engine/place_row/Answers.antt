@@ -19,7 +19,7 @@ returns-in-Ok-clause-places c = λ cells is.
     let cells_is : c.in-Some.cells.now ≡ trimmed cells = c.in-Some.ensures cells is in
     let row_is : c.row_at-row.result ≡ row_at (place_behind c.args.height f) = c.row_at-row.ensures ∙ ap row_at c.place_behind.ensures in
     let x : Placed = placed cells c.args.height f in
-    let clear : c.clear.new.self ≡ row_of c.clear.new.self.room [] = c.clear.ensures ∙ ap (λ r. row_of r []) (sym (ap (λ r. r.room) c.clear.ensures)) in (
+    let clear : c.clear.new.self ≡ row_of c.clear.new.self.capacity [] = c.clear.ensures ∙ ap (λ r. row_of r []) (sym (ap (λ r. r.capacity) c.clear.ensures)) in (
       c.line_placed.ensures.is,
       refl,
       refl,

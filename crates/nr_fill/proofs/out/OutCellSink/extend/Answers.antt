@@ -7,16 +7,16 @@ use Rattle.nr_fill.proofs.out.OutCellSink.extend.Goals as goal
 
 pub returns : goal.returns
 returns c = (
-  c.extend.ensures.room ∙ ap (λ (r : Row). r.room) c.self.view_is,
+  c.extend.ensures.room ∙ ap (λ (r : Row). r.capacity) c.self.view_is,
   λ cells h.
       let e = c.self.view_is ∙ h in
-      let room = c.args.self.now.room in
+      let room = c.args.self.now.capacity in
       let more = c.args.cells.now in
       let n = c.min-n.result in
       let kept_is : c.self.inside.cells.items ≡ take room cells = ap (λ (r : Row). r.kept) e in
-      let room_is : c.extend.new.self.room ≡ room = c.extend.ensures.room ∙ ap (λ (r : Row). r.room) e in
+      let room_is : c.extend.new.self.capacity ≡ room = c.extend.ensures.room ∙ ap (λ (r : Row). r.capacity) e in
       let n_is : n ≡ min (length more) (room - length (take room cells)) = c.min-n.ensures
-      ∙ ap₂ (λ a b. min (length more) (a - b)) (c.room.ensures.value ∙ ap (λ (r : Row). r.room) e) (c.len.ensures.value ∙ ap length kept_is) in
+      ∙ ap₂ (λ a b. min (length more) (a - b)) (c.capacity.ensures.value ∙ ap (λ (r : Row). r.capacity) e) (c.len.ensures.value ∙ ap length kept_is) in
       let count_is = c.saturating_add-self-inside.ensures ∙ ap (λ k. min (k + length more) (2 ^ 64 - 1)) (ap (λ (r : Row). r.count) e) in
       let behind = c.written_behind-self-inside.ensures
       ∙ ap₂ (λ a b. written_behind a b c.written_len.result) (ap (λ (r : Row). r.written) e) (ap (λ (r : Row). r.count) e)

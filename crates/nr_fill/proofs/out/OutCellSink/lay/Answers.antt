@@ -13,7 +13,7 @@ returns c =
     let line = cells_in_line c.args.extra (pieces_of c.args.slots.now c.args.cells.now) in
     let items = c.self.inside.cells.items in
     let start = c.len-start.result in
-    let room = c.args.self.now.room in
+    let room = c.args.self.now.capacity in
     let r = c.as_slice.result.now in
     let n = c.of-extent.result.count in
     let w = c.of-extent.result.written in
@@ -23,15 +23,15 @@ returns c =
     let extent : IsExtent line n w = subst (λ zs. IsExtent zs n w) laid_is c.of-extent.ensures in
     record {
       set = (
-        c.lay_line.ensures.room ∙ ap (λ (v : Row). v.room) c.self.view_is,
+        c.lay_line.ensures.room ∙ ap (λ (v : Row). v.capacity) c.self.view_is,
         λ cells h.
             let e = c.self.view_is ∙ h in
-            let room_is : c.lay_line.new.row.room ≡ room = c.lay_line.ensures.room ∙ ap (λ (v : Row). v.room) e in
-            let own : c.self.inside.cells.room ≡ room = ap (λ (v : Row). v.room) e in
+            let room_is : c.lay_line.new.row.capacity ≡ room = c.lay_line.ensures.room ∙ ap (λ (v : Row). v.capacity) e in
+            let own : c.self.inside.cells.capacity ≡ room = ap (λ (v : Row). v.capacity) e in
             same_row c.lay_line.ensures.items (ap (λ k. k + n) c.len-start.ensures.value)
             (c.written_behind-self-inside.ensures ∙ ap (λ k. written_behind c.self.inside.written k w) c.len-start.ensures.value) room_is
             ∙ row_laid cells line n w (ap (λ (v : Row). v.kept) e) (ap (λ (v : Row). v.count) e) (ap (λ (v : Row). v.written) e) (omega (arith, c.self.invariant)) (omega (arith, c.if-self-start.false, c.len-start.ensures.value))
-            (omega (arith, c.requires.most, c.if-most-room.false, c.room.ensures.value, c.len-start.ensures.value)) extent.0 extent.1
+            (omega (arith, c.requires.most, c.if-most-capacity.false, c.capacity.ensures.value, c.len-start.ensures.value)) extent.0 extent.1
             ∙ ap (λ k. row_of k (cells ++ line)) (sym room_is),
       );
       extent = extent;
@@ -39,8 +39,8 @@ returns c =
       laid = λ before h.
           let e = c.self.view_is ∙ h in
           let none_gone : c.self.inside.count ≡ length items = omega (arith, c.if-self-start.false, c.len-start.ensures.value) in
-          let fits : length items + c.args.most ≤ c.self.inside.cells.room = omega (arith, c.if-most-room.false, c.room.ensures.value, c.room.ensures.holds, c.len-start.ensures.value, c.len-start.ensures.within) in
-          let own : c.self.inside.cells.room ≡ room = ap (λ (v : Row). v.room) e in
+          let fits : length items + c.args.most ≤ c.self.inside.cells.capacity = omega (arith, c.if-most-capacity.false, c.capacity.ensures.value, c.capacity.ensures.holds, c.len-start.ensures.value, c.len-start.ensures.within) in
+          let own : c.self.inside.cells.capacity ≡ room = ap (λ (v : Row). v.capacity) e in
           let whole = row_whole before (ap (λ (v : Row). v.kept) e) (ap (λ (v : Row). v.count) e) (omega (arith, c.self.invariant)) none_gone in
           (λ some. omega arith, λ fits. refl);
     }

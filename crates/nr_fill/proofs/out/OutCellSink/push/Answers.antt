@@ -11,16 +11,16 @@ use Rattle.nr_fill.proofs.out.OutCellSink.push.Goals as goal
 
 pub returns : goal.returns
 returns c = (
-  c.extend_copies.ensures.room ∙ ap (λ (r : Row). r.room) c.self.view_is,
+  c.extend_copies.ensures.room ∙ ap (λ (r : Row). r.capacity) c.self.view_is,
   λ cells h.
       let e = c.self.view_is ∙ h in
-      let room = c.args.self.now.room in
+      let room = c.args.self.now.capacity in
       let more : List Cell = c.args.cell ∷ [] in
       let n = c.min-kept.result in
       let kept_is : c.self.inside.cells.items ≡ take room cells = ap (λ (r : Row). r.kept) e in
-      let room_is : c.extend_copies.new.self.room ≡ room = c.extend_copies.ensures.room ∙ ap (λ (r : Row). r.room) e in
+      let room_is : c.extend_copies.new.self.capacity ≡ room = c.extend_copies.ensures.room ∙ ap (λ (r : Row). r.capacity) e in
       let n_is : n ≡ min 1 (room - length (take room cells)) = c.min-kept.ensures
-      ∙ ap₂ (λ a b. min 1 (a - b)) (c.room.ensures.value ∙ ap (λ (r : Row). r.room) e) (c.len.ensures.value ∙ ap length kept_is) in
+      ∙ ap₂ (λ a b. min 1 (a - b)) (c.capacity.ensures.value ∙ ap (λ (r : Row). r.capacity) e) (c.len.ensures.value ∙ ap length kept_is) in
       let few : n ≤ 1 = subst (λ k. k ≤ 1) (sym n_is) (min-le_left 1 (room - length (take room cells))) in
       let count_is = c.saturating_add-self-inside.ensures ∙ ap (λ k. min (k + 1) (2 ^ 64 - 1)) (ap (λ (r : Row). r.count) e) in
       let behind = c.written_behind-self-inside.ensures

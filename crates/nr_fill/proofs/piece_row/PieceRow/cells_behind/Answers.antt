@@ -14,4 +14,4 @@ pub returns : goal.returns
 returns c =
     λ n parted_is.
     let s = c.self.inside in
-    rw (c.as_slice.ensures.value, ← c.self.view_is) (cells_behind-laid_of (min s.slots.room s.cells.room) n c.args.parted c.self.invariant (rw (← c.self.view_is) at parted_is))
+    rw (c.as_slice.ensures.value, ← c.self.view_is) (cells_behind-laid_of (min s.slots.capacity s.cells.capacity) n c.args.parted c.self.invariant (rw (← c.self.view_is) at parted_is))

@@ -7,7 +7,7 @@ pub returns : goal.returns
 returns c =
     let s = c.self.inside in
     let h = c.self.invariant in
-    let room = min s.slots.room s.cells.room in
+    let room = min s.slots.capacity s.cells.capacity in
     let last = length-last room h in
     rw (c.truncate.ensures.items, c.truncate.ensures.room, ← c.self.view_is)
     (laid_of_taken room s.read h h.pieced_within (omega arith) ∙ same_laid refl (take_all (s.read - s.pieced) (take (s.read - s.pieced) (drop s.pieced s.cells.items)) (omega arith)) refl refl)

@@ -9,7 +9,7 @@ use Rattle.nr_fill.proofs.piece_row.PieceRow.close.Goals as goal
 pub push-requires : goal.push-requires
 push-requires c =
     let s = c.self.inside in
-    let same : min s.slots.room s.cells.room ≡ c.args.self.now.room = ap (λ (l : Laid). l.room) c.self.view_is in
+    let same : min s.slots.capacity s.cells.capacity ≡ c.args.self.now.capacity = ap (λ (l : Laid). l.capacity) c.self.view_is in
     let pieces : length s.slots.items ≡ length c.args.self.now.pieces = sym (length-pieces_of s.slots.items s.cells.items) ∙ ap (λ (l : Laid). length l.pieces) c.self.view_is in
     omega (arith, c.requires.room)
 
@@ -17,8 +17,8 @@ pub invariant_of-self : goal.invariant_of-self
 invariant_of-self c =
     let s = c.self.inside in
     let h = c.self.invariant in
-    let room = min s.slots.room s.cells.room in
-    let same : room ≡ c.args.self.now.room = ap (λ (l : Laid). l.room) c.self.view_is in
+    let room = min s.slots.capacity s.cells.capacity in
+    let same : room ≡ c.args.self.now.capacity = ap (λ (l : Laid). l.capacity) c.self.view_is in
     let pieces : length s.slots.items ≡ length c.args.self.now.pieces = sym (length-pieces_of s.slots.items s.cells.items) ∙ ap (λ (l : Laid). length l.pieces) c.self.view_is in
     let last : s.read - s.pieced ≡ length c.args.self.now.last = sym (length-last room h) ∙ ap (λ (l : Laid). length l.last) c.self.view_is in
     let slot : PieceSlot = record { join = c.args.join; len = c.args.n } in
@@ -39,6 +39,6 @@ pub returns : goal.returns
 returns c =
     let s = c.self.inside in
     let h = c.self.invariant in
-    let room = min s.slots.room s.cells.room in
+    let room = min s.slots.capacity s.cells.capacity in
     let last : s.read - s.pieced ≡ length c.args.self.now.last = sym (length-last room h) ∙ ap (λ (l : Laid). length l.last) c.self.view_is in
     rw (c.push.ensures.items, c.push.ensures.room, ← c.self.view_is) (laid_of_closed room c.args.join c.args.n h (omega (arith, c.requires.within)))

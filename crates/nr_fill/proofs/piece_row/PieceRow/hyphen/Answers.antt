@@ -10,21 +10,21 @@ use Rattle.nr_fill.proofs.piece_row.PieceRow.hyphen.Goals as goal
 pub offset_bounds-as_slice-n : goal.offset_bounds-as_slice-n
 offset_bounds-as_slice-n c =
     let s = c.self.inside in
-    let slots = slots_are c.args.self.now (min s.slots.room s.cells.room) c.self.invariant c.self.view_is in
+    let slots = slots_are c.args.self.now (min s.slots.capacity s.cells.capacity) c.self.invariant c.self.view_is in
     let h = c.self.invariant in
     omega (arith, c.requires.within, c.requires.all, h.slots_within, h.is_small)
 
 pub bounds-as_slice-n : goal.bounds-as_slice-n
 bounds-as_slice-n c =
     let s = c.self.inside in
-    let slots = slots_are c.args.self.now (min s.slots.room s.cells.room) c.self.invariant c.self.view_is in
+    let slots = slots_are c.args.self.now (min s.slots.capacity s.cells.capacity) c.self.invariant c.self.view_is in
     let same = ap length c.as_slice.ensures.value in
     omega (arith, c.requires.within, c.requires.all)
 
 pub returns-clause-value : goal.returns-clause-value
 returns-clause-value c =
     let s = c.self.inside in
-    let room = min s.slots.room s.cells.room in
+    let room = min s.slots.capacity s.cells.capacity in
     let n = c.args.n in
     let all = c.args.all in
     let slots = slots_are c.args.self.now room c.self.invariant c.self.view_is in

@@ -13,7 +13,7 @@ invariant_of-self c =
     let n = c.args.n in
     let at = s.pieced + c.args.place in
     let left = room_left c.args.self.now n h c.self.view_is c.requires.no_title c.requires.room in
-    let last = last_is c.args.self.now (min s.slots.room s.cells.room) h c.self.view_is in
+    let last = last_is c.args.self.now (min s.slots.capacity s.cells.capacity) h c.self.view_is in
     let within : at ≤ length s.cells.items = omega (arith, c.requires.within, h.pieced_within) in
     let long : length (take at s.cells.items ++ replicate n c.args.cell ++ drop at s.cells.items) ≡ length s.cells.items + n =
     omega (
@@ -30,7 +30,7 @@ pub returns : goal.returns
 returns c =
     let s = c.self.inside in
     let h = c.self.invariant in
-    let room = min s.slots.room s.cells.room in
+    let room = min s.slots.capacity s.cells.capacity in
     let left = room_left c.args.self.now c.args.n h c.self.view_is c.requires.no_title c.requires.room in
     let last = last_is c.args.self.now room h c.self.view_is in
     let within : s.pieced + c.args.place ≤ s.read = omega (arith, c.requires.within, h.pieced_within) in

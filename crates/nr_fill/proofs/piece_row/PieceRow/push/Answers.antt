@@ -18,4 +18,4 @@ returns c =
     let s = c.self.inside in
     let h = c.self.invariant in
     let left = room_left c.args.self.now 1 h c.self.view_is c.requires.no_title (omega (arith, c.requires.room)) in
-    rw (c.push.ensures.items, c.push.ensures.room, ← c.self.view_is) (laid_of_extended (min s.slots.room s.cells.room) (c.args.cell ∷ []) h left.0)
+    rw (c.push.ensures.items, c.push.ensures.room, ← c.self.view_is) (laid_of_extended (min s.slots.capacity s.cells.capacity) (c.args.cell ∷ []) h left.0)

@@ -24,7 +24,7 @@ returns c =
     let h = c.self.invariant in
     let n = c.args.n in
     let copies = replicate n c.args.cell in
-    let room = min s.slots.room s.cells.room in
+    let room = min s.slots.capacity s.cells.capacity in
     let left = room_left c.args.self.now n h c.self.view_is c.requires.no_title c.requires.room in
     let many : length copies ≡ n = length-replicate n c.args.cell in
     rw (c.push_copies.ensures.items, c.push_copies.ensures.room, ← c.self.view_is)

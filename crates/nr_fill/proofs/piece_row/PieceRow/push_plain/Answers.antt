@@ -30,7 +30,7 @@ returns-clause-cells c =
     let count = c.push_plain-count.result in
     let front = take count c.args.bytes.now in
     let run = map (run_cell c.args.under) front in
-    let room = min s.slots.room s.cells.room in
+    let room = min s.slots.capacity s.cells.capacity in
     let left = room_left c.args.self.now (length c.args.bytes.now) h c.self.view_is c.requires.no_title c.requires.room in
     let many : length run ≡ count = length-map front (run_cell c.args.under) ∙ length-take-le count c.args.bytes.now c.push_plain-count.ensures.front in
     rw (c.push_plain-count.ensures.items, c.push_plain-count.ensures.room, ← c.self.view_is)

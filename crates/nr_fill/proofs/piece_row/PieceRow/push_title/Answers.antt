@@ -24,4 +24,4 @@ invariant_of-self c =
 pub returns : goal.returns
 returns c =
     let s = c.self.inside in
-    rw (c.push.ensures.items, c.push.ensures.room, ← c.self.view_is) (laid_of_titled (min s.slots.room s.cells.room) c.args.cell c.self.invariant)
+    rw (c.push.ensures.items, c.push.ensures.room, ← c.self.view_is) (laid_of_titled (min s.slots.capacity s.cells.capacity) c.args.cell c.self.invariant)

@@ -4,4 +4,4 @@ use Rattle.nr_fill.proofs.Laying.{read_cells-laid_of}
 use Rattle.nr_fill.proofs.piece_row.PieceRow.read.Goals as goal
 
 pub returns : goal.returns
-returns c = sym (read_cells-laid_of (min c.self.inside.slots.room c.self.inside.cells.room) c.self.invariant) ∙ ap read_cells c.self.view_is
+returns c = sym (read_cells-laid_of (min c.self.inside.slots.capacity c.self.inside.cells.capacity) c.self.invariant) ∙ ap read_cells c.self.view_is

@@ -8,7 +8,7 @@ use Rattle.nr_fill.proofs.piece_row.PieceRow.set.Goals as goal
 pub slice_bounds-slots-end : goal.slice_bounds-slots-end
 slice_bounds-slots-end g c =
     let s = c.self.inside in
-    let pieces = slots_are c.args.self.now (min s.slots.room s.cells.room) c.self.invariant c.self.view_is in
+    let pieces = slots_are c.args.self.now (min s.slots.capacity s.cells.capacity) c.self.invariant c.self.view_is in
     let slots = ap length c.as_slice.ensures.value in
     sym (length-take-le c.args.n c.as_slice.result.now (omega (arith, c.requires.within)))
 
@@ -16,9 +16,9 @@ pub lay-requires : goal.lay-requires
 lay-requires g c =
     let s = c.self.inside in
     let n = c.args.n in
-    let is = front_is c.args.self.now (min s.slots.room s.cells.room) n c.self.invariant c.self.view_is in
+    let is = front_is c.args.self.now (min s.slots.capacity s.cells.capacity) n c.self.invariant c.self.view_is in
     rw (c.as_slice.ensures.value, c.as_slice-cells.ensures.value) record {
-      some = let pieces = slots_are c.args.self.now (min s.slots.room s.cells.room) c.self.invariant c.self.view_is in
+      some = let pieces = slots_are c.args.self.now (min s.slots.capacity s.cells.capacity) c.self.invariant c.self.view_is in
           omega (arith, length-take n s.slots.items, c.requires.within, c.requires.some);
       cells = (front_within n c.self.invariant).0;
       each = c.requires.each;
@@ -29,21 +29,21 @@ lay-requires g c =
 pub returns-in-Some-clause-set : goal.returns-in-Some-clause-set
 returns-in-Some-clause-set g c =
     let s = c.self.inside in
-    rw (← front_is c.args.self.now (min s.slots.room s.cells.room) c.args.n c.self.invariant c.self.view_is) (rw (c.as_slice.ensures.value, c.as_slice-cells.ensures.value) at c.in-Some.ensures.set)
+    rw (← front_is c.args.self.now (min s.slots.capacity s.cells.capacity) c.args.n c.self.invariant c.self.view_is) (rw (c.as_slice.ensures.value, c.as_slice-cells.ensures.value) at c.in-Some.ensures.set)
 
 pub returns-in-Some-clause-extent : goal.returns-in-Some-clause-extent
 returns-in-Some-clause-extent g c =
     let s = c.self.inside in
-    rw (← front_is c.args.self.now (min s.slots.room s.cells.room) c.args.n c.self.invariant c.self.view_is) (rw (c.as_slice.ensures.value, c.as_slice-cells.ensures.value) at c.in-Some.ensures.extent)
+    rw (← front_is c.args.self.now (min s.slots.capacity s.cells.capacity) c.args.n c.self.invariant c.self.view_is) (rw (c.as_slice.ensures.value, c.as_slice-cells.ensures.value) at c.in-Some.ensures.extent)
 
 pub returns-in-None-clause-set : goal.returns-in-None-clause-set
 returns-in-None-clause-set g c =
     let s = c.self.inside in
     let is = rw (c.as_slice.ensures.value, c.as_slice-cells.ensures.value) at c.set_pieces.ensures.set in
     let same = c.in-None.ensures.none refl in
-    rw (← front_is c.args.self.now (min s.slots.room s.cells.room) c.args.n c.self.invariant c.self.view_is, ← same) is
+    rw (← front_is c.args.self.now (min s.slots.capacity s.cells.capacity) c.args.n c.self.invariant c.self.view_is, ← same) is
 
 pub returns-in-None-clause-extent : goal.returns-in-None-clause-extent
 returns-in-None-clause-extent g c =
     let s = c.self.inside in
-    rw (← front_is c.args.self.now (min s.slots.room s.cells.room) c.args.n c.self.invariant c.self.view_is) (rw (c.as_slice.ensures.value, c.as_slice-cells.ensures.value) at c.set_pieces.ensures.extent)
+    rw (← front_is c.args.self.now (min s.slots.capacity s.cells.capacity) c.args.n c.self.invariant c.self.view_is) (rw (c.as_slice.ensures.value, c.as_slice-cells.ensures.value) at c.set_pieces.ensures.extent)

@@ -7,7 +7,7 @@ pub returns : goal.returns
 returns c =
     let s = c.self.inside in
     let h = c.self.invariant in
-    let room = min s.slots.room s.cells.room in
+    let room = min s.slots.capacity s.cells.capacity in
     let last : s.read - s.pieced ≡ length c.args.self.now.last = sym (length-last room h) ∙ ap (λ (l : Laid). length l.last) c.self.view_is in
     let part : (s.pieced + c.args.n) - s.pieced ≡ c.args.n = omega arith in
     let none : drop s.read s.cells.items ≡ [] = ap (λ (l : Laid). l.title) c.self.view_is ∙ c.requires.no_title in

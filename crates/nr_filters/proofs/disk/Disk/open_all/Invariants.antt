@@ -1,7 +1,7 @@
 -- The texts of the first names were opened.
 use Rattle.std.proofs.Common.{take}
 use Rattle.nr_filters.specs.Disk.{AreNamed}
-use Rattle.nr_filters.specs.Words.{texts}
+use Rattle.nr_filters.specs.Arguments.{texts}
 use Rattle.nr_filters.proofs.disk.Disk.open_all.Given as goal
 
 abbrev pub invariant-loop-name : goal.invariant-loop-name

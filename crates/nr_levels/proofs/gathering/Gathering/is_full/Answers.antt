@@ -6,4 +6,4 @@ use Rattle.nr_levels.proofs.gathering.Gathering.is_full.Goals as goal
 pub returns : goal.returns
 returns c =
     let s = c.self.inside in
-    full_is s.lens s.bytes.items s.count s.start s.bytes.room c.self.invariant ∙ ap (λ (v : Gathering). eqb (length v.gathered.kept) 9) c.self.view_is
+    full_is s.lens s.bytes.items s.count s.start s.bytes.capacity c.self.invariant ∙ ap (λ (v : Gathering). eqb (length v.gathered.kept) 9) c.self.view_is

@@ -26,9 +26,9 @@ returns-then-frame-clause-rest g c =
     let s = c.self.inside in
     let f = c.at-frame.result.now in
     let marked : Frame = record { reads = reads.Mark; old = f.old; charge = 0; height = f.height; has_mode = true } in
-    ap (λ (fs : Items Frame). levels_of fs.items s.modes.items c.truncate.new.self.items c.truncate-2.new.self.items f.old c.truncate.new.self.room fs.room) c.set_top.ensures
-    ∙ ap₂ (λ bs n. levels_of (marked ∷ drop 1 s.frames.items) s.modes.items bs c.truncate-2.new.self.items f.old n s.frames.room) c.truncate.ensures.items c.truncate.ensures.room
-    ∙ ap (λ ps. levels_of (marked ∷ drop 1 s.frames.items) s.modes.items (take f.height s.bytes.items) ps f.old s.bytes.room s.frames.room) c.truncate-2.ensures.items
+    ap (λ (fs : Items Frame). levels_of fs.items s.modes.items c.truncate.new.self.items c.truncate-2.new.self.items f.old c.truncate.new.self.capacity fs.capacity) c.set_top.ensures
+    ∙ ap₂ (λ bs n. levels_of (marked ∷ drop 1 s.frames.items) s.modes.items bs c.truncate-2.new.self.items f.old n s.frames.capacity) c.truncate.ensures.items c.truncate.ensures.room
+    ∙ ap (λ ps. levels_of (marked ∷ drop 1 s.frames.items) s.modes.items (take f.height s.bytes.items) ps f.old s.bytes.capacity s.frames.capacity) c.truncate-2.ensures.items
     ∙ closed_marked _ _ _ _ _ _ _ _ c.at-frame.ensures c.self.invariant.0 _ _ c.self.view_is c.if-frame.true c.requires (mode_there _ _ _ _ _ c.at-frame.ensures c.self.invariant.1 c.if-frame.true)
 
 pub invariant_of-self-2 : goal.invariant_of-self-2

@@ -10,9 +10,9 @@ invariant_of-self g c =
     let below = end_at _ (part s.places.items s.in_force) c.args.n c.self.invariant.0.now.below in
     let paid = c.requires.paid in
     rw (c.push.ensures, c.len-height.ensures.value, c.span_of-span.ensures) (
-      pushed_stands s.frames.items s.bytes.items s.bytes.items s.places.items s.places.items s.in_force s.in_force s.bytes.room s.frames.room s.places.room (reads.Own _) c.args.charge false c.self.invariant.0 refl refl (omega arith)
+      pushed_stands s.frames.items s.bytes.items s.bytes.items s.places.items s.places.items s.in_force s.in_force s.bytes.capacity s.frames.capacity s.places.capacity (reads.Own _) c.args.charge false c.self.invariant.0 refl refl (omega arith)
           (omega arith) (omega arith) below tt c.self.invariant.0.top c.self.invariant.0.now (omega arith) (omega arith),
-      modes_more (reads.Own _) false s.in_force c.args.charge _ s.frames.items s.modes.items s.modes.items s.modes.room s.frames.room tt (omega arith) c.self.invariant.1,
+      modes_more (reads.Own _) false s.in_force c.args.charge _ s.frames.items s.modes.items s.modes.items s.modes.capacity s.frames.capacity tt (omega arith) c.self.invariant.1,
     )
 
 pub push-requires : goal.push-requires

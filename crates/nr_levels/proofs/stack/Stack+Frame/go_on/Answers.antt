@@ -16,6 +16,6 @@ returns c =
     let some : length (reverse xs) ≡ length c.args.self.now.items = ap (λ (w : Items _). length w.items) c.self.view_is in
     let frame = some_frame n _ c.requires in
     let is : last + 1 ≡ length xs = omega (arith, c.len-last.ensures, length-reverse xs) in
-    ap (λ (ys : List _). record { items = ys; room = s.room })
+    ap (λ (ys : List _). record { items = ys; capacity = s.capacity })
     (new_top xs last _ is ∙ ap (λ (r : Reads). record f { reads = r } ∷ drop 1 (reverse xs)) c.go_on.ensures ∙ ap (newest_gone_on n) (sym (top_is xs last f is c.index_mut.ensures.value)))
-    ∙ ap (λ (w : Items _). record { items = newest_gone_on n w.items; room = w.room }) c.self.view_is
+    ∙ ap (λ (w : Items _). record { items = newest_gone_on n w.items; capacity = w.capacity }) c.self.view_is

@@ -9,5 +9,5 @@ returns g c =
     let s = c.self.inside in
     let some : length (reverse s.items.items) ≡ length c.args.self.now.items = ap (λ (w : Items _). length w.items) c.self.view_is in
     let less = one_less s.items.items (c.len.result - 1) (omega (arith, c.requires, c.len.ensures, length-reverse s.items.items)) in
-    ap (λ (ys : List _). record { items = reverse ys; room = s.room }) c.truncate.ensures.items
-    ∙ ap (λ (ys : List _). record { items = ys; room = s.room }) less ∙ ap (λ (w : Items _). record { items = drop 1 w.items; room = w.room }) c.self.view_is
+    ap (λ (ys : List _). record { items = reverse ys; capacity = s.capacity }) c.truncate.ensures.items
+    ∙ ap (λ (ys : List _). record { items = ys; capacity = s.capacity }) less ∙ ap (λ (w : Items _). record { items = drop 1 w.items; capacity = w.capacity }) c.self.view_is

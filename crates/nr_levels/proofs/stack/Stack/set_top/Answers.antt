@@ -9,4 +9,4 @@ returns g c =
     let s = c.self.inside in
     let some : length (reverse s.items.items) ≡ length c.args.self.now.items = ap (λ (w : Items _). length w.items) c.self.view_is in
     let top = new_top s.items.items (c.len-last.result - 1) c.args.item (omega (arith, c.requires, c.len-last.ensures, length-reverse s.items.items)) in
-    ap (λ (ys : List _). record { items = ys; room = s.room }) top ∙ ap (λ (w : Items _). record { items = c.args.item ∷ drop 1 w.items; room = w.room }) c.self.view_is
+    ap (λ (ys : List _). record { items = ys; capacity = s.capacity }) top ∙ ap (λ (w : Items _). record { items = c.args.item ∷ drop 1 w.items; capacity = w.capacity }) c.self.view_is

@@ -8,7 +8,7 @@ invariant-loop-count l = record {
   within : l.count ≤ length l.bytes;
   few : length l.out.items ≤ length l.fn.out.items + 1536 * l.count;
   quick : l.steps ≤ 24 * l.count;
-  room : l.out.room ≡ l.fn.out.room;
+  room : l.out.capacity ≡ l.fn.out.capacity;
 }
 
 abbrev pub decreases-loop-count : goal.decreases-loop-count

@@ -34,13 +34,13 @@ invariant_of-result-2 g c =
     let capacity = c.in_ok-new.ensures.capacity in
     let before = c.in_ok-names.ensures.made in
     let named = ap (λ (t : Table _). t.entries) c.name_requests.ensures ∙ ap (λ (t : Table _). with_senses REQUESTS t.entries) before in
-    let room = ap (λ (t : Table _). t.room) c.name_requests.ensures ∙ ap (λ (t : Table _). t.room) before in
-    let drafts_room = ap (λ (v : Items _). v.room) c.in_ok-new-2.ensures.made in
-    let levels_room = ap (λ (v : Levels _). v.room) c.in_ok-new-3.ensures.made in
-    let gathering_room = ap (λ (v : Gathering). v.room) c.in_ok-new-4.ensures.made in
-    let registers_room = ap (λ (v : Table _). v.room) c.in_ok-new-5.ensures.made in
-    let traps_room = ap (λ (v : Items _). v.room) c.in_ok-new-6.ensures.made in
-    let words_room = ap (λ (v : Items _). v.room) c.in_ok-new-7.ensures.made in
+    let room = ap (λ (t : Table _). t.capacity) c.name_requests.ensures ∙ ap (λ (t : Table _). t.capacity) before in
+    let drafts_room = ap (λ (v : Items _). v.capacity) c.in_ok-new-2.ensures.made in
+    let levels_room = ap (λ (v : Levels _). v.capacity) c.in_ok-new-3.ensures.made in
+    let gathering_room = ap (λ (v : Gathering). v.capacity) c.in_ok-new-4.ensures.made in
+    let registers_room = ap (λ (v : Table _). v.capacity) c.in_ok-new-5.ensures.made in
+    let traps_room = ap (λ (v : Items _). v.capacity) c.in_ok-new-6.ensures.made in
+    let words_room = ap (λ (v : Items _). v.capacity) c.in_ok-new-7.ensures.made in
     let texts : length c.in_ok-new.field-0.texts ≡ n = ap length empty ∙ length-replicate n (no_text {T = Element}) in
     let no_words = ap (λ (v : Items _). charge_beside none_gathered [] [] (map word_in v.items)) c.in_ok-new-7.ensures.made in
     let no_gathered = ap (λ (v : Gathering). charge_beside v.gathered [] [] []) c.in_ok-new-4.ensures.made in
@@ -56,7 +56,7 @@ returns-clause-made g c =
     let before = c.in_ok-names.ensures.made in
     let named = ap (λ (t : Table _). t.entries) c.names.view_is ∙ ap (λ (t : Table _). t.entries) c.name_requests.ensures ∙ ap (λ (t : Table _). with_senses REQUESTS t.entries) before in
     begun c.in_ok-new.field-0 _ c.in_ok-new-2.field-0 c.in_ok-new-3.field-0 c.in_ok-new-4.field-0 c.in_ok-new-5.field-0 c.in_ok-new-6.field-0 c.in_ok-new-7.field-0 c.args.limit _ c.args.deepest named
-    (ap (λ (v : Items _). v.items) c.in_ok-new-2.ensures.made) (c.in_ok-new-3.ensures.made ∙ ap (λ (x : Room). record { levels = []; arguments = []; room = x.bytes; most = x.frames }) c.of-room.ensures)
+    (ap (λ (v : Items _). v.items) c.in_ok-new-2.ensures.made) (c.in_ok-new-3.ensures.made ∙ ap (λ (x : Room). record { levels = []; arguments = []; capacity = x.bytes; most = x.frames }) c.of-room.ensures)
     (ap (λ (v : Gathering). v.gathered) c.in_ok-new-4.ensures.made) (ap (λ (v : Table _). v.entries) c.in_ok-new-5.ensures.made) (ap (λ (v : Items _). v.items) c.in_ok-new-6.ensures.made) (ap (λ (v : Items _). v.items) c.in_ok-new-7.ensures.made)
 
 pub returns-clause-taken : goal.returns-clause-taken

@@ -23,11 +23,11 @@ returns-then-at-eq0-clause-is g c =
     let place = rw c.as_slice.ensures.value at c.place_of-at.ensures in
     let none = found_none row c.args.name c.place_of-at.result place c.if-at-eq0.true in
     let new : Entry _ = record { name = c.args.name; value = c.args.value; earlier = place_in c.self.inside.latest.value c.kind_of-kind.result } in
-    let room = c.self.inside.entries.room in
+    let room = c.self.inside.entries.capacity in
     rw (c.push.ensures.items, c.push.ensures.room, c.deref-then-at-eq0.ensures)
-    (ap (λ (ns : List (Named _)). record { entries = in_order ns; room = room }) (map-append named row (new ∷ []))
-    ∙ ap (λ (ns : List (Named _)). record { entries = ns; room = room }) (in_order_more c.args.name c.args.value (map named row) none)
-    ∙ ap (λ (t : Table _). record { entries = put c.args.name c.args.value t.entries; room = t.room }) c.self.view_is)
+    (ap (λ (ns : List (Named _)). record { entries = in_order ns; capacity = room }) (map-append named row (new ∷ []))
+    ∙ ap (λ (ns : List (Named _)). record { entries = ns; capacity = room }) (in_order_more c.args.name c.args.value (map named row) none)
+    ∙ ap (λ (t : Table _). record { entries = put c.args.name c.args.value t.entries; capacity = t.capacity }) c.self.view_is)
 
 pub push-requires : goal.push-requires
 push-requires g c =
@@ -38,7 +38,7 @@ push-requires g c =
     let long : length (in_order (map named row)) ≡ length c.args.self.now.entries = ap (λ (t : Table _). length t.entries) c.self.view_is in
     let count = length-in_order (map named row) c.self.invariant.apart in
     let mapped = length-map row named in
-    let same_room : c.self.inside.entries.room ≡ c.args.self.now.room = ap (λ (t : Table _). t.room) c.self.view_is in
+    let same_room : c.self.inside.entries.capacity ≡ c.args.self.now.capacity = ap (λ (t : Table _). t.capacity) c.self.view_is in
     omega arith
 
 pub invariant_of-self : goal.invariant_of-self
@@ -85,11 +85,11 @@ returns-clause-is g c =
     let long = length-names row in
     let mapped = length-map row named in
     let new : Entry _ = record { name = c.args.name; value = c.args.value; earlier = c.get-was.result.earlier } in
-    let room = c.self.inside.entries.room in
+    let room = c.self.inside.entries.capacity in
     rw (c.set.ensures.items, c.set.ensures.room)
-    (ap (λ (ns : List (Named _)). record { entries = in_order ns; room = room }) (map-set named row (at - 1) new)
-    ∙ ap (λ (ns : List (Named _)). record { entries = ns; room = room }) (in_order_set c.args.name c.args.value (map named row) (at - 1) c.self.invariant.apart (omega arith) (place.is (omega arith)))
-    ∙ ap (λ (t : Table _). record { entries = put c.args.name c.args.value t.entries; room = t.room }) c.self.view_is)
+    (ap (λ (ns : List (Named _)). record { entries = in_order ns; capacity = room }) (map-set named row (at - 1) new)
+    ∙ ap (λ (ns : List (Named _)). record { entries = ns; capacity = room }) (in_order_set c.args.name c.args.value (map named row) (at - 1) c.self.invariant.apart (omega arith) (place.is (omega arith)))
+    ∙ ap (λ (t : Table _). record { entries = put c.args.name c.args.value t.entries; capacity = t.capacity }) c.self.view_is)
 
 pub invariant_of-self-2 : goal.invariant_of-self-2
 invariant_of-self-2 g c =

@@ -20,8 +20,8 @@ returns-then-at-eq0-clause-is g c =
     let row = c.self.inside.entries.items in
     let place = rw c.as_slice.ensures.value at c.place_of-at.ensures in
     let none = found_none row c.args.name c.place_of-at.result place c.if-at-eq0.true in
-    sym c.self.view_is ∙ ap (λ (ns : List (Named _)). record { entries = ns; room = c.self.inside.entries.room }) (in_order_kept c.args.name (map named row) none)
-    ∙ ap (λ (t : Table _). record { entries = without c.args.name t.entries; room = t.room }) c.self.view_is
+    sym c.self.view_is ∙ ap (λ (ns : List (Named _)). record { entries = ns; capacity = c.self.inside.entries.capacity }) (in_order_kept c.args.name (map named row) none)
+    ∙ ap (λ (t : Table _). record { entries = without c.args.name t.entries; capacity = t.capacity }) c.self.view_is
 
 pub returns-then-at-eq0-clause-gone : goal.returns-then-at-eq0-clause-gone
 returns-then-at-eq0-clause-gone g c = sym (returns-then-at-eq0-clause-was g c)
@@ -97,10 +97,10 @@ returns-then-at-last-clause-is g c =
     let there = get_or_from_slice_get row last moved moved c.get-moved.ensures in
     let end : at - 1 ≡ last = omega arith in
     let same : moved.name ≡ c.args.name = sym (name_is row last moved (omega arith) (sym there)) ∙ ap (name_in (names (map named row))) (sym end) ∙ place.is (omega arith) in
-    let room = c.self.inside.entries.room in
+    let room = c.self.inside.entries.capacity in
     rw (c.truncate.ensures.items, c.truncate.ensures.room)
-    (ap (λ (ns : List (Named _)). record { entries = ns; room = room }) (removed_last row moved last (omega arith) there c.self.invariant.apart c.args.name same)
-    ∙ ap (λ (t : Table _). record { entries = without c.args.name t.entries; room = t.room }) c.self.view_is)
+    (ap (λ (ns : List (Named _)). record { entries = ns; capacity = room }) (removed_last row moved last (omega arith) there c.self.invariant.apart c.args.name same)
+    ∙ ap (λ (t : Table _). record { entries = without c.args.name t.entries; capacity = t.capacity }) c.self.view_is)
 
 pub returns-then-at-last-clause-gone : goal.returns-then-at-last-clause-gone
 returns-then-at-last-clause-gone g c =
@@ -139,10 +139,10 @@ returns-clause-is g c =
     let e = c.get-was.result in
     let here = get_or_from_slice_get row (at - 1) e e c.get-was.ensures in
     let same : e.name ≡ c.args.name = sym (name_is row (at - 1) e (omega arith) (sym here)) ∙ place.is (omega arith) in
-    let room = c.self.inside.entries.room in
+    let room = c.self.inside.entries.capacity in
     rw (c.replace.ensures.named, c.replace.ensures.room, c.truncate.ensures.items, c.truncate.ensures.room)
-    (ap (λ (ns : List (Named _)). record { entries = ns; room = room }) (removed_other row moved last (omega arith) there c.self.invariant.apart c.args.name (at - 1) e (omega arith) here same)
-    ∙ ap (λ (t : Table _). record { entries = without c.args.name t.entries; room = t.room }) c.self.view_is)
+    (ap (λ (ns : List (Named _)). record { entries = ns; capacity = room }) (removed_other row moved last (omega arith) there c.self.invariant.apart c.args.name (at - 1) e (omega arith) here same)
+    ∙ ap (λ (t : Table _). record { entries = without c.args.name t.entries; capacity = t.capacity }) c.self.view_is)
 
 pub returns-clause-gone : goal.returns-clause-gone
 returns-clause-gone g c =

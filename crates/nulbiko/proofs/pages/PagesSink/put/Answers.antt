@@ -5,5 +5,5 @@ use Rattle.nulbiko.proofs.pages.PagesSink.put.Goals as goal
 -- the front is what fits
 pub returns-clause-err : goal.returns-clause-err
 returns-clause-err c =
-    let room = c.room.result - c.len.result in
+    let room = c.capacity.result - c.len.result in
     (take room c.args.bytes.now, drop room c.args.bytes.now, sym (take-append-drop room c.args.bytes.now), c.extend-2.ensures.items)
