@@ -15,7 +15,7 @@ use Rattle.nr_layout.specs.declared.table.Table.{Table}
 use Rattle.nr_layout.specs.Held.{is_boxed, is_double, item, no_row, row}
 use Rattle.nr_layout.specs.Lists.{added, in_turn}
 use Rattle.nr_layout.specs.Ordering.{RowsGoOut, own_row, own_rows, row_of, rows_of}
-use Rattle.nr_layout.specs.Steps.{Walking, asked, closed_box, closed_rule, ends_with_rule, has_beyond, on_step, released, row_asked, row_on_step, row_stepped, ruled, space_in, step_at, stepped, walk_begun, walk_ended, walked_at, walked_item, walked_own_row, walking_on, without_steps}
+use Rattle.nr_layout.specs.Steps.{Walking, asked, closed_box, closed_rule, closes_rule, has_beyond, on_step, released, row_asked, row_on_step, row_stepped, ruled, space_in, step_at, stepped, walk_begun, walk_ended, walked_at, walked_item, walked_own_row, walking_on, without_steps}
 use Rattle.nr_layout.proofs.Turns.{set_same}
 
 -- ---- rows of lists one after the other
@@ -176,7 +176,7 @@ ended_met t ends lines rows w h m =
     let rule : Walking = closed_rule ends w in
     let box : Walking = closed_box ends rule in
     let m1 : Met t (suc lines) rows rule.table =
-    if_met t (suc lines) rows (ends_with_rule w.table && (is_boxed w.table || not ends)) (released w.walk.last w) w
+    if_met t (suc lines) rows (closes_rule ends w.table) (released w.walk.last w) w
     (released_met t lines rows w.walk.last w (omega (arith, h)) m) (more_lines (suc lines) (omega arith) m) in
     let m2 : Met t (suc (suc lines)) rows box.table =
     if_met t (suc (suc lines)) rows (ends && (rule.walk.ruled || is_boxed rule.table)) (stepped (steps.Rule rule.walk.last None) 1 rule) rule

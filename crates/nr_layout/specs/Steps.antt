@@ -143,9 +143,12 @@ walk_begun t =
 abbrev pub ends_with_rule : Table → Bool
 ends_with_rule t = nat_lt 0 (length t.items.items) && is_rule_item (item t (length t.items.items - 1))
 
+-- a last rule is one beside the box's own; in allbox it is the one below the last row, and of a part that the table goes on after another one
+abbrev pub closes_rule : Bool → Table → Bool
+closes_rule ends t = ends_with_rule t && (not ends || (is_boxed t && not (is_all t.looks.frame)))
+
 abbrev pub closed_rule : Bool → Walking → Walking
-closed_rule ends w =
-    if ends_with_rule w.table && (is_boxed w.table || not ends) then released w.walk.last w else w
+closed_rule ends w = if closes_rule ends w.table then released w.walk.last w else w
 
 abbrev pub closed_box : Bool → Walking → Walking
 closed_box ends w =

@@ -222,13 +222,20 @@ impl Table {
         items > 0 && matches!(self.item(items - 1), Item::Rule)
     }
 
-    /// The last item's rule goes out in a box, or where the table goes on.
+    /// Whether the last item is a rule that stands beside the one below the last row, or where the table goes on.
+    fn closes_rule(&self, ends: bool) -> bool
+        ensures { result ≡ specs.closes_rule ends self.now }
+    {
+        self.ends_with_rule() && (!ends || (self.is_boxed() && !self.is_all_boxed()))
+    }
+
+    /// The last item's rule goes out beside that of a box, or where the table goes on.
     fn close_rule(&mut self, ends: bool, walk: Walk) -> Walk
         ensures value { self.new ≡ (specs.closed_rule ends (specs.walking self.old walk)).table }
         ensures walk { result ≡ (specs.closed_rule ends (specs.walking self.old walk)).walk }
         ensures room { held.emptied self.new ≡ held.emptied self.old }
     {
-        if self.ends_with_rule() && (self.is_boxed() || !ends) {
+        if self.closes_rule(ends) {
             return self.release_rule(walk.last, walk);
         }
         walk
