@@ -68,7 +68,8 @@ impl Model for Desk {
 /// A working space, lent by a desk for one run. `format` empties it.
 #[derive(Drop)]
 pub struct Work<'a> {
-    pub(crate) desk: &'a mut Desk,
+    /// The desk that lends it.
+    pub desk: &'a mut Desk,
 }
 
 impl Desk {

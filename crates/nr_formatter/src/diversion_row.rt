@@ -1,4 +1,4 @@
-// The row that goes into a diversion, a line of few cells at once. (CSTR 54, section 7.4.)
+//! The row that goes into a diversion, a line of few cells at once. (CSTR 54, section 7.4.)
 ghost use Rattle.std.specs.Prelude.{◌≡◌, ◌<◌, length, ◌^◌, ◌++◌, List, replicate, OnOk, true, refl};
 ghost use Rattle.std.proofs.Common.{◌∙◌};
 ghost use Rattle.std.specs.List.{list_any};
