@@ -1,5 +1,5 @@
-// Rows with faults: an input that fails after each of its bytes, an output that takes so many bytes of the pages and no
-// more, and each prefix of the input as an input of its own.
+// Examples with faults: an input that fails after each of its bytes, an output that takes so many bytes of the pages and
+// no more, and each prefix of the input as an input of its own.
 
 use super::formatted;
 use nr_engine::{Buffered, Desk, Outcome, Source, ToWriter};
@@ -7,12 +7,12 @@ use nr_units::fakes::{Script, Slate};
 use std::fs;
 use std::rt::Files;
 
-/// More than a row, or a prefix of its input, prints.
+/// More than an example, or a prefix of its input, prints.
 const MOST_BYTES: usize = 512;
 
-/// A row.
+/// An example.
 #[derive(Clone, Copy)]
-struct Row<'a> {
+struct Example<'a> {
     input: &'a [u8],
     pages: &'a [u8],
     /// Where pages end, as in `387 85, 508 158`: how many bytes of the input are read then, and how many are printed; but
@@ -20,8 +20,8 @@ struct Row<'a> {
     ends: &'a str,
 }
 
-/// Whether a row meets each fault as it must: its line is a name and, after a colon, where its pages end. Prints its name
-/// where it does not.
+/// Whether an example meets each fault as it must: its line is a name and, after a colon, where its pages end. Prints its
+/// name where it does not.
 pub(crate) fn passes<R: Files + AllocGlobal + Print>(
     rt: &R,
     desk: &mut Desk,
@@ -32,33 +32,41 @@ pub(crate) fn passes<R: Files + AllocGlobal + Print>(
         .ok_or(anyhow::anyhow!("no end: {line}"))?;
     let input = fs::read(rt, format!(in rt.alloc(); "{name}.roff")?)?;
     let pages = fs::read(rt, format!(in rt.alloc(); "{name}.out")?)?;
-    let row = Row {
+    let example = Example {
         input: &input,
         pages: &pages,
         ends,
     };
-    let good = meets_faults(desk, row)?;
+    let good = meets_faults(desk, example)?;
     if !good {
         println!(rt; "other pages or another end at a fault: {name}")?;
     }
     Ok(good)
 }
 
-/// Whether a row meets each fault as it must, and gives its pages after all of them.
-fn meets_faults(desk: &mut Desk, row: Row<'_>) -> anyhow::Result<bool> {
-    let met = input_fails(desk, row)? && output_fails(desk, row) && writer_fills(desk, row);
-    let mut input = Script::new(row.input);
+/// Whether an example meets each fault as it must, and gives its pages after all of them.
+fn meets_faults(desk: &mut Desk, example: Example<'_>) -> anyhow::Result<bool> {
+    let met = input_fails(desk, example)?
+        && output_fails(desk, example)
+        && writer_fills(desk, example);
+    let mut input = Script::new(example.input);
     Ok(
-        met && prefixes_agree(desk, row.input)
-            && gives(desk, &mut input, row.pages.len(), Outcome::Done, row.pages),
+        met && prefixes_agree(desk, example.input)
+            && gives(
+                desk,
+                &mut input,
+                example.pages.len(),
+                Outcome::Done,
+                example.pages,
+            ),
     )
 }
 
 /// Whether the pages that had ended are out where the input fails after any number of bytes, and that is reported.
-fn input_fails(desk: &mut Desk, row: Row<'_>) -> anyhow::Result<bool> {
-    for given in 0..=row.input.len() {
-        let printed = prefix(row.pages, printed_after(row.ends, given)?);
-        let mut input = Script::failing_after(row.input, given);
+fn input_fails(desk: &mut Desk, example: Example<'_>) -> anyhow::Result<bool> {
+    for given in 0..=example.input.len() {
+        let printed = prefix(example.pages, printed_after(example.ends, given)?);
+        let mut input = Script::failing_after(example.input, given);
         let outcome = Outcome::ReadFault { at: given as u64 };
         if !gives(desk, &mut input, MOST_BYTES, outcome, printed) {
             return Ok(false);
@@ -82,10 +90,10 @@ fn printed_after(ends: &str, given: usize) -> anyhow::Result<usize> {
 }
 
 /// Whether just so many bytes of the pages are out where the output takes no more, and that is reported.
-fn output_fails(desk: &mut Desk, row: Row<'_>) -> bool {
-    for taken in 0..row.pages.len() {
-        let mut input = Script::new(row.input);
-        let printed = prefix(row.pages, taken);
+fn output_fails(desk: &mut Desk, example: Example<'_>) -> bool {
+    for taken in 0..example.pages.len() {
+        let mut input = Script::new(example.input);
+        let printed = prefix(example.pages, taken);
         if !gives(desk, &mut input, taken, Outcome::WriteFault, printed) {
             return false;
         }
@@ -94,14 +102,14 @@ fn output_fails(desk: &mut Desk, row: Row<'_>) -> bool {
 }
 
 /// The same of a writer of std that is full: it takes no byte of the next write, and answers no error.
-fn writer_fills(desk: &mut Desk, row: Row<'_>) -> bool {
-    for taken in 0..row.pages.len() {
+fn writer_fills(desk: &mut Desk, example: Example<'_>) -> bool {
+    for taken in 0..example.pages.len() {
         let mut bytes = [0u8; MOST_BYTES];
         let taken = taken.min(MOST_BYTES);
         let mut output = ToWriter::over(&mut bytes[..taken]);
-        let mut input = Script::new(row.input);
+        let mut input = Script::new(example.input);
         let outcome = formatted(desk, &mut input, &mut output);
-        if outcome != Outcome::WriteFault || &bytes[..taken] != prefix(row.pages, taken) {
+        if outcome != Outcome::WriteFault || &bytes[..taken] != prefix(example.pages, taken) {
             return false;
         }
     }

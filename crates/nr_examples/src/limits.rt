@@ -1,4 +1,4 @@
-// The limits that a line of the list of rows with limits sets, as in `stored=64 depth=2`.
+// The limits that a line of the list of examples with limits sets, as in `stored=64 depth=2`.
 
 use nr_engine::{Limit, Limits};
 

@@ -1,7 +1,7 @@
 //! Examples: inputs of the formatter with the pages that they must give, as files in data/, NAME.roff and NAME.out.
-//! data/rows lists those that end under the limits by default, data/rows_with_limits the others, with their limits and
-//! their ends; data/rows_of_tables lists inputs that go through tbl first, with their limits and what that reports;
-//! data/rows_with_faults lists inputs that are run with a fault at every byte. The program runs them.
+//! data/examples lists those that end under the limits by default, data/examples_with_limits the others, with their limits and
+//! their ends; data/examples_of_tables lists inputs that go through tbl first, with their limits and what that reports;
+//! data/examples_with_faults lists inputs that are run with a fault at every byte. The program runs them.
 //!
 //! It stands on nr_units, nr_characters, nr_engine and nr_tables. To read: this file, `limits`, `tables`, `faults`.
 #![tactic(auto)]
@@ -19,31 +19,34 @@ mod tables;
 use limits::limits_of;
 use tables::Turner;
 
-/// The bytes of the buffer of a row's input.
+/// The bytes of the buffer of an example's input.
 const BUFFER_SIZE: usize = 4096;
 
-/// Runs all rows, and prints how many of each list passed.
+/// Runs all examples, and prints how many of each list passed.
 fn main(rt: HostRuntime) -> anyhow::Result<()> {
-    let plain = plain_rows(&rt)?;
-    println!(rt; "{plain} rows")?;
-    let limited = rows_with_limits(&rt)?;
-    println!(rt; "{limited} rows with limits")?;
-    let turned = rows_of_tables(&rt)?;
-    println!(rt; "{turned} rows of tables")?;
-    let faulty = rows_with_faults(&rt)?;
-    println!(rt; "{faulty} rows with faults")?;
+    let plain = plain_examples(&rt)?;
+    println!(rt; "{plain} examples")?;
+    let limited = examples_with_limits(&rt)?;
+    println!(rt; "{limited} examples with limits")?;
+    let turned = examples_of_tables(&rt)?;
+    println!(rt; "{turned} examples of tables")?;
+    let faulty = examples_with_faults(&rt)?;
+    println!(rt; "{faulty} examples with faults")?;
     Ok(())
 }
 
-/// How many of the rows under the limits by default pass. One desk serves them all.
-fn plain_rows<R: Files + AllocGlobal + Print>(rt: &R) -> anyhow::Result<u64> {
+/// How many of the examples under the limits by default pass. One desk serves them all.
+fn plain_examples<R: Files + AllocGlobal + Print>(rt: &R) -> anyhow::Result<u64> {
     let mut desk = Desk::new(&mut CountedAlloc::new(rt.alloc()), Limits::default())?;
-    plain_rows_at(rt, &mut desk)
+    plain_examples_at(rt, &mut desk)
 }
 
 /// The same at this desk.
-fn plain_rows_at<R: Files + AllocGlobal + Print>(rt: &R, desk: &mut Desk) -> anyhow::Result<u64> {
-    let list = fs::read_to_string(rt, "rows")?;
+fn plain_examples_at<R: Files + AllocGlobal + Print>(
+    rt: &R,
+    desk: &mut Desk,
+) -> anyhow::Result<u64> {
+    let list = fs::read_to_string(rt, "examples")?;
     let mut passed = 0u64;
     for name in list.lines() {
         if passes(rt, desk, name, "Done")? {
@@ -53,15 +56,15 @@ fn plain_rows_at<R: Files + AllocGlobal + Print>(rt: &R, desk: &mut Desk) -> any
     Ok(passed)
 }
 
-/// How many of the rows with limits of their own pass. Each has a desk of its own.
-fn rows_with_limits<R: Files + AllocGlobal + Print>(rt: &R) -> anyhow::Result<u64> {
-    let list = fs::read_to_string(rt, "rows_with_limits")?;
+/// How many of the examples with limits of their own pass. Each has a desk of its own.
+fn examples_with_limits<R: Files + AllocGlobal + Print>(rt: &R) -> anyhow::Result<u64> {
+    let list = fs::read_to_string(rt, "examples_with_limits")?;
     let mut passed = 0u64;
     for line in list.lines() {
-        let (row, end) = line
+        let (run, end) = line
             .split_once(": ")
             .ok_or(anyhow::anyhow!("no end: {line}"))?;
-        let (name, words) = row.split_once(' ').unwrap_or((row, ""));
+        let (name, words) = run.split_once(' ').unwrap_or((run, ""));
         if passes_under(rt, limits_of(words)?, name, end)? {
             passed = passed.saturating_add(1);
         }
@@ -69,7 +72,7 @@ fn rows_with_limits<R: Files + AllocGlobal + Print>(rt: &R) -> anyhow::Result<u6
     Ok(passed)
 }
 
-/// Whether a row under these limits gives its pages and ends so.
+/// Whether an example under these limits gives its pages and ends so.
 fn passes_under<R: Files + AllocGlobal + Print>(
     rt: &R,
     limits: Limits,
@@ -80,20 +83,20 @@ fn passes_under<R: Files + AllocGlobal + Print>(
     passes(rt, &mut desk, name, end)
 }
 
-/// How many of the rows of tables pass.
-fn rows_of_tables<R: Files + AllocGlobal + Print>(rt: &R) -> anyhow::Result<u64> {
+/// How many of the examples of tables pass.
+fn examples_of_tables<R: Files + AllocGlobal + Print>(rt: &R) -> anyhow::Result<u64> {
     let mut turner = Turner::new(rt.alloc())?;
     let mut desk = Desk::new(&mut CountedAlloc::new(rt.alloc()), Limits::default())?;
-    rows_of_tables_at(rt, &mut desk, &mut turner)
+    examples_of_tables_at(rt, &mut desk, &mut turner)
 }
 
 /// The same at this desk.
-fn rows_of_tables_at<R: Files + AllocGlobal + Print>(
+fn examples_of_tables_at<R: Files + AllocGlobal + Print>(
     rt: &R,
     desk: &mut Desk,
     turner: &mut Turner,
 ) -> anyhow::Result<u64> {
-    let list = fs::read_to_string(rt, "rows_of_tables")?;
+    let list = fs::read_to_string(rt, "examples_of_tables")?;
     let mut passed = 0u64;
     for line in list.lines() {
         if tables::passes(rt, desk, turner, line)? {
@@ -103,18 +106,18 @@ fn rows_of_tables_at<R: Files + AllocGlobal + Print>(
     Ok(passed)
 }
 
-/// How many of the rows with faults pass. One desk serves all of their runs.
-fn rows_with_faults<R: Files + AllocGlobal + Print>(rt: &R) -> anyhow::Result<u64> {
+/// How many of the examples with faults pass. One desk serves all of their runs.
+fn examples_with_faults<R: Files + AllocGlobal + Print>(rt: &R) -> anyhow::Result<u64> {
     let mut desk = Desk::new(&mut CountedAlloc::new(rt.alloc()), Limits::default())?;
-    rows_with_faults_at(rt, &mut desk)
+    examples_with_faults_at(rt, &mut desk)
 }
 
 /// The same at this desk.
-fn rows_with_faults_at<R: Files + AllocGlobal + Print>(
+fn examples_with_faults_at<R: Files + AllocGlobal + Print>(
     rt: &R,
     desk: &mut Desk,
 ) -> anyhow::Result<u64> {
-    let list = fs::read_to_string(rt, "rows_with_faults")?;
+    let list = fs::read_to_string(rt, "examples_with_faults")?;
     let mut passed = 0u64;
     for line in list.lines() {
         if faults::passes(rt, desk, line)? {
@@ -124,7 +127,7 @@ fn rows_with_faults_at<R: Files + AllocGlobal + Print>(
     Ok(passed)
 }
 
-/// Whether a row gives its pages and ends so, read in large pieces and byte by byte. Prints its name and
+/// Whether an example gives its pages and ends so, read in large pieces and byte by byte. Prints its name and
 /// how it ends where it does not.
 fn passes<R: Files + AllocGlobal + Print>(
     rt: &R,
@@ -140,7 +143,7 @@ fn passes<R: Files + AllocGlobal + Print>(
     gives(rt, desk, name, end, &mut buffer[..1])
 }
 
-/// Whether a row gives its pages and ends so, read into this buffer.
+/// Whether an example gives its pages and ends so, read into this buffer.
 fn gives<R: Files + AllocGlobal + Print>(
     rt: &R,
     desk: &mut Desk,
@@ -162,7 +165,7 @@ fn gives<R: Files + AllocGlobal + Print>(
     Ok(good)
 }
 
-/// How a run ended, as the list of the rows with limits says it: `Stored at 17`.
+/// How a run ended, as the list of the examples with limits says it: `Stored at 17`.
 fn end_of(alloc: Global, outcome: Outcome) -> Result<String, AllocError> {
     match outcome {
         Outcome::Limit { which, at } => format!(in alloc; "{which:?} at {at}"),

@@ -1,4 +1,4 @@
-// Rows of tables: an input goes through tbl, and what that makes of it through the formatter.
+// Examples of tables: an input goes through tbl, and what that makes of it through the formatter.
 
 use super::formatted;
 use nr_characters::Table;
@@ -10,19 +10,19 @@ use std::alloc::{AllocError, Global};
 use std::fs;
 use std::rt::Files;
 
-/// The most bytes that tbl makes of a row.
+/// The most bytes that tbl makes of an example.
 const MOST_BYTES: usize = 262_144;
 
-/// The limits on formats and on a row where a row sets none, and the greatest that it may set.
+/// The limits on formats and on a row where an example sets none, and the greatest that it may set.
 const USUAL: usize = 4096;
 
-/// The length of the line where a row sets none.
+/// The length of the line where an example sets none.
 const USUAL_LINE: usize = 65;
 
-/// The most complaints of a row.
+/// The most complaints of an example.
 const MOST_COMPLAINTS: usize = 8;
 
-/// The memory that rows are turned in.
+/// The memory that examples are turned in.
 #[derive(Drop)]
 pub(crate) struct Turner {
     turned: Vec<u8>,
@@ -39,7 +39,7 @@ impl Turner {
     }
 }
 
-/// Whether a row gives its pages and ends so, read in large pieces and byte by byte: its line is a name, the
+/// Whether an example gives its pages and ends so, read in large pieces and byte by byte: its line is a name, the
 /// limits that it sets, and after a colon how it ends. Prints its name and how it ends where it does not.
 pub(crate) fn passes<R: Files + AllocGlobal + Print>(
     rt: &R,
@@ -47,10 +47,10 @@ pub(crate) fn passes<R: Files + AllocGlobal + Print>(
     turner: &mut Turner,
     line: &str,
 ) -> anyhow::Result<bool> {
-    let (row, end) = line
+    let (run, end) = line
         .split_once(": ")
         .ok_or(anyhow::anyhow!("no end: {line}"))?;
-    let (name, words) = row.split_once(' ').unwrap_or((row, ""));
+    let (name, words) = run.split_once(' ').unwrap_or((run, ""));
     let limits = limits_of(words)?;
     let mut buffer = [0u8; 4096];
     let whole = gives(rt, desk, turner, name, limits, end, &mut buffer)?;
@@ -96,7 +96,7 @@ fn limits_of(words: &str) -> anyhow::Result<Bounds> {
     Ok(limits)
 }
 
-/// Whether a row gives its pages and ends so, read into this buffer.
+/// Whether an example gives its pages and ends so, read into this buffer.
 fn gives<R: Files + AllocGlobal + Print>(
     rt: &R,
     desk: &mut Desk,
@@ -112,11 +112,11 @@ fn gives<R: Files + AllocGlobal + Print>(
     let (pages, file) = opened(rt, name)?;
     let (mut rooms, mut printed) = rooms_of(rt.alloc(), limits, pages.len())?;
     let mut input = Buffered::over(file, buffer);
-    let ran = run_row(desk, turner, &mut rooms, &mut input, &mut printed, &pages);
+    let ran = run_example(desk, turner, &mut rooms, &mut input, &mut printed, &pages);
     is_good(rt, name, end, ran, &turner.complaints)
 }
 
-/// The pages of a row, and its input.
+/// The pages of an example, and its input.
 fn opened<R: Files + AllocGlobal>(rt: &R, name: &str) -> anyhow::Result<(Vec<u8>, R::File)> {
     let pages = fs::read(rt, format!(in rt.alloc(); "{name}.out")?)?;
     let file = fs::open(rt, format!(in rt.alloc(); "{name}.roff")?)?;
@@ -136,7 +136,7 @@ fn rooms_of(alloc: Global, limits: Bounds, len: usize) -> Result<(Rooms, Vec<u8>
     Ok((rooms, printed))
 }
 
-/// Whether a row came to its pages and its end. Prints its name and how it ended where it did not.
+/// Whether an example came to its pages and its end. Prints its name and how it ended where it did not.
 fn is_good<R: AllocGlobal + Print>(
     rt: &R,
     name: &str,
@@ -152,19 +152,19 @@ fn is_good<R: AllocGlobal + Print>(
     Ok(good)
 }
 
-/// What became of a row.
+/// What became of an example.
 #[derive(Clone, Copy)]
 struct Ran {
     report: Report,
     /// How many complaints there were.
     complaints: usize,
     outcome: Outcome,
-    /// The pages are those of the row.
+    /// The pages are those of the example.
     is_same: bool,
 }
 
 /// Turns the tables of an input, and formats what that makes of it.
-fn run_row<R: Source>(
+fn run_example<R: Source>(
     desk: &mut Desk,
     turner: &mut Turner,
     rooms: &mut Rooms,
