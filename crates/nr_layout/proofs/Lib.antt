@@ -1,3 +1,4 @@
+pub mod Absent
 pub mod Begins
 pub mod BlockLines
 pub mod Choices

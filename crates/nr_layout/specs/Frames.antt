@@ -94,7 +94,7 @@ row_above t r =
     else last_in t (row t r).line (item t ((row t r).item - 1))
 
 abbrev pub near : Table → ℕ → Near
-near t r = record { above = row_above t r; below = row_below t r }
+near t r = record { line = line t (row t r).line; above = row_above t r; below = row_below t r }
 
 abbrev pub from_above : Table → ℕ → ℕ → ℕ → ℕ
 from_above t r c above = if rules_meet t r c then bars_of t above c else 0

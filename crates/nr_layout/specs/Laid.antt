@@ -36,11 +36,11 @@ known_at known c t = record t { columns = put c (as_known known (column t c)) t.
 abbrev pub known_column : ℕ → Table → Table
 known_column c t = known_at (is_said t (column t c)) c t
 
-abbrev pub hidden : Cell → Table → Table
-hidden f t = over f.first f.last (known_at false) t
+abbrev pub hidden : ℕ → ℕ → Table → Table
+hidden first last t = over first last (known_at false) t
 
 abbrev pub hidden_cell : ℕ → Table → Table
-hidden_cell n t = if hides (cell_of t n) then hidden (cell_of t n) t else t
+hidden_cell n t = if hides (cell_of t n) then hidden (cell_of t n).first (cell_of t n).last t else t
 
 abbrev pub said_columns : Table → Table
 said_columns t = in_turn (columns t) known_column t

@@ -341,7 +341,7 @@ impl Table {
         ensures { Draws out.old out.new (Bytes (specs.begin_in (drawing.begin_of self.now cell) self.now cell)
             ∷ []) }
     {
-        match self.begin_of(cell) {
+        match self.begin_of(&cell) {
             Begin::At(place) => out.pieces(&[P(place)]),
             Begin::Told => self.put_begin(cell, out),
         }

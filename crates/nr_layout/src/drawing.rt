@@ -26,15 +26,15 @@ fn stands_on(line: Option<usize>, cell: Cell) -> bool
 
 impl Cell {
     /// Whether it begins in a column of a row.
-    fn begins(self, row: usize, column: usize) -> bool
-        ensures { result ≡ ((self.top == row) && (self.first == column)) }
+    fn begins(&self, row: usize, column: usize) -> bool
+        ensures { result ≡ ((self.now.top == row) && (self.now.first == column)) }
     {
         self.top == row && self.first == column
     }
 
     /// Whether it is a rule through its columns, and begins in a row.
-    fn rules(self, row: usize) -> bool
-        ensures { result ≡ (held.is_rule self.field.form && (self.top == row)) }
+    fn rules(&self, row: usize) -> bool
+        ensures { result ≡ (held.is_rule self.now.field.form && (self.now.top == row)) }
     {
         matches!(self.field.form, Form::Rule) && self.top == row
     }
@@ -85,12 +85,12 @@ impl Table {
     /// A field.
     #[inline(always)]
     #[tactic(auto, using(crate::proofs::Tapes::draws_nothing))]
-    pub(crate) fn draw_field<W: Sink>(&self, cell: Cell, out: &mut Out<'_, W>)
-        ensures { Draws out.old out.new (specs.field_strokes self.now cell) }
+    pub(crate) fn draw_field<W: Sink>(&self, cell: &Cell, out: &mut Out<'_, W>)
+        ensures { Draws out.old out.new (specs.field_strokes self.now cell.now) }
     {
         match cell.field.form {
-            Form::Inner => self.draw_inner(cell, out),
-            Form::Repeat(byte) => self.draw_repeat(byte, cell, out),
+            Form::Inner => self.draw_inner(*cell, out),
+            Form::Repeat(byte) => self.draw_repeat(byte, *cell, out),
             Form::Text => {
                 if cell.field.has_text() {
                     self.draw_text(cell, out);
@@ -113,7 +113,7 @@ impl Table {
     {
         let cell = self.cell(row, column);
         if cell.falls && cell.first == column && stands_on(line, cell) {
-            self.draw_field(cell, out);
+            self.draw_field(&cell, out);
         }
     }
 
@@ -221,11 +221,11 @@ impl Table {
         &self,
         row: usize,
         column: usize,
-        cell: Cell,
+        cell: &Cell,
         line: Option<usize>,
         out: &mut Out<'_, W>,
     )
-        ensures { Draws out.old out.new (contents.own self.now row column line cell) }
+        ensures { Draws out.old out.new (contents.own self.now row column line cell.now) }
     {
         if cell.falls {
             return self.draw_falling(row, column, line, out);
@@ -239,11 +239,11 @@ impl Table {
         &self,
         row: usize,
         column: usize,
-        cell: Cell,
+        cell: &Cell,
         line: Option<usize>,
         out: &mut Out<'_, W>,
     )
-        ensures { Draws out.old out.new (contents.text_in self.now row column line cell) }
+        ensures { Draws out.old out.new (contents.text_in self.now row column line cell.now) }
     {
         if !cell.begins(row, column) {
             return self.draw_falling(row, column, line, out);
@@ -264,7 +264,10 @@ impl Table {
         requires { near ≡ frames.near self.now row }
         ensures { Draws out.old out.new (specs.content self.now row column line) }
     {
-        let cell = self.cell(row, column);
+        let cells = self.cells.as_slice();
+        let Some(cell) = cells.get(self.cell_number(row, column)) else {
+            return;
+        };
         if cell.rules(row) {
             return self.draw_column_rule(row, column, near, out);
         }
@@ -429,7 +432,7 @@ impl Table {
         ensures { Draws out.old out.new (specs.whole (specs.field_strokes self.now cell) told) }
     {
         out.start();
-        self.draw_field(cell, out);
+        self.draw_field(&cell, out);
         out.end(told);
     }
 }

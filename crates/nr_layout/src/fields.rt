@@ -93,23 +93,23 @@ fn put_font_back<W: Sink>(font: u8, text: &[u8], out: &mut Out<'_, W>)
 
 impl Cell {
     /// Whether it stands at the left of its column.
-    fn stands_left(self) -> bool
-        ensures { result ≡ specs.stands_left self }
+    fn stands_left(&self) -> bool
+        ensures { result ≡ specs.stands_left self.now }
     {
         let number = self.key.kind == b'n' && !matches!(self.field.form, Form::Text);
         matches!(self.key.kind, b'l' | b'^' | b'_' | b'=') || number
     }
 
     /// Whether it is text without a name.
-    fn is_plain(self) -> bool
-        ensures { result ≡ specs.is_plain self }
+    fn is_plain(&self) -> bool
+        ensures { result ≡ specs.is_plain self.now }
     {
         matches!(self.field.form, Form::Text) && self.name == 0
     }
 
     /// How many cells its text takes, if that shows.
-    fn shown_width(self) -> Option<usize>
-        ensures { result ≡ specs.shown_width self }
+    fn shown_width(&self) -> Option<usize>
+        ensures { result ≡ specs.shown_width self.now }
     {
         if self.name > 0 { None } else { self.width }
     }
@@ -162,8 +162,8 @@ impl Table {
 
     /// Where a field begins.
     #[inline(always)]
-    pub(crate) fn begin_of(&self, cell: Cell) -> Begin
-        ensures { result ≡ specs.begin_of self.now cell }
+    pub(crate) fn begin_of(&self, cell: &Cell) -> Begin
+        ensures { result ≡ specs.begin_of self.now cell.now }
     {
         let column = self.column(cell.first);
         if cell.stands_left() {
@@ -173,10 +173,10 @@ impl Table {
             return Begin::At(column.left.on(1));
         }
         if cell.is_plain() && !cell.spans() && column.known {
-            return Begin::At(self.begin_in(cell, column.width));
+            return Begin::At(self.begin_in(*cell, column.width));
         }
         let right = self.column(cell.last).right;
-        self.told_or(column.left.steps_to(right), cell.is_plain(), cell)
+        self.told_or(column.left.steps_to(right), cell.is_plain(), *cell)
     }
 
     /// A string is read.
@@ -190,8 +190,8 @@ impl Table {
 
     /// The text of a field without its font.
     #[inline(always)]
-    pub(crate) fn put_unset<W: Sink>(&self, cell: Cell, out: &mut Out<'_, W>)
-        ensures { Draws out.old out.new (Bytes (specs.unset_text self.now cell) ∷ []) }
+    pub(crate) fn put_unset<W: Sink>(&self, cell: &Cell, out: &mut Out<'_, W>)
+        ensures { Draws out.old out.new (Bytes (specs.unset_text self.now cell.now) ∷ []) }
     {
         if cell.stored {
             return self.put_string(cell.name, out);
@@ -201,8 +201,8 @@ impl Table {
 
     /// The text of a field, with its font.
     #[inline(always)]
-    fn put_text<W: Sink>(&self, cell: Cell, out: &mut Out<'_, W>)
-        ensures { Draws out.old out.new (Text (specs.field_text self.now cell) ∷ []) }
+    fn put_text<W: Sink>(&self, cell: &Cell, out: &mut Out<'_, W>)
+        ensures { Draws out.old out.new (Text (specs.field_text self.now cell.now) ∷ []) }
     {
         put_font(cell.key.font, out);
         self.put_unset(cell, out);
@@ -221,18 +221,18 @@ impl Table {
 
     /// The pen goes to where a field begins.
     #[inline(always)]
-    fn draw_begin<W: Sink>(&self, cell: Cell, out: &mut Out<'_, W>)
-        ensures { Draws out.old out.new (specs.begin_at (specs.begin_of self.now cell) self.now cell) }
+    fn draw_begin<W: Sink>(&self, cell: &Cell, out: &mut Out<'_, W>)
+        ensures { Draws out.old out.new (specs.begin_at (specs.begin_of self.now cell.now) self.now cell.now) }
     {
         match self.begin_of(cell) {
             Begin::At(place) => out.to(place),
-            Begin::Told => self.draw_told_begin(cell, out),
+            Begin::Told => self.draw_told_begin(*cell, out),
         }
     }
 
     /// The first byte of what goes out for a field.
-    fn first_of(&self, cell: Cell) -> u8
-        ensures { result ≡ specs.first_of self.now cell }
+    fn first_of(&self, cell: &Cell) -> u8
+        ensures { result ≡ specs.first_of self.now cell.now }
     {
         if cell.key.font == 0 && !cell.stored {
             return first_byte(self.bytes(cell.field.span));
@@ -242,8 +242,8 @@ impl Table {
 
     /// The text of a field.
     #[inline(always)]
-    pub(crate) fn draw_text<W: Sink>(&self, cell: Cell, out: &mut Out<'_, W>)
-        ensures { Draws out.old out.new (specs.text_strokes self.now cell) }
+    pub(crate) fn draw_text<W: Sink>(&self, cell: &Cell, out: &mut Out<'_, W>)
+        ensures { Draws out.old out.new (specs.text_strokes self.now cell.now) }
     {
         self.draw_begin(cell, out);
         out.begin(self.first_of(cell));
@@ -265,7 +265,7 @@ impl Table {
         ensures { Draws out.old out.new (Bytes (specs.text_width self.now cell) ∷ []) }
     {
         out.add(b"\\w\x01");
-        self.put_unset(cell, out);
+        self.put_unset(&cell, out);
         out.add(b"\x01u");
     }
 

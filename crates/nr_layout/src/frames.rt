@@ -9,9 +9,11 @@ use super::lists::set_item;
 use super::places::{Mark, Place};
 use super::table::{Cell, Column, Form, Item, Line, Table};
 
-/// The rows right beside one, no rules between them, if they have other lines of formats.
+/// A row's line of formats, and the rows right beside it, no rules between them, if they have other ones.
 #[derive(Clone, Copy)]
 pub(crate) struct Near {
+    /// Its own line of formats.
+    pub line: Line,
     /// The one above.
     pub above: Option<usize>,
     /// The one below, if it is more than rules.
@@ -90,13 +92,20 @@ impl Table {
         self.framing_bars(between)
     }
 
-    /// How many bars stand before a column of this row, or after the last one. Most rows have none, whatever their fields.
-    #[inline(always)]
+    /// How many bars stand before a column of a row, or after the last one.
     pub(crate) fn bars_of(&self, row: usize, column: usize) -> usize
         ensures { result ≡ specs.bars_of self.now row column }
     {
+        self.bars_by(self.line(self.row(row).line), row, column)
+    }
+
+    /// The same, by the row's line of formats. Most rows have none, whatever their fields.
+    #[inline(always)]
+    fn bars_by(&self, line: Line, row: usize, column: usize) -> usize
+        requires { line ≡ held.line self.now (held.row self.now row).line }
+        ensures { result ≡ specs.bars_of self.now row column }
+    {
         let between = 0 < column && column < self.columns.len();
-        let line = self.line(self.row(row).line);
         let bars = self.bars_put(line, column, between);
         if bars > 0 && between && self.is_inside(line, row, column) {
             return 0;
@@ -180,6 +189,7 @@ impl Table {
         ensures { result ≡ specs.near self.now row }
     {
         Near {
+            line: self.line(self.row(row).line),
             above: self.row_above(row),
             below: self.row_below(row),
         }
@@ -227,7 +237,7 @@ impl Table {
         requires { near ≡ specs.near self.now row }
         ensures { result ≡ specs.bars_seen self.now row column }
     {
-        let bars = self.bars_of(row, column);
+        let bars = self.bars_by(near.line, row, column);
         if bars > 0 {
             return bars;
         }
@@ -340,13 +350,13 @@ impl Table {
         self.set_known(number, known);
     }
 
-    /// The columns of a cell aren't known.
+    /// These columns aren't known.
     #[tactic(auto, using(crate::proofs::Turns::one_further))]
-    fn hide_columns(&mut self, cell: Cell)
-        ensures value { self.new ≡ laid.hidden cell self.old }
+    fn hide_columns(&mut self, first: usize, last: usize)
+        ensures value { self.new ≡ laid.hidden first last self.old }
         ensures room { held.emptied self.new ≡ held.emptied self.old }
     {
-        for number in cell.first..cell.last.saturating_add(1) {
+        for number in first..last.saturating_add(1) {
             self.set_known(number, false);
         }
     }
@@ -358,7 +368,7 @@ impl Table {
     {
         let cell = self.cell_of(number);
         if self.hides(cell) {
-            self.hide_columns(cell);
+            self.hide_columns(cell.first, cell.last);
         }
     }
 

@@ -375,7 +375,7 @@ impl Table {
     {
         self.break_widest(number, count, out);
         out.ask(b"\\&");
-        self.put_unset(cell, out);
+        self.put_unset(&cell, out);
         out.ask(b"\n")
     }
 

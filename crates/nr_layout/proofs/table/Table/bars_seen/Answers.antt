@@ -11,12 +11,12 @@ pub returns-then-bars-gt0 : goal.returns-then-bars-gt0
 returns-then-bars-gt0 c =
     let t = c.args.self.now in
     let n = bars_of t c.args.row c.args.column in
-    let some : 0 < n = omega (arith, c.bars_of-bars.ensures, c.if-bars-gt0.true) in
-    c.bars_of-bars.ensures ∙ sym (taken (nat_lt 0 n) n (bars_beside t c.args.row c.args.column) (above_none n some))
+    let some : 0 < n = omega (arith, c.bars_by-bars.ensures, c.if-bars-gt0.true) in
+    c.bars_by-bars.ensures ∙ sym (taken (nat_lt 0 n) n (bars_beside t c.args.row c.args.column) (above_none n some))
 
 pub returns : goal.returns
 returns c =
     let t = c.args.self.now in
     let n = bars_of t c.args.row c.args.column in
-    let none : n ≡ 0 = omega (arith, c.bars_of-bars.ensures, c.if-bars-gt0.false) in
+    let none : n ≡ 0 = omega (arith, c.bars_by-bars.ensures, c.if-bars-gt0.false) in
     c.bars_beside.ensures ∙ sym (left (nat_lt 0 n) n (bars_beside t c.args.row c.args.column) (ap (λ (m : ℕ). nat_lt 0 m) none))

@@ -8,5 +8,5 @@ use Rattle.nr_layout.proofs.table.Table.draw_field.Goals as goal
 
 pub returns-else-has_text : goal.returns-else-has_text
 returns-else-has_text g c =
-    draws_same (nothing_chosen (has_text c.args.cell.field) (text_strokes c.args.self.now c.args.cell) (sym c.has_text.ensures ∙ c.if-has_text.false))
-    (ap (λ (f : Form). field_in f c.args.self.now c.args.cell) c.in-Text.is)
+    draws_same (nothing_chosen (has_text c.args.cell.now.field) (text_strokes c.args.self.now c.args.cell.now) (sym c.has_text.ensures ∙ c.if-has_text.false))
+    (ap (λ (f : Form). field_in f c.args.self.now c.args.cell.now) c.in-Text.is)

@@ -10,7 +10,7 @@ returns-then-not-begins g c =
     let t = c.args.self.now in
     let r = c.args.row in
     let k = c.args.column in
-    let f = c.args.cell in
+    let f = c.args.cell.now in
     draws_same c.draw_falling.ensures
     (other ((f.top == r) && (f.first == k)) (own t r k c.args.line f) (falling t r k c.args.line)
     (sym c.begins.ensures ∙ c.if-not-begins.true))
@@ -20,7 +20,7 @@ returns g c =
     let t = c.args.self.now in
     let r = c.args.row in
     let k = c.args.column in
-    let f = c.args.cell in
+    let f = c.args.cell.now in
     draws_same c.draw_own.ensures
     (chosen ((f.top == r) && (f.first == k)) (own t r k c.args.line f) (falling t r k c.args.line)
     (sym c.begins.ensures ∙ c.if-not-begins.false))

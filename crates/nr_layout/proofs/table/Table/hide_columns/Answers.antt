@@ -9,13 +9,13 @@ pub loop-number-preserved : goal.loop-number-preserved
 loop-number-preserved c = record {
   value =
       c.set_known.ensures.value ∙ ap (known_at false c.loop-number.number) c.loop-number.invariant.value
-      ∙ sym (one_further c.args.cell.first c.loop-number.number (known_at false) c.args.self.now (omega arith));
+      ∙ sym (one_further c.args.first c.loop-number.number (known_at false) c.args.self.now (omega arith));
   within = omega arith;
   room = c.set_known.ensures.room ∙ c.loop-number.invariant.room;
 }
 
 pub returns-clause-value : goal.returns-clause-value
 returns-clause-value c =
-    let all : c.loop-number.number - c.args.cell.first ≡ columns_over c.args.cell.first c.args.cell.last = omega arith in
+    let all : c.loop-number.number - c.args.first ≡ columns_over c.args.first c.args.last = omega arith in
     c.loop-number.invariant.value
-    ∙ ap (λ (n : ℕ). in_turn n (λ (k : ℕ). known_at false (c.args.cell.first + k)) c.args.self.now) all
+    ∙ ap (λ (n : ℕ). in_turn n (λ (k : ℕ). known_at false (c.args.first + k)) c.args.self.now) all

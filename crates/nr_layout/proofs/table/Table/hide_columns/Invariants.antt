@@ -6,7 +6,7 @@ use Rattle.nr_layout.proofs.table.Table.hide_columns.Given as goal
 
 abbrev pub invariant-loop-number : goal.invariant-loop-number
 invariant-loop-number l = record {
-  value : l.self ≡ in_turn (l.number - l.fn.cell.first) (λ (n : ℕ). known_at false (l.fn.cell.first + n)) l.initial.self;
-  within : l.number ≤ max l.fn.cell.first l.number-end;
+  value : l.self ≡ in_turn (l.number - l.fn.first) (λ (n : ℕ). known_at false (l.fn.first + n)) l.initial.self;
+  within : l.number ≤ max l.fn.first l.number-end;
   room : emptied l.self ≡ emptied l.initial.self;
 }
