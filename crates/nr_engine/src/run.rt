@@ -42,17 +42,20 @@ impl Engine {
         ensures limits { IfOk result (λ engine. limits_of (shape engine) ≡ limits_under limits) }
         ensures taken { IfOk result (λ engine. alloc.new ≡ alloc.old + sum_of (sizes_of limits)) }
     {
+        let row = Out::new(alloc, Line::room(limits.cells()).row)?;
+        let page = Page::new(alloc, limits.cells())?;
+        let formatter = Formatter::new(
+            alloc,
+            limits.stored() as u32,
+            limits.depth() as u32,
+            limits.cells(),
+            limits.expansions(),
+        )?;
         Ok(Engine {
-            formatter: Formatter::new(
-                alloc,
-                limits.stored() as u32,
-                limits.depth() as u32,
-                limits.cells(),
-                limits.expansions(),
-            )?,
+            formatter,
             place: Place::new(),
-            row: Out::new(alloc, Line::room(limits.cells()).row)?,
-            page: Page::new(alloc, limits.cells())?,
+            row,
+            page,
             select: Select::all(),
             resumed: Resume::blank(),
             gathered: Gathered::new(),

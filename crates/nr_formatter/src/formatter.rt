@@ -68,10 +68,12 @@ impl Formatter {
         ensures taken { IfOk result (λ made.
             alloc.new ≡ alloc.old + elements_in (rooms_of stored deepest) + 2 * cells) }
     {
+        let line = Line::new(alloc, cells)?;
+        let store = Store::new(alloc, stored, deepest)?;
         Ok(Formatter {
             reader: Reader::new(most),
-            store: Store::new(alloc, stored, deepest)?,
-            line: Line::new(alloc, cells)?,
+            store,
+            line,
             settings: Settings::new(),
             paper: Paper::new(),
             given: Given::new(),

@@ -312,29 +312,61 @@ pub(crate) enum StepKind {
     Beyond(usize),
 }
 
+/// Two lists with room for so many.
+fn two_lists<A: Copy, B: Copy>(
+    alloc: &mut CountedAlloc,
+    first: usize,
+    second: usize,
+) -> Result<(FixedVec<A>, FixedVec<B>), AllocError>
+    ensures first { IfOk result (λ made. made.0 ≡ specs.room_for first) }
+    ensures second { IfOk result (λ made. made.1 ≡ specs.room_for second) }
+{
+    Ok((FixedVec::new(alloc, first)?, FixedVec::new(alloc, second)?))
+}
+
+/// Three lists with room for so many.
+fn three_lists<A: Copy, B: Copy, C: Copy>(
+    alloc: &mut CountedAlloc,
+    first: usize,
+    second: usize,
+    third: usize,
+) -> Result<(FixedVec<A>, FixedVec<B>, FixedVec<C>), AllocError>
+    ensures first { IfOk result (λ made. made.0 ≡ specs.room_for first) }
+    ensures second { IfOk result (λ made. made.1 ≡ specs.room_for second) }
+    ensures third { IfOk result (λ made. made.2 ≡ specs.room_for third) }
+{
+    let (first, second) = two_lists(alloc, first, second)?;
+    Ok((first, second, FixedVec::new(alloc, third)?))
+}
+
 impl Table {
     /// Takes the memory for a table of so many bytes, whose rows have so many at most, and which is drawn with these.
     pub fn new(alloc: Global, most: usize, row: usize, signs: Signs) -> Result<Table, AllocError>
         ensures value { IfOk result (λ made. made ≡ specs.first_table signs most row) }
     {
-        let text = most.saturating_add(row).saturating_add(64);
+        let bytes = most.saturating_add(row).saturating_add(64);
         let rows = most / COLUMNS + 2;
         let items = rows * 2 + 2 * LINES;
+        let steps = items * 4;
         let cells = rows.saturating_mul(COLUMNS);
         let mut alloc = CountedAlloc::new(alloc);
+        let (text, keys, lines) = three_lists(&mut alloc, bytes, COLUMNS * LINES, LINES)?;
+        let (fields, rows, items) = three_lists(&mut alloc, bytes, rows, items)?;
+        let (cells, grid) = two_lists(&mut alloc, cells, cells)?;
+        let (columns, steps) = two_lists(&mut alloc, COLUMNS, steps)?;
         Ok(Table {
             looks: Looks::plain(),
             signs,
-            text: FixedVec::new(&mut alloc, text)?,
-            keys: FixedVec::new(&mut alloc, COLUMNS * LINES)?,
-            lines: FixedVec::new(&mut alloc, LINES)?,
-            fields: FixedVec::new(&mut alloc, text)?,
-            rows: FixedVec::new(&mut alloc, rows)?,
-            items: FixedVec::new(&mut alloc, items)?,
-            cells: FixedVec::new(&mut alloc, cells)?,
-            grid: FixedVec::new(&mut alloc, cells)?,
-            columns: FixedVec::new(&mut alloc, COLUMNS)?,
-            steps: FixedVec::new(&mut alloc, items * 4)?,
+            text,
+            keys,
+            lines,
+            fields,
+            rows,
+            items,
+            cells,
+            grid,
+            columns,
+            steps,
             open: Open::Nothing,
             next_line: 0,
             row_from: 0,

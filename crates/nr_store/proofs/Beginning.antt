@@ -1,5 +1,5 @@
 -- Lemmas on a store with nothing but the requests.
-use Rattle.std.proofs.Common.{◌≡◌, ℕ, ◌+◌, ◌*◌, ◌/◌, ◌^◌, ◌<◌, ◌≤◌, List, [], ◌∷◌, ◌++◌, length, map, drop, replicate, get_or, Option, Some, None, refl, sum_by, ◌⊎◌, ap, ap₂, sym, ◌∙◌, subst, inl, inr, arith}
+use Rattle.std.proofs.Common.{◌≡◌, ℕ, min, ◌+◌, ◌*◌, ◌/◌, ◌^◌, ◌<◌, ◌≤◌, List, [], ◌∷◌, ◌++◌, length, map, drop, replicate, get_or, Option, Some, None, refl, sum_by, ◌⊎◌, ap, ap₂, sym, ◌∙◌, subst, inl, inr, arith}
 use Rattle.std.proofs.lemmas.List.{get_or-replicate, get_or_past, length-replicate, drop_more}
 use Rattle.std.proofs.lemmas.List.Sums.{sum_by-cons}
 use Rattle.std.proofs.lemmas.Bool.{cases_lt}
@@ -20,6 +20,8 @@ use Rattle.nr_levels.specs.Gathering.{Gathered, Gathering, none_gathered}
 use Rattle.nr_symbol_tables.specs.declared.trap.Trap.{Trap}
 use Rattle.nr_symbol_tables.specs.declared.word.HyphenationWord.{HyphenationWord}
 use Rattle.nr_store.specs.declared.register.Register.{Register}
+use Rattle.nr_store.specs.declared.memory.Room.{Room}
+use Rattle.nr_store.specs.Memory.{elements_in, rooms_of}
 use Rattle.nr_store.specs.Store.{Stored, Built, nothing, weight, level_charge, text_charge, charge_of, charge_beside}
 use Rattle.nr_store.specs.Request.{name_of, with_senses, request_names}
 use Rattle.nr_store.specs.Holders.{Beside, Suffice, acts, named_means, built_of, level_of, stored_of, beside_of, count, values, draft_ids, held_ids, texts_in, IsHeld, AllPay, AreNamed, IsStore}
@@ -171,3 +173,30 @@ begun {K = K} p entries drafts levels gathering registers traps words limit room
     ∙ ap (λ ts. shows p base [] none none_gathered [] ts words.items limit) no_traps
     ∙ ap (λ ws. shows p base [] none none_gathered [] [] ws limit) no_words
     ∙ ap (λ ns. nothing {K = K} ns limit most) (names_are p)
+
+-- what stands beside names and levels costs nothing where there is none of it
+pub costs_nothing : (gathered : Gathered) (registers : List (Named Register)) (traps : List Trap) (words : List HyphenationWord) → gathered ≡ none_gathered → registers ≡ [] → traps ≡ [] → words ≡ []
+    → charge_beside gathered registers traps (map word_in words) ≡ 0
+costs_nothing gathered registers traps words no_gathered no_registers no_traps no_words =
+    ap (λ (g : Gathered). charge_beside g registers traps (map word_in words)) no_gathered
+    ∙ ap (λ (rs : List (Named Register)). charge_beside none_gathered rs traps (map word_in words)) no_registers
+    ∙ ap (λ (ts : List Trap). charge_beside none_gathered [] ts (map word_in words)) no_traps
+    ∙ ap (λ (ws : List HyphenationWord). charge_beside none_gathered [] [] (map word_in ws)) no_words
+
+-- ---- the elements that its parts take, one part after the other
+
+all_taken : (fewer some places limit deepest a b c d e f : ℕ) → b ≡ a + (fewer + 1 + 56) + 512 → c ≡ b + (fewer + 1) → d ≡ c + limit + (some + 1) → e ≡ d + 2 * deepest + limit + places
+    → f ≡ e + limit + (fewer + 1 + 512) + 2 * (fewer + 1) + (some + 1 + 256)
+    → f ≡ a + (limit + (some + 1) + (fewer + 1 + 56) + (fewer + 1) + deepest + deepest + limit + places + limit + (fewer + 1) + (fewer + 1) + (fewer + 1) + (some + 1) + 1280)
+all_taken fewer some places limit deepest a b c d e f names drafts pool levels beside = omega arith
+
+pub taken_by_all : (r : Room) (limit deepest a b c d e f : ℕ) → r ≡ rooms_of limit deepest → b ≡ a + r.names + 512 → c ≡ b + r.drafts → d ≡ c + r.elements + r.slots
+    → e ≡ d + 2 * r.frames + r.bytes + 9 * min r.frames (r.bytes / 16) → f ≡ e + r.gathering + (r.registers + 512) + 2 * r.traps + (r.words + 256)
+    → f ≡ a + elements_in (rooms_of limit deepest)
+taken_by_all r limit deepest a b c d e f is names drafts pool levels beside =
+    let names_taken : b ≡ a + (limit / 48 + 1 + 56) + 512 = names ∙ ap (λ (x : Room). a + x.names + 512) is in
+    let drafts_taken : c ≡ b + (limit / 48 + 1) = drafts ∙ ap (λ (x : Room). b + x.drafts) is in
+    let pool_taken : d ≡ c + limit + (limit / 16 + 1) = pool ∙ ap (λ (x : Room). c + x.elements + x.slots) is in
+    let levels_taken : e ≡ d + 2 * deepest + limit + 9 * min deepest (limit / 16) = levels ∙ ap (λ (x : Room). d + 2 * x.frames + x.bytes + 9 * min x.frames (x.bytes / 16)) is in
+    let beside_taken : f ≡ e + limit + (limit / 48 + 1 + 512) + 2 * (limit / 48 + 1) + (limit / 16 + 1 + 256) = beside ∙ ap (λ (x : Room). e + x.gathering + (x.registers + 512) + 2 * x.traps + (x.words + 256)) is in
+    all_taken (limit / 48) (limit / 16) (9 * min deepest (limit / 16)) limit deepest a b c d e f names_taken drafts_taken pool_taken levels_taken beside_taken

@@ -1,5 +1,6 @@
 // A store with nothing but the requests.
-ghost use Rattle.std.specs.Prelude.{◌≡◌, ◌+◌, ◌≤◌, length, IfOk};
+ghost use Rattle.std.specs.Prelude.{◌≡◌, ◌+◌, ◌*◌, ◌^◌, ◌<◌, ◌≤◌, [], length, IfOk};
+ghost use Rattle.nr_levels.specs.Gathering.{none_gathered};
 ghost use Rattle.nr_store.specs.declared.request.TheConstants.{REQUESTS};
 ghost use Rattle.nr_store.specs.Store.{nothing};
 ghost use Rattle.nr_store.specs.Memory.{rooms_of, elements_in};
@@ -7,6 +8,7 @@ ghost use Rattle.nr_store.specs.Request.{request_names, with_senses};
 
 use crate::memory::Room;
 use crate::named::Sense;
+use crate::register::Register;
 use crate::request::{REQUESTS, Request};
 use crate::store::Store;
 use nr_levels::{Gathering, Levels, Stack};
@@ -27,6 +29,37 @@ fn name_requests(names: &mut Table<Sense>, requests: &[(u8, u8, Request)])
     }
 }
 
+// What a store has beside texts, names and levels.
+#[derive(Drop)]
+struct Beside {
+    gathering: Gathering,
+    registers: Table<Register>,
+    traps: Traps,
+    words: HyphenationWords,
+}
+
+impl Beside {
+    // Nothing, and room for so much.
+    fn new(alloc: &mut CountedAlloc, room: Room) -> Result<Beside, AllocError>
+        requires { room.gathering < 2 ^ 32 }
+        ensures gathering { IfOk result (λ made.
+            made.gathering ≡ record { gathered = none_gathered; capacity = room.gathering }) }
+        ensures registers { IfOk result (λ made.
+            made.registers ≡ record { entries = []; capacity = room.registers }) }
+        ensures traps { IfOk result (λ made. made.traps ≡ record { items = []; capacity = room.traps }) }
+        ensures words { IfOk result (λ made. made.words ≡ record { items = []; capacity = room.words }) }
+        ensures taken { IfOk result (λ made. alloc.new
+            ≡ alloc.old + room.gathering + (room.registers + 512) + 2 * room.traps + (room.words + 256)) }
+    {
+        Ok(Beside {
+            gathering: Gathering::new(alloc, room.gathering)?,
+            registers: Table::new(alloc, room.registers)?,
+            traps: Traps::new(alloc, room.traps)?,
+            words: HyphenationWords::new(alloc, room.words)?,
+        })
+    }
+}
+
 impl<K: Copy> Store<K> {
     /// A store under this limit, with room for so many levels, and with the requests under their names and nothing else:
     /// `AllocError` where there is not the memory that `Room::of` tells.
@@ -37,15 +70,24 @@ impl<K: Copy> Store<K> {
         let room = Room::of(limit, deepest);
         let mut names = Table::new(alloc, room.names)?;
         name_requests(&mut names, &REQUESTS);
+        let drafts = Stack::new(alloc, room.drafts)?;
+        let pool = Pool::new(alloc, room.elements, room.slots)?;
+        let levels = Levels::new(alloc, room.bytes, room.frames)?;
+        let Beside {
+            gathering,
+            registers,
+            traps,
+            words,
+        } = Beside::new(alloc, room)?;
         Ok(Store {
-            pool: Pool::new(alloc, room.elements, room.slots)?,
+            pool,
             names,
-            drafts: Stack::new(alloc, room.drafts)?,
-            levels: Levels::new(alloc, room.bytes, room.frames)?,
-            gathering: Gathering::new(alloc, room.gathering)?,
-            registers: Table::new(alloc, room.registers)?,
-            traps: Traps::new(alloc, room.traps)?,
-            words: HyphenationWords::new(alloc, room.words)?,
+            drafts,
+            levels,
+            gathering,
+            registers,
+            traps,
+            words,
             charge: 0,
             stored: limit,
         })
