@@ -35,11 +35,21 @@ pub struct Report {
 }
 
 /// The memory that texts are turned in, taken once.
-#[derive(Drop)]
 pub struct Rooms {
     reader: Reader,
     table: Table,
     pending: FixedVec<u8>,
+}
+
+// Derived, it would be gone through part by part in the proof of each function that owns rooms.
+impl Drop for Rooms {
+    fn drop(self) {
+        let Rooms {
+            reader: _,
+            table: _,
+            pending: _,
+        } = self;
+    }
 }
 
 impl Model for Rooms {
@@ -79,9 +89,9 @@ impl Rooms {
             row: row.min(MOST),
         };
         Ok(Rooms {
+            pending: FixedVec::new(&mut CountedAlloc::new(alloc), PENDING)?,
             reader: Reader::new(alloc, limits, cells)?,
             table: Table::new(alloc, limits.formats, limits.row, signs_of(characters))?,
-            pending: FixedVec::new(&mut CountedAlloc::new(alloc), PENDING)?,
         })
     }
 }

@@ -29,8 +29,8 @@ impl Rooms {
     pub fn new(job: Job, alloc: Global) -> Result<Rooms, AllocError> {
         Ok(Rooms {
             input: vec![in alloc; 0u8; BUFFER_SIZE]?,
-            held: nr_tables::Rooms::new(alloc, job.formats, job.row, job.line, job.characters)?,
             complaints: vec![in alloc; Complaint::NONE; MOST_COMPLAINTS]?,
+            held: nr_tables::Rooms::new(alloc, job.formats, job.row, job.line, job.characters)?,
         })
     }
 }
