@@ -121,6 +121,7 @@ impl Memory for Scarce {
 }
 
 /// A run: its words, what it prints, its status, its line, and how many texts it opened.
+#[derive(Drop)]
 struct Row {
     words: &'static [&'static str],
     output: &'static [u8],
@@ -278,7 +279,7 @@ static ROWS: [Row; 19] = [
     },
 ];
 
-/// What a run prints and reports, with its status.
+/// What a run prints and reports, with its status, and how many texts it opened.
 #[derive(Drop)]
 struct Ran {
     status: u8,
@@ -288,66 +289,92 @@ struct Ran {
 }
 
 fn run<M: Memory>(alloc: Global, memory: &mut M, words: &[&str]) -> Ran {
+    let mut output = Vec::new(alloc);
+    let mut line = Vec::new(alloc);
+    let (status, opened) = run_into(memory, words, Vec::new(alloc), &mut output, &mut line);
+    Ran {
+        status,
+        output,
+        line,
+        opened,
+    }
+}
+
+/// The status of a run, and how many texts it opened.
+fn run_into<M: Memory>(
+    memory: &mut M,
+    words: &[&str],
+    mut buffers: Vec<u8>,
+    output: &mut Vec<u8>,
+    line: &mut Vec<u8>,
+) -> (u8, usize) {
     let mut shelf = Shelf {
         texts: &TEXTS,
         standard: Page::Bytes(b".pl 1v\nin\n"),
         opened: 0,
     };
-    let mut buffers = Vec::new(alloc);
-    let mut output = Vec::new(alloc);
-    let mut line = Vec::new(alloc);
-    let mut to_output = ToWriter::over(&mut output);
-    let mut errors = ToWriter::over(&mut line);
     let status = run_words(
         memory,
         words,
         &mut shelf,
         &mut buffers,
-        &mut to_output,
-        &mut errors,
+        &mut ToWriter::over(output),
+        &mut ToWriter::over(line),
     );
-    Ran {
-        status,
-        output,
-        line,
-        opened: shelf.opened,
-    }
+    (status, shelf.opened)
+}
+
+/// Whether a run comes to what its row says.
+fn meets<M: Memory>(alloc: Global, memory: &mut M, row: &Row) -> bool {
+    let ran = run(alloc, memory, row.words);
+    let is_same = ran.output.as_slice() == row.output && ran.line.as_slice() == row.line;
+    is_same && (ran.status, ran.opened) == (row.status, row.opened)
 }
 
 #[test]
 fn rows(rt: HostRuntime) {
     for row in &ROWS {
         let words = row.words;
-        let ran = run(rt.alloc(), &mut Heap::new(rt.alloc()), words);
-        assert!(rt; ran.output.as_slice() == row.output, "{words:?}");
-        assert!(rt; ran.line.as_slice() == row.line, "{words:?}");
-        assert_eq!(rt; ran.status, row.status, "{words:?}");
-        assert_eq!(rt; ran.opened, row.opened, "{words:?}");
+        assert!(rt;
+            meets(rt.alloc(), &mut Heap::new(rt.alloc()), row),
+            "{words:?}"
+        );
     }
+}
+
+/// The same where so many calls for memory are met and the next is refused, and how many were refused.
+fn meets_behind(alloc: Global, before: usize, row: &Row) -> (bool, u64) {
+    let mut memory = Scarce {
+        alloc,
+        before,
+        refusals: 0,
+    };
+    let met = meets(alloc, &mut memory, row);
+    (met, memory.refusals)
 }
 
 // The first two calls are for the buffers and the list of the texts, the third for the desk.
 #[test]
 fn tells_memory_that_is_refused(rt: HostRuntime) {
     for (before, opened) in [(0, 0), (1, 0), (2, 2)] {
-        let mut memory = Scarce {
-            alloc: rt.alloc(),
-            before,
-            refusals: 0,
+        let row = Row {
+            words: &["one", "two"],
+            output: b"",
+            status: 5,
+            line: b"nroff: out of memory\n",
+            opened,
         };
-        let ran = run(rt.alloc(), &mut memory, &["one", "two"]);
-        assert_eq!(rt; ran.status, 5, "behind {before}");
-        assert!(rt; ran.output.is_empty(), "behind {before}");
-        assert!(rt; ran.line.as_slice() == b"nroff: out of memory\n".as_slice());
-        assert_eq!(rt; ran.opened, opened, "behind {before}");
-        assert_eq!(rt; memory.refusals, 1, "behind {before}");
+        assert!(rt;
+            meets_behind(rt.alloc(), before, &row) == (true, 1),
+            "behind {before}"
+        );
     }
-    let mut memory = Scarce {
-        alloc: rt.alloc(),
-        before: 3,
-        refusals: 0,
+    let row = Row {
+        words: &["one", "two"],
+        output: b"one two\n",
+        status: 0,
+        line: b"",
+        opened: 2,
     };
-    let ran = run(rt.alloc(), &mut memory, &["one", "two"]);
-    assert_eq!(rt; ran.status, 0);
-    assert!(rt; ran.output.as_slice() == b"one two\n".as_slice());
+    assert!(rt; meets_behind(rt.alloc(), 3, &row) == (true, 0));
 }

@@ -47,9 +47,8 @@ fn expect(
     let mut out = [0; 80];
     let mut errors = Slate::over(&mut out);
     let came = run_over(desk, &Options::plain(), input, output, &mut errors);
-    assert_eq!(rt; came, status);
-    assert!(rt; output.bytes() == printed, "status {status}");
-    assert!(rt; errors.bytes() == line, "status {status}");
+    let ended = (came, output.bytes(), errors.bytes());
+    assert!(rt; ended == (status, printed, line), "status {status}");
 }
 
 #[test]
@@ -125,16 +124,13 @@ fn every_allocation_refused(rt: HostRuntime) {
         &mut output,
         &mut errors,
     );
-    if refused {
-        assert_eq!(rt; status, 5);
-        assert!(rt; input.rest() == text);
-        assert!(rt; output.bytes().is_empty());
-        assert!(rt; errors.bytes() == b"nroff: out of memory\n".as_slice());
-        return;
-    }
-    assert_eq!(rt; status, 0);
-    assert!(rt; output.bytes() == b"hello\n\n".as_slice());
-    assert!(rt; errors.bytes().is_empty());
+    let ended = (status, input.rest(), output.bytes(), errors.bytes());
+    let wanted: (u8, &[u8], &[u8], &[u8]) = if refused {
+        (5, text, b"", b"nroff: out of memory\n")
+    } else {
+        (0, b"", b"hello\n\n", b"")
+    };
+    assert!(rt; ended == wanted);
 }
 
 // A writer of std that is full takes no byte, and answers no error: it is as one that fails at the first.

@@ -2,6 +2,7 @@
 
 use nr_command::run_program;
 use nr_command_line::fakes::{Closing, Page, System, Typed};
+use std::alloc::Global;
 use std::cell::Cell;
 
 /// A run in a system: its words, standard input, what it prints, its status and its line.
@@ -82,20 +83,27 @@ static SYSTEM_ROWS: [SystemRow; 7] = [
 #[test]
 fn runs_in_a_system(rt: HostRuntime) {
     for row in &SYSTEM_ROWS {
-        let system = System {
-            words: row.words,
-            texts: &SYSTEM_TEXTS,
-        };
-        let left = Cell::new(row.input);
-        let input = Typed { left: &left };
-        let mut output = Vec::new(rt.alloc());
-        let mut line = Vec::new(rt.alloc());
-        let status = run_program(&system, rt.alloc(), input, &mut output, &mut line);
         let words = row.words;
-        assert!(rt; output.as_slice() == row.output, "{words:?}");
-        assert!(rt; line.as_slice() == row.line, "{words:?}");
-        assert_eq!(rt; status, row.status, "{words:?}");
+        assert!(rt; meets(rt.alloc(), row), "{words:?}");
     }
+}
+
+/// Whether a run comes to what its row says.
+fn meets(alloc: Global, row: &SystemRow) -> bool {
+    let mut output = Vec::new(alloc);
+    let mut line = Vec::new(alloc);
+    let status = run_row(alloc, row, &mut output, &mut line);
+    output.as_slice() == row.output && line.as_slice() == row.line && status == row.status
+}
+
+/// Its status.
+fn run_row(alloc: Global, row: &SystemRow, output: &mut Vec<u8>, line: &mut Vec<u8>) -> u8 {
+    let system = System {
+        words: row.words,
+        texts: &SYSTEM_TEXTS,
+    };
+    let left = Cell::new(row.input);
+    run_program(&system, alloc, Typed { left: &left }, output, line)
 }
 
 static SYSTEM_TEXTS: [(&str, Page<'static>); 6] = [
