@@ -185,13 +185,18 @@ fn is_asked(job: &Job<'_>, asked: &Asked) -> bool {
         && reads(job, asked.inputs)
 }
 
+/// Whether the words are good, and ask for this.
+fn asks(asked: &Asked) -> bool {
+    match read_words(asked.words) {
+        Ok(job) => is_asked(&job, asked),
+        Err(_) => false,
+    }
+}
+
 #[test]
 fn jobs(rt: HostRuntime) {
     for asked in &JOBS {
         let words = asked.words;
-        match read_words(words) {
-            Ok(job) => assert!(rt; is_asked(&job, asked), "{words:?}"),
-            Err(_) => assert!(rt; false, "{words:?}"),
-        }
+        assert!(rt; asks(asked), "{words:?}");
     }
 }

@@ -35,13 +35,22 @@ static SELECTED: [(&[u8], i64, bool); 29] = [
     (b"0", 0, true),
 ];
 
-#[test]
-fn selects_listed_pages(rt: HostRuntime) -> Result<(), Fail> {
-    for (text, page, selected) in &SELECTED {
-        let select = Select::parse(text)?;
-        assert_eq!(rt; select.has(*page), *selected, "page {page} of {text:?}");
+/// Whether a page list selects the page; `None` where the text is no page list.
+fn selects(text: &[u8], page: i64) -> Option<bool> {
+    match Select::parse(text) {
+        Ok(select) => Some(select.has(page)),
+        Err(_) => None,
     }
-    Ok(())
+}
+
+#[test]
+fn selects_listed_pages(rt: HostRuntime) {
+    for (text, page, selected) in &SELECTED {
+        assert!(rt;
+            selects(text, *page) == Some(*selected),
+            "page {page} of {text:?}"
+        );
+    }
 }
 
 /// Texts that are no page list.
@@ -75,7 +84,7 @@ static REFUSED: [&[u8]; 24] = [
 #[test]
 fn refuses_other_texts(rt: HostRuntime) {
     for text in &REFUSED {
-        assert!(rt; Select::parse(text).is_err(), "{text:?}");
+        assert!(rt; selects(text, 1) == None, "{text:?}");
     }
 }
 
@@ -87,8 +96,8 @@ fn takes_64_items(rt: HostRuntime) -> Result<(), Fail> {
         text.extend_from_slice(b"1,")?;
     }
     text.push(b'9')?;
-    assert!(rt; Select::parse(text.as_slice())?.has(9));
+    assert!(rt; selects(text.as_slice(), 9) == Some(true));
     text.extend_from_slice(b",1")?;
-    assert!(rt; Select::parse(text.as_slice()).is_err());
+    assert!(rt; selects(text.as_slice(), 1) == None);
     Ok(())
 }

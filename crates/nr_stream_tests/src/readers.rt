@@ -26,36 +26,56 @@ fn read_all<S: Source>(source: &mut S, bytes: &mut [u8; 32]) -> (usize, usize) {
     (used, faults)
 }
 
+/// Whether the whole text comes, with this many faults.
+fn gives_text<S: Source>(source: &mut S, faults: usize) -> bool {
+    let mut bytes = [0; 32];
+    read_all(source, &mut bytes) == (7, faults) && bytes[..7] == TEXT[..]
+}
+
+/// Whether the text and then its end come by way of this room.
+fn ends_after_text(room: &mut [u8]) -> bool {
+    let turns = [Turn::AtMost(2), Turn::AtMost(1), Turn::AtMost(3)];
+    let mut reader = Uneven::new(TEXT, &turns);
+    let mut source = Buffered::over(&mut reader, room);
+    gives_text(&mut source, 0) && source.next() == Ok(None)
+}
+
 #[test]
 fn a_buffer_of_any_length_gives_the_same(rt: HostRuntime) {
     let mut room = [0; 9];
     for length in 0..10 {
-        let turns = [Turn::AtMost(2), Turn::AtMost(1), Turn::AtMost(3)];
-        let mut reader = Uneven::new(TEXT, &turns);
-        let mut source = Buffered::over(&mut reader, &mut room[..length]);
-        let mut bytes = [0; 32];
-        assert_eq!(rt; read_all(&mut source, &mut bytes), (7, 0), "with {length}");
-        assert_eq!(rt; source.next(), Ok(None));
-        assert_eq!(rt; bytes[..7], TEXT[..]);
+        assert!(rt; ends_after_text(&mut room[..length]), "with {length}");
     }
+}
+
+/// What the first call for a byte answers, how many failed then, and how often the reader was called.
+fn first_answer(turns: &[Turn]) -> (Result<Option<u8>, Fault>, u64, usize) {
+    let mut reader = Uneven::new(TEXT, turns);
+    let mut source = FromReader::over(&mut reader);
+    let answer = source.next();
+    let failed = source.failed_calls();
+    (answer, failed, reader.calls)
+}
+
+/// What the first two calls for a byte answer, and how many failed then.
+fn two_answers(turns: &[Turn]) -> (Result<Option<u8>, Fault>, Result<Option<u8>, Fault>, u64) {
+    let mut source = FromReader::over(Uneven::new(TEXT, turns));
+    let first = source.next();
+    let second = source.next();
+    (first, second, source.failed_calls())
 }
 
 #[test]
 fn an_interrupted_read_is_tried_again(rt: HostRuntime) {
-    let turns = [Turn::Interrupted; 64];
-    let mut reader = Uneven::new(TEXT, &turns);
-    let mut source = FromReader::over(&mut reader);
-    assert_eq!(rt; source.next(), Ok(Some(b'.')));
-    assert_eq!(rt; source.failed_calls(), 0);
-    assert_eq!(rt; reader.calls, 65);
-
-    let turns = [Turn::Interrupted; 66];
-    let mut reader = Uneven::new(TEXT, &turns);
-    let mut source = FromReader::over(&mut reader);
-    assert_eq!(rt; source.next(), Err(Fault));
-    assert_eq!(rt; source.next(), Ok(Some(b'.')));
-    assert_eq!(rt; source.failed_calls(), 1);
+    assert!(rt; first_answer(&[Turn::Interrupted; 64]) == (Ok(Some(b'.')), 0, 65));
+    assert!(rt; two_answers(&[Turn::Interrupted; 66]) == (Err(Fault), Ok(Some(b'.')), 1));
     assert_eq!(rt; RETRIES, 64);
+}
+
+/// Whether the text comes byte by byte from a reader that fails once, and that is counted.
+fn a_source_loses_none(turns: &[Turn]) -> bool {
+    let mut source = FromReader::over(Uneven::new(TEXT, turns));
+    gives_text(&mut source, 1) && source.failed_calls() == 1
 }
 
 #[test]
@@ -63,12 +83,15 @@ fn a_source_that_fails_loses_no_byte(rt: HostRuntime) {
     for place in 0..8 {
         let mut turns = [Turn::AtMost(1); 8];
         turns[place] = Turn::Broken;
-        let mut source = FromReader::over(Uneven::new(TEXT, &turns));
-        let mut bytes = [0; 32];
-        assert_eq!(rt; read_all(&mut source, &mut bytes), (7, 1), "at {place}");
-        assert_eq!(rt; source.failed_calls(), 1);
-        assert_eq!(rt; bytes[..7], TEXT[..]);
+        assert!(rt; a_source_loses_none(&turns), "at {place}");
     }
+}
+
+/// Whether the text comes by way of a buffer from a reader that fails once, and that is counted.
+fn a_buffer_loses_none(turns: &[Turn]) -> bool {
+    let mut room = [0; 4];
+    let mut source = Buffered::over(Uneven::new(TEXT, turns), &mut room);
+    gives_text(&mut source, 1) && source.failed_calls() == 1
 }
 
 #[test]
@@ -76,59 +99,68 @@ fn a_buffer_that_fails_loses_no_byte(rt: HostRuntime) {
     for place in 0..8 {
         let mut turns = [Turn::AtMost(1); 8];
         turns[place] = Turn::Broken;
-        let mut room = [0; 4];
-        let mut source = Buffered::over(Uneven::new(TEXT, &turns), &mut room);
-        let mut bytes = [0; 32];
-        assert_eq!(rt; read_all(&mut source, &mut bytes), (7, 1), "at {place}");
-        assert_eq!(rt; source.failed_calls(), 1);
-        assert_eq!(rt; bytes[..7], TEXT[..]);
+        assert!(rt; a_buffer_loses_none(&turns), "at {place}");
     }
+}
+
+/// Whether this many bytes come without a fault, and after the end the end again.
+fn ends_after<S: Source>(source: &mut S, used: usize) -> bool {
+    let mut bytes = [0; 32];
+    read_all(source, &mut bytes) == (used, 0) && source.next() == Ok(None)
+}
+
+/// Whether a buffer sees the end behind two bytes, and how often its reader was called.
+fn end_by_buffer(turns: &[Turn]) -> (bool, usize) {
+    let mut room = [0; 4];
+    let mut reader = Uneven::new(TEXT, turns);
+    let ends = ends_after(&mut Buffered::over(&mut reader, &mut room), 2);
+    (ends, reader.calls)
+}
+
+/// Whether a source sees the end behind one byte, and how often its reader was called.
+fn end_by_byte(turns: &[Turn]) -> (bool, usize) {
+    let mut reader = Uneven::new(TEXT, turns);
+    let ends = ends_after(&mut FromReader::over(&mut reader), 1);
+    (ends, reader.calls)
 }
 
 #[test]
 fn an_end_is_seen_once(rt: HostRuntime) {
-    let turns = [Turn::AtMost(2), Turn::AtMost(0)];
-    let mut room = [0; 4];
-    let mut reader = Uneven::new(TEXT, &turns);
-    let mut source = Buffered::over(&mut reader, &mut room);
-    let mut bytes = [0; 32];
-    assert_eq!(rt; read_all(&mut source, &mut bytes), (2, 0));
-    assert_eq!(rt; source.next(), Ok(None));
-    assert_eq!(rt; reader.calls, 2);
-
-    let turns = [Turn::AtMost(1), Turn::AtMost(0)];
-    let mut reader = Uneven::new(TEXT, &turns);
-    let mut source = FromReader::over(&mut reader);
-    assert_eq!(rt; read_all(&mut source, &mut bytes), (1, 0));
-    assert_eq!(rt; source.next(), Ok(None));
-    assert_eq!(rt; reader.calls, 2);
+    assert!(rt; end_by_buffer(&[Turn::AtMost(2), Turn::AtMost(0)]) == (true, 2));
+    assert!(rt; end_by_byte(&[Turn::AtMost(1), Turn::AtMost(0)]) == (true, 2));
 }
 
-/// Takes the first two of the bytes at hand, if there are as many.
-fn skip_two<S: Source>(source: &mut S) {
+/// Whether these bytes are at hand, and this byte comes next once the first two of them, if there are two, are skipped.
+fn skips_two<S: Source>(source: &mut S, at_hand: &[u8], byte: u8) -> bool {
+    if source.window() != at_hand {
+        return false;
+    }
     if source.window().len() >= 2 {
         source.skip(2);
     }
+    source.next() == Ok(Some(byte))
+}
+
+/// Whether the bytes that a buffer has at hand come next, also where it is called by reference.
+fn a_buffer_skips() -> bool {
+    let mut room = [0; 4];
+    let mut source = Buffered::over(Uneven::new(TEXT, &[]), &mut room);
+    source.next() == Ok(Some(b'.'))
+        && skips_two(&mut &mut source, b"br\n", b'\n')
+        && source.window().is_empty()
+        && source.next() == Ok(Some(b'a'))
+}
+
+/// Whether the bytes that a script has at hand come next, and then its fault.
+fn a_script_skips() -> bool {
+    let mut script = Script::failing_after(TEXT, 3);
+    skips_two(&mut script, b".br", b'r') && script.next() == Err(Fault)
 }
 
 #[test]
 fn a_window_is_what_comes_next(rt: HostRuntime) {
-    let mut room = [0; 4];
-    let mut source = Buffered::over(Uneven::new(TEXT, &[]), &mut room);
-    assert_eq!(rt; source.next(), Ok(Some(b'.')));
-    assert_eq!(rt; (&mut source).window(), b"br\n".as_slice());
-    skip_two(&mut &mut source);
-    assert_eq!(rt; source.next(), Ok(Some(b'\n')));
-    assert_eq!(rt; source.window(), b"".as_slice());
-    assert_eq!(rt; source.next(), Ok(Some(b'a')));
-
-    let mut script = Script::failing_after(TEXT, 3);
-    assert_eq!(rt; script.window(), b".br".as_slice());
-    skip_two(&mut script);
-    assert_eq!(rt; script.next(), Ok(Some(b'r')));
-    assert_eq!(rt; script.next(), Err(Fault));
-
+    assert!(rt; a_buffer_skips());
+    assert!(rt; a_script_skips());
     let mut reader = FromReader::over(Uneven::new(TEXT, &[]));
-    skip_two(&mut reader);
-    assert_eq!(rt; reader.next(), Ok(Some(b'.')));
+    assert!(rt; skips_two(&mut reader, b"", b'.'));
 }
