@@ -1,6 +1,6 @@
 -- What is told of a page: the first complaints, as many as there is room for, and whether there was more.
 use Rattle.std.specs.Prelude.{ℕ, List, [], ◌∷◌, ◌++◌, length, Bool, true, false, ◌==◌, if◌then◌else◌}
-use Rattle.nr_units.specs.Items.{Items}
+use Rattle.nr_vectors.specs.Items.{Items}
 use Rattle.mdoc.specs.declared.blocks.OpenBlock.{OpenBlock}
 use Rattle.mdoc.specs.declared.telling.Complaint.{Complaint}
 use Rattle.mdoc.specs.declared.telling.Kind.{Kind}

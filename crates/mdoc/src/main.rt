@@ -1,6 +1,6 @@
 //! The program mdoc: it turns manual pages of mdoc(7) into pages of man(7), to standard output.
 //!
-//! It stands on nr_filters, nr_mdoc and nr_units. To read: `names`, `lines`, `blocks`, `telling`, `watching`,
+//! It stands on nr_filters, nr_mdoc, nr_units and nr_vectors. To read: `names`, `lines`, `blocks`, `telling`, `watching`,
 //! `watched`; `complaints`, `rooms`, `program`.
 #![tactic(auto)]
 

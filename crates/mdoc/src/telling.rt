@@ -4,7 +4,7 @@ ghost use Rattle.mdoc.specs.Telling as specs;
 
 use super::blocks::OpenBlock;
 use nr_units::Name;
-use nr_units::slice_vec::SliceVec;
+use nr_vectors::slice_vec::SliceVec;
 use std::alloc::{AllocError, Global};
 use std::marker::Model;
 

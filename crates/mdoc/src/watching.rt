@@ -8,7 +8,7 @@ use super::names::{opener_of, opens};
 use super::telling::{Complaint, Kind, Told};
 use nr_mdoc::is_macro;
 use nr_units::Name;
-use nr_units::slice_vec::SliceVec;
+use nr_vectors::slice_vec::SliceVec;
 use std::marker::Model;
 
 /// A page as far as it came: what is half read of it, its blocks that are open, the last of them first, and what is told.

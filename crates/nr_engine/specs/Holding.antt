@@ -4,7 +4,7 @@ use Rattle.std.specs.Io.KnownBytes.{Appends, Keeps}
 use Rattle.nr_units.specs.Failures.{counted_if}
 use Rattle.nr_units.specs.Source.{Supply}
 use Rattle.nr_units.specs.Sink.{AppendsFront}
-use Rattle.nr_units.specs.declared.cell.Cell.{Cell}
+use Rattle.nr_vectors.specs.declared.cell.Cell.{Cell}
 use Rattle.nr_fill.specs.CellRow.{Row, IsRow}
 use Rattle.nr_page.specs.Grid.{Placed, page_charge}
 use Rattle.nr_page.specs.Page.{Sheet, Holds as HoldsPage}

@@ -1,7 +1,7 @@
 -- The machine: marked-up text into pages, by small moves over the whole input.
 use Rattle.std.specs.Prelude.{ℕ, zero, suc, ◌+◌, ◌-◌, ◌/◌, ◌^◌, min, Bool, not, if◌then◌else◌, List, [], ◌∷◌, ◌++◌, length, replicate, Option, None, Some, is_none, ℤ}
-use Rattle.nr_units.specs.Cell.{blank, trimmed}
-use Rattle.nr_units.specs.declared.cell.Cell.{Cell}
+use Rattle.nr_vectors.specs.Cell.{blank, trimmed}
+use Rattle.nr_vectors.specs.declared.cell.Cell.{Cell}
 use Rattle.nr_fill.specs.Piece.{is_nil}
 use Rattle.nr_page.specs.Grid.{Placed}
 use Rattle.nr_store.specs.Store.{is_held}

@@ -1,7 +1,7 @@
 -- The state of the machine, between two moves.
 use Rattle.std.specs.Prelude.{ℕ, Bool, List, [], ◌∷◌, map, Option, ℤ}
 use Rattle.nr_units.specs.Source.{Supply}
-use Rattle.nr_units.specs.declared.cell.Cell.{Cell}
+use Rattle.nr_vectors.specs.declared.cell.Cell.{Cell}
 use Rattle.nr_fill.specs.Piece.{nothing_collected}
 use Rattle.nr_page.specs.Grid.{Placed}
 use Rattle.nr_page.specs.declared.selection.PageRange.{PageRange}

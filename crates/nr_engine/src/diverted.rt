@@ -1,7 +1,7 @@
 //! Diverted lines that are read again. (CSTR 54, section 7.4.)
 ghost use Rattle.std.specs.Prelude.{◌≡◌, ◌++◌, ◌∷◌, [], List, replicate, Ok};
-ghost use Rattle.nr_units.specs.Cell.{blank};
-ghost use Rattle.nr_units.specs.declared.cell.Cell.{Cell as CellValue};
+ghost use Rattle.nr_vectors.specs.Cell.{blank};
+ghost use Rattle.nr_vectors.specs.declared.cell.Cell.{Cell as CellValue};
 ghost use Rattle.nr_fill.specs.CellRow.{IsRow, AddsToRow};
 ghost use Rattle.nr_formatter.specs.Places.{outlet};
 ghost use Rattle.nr_formatter.specs.declared.paper.Outlet.TheVariants as outlets;
@@ -19,8 +19,8 @@ use nr_fill::cells::CellSink;
 use nr_formatter::paper::Outlet;
 use nr_formatter::tasks::Task;
 use nr_input::Event;
-use nr_units::cell::Cell;
 use nr_units::sink::Sink;
+use nr_vectors::cell::Cell;
 
 impl Engine {
     /// How many blanks stand before the next cell, in cells: the margin before the first.

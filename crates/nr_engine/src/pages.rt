@@ -3,7 +3,7 @@ ghost use Rattle.std.specs.Prelude.{◌≡◌, List, Option, Bool, Ok, Err, OnOk
 ghost use Rattle.std.specs.Io.KnownBytes.{Appends};
 ghost use Rattle.nr_units.specs.Sink.{AppendsFront};
 ghost use Rattle.nr_fill.specs.CellRow.{IsRow};
-ghost use Rattle.nr_units.specs.declared.cell.Cell.{Cell as CellValue};
+ghost use Rattle.nr_vectors.specs.declared.cell.Cell.{Cell as CellValue};
 ghost use Rattle.nr_page.specs.Page.{Holds as HoldsPage};
 ghost use Rattle.nr_formatter.specs.Places.{is_open};
 ghost use Rattle.nr_formatter.specs.Weights.{Falls};

@@ -3,7 +3,7 @@
 //! their ends; data/examples_of_tables lists inputs that go through tbl first, with their limits and what that reports;
 //! data/examples_with_faults lists inputs that are run with a fault at every byte. The program runs them.
 //!
-//! It stands on nr_units, nr_characters, nr_engine and nr_tables. To read: this file, `limits`, `tables`, `faults`.
+//! It stands on nr_units, nr_vectors, nr_characters, nr_engine and nr_tables. To read: this file, `limits`, `tables`, `faults`.
 #![tactic(auto)]
 
 use nr_engine::{Buffered, CountedAlloc, Desk, Limits, Options, Outcome, Sink, Source, format};

@@ -5,7 +5,7 @@ use nr_characters::Table;
 use nr_engine::{Buffered, Desk, Outcome, Sink, Source};
 use nr_tables::{Complaint, Report, Rooms, convert};
 use nr_units::fakes::{Script, Slate};
-use nr_units::slice_vec::SliceVec;
+use nr_vectors::slice_vec::SliceVec;
 use std::alloc::{AllocError, Global};
 use std::fs;
 use std::rt::Files;

@@ -4,7 +4,7 @@ use Rattle.std.proofs.lemmas.List.{take-append-drop, take_all, drop_all, drop-dr
 use Rattle.std.proofs.lemmas.Bool.{ne_eqb, cases_lt}
 use Rattle.std.proofs.lemmas.List.Elements.{All-drop, All-push, All-take}
 use Rattle.std.proofs.lemmas.List.Sums.{sum_by-cons, sum_by_push, sum_by-take-drop}
-use Rattle.nr_units.specs.declared.cell.Cell.{Cell}
+use Rattle.nr_vectors.specs.declared.cell.Cell.{Cell}
 use Rattle.nr_fill.specs.declared.line.WordState.{WordState}
 use Rattle.nr_settings.specs.declared.indents.Margins.{Margins}
 use Rattle.nr_fill.specs.declared.margins.Turn.{Turn}

@@ -3,8 +3,8 @@ use Rattle.std.proofs.Common.{◌≡◌, ℕ, ◌+◌, ◌-◌, ◌≤◌, ◌<�
 use Rattle.std.proofs.lemmas.Bool.{lt-ltb, le-ltb, cases_lt}
 use Rattle.std.proofs.lemmas.List.{length-map, length-replicate, take-append-drop}
 use Rattle.std.proofs.lemmas.List.Sums.{sum_by_push, sum_by-append, sum_by-cons}
-use Rattle.nr_units.specs.Cell.{blank}
-use Rattle.nr_units.specs.declared.cell.Cell.{Cell}
+use Rattle.nr_vectors.specs.Cell.{blank}
+use Rattle.nr_vectors.specs.declared.cell.Cell.{Cell}
 use Rattle.nr_fill.specs.declared.line.LineCells.{LineCells}
 use Rattle.nr_settings.specs.declared.indents.Margins.{Margins}
 use Rattle.nr_fill.specs.declared.piece.Behind.{Behind}

@@ -4,7 +4,7 @@ use Rattle.std.specs.Prelude.{count_by}
 use Rattle.std.specs.List.{flat_map}
 use Rattle.std.proofs.lemmas.List.{take-append-le, drop-append-le, drop-drop, take_all, drop_all}
 use Rattle.std.proofs.lemmas.List.Sums.{sum_by-cons}
-use Rattle.nr_units.specs.declared.cell.Cell.{Cell}
+use Rattle.nr_vectors.specs.declared.cell.Cell.{Cell}
 use Rattle.nr_fill.specs.declared.piece.Join.{Join}
 use Rattle.nr_fill.specs.declared.piece.PieceSlot.{PieceSlot}
 use Rattle.nr_fill.specs.Cutting.{join_width, piece_width, pieces_width, width, front_width, hyphen_before}

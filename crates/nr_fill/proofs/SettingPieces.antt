@@ -2,8 +2,8 @@
 use Rattle.std.proofs.Common.{◌≡◌, ℕ, ◌+◌, ◌≤◌, ◌<◌, List, [], ◌∷◌, ◌++◌, length, take, drop, replicate, get_or, refl, ap, sym, ◌∙◌, append_assoc, arith}
 use Rattle.std.proofs.lemmas.List.{append-nil, drop_more, drop_all, drop-drop}
 use Rattle.std.proofs.lemmas.List.Sums.{sum_by-le-sum_by}
-use Rattle.nr_units.specs.Cell.{blank}
-use Rattle.nr_units.specs.declared.cell.Cell.{Cell}
+use Rattle.nr_vectors.specs.Cell.{blank}
+use Rattle.nr_vectors.specs.declared.cell.Cell.{Cell}
 use Rattle.nr_fill.specs.declared.piece.PieceSlot.{PieceSlot}
 use Rattle.nr_fill.specs.declared.setting.Extra.{Extra}
 use Rattle.nr_fill.specs.Cutting.{join_width}

@@ -5,7 +5,7 @@ use Rattle.std.proofs.Math.Nat.{div-mul-le_self}
 use Rattle.std.proofs.lemmas.Bool.{cases_Bool}
 use Rattle.std.proofs.lemmas.List.{length-replicate}
 use Rattle.std.proofs.lemmas.List.Sums.{sum_by-cons, count_by-le-length}
-use Rattle.nr_units.specs.Cell.{blank}
+use Rattle.nr_vectors.specs.Cell.{blank}
 use Rattle.nr_fill.specs.declared.margins.Turn.{Turn}
 use Rattle.nr_fill.specs.declared.margins.Turn.TheVariants as turns
 use Rattle.nr_fill.specs.declared.piece.Join.{Join}

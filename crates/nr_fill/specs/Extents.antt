@@ -1,7 +1,7 @@
 -- How far cells reach: how many there are, and how many up to the last that is no blank.
 use Rattle.std.specs.Prelude.{◌≡◌, ℕ, ◌+◌, ◌-◌, ◌^◌, ◌==◌, min, if◌then◌else◌, List, [], ◌++◌, length}
-use Rattle.nr_units.specs.Cell.{trimmed}
-use Rattle.nr_units.specs.declared.cell.Cell.{Cell}
+use Rattle.nr_vectors.specs.Cell.{trimmed}
+use Rattle.nr_vectors.specs.declared.cell.Cell.{Cell}
 
 -- a count as far as it is kept
 abbrev pub counted : ℕ → ℕ

@@ -1,6 +1,6 @@
 -- Pieces one after another, after them the cells of one that has no end yet, and those of a title.
 use Rattle.std.specs.Prelude.{◌≡◌, ℕ, ◌+◌, ◌-◌, ◌≤◌, ◌<◌, ◌^◌, List, length, take, drop}
-use Rattle.nr_units.specs.declared.cell.Cell.{Cell}
+use Rattle.nr_vectors.specs.declared.cell.Cell.{Cell}
 use Rattle.nr_fill.specs.declared.piece.PieceSlot.{PieceSlot}
 use Rattle.nr_fill.specs.Piece.{Piece, cells_in}
 use Rattle.nr_fill.specs.Slots.{pieces_of, cells_in_slots}

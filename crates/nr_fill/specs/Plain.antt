@@ -1,7 +1,7 @@
 -- Bytes that stand for themselves, as cells.
 use Prim.Native.Char.{code}
 use Rattle.std.specs.Prelude.{ℕ, ◌<◌, ◌≢◌, Bool}
-use Rattle.nr_units.specs.declared.cell.Cell.{Cell}
+use Rattle.nr_vectors.specs.declared.cell.Cell.{Cell}
 
 -- a byte that prints, but for the blank, `-` and `\`
 abbrev pub IsPlain : ℕ → Type 0

@@ -1,7 +1,7 @@
 -- Runs of bytes that stand for themselves, and of blanks.
 use Prim.Native.Char.{code}
 use Rattle.std.specs.Prelude.{◌≡◌, ℕ, zero, suc, ◌+◌, ◌<◌, Bool, true, List, [], ◌∷◌, ◌++◌, length, map, replicate, slice_index, None}
-use Rattle.nr_units.specs.Cell.{blank}
+use Rattle.nr_vectors.specs.Cell.{blank}
 use Rattle.nr_settings.specs.declared.indents.Margins.{Margins}
 use Rattle.nr_fill.specs.declared.piece.Behind.TheVariants.{Letter}
 use Rattle.nr_fill.specs.Piece.{Collected, Word, add_blank, add_cell, append, end_word, one_blank_more, pending_without_point}

@@ -1,8 +1,8 @@
 -- Setting a line: where its cells stand in the row. (CSTR 54, sections 4.1 and 4.2; on indents section 6.)
 use Prim.Native.Char.{code}
 use Rattle.std.specs.Prelude.{ℕ, ◌+◌, ◌-◌, ◌/◌, Bool, false, ◌&&◌, nat_lt, if◌then◌else◌, List, ◌++◌, length, take, drop, replicate}
-use Rattle.nr_units.specs.Cell.{blank, trimmed}
-use Rattle.nr_units.specs.declared.cell.Cell.{Cell}
+use Rattle.nr_vectors.specs.Cell.{blank, trimmed}
+use Rattle.nr_vectors.specs.declared.cell.Cell.{Cell}
 use Rattle.nr_settings.specs.declared.indents.Margins.{Margins}
 use Rattle.nr_settings.specs.declared.filling.Align.{Align}
 use Rattle.nr_settings.specs.declared.filling.Align.TheVariants.{Left, Spread, Right, Centre}

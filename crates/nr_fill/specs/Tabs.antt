@@ -1,6 +1,6 @@
 -- Tabs and leaders. (CSTR 54, section 9.)
 use Rattle.std.specs.Prelude.{ℕ, ◌-◌, ◌/◌, Bool, false, nat_lt, if◌then◌else◌, List, ◌++◌, length, take, drop, replicate, find, Option, None, Some}
-use Rattle.nr_units.specs.declared.cell.Cell.{Cell}
+use Rattle.nr_vectors.specs.declared.cell.Cell.{Cell}
 use Rattle.nr_settings.specs.declared.indents.Margins.{Margins}
 use Rattle.nr_fill.specs.declared.stops.Field.{Field}
 use Rattle.nr_fill.specs.declared.stops.Pending.{Pending}

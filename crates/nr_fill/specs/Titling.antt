@@ -1,6 +1,6 @@
 -- How a title that is being read lies in a row of cells.
 use Rattle.std.specs.Prelude.{ℕ, ◌+◌, ◌-◌, List, [], take, drop, Option, None, Some}
-use Rattle.nr_units.specs.declared.cell.Cell.{Cell}
+use Rattle.nr_vectors.specs.declared.cell.Cell.{Cell}
 use Rattle.nr_fill.specs.declared.title.TitleState.{TitleState}
 use Rattle.nr_fill.specs.declared.title.TitleState.TheVariants as states
 use Rattle.nr_fill.specs.declared.title.TitlePart.TheVariants as parts

@@ -1,16 +1,16 @@
 //! Rows in memory that a line is laid in at once.
 ghost use Rattle.std.specs.Prelude.{◌≡◌, ◌+◌, ◌<◌, ◌≤◌, ◌^◌, ◌++◌, length, take, replicate};
-ghost use Rattle.nr_units.specs.Items.{Items};
-ghost use Rattle.nr_units.specs.declared.cell.Cell.{Cell as CellValue};
+ghost use Rattle.nr_vectors.specs.Items.{Items};
+ghost use Rattle.nr_vectors.specs.declared.cell.Cell.{Cell as CellValue};
 ghost use Rattle.nr_fill.specs.Slots.{pieces_of, cells_in_slots};
 ghost use Rattle.nr_fill.specs.Spreading.{cells_in_line};
 
 use crate::cutting::{blanks_of, gap_behind};
 use crate::piece::PieceSlot;
 use crate::setting::Extra;
-use nr_units::cell::Cell;
-use nr_units::slice_vec::SliceVec;
 use nr_vectors::FixedVec;
+use nr_vectors::cell::Cell;
+use nr_vectors::slice_vec::SliceVec;
 
 /// Cells in memory, with a capacity that stays.
 pub trait CellRow {

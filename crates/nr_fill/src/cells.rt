@@ -1,7 +1,7 @@
 //! Where the cells of a row go.
 ghost use Rattle.std.specs.Prelude.{◌≡◌, ◌<◌, ◌≤◌, ◌^◌, List, [], ◌∷◌, ◌++◌, length, replicate, IfSome, None};
-ghost use Rattle.nr_units.specs.Cell.{blank};
-ghost use Rattle.nr_units.specs.declared.cell.Cell.{Cell as CellValue};
+ghost use Rattle.nr_vectors.specs.Cell.{blank};
+ghost use Rattle.nr_vectors.specs.declared.cell.Cell.{Cell as CellValue};
 ghost use Rattle.nr_fill.specs.Extents.{IsExtent};
 ghost use Rattle.nr_fill.specs.Slots.{pieces_of, cells_in_slots};
 ghost use Rattle.nr_fill.specs.Spreading.{cells_in_line};
@@ -9,7 +9,7 @@ ghost use Rattle.nr_fill.specs.Spreading.{cells_in_line};
 use crate::measured::Extent;
 use crate::piece::PieceSlot;
 use crate::setting::Extra;
-use nr_units::cell::Cell;
+use nr_vectors::cell::Cell;
 
 /// Takes the cells of a row one after another.
 pub trait CellSink {

@@ -1,6 +1,6 @@
 // Which pieces go out in one line, and how they are set.
 ghost use Rattle.std.specs.Prelude.{◌≡◌, ◌+◌, ◌<◌, ◌≤◌, ◌^◌, ◌++◌, List, length, get_or};
-ghost use Rattle.nr_units.specs.declared.cell.Cell.{Cell as CellValue};
+ghost use Rattle.nr_vectors.specs.declared.cell.Cell.{Cell as CellValue};
 ghost use Rattle.nr_fill.specs.Cutting.{cut, join_width};
 ghost use Rattle.nr_fill.specs.Extents.{IsExtent};
 ghost use Rattle.nr_fill.specs.Slots.{blank_slot, pieces_of, cells_in_slots, slots_width, gap_slots};
@@ -10,7 +10,7 @@ use crate::cells::CellSink;
 use crate::measured::Extent;
 use crate::piece::{Join, PieceSlot};
 use crate::setting::Extra;
-use nr_units::cell::Cell;
+use nr_vectors::cell::Cell;
 
 /// What the pieces of a line come to.
 #[derive(Clone, Copy)]

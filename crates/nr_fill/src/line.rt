@@ -9,8 +9,8 @@ use crate::piece::Join;
 use crate::piece_row::PieceRow;
 use crate::stops::Pending;
 use crate::title::TitleState;
-use nr_units::cell::Cell;
 use nr_vectors::CountedAlloc;
+use nr_vectors::cell::Cell;
 use std::alloc::AllocError;
 use std::marker::Model;
 

@@ -1,10 +1,10 @@
 //! How far cells reach.
 ghost use Rattle.std.specs.Prelude.{◌≡◌, ◌-◌, ◌≤◌, length, replicate};
 ghost use Rattle.std.specs.List.{suffix_len};
-ghost use Rattle.nr_units.specs.Cell.{blank, is_blank};
+ghost use Rattle.nr_vectors.specs.Cell.{blank, is_blank};
 ghost use Rattle.nr_fill.specs.Extents.{AddsToExtent, IsExtent, written_behind};
 
-use nr_units::cell::Cell;
+use nr_vectors::cell::Cell;
 
 /// How many cells there are, and how many up to the last that is no blank.
 #[derive(Clone, Copy)]

@@ -1,7 +1,7 @@
 //! The row that a line is set in.
 ghost use Rattle.std.specs.Prelude.{◌≡◌, ◌+◌, ◌<◌, ◌≤◌, ◌^◌, ◌↔◌, List, [], length, MatchOption, None, IfSome, IsSome, IfOk};
-ghost use Rattle.nr_units.specs.Cell.{trimmed};
-ghost use Rattle.nr_units.specs.declared.cell.Cell.{Cell as CellValue};
+ghost use Rattle.nr_vectors.specs.Cell.{trimmed};
+ghost use Rattle.nr_vectors.specs.declared.cell.Cell.{Cell as CellValue};
 ghost use Rattle.nr_fill.specs.Extents.{IsExtent};
 ghost use Rattle.nr_fill.specs.Piece.{is_nil};
 ghost use Rattle.nr_fill.specs.CellRow.{AddsToRow, AddsToRow-both, AddsToRow-nothing, IsRow, row_of};
@@ -13,7 +13,7 @@ use crate::cells::CellSink;
 use crate::measured::{Extent, written_behind, written_len};
 use crate::piece::PieceSlot;
 use crate::setting::Extra;
-use nr_units::cell::Cell;
+use nr_vectors::cell::Cell;
 use nr_vectors::{CountedAlloc, FixedVec};
 use std::alloc::AllocError;
 use std::marker::Model;

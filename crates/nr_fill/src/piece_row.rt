@@ -1,7 +1,7 @@
 // Pieces one after another in two vectors, after them the cells of one that has no end yet, and those of a title.
 ghost use Rattle.std.specs.Prelude.{◌≡◌, ℕ, ◌+◌, ◌-◌, ◌<◌, ◌≤◌, ◌^◌, List, [], ◌∷◌, ◌++◌, length, map, min, take, drop, replicate, slice_index, All, IfOk};
 ghost use Rattle.std.specs.List.{flat_map};
-ghost use Rattle.nr_units.specs.declared.cell.Cell.{Cell as CellValue};
+ghost use Rattle.nr_vectors.specs.declared.cell.Cell.{Cell as CellValue};
 ghost use Rattle.nr_fill.specs.Cutting.{cut, hyphen_before, pieces_width};
 ghost use Rattle.nr_fill.specs.Extents.{IsExtent};
 ghost use Rattle.nr_fill.specs.Laid.{read_cells};
@@ -15,8 +15,8 @@ use crate::measured::Extent;
 use crate::piece::{Join, PieceSlot};
 use crate::queue::Queue;
 use crate::setting::Extra;
-use nr_units::cell::Cell;
 use nr_vectors::CountedAlloc;
+use nr_vectors::cell::Cell;
 use std::alloc::AllocError;
 use std::marker::Model;
 

@@ -2,7 +2,7 @@
 ghost use Rattle.std.specs.Prelude.{◌≡◌, ◌<◌, ◌≤◌, ◌↔◌, IsTrue, length, map, take, slice_index, All};
 ghost use Rattle.nr_fill.specs.Plain.{IsPlain, run_cell};
 
-use nr_units::cell::Cell;
+use nr_vectors::cell::Cell;
 
 /// Whether the byte is a cell of a word, after which no line may be cut, wherever it stands in a text line's midst.
 #[inline]

@@ -3,7 +3,7 @@ ghost use Rattle.std.specs.Prelude.{◌≡◌, ◌+◌, ◌-◌, ◌<◌, ◌≤
 ghost use Rattle.nr_fill.specs.Plain.{IsPlain, run_cell};
 
 use crate::plain::set_plain;
-use nr_units::cell::Cell;
+use nr_vectors::cell::Cell;
 use nr_vectors::{CountedAlloc, ReservedVec};
 use std::alloc::AllocError;
 use std::marker::Model;
@@ -22,7 +22,7 @@ pub(crate) struct Queue<T: Copy> {
 
 impl<T: Copy> Model for Queue<T> {
     ghost use Rattle.std.specs.Prelude.{◌≡◌, ◌≤◌, length, take, drop};
-    ghost use Rattle.nr_units.specs.Items.{Items};
+    ghost use Rattle.nr_vectors.specs.Items.{Items};
 
     ghost Value = { Items T };
 

@@ -12,7 +12,7 @@ use crate::piece::Join;
 use crate::plain::is_plain;
 use crate::words::ends_sentence;
 use nr_settings::Indents;
-use nr_units::cell::Cell;
+use nr_vectors::cell::Cell;
 
 /// How much of some bytes was read.
 #[derive(Clone, Copy)]

@@ -1,7 +1,7 @@
 //! Tab stops. (CSTR 54, section 9.)
 use crate::piece::Point;
 pub use nr_settings::{Stop, StopKind};
-use nr_units::cell::Cell;
+use nr_vectors::cell::Cell;
 
 /// The text for a right or centring stop, while it is read.
 #[derive(Clone, Copy)]

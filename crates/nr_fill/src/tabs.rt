@@ -7,7 +7,7 @@ ghost use Rattle.nr_fill.specs.Tabs.{before_stop, field_fill, fill_count, first_
 use crate::line::{Line, LineCells};
 use crate::margins::Margins;
 use crate::stops::{Field, Pending, Stop, StopKind};
-use nr_units::cell::Cell;
+use nr_vectors::cell::Cell;
 
 /// The first stop in the list beyond the column.
 fn first_beyond(column: usize, stops: &[Stop]) -> Option<Stop>

@@ -1,6 +1,6 @@
 // Lines go out of what is collected. (CSTR 54, section 4.1.)
 ghost use Rattle.std.specs.Prelude.{◌≡◌, ◌+◌, ◌*◌, ◌<◌, ◌≤◌, ◌^◌, ◌++◌, length, take, drop, replicate};
-ghost use Rattle.nr_units.specs.Cell.{blank, trimmed};
+ghost use Rattle.nr_vectors.specs.Cell.{blank, trimmed};
 ghost use Rattle.nr_fill.specs.Cutting.{hyphen_before, pieces_width};
 ghost use Rattle.nr_fill.specs.Piece.{cells_in};
 ghost use Rattle.nr_fill.specs.Spreading.{cells_in_line, gaps};
@@ -11,7 +11,7 @@ use crate::cutting::Sums;
 use crate::line::Line;
 use crate::margins::{Margins, margins_behind};
 use crate::setting::{Extra, Setting, shift_of, spreads_gaps};
-use nr_units::cell::Cell;
+use nr_vectors::cell::Cell;
 
 /// What the first pieces of a line come to.
 #[derive(Clone, Copy)]

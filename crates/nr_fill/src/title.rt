@@ -5,7 +5,7 @@ ghost use Rattle.nr_fill.specs.Titling.{next_state, parted_title, title_of};
 ghost use Rattle.nr_fill.specs.Title.{Title, cell_of, is_within, title_or_empty, title_row};
 
 use crate::cells::CellSink;
-use nr_units::cell::Cell;
+use nr_vectors::cell::Cell;
 
 /// The part of a title that is being read.
 #[derive(Clone, Copy)]

@@ -7,7 +7,7 @@ ghost use Rattle.nr_fill.specs.Title.{titled_row};
 use crate::cells::CellSink;
 use crate::line::{Line, LineCells};
 use crate::title::{TitleParts, TitleState, set_parts};
-use nr_units::cell::Cell;
+use nr_vectors::cell::Cell;
 
 impl Line {
     /// A title begins with its left part, which has no cells yet. It shares the line's cells: what is added to the

@@ -8,7 +8,7 @@ use crate::line::{Line, LineCells, WIDEST_GAP, WordState};
 use crate::margins::Margins;
 use crate::piece::{Behind, Join, Point};
 use crate::stops::Pending;
-use nr_units::cell::Cell;
+use nr_vectors::cell::Cell;
 
 /// Whether the cell ends a sentence.
 #[inline]

@@ -3,7 +3,7 @@ use Prim.Native.Char.{code}
 use Rattle.std.proofs.Common.{◌≡◌, ℕ, ◌+◌, ◌-◌, ◌≤◌, Bool, true, false, Option, None, Some, refl, sym, subst, arith}
 use Rattle.std.specs.Prelude.{◌==◌, ◌&&◌, if◌then◌else◌, not, unwrap_or}
 use Rattle.std.proofs.lemmas.Bool.{cond_both, eqb-true}
-use Rattle.nr_units.specs.declared.cell.Cell.{Cell}
+use Rattle.nr_vectors.specs.declared.cell.Cell.{Cell}
 use Rattle.nr_settings.specs.declared.indents.Margins.{Margins}
 use Rattle.nr_settings.specs.declared.stops.Stop.{Stop}
 use Rattle.nr_fill.specs.declared.piece.Behind.TheVariants.{Hyphen}

@@ -2,7 +2,7 @@
 use Rattle.std.proofs.Common.{◌≡◌, ℕ, ◌+◌, ◌<◌, ◌≤◌, Bool, true, false, if◌then◌else◌, List, [], ◌∷◌, ◌++◌, length, min, replicate, Option, None, Some, Result, Ok, Err, OnOk, refl, ap, sym, subst, arith, length-drop}
 use Rattle.std.specs.List.{fold}
 use Rattle.std.specs.Option.{option_map}
-use Rattle.nr_units.specs.declared.cell.Cell.{Cell}
+use Rattle.nr_vectors.specs.declared.cell.Cell.{Cell}
 use Rattle.nr_fill.specs.Piece.{Collected}
 use Rattle.nr_fill.specs.Setting.{cut_of}
 use Rattle.nr_store.specs.declared.element.Element.{Element}

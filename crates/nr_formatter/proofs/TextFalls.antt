@@ -2,7 +2,7 @@
 use Prim.Native.Char.{code}
 use Rattle.std.proofs.Common.{◌≡◌, ◌≤◌, ◌==◌, ℕ, ◌+◌, true, not, List, [], ◌∷◌, replicate, Option, None, Some, unwrap_or, refl, ap, arith}
 use Rattle.std.proofs.lemmas.Bool.{cond_both}
-use Rattle.nr_units.specs.declared.cell.Cell.{Cell}
+use Rattle.nr_vectors.specs.declared.cell.Cell.{Cell}
 use Rattle.nr_fill.specs.declared.piece.Behind.{Behind}
 use Rattle.nr_fill.specs.declared.piece.Behind.TheVariants.{Letter, Hyphen, Dash}
 use Rattle.nr_fill.specs.Piece.{Collected, with_title_cell}

@@ -1,6 +1,6 @@
 -- What the parts of a formatter say.
 use Rattle.std.specs.Prelude.{ℕ, Bool, List, Option}
-use Rattle.nr_units.specs.declared.cell.Cell.{Cell}
+use Rattle.nr_vectors.specs.declared.cell.Cell.{Cell}
 use Rattle.nr_fill.specs.Piece.{Collected}
 use Rattle.nr_fill.specs.declared.margins.Margins.{Margins}
 use Rattle.nr_store.specs.declared.element.Diversion.{Diversion}

@@ -2,8 +2,8 @@
 use Rattle.std.specs.Prelude.{◌≡◌, ℕ, ◌<◌, ◌^◌, ◌-◌, ◌&&◌, min, Bool, true, false, if◌then◌else◌, List, [], ◌++◌, map, replicate}
 use Rattle.std.proofs.Common.{sym, append_assoc, subst}
 use Rattle.std.proofs.lemmas.List.{append-nil}
-use Rattle.nr_units.specs.Cell.{blank, is_blank, trimmed}
-use Rattle.nr_units.specs.declared.cell.Cell.{Cell}
+use Rattle.nr_vectors.specs.Cell.{blank, is_blank, trimmed}
+use Rattle.nr_vectors.specs.declared.cell.Cell.{Cell}
 use Rattle.nr_store.specs.declared.element.Element.TheVariants as elements
 use Rattle.nr_store.specs.Store.{Stored, added, charge_of}
 use Rattle.nr_formatter.specs.declared.tasks.Resume.{Resume}

@@ -1,6 +1,6 @@
 -- Diversions. (CSTR 54, section 7.4; groff manual, diversions.)
 use Rattle.std.specs.Prelude.{ℕ, ◌+◌, min, ◌&&◌, if◌then◌else◌, List, [], ◌∷◌, ◌++◌, replicate, Option, None, Some, pos, int_lt, int_le}
-use Rattle.nr_units.specs.declared.cell.Cell.{Cell}
+use Rattle.nr_vectors.specs.declared.cell.Cell.{Cell}
 use Rattle.nr_symbol_tables.specs.declared.trap.Trap.{Trap}
 use Rattle.nr_store.specs.declared.element.Diversion.{Diversion}
 use Rattle.nr_store.specs.declared.element.Element.TheVariants as elements

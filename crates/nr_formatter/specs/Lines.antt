@@ -1,7 +1,7 @@
 -- The ends of words, which lines go out, and breaks. (CSTR 54, section 4; on the points of `.hw` section 13.)
 use Rattle.std.specs.Prelude.{ℕ, ◌*◌, ◌-◌, Bool, true, false, not, ◌&&◌, ◌==◌, nat_le, if◌then◌else◌, List, length, take, Option, None, Some, is_none, min}
 use Rattle.std.specs.List.{fold}
-use Rattle.nr_units.specs.declared.cell.Cell.{Cell}
+use Rattle.nr_vectors.specs.declared.cell.Cell.{Cell}
 use Rattle.nr_fill.specs.Piece.{Collected, is_nil, begins_line, cells_of_word, end_word, hyphenated, joined, may_hyphenate, reads_field, word_or_new}
 use Rattle.nr_fill.specs.Tabs.{with_field_filled}
 use Rattle.nr_fill.specs.Cutting.{fits}

@@ -1,7 +1,7 @@
 -- What is read of a text line goes into the collected line. (CSTR 54, sections 4, 9, 10, 11 and 13.)
 use Prim.Native.Char.{code}
 use Rattle.std.specs.Prelude.{ℕ, Bool, not, ◌||◌, ◌==◌, if◌then◌else◌, Option, None, Some, is_none, unwrap_or}
-use Rattle.nr_units.specs.declared.cell.Cell.{Cell}
+use Rattle.nr_vectors.specs.declared.cell.Cell.{Cell}
 use Rattle.nr_fill.specs.declared.piece.Behind.{Behind}
 use Rattle.nr_fill.specs.declared.piece.Behind.TheVariants.{Letter, Hyphen, Dash}
 use Rattle.nr_fill.specs.Piece.{Collected, begins_line, add_cell, add_cells, add_blank, marked, barred_here, one_blank_more, after_newline, without_blanks}

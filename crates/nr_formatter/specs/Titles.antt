@@ -2,7 +2,7 @@
 use Prim.Native.Char.{code}
 use Rattle.std.specs.Prelude.{ℕ, ◌/◌, Bool, true, false, ◌==◌, if◌then◌else◌, List, [], ◌∷◌, map, replicate, Option, None, Some}
 use Rattle.std.specs.List.{fold}
-use Rattle.nr_units.specs.declared.cell.Cell.{Cell}
+use Rattle.nr_vectors.specs.declared.cell.Cell.{Cell}
 use Rattle.nr_units.specs.NumberText.{number_text}
 use Rattle.nr_fill.specs.Piece.{Collected, with_title, with_title_cell, with_part_ended, without_title}
 use Rattle.nr_fill.specs.Title.{Title, titled_row}

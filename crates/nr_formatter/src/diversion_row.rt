@@ -2,8 +2,8 @@
 ghost use Rattle.std.specs.Prelude.{◌≡◌, ◌<◌, length, ◌^◌, ◌++◌, List, replicate, OnOk, true, refl};
 ghost use Rattle.std.proofs.Common.{◌∙◌};
 ghost use Rattle.std.specs.List.{list_any};
-ghost use Rattle.nr_units.specs.Cell.{blank};
-ghost use Rattle.nr_units.specs.declared.cell.Cell.{Cell as CellValue};
+ghost use Rattle.nr_vectors.specs.Cell.{blank};
+ghost use Rattle.nr_vectors.specs.declared.cell.Cell.{Cell as CellValue};
 ghost use Rattle.nr_store.specs.Store.{Stored, afforded, charge_of, diverted};
 ghost use Rattle.nr_fill.specs.Piece.{without_title};
 ghost use Rattle.nr_fill.specs.Title.{titled_row};
@@ -22,8 +22,8 @@ use nr_fill::piece::PieceSlot;
 use nr_fill::setting::Extra;
 use nr_settings::Settings;
 use nr_store::{Element, Store, StoredBytes};
-use nr_units::cell::Cell;
-use nr_units::slice_vec::SliceVec;
+use nr_vectors::cell::Cell;
+use nr_vectors::slice_vec::SliceVec;
 
 /// How many cells a line has at most that is laid at once.
 const LAID: usize = 256;

@@ -17,7 +17,7 @@ use nr_settings as settings;
 use nr_settings::{Arguments, DiversionTrap};
 use nr_store::{Diversion, Element, Store, StoredBytes, Trap};
 use nr_units::Name;
-use nr_units::cell::Cell;
+use nr_vectors::cell::Cell;
 
 /// How far down it goes from this height to a trap, in u; no bound where there is none below.
 fn room_above(height: u32, trap: Option<Trap>) -> u32

@@ -26,7 +26,6 @@ pub struct InputTrap {
 }
 
 /// All that a run keeps, but for the source, the lines on the page and the output.
-#[derive(Drop)]
 pub struct Formatter {
     /// What of the input is half read.
     pub reader: Reader,
@@ -50,6 +49,27 @@ pub struct Formatter {
     pub step: Step,
     /// The macro of `.em`.
     pub end_macro: Option<Name>,
+}
+
+// Derived, it would be gone through part by part in the proof of each function that owns a formatter.
+impl Drop for Formatter {
+    fn drop(self) {
+        let Formatter {
+            reader: _,
+            store: _,
+            line: _,
+            settings: _,
+            paper: _,
+            given: _,
+            event: _,
+            springs: _,
+            task: _,
+            breaks: _,
+            input_trap: _,
+            step: _,
+            end_macro: _,
+        } = self;
+    }
 }
 
 impl Formatter {

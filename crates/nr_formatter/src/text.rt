@@ -13,7 +13,7 @@ use nr_fill::margins::Margins;
 use nr_fill::piece::Behind;
 use nr_input::Event;
 use nr_settings::{Special, prints};
-use nr_units::cell::Cell;
+use nr_vectors::cell::Cell;
 
 impl Formatter {
     /// The margins of a line that begins now. A `.ti` is used up where one does.

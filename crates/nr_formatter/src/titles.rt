@@ -17,8 +17,8 @@ use nr_fill::line::{Line, LineCells};
 use nr_input::Event;
 use nr_reading::Mode;
 use nr_settings::{Fonts, Special, prints};
-use nr_units::cell::Cell;
 use nr_units::format_number;
+use nr_vectors::cell::Cell;
 
 /// So many equal cells more of the title that is being read.
 fn put_copies(line: &mut Line, cell: Cell, n: u32) -> Result<(), LineCells>

@@ -1,7 +1,7 @@
 //! The input: one list of items, read ahead of by one byte of the source at most, and what is read out of it
 //! move by move.
 //!
-//! It stands on nr_units, nr_pool, nr_levels, nr_symbol_tables, nr_store and nr_reading. To read: `reader`, `refusal`,
+//! It stands on nr_units, nr_vectors, nr_pool, nr_levels, nr_symbol_tables, nr_store and nr_reading. To read: `reader`, `refusal`,
 //! `told`; `place`; `acting`, `moving`; `splicing`, `setting`; then many moves at once: `at_hand`, `target`,
 //! `adding`, `rows`, `runs`, `level_lines`, `level_rows`, `beginnings`, `interpolations`, `levels`, `splices`,
 //! `gathering`, `macro_lines`, `body_lines`, `dropped_lines`, `control_lines`, `fonts`.

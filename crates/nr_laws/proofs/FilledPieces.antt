@@ -2,7 +2,7 @@
 use Rattle.std.specs.Prelude.{◌==◌, ◌&&◌, is_none}
 use Rattle.std.specs.List.{fold}
 use Rattle.std.proofs.Common.{◌≡◌, ℕ, Bool, true, false, if◌then◌else◌, List, [], ◌∷◌, ◌++◌, Option, None, Some, refl, ap, ap₂, sym, ◌∙◌, append-nil, append_assoc}
-use Rattle.nr_units.specs.declared.cell.Cell.{Cell}
+use Rattle.nr_vectors.specs.declared.cell.Cell.{Cell}
 use Rattle.nr_fill.specs.Piece.{Piece, Word, Collected, is_nil, nothing_collected, word_pieces, add_cell, end_word, one_blank_more, after_newline}
 use Rattle.nr_formatter.specs.Text.{behind_of}
 use Rattle.nr_laws.specs.FilledText.{first_margins, with_byte}

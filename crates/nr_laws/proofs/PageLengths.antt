@@ -3,7 +3,7 @@ use Prim.Native.Char.{code}
 use Rattle.std.specs.Prelude.{nat_lt, int_lt, is_none, not, ◌==◌, ◌&&◌, ◌||◌}
 use Rattle.std.proofs.Common.{ℕ, zero, suc, ◌-◌, ◌+◌, ◌<◌, Bool, true, false, if◌then◌else◌, List, [], ◌∷◌, Option, None, Some, ℤ, pos, negsuc, arith}
 use Rattle.nr_units.specs.Units.{nearest_multiple}
-use Rattle.nr_units.specs.declared.cell.Cell.{Cell}
+use Rattle.nr_vectors.specs.declared.cell.Cell.{Cell}
 use Rattle.nr_units.specs.declared.units.Scale.TheVariants.{VerticalSpace, Point}
 use Rattle.nr_units.specs.declared.number_text.Format.{Format}
 use Rattle.nr_symbol_tables.specs.Table.{find}

@@ -1,7 +1,7 @@
 -- What is printed by a page list that takes all pages, and without one.
 use Rattle.std.specs.Prelude.{is_none, not}
 use Rattle.std.proofs.Common.{◌≡◌, ℕ, zero, suc, Bool, true, false, if◌then◌else◌, List, [], ◌∷◌, ◌++◌, Option, None, Some, ℤ, refl, ap, sym, ◌∙◌}
-use Rattle.nr_units.specs.declared.cell.Cell.{Cell}
+use Rattle.nr_vectors.specs.declared.cell.Cell.{Cell}
 use Rattle.nr_symbol_tables.specs.declared.trap.Trap.{Trap}
 use Rattle.nr_page.specs.declared.selection.PageRange.{PageRange}
 use Rattle.nr_store.specs.declared.request.Request.{Request}

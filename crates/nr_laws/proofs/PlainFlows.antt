@@ -3,8 +3,8 @@ use Rattle.std.specs.Prelude.{◌/◌, ◌&&◌, min, is_none}
 use Rattle.std.proofs.lemmas.Grind.{flat_map-append}
 use Rattle.std.proofs.lemmas.List.{map-append}
 use Rattle.std.proofs.Common.{◌≡◌, ℕ, ◌+◌, ◌-◌, ◌<◌, ◌≤◌, Bool, true, false, if◌then◌else◌, List, [], ◌∷◌, ◌++◌, refl, ap, sym, subst, ◌∙◌, append-nil, append_assoc, length-append, arith}
-use Rattle.nr_units.specs.Cell.{trimmed}
-use Rattle.nr_units.specs.declared.cell.Cell.{Cell}
+use Rattle.nr_vectors.specs.Cell.{trimmed}
+use Rattle.nr_vectors.specs.declared.cell.Cell.{Cell}
 use Rattle.nr_fill.specs.Piece.{Piece, Collected, begins_line, is_nil}
 use Rattle.nr_page.specs.Grid.{Placed}
 use Rattle.nr_page.specs.PageBytes.{page_bytes}

@@ -32,7 +32,7 @@ use Rattle.nr_engine.specs.Printing.{text}
 use Rattle.nr_laws.specs.PlainText.{squeezed, is_plain_from}
 use Rattle.nr_laws.proofs.PlainPages.{if-true, if-false, same_if, lines_ink}
 use Rattle.nr_laws.proofs.PlainLines.{Clean, CleanWords, IsPlainPending, collected_ink, add_cell-ink, add_cell-clean, add_blank-ink, add_blank-clean, end_word-ink, end_word-clean}
-use Rattle.nr_units.specs.declared.cell.Cell.{Cell}
+use Rattle.nr_vectors.specs.declared.cell.Cell.{Cell}
 use Rattle.nr_input.specs.Acting.{is_look}
 use Rattle.nr_laws.specs.FilledText.{text_of}
 use Rattle.nr_laws.proofs.FilledLines.{rows_at}

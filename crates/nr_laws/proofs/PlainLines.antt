@@ -4,8 +4,8 @@ use Rattle.std.specs.List.{flat_map}
 use Rattle.std.proofs.lemmas.Grind.{flat_map-append}
 use Rattle.std.proofs.lemmas.List.{take-append-drop}
 use Rattle.std.proofs.Common.{◌≡◌, ℕ, zero, suc, ◌+◌, Bool, true, false, if◌then◌else◌, List, [], ◌∷◌, ◌++◌, take, drop, Option, None, Some, refl, ap, ap₂, sym, subst, ◌∙◌, append-nil, append_assoc}
-use Rattle.nr_units.specs.Cell.{blank}
-use Rattle.nr_units.specs.declared.cell.Cell.{Cell}
+use Rattle.nr_vectors.specs.Cell.{blank}
+use Rattle.nr_vectors.specs.declared.cell.Cell.{Cell}
 use Rattle.nr_fill.specs.declared.piece.Behind.{Behind}
 use Rattle.nr_fill.specs.declared.piece.Behind.TheVariants as behinds
 use Rattle.nr_fill.specs.declared.piece.Join.{Join}

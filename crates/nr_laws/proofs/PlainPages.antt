@@ -6,8 +6,8 @@ use Rattle.std.proofs.lemmas.Grind.{flat_map-append}
 use Rattle.std.proofs.lemmas.List.{reverse-append, reverse-reverse, take_all, take-append-le, map-append}
 use Rattle.std.proofs.lemmas.List.Elements.{filter-append}
 use Rattle.std.proofs.Common.{◌≡◌, ℕ, zero, suc, ◌+◌, ◌-◌, ◌<◌, ◌≤◌, Bool, true, false, if◌then◌else◌, List, [], ◌∷◌, ◌++◌, length, take, reverse, None, refl, ap, ap₂, sym, subst, ◌∙◌, append-nil, length-append, arith, inl, inr}
-use Rattle.nr_units.specs.Cell.{blank, is_blank, trimmed}
-use Rattle.nr_units.specs.declared.cell.Cell.{Cell}
+use Rattle.nr_vectors.specs.Cell.{blank, is_blank, trimmed}
+use Rattle.nr_vectors.specs.declared.cell.Cell.{Cell}
 use Rattle.nr_page.specs.Grid.{Placed, on_row, cells_at, last_shown}
 use Rattle.nr_page.specs.PageBytes.{cell_bytes, column_count, row_count, row_bytes, page_bytes}
 use Rattle.nr_laws.specs.PlainText.{is_ink, squeezed}

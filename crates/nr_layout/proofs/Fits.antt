@@ -2,7 +2,7 @@
 use Rattle.std.proofs.Common.{◌≡◌, ℕ, zero, suc, ◌+◌, ◌-◌, ◌<◌, ◌≤◌, ◌^◌, min, max, Bool, true, false, ◌==◌, ◌&&◌, not, List, [], ◌∷◌, length, get_or, Option, None, Some, refl, sym, ap, subst, arith, ◌∙◌, length-set, if◌then◌else◌}
 use Prim.Native.Char.{code}
 use Rattle.std.proofs.lemmas.List.{get_or-set_same}
-use Rattle.nr_units.specs.Items.{Items}
+use Rattle.nr_vectors.specs.Items.{Items}
 use Rattle.nr_layout.specs.declared.table.Cell.{Cell}
 use Rattle.nr_layout.specs.declared.table.Column.{Column}
 use Rattle.nr_layout.specs.declared.table.Table.{Table}

@@ -1,7 +1,7 @@
 -- Text that makes its column no wider.
 use Rattle.std.proofs.Common.{◌≡◌, ℕ, ◌≤◌, false, ◌==◌, max, ap, arith, ◌∙◌, if◌then◌else◌}
 use Prim.Native.Char.{code}
-use Rattle.nr_units.specs.Items.{Items}
+use Rattle.nr_vectors.specs.Items.{Items}
 use Rattle.nr_layout.specs.declared.table.Cell.{Cell}
 use Rattle.nr_layout.specs.declared.table.Column.{Column}
 use Rattle.nr_layout.specs.declared.table.Table.{Table}

@@ -1,6 +1,6 @@
 -- What is changed by the first numbers in turn: one more changes what those before it made.
 use Rattle.std.proofs.Common.{◌≡◌, ℕ, zero, suc, ◌+◌, ◌-◌, ◌≤◌, Bool, true, false, List, [], ◌∷◌, get_or, set, refl, ap, subst, add-one, arith, ◌∙◌, if◌then◌else◌}
-use Rattle.nr_units.specs.Items.{Items}
+use Rattle.nr_vectors.specs.Items.{Items}
 use Rattle.nr_layout.specs.Lists.{added_each, in_turn}
 
 pub one_more : {T : Type 0} (n : ℕ) (change : ℕ → T → T) (x : T) → in_turn (n + 1) change x ≡ change n (in_turn n change x)

@@ -1,7 +1,7 @@
 -- The formats of a table are read (Lesk, "Format"; tbl(1), "Table format specification"): lines of letters, and what modifies them.
 use Rattle.std.specs.Prelude.{ℕ, ◌+◌, ◌-◌, ◌*◌, min, true, ◌==◌, ◌&&◌, nat_le, nat_lt, [], ◌∷◌, ◌++◌, length, get_or, slice_set, Some, if◌then◌else◌}
 use Prim.Native.Char.{code}
-use Rattle.nr_units.specs.Items.{Items}
+use Rattle.nr_vectors.specs.Items.{Items}
 use Rattle.nr_layout.specs.declared.table.Key.{Key}
 use Rattle.nr_layout.specs.declared.table.Line.{Line}
 use Rattle.nr_layout.specs.declared.table.Open.{Open}

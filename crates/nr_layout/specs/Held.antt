@@ -24,7 +24,7 @@ use Rattle.nr_layout.specs.declared.table.Table.{Table}
 use Rattle.nr_layout.specs.declared.table.Tall.TheVariants as talls
 use Rattle.nr_layout.specs.BlockLines.{no_lines}
 use Rattle.nr_layout.specs.Places.{edge, sum}
-use Rattle.nr_units.specs.Items.{Items}
+use Rattle.nr_vectors.specs.Items.{Items}
 
 -- ---- what stands for what is not there
 

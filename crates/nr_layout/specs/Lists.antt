@@ -1,6 +1,6 @@
 -- Lists in room that is lent: what lies beyond it is not there.
 use Rattle.std.specs.Prelude.{ℕ, zero, suc, [], ◌∷◌, ◌++◌, length, nat_lt, slice_set, if◌then◌else◌}
-use Rattle.nr_units.specs.Items.{Items}
+use Rattle.nr_vectors.specs.Items.{Items}
 
 -- with one more, if there is room
 abbrev pub added : {T : Type 0} → T → Items T → Items T

@@ -1,6 +1,6 @@
 -- A table between what is read of it: before all, where it begins, where its rows went out.
 use Rattle.std.specs.Prelude.{ℕ, ◌+◌, ◌*◌, ◌/◌, max, min, false, List, [], ◌∷◌, take}
-use Rattle.nr_units.specs.Items.{Items}
+use Rattle.nr_vectors.specs.Items.{Items}
 use Rattle.nr_layout.specs.declared.signs.Signs.{Signs}
 use Rattle.nr_layout.specs.declared.table.Line.{Line}
 use Rattle.nr_layout.specs.declared.table.Looks.{Looks}

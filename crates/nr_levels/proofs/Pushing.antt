@@ -3,7 +3,7 @@ use Rattle.std.proofs.Common.{◌≡◌, ℕ, Bool, zero, suc, ◌+◌, ◌*◌,
 use Rattle.std.proofs.lemmas.List.{drop_at, take_all, take-append-le, get_or-map, get_or_past, length-take, length-drop, length-map, take-append-drop}
 use Rattle.std.proofs.lemmas.List.Sums.{sum_by-cons}
 use Rattle.std.proofs.lemmas.Bool.{cases_lt}
-use Rattle.nr_units.specs.Items.{Items}
+use Rattle.nr_vectors.specs.Items.{Items}
 use Rattle.nr_levels.specs.Levels.{Levels, total, deeper, cut, argument}
 use Rattle.nr_levels.specs.Frame.{part, arguments_of, source_of, resume_of, opens_of, mode_of, modes_behind, levels_of, EndBy, AreBelow, ReadsBelow, IsBare, reader, AreLevels, MarkHasMode, modes_in, AreModes, spans_from, no_span}
 use Rattle.nr_levels.specs.declared.frame.Span.{Span}

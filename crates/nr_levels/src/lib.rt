@@ -1,6 +1,6 @@
 //! Levels of input: the stack of texts that are being read, with the arguments in force, in memory that is taken once.
 //!
-//! It stands on nr_units, nr_vectors and nr_pool. To read: `frame`, `stack`, `spans`, `levels`; `gathering`.
+//! It stands on nr_vectors and nr_pool. To read: `frame`, `stack`, `spans`, `levels`; `gathering`.
 #![tactic(auto)]
 
 pub mod frame;

@@ -16,7 +16,7 @@ pub struct Stack<T: Copy> {
 
 impl<T: Copy> Model for Stack<T> {
     ghost use Rattle.std.specs.Prelude.{◌≡◌, ◌≤◌, length, reverse};
-    ghost use Rattle.nr_units.specs.Items.{Items};
+    ghost use Rattle.nr_vectors.specs.Items.{Items};
 
     ghost Value = { Items T };
 

@@ -6,7 +6,7 @@ use super::acts::Sized;
 use super::options::at_most;
 use super::own_lines::put_number;
 use super::page::{Block, Page};
-use nr_units::slice_vec::SliceVec;
+use nr_vectors::slice_vec::SliceVec;
 
 /// Whether no line is broken in a cell, since it stands before the last of its columns.
 fn stays_whole(cell: u16, block: Block) -> bool

@@ -10,7 +10,7 @@ use super::names::{STANDARDS, SYSTEMS};
 use super::page::{At, Page};
 use super::texts::{font_begin, font_end};
 use nr_units::Name;
-use nr_units::slice_vec::SliceVec;
+use nr_vectors::slice_vec::SliceVec;
 
 /// Whether a line that begins with this byte would be a control line.
 pub(crate) fn is_control(byte: u8) -> bool

@@ -5,7 +5,7 @@ ghost use Rattle.nr_mdoc.specs.LayingOut as specs;
 use super::acts::Act;
 use super::page::Page;
 use super::texts::{front_of, text_of};
-use nr_units::slice_vec::SliceVec;
+use nr_vectors::slice_vec::SliceVec;
 
 impl Page {
     /// Requests and their like.

@@ -1,6 +1,6 @@
 //! Pages of mdoc(7) become pages of man(7).
 //!
-//! It stands on nr_units. To read: `macros`, `page`, `acts`, `seen`; `texts`, `names`, `libraries`, `lookup`, `lay`,
+//! It stands on nr_units and nr_vectors. To read: `macros`, `page`, `acts`, `seen`; `texts`, `names`, `libraries`, `lookup`, `lay`,
 //! `own_lines`, `references`, `lay_out`; `options`, `calls`, `taking`, `words`, `blocks`, `lines`, `keeping`, `rows`,
 //! `definitions`, `scan`, which puts them together; `pending`, `reader`, `strings`, `at_hand`, `running`; `passing`,
 //! `word_laws`.

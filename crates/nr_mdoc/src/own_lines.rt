@@ -5,7 +5,7 @@ ghost use Rattle.nr_mdoc.specs.OwnLines as specs;
 use super::acts::{Request, Sized};
 use super::page::{At, Page};
 use super::texts::{request_of, sized_of};
-use nr_units::slice_vec::SliceVec;
+use nr_vectors::slice_vec::SliceVec;
 
 /// What stands between the day of a date and its year.
 fn behind_day(day: &[u8]) -> &'static [u8]

@@ -10,7 +10,7 @@ use super::page::{At, Block, Front, Last, Lay, Page, Parameters, Place, Scan, Se
 use super::pending::Pending;
 use super::seen::Seen;
 use nr_units::Name;
-use nr_units::slice_vec::SliceVec;
+use nr_vectors::slice_vec::SliceVec;
 
 /// How often a byte is met at most.
 const MEETINGS: u8 = 16;

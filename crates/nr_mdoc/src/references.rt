@@ -3,7 +3,7 @@ ghost use Rattle.std.specs.Prelude.{◌≡◌, ◌+◌, ◌*◌, ◌≤◌, ◌+
 ghost use Rattle.nr_mdoc.specs.References as specs;
 
 use super::page::Page;
-use nr_units::slice_vec::SliceVec;
+use nr_vectors::slice_vec::SliceVec;
 
 /// What stands for the authors.
 fn authors_of(authors: u8) -> &'static [u8]

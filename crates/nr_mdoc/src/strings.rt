@@ -9,7 +9,7 @@ use super::page::{Block, Row, Scan};
 use super::pending::Pending;
 use super::reader::Reader;
 use super::texts::front_of;
-use nr_units::slice_vec::SliceVec;
+use nr_vectors::slice_vec::SliceVec;
 
 /// What a byte does to that.
 #[derive(Clone, Copy)]

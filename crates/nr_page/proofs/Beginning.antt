@@ -3,8 +3,8 @@ use Rattle.std.proofs.Common.{◌≡◌, ℕ, ◌/◌, ◌^◌, ◌<◌, min, Li
 use Rattle.std.specs.List.{sum_by}
 use Rattle.std.proofs.lemmas.List.{length-replicate}
 use Rattle.std.proofs.lemmas.List.Folds.{sum_by-replicate}
-use Rattle.nr_units.specs.declared.cell.Cell.{Cell}
-use Rattle.nr_units.specs.Items.{Items}
+use Rattle.nr_vectors.specs.declared.cell.Cell.{Cell}
+use Rattle.nr_vectors.specs.Items.{Items}
 use Rattle.nr_pool.specs.Texts.{Held, Texts, no_text, used}
 use Rattle.nr_page.specs.declared.row.RowSlot.{RowSlot}
 use Rattle.nr_page.specs.Page.{Holds}

@@ -4,7 +4,7 @@ use Rattle.std.specs.Prelude.{Result, Ok, Err, IsOk, IsErr}
 use Rattle.std.proofs.Common.{◌≡◌, ◌≢◌, eq-eqb, ne_eqb, ℕ, zero, suc, ◌+◌, ◌≤◌, ◌<◌, max, min, List, [], ◌∷◌, ◌++◌, length, take, drop, set, true, false, inl, inr, refl, sym, ap, ◌∙◌, arith, append-nil}
 use Rattle.std.proofs.lemmas.Bool.{cases_lt}
 use Rattle.std.proofs.lemmas.List.{take_all, drop_all, length-take, set-get_or}
-use Rattle.nr_units.specs.declared.cell.Cell.{Cell}
+use Rattle.nr_vectors.specs.declared.cell.Cell.{Cell}
 use Rattle.nr_pool.specs.Texts.{Texts, IsOpen, text, used, with_text}
 use Rattle.nr_pool.specs.Laws.{within_of_open, used-with_text, text-with_text_same, with_text-with_text}
 use Rattle.nr_page.specs.Grid.{blank, is_blank}

@@ -1,8 +1,8 @@
 -- The page grid: lines placed on rows, and the cell that shows at each place. (CSTR 54, section 3.)
 use Rattle.std.specs.Prelude.{ℕ, ◌+◌, List, length, map, slice_index_or, not, ◌==◌, None, unwrap_or}
 use Rattle.std.specs.List.{filter, last_or, sum_by}
-pub use Rattle.nr_units.specs.Cell.{blank, is_blank}
-use Rattle.nr_units.specs.declared.cell.Cell.{Cell}
+pub use Rattle.nr_vectors.specs.Cell.{blank, is_blank}
+use Rattle.nr_vectors.specs.declared.cell.Cell.{Cell}
 
 -- a line placed on a page: its row, counted from 0 at the top, and its cells, from column 0 on. Each line ends at 40u
 -- or below, so none is above row 0.

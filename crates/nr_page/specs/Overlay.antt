@@ -1,7 +1,7 @@
 -- Cells laid over others, and cells without the blanks after them.
 use Rattle.std.specs.Prelude.{◌≡◌, ℕ, ◌-◌, ◌<◌, ◌≤◌, List, [], ◌∷◌, slice_index_or, true, false, not, if◌then◌else◌}
 use Rattle.std.specs.List.{flat_map, range_with_len}
-use Rattle.nr_units.specs.declared.cell.Cell.{Cell}
+use Rattle.nr_vectors.specs.declared.cell.Cell.{Cell}
 use Rattle.nr_page.specs.Grid.{Placed, blank, is_blank}
 use Rattle.nr_page.specs.PageBytes.{row_bytes}
 

@@ -3,8 +3,8 @@ use Prim.Native.Char.{code}
 use Rattle.std.specs.Prelude.{ℕ, ◌+◌, max, List, [], ◌∷◌, ◌++◌, length, map, ◌&&◌, if◌then◌else◌}
 use Rattle.std.specs.List.{fold, flat_map, range_with_len}
 use Rattle.std.specs.Char.{is_ascii_alphanumeric}
-pub use Rattle.nr_units.specs.Cell.{trimmed}
-use Rattle.nr_units.specs.declared.cell.Cell.{Cell}
+pub use Rattle.nr_vectors.specs.Cell.{trimmed}
+use Rattle.nr_vectors.specs.declared.cell.Cell.{Cell}
 use Rattle.nr_page.specs.Grid.{Placed, on_row, cell_at}
 
 -- an underlined letter or digit is written as `_`, a backspace and its byte, and any other cell as its byte

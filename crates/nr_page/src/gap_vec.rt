@@ -19,7 +19,7 @@ pub(crate) struct GapVec<T: Copy> {
 
 impl<T: Copy> Model for GapVec<T> {
     ghost use Rattle.std.specs.Prelude.{◌≡◌, ◌+◌, ◌≤◌, ◌++◌, length, take, drop};
-    ghost use Rattle.nr_units.specs.Items.{Items};
+    ghost use Rattle.nr_vectors.specs.Items.{Items};
 
     ghost Value = { Items T };
 

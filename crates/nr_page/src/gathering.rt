@@ -1,16 +1,16 @@
 // Bytes are gathered and go out to a sink many at a time.
 ghost use Rattle.std.specs.Prelude.{◌≡◌, ℕ, ◌+◌, ◌*◌, ◌<◌, ◌≤◌, List, [], ◌∷◌, ◌++◌, length, replicate, false, All, OnOk, OnErr};
 ghost use Rattle.nr_units.specs.Character.{code};
-ghost use Rattle.nr_units.specs.declared.cell.Cell.{Cell as CellValue};
+ghost use Rattle.nr_vectors.specs.declared.cell.Cell.{Cell as CellValue};
 ghost use Rattle.std.specs.List.{flat_map};
 ghost use Rattle.nr_units.specs.Failures.{put_counted};
 ghost use Rattle.nr_page.specs.Gathering.{GathersOrFails};
 ghost use Rattle.nr_page.specs.PageBytes.{cell_bytes};
 
-use nr_units::cell::Cell;
 use nr_units::sink::Sink;
-use nr_units::slice_vec::SliceVec;
 use nr_units::source::Fault;
+use nr_vectors::cell::Cell;
+use nr_vectors::slice_vec::SliceVec;
 
 /// How many bytes are gathered.
 pub(crate) const GATHERED: usize = 1024;

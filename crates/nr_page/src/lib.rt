@@ -1,7 +1,7 @@
 //! The open page: lines of cells placed on rows, later ones over earlier ones, and the bytes that it prints;
 //! and which pages are printed.
 //!
-//! It stands on nr_units and nr_pool. To read: `row`, `gap_vec`, `placing`; `gathering`, `writing`; `page`;
+//! It stands on nr_units, nr_vectors and nr_pool. To read: `row`, `gap_vec`, `placing`; `gathering`, `writing`; `page`;
 //! `selection`.
 #![tactic(auto)]
 

@@ -12,10 +12,10 @@ use crate::placing::put;
 use crate::row::RowSlot;
 use crate::writing::write_all;
 use nr_pool::Pool;
-use nr_units::cell::Cell;
 use nr_units::sink::Sink;
 use nr_units::source::Fault;
 use nr_vectors::CountedAlloc;
+use nr_vectors::cell::Cell;
 use std::alloc::AllocError;
 use std::marker::Model;
 

@@ -4,7 +4,7 @@ ghost use Rattle.nr_pool.specs.Texts.{IsOpen, text as text_of, used, with_text};
 ghost use Rattle.nr_page.specs.Overlay.{overlaid};
 
 use nr_pool::{Id, Pool};
-use nr_units::cell::Cell;
+use nr_vectors::cell::Cell;
 
 pub(crate) const BLANK: u8 = b' ';
 

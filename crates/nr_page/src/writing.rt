@@ -12,10 +12,10 @@ use crate::gap_vec::GapVec;
 use crate::gathering::{GATHERED, RUN, make_room, write_cells, write_newlines};
 use crate::row::{BLANK, RowSlot};
 use nr_pool::Pool;
-use nr_units::cell::Cell;
 use nr_units::sink::Sink;
-use nr_units::slice_vec::SliceVec;
 use nr_units::source::Fault;
+use nr_vectors::cell::Cell;
+use nr_vectors::slice_vec::SliceVec;
 
 /// How many cells there are up to the last that is not blank.
 fn trimmed_len(cells: &[Cell]) -> usize

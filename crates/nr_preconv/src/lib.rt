@@ -1,6 +1,6 @@
 //! What manual pages use, turned into the language of the formatter.
 //!
-//! It stands on nr_units and nr_characters. To read: `numbers`, `pairs`, `glyphs`; `signs`, `likeness`, `said`; `words`, `half`;
+//! It stands on nr_units, nr_vectors and nr_characters. To read: `numbers`, `pairs`, `glyphs`; `signs`, `likeness`, `said`; `words`, `half`;
 //! `beginnings`, `hyphens`, `lines`, `conditions`; `endings`, `skipping`, `letters`,
 //! `named`, `spelling`, `escapes`; `meeting`, which puts them together; `runs`, `passing`, `reader`, `running`;
 //! `plain_text`.

@@ -4,7 +4,7 @@ ghost use Rattle.nr_preconv.specs.Likeness.{ascii_like, before_nul, beyond_like,
 
 use super::signs::{LATIN, LATIN_ADDITIONAL, SIGNS, WORDS};
 use nr_characters::Table;
-use nr_units::slice_vec::SliceVec;
+use nr_vectors::slice_vec::SliceVec;
 
 /// A letter of Latin-1 beyond ASCII.
 pub(crate) fn is_latin_letter(code: u32) -> bool

@@ -5,7 +5,7 @@ ghost use Rattle.nr_preconv.specs.Reading as specs;
 use super::half::{Coming, Half, Line};
 use super::said::{put_sent, say, sent};
 use nr_characters::Table;
-use nr_units::slice_vec::SliceVec;
+use nr_vectors::slice_vec::SliceVec;
 
 /// What was read of a character of several bytes.
 #[derive(Clone, Copy)]

@@ -11,8 +11,8 @@ ghost use Rattle.nr_preconv.specs.Running as specs;
 use super::reader::{MOST, Reader, Taken};
 use nr_characters::Table;
 use nr_units::sink::Sink;
-use nr_units::slice_vec::SliceVec;
 use nr_units::source::{Fault, Source};
+use nr_vectors::slice_vec::SliceVec;
 
 /// The number of bytes that are too many.
 const TOO_MANY: u64 = 1_099_511_627_776;

@@ -5,7 +5,7 @@ ghost use Rattle.nr_preconv.specs.Saying.{all_sent, arguments, bytes_of, may_go_
 use super::likeness::{byte_in_force, put_likeness, put_struck};
 use nr_characters::Table;
 use nr_units::Name;
-use nr_units::slice_vec::SliceVec;
+use nr_vectors::slice_vec::SliceVec;
 
 /// What one move says.
 #[derive(Clone, Copy)]

@@ -1,5 +1,5 @@
 //! What was read.
-use nr_units::cell::Cell;
+use nr_vectors::cell::Cell;
 
 /// What a condition asks of those who know the page and the units (CSTR 54, 16).
 #[derive(Clone, Copy)]

@@ -1,6 +1,6 @@
 //! The front of the list of items.
 
-use nr_units::cell::Cell;
+use nr_vectors::cell::Cell;
 
 /// The item in front of the list.
 #[derive(Clone, Copy)]

@@ -1,6 +1,6 @@
 //! Reading: what each item of the input does to what is half read. Plain data, and functions of it.
 //!
-//! It stands on nr_units. To read: `front`, `event`, `spelled`, `ask`, `mode`, `ended`; `answers`, `kept`, `step`,
+//! It stands on nr_units and nr_vectors. To read: `front`, `event`, `spelled`, `ask`, `mode`, `ended`; `answers`, `kept`, `step`,
 //! `notes`, `delimited`, `asks`; `escape`; a file for each group of modes, `text`, `text_escape`, `titles`,
 //! `control`, `strings`, `definitions`, `conditions`, `skipping`; `reader`, which puts them together, and
 //! `half`, where an item is met; `seeking`, `conditionals` and `setting`, what comes from outside; `runs`, many

@@ -1,7 +1,7 @@
 -- Fonts and underlining (CSTR 54, font and character size control; underlining).
 use Prim.Native.Char.{code}
 use Rattle.std.specs.Prelude.{ℕ, ◌-◌, Bool, true, false, not, ◌||◌, List, [], ◌∷◌, ◌==◌, Option, Some, None, if◌then◌else◌}
-use Rattle.nr_units.specs.declared.cell.Cell.{Cell}
+use Rattle.nr_vectors.specs.declared.cell.Cell.{Cell}
 use Rattle.nr_settings.specs.Arguments.{name_in}
 use Rattle.nr_settings.specs.Numbers.{counted_lines}
 use Rattle.nr_settings.specs.declared.fonts.Font.{Font}

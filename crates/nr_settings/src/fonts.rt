@@ -3,7 +3,7 @@ use crate::arguments::Arguments;
 use crate::lengths::Height;
 use crate::numbers::counted_lines;
 use nr_units::Name;
-use nr_units::cell::Cell;
+use nr_vectors::cell::Cell;
 
 /// A font. A terminal prints bold as roman.
 #[derive(Clone, Copy)]

@@ -1,7 +1,7 @@
 //! The formatter's settings, the requests that only set them, and the arguments of the other requests; the
 //! widths of `\w`, `\h` and `\l`. Plain data and plain functions.
 //!
-//! It stands on nr_units. To read: `lengths`, `arguments`, `plain_numbers`, `numbers`; then a file for each
+//! It stands on nr_units and nr_vectors. To read: `lengths`, `arguments`, `plain_numbers`, `numbers`; then a file for each
 //! matter, in any order: `filling`, `indents`, `fonts`, `pages`, `hyphenation`, `characters`, `registers`, `traps`, `spacing`,
 //! and `stops` before `tabs`; `settings`; `specials`, `motions`, `escapes`, `widths`.
 #![tactic(auto)]

@@ -1,7 +1,7 @@
 -- Lemmas on what is stored beside texts and levels.
 use Rattle.std.proofs.Common.{◌≡◌, ℕ, ◌+◌, ◌≤◌, List, [], ◌∷◌, ◌++◌, length, eqb, false, Some, None, refl, ap, ◌∙◌, arith, length-append}
 use Rattle.std.proofs.lemmas.List.Sums.{sum_by-cons}
-use Rattle.nr_units.specs.Items.{Items}
+use Rattle.nr_vectors.specs.Items.{Items}
 use Rattle.nr_pool.specs.Texts.{Texts}
 use Rattle.nr_symbol_tables.specs.Table.{Named, find, put, without}
 use Rattle.nr_symbol_tables.specs.Rows.{Table}

@@ -5,7 +5,7 @@ use Rattle.std.proofs.lemmas.List.Sums.{sum_by-cons}
 use Rattle.std.proofs.lemmas.Bool.{cases_eq}
 use Rattle.nr_pool.specs.Texts.{Texts, text, holders, IsOpen, with_holders}
 use Rattle.nr_pool.specs.Laws.{text-with_holders, holders-with_holders_other}
-use Rattle.nr_units.specs.Items.{Items}
+use Rattle.nr_vectors.specs.Items.{Items}
 use Rattle.nr_symbol_tables.specs.Table.{find}
 use Rattle.nr_symbol_tables.specs.Rows.{Table}
 use Rattle.nr_levels.specs.Levels.{Text, Levels, deeper}

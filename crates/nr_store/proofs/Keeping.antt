@@ -1,7 +1,7 @@
 -- Lemmas on what stays where the pool's texts change.
 use Rattle.std.proofs.Common.{◌≡◌, ℕ, suc, ◌+◌, ◌*◌, ◌^◌, ◌<◌, ◌≤◌, List, [], ◌∷◌, ◌++◌, length, map, drop, sum_by, All, refl, ap, ap₂, sym, ◌∙◌, inl, inr, arith}
 use Rattle.std.proofs.lemmas.List.Sums.{sum_by-cons}
-use Rattle.nr_units.specs.Items.{Items}
+use Rattle.nr_vectors.specs.Items.{Items}
 use Rattle.std.proofs.lemmas.Bool.{cases_lt, cases_eq}
 use Rattle.std.specs.Prelude.{nat_lt, if◌then◌else◌}
 use Rattle.nr_pool.specs.Texts.{Held, Texts, text, holders, IsOpen, used}

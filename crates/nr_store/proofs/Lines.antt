@@ -3,8 +3,8 @@ use Rattle.std.proofs.Common.{◌≡◌, ℕ, ◌+◌, ◌<◌, ◌≤◌, ◌�
 use Rattle.std.specs.Result.{IsErr, OnOk}
 use Rattle.std.specs.Option.{option_map}
 use Rattle.std.proofs.lemmas.List.{append-nil, length-map, length-replicate}
-use Rattle.nr_units.specs.Items.{Items}
-use Rattle.nr_units.specs.declared.cell.Cell.{Cell}
+use Rattle.nr_vectors.specs.Items.{Items}
+use Rattle.nr_vectors.specs.declared.cell.Cell.{Cell}
 use Rattle.nr_pool.specs.Texts.{Texts, text, used, IsOpen, with_text}
 use Rattle.nr_pool.specs.Laws.{within_of_open, with_text-text, append_more, open-with_text, used-with_text}
 use Rattle.nr_pool.specs.declared.Full.{Full}

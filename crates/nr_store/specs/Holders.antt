@@ -1,7 +1,7 @@
 -- Who holds which text of the pool.
 use Rattle.std.specs.Prelude.{◌≡◌, ℕ, ◌+◌, ◌/◌, ◌^◌, ◌<◌, ◌≤◌, ◌==◌, nat_lt, if◌then◌else◌, List, [], ◌∷◌, ◌++◌, map, length, drop, sum_by, Option, Some, None}
 use Rattle.std.specs.List.{range_with_len}
-use Rattle.nr_units.specs.Items.{Items}
+use Rattle.nr_vectors.specs.Items.{Items}
 use Rattle.nr_pool.specs.Texts.{Texts, text, holders}
 use Rattle.nr_symbol_tables.specs.Table.{Named, find}
 use Rattle.nr_symbol_tables.specs.Rows.{Table}

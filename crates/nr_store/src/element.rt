@@ -6,7 +6,7 @@ use crate::height::Height;
 use nr_pool::Id;
 use nr_symbol_tables::Trap;
 use nr_units::Name;
-use nr_units::cell::Cell;
+use nr_vectors::cell::Cell;
 
 // The greatest height and width that are reported, in u.
 const GREATEST: u64 = 2147483647;

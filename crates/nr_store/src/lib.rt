@@ -1,8 +1,8 @@
 //! The store: texts under names beside the requests of the language, texts being built, the levels that read
 //! texts, registers, traps and hyphenation words, under one charge.
 //!
-//! It stands on nr_units, nr_pool, nr_levels and nr_symbol_tables. To read: `height`, `element`, `request`, `named`,
-//! `register`, `shown`, `refusal`; `memory`; `store`, and its calls in `store/`: `beginning`, `names`,
+//! It stands on nr_units, nr_vectors, nr_pool, nr_levels and nr_symbol_tables. To read: `height`, `element`, `request`,
+//! `named`, `register`, `shown`, `refusal`; `memory`; `store`, and its calls in `store/`: `beginning`, `names`,
 //! `lines`, `building`, `levels`, `arguments`, `registers`, `traps`, `words`.
 #![tactic(auto)]
 

@@ -5,7 +5,7 @@ use Rattle.std.specs.Prelude.{Bool, cond}
 use Rattle.std.specs.List.{prefix_len, suffix_len}
 use Rattle.std.proofs.lemmas.Bool.{cases_Bool, cond-true, cond-false}
 use Rattle.std.proofs.lemmas.List.{append-nil, length-map, length-take, map-append, reverse-append, take_more, take-append-drop, take-map}
-use Rattle.nr_units.specs.declared.cell.Cell.{Cell}
+use Rattle.nr_vectors.specs.declared.cell.Cell.{Cell}
 use Rattle.nr_symbol_tables.specs.Word.{bytes_of, closes, letters_of, points_from, stem}
 use Rattle.nr_symbol_tables.specs.Given.{IsLonger}
 use Rattle.nr_symbol_tables.specs.declared.word.HyphenationWord.{HyphenationWord}

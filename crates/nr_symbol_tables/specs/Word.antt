@@ -4,7 +4,7 @@ use Rattle.std.specs.Prelude.{ℕ, ◌+◌, ◌-◌, ◌==◌, ◌||◌, ◌&&�
 use Rattle.std.specs.Option.{option_map}
 use Rattle.std.specs.List.{suffix_len}
 use Rattle.std.specs.Str.{bytes_eq}
-use Rattle.nr_units.specs.declared.cell.Cell.{Cell}
+use Rattle.nr_vectors.specs.declared.cell.Cell.{Cell}
 
 -- a word, and the places in it where it may be cut, each so many letters in
 pub record Word : Type 0 where

@@ -5,7 +5,7 @@ ghost use Rattle.nr_symbol_tables.specs.Given.{word_in};
 ghost use Rattle.nr_symbol_tables.specs.Hyphenation.{kind, kinds, earliers, words_in, IsChained, IsLatest, IsLatestGiven};
 
 use crate::word::{HyphenationWord, stem};
-use nr_units::cell::Cell;
+use nr_vectors::cell::Cell;
 use nr_vectors::{CountedAlloc, FixedVec};
 use std::alloc::AllocError;
 use std::marker::Model;
@@ -97,7 +97,7 @@ pub struct HyphenationWords {
 
 impl Model for HyphenationWords {
     ghost use Rattle.std.specs.Prelude.{map, reverse};
-    ghost use Rattle.nr_units.specs.Items.{Items};
+    ghost use Rattle.nr_vectors.specs.Items.{Items};
     ghost use Rattle.nr_symbol_tables.specs.declared.hyphenation.Linked.{Linked};
     ghost use Rattle.nr_symbol_tables.specs.declared.word.HyphenationWord.{HyphenationWord};
     ghost use Rattle.nr_symbol_tables.specs.Hyphenation.{kinds, earliers, IsChained};

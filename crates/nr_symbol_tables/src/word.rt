@@ -3,7 +3,7 @@ ghost use Rattle.std.specs.Prelude.{◌≡◌, ◌+◌, ◌++◌, ◌∷◌, [],
 ghost use Rattle.std.specs.Str.{bytes_eq};
 ghost use Rattle.nr_symbol_tables.specs.Word.{bytes_of, closes, stem, letters_of, points_from, word_of};
 
-use nr_units::cell::Cell;
+use nr_vectors::cell::Cell;
 
 /// The greatest number of bytes of a word as it is given, with its minus signs.
 pub const LONGEST: usize = 64;

@@ -4,7 +4,7 @@ use Rattle.std.specs.Borrow.{MutBor}
 use Rattle.std.specs.Io.KnownBytes.{Appends}
 use Rattle.std.proofs.lemmas.Bool.Decides.{nat_tests}
 use Rattle.nr_units.specs.Failures.{SinkFailures, put_counted_if}
-use Rattle.nr_units.specs.Items.{Items}
+use Rattle.nr_vectors.specs.Items.{Items}
 use Rattle.nr_units.specs.Sink.{AppendsFront}
 use Rattle.nr_units.specs.Source.{Supply}
 use Rattle.nr_tbl.specs.declared.complaint.Complaint.{Complaint}

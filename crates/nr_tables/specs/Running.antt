@@ -1,7 +1,7 @@
 -- The tables of a page are turned: what goes out is one function of the bytes that came, and what is wrong with them was told.
 use Rattle.std.specs.Prelude.{◌≡◌, ℕ, List, length, Bool, true, false, Option, ◌⊎◌}
 use Rattle.std.specs.Io.KnownBytes.{Appends}
-use Rattle.nr_units.specs.Items.{Items}
+use Rattle.nr_vectors.specs.Items.{Items}
 use Rattle.nr_units.specs.Sink.{AppendsFront}
 use Rattle.nr_units.specs.Source.{Supply}
 use Rattle.nr_layout.specs.declared.signs.Signs.{Signs}

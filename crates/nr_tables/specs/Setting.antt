@@ -3,7 +3,7 @@
 use Rattle.std.specs.Prelude.{◌≡◌, ℕ, List, [], ◌∷◌, ◌++◌, length, take, Bool, true, false, nat_lt, Option, ◌⊎◌, codes, if◌then◌else◌}
 use Rattle.std.specs.Borrow.{MutBor}
 use Rattle.nr_units.specs.Failures.{SinkFailures}
-use Rattle.nr_units.specs.Items.{Items}
+use Rattle.nr_vectors.specs.Items.{Items}
 use Rattle.nr_tbl.specs.declared.complaint.Complaint.{Complaint}
 use Rattle.nr_tbl.specs.declared.reader.Limits.{Limits}
 use Rattle.nr_tbl.specs.declared.telling.Tell.{Tell}

@@ -11,8 +11,8 @@ use super::hearing::{add_empty, end_line, form_of, looks_of, tell_called};
 use nr_layout::{Out, Table};
 use nr_tbl::{Complaint, Outcome, Setter, Tell};
 use nr_units::sink::Sink;
-use nr_units::slice_vec::SliceVec;
 use nr_units::source::Fault;
+use nr_vectors::slice_vec::SliceVec;
 
 /// A table that is held, what goes out, and what is wrong.
 #[derive(Drop)]

@@ -1,7 +1,5 @@
 pub mod BytesInOrder
-pub mod Copying
 pub mod Digits
-pub mod Edits
 pub mod ExpressionFronts
 pub mod Fronts
 pub mod Letters

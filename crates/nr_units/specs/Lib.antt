@@ -1,10 +1,8 @@
-pub mod Cell
 pub mod Character
 pub mod Expression
 pub mod Failures
 pub mod Grammar
 pub mod Sink
-pub mod Items
 pub mod LongestFront
 pub mod Name
 pub mod NumberText

@@ -1,13 +1,11 @@
-//! What the other crates of the formatter stand on: units, number expressions, the texts of numbers, names,
-//! cells, vectors over lent slices, and where bytes come from and go to.
+//! What the other crates of the formatter stand on: units, number expressions, the texts of numbers, names, and where
+//! bytes come from and go to.
 //!
 //! It stands on no crate of the repository. To read: `units`; `operators`, `symbols`, `expression`, `prefix`,
-//! `level`, `scanner`, `longest_front`; `number_text`; `name`; `cell`, `slice_vec`; `source`, `sink`, `over_std`,
-//! `buffered`; `fakes`.
+//! `level`, `scanner`, `longest_front`; `number_text`; `name`; `source`, `sink`, `over_std`, `buffered`; `fakes`.
 #![tactic(auto)]
 
 pub mod buffered;
-pub mod cell;
 mod expression;
 pub mod fakes;
 mod level;
@@ -19,7 +17,6 @@ pub mod over_std;
 mod prefix;
 mod scanner;
 pub mod sink;
-pub mod slice_vec;
 pub mod source;
 mod symbols;
 mod units;

@@ -4,7 +4,7 @@ use Rattle.std.proofs.Common.{◌≡◌, ℕ, zero, suc, ◌+◌, ◌*◌, ◌-�
 use Rattle.std.proofs.lemmas.List.{get_or-append-add, get_or-drop, get_or-set_other, length-append, length-take, length-take-le, take-append-le, take-take, take_all}
 use Rattle.std.proofs.lemmas.Grind.{get_or-set_at}
 use borrow.Rule.Slice.PartMut.{put_mid}
-use Rattle.nr_units.proofs.Copying.{front_put}
+use Rattle.nr_vectors.proofs.Copying.{front_put}
 use Rattle.std.proofs.Math.Seq.{take-suc, take-add}
 use Rattle.std.proofs.lemmas.Bool.Decides.{nat_tests}
 use Rattle.std.specs.Char.{len_utf8}

@@ -3,7 +3,7 @@ use Rattle.std.proofs.Common.{◌≡◌, ℕ, ◌+◌, ◌-◌, ◌<◌, ◌≤�
 use Rattle.std.proofs.lemmas.List.{get_or-drop, get_or-take, length-take-le, take_all}
 use Rattle.std.proofs.Math.Seq.{take-add}
 use borrow.Rule.Slice.PartMut.{put_mid}
-use Rattle.nr_units.proofs.Copying.{front_put}
+use Rattle.nr_vectors.proofs.Copying.{front_put}
 use Rattle.nr_characters.specs.declared.table.Table.{Table}
 use Rattle.nr_characters.specs.Tables.{character_of, characters, if_any}
 use Rattle.nr_utf8.specs.Reading.{is_shown}

@@ -6,8 +6,8 @@ ghost use Rattle.nr_utf8.specs.Choosing as specs;
 
 use super::names::{NAMES, Name};
 use nr_characters::Table;
-use nr_units::slice_vec::SliceVec;
 use nr_units::source::{Fault, Source};
+use nr_vectors::slice_vec::SliceVec;
 
 /// How many bytes of a page are looked at.
 pub const LOOKED_AT: usize = 65_536;

@@ -1,6 +1,6 @@
 //! The bytes of a table of characters, turned into UTF-8 for a terminal.
 //!
-//! It stands on nr_units and nr_characters. To read: `reader`, `shapes`, `spelling`, `running`, `undoing`, `names`, `choosing`.
+//! It stands on nr_units, nr_vectors and nr_characters. To read: `reader`, `shapes`, `spelling`, `running`, `undoing`, `names`, `choosing`.
 #![tactic(auto)]
 
 mod choosing;

@@ -6,7 +6,7 @@ ghost use Rattle.nr_utf8.specs.Idle.{is_idle};
 ghost use Rattle.nr_utf8.specs.Reading as specs;
 
 use nr_characters::Table;
-use nr_units::slice_vec::SliceVec;
+use nr_vectors::slice_vec::SliceVec;
 
 /// What was read of an underlined cell.
 #[derive(Clone, Copy)]

@@ -9,8 +9,8 @@ use super::reader::Reader;
 use super::spelling::{ROOM, Spelling};
 use nr_characters::Table;
 use nr_units::sink::Sink;
-use nr_units::slice_vec::SliceVec;
 use nr_units::source::{Fault, Source};
+use nr_vectors::slice_vec::SliceVec;
 
 /// The number of bytes that are too many.
 const TOO_MANY: u64 = 1_099_511_627_776;

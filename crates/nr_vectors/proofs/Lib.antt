@@ -1,1 +1,3 @@
+pub mod Copying
+pub mod Edits
 mod Written

@@ -1,8 +1,8 @@
 -- What stands at the front of a vector where something was written after it.
 use Rattle.std.proofs.Common.{◌≡◌, ℕ, ◌+◌, ◌<◌, ◌≤◌, List, [], ◌∷◌, ◌++◌, length, take, drop, replicate, set, get_or, ap, ap₂, sym, ◌∙◌, append_assoc, arith, length-append, length-drop}
 use Rattle.std.proofs.lemmas.List.{take_at, take-append-le, take-take, take-replicate, take_more, set_at, length-take-le, length-replicate}
-use Rattle.nr_units.proofs.Copying.{front_put}
-use Rattle.nr_units.proofs.Edits.{take_set}
+use Rattle.nr_vectors.proofs.Copying.{front_put}
+use Rattle.nr_vectors.proofs.Edits.{take_set}
 use borrow.Rule.Slice.PartMut.{put_mid}
 
 -- the vector was made longer

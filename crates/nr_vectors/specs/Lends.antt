@@ -2,7 +2,7 @@
 use Rattle.std.specs.Prelude.{ℕ, List, length, slice_set}
 use Rattle.std.specs.List.{refill}
 use Rattle.std.specs.Borrow.{Lends, Fml, RattleType, MutBor, Array}
-use Rattle.nr_units.specs.Items.{Items}
+use Rattle.nr_vectors.specs.Items.{Items}
 use Rattle.nr_vectors.specs.contracts.reserved_vec.ReservedVec.{the_row}
 
 -- v after a write of an item

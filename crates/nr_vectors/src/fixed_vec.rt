@@ -15,7 +15,6 @@ const CHUNK: usize = 8;
 ///
 /// Clauses see the items and the capacity. Each call takes constant time or one move of memory, beside the first touch of
 /// memory.
-#[derive(Drop)]
 pub struct FixedVec<T: Copy> {
     // The items stand at the front. What lies after them is of no account.
     slots: ReservedVec<T>,
@@ -23,9 +22,20 @@ pub struct FixedVec<T: Copy> {
     capacity: usize,
 }
 
+// Derived, it would be gone through part by part in the proof of each function that owns such a vector.
+impl<T: Copy> Drop for FixedVec<T> {
+    fn drop(self) {
+        let FixedVec {
+            slots: _,
+            len: _,
+            capacity: _,
+        } = self;
+    }
+}
+
 impl<T: Copy> Model for FixedVec<T> {
     ghost use Rattle.std.specs.Prelude.{◌≡◌, ◌≤◌, length, take};
-    ghost use Rattle.nr_units.specs.Items.{Items};
+    ghost use Rattle.nr_vectors.specs.Items.{Items};
 
     ghost Value = { Items T };
 

@@ -22,7 +22,7 @@ pub struct ReservedVec<T: Copy> {
 
 impl<T: Copy> Model for ReservedVec<T> {
     ghost use Rattle.std.specs.Prelude.{vec_capacity};
-    ghost use Rattle.nr_units.specs.Items.{Items};
+    ghost use Rattle.nr_vectors.specs.Items.{Items};
 
     ghost Value = { Items T };
 

@@ -2,7 +2,7 @@
 use Rattle.std.proofs.Common.{◌≡◌, ℕ, List, Bool, false, Option, refl, subst, arith}
 use Rattle.nr_units.specs.Failures.{next_count}
 use Rattle.nr_units.specs.Source.{Supply}
-use Rattle.nr_units.specs.Items.{Items}
+use Rattle.nr_vectors.specs.Items.{Items}
 use Rattle.nr_tables.specs.Running.{Ran, is_read_fault}
 use Rattle.nr_tbl.specs.Running.{TellsReads}
 use Rattle.nr_tbl.specs.declared.complaint.Complaint.{Complaint}

@@ -1,6 +1,6 @@
 -- What a call of tbl comes to.
 use Rattle.std.specs.Prelude.{◌≡◌, ℕ, List, [], ◌∷◌, length, Bool, false, Option, None, Some}
-use Rattle.nr_units.specs.Items.{Items}
+use Rattle.nr_vectors.specs.Items.{Items}
 use Rattle.nr_units.specs.Source.{Supply}
 use Rattle.nr_tables.specs.Drawing.{signs_of}
 use Rattle.nr_tables.specs.Running.{Ran, is_read_fault}

@@ -7,7 +7,7 @@ use super::pages::{Pages, hand_over};
 use super::text::Text;
 use super::told::{DONE, FULL, OUT_OF_MEMORY, Report, TOO_LONG, UNREADABLE, code_within};
 use nr_tables::{Complaint, Kind, Outcome, Rooms, convert};
-use nr_units::slice_vec::SliceVec;
+use nr_vectors::slice_vec::SliceVec;
 use std::alloc::{AllocError, Global};
 
 /// The most bytes of a table that are held.

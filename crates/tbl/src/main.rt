@@ -1,6 +1,6 @@
 //! The program tbl: it turns the tables of a page into the language of nroff, to standard output.
 //!
-//! It stands on nr_filters, nr_tables, nr_characters and nr_units. To read: `arguments`, `complaints`, `rooms`,
+//! It stands on nr_filters, nr_tables, nr_characters, nr_units and nr_vectors. To read: `arguments`, `complaints`, `rooms`,
 //! `program`.
 #![tactic(auto)]
 

@@ -6,7 +6,7 @@ use nr_filters::{BUFFER_SIZE, Ending, Turns};
 use nr_tables::{Complaint, Outcome, convert};
 use nr_units::buffered::Buffered;
 use nr_units::sink::Sink;
-use nr_units::slice_vec::SliceVec;
+use nr_vectors::slice_vec::SliceVec;
 use std::alloc::{AllocError, Global};
 use std::io::Read;
 

@@ -1,6 +1,6 @@
 -- Cells of a diverted line that is read again.
 use Rattle.std.specs.Prelude.{List, [], ◌∷◌}
-use Rattle.nr_units.specs.declared.cell.Cell.{Cell}
+use Rattle.nr_vectors.specs.declared.cell.Cell.{Cell}
 use Rattle.nr_store.specs.declared.element.Element.{Element}
 use Rattle.nr_store.specs.declared.element.Element.TheVariants as elements
 

@@ -12,7 +12,7 @@ use crate::store::lines::append_all;
 use crate::store::names::{lone_share, text_in};
 use nr_symbol_tables::Trap;
 use nr_units::Name;
-use nr_units::cell::Cell;
+use nr_vectors::cell::Cell;
 
 impl<K: Copy> Store<K> {
     /// Begins an empty text.

@@ -11,7 +11,7 @@ use crate::height::Height;
 use crate::refusal::StoredBytes;
 use crate::store::Store;
 use nr_pool::{Id, Pool};
-use nr_units::cell::Cell;
+use nr_vectors::cell::Cell;
 
 // How many elements are added to a text at once.
 const BLOCK: usize = 16;

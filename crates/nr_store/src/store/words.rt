@@ -7,7 +7,7 @@ use crate::refusal::StoredBytes;
 use crate::store::Store;
 use nr_symbol_tables::HyphenationWord;
 use nr_symbol_tables::word::LONGEST;
-use nr_units::cell::Cell;
+use nr_vectors::cell::Cell;
 
 impl<K: Copy> Store<K> {
     /// Takes a hyphenation word as it is given, with a minus sign in each place where it may be cut (CSTR 54, `.hw`).

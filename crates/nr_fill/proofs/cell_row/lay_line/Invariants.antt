@@ -1,5 +1,5 @@
 use Rattle.std.proofs.Common.{◌≡◌, ◌+◌, ◌≤◌, List, ◌++◌, drop}
-use Rattle.nr_units.specs.declared.cell.Cell.{Cell}
+use Rattle.nr_vectors.specs.declared.cell.Cell.{Cell}
 use Rattle.nr_fill.specs.Slots.{pieces_of, cells_in_slots}
 use Rattle.nr_fill.specs.Spreading.{cells_behind, cells_in_line}
 use Rattle.nr_fill.proofs.cell_row.lay_line.Given as goal

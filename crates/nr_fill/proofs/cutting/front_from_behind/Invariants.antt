@@ -1,5 +1,5 @@
 use Rattle.std.proofs.Common.{◌≡◌, ◌+◌, ◌<◌, ◌≤◌, List, length, take, drop, get_or}
-use Rattle.nr_units.specs.declared.cell.Cell.{Cell}
+use Rattle.nr_vectors.specs.declared.cell.Cell.{Cell}
 use Rattle.nr_fill.specs.Cutting.{join_width, hyphen_before, most_that_fit}
 use Rattle.nr_fill.specs.Slots.{blank_slot, pieces_of, cells_in_slots, slots_width}
 use Rattle.nr_fill.proofs.cutting.front_from_behind.Given as goal

@@ -1,6 +1,6 @@
 use Rattle.std.proofs.Common.{◌≡◌, ◌+◌, ◌≤◌, length, take}
 use Rattle.std.specs.List.{suffix_len}
-use Rattle.nr_units.specs.Cell.{is_blank}
+use Rattle.nr_vectors.specs.Cell.{is_blank}
 use Rattle.nr_fill.proofs.measured.written_len.Given as goal
 
 abbrev pub invariant-loop-len : goal.invariant-loop-len

@@ -1,6 +1,6 @@
 use Rattle.std.proofs.Common.{◌∷◌, [], List, subst}
 use Rattle.std.proofs.lemmas.List.{replicate_more}
-use Rattle.nr_units.specs.declared.cell.Cell.{Cell}
+use Rattle.nr_vectors.specs.declared.cell.Cell.{Cell}
 use Rattle.nr_fill.specs.Setting.{hyphen, hyphens}
 use Rattle.nr_fill.proofs.taking.push_hyphens.Goals as goal
 

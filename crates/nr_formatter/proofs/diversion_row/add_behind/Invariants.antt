@@ -1,5 +1,5 @@
 use Rattle.std.proofs.Common.{◌≡◌, replicate}
-use Rattle.nr_units.specs.Cell.{blank}
+use Rattle.nr_vectors.specs.Cell.{blank}
 use Rattle.nr_formatter.specs.DiversionRow.{with_cells}
 use Rattle.nr_formatter.proofs.diversion_row.add_behind.Given as goal
 

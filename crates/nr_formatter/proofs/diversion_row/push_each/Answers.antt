@@ -1,6 +1,6 @@
 use Rattle.std.proofs.Common.{List, take, sym, ◌∙◌, subst}
 use Rattle.std.proofs.lemmas.List.{take_more, take_all}
-use Rattle.nr_units.specs.declared.cell.Cell.{Cell}
+use Rattle.nr_vectors.specs.declared.cell.Cell.{Cell}
 use Rattle.nr_formatter.specs.DiversionRow.{AddsToDiversion, AddsToDiversion-both}
 use Rattle.nr_formatter.proofs.diversion_row.push_each.Goals as goal
 

@@ -2,7 +2,7 @@ use Rattle.std.proofs.Common.{◌≡◌, false, take, get_or, arith}
 use Rattle.std.proofs.lemmas.Bool.{or_parts}
 use Rattle.std.proofs.lemmas.List.{take_more, take_all}
 use Rattle.std.proofs.lemmas.List.Elements.{All-push}
-use Rattle.nr_units.specs.declared.cell.Cell.{Cell}
+use Rattle.nr_vectors.specs.declared.cell.Cell.{Cell}
 use Rattle.nr_page.proofs.gathering.any_under.Goals as goal
 
 pub loop-cell-preserved : goal.loop-cell-preserved

@@ -1,6 +1,6 @@
 use Rattle.std.proofs.Common.{◌≡◌, false, suc, List, [], ◌∷◌, ◌++◌, All, map, refl, ap, sym, ◌∙◌, arith}
 use Rattle.std.specs.List.{flat_map}
-use Rattle.nr_units.specs.declared.cell.Cell.{Cell}
+use Rattle.nr_vectors.specs.declared.cell.Cell.{Cell}
 use Rattle.nr_page.specs.PageBytes.{cell_bytes}
 use Rattle.nr_page.proofs.gathering.gather_cells.Goals as goal
 

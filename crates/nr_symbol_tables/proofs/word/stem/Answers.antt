@@ -1,7 +1,7 @@
 use Rattle.std.proofs.Common.{◌≡◌, ◌-◌, false, length, take, ap, sym, ◌∙◌, arith}
 use Rattle.std.specs.List.{suffix_len}
 use Rattle.std.proofs.lemmas.List.Sums.{suffix_len-take_no}
-use Rattle.nr_units.specs.declared.cell.Cell.{Cell}
+use Rattle.nr_vectors.specs.declared.cell.Cell.{Cell}
 use Rattle.nr_symbol_tables.specs.Word.{bytes_of, closes}
 use Rattle.nr_symbol_tables.proofs.Words.{stem-bytes_of}
 use Rattle.nr_symbol_tables.proofs.word.stem.Goals as goal

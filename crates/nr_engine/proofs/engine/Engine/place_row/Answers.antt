@@ -1,6 +1,6 @@
 use Rattle.std.proofs.Common.{◌≡◌, ◌+◌, ◌≤◌, ◌∷◌, [], ◌++◌, length, true, false, refl, sym, ap, ◌∙◌, arith, inl, inr}
 use Rattle.std.proofs.lemmas.Bool.{cases_lt}
-use Rattle.nr_units.specs.Cell.{trimmed}
+use Rattle.nr_vectors.specs.Cell.{trimmed}
 use Rattle.nr_fill.specs.CellRow.{row_of}
 use Rattle.nr_page.specs.Grid.{Placed, page_charge}
 use Rattle.nr_page.specs.Page.{Holds as HoldsPage}

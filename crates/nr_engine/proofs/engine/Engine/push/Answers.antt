@@ -1,5 +1,5 @@
 use Rattle.std.proofs.Common.{[], ◌∷◌, replicate}
-use Rattle.nr_units.specs.Cell.{blank}
+use Rattle.nr_vectors.specs.Cell.{blank}
 use Rattle.nr_fill.specs.CellRow.{AddsToRow-both}
 use Rattle.nr_engine.proofs.engine.Engine.push.Goals as goal
 

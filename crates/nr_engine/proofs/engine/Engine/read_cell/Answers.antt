@@ -1,5 +1,5 @@
 use Rattle.std.proofs.Common.{◌≡◌, ◌+◌, [], ◌∷◌, ◌++◌, replicate, Ok, refl, ap, sym, ◌∙◌, arith}
-use Rattle.nr_units.specs.Cell.{blank}
+use Rattle.nr_vectors.specs.Cell.{blank}
 use Rattle.nr_fill.specs.CellRow.{IsRow}
 use Rattle.nr_formatter.specs.Access.{done}
 use Rattle.nr_formatter.specs.Weights.{Falls}

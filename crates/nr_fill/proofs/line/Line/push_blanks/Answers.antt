@@ -5,7 +5,7 @@ use Rattle.nr_fill.specs.declared.line.WordState.{WordState}
 use Rattle.nr_fill.specs.Piece.{text_cells}
 use Rattle.nr_fill.proofs.Lines.{the_word, is_line_last, text_cells-collected_of, no_title_cells}
 use Rattle.nr_fill.proofs.Pendings.{are_small, needed_blanks, needed_more}
-use Rattle.nr_units.specs.Cell.{blank}
+use Rattle.nr_vectors.specs.Cell.{blank}
 use Rattle.nr_fill.proofs.line.Line.push_blanks.Goals as goal
 
 pub push_copies-requires-clause-room : goal.push_copies-requires-clause-room

@@ -1,7 +1,7 @@
 use Rattle.std.proofs.Common.{rules, length, replicate, ap, sym, subst, arith}
 use Rattle.nr_fill.specs.Line.{Lined}
 use Rattle.nr_fill.proofs.Lines.{is_line_untitled}
-use Rattle.nr_units.specs.Cell.{blank}
+use Rattle.nr_vectors.specs.Cell.{blank}
 use Rattle.nr_fill.specs.Title.{title_or_empty, title_row, titled_row}
 use Rattle.nr_fill.specs.Titling.{title_of}
 use Rattle.nr_fill.proofs.Lines.{title_cells-title_of, parts_within}

@@ -1,6 +1,6 @@
 use Rattle.std.proofs.Common.{◌≡◌, ◌+◌, ◌-◌, ◌^◌, ◌++◌, min, length, take, replicate, ap, ap₂, sym, ◌∙◌}
-use Rattle.nr_units.specs.Cell.{blank}
-use Rattle.nr_units.specs.declared.cell.Cell.{Cell}
+use Rattle.nr_vectors.specs.Cell.{blank}
+use Rattle.nr_vectors.specs.declared.cell.Cell.{Cell}
 use Rattle.nr_fill.specs.CellRow.{Row, row_of}
 use Rattle.nr_fill.proofs.Trimming.{same_row, row_blanked}
 use Rattle.nr_fill.proofs.out.OutCellSink.blanks.Goals as goal

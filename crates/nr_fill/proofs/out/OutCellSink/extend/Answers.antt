@@ -1,5 +1,5 @@
 use Rattle.std.proofs.Common.{◌≡◌, ◌+◌, ◌-◌, ◌^◌, ◌++◌, min, length, take, ap, ap₂, sym, ◌∙◌}
-use Rattle.nr_units.specs.Cell.{trimmed}
+use Rattle.nr_vectors.specs.Cell.{trimmed}
 use Rattle.nr_fill.specs.CellRow.{Row, row_of}
 use Rattle.nr_fill.specs.Extents.{counted, written_behind}
 use Rattle.nr_fill.proofs.Trimming.{same_row, row_extended}

@@ -1,6 +1,6 @@
 use Rattle.std.proofs.Common.{take, drop, ◌∙◌, ap}
 use Rattle.std.proofs.lemmas.Slice.{between_is}
-use Rattle.nr_units.specs.Items.{Items}
+use Rattle.nr_vectors.specs.Items.{Items}
 use Rattle.nr_fill.proofs.queue.Queue.as_slice.Goals as goal
 
 pub returns-clause-value : goal.returns-clause-value

@@ -1,5 +1,5 @@
 use Rattle.std.proofs.Common.{◌≡◌, length, take, ap, sym, ◌∙◌, arith}
-use Rattle.nr_units.specs.Items.{Items}
+use Rattle.nr_vectors.specs.Items.{Items}
 use Rattle.nr_fill.proofs.Queues.{take_behind, length_between}
 use Rattle.nr_fill.proofs.queue.Queue.truncate.Goals as goal
 

@@ -1,6 +1,6 @@
 use Rattle.std.proofs.Common.{◌-◌, List, ◌++◌, length, replicate, subst}
-use Rattle.nr_units.specs.Cell.{blank}
-use Rattle.nr_units.specs.declared.cell.Cell.{Cell}
+use Rattle.nr_vectors.specs.Cell.{blank}
+use Rattle.nr_vectors.specs.declared.cell.Cell.{Cell}
 use Rattle.nr_fill.proofs.ApartTitles.{apart_row_is}
 use Rattle.nr_fill.proofs.title.TitleParts.set_apart.Goals as goal
 

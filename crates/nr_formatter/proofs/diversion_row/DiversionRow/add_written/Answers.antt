@@ -1,5 +1,5 @@
 use Rattle.std.proofs.Common.{◌++◌, replicate, Bool, sym, subst}
-use Rattle.nr_units.specs.Cell.{blank}
+use Rattle.nr_vectors.specs.Cell.{blank}
 use Rattle.nr_store.specs.Store.{charge_of}
 use Rattle.nr_formatter.specs.DiversionRow.{HoldsRow, with_cells}
 use Rattle.nr_formatter.proofs.HeldRows.{holds_refused, holds_some, holds_no_more, refused_by}

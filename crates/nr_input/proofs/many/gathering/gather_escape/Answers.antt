@@ -1,7 +1,7 @@
 use Rattle.std.proofs.Common.{◌≡◌, ℕ, ◌+◌, ◌-◌, ◌<◌, ◌≤◌, ◌++◌, ◌∷◌, [], length, take, drop, inl, inr, ap, ◌∙◌, subst, length-drop, arith}
 use Rattle.std.proofs.lemmas.Bool.{cases_lt}
 use Rattle.std.proofs.lemmas.List.{length-take, length-take-le}
-use Rattle.nr_units.proofs.Copying.{front_put}
+use Rattle.nr_vectors.proofs.Copying.{front_put}
 use Rattle.nr_store.specs.Windows.{rest_of, left_times}
 use Rattle.nr_reading.proofs.InText.{in_text}
 use Rattle.nr_reading.specs.declared.event.Event.TheVariants as events

@@ -1,5 +1,5 @@
 use Rattle.std.proofs.Common.{None, false, ◌≡◌, ◌++◌, ◌∷◌, ℕ, length, refl, ap, ap₂, ◌∙◌, length-append, arith}
-use Rattle.nr_units.specs.Items.{Items}
+use Rattle.nr_vectors.specs.Items.{Items}
 use Rattle.nr_levels.specs.Levels.{Levels, Own, deeper}
 use Rattle.nr_levels.specs.Frame.{levels_of}
 use Rattle.nr_levels.specs.declared.frame.Frame.{Frame}

@@ -1,5 +1,5 @@
 use Rattle.std.proofs.Common.{None, false, ◌≡◌, ◌++◌, ◌∷◌, ℕ, length, map, refl, ap, ap₂, sym, ◌∙◌, length-append, subst, arith}
-use Rattle.nr_units.specs.Items.{Items}
+use Rattle.nr_vectors.specs.Items.{Items}
 use Rattle.nr_levels.specs.declared.frame.Span.{Span}
 use Rattle.nr_levels.specs.Levels.{Text, deeper}
 use Rattle.nr_levels.specs.Frame.{part, levels_of, spans_from, EndBy}

@@ -1,6 +1,6 @@
 use Rattle.std.proofs.Common.{◌+◌, length, get_or, refl, sym, ap, ◌∙◌}
 use Rattle.std.proofs.lemmas.Option.{slice_get_read}
-use Rattle.nr_units.specs.Items.{Items}
+use Rattle.nr_vectors.specs.Items.{Items}
 use Rattle.nr_page.proofs.Gapped.{get_or-gapped_front, get_or-gapped_back}
 use Rattle.nr_page.proofs.gap_vec.GapVec.get.Goals as goal
 

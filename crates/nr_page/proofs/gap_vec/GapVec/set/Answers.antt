@@ -1,5 +1,5 @@
 use Rattle.std.proofs.Common.{set, ap, ◌∙◌, arith}
-use Rattle.nr_units.specs.Items.{Items}
+use Rattle.nr_vectors.specs.Items.{Items}
 use Rattle.nr_page.proofs.Gapped.{gapped-set_front, gapped-set_back}
 use Rattle.nr_page.proofs.gap_vec.GapVec.set.Goals as goal
 

@@ -1,5 +1,5 @@
 use Rattle.std.proofs.Common.{ap, ◌∙◌, arith}
-use Rattle.nr_units.specs.Items.{Items}
+use Rattle.nr_vectors.specs.Items.{Items}
 use Rattle.nr_page.proofs.Beginning.{kept_new}
 use Rattle.nr_page.proofs.page.Page.new.Goals as goal
 

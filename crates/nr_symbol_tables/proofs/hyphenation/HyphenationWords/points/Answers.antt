@@ -1,5 +1,5 @@
 use Rattle.std.proofs.Common.{◌-◌, ◌<◌, List, length, map, get_or, ap, sym, ◌∙◌, arith}
-use Rattle.nr_units.specs.Items.{Items}
+use Rattle.nr_vectors.specs.Items.{Items}
 use Rattle.nr_symbol_tables.specs.Word.{Word, bytes_of, points_of, stem}
 use Rattle.nr_symbol_tables.specs.Given.{word_in}
 use Rattle.nr_symbol_tables.specs.Hyphenation.{words_in, IsLatestGiven}

@@ -1,6 +1,6 @@
 use Rattle.std.proofs.Common.{◌≡◌, ◌++◌, length, take, refl, ap, ap₂, ◌∙◌, arith}
 use Rattle.std.proofs.lemmas.List.{take_all}
-use Rattle.nr_units.specs.Items.{Items}
+use Rattle.nr_vectors.specs.Items.{Items}
 use Rattle.nr_vectors.proofs.Written.{take_written}
 use Rattle.nr_vectors.proofs.fixed_vec.FixedVec.extend.Goals as goal
 

@@ -1,5 +1,5 @@
 use Rattle.std.proofs.Common.{◌≡◌, ◌+◌, ◌-◌, ◌++◌, length, take, drop, replicate, refl, ap, ◌∙◌, arith, length-take, length-drop}
-use Rattle.nr_units.specs.Items.{Items}
+use Rattle.nr_vectors.specs.Items.{Items}
 use Rattle.nr_vectors.proofs.Written.{take_written_behind}
 use Rattle.nr_vectors.proofs.fixed_vec.FixedVec.extend_behind_copies.Goals as goal
 

@@ -1,8 +1,8 @@
 use Rattle.std.proofs.Common.{◌≡◌, ◌+◌, List, length, take, set, ap, ◌∙◌, arith}
 use Rattle.std.specs.List.{insert}
 use Rattle.std.proofs.lemmas.List.{length-take-le}
-use Rattle.nr_units.specs.Items.{Items}
-use Rattle.nr_units.proofs.Edits.{take_inserted}
+use Rattle.nr_vectors.specs.Items.{Items}
+use Rattle.nr_vectors.proofs.Edits.{take_inserted}
 use Rattle.nr_vectors.proofs.Written.{take_lengthened}
 use Rattle.nr_vectors.proofs.fixed_vec.FixedVec.insert.Goals as goal
 

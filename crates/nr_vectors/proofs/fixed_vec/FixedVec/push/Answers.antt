@@ -1,6 +1,6 @@
 use Rattle.std.proofs.Common.{[], ◌+◌, ◌∷◌, ◌++◌, length, length-append, ap, sym, ◌∙◌, arith}
 use Rattle.std.proofs.lemmas.List.{take_all}
-use Rattle.nr_units.specs.Items.{Items}
+use Rattle.nr_vectors.specs.Items.{Items}
 use Rattle.nr_vectors.proofs.Written.{take_pushed}
 use Rattle.nr_vectors.proofs.fixed_vec.FixedVec.push.Goals as goal
 

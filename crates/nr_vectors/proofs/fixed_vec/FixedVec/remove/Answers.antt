@@ -1,8 +1,8 @@
 use Rattle.std.proofs.Common.{◌≡◌, ◌-◌, List, length, take, ap, ◌∙◌, arith}
 use Rattle.std.specs.List.{remove}
 use Rattle.std.proofs.lemmas.List.{length-take-le}
-use Rattle.nr_units.specs.Items.{Items}
-use Rattle.nr_units.proofs.Edits.{take_removed}
+use Rattle.nr_vectors.specs.Items.{Items}
+use Rattle.nr_vectors.proofs.Edits.{take_removed}
 use Rattle.nr_vectors.proofs.fixed_vec.FixedVec.remove.Goals as goal
 
 pub returns-clause-items : goal.returns-clause-items

@@ -1,6 +1,6 @@
 use Rattle.std.proofs.Common.{set, ap, ◌∙◌}
-use Rattle.nr_units.specs.Items.{Items}
-use Rattle.nr_units.proofs.Edits.{take_set}
+use Rattle.nr_vectors.specs.Items.{Items}
+use Rattle.nr_vectors.proofs.Edits.{take_set}
 use Rattle.nr_vectors.proofs.fixed_vec.FixedVec.set.Goals as goal
 
 pub returns-clause-items : goal.returns-clause-items

@@ -1,8 +1,8 @@
 use Rattle.std.proofs.Common.{◌≡◌, ◌++◌, length, take, ap, ◌∙◌, arith}
 use Rattle.std.proofs.lemmas.List.{take-take, length-take-le}
-use Rattle.nr_units.specs.Items.{Items}
-use Rattle.nr_units.proofs.Copying.{front_put}
-use Rattle.nr_units.proofs.slice_vec.SliceVec.extend_front.Goals as goal
+use Rattle.nr_vectors.specs.Items.{Items}
+use Rattle.nr_vectors.proofs.Copying.{front_put}
+use Rattle.nr_vectors.proofs.slice_vec.SliceVec.extend_front.Goals as goal
 
 pub returns-then-self-len-ge-CHUNK-clause-items : goal.returns-then-self-len-ge-CHUNK-clause-items
 returns-then-self-len-ge-CHUNK-clause-items g c =

@@ -1,9 +1,9 @@
 use Rattle.std.proofs.Common.{◌≡◌, ◌++◌, length, take, replicate, ap, ◌∙◌, arith}
 use Rattle.std.proofs.lemmas.Grind.{common_steps}
 use Rattle.std.proofs.lemmas.List.{length-replicate, take-replicate}
-use Rattle.nr_units.specs.Items.{Items}
-use Rattle.nr_units.proofs.Copying.{front_put}
-use Rattle.nr_units.proofs.slice_vec.SliceVec.extend_copies.Goals as goal
+use Rattle.nr_vectors.specs.Items.{Items}
+use Rattle.nr_vectors.proofs.Copying.{front_put}
+use Rattle.nr_vectors.proofs.slice_vec.SliceVec.extend_copies.Goals as goal
 
 pub returns-then-self-len-ge-CHUNK-clause-items : goal.returns-then-self-len-ge-CHUNK-clause-items
 returns-then-self-len-ge-CHUNK-clause-items g c =

@@ -1,7 +1,7 @@
 use Rattle.std.proofs.Common.{set, ap, ◌∙◌}
-use Rattle.nr_units.specs.Items.{Items}
-use Rattle.nr_units.proofs.Edits.{take_set}
-use Rattle.nr_units.proofs.slice_vec.SliceVec.set.Goals as goal
+use Rattle.nr_vectors.specs.Items.{Items}
+use Rattle.nr_vectors.proofs.Edits.{take_set}
+use Rattle.nr_vectors.proofs.slice_vec.SliceVec.set.Goals as goal
 
 pub returns-clause-items : goal.returns-clause-items
 returns-clause-items g c =

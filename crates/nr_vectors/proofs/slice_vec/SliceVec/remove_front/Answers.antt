@@ -1,6 +1,6 @@
 use Rattle.std.proofs.Common.{length-take, arith}
-use Rattle.nr_units.proofs.Copying.{moved_front}
-use Rattle.nr_units.proofs.slice_vec.SliceVec.remove_front.Goals as goal
+use Rattle.nr_vectors.proofs.Copying.{moved_front}
+use Rattle.nr_vectors.proofs.slice_vec.SliceVec.remove_front.Goals as goal
 
 pub returns-clause-items : goal.returns-clause-items
 returns-clause-items g c =

@@ -2,7 +2,7 @@
 use Prim.Native.Char.{code}
 use Rattle.std.specs.Prelude.{◌-◌, ◌==◌, Bool, false, List, length, take}
 use Rattle.std.specs.List.{suffix_len}
-use Rattle.nr_units.specs.declared.cell.Cell.{Cell}
+use Rattle.nr_vectors.specs.declared.cell.Cell.{Cell}
 
 abbrev pub blank : Cell
 blank = record { byte = code " "; under = false }

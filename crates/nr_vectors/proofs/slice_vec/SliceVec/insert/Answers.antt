@@ -1,9 +1,9 @@
 use Rattle.std.proofs.Common.{◌≡◌, ◌+◌, List, length, take, set, ap, ◌∙◌, arith}
 use Rattle.std.specs.List.{insert}
 use Rattle.std.proofs.lemmas.List.{length-take-le}
-use Rattle.nr_units.specs.Items.{Items}
-use Rattle.nr_units.proofs.Edits.{take_inserted}
-use Rattle.nr_units.proofs.slice_vec.SliceVec.insert.Goals as goal
+use Rattle.nr_vectors.specs.Items.{Items}
+use Rattle.nr_vectors.proofs.Edits.{take_inserted}
+use Rattle.nr_vectors.proofs.slice_vec.SliceVec.insert.Goals as goal
 
 pub returns-clause-items : goal.returns-clause-items
 returns-clause-items g c =

@@ -1,6 +1,6 @@
 //! One place of an output line.
-ghost use Rattle.std.specs.Prelude.{◌≡◌, false};
-ghost use Rattle.nr_units.specs.Character.{code};
+ghost use Rattle.std.specs.Prelude.{◌≡◌};
+ghost use Rattle.nr_vectors.specs.Cell as specs;
 
 /// A character of an output line: its byte, and whether it is underlined.
 #[derive(Clone, Copy)]
@@ -14,7 +14,7 @@ pub struct Cell {
 impl Cell {
     /// A blank that is not underlined, to fill new slices with.
     pub fn blank() -> Cell
-        ensures { result ≡ record { byte = code " "; under = false } }
+        ensures { result ≡ specs.blank }
     {
         Cell {
             byte: b' ',

@@ -1,7 +1,7 @@
 //! A vector over a slice that is lent: it grows at its end up to the slice's length.
 ghost use Rattle.std.specs.Prelude.{◌≡◌, ◌==◌, ◌+◌, ◌-◌, ◌<◌, ◌≤◌, [], ◌∷◌, ◌++◌, length, take, drop, replicate, slice_get, slice_set, Some, map, ℕ, List};
 ghost use Rattle.std.specs.List.{insert, remove};
-ghost use Rattle.nr_units.specs.declared.cell.Cell.{Cell as CellValue};
+ghost use Rattle.nr_vectors.specs.declared.cell.Cell.{Cell as CellValue};
 
 use crate::cell::Cell;
 use std::marker::Model;
@@ -21,7 +21,7 @@ pub struct SliceVec<'a, T: Copy> {
 
 impl<'a, T: Copy> Model for SliceVec<'a, T> {
     ghost use Rattle.std.specs.Prelude.{◌≤◌, length, take};
-    ghost use Rattle.nr_units.specs.Items.{Items};
+    ghost use Rattle.nr_vectors.specs.Items.{Items};
 
     ghost Value = { Items T };
 
