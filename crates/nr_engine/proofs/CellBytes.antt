@@ -8,9 +8,8 @@ use Rattle.nr_units.specs.Source.{Supply, skipped}
 use Rattle.nr_fill.specs.Piece.{line_cells}
 use Rattle.nr_reading.specs.declared.event.Event.TheVariants as events
 use Rattle.nr_reading.proofs.InText.{in_text}
-use Rattle.nr_input.specs.Many.AtHand.{ComeNext}
-use Rattle.nr_input.specs.Place.{Coming, HoldsComing}
-use Rattle.nr_input.specs.Many.Runs.{passed_run}
+use Rattle.nr_input_rows.specs.AtHand.{ComeNext}
+use Rattle.nr_input.specs.Place.{Coming, HoldsComing, passed_run}
 use Rattle.nr_input.specs.Weights.{expansions_worth}
 use Rattle.nr_formatter.specs.Many.CellBytes.{IsCellByte, PutsCellBytes, byte_added, byte_put, goes_to_word}
 use Rattle.nr_formatter.specs.Many.Runs.{IsInLine}

@@ -9,12 +9,11 @@ use Rattle.nr_reading.specs.declared.event.Event.TheVariants as events
 use Rattle.nr_reading.specs.declared.front.Front.TheVariants as fronts
 use Rattle.nr_reading.specs.declared.half.Half.{Half}
 use Rattle.nr_reading.specs.Half.{meet}
-use Rattle.nr_input.specs.Many.AtHand.{ComeNext, behind_last}
-use Rattle.nr_input.specs.Place.{Coming, HoldsComing, front}
+use Rattle.nr_input_rows.specs.AtHand.{ComeNext, behind_last}
+use Rattle.nr_input.specs.Place.{Coming, HoldsComing, front, passed_run}
 use Rattle.nr_input.specs.Moving.{met_at, situation}
 use Rattle.nr_input.specs.Moving.{move as input_move}
 use Rattle.nr_input.specs.Moving as input
-use Rattle.nr_input.specs.Many.Runs.{passed_run}
 use Rattle.nr_input.specs.Weights.{expansions_worth}
 use Rattle.nr_input.specs.declared.reader.Reader.{Reader}
 use Rattle.nr_input.specs.declared.told.Told.TheVariants as tells

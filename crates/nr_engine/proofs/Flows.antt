@@ -9,10 +9,10 @@ use Rattle.nr_store.specs.declared.element.Element.TheVariants as elements
 use Rattle.nr_store.specs.declared.shown.Shown.TheVariants as shows
 use Rattle.nr_reading.specs.declared.event.Event.{Event}
 use Rattle.nr_reading.specs.declared.event.Event.TheVariants as events
-use Rattle.nr_input.specs.Many.Gathering.{Brings, LeadsInText}
+use Rattle.nr_input_rows.specs.Gathering.{Brings, LeadsInText}
 use Rattle.nr_input.specs.Limits as limits
 use Rattle.nr_input.specs.declared.reader.Reader.{Reader}
-use Rattle.nr_input.proofs.LevelParts.{many_of_all}
+use Rattle.nr_input_rows.proofs.LevelParts.{many_of_all}
 use Rattle.nr_formatter.specs.Access.{collected}
 use Rattle.nr_formatter.specs.Limits.{FitsMemory}
 use Rattle.nr_formatter.specs.Many.Runs.{is_in_line}

@@ -16,12 +16,12 @@ use Rattle.nr_reading.specs.Many.Interpolations.{interpolates}
 use Rattle.nr_reading.specs.Many.LineBeginnings.{is_at_text as reads_text}
 use Rattle.nr_reading.specs.Many.Runs.{HasMet, spot}
 use Rattle.nr_reading.proofs.InText.{in_text}
-use Rattle.nr_input.specs.Place.{Coming, HoldsComing, Reached}
+use Rattle.nr_input.specs.Place.{Coming, HoldsComing, Reached, passed_run}
 use Rattle.nr_input.specs.Moving.{situation}
-use Rattle.nr_input.specs.Many.Runs.{HasRead, PaysMany, passed_run}
+use Rattle.nr_input_rows.specs.Runs.{HasRead, PaysMany}
 use Rattle.nr_input.specs.declared.reader.Reader.{Reader}
-use Rattle.nr_input.proofs.LevelParts.{many_of_all}
-use Rattle.nr_input.proofs.RowsRead.{holds_past, source_pays, source_read, source_saves}
+use Rattle.nr_input_rows.proofs.LevelParts.{many_of_all}
+use Rattle.nr_input_rows.proofs.RowsRead.{holds_past, source_pays, source_read, source_saves}
 use Rattle.nr_formatter.specs.Access.{collected}
 use Rattle.nr_formatter.specs.Limits.{FitsMemory}
 use Rattle.nr_formatter.specs.Many.LineBeginnings.{is_at_text}

@@ -6,10 +6,10 @@ use Rattle.nr_store.specs.Store.{Stored, shown}
 use Rattle.nr_store.specs.Windows.{left_times, rest_of, run_left}
 use Rattle.nr_store.specs.declared.element.Element.TheVariants as elements
 use Rattle.nr_store.specs.declared.shown.Shown.TheVariants as shows
-use Rattle.nr_input.specs.Many.Gathering.{GathersMost, IsGathered, Leaves}
-use Rattle.nr_input.specs.declared.many.gathering.Gathered.{Gathered}
+use Rattle.nr_input_rows.specs.Gathering.{GathersMost, IsGathered, Leaves}
+use Rattle.nr_input_rows.specs.declared.gathering.Gathered.{Gathered}
 use Rattle.nr_input.specs.declared.reader.Reader.{Reader}
-use Rattle.nr_input.proofs.TextBytes.{stays_there}
+use Rattle.nr_input_rows.proofs.TextBytes.{stays_there}
 use Rattle.nr_formatter.specs.Access.{collected}
 use Rattle.nr_formatter.specs.Limits.{FitsMemory}
 use Rattle.nr_formatter.specs.Many.LineEnds.{IsNewline, line_gapped, newline_flows, newline_put}

@@ -13,7 +13,7 @@ use Rattle.nr_reading.specs.Many.LineBeginnings as reading
 use Rattle.nr_reading.specs.Half.{meet}
 use Rattle.nr_reading.specs.Weights.{blanks_owed, weight_of_half}
 use Rattle.nr_reading.proofs.LineBeginnings.{before_line, begun_text, meet-first}
-use Rattle.nr_input.specs.Many.AtHand.{ComeNext}
+use Rattle.nr_input_rows.specs.AtHand.{ComeNext}
 use Rattle.nr_input.specs.Place.{front}
 use Rattle.nr_input.specs.Moving.{met_at, situation}
 use Rattle.nr_input.specs.Moving.{move as input_move}

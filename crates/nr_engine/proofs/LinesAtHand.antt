@@ -15,9 +15,9 @@ use Rattle.nr_reading.specs.declared.event.Event.{Event}
 use Rattle.nr_reading.specs.declared.event.Event.TheVariants as events
 use Rattle.nr_reading.specs.declared.mode.Mode.TheVariants as modes
 use Rattle.nr_reading.proofs.InText.{ended_text, in_text}
-use Rattle.nr_input.specs.Many.AtHand.{ComeNext}
+use Rattle.nr_input_rows.specs.AtHand.{ComeNext}
 use Rattle.nr_input.specs.Place.{Coming, HoldsComing}
-use Rattle.nr_input.specs.Many.Fonts.{BeginsFont}
+use Rattle.nr_input_rows.specs.Fonts.{BeginsFont}
 use Rattle.nr_formatter.specs.Access.{collected}
 use Rattle.nr_formatter.specs.Many.LineBeginnings.{BeginsText, is_at_text, text_begun}
 use Rattle.nr_formatter.specs.Many.LineEnds.{IsNewline, line_gapped, newline_flows, newline_put}

@@ -4,7 +4,7 @@ use Rattle.std.proofs.Common.{◌≡◌, ℕ, ◌+◌, ◌<◌, ◌^◌, true, f
 use Rattle.std.specs.Prelude.{get_or}
 use Rattle.nr_units.specs.Source.{Supply, MayGive}
 use Rattle.nr_reading.specs.declared.event.Event.TheVariants as events
-use Rattle.nr_input.specs.Many.AtHand.{ComeNext}
+use Rattle.nr_input_rows.specs.AtHand.{ComeNext}
 use Rattle.nr_input.specs.Place.{Coming, HoldsComing}
 use Rattle.nr_input.specs.Weights.{expansions_worth}
 use Rattle.nr_formatter.specs.Access.{collected}

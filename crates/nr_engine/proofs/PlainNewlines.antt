@@ -13,12 +13,11 @@ use Rattle.nr_reading.specs.declared.event.Event.TheVariants as events
 use Rattle.nr_reading.specs.declared.mode.Mode.TheVariants as modes
 use Rattle.nr_reading.proofs.InText.{in_text, meet-newline}
 use Rattle.nr_input.specs.Acting.{on_half}
-use Rattle.nr_input.specs.Many.AtHand.{ComeNext, behind_last}
-use Rattle.nr_input.specs.Place.{Coming, HoldsComing, front}
+use Rattle.nr_input_rows.specs.AtHand.{ComeNext, behind_last}
+use Rattle.nr_input.specs.Place.{Coming, HoldsComing, front, passed_run}
 use Rattle.nr_input.specs.Moving.{met_at, situation}
 use Rattle.nr_input.specs.Moving.{move as input_move}
 use Rattle.nr_input.specs.Moving as input
-use Rattle.nr_input.specs.Many.Runs.{passed_run}
 use Rattle.nr_input.specs.Weights.{expansions_worth}
 use Rattle.nr_input.specs.declared.told.Told.TheVariants as tells
 use Rattle.nr_store.specs.Store.{shown}

@@ -10,7 +10,7 @@ use Rattle.nr_fill.specs.Plain.{IsPlain, run_cell}
 use Rattle.nr_reading.specs.declared.event.Event.TheVariants as events
 use Rattle.nr_reading.specs.Many.InText.{IsInText}
 use Rattle.nr_reading.proofs.InText.{in_text, meet-plain}
-use Rattle.nr_input.specs.Many.AtHand.{ComeNext}
+use Rattle.nr_input_rows.specs.AtHand.{ComeNext}
 use Rattle.nr_input.specs.Place.{Coming, HoldsComing, Reached, front}
 use Rattle.nr_input.specs.Moving.{move as input_move, situation, met_at}
 use Rattle.nr_input.specs.Moving as input

@@ -11,7 +11,7 @@ use Rattle.nr_input.specs.Place.{Reached, HoldsComing}
 use Rattle.nr_input.specs.Limits as limits
 use Rattle.nr_input.specs.Moving.{Situation, Move, situation, move}
 use Rattle.nr_input.specs.Moving as input
-use Rattle.nr_input.specs.Many.Runs.{HasRead, PaysMany, moves, told_last}
+use Rattle.nr_input_rows.specs.Runs.{HasRead, PaysMany, moves, told_last}
 use Rattle.nr_formatter.specs.Limits as formatter
 use Rattle.nr_formatter.specs.declared.tasks.Resume.{Resume}
 use Rattle.nr_formatter.proofs.LimitsStay.{input-limits}

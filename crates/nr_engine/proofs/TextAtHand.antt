@@ -11,9 +11,8 @@ use Rattle.nr_settings.specs.Fonts.{is_under}
 use Rattle.nr_fill.specs.Piece.{Collected, Piece, Word, begins_line, is_nil, line_cells, word_pieces}
 use Rattle.nr_fill.specs.Plain.{run_cell}
 use Rattle.nr_fill.specs.Runs.{add_run}
-use Rattle.nr_input.specs.Many.AtHand.{ComeNext, behind_last, is_unseen}
-use Rattle.nr_input.specs.Place.{Coming, HoldsComing, HoldsSupply, Reached}
-use Rattle.nr_input.specs.Many.Runs.{passed_run}
+use Rattle.nr_input_rows.specs.AtHand.{ComeNext, behind_last}
+use Rattle.nr_input.specs.Place.{Coming, HoldsComing, HoldsSupply, Reached, is_unseen, passed_run}
 use Rattle.nr_input.specs.declared.place.Ahead.{Ahead}
 use Rattle.nr_input.specs.declared.place.Ahead.TheVariants.{Unseen}
 use Rattle.nr_formatter.specs.Access.{collected, margins}

@@ -1,7 +1,7 @@
 //! A formatter for terminals: marked-up text into pages, under four limits.
 //!
-//! It stands on nr_formatter, nr_page, nr_options and the crates below them. To read: `outcome`, `lengths`;
-//! `engine`, `desk`; its moves in `pages`, `lines`, `breaks`, `titles`, `rooms`, `diverted`, `spacing`,
+//! It stands on nr_formatter, nr_input_rows, nr_page, nr_options and the crates below them. To read: `outcome`,
+//! `lengths`; `engine`, `desk`; its moves in `pages`, `lines`, `breaks`, `titles`, `rooms`, `diverted`, `spacing`,
 //! `ejecting`; many moves at once in `reading`, `fonts`, `plain_text`, `level_text`, `rereading`,
 //! `empty_lines`, `obeying`; `run`, with `format`.
 #![tactic(auto)]

@@ -1,9 +1,8 @@
 -- No call changes the limits, whether it is refused or not.
 use Rattle.std.specs.Option.{option_and_then}
-use Rattle.std.proofs.Common.{◌≡◌, ℕ, zero, suc, Bool, true, false, if◌then◌else◌, List, [], ◌∷◌, Option, None, Some, Result, Ok, Err, refl, ap, ◌∙◌}
+use Rattle.std.proofs.Common.{◌≡◌, ℕ, Bool, true, false, if◌then◌else◌, List, [], ◌∷◌, Option, None, Some, Result, Ok, Err, refl, ap, ◌∙◌}
 use Rattle.nr_symbol_tables.specs.Table.{find}
 use Rattle.nr_store.specs.Store.{Stored, Built, Level, Read, Mark, Reading, begun, text_of, defined, named_newest, words, entered, called as called_text, reading_bytes, written, gone_on, left, left_of}
-use Rattle.nr_store.specs.Windows.{left_times}
 use Rattle.nr_store.specs.declared.element.Element.{Element}
 use Rattle.nr_store.specs.declared.named.Meaning.{Meaning}
 use Rattle.nr_store.specs.declared.named.Meaning.TheVariants as meanings
@@ -15,13 +14,10 @@ use Rattle.nr_reading.specs.declared.mode.Due.TheVariants as dues
 use Rattle.nr_input.specs.declared.reader.Reader.{Reader}
 use Rattle.nr_input.specs.declared.refusal.Refusal.{Refusal}
 use Rattle.nr_input.specs.declared.refusal.Refusal.TheVariants as refusals
-use Rattle.nr_input.specs.declared.many.target.Target.{Target}
-use Rattle.nr_input.specs.declared.many.target.Target.TheVariants.{Argument, Text}
 use Rattle.nr_input.specs.Acting.{act, splicing, has_text, name_in, meaning_in, behind_meaning, expanded}
 use Rattle.nr_input.specs.Limits.{Limits, limits_of}
 use Rattle.nr_input.specs.Refusal.{Called, called, called_by, answer, acted, splicing_answer}
 use Rattle.nr_input.specs.Splicing.{giving}
-use Rattle.nr_input.specs.Many.Target.{with_more}
 
 -- ---- what is stored
 
@@ -62,16 +58,6 @@ pub left-limits : {K : Type 0} (levels : List (Level K)) (v : Stored K) (r : Rea
 left-limits [] v r = refl
 left-limits (Read l ∷ ls) v r = left_of-limits l.rest l ls v r
 left-limits (Mark mode ∷ ls) v r = refl
-
--- after what comes next, so many times
-pub left_times-limits : {K : Type 0} (n : ℕ) (v : Stored K) (r : Reader) → limits_of (left_times n v) r ≡ limits_of v r
-left_times-limits zero v r = refl
-left_times-limits (suc n) v r = left_times-limits n (left v.levels v) r ∙ left-limits v.levels v r
-
--- with more bytes in an argument or a text
-pub with_more-limits : {K : Type 0} (target : Target) (bs : List ℕ) (v : Stored K) (r : Reader) → limits_of (with_more target bs v) r ≡ limits_of v r
-with_more-limits Argument bs v r = refl
-with_more-limits Text bs v r = refl
 
 -- ---- what is due
 

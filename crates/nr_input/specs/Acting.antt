@@ -135,6 +135,11 @@ abbrev pub behind_meaning : {K : Type 0} → Meaning → Stored K → Stored K
 behind_meaning meanings.Text v = ungathered v
 behind_meaning m v = v
 
+-- what is half read after a name that means this
+abbrev pub behind_name : Meaning → Reader → Reader
+behind_name m r =
+    record r { half = sought (calls_of m) (next dues.Look r.half); request = request_of m r.request }
+
 abbrev pub seeking : {K : Type 0} → Meaning → Stored K → Reader → Acted K
 seeking m v r =
     done (sought_event (calls_of m)) (behind_meaning m v)

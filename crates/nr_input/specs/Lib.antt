@@ -7,4 +7,3 @@ pub mod Moving
 pub mod Refusal
 pub mod Splicing
 pub mod Weights
-pub mod Many

@@ -94,6 +94,10 @@ abbrev pub waiting : Ahead → ℕ
 waiting (Byte b) = 1
 waiting a = 0
 
+abbrev pub is_unseen : Ahead → Bool
+is_unseen Unseen = true
+is_unseen a = false
+
 abbrev pub is_seen : Ahead → Bool
 is_seen (Byte b) = true
 is_seen End = true
@@ -154,6 +158,10 @@ passed_by a p = p
 
 abbrev pub passed : Reached → Reached
 passed p = passed_by p.ahead p
+
+-- so many bytes were taken, and this was the last
+abbrev pub passed_run : ℕ → ℕ → Reached → Reached
+passed_run last n p = record { ahead = Unseen; taken = p.taken + n; inside = not (last == code "\n") }
 
 -- the item in front, as the program sees it once the source was looked at
 abbrev pub front_seen : {K : Type 0} → Shown K → Reached → Front

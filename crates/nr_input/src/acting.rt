@@ -72,10 +72,9 @@ fn behind_lead(count: u32) -> Due
 }
 
 impl Reader {
-    ghost use Rattle.std.specs.Prelude.{true, Ok};
+    ghost use Rattle.std.specs.Prelude.{◌+◌, ◌≤◌, true, Ok};
     ghost use Rattle.nr_store.specs.Store.{stepped};
-    ghost use Rattle.nr_input.specs.Acting.{name_in, adding_byte, naming, behind_definition, has_text, expanded, splicing_name, splicing_bytes, meaning_in, is_look, then_due};
-    ghost use Rattle.nr_input.specs.Many.LevelRows.{behind_name};
+    ghost use Rattle.nr_input.specs.Acting.{name_in, adding_byte, naming, behind_definition, has_text, expanded, splicing_name, splicing_bytes, meaning_in, is_look, then_due, behind_name};
     ghost use Rattle.nr_reading.specs.Seeking.{sought_event};
     ghost use Rattle.nr_input.specs.Refusal.{expanding_answer, storing_answer, splicing_answer, called, reader_by, answered, acted_by, acted};
 
@@ -93,6 +92,15 @@ impl Reader {
         Ok(Event::Nothing)
     }
 
+    /// So many splices more are counted: they must be allowed.
+    #[inline(always)]
+    pub fn count_splices(&mut self, count: usize)
+        requires { self.old.burst + count ≤ self.old.most }
+        ensures { self.new ≡ record self.old { burst = self.old.burst + count } }
+    {
+        self.burst += count as u64;
+    }
+
     // The name that is read, or that a text is defined under.
     fn name(&self) -> Name
         ensures { result ≡ name_in self.now }
@@ -101,7 +109,7 @@ impl Reader {
     }
 
     /// A string's text begins.
-    pub(crate) fn begin<K: Copy>(&mut self, store: &mut Store<K>) -> Result<Event, Refusal>
+    pub fn begin<K: Copy>(&mut self, store: &mut Store<K>) -> Result<Event, Refusal>
         ensures { called store.new self.new result ≡ acted Due.Begin store.old self.old }
     {
         let begun = if self.half.notes.defining.appends {
@@ -236,7 +244,7 @@ impl Reader {
     }
 
     /// A register's step is added or taken away; it is spliced next.
-    pub(crate) fn step<K: Copy>(&mut self, up: bool, store: &mut Store<K>) -> Result<Event, Refusal>
+    pub fn step<K: Copy>(&mut self, up: bool, store: &mut Store<K>) -> Result<Event, Refusal>
         ensures { called store.new self.new result
             ≡ called (stepped self.old.half.notes.asked up store.old)
             (then_due (Due.Register Sign.None) self.old) (Ok Event.Nothing) }
@@ -259,7 +267,7 @@ impl Reader {
 
     /// A byte is added to the argument that is read.
     #[inline]
-    pub(crate) fn put<K: Copy>(&mut self, byte: u8, store: &mut Store<K>) -> Result<Event, Refusal>
+    pub fn put<K: Copy>(&mut self, byte: u8, store: &mut Store<K>) -> Result<Event, Refusal>
         ensures { called store.new self.new result ≡ acted (Due.Put byte) store.old self.old }
     {
         match store.add_argument_byte(byte) {
@@ -273,7 +281,7 @@ impl Reader {
 
     /// The argument that is read ends.
     #[inline]
-    pub(crate) fn end_argument<K: Copy>(&mut self, store: &mut Store<K>)
+    pub fn end_argument<K: Copy>(&mut self, store: &mut Store<K>)
         ensures { called store.new self.new (Ok Event.Nothing) ≡ acted Due.EndArgument store.old self.old }
     {
         store.end_argument();
@@ -281,7 +289,7 @@ impl Reader {
     }
 
     /// What the name that was read means.
-    pub(crate) fn meaning<K: Copy>(&self, store: &Store<K>) -> Meaning
+    pub fn meaning<K: Copy>(&self, store: &Store<K>) -> Meaning
         ensures { result ≡ meaning_in store.now self.now }
     {
         let spelled = &self.half.notes.name;
@@ -293,7 +301,7 @@ impl Reader {
 
     /// What the name of a control line means is taken. Answers what is told of it.
     #[inline(always)]
-    pub(crate) fn take_meaning(&mut self, meaning: Meaning) -> Event
+    pub fn take_meaning(&mut self, meaning: Meaning) -> Event
         ensures reader { self.new ≡ behind_name meaning self.old }
         ensures told { result ≡ sought_event (calls_of meaning) }
     {
@@ -306,7 +314,7 @@ impl Reader {
 
     /// The name of a control line is looked up. Answers what is told of it.
     #[inline(always)]
-    pub(crate) fn seek<K: Copy>(&mut self, store: &mut Store<K>) -> Event
+    pub fn seek<K: Copy>(&mut self, store: &mut Store<K>) -> Event
         ensures { called store.new self.new (Ok result) ≡ acted Due.Seek store.old self.old }
     {
         let meaning = self.meaning(store);
@@ -317,14 +325,15 @@ impl Reader {
     }
 
     /// Nothing is due: the item in front is looked at.
-    pub(crate) fn looks(&self) -> bool
+    #[inline]
+    pub fn looks(&self) -> bool
         ensures { result ≡ is_look self.now.half.reading.due }
     {
         matches!(self.half.reading.due, Due::Look)
     }
 
     /// Does what is due.
-    pub(crate) fn act<K: Copy>(&mut self, store: &mut Store<K>) -> Result<Event, Refusal>
+    pub fn act<K: Copy>(&mut self, store: &mut Store<K>) -> Result<Event, Refusal>
         ensures { called store.new self.new result ≡ acted self.old.half.reading.due store.old self.old }
     {
         match self.half.reading.due {

@@ -51,9 +51,7 @@ impl Place {
     ghost use Rattle.nr_store.specs.declared.shown.Shown.TheVariants as shows;
     ghost use Rattle.nr_store.specs.Store.{shown, left};
     ghost use Rattle.nr_store.specs.Sights.{shown_with};
-    ghost use Rattle.nr_input.specs.Place.{Coming, Reached, HoldsComing, AfterSee, AfterLook, is_seen, is_ready, seen_front, passed, ended, front_seen, passed_in, StaysThere, nothing_reached, behind, emptied, fails_now, has_failed, KeepsRefusal, RefusesAgain};
-    ghost use Rattle.nr_input.specs.Many.AtHand.{is_unseen};
-    ghost use Rattle.nr_input.specs.Many.Runs.{passed_run};
+    ghost use Rattle.nr_input.specs.Place.{Coming, Reached, HoldsComing, AfterSee, AfterLook, is_seen, is_ready, seen_front, passed, ended, front_seen, passed_in, StaysThere, nothing_reached, behind, emptied, fails_now, has_failed, KeepsRefusal, RefusesAgain, is_unseen, passed_run};
 
     /// Nothing is taken yet.
     pub fn new() -> Self
@@ -76,7 +74,7 @@ impl Place {
 
     /// Whether nothing was read ahead.
     #[inline]
-    pub(crate) fn is_unseen(&self) -> bool
+    pub fn is_unseen(&self) -> bool
         ensures { result ≡ is_unseen self.now.ahead }
     {
         matches!(self.ahead, Ahead::Unseen)
@@ -84,7 +82,7 @@ impl Place {
 
     /// How many bytes more may be taken.
     #[inline]
-    pub(crate) fn room(&self) -> usize
+    pub fn room(&self) -> usize
         ensures value { self.now.taken + result < 2 ^ 40 }
         ensures most { self.now.taken + result + 1 ≡ 2 ^ 40 }
     {
@@ -93,7 +91,7 @@ impl Place {
 
     /// So many bytes were taken, and this was the last.
     #[inline]
-    pub(crate) fn pass_run(&mut self, last: u8, n: usize)
+    pub fn pass_run(&mut self, last: u8, n: usize)
         requires unseen { is_unseen self.old.ahead ≡ true }
         requires room { self.old.taken + n < 2 ^ 40 }
         ensures { self.new ≡ passed_run last n self.old }

@@ -1,8 +1,7 @@
 -- The beginning of a text line, where the source has its text at hand.
 use Rattle.std.specs.Prelude.{◌≡◌, ℕ, ◌+◌, ◌-◌, ◌<◌, ◌^◌, true, List, [], length, take, Option}
 use Rattle.nr_units.specs.Source.{Supply}
-use Rattle.nr_input.specs.Many.AtHand.{is_unseen}
-use Rattle.nr_input.specs.Place.{Reached}
+use Rattle.nr_input.specs.Place.{Reached, is_unseen}
 use Rattle.nr_formatter.specs.Many.LineBeginnings.{BeginsText, text_begun}
 use Rattle.nr_engine.specs.Holding.{Shape}
 use Rattle.nr_engine.specs.Many.Running.{HasNext, Longest, Saves}

@@ -7,12 +7,11 @@ use Rattle.nr_options.specs.Limits.{Bounds}
 use Rattle.nr_options.specs.declared.options.Options.{Options}
 use Rattle.nr_reading.specs.Many.InText.{is_in_text}
 use Rattle.nr_reading.specs.Many.Interpolations.{interpolates}
-use Rattle.nr_input.specs.Many.AtHand.{ComeNext, is_unseen}
-use Rattle.nr_input.specs.Place.{Coming, HoldsComing, has_failed, nothing_reached}
-use Rattle.nr_input.specs.Many.Fonts.{BeginsFont}
-use Rattle.nr_input.specs.Many.Gathering.{Brings, GathersMost, IsGathered, Leaves}
-use Rattle.nr_input.specs.Many.Runs.{passed_run}
-use Rattle.nr_input.specs.declared.many.gathering.Gathered.{Gathered}
+use Rattle.nr_input_rows.specs.AtHand.{ComeNext}
+use Rattle.nr_input.specs.Place.{Coming, HoldsComing, has_failed, nothing_reached, is_unseen, passed_run}
+use Rattle.nr_input_rows.specs.Fonts.{BeginsFont}
+use Rattle.nr_input_rows.specs.Gathering.{Brings, GathersMost, IsGathered, Leaves}
+use Rattle.nr_input_rows.specs.declared.gathering.Gathered.{Gathered}
 use Rattle.nr_input.specs.declared.reader.Reader.{Reader}
 use Rattle.nr_fill.specs.Piece.{line_cells, text_cells}
 use Rattle.nr_fill.specs.CellRow.{IsRow}

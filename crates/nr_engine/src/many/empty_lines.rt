@@ -2,7 +2,7 @@
 ghost use Rattle.std.specs.Prelude.{◌≡◌, ◌≢◌, ◌+◌, ◌-◌, ◌<◌, ◌≤◌, ◌^◌, true, [], length, take, replicate, slice_index};
 ghost use Rattle.nr_units.specs.Character.{code};
 ghost use Rattle.nr_reading.specs.declared.event.Event.TheVariants as events;
-ghost use Rattle.nr_input.specs.Many.AtHand.{is_unseen};
+ghost use Rattle.nr_input.specs.Place.{is_unseen};
 ghost use Rattle.nr_formatter.specs.Many.EmptyLines.{is_at_line};
 ghost use Rattle.nr_engine.specs.Many.EmptyLines.{NewlinesAtHand, WentDown};
 ghost use Rattle.nr_engine.specs.Holding.{shape};
@@ -42,7 +42,7 @@ impl Engine {
         if !self.formatter.is_at_line() {
             return 0;
         }
-        let bytes = nr_input::window(&self.place, &self.formatter.store, input);
+        let bytes = nr_input_rows::window(&self.place, &self.formatter.store, input);
         count_newlines(&bytes[..bytes.len().min(most)])
     }
 
@@ -69,7 +69,7 @@ impl Engine {
             return 3;
         }
         let reader = &mut self.formatter.reader;
-        nr_input::take_window(&mut self.place, reader, input, b'\n', count);
+        nr_input_rows::take_window(&mut self.place, reader, input, b'\n', count);
         4 * count as u128 + 3
     }
 

@@ -3,7 +3,7 @@ ghost use Rattle.std.specs.Prelude.{◌≡◌, ◌+◌, Bool, true, false};
 ghost use Rattle.nr_reading.specs.Many.InText.{is_in_text};
 ghost use Rattle.nr_reading.specs.Many.Interpolations.{interpolates};
 ghost use Rattle.nr_reading.specs.Many.LineBeginnings.{IsBeforeLine};
-ghost use Rattle.nr_input.specs.Many.Fonts.{BeginsFont};
+ghost use Rattle.nr_input_rows.specs.Fonts.{BeginsFont};
 ghost use Rattle.nr_formatter.specs.Many.LineBeginnings.{is_at_text};
 ghost use Rattle.nr_formatter.specs.Many.Runs.{is_in_line};
 ghost use Rattle.nr_engine.specs.Many.Fonts.{PutsFont};
@@ -31,7 +31,7 @@ fn change_font(formatter: &mut Formatter, bytes: &[u8]) -> usize
     ensures longest { result ≡ 0 → interpolates formatter.old.reader.half ≡ true
         → BeginsFont (is_in_text formatter.old.reader.half) bytes.now → ⊥ }
 {
-    match nr_input::meet_font(&mut formatter.reader, bytes) {
+    match nr_input_rows::meet_font(&mut formatter.reader, bytes) {
         Some(run) => {
             formatter.set_font();
             run.taken

@@ -5,7 +5,7 @@ ghost use Rattle.nr_store.specs.Store.{shown};
 ghost use Rattle.nr_store.specs.Windows.{rest_of};
 ghost use Rattle.nr_store.specs.declared.element.Element.TheVariants as elements;
 ghost use Rattle.nr_store.specs.declared.shown.Shown.TheVariants as shows;
-ghost use Rattle.nr_input.specs.Many.Gathering.{GathersMost, IsGathered};
+ghost use Rattle.nr_input_rows.specs.Gathering.{GathersMost, IsGathered};
 ghost use Rattle.nr_formatter.specs.Many.Runs.{is_in_line};
 ghost use Rattle.nr_engine.specs.Holding.{shape};
 ghost use Rattle.nr_engine.specs.Many.Running.{EndsLine, LongestOfLevels, MakesInPlace, MakesInText};
@@ -14,7 +14,7 @@ use crate::engine::Engine;
 use crate::many::plain_text::put_line_words;
 use nr_formatter::formatter::Formatter;
 use nr_formatter::many::runs::Gap;
-use nr_input::Gathered;
+use nr_input_rows::Gathered;
 
 /// The most words, newlines and interpolations of a text in one call.
 const MOST_PARTS: u32 = 4096;
@@ -62,7 +62,7 @@ fn put_gathered(formatter: &mut Formatter, bytes: &[u8], gathered: &Gathered) ->
     formatter.fit_memory();
     let words = put_line_words(formatter, bytes);
     let goes = formatter.is_in_line();
-    let besides = nr_input::leave(
+    let besides = nr_input_rows::leave(
         &mut formatter.reader,
         &mut formatter.store,
         bytes,
@@ -91,7 +91,7 @@ impl Engine {
     {
         let mut bytes = [0; LONGEST_LINE];
         let formatter = &mut self.formatter;
-        nr_input::gather(
+        nr_input_rows::gather(
             &mut formatter.reader,
             &formatter.store,
             &mut bytes,

@@ -35,7 +35,7 @@ impl Engine {
         ensures few { result ≤ 65536 }
     {
         let formatter = &mut self.formatter;
-        let Some(run) = nr_input::read_control_line(
+        let Some(run) = nr_input_rows::read_control_line(
             &mut self.place,
             &mut formatter.reader,
             &mut formatter.store,

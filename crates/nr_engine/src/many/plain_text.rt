@@ -1,6 +1,6 @@
 //! Runs of plain bytes of a text line: many moves in one call.
 ghost use Rattle.std.specs.Prelude.{◌≡◌, ◌<◌, ◌^◌, true, false, [], length};
-ghost use Rattle.nr_input.specs.Many.AtHand.{is_unseen};
+ghost use Rattle.nr_input.specs.Place.{is_unseen};
 ghost use Rattle.nr_formatter.specs.Many.LineBeginnings.{is_at_text, BeginsText};
 ghost use Rattle.nr_formatter.specs.Many.Runs.{is_in_line};
 ghost use Rattle.nr_engine.specs.Holding.{shape};
@@ -125,14 +125,14 @@ impl Engine {
         ensures few { result < 2 ^ 66 }
         ensures most { PutsMost (R.at_hand input.old) result (shape self.old) (shape self.new) }
     {
-        let bytes = nr_input::window(&self.place, &self.formatter.store, input);
+        let bytes = nr_input_rows::window(&self.place, &self.formatter.store, input);
         let words = put_words(&mut self.formatter, bytes);
         if words.taken == 0 {
             return 0;
         }
         let last = bytes[words.taken - 1];
         let reader = &mut self.formatter.reader;
-        nr_input::take_window(&mut self.place, reader, input, last, words.taken);
+        nr_input_rows::take_window(&mut self.place, reader, input, last, words.taken);
         words.moves as u128
     }
 
@@ -147,7 +147,7 @@ impl Engine {
             → is_unseen self.old.place.ahead ≡ true →
             BeginsText (may_take self.old.place (R.at_hand input.now)) self.old.formatter → ⊥ }
     {
-        let bytes = nr_input::window(&self.place, &self.formatter.store, input);
+        let bytes = nr_input_rows::window(&self.place, &self.formatter.store, input);
         self.formatter.begin_text(bytes)
     }
 

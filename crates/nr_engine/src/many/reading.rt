@@ -50,7 +50,7 @@ impl Engine {
             return 0;
         }
         let formatter = &mut self.formatter;
-        let run = nr_input::read_next(
+        let run = nr_input_rows::read_next(
             &mut self.place,
             &mut formatter.reader,
             &mut formatter.store,
@@ -73,7 +73,7 @@ impl Engine {
             return 0;
         }
         let formatter = &mut self.formatter;
-        let run = nr_input::read_body_lines(
+        let run = nr_input_rows::read_body_lines(
             &mut self.place,
             &mut formatter.reader,
             &mut formatter.store,
@@ -96,7 +96,7 @@ impl Engine {
             return 0;
         }
         let formatter = &mut self.formatter;
-        let run = nr_input::read_dropped_line(
+        let run = nr_input_rows::read_dropped_line(
             &mut self.place,
             &mut formatter.reader,
             &formatter.store,
@@ -144,7 +144,7 @@ impl Engine {
             return 0;
         }
         let formatter = &mut self.formatter;
-        let run = nr_input::read_levels(
+        let run = nr_input_rows::read_levels(
             &mut formatter.reader,
             &mut formatter.store,
             &mut self.resumed,

@@ -1,6 +1,6 @@
 use Prim.Native.Char.{code}
 use Rattle.std.proofs.Common.{◌≡◌, ◌+◌, ◌*◌, ◌<◌, ◌≤◌, refl, ap, ◌∙◌, subst, sym, arith}
-use Rattle.nr_input.specs.Many.AtHand.{behind_last}
+use Rattle.nr_input_rows.specs.AtHand.{behind_last}
 use Rattle.nr_input.specs.Place.{HoldsComing}
 use Rattle.nr_formatter.specs.Many.EmptyLines.{gone_down, lines_below}
 use Rattle.nr_formatter.proofs.EmptyLines.{lines_gone, room_below}

@@ -1,5 +1,5 @@
 use Rattle.std.proofs.Common.{◌≡◌, true, take, sym, subst}
-use Rattle.nr_input.specs.Many.Gathering.{IsGathered}
+use Rattle.nr_input_rows.specs.Gathering.{IsGathered}
 use Rattle.nr_input.specs.declared.reader.Reader.{Reader}
 use Rattle.nr_formatter.specs.Many.Runs.{is_in_line}
 use Rattle.nr_engine.specs.Holding.{Shape, shape}

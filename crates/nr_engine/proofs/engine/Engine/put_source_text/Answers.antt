@@ -1,6 +1,6 @@
 use Rattle.std.proofs.Common.{◌≡◌, ◌+◌, ◌-◌, ◌<◌, length, refl, subst, arith}
 use Rattle.std.specs.Prelude.{slice_index}
-use Rattle.nr_input.specs.Many.AtHand.{behind_last}
+use Rattle.nr_input_rows.specs.AtHand.{behind_last}
 use Rattle.nr_input.specs.Place.{HoldsComing}
 use Rattle.nr_engine.specs.Holding.{shape}
 use Rattle.nr_engine.specs.Many.Running.{HasNext, Longest, unburst}

@@ -1,4 +1,4 @@
-use Rattle.nr_input.proofs.LevelParts.{many_of_all}
+use Rattle.nr_input_rows.proofs.LevelParts.{many_of_all}
 use Rattle.nr_engine.specs.Holding.{shape}
 use Rattle.nr_engine.proofs.ReadRuns.{makes_reading}
 use Rattle.nr_engine.proofs.engine.Engine.read_body_lines.Goals as goal

@@ -5,7 +5,7 @@ use Rattle.std.proofs.lemmas.List.{take_rest}
 use Rattle.nr_reading.specs.Many.InText.{is_in_text}
 use Rattle.nr_reading.specs.Many.Interpolations.{interpolates}
 use Rattle.nr_reading.specs.Many.LineBeginnings.{IsBeforeLine}
-use Rattle.nr_input.specs.Many.Fonts.{BeginsFont}
+use Rattle.nr_input_rows.specs.Fonts.{BeginsFont}
 use Rattle.nr_formatter.specs.Many.LineBeginnings.{BeginsText, is_at_text}
 use Rattle.nr_formatter.specs.Many.Runs.{is_in_line}
 use Rattle.nr_formatter.specs.declared.formatter.Formatter.{Formatter}

@@ -1,0 +1,11 @@
+use Rattle.std.proofs.Common.{map, sym, ap, ◌∙◌}
+use Rattle.nr_store.specs.Windows.{elements_in}
+use Rattle.nr_store.specs.declared.shown.Rest.{Rest}
+use Rattle.nr_input.specs.Place.{element_front}
+use Rattle.nr_input_rows.proofs.RowsRead.{bytes_are}
+use Rattle.nr_input_rows.proofs.level_rows.meet_front.Goals as goal
+
+pub meet_rows-requires-in-Bytes : goal.meet_rows-requires-in-Bytes
+meet_rows-requires-in-Bytes g c = record {
+  row = bytes_are c.in-Bytes.bytes.now ∙ ap (λ (rest : Rest). map element_front (elements_in rest)) (sym c.in-Bytes.is) ∙ ap (map element_front) c.rest.ensures;
+}

@@ -1,0 +1,13 @@
+pub mod AtHand
+pub mod Runs
+pub mod Rows
+pub mod Levels
+pub mod Interpolations
+pub mod Gathering
+pub mod LevelRows
+pub mod MacroLines
+pub mod BodyLines
+pub mod DroppedLines
+pub mod Fonts
+pub mod Target
+pub mod Beginnings
