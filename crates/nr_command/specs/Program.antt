@@ -2,8 +2,8 @@
 use Rattle.std.specs.Prelude.{◌≡◌, ◌≢◌, ℕ, List, [], map, Bool, true, false, IsTrue, Option, Result, Ok, Err, ◌⊎◌}
 use Rattle.nr_units.specs.Failures.{SinkFailures, counted_if}
 use Rattle.nr_units.specs.Source.{Supply}
-use Rattle.nr_engine.specs.declared.outcome.Outcome.{Outcome}
-use Rattle.nr_engine.specs.declared.outcome.Outcome.TheVariants.{WriteFault}
+use Rattle.nr_machine.specs.declared.outcome.Outcome.{Outcome}
+use Rattle.nr_machine.specs.declared.outcome.Outcome.TheVariants.{WriteFault}
 use Rattle.nr_command_options.specs.Chained.{failures_in}
 use Rattle.nr_command_options.specs.Files.{files_supply}
 use Rattle.nr_command_options.specs.Inputs.{Reading, readings, reading_of}

@@ -3,12 +3,12 @@ use Rattle.std.specs.Prelude.{◌≡◌, ℕ, List, Bool, false, IsTrue, if◌th
 use Rattle.std.specs.Io.KnownBytes.{Keeps}
 use Rattle.nr_units.specs.Failures.{SinkFailures, counted_if, put_counted_if, flush_counted_if}
 use Rattle.nr_units.specs.Source.{Supply}
-use Rattle.nr_engine.specs.State.{start}
+use Rattle.nr_machine.specs.State.{start}
 use Rattle.nr_options.specs.Limits.{Bounds}
 use Rattle.nr_options.specs.declared.options.Options.{Options}
-use Rattle.nr_engine.specs.Run.{Answers, is_read_fault, is_write_fault}
-use Rattle.nr_engine.specs.declared.outcome.Outcome.{Outcome}
-use Rattle.nr_engine.specs.declared.outcome.Outcome.TheVariants.{Done, Limit, ReadFault, TooLong, WriteFault}
+use Rattle.nr_machine.specs.Run.{Answers, is_read_fault, is_write_fault}
+use Rattle.nr_machine.specs.declared.outcome.Outcome.{Outcome}
+use Rattle.nr_machine.specs.declared.outcome.Outcome.TheVariants.{Done, Limit, ReadFault, TooLong, WriteFault}
 
 -- the status of the program
 abbrev pub status_of : Outcome → ℕ

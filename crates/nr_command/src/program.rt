@@ -1,7 +1,7 @@
 // The program over its words.
 ghost use Rattle.std.specs.Prelude.{◌≡◌, ◌≢◌, ◌==◌, Ok, Err, IfOk, IfErr, OnErr, IsTrue, List, ℕ, map, string_bytes};
 ghost use Rattle.nr_units.specs.Failures.{counted_if};
-ghost use Rattle.nr_engine.specs.declared.outcome.Outcome.{Outcome};
+ghost use Rattle.nr_machine.specs.declared.outcome.Outcome.{Outcome};
 ghost use Rattle.nr_command_options.specs.declared.job.Job.{Job};
 ghost use Rattle.nr_command_options.specs.Job.{asked_of, texts};
 ghost use Rattle.nr_command_options.specs.Usage.{usage_text};

@@ -1,6 +1,6 @@
 // A run of the program over given streams.
 ghost use Rattle.std.specs.Prelude.{◌≡◌, ◌≢◌, ◌↔◌, IsTrue, IsErr, IfOk, OnErr};
-ghost use Rattle.nr_engine.specs.declared.outcome.Outcome.{Outcome};
+ghost use Rattle.nr_machine.specs.declared.outcome.Outcome.{Outcome};
 ghost use Rattle.nr_command.specs.Faults.{Tells, line_of};
 ghost use Rattle.nr_command.specs.Running.{Ran, status_of, memory_line};
 

@@ -2,28 +2,24 @@
 use Rattle.std.proofs.Common.{◌≡◌, ℕ, ◌+◌, ◌-◌, ◌*◌, ◌^◌, ◌≤◌, ◌<◌, List, [], Option, Some, refl, sym, ap, ◌∙◌, subst, arith}
 use Rattle.std.proofs.lemmas.Nat.{mul-le}
 use Rattle.nr_units.specs.Source.{Supply}
-use Rattle.nr_fill.specs.Line.{Lined}
-use Rattle.nr_fill.specs.Piece.{nothing_collected}
-use Rattle.nr_store.specs.Request.{request_names}
-use Rattle.nr_store.specs.Store.{Stored, charge_of, nothing}
+use Rattle.nr_store.specs.Store.{charge_of}
 use Rattle.nr_input.specs.Place.{nothing_reached}
 use Rattle.nr_input.specs.Weights.{expansions_worth}
 use Rattle.nr_options.specs.Limits.{Bounds}
 use Rattle.nr_options.specs.declared.options.Options.{Options}
-use Rattle.nr_formatter.specs.Beginning.{first_formatter}
 use Rattle.nr_formatter.specs.Limits as formatter
 use Rattle.nr_formatter.specs.Weights as weights
 use Rattle.nr_formatter.specs.Weights.{owed, steps_left}
 use Rattle.nr_formatter.specs.declared.formatter.Formatter.{Formatter}
-use Rattle.nr_formatter.specs.declared.tasks.Resume.{Resume}
-use Rattle.nr_engine.specs.State.{State, start, choices, formatter_at_first}
-use Rattle.nr_engine.specs.Machine.{state_after}
-use Rattle.nr_engine.specs.Run.{Answers, moves_a_byte}
-use Rattle.nr_engine.specs.Holding.{Shape, Holds, Made, weight, worth}
-use Rattle.nr_engine.specs.Many.Running.{IsNew, StaysLight, Travelled}
-use Rattle.nr_engine.specs.declared.outcome.Outcome.{Outcome}
-use Rattle.nr_engine.proofs.Standing.{state_after-add, halts_after, answers}
-use Rattle.nr_engine.proofs.Travelling.{worth_same}
+use Rattle.nr_machine.specs.State.{State, start, choices, formatter_at_first}
+use Rattle.nr_machine.specs.Machine.{state_after}
+use Rattle.nr_machine.specs.Run.{Answers, moves_a_byte}
+use Rattle.nr_machine.specs.Holding.{Shape, Holds, Made, weight, worth}
+use Rattle.nr_machine.specs.Choosing.{IsNew, StaysLight}
+use Rattle.nr_engine.specs.Travelling.{Travelled}
+use Rattle.nr_machine.specs.declared.outcome.Outcome.{Outcome}
+use Rattle.nr_machine.proofs.Standing.{state_after-add, halts_after, answers}
+use Rattle.nr_machine_rows.proofs.Running.{worth_same}
 
 no_charge : (b : Bounds) → charge_of (formatter_at_first b).store ≡ 0
 no_charge b = refl

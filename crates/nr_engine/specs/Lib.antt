@@ -1,9 +1,1 @@
-pub mod Run
-pub mod Desk
-pub mod Holding
-pub mod Limits
-pub mod Machine
-pub mod Measures
-pub mod Printing
-pub mod State
-pub mod Many
+pub mod Travelling

@@ -1,48 +1,12 @@
 //! The memory of a run, taken once and lent as often as wanted.
-ghost use Rattle.std.specs.Prelude.{◌≡◌, ◌+◌, ◌*◌, ◌≤◌, IfOk, vec_len};
-ghost use Rattle.nr_engine.specs.Desk.{sizes_of, sum_of};
+ghost use Rattle.std.specs.Prelude.{◌≡◌, ◌+◌, ◌*◌, ◌≤◌, IfOk};
+ghost use Rattle.nr_machine.specs.Lengths.{sizes_of, sum_of};
 
-use crate::engine::Engine;
-use crate::lengths::Sizes;
-use nr_fill::line::Line;
+use nr_machine::{Engine, Sizes};
 use nr_options::Limits;
-use nr_page::page::room;
-use nr_store::memory::Room;
 use nr_vectors::CountedAlloc;
 use std::alloc::AllocError;
 use std::marker::Model;
-
-/// The lengths that the limits ask for.
-pub fn sizes(limits: Limits) -> Sizes
-    ensures value { result ≡ sizes_of limits }
-    ensures bound { sum_of result ≤ 4 * limits.stored + 4 * limits.depth + 6 * limits.cells + 8192 }
-{
-    let store = Room::of(limits.stored() as u32, limits.depth() as u32);
-    let line = Line::room(limits.cells());
-    let page = room(limits.cells());
-    Sizes {
-        elements: store.elements,
-        slots: store.slots,
-        names: store.names,
-        drafts: store.drafts,
-        frames: store.frames,
-        modes: store.modes,
-        bytes: store.bytes,
-        places: store.places,
-        gathering: store.gathering,
-        registers: store.registers,
-        traps: store.traps,
-        trap_order: store.trap_order,
-        words: store.words,
-        kinds: store.kinds,
-        cells: line.cells,
-        pieces: line.pieces,
-        row: line.row,
-        page_cells: page.cells,
-        page_texts: page.texts,
-        page_rows: page.rows,
-    }
-}
 
 /// A working space, under the limits that gave its sizes. Contracts see its limits.
 pub struct Desk {
@@ -66,8 +30,8 @@ impl Model for Desk {
     ghost Value = { Bounds };
 
     ghost use Rattle.std.specs.Prelude.{◌≡◌};
-    ghost use Rattle.nr_engine.specs.Holding.{shape};
-    ghost use Rattle.nr_engine.specs.Limits.{limits_of, limits_under};
+    ghost use Rattle.nr_machine.specs.Holding.{shape};
+    ghost use Rattle.nr_machine.specs.Limits.{limits_of, limits_under};
 
     ghost view = { λ d. d.limits };
 

@@ -15,8 +15,8 @@ use Rattle.nr_formatter.specs.declared.tasks.Then.{Then}
 use Rattle.nr_formatter.specs.declared.tasks.Then.TheVariants as thens
 use Rattle.nr_formatter.specs.Access.{collected}
 use Rattle.nr_formatter.specs.Places.{is_open}
-use Rattle.nr_engine.specs.State.{State}
-use Rattle.nr_engine.specs.Printing.{text}
+use Rattle.nr_machine.specs.State.{State}
+use Rattle.nr_machine.specs.Printing.{text}
 use Rattle.nr_laws.specs.FilledText.{is_filled_from, first_margins, text_of}
 use Rattle.nr_laws.proofs.FilledPages.{Consecutive, rows_shown}
 use Rattle.nr_laws.proofs.FilledPieces.{rows_after}

@@ -22,9 +22,9 @@ use Rattle.nr_formatter.specs.Lines.{flow_line, break_line, flow_done, break_wor
 use Rattle.nr_formatter.specs.Pages.{begins_first_page, is_ejecting, next_springing, task_ejected}
 use Rattle.nr_formatter.specs.Places.{outlet, to_read}
 use Rattle.nr_formatter.specs.Spacing.{is_spaceless}
-use Rattle.nr_engine.specs.State.{State, Ended, Choice, plainly}
-use Rattle.nr_engine.specs.Machine.{page_of, begin_page, end_page, turn_page, put_line_to, put_or, break_part, continues_none, break_out, room_in, title_to, cell_to, line_to, space_to, put_space, eject_to, eject, act, work, hear, spring_or, choose_or, step, state_after}
-use Rattle.nr_engine.specs.Printing.{bytes_of, text}
+use Rattle.nr_machine.specs.State.{State, Ended, Choice, plainly}
+use Rattle.nr_machine.specs.Machine.{page_of, begin_page, end_page, turn_page, put_line_to, put_or, break_part, continues_none, break_out, room_in, title_to, cell_to, line_to, space_to, put_space, eject_to, eject, act, work, hear, spring_or, choose_or, step, state_after}
+use Rattle.nr_machine.specs.Printing.{bytes_of, text}
 use Rattle.nr_laws.specs.Laws.{IsFrontOf}
 
 -- more pages have ended

@@ -33,12 +33,12 @@ use Rattle.nr_formatter.specs.Access.{collected}
 use Rattle.nr_formatter.specs.Limits as formatter
 use Rattle.nr_formatter.specs.declared.formatter.Formatter.{Formatter}
 use Rattle.nr_formatter.specs.declared.tasks.Resume.{Resume}
-use Rattle.nr_engine.specs.State.{State}
-use Rattle.nr_engine.specs.Machine.{step, told, situation_of, with_situation}
-use Rattle.nr_engine.specs.Measures.{IsWithin, passed}
-use Rattle.nr_engine.specs.Run.{Kind, Reads, Works, Over, kind, IsRefusal, PassesBy, Passes}
-use Rattle.nr_engine.specs.declared.outcome.Measure.{Measure}
-use Rattle.nr_engine.specs.declared.outcome.Measure.TheVariants as measures
+use Rattle.nr_machine.specs.State.{State}
+use Rattle.nr_machine.specs.Machine.{step, told, situation_of, with_situation}
+use Rattle.nr_machine.specs.Measures.{IsWithin, passed}
+use Rattle.nr_machine.specs.Run.{Kind, Reads, Works, Over, kind, IsRefusal, PassesBy, Passes}
+use Rattle.nr_machine.specs.declared.outcome.Measure.{Measure}
+use Rattle.nr_machine.specs.declared.outcome.Measure.TheVariants as measures
 use Rattle.nr_input.specs.declared.refusal.Refusal.TheVariants as refusals
 use Rattle.nr_laws.specs.Moves.{AboveIsRefused, IsChargedOnce, charge_behind, charge_under, names_text}
 use Rattle.nr_laws.proofs.Over.{over-step}

@@ -31,9 +31,9 @@ use Rattle.nr_formatter.specs.declared.tasks.Task.TheVariants as tasks
 use Rattle.nr_formatter.specs.declared.tasks.Then.{Then}
 use Rattle.nr_formatter.specs.declared.tasks.Then.TheVariants as thens
 use Rattle.nr_formatter.proofs.Falling.{weight_of_name-le, weight_of_outlet-le, weight_of_task-le}
-use Rattle.nr_engine.specs.State.{State, Choice, Register, start, formatter_at_first}
-use Rattle.nr_engine.specs.Machine.{state_after}
-use Rattle.nr_engine.specs.Run.{Runs, Goes, moves_a_byte}
+use Rattle.nr_machine.specs.State.{State, Choice, Register, start, formatter_at_first}
+use Rattle.nr_machine.specs.Machine.{state_after}
+use Rattle.nr_machine.specs.Run.{Runs, Goes, moves_a_byte}
 use Rattle.nr_laws.specs.Moves.{IsBehindByte, NoneIsTaken, MovesAreFew, MovesBeforeByte, MovesBetween, moves_of_texts, moves_of_rest, parts_of}
 use Rattle.nr_laws.specs.Laws.{nothing_allowed}
 use Rattle.nr_laws.proofs.Growing.{state_after-add}

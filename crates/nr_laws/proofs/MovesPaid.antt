@@ -62,12 +62,12 @@ use Rattle.nr_formatter.proofs.RequestFalls.{falls-if, falls-ex, falls-act}
 use Rattle.nr_formatter.proofs.TaskFalls.{falls-task, falls-gone_on}
 use Rattle.nr_formatter.proofs.TextFalls.{falls-text, falls-title, falls-title_dash_end, falls-dash_end}
 use Rattle.nr_formatter.proofs.WorkFalls.{falls-behind}
-use Rattle.nr_engine.specs.State.{State, Choice, First, Register, plainly}
-use Rattle.nr_engine.specs.Machine as machine
-use Rattle.nr_engine.specs.Machine.{step}
-use Rattle.nr_engine.specs.Measures.{passed}
-use Rattle.nr_engine.specs.Run.{kind_of_task, kind_of_event, kind_of_springs, kind_of, GoesBy, Goes}
-use Rattle.nr_engine.specs.declared.outcome.Measure.TheVariants as measures
+use Rattle.nr_machine.specs.State.{State, Choice, First, Register, plainly}
+use Rattle.nr_machine.specs.Machine as machine
+use Rattle.nr_machine.specs.Machine.{step}
+use Rattle.nr_machine.specs.Measures.{passed}
+use Rattle.nr_machine.specs.Run.{kind_of_task, kind_of_event, kind_of_springs, kind_of, GoesBy, Goes}
+use Rattle.nr_machine.specs.declared.outcome.Measure.TheVariants as measures
 use Rattle.nr_laws.proofs.PageLengths.{HasHeight}
 use Rattle.nr_laws.proofs.ReadsPaid.{Paid, reached, worth, read-paid}
 use Rattle.nr_laws.proofs.TrapTexts.{springing_named}

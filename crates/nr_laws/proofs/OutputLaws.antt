@@ -7,12 +7,12 @@ use Rattle.nr_units.specs.Sink.{AppendsFront}
 use Rattle.nr_units.specs.Source.{Supply, Faults}
 use Rattle.nr_options.specs.Limits.{Bounds}
 use Rattle.nr_options.specs.declared.options.Options.{Options}
-use Rattle.nr_engine.specs.State.{State, Ended, start}
-use Rattle.nr_engine.specs.Machine.{step, state_after}
-use Rattle.nr_engine.specs.Printing.{bytes_of, text}
-use Rattle.nr_engine.specs.Run.{Kind, Over, kind, Goes, Runs, Stops, Writes, BreaksOff, is_write_fault}
-use Rattle.nr_engine.specs.declared.outcome.Outcome.{Outcome}
-use Rattle.nr_engine.specs.declared.outcome.Outcome.TheVariants.{Done, Limit, ReadFault, TooLong, WriteFault}
+use Rattle.nr_machine.specs.State.{State, Ended, start}
+use Rattle.nr_machine.specs.Machine.{step, state_after}
+use Rattle.nr_machine.specs.Printing.{bytes_of, text}
+use Rattle.nr_machine.specs.Run.{Kind, Over, kind, Goes, Runs, Stops, Writes, BreaksOff, is_write_fault}
+use Rattle.nr_machine.specs.declared.outcome.Outcome.{Outcome}
+use Rattle.nr_machine.specs.declared.outcome.Outcome.TheVariants.{Done, Limit, ReadFault, TooLong, WriteFault}
 use Rattle.nr_laws.specs.Limited.{state_under}
 use Rattle.nr_laws.specs.Laws.{IsFrontOf, AtLeast, is_settled, is_limit, nothing_allowed, unlimited, unlimited_text, AnswersWith, LimitsOnlyStop, NoLimitAsked, LimitsCut, LimitsCutOutput, DoneIsWhole, OneWhole, WiderLimits, LimitsUnmet, OneAnswer}
 use Rattle.nr_laws.proofs.Growing.{text-grows, state_after-add}

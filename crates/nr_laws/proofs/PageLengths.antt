@@ -77,8 +77,8 @@ use Rattle.nr_formatter.specs.Springing as springing
 use Rattle.nr_formatter.specs.Text as texts
 use Rattle.nr_formatter.specs.Titles as titles
 use Rattle.nr_formatter.specs.Traps as traps
-use Rattle.nr_engine.specs.State.{State, Choice, First, Register, plainly}
-use Rattle.nr_engine.specs.Machine as machine
+use Rattle.nr_machine.specs.State.{State, Choice, First, Register, plainly}
+use Rattle.nr_machine.specs.Machine as machine
 
 -- a page has a height
 abbrev pub HasHeight : Formatter → Type 0

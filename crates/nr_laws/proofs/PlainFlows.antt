@@ -20,9 +20,9 @@ use Rattle.nr_formatter.specs.Access.{collected, spacing}
 use Rattle.nr_formatter.specs.Lines.{row_going, behind_line, pieces_going, rest_behind}
 use Rattle.nr_formatter.specs.Pages.{task_begun, task_ended}
 use Rattle.nr_formatter.specs.Places.{is_open}
-use Rattle.nr_engine.specs.State.{State, Ended}
-use Rattle.nr_engine.specs.Machine.{begin_page, end_page, page_of, place, offset}
-use Rattle.nr_engine.specs.Printing.{bytes_of, text}
+use Rattle.nr_machine.specs.State.{State, Ended}
+use Rattle.nr_machine.specs.Machine.{begin_page, end_page, page_of, place, offset}
+use Rattle.nr_machine.specs.Printing.{bytes_of, text}
 use Rattle.nr_laws.specs.FilledText.{first_margins, text_of}
 use Rattle.nr_laws.specs.PlainText.{squeezed}
 use Rattle.nr_laws.proofs.PlainPages.{Ascends, Above, above-more, ink, ink-trimmed, lines_ink, page-ink, squeezed-append, trimmed-twice, same_if}

@@ -26,9 +26,9 @@ use Rattle.nr_formatter.specs.Lines as lines
 use Rattle.nr_formatter.specs.Places.{is_open}
 use Rattle.nr_formatter.specs.Text as texts
 use Rattle.nr_reading.specs.declared.event.Event.{Event}
-use Rattle.nr_engine.specs.State.{State}
-use Rattle.nr_engine.specs.Machine.{step}
-use Rattle.nr_engine.specs.Printing.{text}
+use Rattle.nr_machine.specs.State.{State}
+use Rattle.nr_machine.specs.Machine.{step}
+use Rattle.nr_machine.specs.Printing.{text}
 use Rattle.nr_laws.specs.PlainText.{squeezed, is_plain_from}
 use Rattle.nr_laws.proofs.PlainPages.{if-true, if-false, same_if, lines_ink}
 use Rattle.nr_laws.proofs.PlainLines.{Clean, CleanWords, IsPlainPending, collected_ink, add_cell-ink, add_cell-clean, add_blank-ink, add_blank-clean, end_word-ink, end_word-clean}

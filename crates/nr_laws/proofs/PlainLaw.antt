@@ -21,11 +21,11 @@ use Rattle.nr_formatter.specs.Access.{collected}
 use Rattle.nr_formatter.specs.BuiltIn.{given_named}
 use Rattle.nr_formatter.specs.Registers.{given_set, register_set_by}
 use Rattle.nr_options.specs.declared.options.Options.{Options}
-use Rattle.nr_engine.specs.State.{State, Choice, First, Register as SetsRegister, choices, start}
-use Rattle.nr_engine.specs.Machine.{step, state_after, choose}
-use Rattle.nr_engine.specs.Printing.{text}
-use Rattle.nr_engine.specs.Run.{Reads, Works, Over, kind}
-use Rattle.nr_engine.specs.declared.outcome.Outcome.TheVariants.{Done}
+use Rattle.nr_machine.specs.State.{State, Choice, First, Register as SetsRegister, choices, start}
+use Rattle.nr_machine.specs.Machine.{step, state_after, choose}
+use Rattle.nr_machine.specs.Printing.{text}
+use Rattle.nr_machine.specs.Run.{Reads, Works, Over, kind}
+use Rattle.nr_machine.specs.declared.outcome.Outcome.TheVariants.{Done}
 use Rattle.nr_laws.specs.Laws.{nothing_allowed}
 use Rattle.nr_laws.specs.FilledText.{text_of, FilledTextIsRows}
 use Rattle.nr_laws.specs.PlainText.{squeezed, is_plain, is_plain_from, PlainTextStays, TakesAll}

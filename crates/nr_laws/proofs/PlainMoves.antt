@@ -24,9 +24,9 @@ use Rattle.nr_formatter.specs.Access.{collected}
 use Rattle.nr_formatter.specs.Lines as lines
 use Rattle.nr_formatter.specs.Places.{is_open, page_outlet, to_read}
 use Rattle.nr_formatter.specs.Spacing.{spaced}
-use Rattle.nr_engine.specs.State.{State, plainly}
-use Rattle.nr_engine.specs.Machine.{step, end_page, page_of, space_to}
-use Rattle.nr_engine.specs.Printing.{bytes_of, text}
+use Rattle.nr_machine.specs.State.{State, plainly}
+use Rattle.nr_machine.specs.Machine.{step, end_page, page_of, space_to}
+use Rattle.nr_machine.specs.Printing.{bytes_of, text}
 use Rattle.nr_laws.specs.FilledText.{text_of}
 use Rattle.nr_laws.specs.PlainText.{squeezed, is_plain_from}
 use Rattle.nr_laws.proofs.PlainPages.{above-more, lines_ink, if-true, if-false, squeezed-append, page-ink}

@@ -17,8 +17,8 @@ use Rattle.nr_input.specs.Acting.{behind_lead}
 use Rattle.nr_input.specs.Moving.{met_at}
 use Rattle.nr_formatter.specs.declared.tasks.Task.TheVariants as tasks
 use Rattle.nr_formatter.specs.declared.tasks.Step.TheVariants as steps
-use Rattle.nr_engine.specs.State.{State}
-use Rattle.nr_engine.specs.Machine.{step, situation_of, with_situation}
+use Rattle.nr_machine.specs.State.{State}
+use Rattle.nr_machine.specs.Machine.{step, situation_of, with_situation}
 use Rattle.nr_laws.specs.PlainText.{is_ink, squeezed, is_plain_byte, is_sign, is_plain_from}
 use Rattle.nr_laws.proofs.PlainPages.{squeezed-append, if-true, if-false, lines_ink}
 use Rattle.nr_laws.proofs.PlainStates.{calm, Owes, Nothing, Blanks, InLead, InText, HearsByte, HearsLead, HearsLeading, HearsEmpty, HearsEnd, HearsOver, OrderlyIn, Keeps, keeps}
@@ -28,7 +28,7 @@ use Rattle.nr_laws.proofs.FilledPages.{rows_shown}
 use Rattle.nr_laws.proofs.FilledPieces.{rows_after, added-newline}
 use Rattle.nr_laws.proofs.FilledStates.{never_here}
 use Rattle.nr_formatter.specs.Access.{collected}
-use Rattle.nr_engine.specs.Printing.{text}
+use Rattle.nr_machine.specs.Printing.{text}
 
 -- ---- plain bytes
 

@@ -21,8 +21,8 @@ use Rattle.nr_formatter.specs.declared.tasks.Task.TheVariants as tasks
 use Rattle.nr_formatter.specs.declared.tasks.Then.TheVariants as thens
 use Rattle.nr_formatter.specs.Access.{collected}
 use Rattle.nr_formatter.specs.Places.{is_open}
-use Rattle.nr_engine.specs.State.{State}
-use Rattle.nr_engine.specs.Printing.{text}
+use Rattle.nr_machine.specs.State.{State}
+use Rattle.nr_machine.specs.Printing.{text}
 use Rattle.nr_laws.specs.PlainText.{squeezed, is_plain_from}
 use Rattle.nr_laws.proofs.PlainPages.{Ascends, Above, lines_ink}
 use Rattle.nr_laws.proofs.PlainLines.{Clean, collected_ink}

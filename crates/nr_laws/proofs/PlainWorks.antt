@@ -27,9 +27,9 @@ use Rattle.nr_formatter.specs.Access.{collected}
 use Rattle.nr_formatter.specs.Lines as lines
 use Rattle.nr_formatter.specs.Pages.{task_begun, task_ended, is_unbegun, begins_page as begins_by, begins_first_page}
 use Rattle.nr_formatter.specs.Places.{is_open, page_outlet}
-use Rattle.nr_engine.specs.State.{State, plainly}
-use Rattle.nr_engine.specs.Machine.{begin_page, put_line_to, put_line, put_or, break_out}
-use Rattle.nr_engine.specs.Printing.{text}
+use Rattle.nr_machine.specs.State.{State, plainly}
+use Rattle.nr_machine.specs.Machine.{begin_page, put_line_to, put_line, put_or, break_out}
+use Rattle.nr_machine.specs.Printing.{text}
 use Rattle.nr_laws.specs.PlainText.{squeezed}
 use Rattle.nr_laws.proofs.PlainPages.{lines_ink, if-true, if-false}
 use Rattle.nr_laws.proofs.PlainLines.{end_word-ink, end_word-clean}

@@ -4,9 +4,9 @@ use Rattle.nr_reading.specs.declared.event.Event.{Event}
 use Rattle.nr_reading.specs.declared.event.Event.TheVariants as events
 use Rattle.nr_formatter.specs.declared.tasks.Task.{Task}
 use Rattle.nr_formatter.specs.declared.tasks.Task.TheVariants as tasks
-use Rattle.nr_engine.specs.State.{State, Choice}
-use Rattle.nr_engine.specs.Machine.{read, work, hear, spring_or, choose_or, step}
-use Rattle.nr_engine.specs.Run.{Reads, Works, Over, kind, kind_of_task, kind_of_event, kind_of_springs, kind_of}
+use Rattle.nr_machine.specs.State.{State, Choice}
+use Rattle.nr_machine.specs.Machine.{read, work, hear, spring_or, choose_or, step}
+use Rattle.nr_machine.specs.Run.{Reads, Works, Over, kind, kind_of_task, kind_of_event, kind_of_springs, kind_of}
 
 work-reads : (t : Task) (s : State) → kind_of_task t ≡ Reads → work t s ≡ read s
 work-reads tasks.Read s is = refl

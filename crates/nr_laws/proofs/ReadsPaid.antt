@@ -33,8 +33,8 @@ use Rattle.nr_formatter.specs.declared.tasks.Resume.{Resume}
 use Rattle.nr_formatter.specs.declared.tasks.Step.{Step}
 use Rattle.nr_formatter.specs.declared.tasks.Task.TheVariants as tasks
 use Rattle.nr_formatter.proofs.InputFalls.{falls-resumed}
-use Rattle.nr_engine.specs.State.{State}
-use Rattle.nr_engine.specs.Machine.{read, situation_of, told, with_situation}
+use Rattle.nr_machine.specs.State.{State}
+use Rattle.nr_machine.specs.Machine.{read, situation_of, told, with_situation}
 
 -- ---- how a program would stand before what is to come, having looked at it
 

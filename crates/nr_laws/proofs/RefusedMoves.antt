@@ -18,12 +18,12 @@ use Rattle.nr_input.specs.declared.refusal.Refusal.{Refusal}
 use Rattle.nr_input.specs.declared.refusal.Refusal.TheVariants as refusals
 use Rattle.nr_formatter.specs.Access.{collected}
 use Rattle.nr_formatter.specs.declared.tasks.Resume.{Resume}
-use Rattle.nr_engine.specs.State.{State}
-use Rattle.nr_engine.specs.Machine.{step, situation_of, with_situation}
-use Rattle.nr_engine.specs.Measures.{IsWithin, passed}
-use Rattle.nr_engine.specs.Run.{Kind, Reads, Works, Over, kind, IsRefusal, PassesBy}
-use Rattle.nr_engine.specs.declared.outcome.Measure.{Measure}
-use Rattle.nr_engine.specs.declared.outcome.Measure.TheVariants as measures
+use Rattle.nr_machine.specs.State.{State}
+use Rattle.nr_machine.specs.Machine.{step, situation_of, with_situation}
+use Rattle.nr_machine.specs.Measures.{IsWithin, passed}
+use Rattle.nr_machine.specs.Run.{Kind, Reads, Works, Over, kind, IsRefusal, PassesBy}
+use Rattle.nr_machine.specs.declared.outcome.Measure.{Measure}
+use Rattle.nr_machine.specs.declared.outcome.Measure.TheVariants as measures
 use Rattle.nr_laws.specs.Moves.{RefusedIsAbove}
 use Rattle.nr_laws.proofs.ReadMoves.{reads-step}
 use Rattle.nr_laws.proofs.Stopping.{for_limit, no_sight}

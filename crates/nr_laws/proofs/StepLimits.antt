@@ -28,8 +28,8 @@ use Rattle.nr_formatter.specs.Pages.{begins_first_page, is_ejecting, next_spring
 use Rattle.nr_formatter.specs.Places.{outlet, to_read}
 use Rattle.nr_formatter.specs.Spacing.{is_spaceless}
 use Rattle.nr_formatter.specs.Springing.{sprung, ejected_to}
-use Rattle.nr_engine.specs.State.{State, Choice, First, Register, plainly}
-use Rattle.nr_engine.specs.Machine.{choose, begin_page, turn_page, put_line_to, put_line, put_or, break_part, continues_none, break_out, room_in, title_to, cell_to, line_to, space_to, put_space, eject_to, eject, told, with_situation, read, act, work, hear, spring_or, choose_or, step, state_after, situation_of}
+use Rattle.nr_machine.specs.State.{State, Choice, First, Register, plainly}
+use Rattle.nr_machine.specs.Machine.{choose, begin_page, turn_page, put_line_to, put_line, put_or, break_part, continues_none, break_out, room_in, title_to, cell_to, line_to, space_to, put_space, eject_to, eject, told, with_situation, read, act, work, hear, spring_or, choose_or, step, state_after, situation_of}
 use Rattle.nr_laws.specs.Limited.{stored_under, reader_under, under, state_under}
 use Rattle.std.specs.List.{filter}
 use Rattle.nr_symbol_tables.specs.Trap.{nearest, on_page}

@@ -16,13 +16,13 @@ use Rattle.nr_input.specs.declared.reader.Reader.{Reader}
 use Rattle.nr_input.specs.declared.refusal.Refusal.{Refusal}
 use Rattle.nr_input.specs.declared.refusal.Refusal.TheVariants as refusals
 use Rattle.nr_formatter.specs.declared.tasks.Resume.{Resume}
-use Rattle.nr_engine.specs.State.{State}
-use Rattle.nr_engine.specs.Machine.{situation_of}
-use Rattle.nr_engine.specs.declared.outcome.Measure.{Measure}
-use Rattle.nr_engine.specs.declared.outcome.Measure.TheVariants as measures
-use Rattle.nr_engine.specs.declared.outcome.Outcome.{Outcome}
-use Rattle.nr_engine.specs.declared.outcome.Outcome.TheVariants.{Done, Limit, ReadFault, TooLong, WriteFault}
-use Rattle.nr_engine.specs.Run.{Kind, Reads, Works, Over, kind, Goes, GoesBy, IsRefusal, PassesBy, Stops}
+use Rattle.nr_machine.specs.State.{State}
+use Rattle.nr_machine.specs.Machine.{situation_of}
+use Rattle.nr_machine.specs.declared.outcome.Measure.{Measure}
+use Rattle.nr_machine.specs.declared.outcome.Measure.TheVariants as measures
+use Rattle.nr_machine.specs.declared.outcome.Outcome.{Outcome}
+use Rattle.nr_machine.specs.declared.outcome.Outcome.TheVariants.{Done, Limit, ReadFault, TooLong, WriteFault}
+use Rattle.nr_machine.specs.Run.{Kind, Reads, Works, Over, kind, Goes, GoesBy, IsRefusal, PassesBy, Stops}
 use Rattle.nr_options.specs.Limits.{Bounds}
 use Rattle.nr_laws.specs.Laws.{are_told, is_settled, is_limit}
 use Rattle.nr_laws.specs.Limited.{state_under}

@@ -8,11 +8,11 @@ use Rattle.nr_input.specs.Moving.{looks}
 use Rattle.nr_input.specs.Moving as input
 use Rattle.nr_options.specs.Limits.{Bounds}
 use Rattle.nr_formatter.specs.Access.{collected}
-use Rattle.nr_engine.specs.State.{State}
-use Rattle.nr_engine.specs.Machine.{step, situation_of}
-use Rattle.nr_engine.specs.Measures.{passed}
-use Rattle.nr_engine.specs.declared.outcome.Measure.TheVariants as measures
-use Rattle.nr_engine.specs.Run.{Kind, Reads, Works, Over, kind, Goes, GoesBy}
+use Rattle.nr_machine.specs.State.{State}
+use Rattle.nr_machine.specs.Machine.{step, situation_of}
+use Rattle.nr_machine.specs.Measures.{passed}
+use Rattle.nr_machine.specs.declared.outcome.Measure.TheVariants as measures
+use Rattle.nr_machine.specs.Run.{Kind, Reads, Works, Over, kind, Goes, GoesBy}
 use Rattle.nr_laws.specs.Laws.{AtLeast}
 use Rattle.nr_laws.specs.Limited.{state_under}
 use Rattle.nr_laws.proofs.InputLimits.{lt-wider, answer-wider}

@@ -28,11 +28,11 @@ use Rattle.nr_input.specs.declared.told.Told.TheVariants as tells
 use Rattle.nr_formatter.specs.Access.{collected}
 use Rattle.nr_formatter.specs.declared.formatter.Formatter.{Formatter}
 use Rattle.nr_formatter.specs.declared.tasks.Resume.{Resume}
-use Rattle.nr_engine.specs.State.{State}
-use Rattle.nr_engine.specs.Machine.{step, state_after, read, told, situation_of}
-use Rattle.nr_engine.specs.Measures.{passed}
-use Rattle.nr_engine.specs.Run.{Kind, Reads, Works, Over, kind, GoesBy, Runs}
-use Rattle.nr_engine.specs.declared.outcome.Measure.TheVariants as measures
+use Rattle.nr_machine.specs.State.{State}
+use Rattle.nr_machine.specs.Machine.{step, state_after, read, told, situation_of}
+use Rattle.nr_machine.specs.Measures.{passed}
+use Rattle.nr_machine.specs.Run.{Kind, Reads, Works, Over, kind, GoesBy, Runs}
+use Rattle.nr_machine.specs.declared.outcome.Measure.TheVariants as measures
 use Rattle.nr_laws.proofs.ReadMoves.{reads-step}
 
 -- each of the texts that are being built is charged 48

@@ -14,7 +14,7 @@ use Rattle.nr_page.specs.PageBytes.{cell_bytes}
 use Rattle.nr_options.specs.Limits.{Bounds}
 use Rattle.nr_options.specs.declared.options.Options.{Options}
 use Rattle.nr_formatter.specs.Text.{behind_of}
-use Rattle.nr_engine.specs.declared.outcome.Outcome.TheVariants.{Done}
+use Rattle.nr_machine.specs.declared.outcome.Outcome.TheVariants.{Done}
 use Rattle.nr_laws.specs.Laws.{AnswersWith}
 use Rattle.nr_laws.specs.PlainText.{is_plain, TakesAll}
 

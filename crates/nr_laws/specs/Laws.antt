@@ -3,12 +3,12 @@ use Rattle.std.specs.Prelude.{◌≡◌, ℕ, ◌+◌, ◌≤◌, Bool, true, fa
 use Rattle.nr_units.specs.Source.{Supply, Faults, Never, After, Anytime}
 use Rattle.nr_options.specs.Limits.{Bounds}
 use Rattle.nr_options.specs.declared.options.Options.{Options}
-use Rattle.nr_engine.specs.State.{State, start}
-use Rattle.nr_engine.specs.Machine.{step, state_after}
-use Rattle.nr_engine.specs.Printing.{text}
-use Rattle.nr_engine.specs.Run.{Answers, kind, Over}
-use Rattle.nr_engine.specs.declared.outcome.Outcome.{Outcome}
-use Rattle.nr_engine.specs.declared.outcome.Outcome.TheVariants.{Done, Limit, ReadFault, WriteFault}
+use Rattle.nr_machine.specs.State.{State, start}
+use Rattle.nr_machine.specs.Machine.{step, state_after}
+use Rattle.nr_machine.specs.Printing.{text}
+use Rattle.nr_machine.specs.Run.{Answers, kind, Over}
+use Rattle.nr_machine.specs.declared.outcome.Outcome.{Outcome}
+use Rattle.nr_machine.specs.declared.outcome.Outcome.TheVariants.{Done, Limit, ReadFault, WriteFault}
 use Rattle.nr_laws.specs.Limited.{state_under}
 
 -- ---- the words of the laws

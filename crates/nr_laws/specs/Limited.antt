@@ -4,7 +4,7 @@ use Rattle.nr_store.specs.Store.{Stored}
 use Rattle.nr_input.specs.declared.reader.Reader.{Reader}
 use Rattle.nr_options.specs.Limits.{Bounds}
 use Rattle.nr_formatter.specs.declared.formatter.Formatter.{Formatter}
-use Rattle.nr_engine.specs.State.{State}
+use Rattle.nr_machine.specs.State.{State}
 
 -- what is stored, under a limit of stored bytes and one of depth
 abbrev pub stored_under : {K : Type 0} → ℕ → ℕ → Stored K → Stored K

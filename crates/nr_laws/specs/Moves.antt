@@ -16,11 +16,11 @@ use Rattle.nr_formatter.specs.Weights.{cost_of_piece, cost_of_word, weight_of_da
 use Rattle.nr_formatter.specs.Access.{collected}
 use Rattle.nr_formatter.specs.declared.formatter.Formatter.{Formatter}
 use Rattle.nr_formatter.specs.declared.tasks.Resume.{Resume}
-use Rattle.nr_engine.specs.State.{State, start}
-use Rattle.nr_engine.specs.Machine.{step, state_after}
-use Rattle.nr_engine.specs.Measures.{IsWithin, passed}
-use Rattle.nr_engine.specs.Run.{Passes, Runs, moves_a_byte}
-use Rattle.nr_engine.specs.declared.outcome.Measure.{Measure}
+use Rattle.nr_machine.specs.State.{State, start}
+use Rattle.nr_machine.specs.Machine.{step, state_after}
+use Rattle.nr_machine.specs.Measures.{IsWithin, passed}
+use Rattle.nr_machine.specs.Run.{Passes, Runs, moves_a_byte}
+use Rattle.nr_machine.specs.declared.outcome.Measure.{Measure}
 
 -- ---- where a move is refused
 

@@ -6,8 +6,8 @@ use Rattle.nr_units.specs.Source.{Supply}
 use Rattle.nr_page.specs.declared.selection.PageRange.{PageRange}
 use Rattle.nr_options.specs.Limits.{Bounds}
 use Rattle.nr_options.specs.declared.options.Options.{Options}
-use Rattle.nr_engine.specs.Printing.{selects}
-use Rattle.nr_engine.specs.declared.outcome.Outcome.TheVariants.{Done}
+use Rattle.nr_machine.specs.Printing.{selects}
+use Rattle.nr_machine.specs.declared.outcome.Outcome.TheVariants.{Done}
 use Rattle.nr_laws.specs.Laws.{AnswersWith}
 
 -- a byte that is no blank and no newline

@@ -1,6 +1,6 @@
 //! Laws of the output: what a reader may say of nroff's definition in its own words, proved over the definition alone.
 //!
-//! It stands on nr_engine and the crates below it. To read: `laws`, and in specs/ `Limited`, `Laws`; `Moves`; `PlainText`;
+//! It stands on nr_machine and the crates below it. To read: `laws`, and in specs/ `Limited`, `Laws`; `Moves`; `PlainText`;
 //! `FilledText`.
 #![tactic(auto)]
 

@@ -4,9 +4,9 @@ use Rattle.nr_units.specs.Failures.{counted_if, next_count}
 use Rattle.nr_units.specs.Source.{Supply}
 use Rattle.nr_options.specs.Limits.{Bounds}
 use Rattle.nr_options.specs.declared.options.Options.{Options}
-use Rattle.nr_engine.specs.State.{start}
-use Rattle.nr_engine.specs.Run.{Answers}
-use Rattle.nr_engine.specs.declared.outcome.Outcome.{Outcome}
+use Rattle.nr_machine.specs.State.{start}
+use Rattle.nr_machine.specs.Run.{Answers}
+use Rattle.nr_machine.specs.declared.outcome.Outcome.{Outcome}
 
 -- under the same bounds, with the same bytes before and after
 pub carried : (b b' : Bounds) (o : Options) (q : Supply) (n : ℕ) (outcome : Outcome) (old old' new new' : Option (List ℕ))

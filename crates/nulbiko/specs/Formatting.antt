@@ -2,12 +2,12 @@
 use Rattle.std.specs.Prelude.{◌≡◌, ℕ, ℤ, List, [], length, false, None, Some}
 use Rattle.nr_options.specs.Limits.{Bounds}
 use Rattle.nr_options.specs.declared.options.Options.{Options}
-use Rattle.nr_engine.specs.State.{start}
-use Rattle.nr_engine.specs.Run.{Answers, is_read_fault}
-use Rattle.nr_engine.specs.declared.outcome.Measure.{Measure}
-use Rattle.nr_engine.specs.declared.outcome.Measure.TheVariants as measures
-use Rattle.nr_engine.specs.declared.outcome.Outcome.{Outcome}
-use Rattle.nr_engine.specs.declared.outcome.Outcome.TheVariants.{Done, Limit, ReadFault, TooLong, WriteFault}
+use Rattle.nr_machine.specs.State.{start}
+use Rattle.nr_machine.specs.Run.{Answers, is_read_fault}
+use Rattle.nr_machine.specs.declared.outcome.Measure.{Measure}
+use Rattle.nr_machine.specs.declared.outcome.Measure.TheVariants as measures
+use Rattle.nr_machine.specs.declared.outcome.Outcome.{Outcome}
+use Rattle.nr_machine.specs.declared.outcome.Outcome.TheVariants.{Done, Limit, ReadFault, TooLong, WriteFault}
 use Rattle.nulbiko.specs.Told.{IsHanded, code_within, count_told, whole_text}
 use Rattle.nulbiko.specs.declared.formatting.TextLimits.{TextLimits}
 use Rattle.nulbiko.specs.declared.told.Report.{Report}

@@ -3,7 +3,7 @@ use Rattle.nr_units.specs.Failures.{SinkFailures}
 use Rattle.nr_units.specs.Source.{Supply}
 use Rattle.nr_options.specs.Limits.{Bounds}
 use Rattle.nr_options.specs.declared.options.Options.{Options}
-use Rattle.nr_engine.specs.declared.outcome.Outcome.{Outcome}
+use Rattle.nr_machine.specs.declared.outcome.Outcome.{Outcome}
 use Rattle.nr_command_options.specs.Chained.{failures_in}
 use Rattle.nr_command_options.specs.Files.{files_supply}
 use Rattle.nr_command.specs.Memory.{buffers_of, list_of, DeskUnder}

@@ -1,7 +1,7 @@
 use Rattle.std.proofs.Common.{◌≡◌, IsErr, Result, refl, sym, ap, ◌∙◌, subst}
 use Rattle.std.proofs.lemmas.Bool.{false≢true}
-use Rattle.nr_engine.specs.declared.outcome.Outcome.{Outcome}
-use Rattle.nr_engine.specs.declared.outcome.Outcome.TheVariants.{Done, Limit, ReadFault, TooLong, WriteFault}
+use Rattle.nr_machine.specs.declared.outcome.Outcome.{Outcome}
+use Rattle.nr_machine.specs.declared.outcome.Outcome.TheVariants.{Done, Limit, ReadFault, TooLong, WriteFault}
 use Rattle.nr_command.specs.Running.{status_of}
 use Rattle.nr_command.proofs.running.run_over.Goals as goal
 

@@ -1,7 +1,7 @@
 use Rattle.std.proofs.Common.{◌≡◌, subst}
 use Rattle.nr_options.specs.Limits.{Bounds}
-use Rattle.nr_engine.specs.State.{start}
-use Rattle.nr_engine.specs.Run.{Answers}
+use Rattle.nr_machine.specs.State.{start}
+use Rattle.nr_machine.specs.Run.{Answers}
 use Rattle.nr_engine.proofs.run.format.Goals as goal
 
 pub returns-clause-answers : goal.returns-clause-answers

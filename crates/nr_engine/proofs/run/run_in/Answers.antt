@@ -1,9 +1,9 @@
 use Rattle.std.proofs.Common.{[], Some, refl, sym, ap, subst}
 use Rattle.nr_units.specs.Failures.{counted_if, put_counted_if}
-use Rattle.nr_engine.specs.State.{start}
-use Rattle.nr_engine.specs.Machine.{state_after}
-use Rattle.nr_engine.specs.Holding.{Holds, shape}
-use Rattle.nr_engine.proofs.Standing.{answers}
+use Rattle.nr_machine.specs.State.{start}
+use Rattle.nr_machine.specs.Machine.{state_after}
+use Rattle.nr_machine.specs.Holding.{Holds, shape}
+use Rattle.nr_machine.proofs.Standing.{answers}
 use Rattle.nr_engine.proofs.Starting.{starts, chosen_small, chosen_bound, few_moves, answered}
 use Rattle.nr_engine.proofs.run.run_in.Goals as goal
 

@@ -1,8 +1,8 @@
 use Rattle.std.proofs.Common.{◌≡◌, ◌+◌, ◌*◌, ◌/◌, ◌≤◌, min, sym, subst, ap, ◌∙◌, arith}
 use Rattle.std.proofs.Math.Nat.{min-le_right}
 use Rattle.nr_options.specs.Limits.{Bounds}
-use Rattle.nr_engine.specs.Desk.{sizes_of, sum_of}
-use Rattle.nr_engine.specs.declared.lengths.Sizes.{Sizes}
+use Rattle.nr_machine.specs.Lengths.{sizes_of, sum_of}
+use Rattle.nr_machine.specs.declared.lengths.Sizes.{Sizes}
 use Rattle.nr_engine.proofs.desk.Desk.memory.Goals as goal
 
 -- what limits ask for is not more than this

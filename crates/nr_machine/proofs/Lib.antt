@@ -1,0 +1,12 @@
+pub mod Bursts
+mod Choices
+pub mod Going
+mod Lightening
+pub mod LimitsStay
+pub mod Measured
+mod Moving
+pub mod NextMoves
+mod Selected
+pub mod Spending
+pub mod Standing
+pub mod Working

@@ -1,0 +1,9 @@
+pub mod Choosing
+pub mod Holding
+pub mod Lengths
+pub mod Limits
+pub mod Machine
+pub mod Measures
+pub mod Printing
+pub mod Run
+pub mod State

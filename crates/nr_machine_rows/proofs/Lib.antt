@@ -1,0 +1,20 @@
+mod CellBytes
+mod EmptyLines
+mod Flows
+mod FontEscapes
+mod Gliding
+mod Judged
+mod LevelLines
+mod LevelNewlines
+mod LevelText
+mod LevelWords
+mod LineBeginnings
+mod LinesAtHand
+mod Obeyed
+mod PlainGaps
+mod PlainNewlines
+mod PlainText
+mod ReadRuns
+mod RereadCells
+pub mod Running
+mod TextAtHand
