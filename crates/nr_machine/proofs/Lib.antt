@@ -1,6 +1,7 @@
 pub mod Bursts
 mod Choices
 pub mod Going
+mod Hearing
 mod Lightening
 pub mod LimitsStay
 pub mod Measured
