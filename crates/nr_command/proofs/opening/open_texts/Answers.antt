@@ -63,3 +63,9 @@ returns-clause-asked g c =
     let told : slice_get all c.len.result ≡ None = sym c.input.ensures ∙ ap (option_map reading_of) c.in_default.is in
     let none : slice_get all n ≡ None = rw c.len.ensures at told in
     rw (take-none all n none) at c.loop-input.invariant.asked
+
+pub returns-in-Err-clause-unopened : goal.returns-in-Err-clause-unopened
+returns-in-Err-clause-unopened g c = λ same. absurd cc
+
+pub returns-in-Err-clause-memory : goal.returns-in-Err-clause-memory
+returns-in-Err-clause-memory g c = c.in_ok-texts.ensures.refusals

@@ -1,4 +1,4 @@
-use Rattle.std.proofs.Common.{◌≡◌, Result, Ok, Err, refl}
+use Rattle.std.proofs.Common.{◌≡◌, Result, Ok, Err, refl, rules}
 use Rattle.nr_command_options.specs.Job.{asked_of, complaint_of}
 use Rattle.nr_command_options.specs.Arguments.{Asked, Complaint}
 use Rattle.nr_command.proofs.program.run_words.Goals as goal
@@ -20,3 +20,6 @@ pub returns-in-Err-clause-bad_word : goal.returns-in-Err-clause-bad_word
 returns-in-Err-clause-bad_word g c = λ complaint bad.
     let is : complaint ≡ complaint_of c.in-Err.usage = same complaint (complaint_of c.in-Err.usage) (Err complaint) refl (c.in-Err.ensures.only (Err complaint) bad) in
     rw is (c.refuse_word.ensures.status, c.refuse_word.ensures.told)
+
+pub returns-in-Err-clause-unopened : goal.returns-in-Err-clause-unopened
+returns-in-Err-clause-unopened g c = search rules

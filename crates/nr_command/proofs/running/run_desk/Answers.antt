@@ -1,4 +1,4 @@
-use Rattle.std.proofs.Common.{◌≡◌, true, false, refl}
+use Rattle.std.proofs.Common.{◌≡◌, true, false, refl, rules}
 use Rattle.nr_command.proofs.running.run_desk.Goals as goal
 
 pub returns-in-Ok-clause-ran : goal.returns-in-Ok-clause-ran
@@ -30,3 +30,6 @@ returns-in-Err-clause-ran g c =
       read_failures = c.format-outcome.ensures.faults.read_failures;
       write_failures = rw c.format-outcome.ensures.faults.write_failures at c.in-Err.ensures.failures;
     }
+
+pub returns-in-Err-clause-passed_on : goal.returns-in-Err-clause-passed_on
+returns-in-Err-clause-passed_on g c = search rules
