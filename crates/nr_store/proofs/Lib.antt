@@ -16,4 +16,5 @@ pub mod Besides
 pub mod Lines
 pub mod Hyphenating
 pub mod Running
+pub mod Passing
 pub mod Calling

@@ -8,10 +8,10 @@ use Rattle.nr_levels.specs.Levels.{Levels}
 use Rattle.nr_levels.specs.Gathering.{Gathering, none_gathered}
 use Rattle.nr_store.specs.declared.element.Element.{Element}
 use Rattle.nr_store.specs.declared.request.TheConstants.{REQUESTS}
-use Rattle.nr_store.specs.Store.{charge_beside}
-use Rattle.nr_store.specs.Request.{with_senses}
+use Rattle.nr_store.specs.Store.{Stored, nothing, charge_beside}
+use Rattle.nr_store.specs.Request.{with_senses, request_names}
 use Rattle.nr_store.specs.Holders.{beside_of}
-use Rattle.nr_store.proofs.Beginning.{begins_empty}
+use Rattle.nr_store.proofs.Beginning.{begins_empty, begun}
 use Rattle.nr_store.proofs.store.Store.clear.Goals as goal
 
 pub invariant_of-self : goal.invariant_of-self
@@ -49,3 +49,11 @@ invariant_of-self g c =
     begins_empty c.remove_all.new.self c.name_requests.new.names c.clear-2.new.self c.clear-3.new.self (beside_of c.clear-4.new.self c.clear-5.new.self c.clear-6.new.self c.clear-7.new.self) s.stored n empty named
     (ap (λ (v : Items _). v.items) c.clear-2.ensures) (ap (λ (v : Levels _). v.levels) c.clear-3.ensures) (omega arith)
     (omega arith) (omega arith) (omega arith) (omega arith) (omega arith) (omega arith) (record { gathering = omega arith; registers = omega arith; traps = omega arith; words = omega arith })
+
+pub returns : goal.returns
+returns g c =
+    let s = c.self.inside in
+    let named = ap (λ (t : Table _). t.entries) c.name_requests.ensures ∙ ap (λ (t : Table _). with_senses REQUESTS t.entries) c.clear.ensures in
+    begun c.remove_all.new.self _ c.clear-2.new.self c.clear-3.new.self c.clear-4.new.self c.clear-5.new.self c.clear-6.new.self c.clear-7.new.self s.stored _ s.levels.most named
+    (ap (λ (v : Items _). v.items) c.clear-2.ensures) c.clear-3.ensures (ap (λ (v : Gathering). v.gathered) c.clear-4.ensures) (ap (λ (t : Table _). t.entries) c.clear-5.ensures) c.clear-6.ensures.items
+    (ap (λ (v : Items _). v.items) c.clear-7.ensures) ∙ ap (λ (v : Stored _). nothing request_names v.limit v.deepest) c.self.view_is

@@ -3,6 +3,7 @@ use Rattle.nr_store.specs.Store.{Stored, dropped}
 use Rattle.nr_store.specs.Holders.{beside_of}
 use Rattle.nr_store.proofs.Reading.{newest_text, text_gone, read_open, text_ended, text_ended_stands, text_paid}
 use Rattle.nr_store.proofs.Keeping.{share_paid}
+use Rattle.nr_store.proofs.Passing.{byte_stands, byte_paid, end_stands, end_paid, mark_gone}
 use Rattle.nr_store.proofs.store.Store.drop_level.Goals as goal
 
 pub invariant_of-self-in-Text : goal.invariant_of-self-in-Text
@@ -48,3 +49,28 @@ overflow_sub-self-in-Text g c =
     let own = c.lone_share-text.ensures in
     let closed = c.close-in-Text.ensures.charge in
     omega arith
+
+pub overflow_sub-self : goal.overflow_sub-self
+overflow_sub-self g c =
+    let s = c.self.inside in
+    rw c.close.ensures.charge (byte_paid s.pool s.names s.drafts s.levels (beside_of s.gathering s.registers s.traps s.words) s.charge s.stored c.self.invariant c.in-Byte.field-0 c.in-Byte.ensures)
+
+pub invariant_of-self : goal.invariant_of-self
+invariant_of-self g c =
+    let s = c.self.inside in
+    rw (c.close.ensures.rest, c.close.ensures.charge) (byte_stands s.pool s.names s.drafts s.levels (beside_of s.gathering s.registers s.traps s.words) s.charge s.stored c.self.invariant c.in-Byte.field-0 c.in-Byte.ensures)
+
+pub overflow_sub-self-in-End : goal.overflow_sub-self-in-End
+overflow_sub-self-in-End g c =
+    let s = c.self.inside in
+    rw c.close-in-End.ensures.charge (end_paid s.pool s.names s.drafts s.levels (beside_of s.gathering s.registers s.traps s.words) s.charge s.stored c.self.invariant c.in-End.ensures)
+
+pub invariant_of-self-in-End : goal.invariant_of-self-in-End
+invariant_of-self-in-End g c =
+    let s = c.self.inside in
+    rw (c.close-in-End.ensures.rest, c.close-in-End.ensures.charge) (end_stands s.pool s.names s.drafts s.levels (beside_of s.gathering s.registers s.traps s.words) s.charge s.stored c.self.invariant c.in-End.ensures)
+
+pub invariant_of-self-in-Resume : goal.invariant_of-self-in-Resume
+invariant_of-self-in-Resume g c =
+    let s = c.self.inside in
+    rw c.drop_mode.ensures (mark_gone s.pool s.names s.drafts s.levels (beside_of s.gathering s.registers s.traps s.words) s.charge s.stored c.self.invariant c.in-Resume.ensures)

@@ -1,4 +1,5 @@
 use Rattle.std.proofs.Common.{[], length, Some, is_some, true, refl, ap, sym, ◌∙◌, arith}
+use Rattle.std.proofs.lemmas.Grind.{common_steps}
 use Rattle.std.specs.Option.{option_map}
 use Rattle.std.proofs.lemmas.Bool.{leb-true, leb-false}
 use Rattle.nr_store.specs.Holders.{beside_of}
@@ -90,3 +91,6 @@ returns-clause-ok g c =
     let there = text_found _ c.in-Some.id (sym c.text_in.ensures ∙ c.in-Some.is) in
     let found = named_text s.pool s.names.entries s.drafts.items s.levels (beside_of s.gathering s.registers s.traps s.words) s.stored c.args.name c.text_in.result c.args.self.now c.self.view_is c.text_in.ensures ∙ ap (option_map (text s.pool)) c.in-Some.is in
     rw (c.hold.ensures.held, c.open_text.ensures, found) (entered_is s.pool s.names s.drafts s.levels (beside_of s.gathering s.registers s.traps s.words) s.charge s.stored c.in-Some.id c.self.invariant c.args.name there [] 16 c.args.resume (omega arith) ∙ ap (λ (v : Stored _). entered c.args.name (Some (text s.pool c.in-Some.id)) c.args.resume v) c.self.view_is)
+
+pub overflow_add-self : goal.overflow_add-self
+overflow_add-self g c = grind (arith, common_steps)

@@ -3,6 +3,7 @@ use Rattle.nr_store.specs.Holders.{beside_of}
 use Rattle.nr_store.specs.Store.{Stored, shown, left}
 use Rattle.nr_store.proofs.Reading.{newest_text, item_shown, item_left, end_left, read_open, text_ended, text_ended_stands, text_paid}
 use Rattle.nr_store.proofs.Keeping.{text_small, share_paid}
+use Rattle.nr_store.proofs.Passing.{byte_passed, text_passed, end_stands, end_paid, mark_gone}
 use Rattle.nr_store.proofs.store.Store.take.Goals as goal
 
 pub returns-then-place-len-clause-was : goal.returns-then-place-len-clause-was
@@ -68,3 +69,28 @@ overflow_sub-self-in-Text g c =
     let own = c.lone_share-own.ensures in
     let closed = c.close-in-Text.ensures.charge in
     omega arith
+
+pub invariant_of-self : goal.invariant_of-self
+invariant_of-self g c =
+    let s = c.self.inside in
+    rw c.advance.ensures (byte_passed s.pool s.names s.drafts s.levels (beside_of s.gathering s.registers s.traps s.words) s.charge s.stored c.self.invariant c.in-Byte.byte c.in-Byte.ensures)
+
+pub invariant_of-self-in-End : goal.invariant_of-self-in-End
+invariant_of-self-in-End g c =
+    let s = c.self.inside in
+    rw (c.close.ensures.rest, c.close.ensures.charge) (end_stands s.pool s.names s.drafts s.levels (beside_of s.gathering s.registers s.traps s.words) s.charge s.stored c.self.invariant c.in-End.ensures)
+
+pub invariant_of-self-in-Resume : goal.invariant_of-self-in-Resume
+invariant_of-self-in-Resume g c =
+    let s = c.self.inside in
+    rw c.resume.ensures.rest (mark_gone s.pool s.names s.drafts s.levels (beside_of s.gathering s.registers s.traps s.words) s.charge s.stored c.self.invariant c.in-Resume.ensures)
+
+pub invariant_of-self-then-place-len : goal.invariant_of-self-then-place-len
+invariant_of-self-then-place-len g c =
+    let s = c.self.inside in
+    rw c.advance-then-place-len.ensures (text_passed s.pool s.names s.drafts s.levels (beside_of s.gathering s.registers s.traps s.words) s.charge s.stored c.self.invariant c.in-Text.id c.in-Text.place c.in-Text.ensures)
+
+pub overflow_sub-self : goal.overflow_sub-self
+overflow_sub-self g c =
+    let s = c.self.inside in
+    rw c.close.ensures.charge (end_paid s.pool s.names s.drafts s.levels (beside_of s.gathering s.registers s.traps s.words) s.charge s.stored c.self.invariant c.in-End.ensures)

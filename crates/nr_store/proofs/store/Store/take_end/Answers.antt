@@ -3,6 +3,7 @@ use Rattle.nr_store.specs.Holders.{beside_of}
 use Rattle.nr_store.specs.Store.{Stored, left}
 use Rattle.nr_store.proofs.Reading.{newest_text, end_left, read_open, text_ended, text_ended_stands, text_paid}
 use Rattle.nr_store.proofs.Keeping.{share_paid}
+use Rattle.nr_store.proofs.Passing.{end_stands, end_paid}
 use Rattle.nr_store.proofs.store.Store.take_end.Goals as goal
 
 pub invariant_of-self-in-Text : goal.invariant_of-self-in-Text
@@ -48,3 +49,13 @@ overflow_sub-self-in-Text g c =
     let own = c.lone_share-share.ensures in
     let closed = c.close-in-Text.ensures.charge in
     omega arith
+
+pub invariant_of-self : goal.invariant_of-self
+invariant_of-self g c =
+    let s = c.self.inside in
+    rw (c.close.ensures.rest, c.close.ensures.charge) (end_stands s.pool s.names s.drafts s.levels (beside_of s.gathering s.registers s.traps s.words) s.charge s.stored c.self.invariant c.in-End.ensures)
+
+pub overflow_sub-self : goal.overflow_sub-self
+overflow_sub-self g c =
+    let s = c.self.inside in
+    rw c.close.ensures.charge (end_paid s.pool s.names s.drafts s.levels (beside_of s.gathering s.registers s.traps s.words) s.charge s.stored c.self.invariant c.in-End.ensures)
