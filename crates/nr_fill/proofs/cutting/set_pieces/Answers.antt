@@ -1,5 +1,5 @@
-use Rattle.std.proofs.Common.{◌≡◌, ◌+◌, ◌-◌, [], ◌++◌, length, take, drop, replicate, get_or, ap, ◌∙◌, append_assoc, arith, subst}
-use Rattle.std.proofs.lemmas.List.{take_rest}
+use Rattle.std.proofs.Common.{◌≡◌, ◌+◌, ◌-◌, [], ◌++◌, length, take, drop, replicate, get_or, ap, sym, ◌∙◌, append_assoc, arith, subst}
+use Rattle.std.proofs.lemmas.List.{take_rest, length-take-le}
 use Rattle.std.proofs.lemmas.List.Sums.{sum_by-drop_more}
 use Rattle.nr_vectors.specs.Cell.{blank}
 use Rattle.nr_fill.specs.declared.piece.PieceSlot.{PieceSlot}
@@ -8,6 +8,18 @@ use Rattle.nr_fill.specs.Slots.{blank_slot, pieces_of}
 use Rattle.nr_fill.specs.Spreading.{blanks_before, cells_in_line}
 use Rattle.nr_fill.proofs.SettingPieces.{cells_in_line_first, set_more, set_all_pieces}
 use Rattle.nr_fill.proofs.cutting.set_pieces.Goals as goal
+
+pub slice_bounds-extend-end : goal.slice_bounds-extend-end
+slice_bounds-extend-end g c =
+    let first = get_or c.args.slots.now 0 blank_slot in
+    let total = sum_by-drop_more (λ (s : PieceSlot). s.len) c.args.slots.now 0 blank_slot c.requires.some in
+    sym (length-take-le first.len c.args.cells.now (omega (arith, c.requires.cells)))
+
+pub slice_bounds-with_cells-end : goal.slice_bounds-with_cells-end
+slice_bounds-with_cells-end g c =
+    let first = get_or c.args.slots.now 0 blank_slot in
+    let total = sum_by-drop_more (λ (s : PieceSlot). s.len) c.args.slots.now 0 blank_slot c.requires.some in
+    sym (length-take-le first.len c.args.cells.now (omega (arith, c.requires.cells)))
 
 pub loop-slot-init : goal.loop-slot-init
 loop-slot-init g c =
@@ -21,6 +33,20 @@ loop-slot-init g c =
       taken = omega arith;
       set = (take first.len cells, c.extend.ensures, cells_in_line_first c.args.extra slots cells blank_slot c.requires.some, extent);
     }
+
+pub slice_bounds-extend-end-in-loop-slot : goal.slice_bounds-extend-end-in-loop-slot
+slice_bounds-extend-end-in-loop-slot g c =
+    let slots = c.args.slots.now in
+    let others = take (length slots - 1) (drop 1 slots) in
+    let more = sum_by-drop_more (λ (s : PieceSlot). s.len) others c.loop-slot.slot-index blank_slot c.loop-slot-test.true in
+    omega (arith, c.loop-slot.invariant.taken, c.requires.cells)
+
+pub slice_bounds-with_cells-end-in-loop-slot : goal.slice_bounds-with_cells-end-in-loop-slot
+slice_bounds-with_cells-end-in-loop-slot g c =
+    let slots = c.args.slots.now in
+    let others = take (length slots - 1) (drop 1 slots) in
+    let more = sum_by-drop_more (λ (s : PieceSlot). s.len) others c.loop-slot.slot-index blank_slot c.loop-slot-test.true in
+    omega (arith, c.loop-slot.invariant.taken, c.requires.cells)
 
 pub loop-slot-preserved : goal.loop-slot-preserved
 loop-slot-preserved g c =

@@ -1,4 +1,5 @@
 use Rattle.std.proofs.Common.{◌-◌, length, take, drop, arith}
+use Rattle.std.proofs.lemmas.Grind.{common_steps}
 use Rattle.std.proofs.lemmas.List.Sums.{sum_by-drop_more}
 use Rattle.nr_fill.specs.declared.piece.PieceSlot.{PieceSlot}
 use Rattle.nr_fill.specs.Slots.{blank_slot}
@@ -14,3 +15,21 @@ overflow_add-cells c =
     let sum = c.loop-slot.invariant.cells in
     let small = c.requires.wide in
     omega arith
+
+pub loop-slot-init : goal.loop-slot-init
+loop-slot-init c = grind (arith, common_steps)
+
+pub overflow_add-gaps : goal.overflow_add-gaps
+overflow_add-gaps c = grind (arith, common_steps)
+
+pub loop-slot-preserved : goal.loop-slot-preserved
+loop-slot-preserved c = grind (arith, common_steps)
+
+pub returns-clause-cells : goal.returns-clause-cells
+returns-clause-cells c = grind (arith, common_steps)
+
+pub returns-clause-wide : goal.returns-clause-wide
+returns-clause-wide c = grind (arith, common_steps)
+
+pub returns-clause-gaps : goal.returns-clause-gaps
+returns-clause-gaps c = grind (arith, common_steps)

@@ -1,4 +1,5 @@
 use Rattle.std.proofs.Common.{length, ap, ◌∙◌, arith}
+use Rattle.std.proofs.lemmas.Grind.{common_steps}
 use Rattle.nr_fill.specs.Laid.{Laid}
 use Rattle.nr_fill.proofs.Lines.{is_line_untitled}
 use Rattle.nr_fill.proofs.Pendings.{are_small}
@@ -28,3 +29,9 @@ overflow_add-word-3 c =
     let join = c.from.ensures ∙ c.width.ensures in
     let len = c.last_len-len.ensures ∙ ap (λ (l : Laid). length l.last) c.clear_title.ensures in
     omega (arith, small.widths, small.join, small.small, small.text, small.parted)
+
+pub invariant_of-self-2 : goal.invariant_of-self-2
+invariant_of-self-2 c = grind (arith, common_steps)
+
+pub returns : goal.returns
+returns c = grind (arith, common_steps)

@@ -1,5 +1,6 @@
 use Rattle.std.proofs.Common.{◌≡◌, ◌≤◌, ◌++◌, [], length, take, drop, refl, ap, sym, ◌∙◌, arith, length-take, length-append}
 use Rattle.std.specs.List.{flat_map}
+use Rattle.std.proofs.lemmas.Grind.{common_steps}
 use Rattle.std.proofs.lemmas.List.{drop_all}
 use Rattle.std.proofs.lemmas.List.Elements.{All-drop}
 use Rattle.nr_fill.specs.declared.line.WordState.{WordState}
@@ -45,3 +46,6 @@ invariant_of-self-2 c =
       needed = omega (arith, length-append (flat_map (λ (p : Piece). p.cells) (drop s.pieces ps)) s.row.last);
     } in
     rw (c.open_behind.ensures, c.clear_title.ensures) (is_line_opened_behind v s.pieces h (omega arith) h.pieces_within hw)
+
+pub returns : goal.returns
+returns c = grind (arith, common_steps)

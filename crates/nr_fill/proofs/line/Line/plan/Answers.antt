@@ -1,7 +1,8 @@
-use Rattle.std.proofs.Common.{◌≡◌, ◌*◌, ◌≤◌, length, take, ap, sym, ◌∙◌, arith, length-take}
+use Rattle.std.proofs.Common.{◌≡◌, ◌*◌, ◌≤◌, length, take, ap, ap₂, sym, ◌∙◌, arith, length-take}
 use Rattle.nr_fill.specs.declared.setting.Extra.{Extra}
 use Rattle.nr_fill.specs.Line.{Lined}
 use Rattle.nr_fill.specs.Spreading.{gaps, shared}
+use Rattle.nr_fill.specs.Setting.{is_spread, spreads}
 use Rattle.nr_fill.proofs.TextWidth.{gaps-le, shared-within, text_within}
 use Rattle.nr_fill.proofs.line.Line.plan.Goals as goal
 use Rattle.nr_fill.proofs.line.Line.plan.Goals.{then-spread, else-spread}
@@ -43,3 +44,15 @@ returns-clause-most_small c =
     let few = gaps-le (take c.args.n c.args.self.now.collected.pieces) in
     let f = c.front-hyphens.ensures in
     omega (arith, f.small, f.short, f.gaps, length-take c.args.n c.args.self.now.collected.pieces, length-take s.pieces s.row.pieces, h.within, h.is_small)
+
+pub returns-clause-extra : goal.returns-clause-extra
+returns-clause-extra c =
+    let now = c.args.self.now.collected in
+    let align = c.args.setting.align in
+    let f = c.front-hyphens.ensures in
+    let turn = ap (λ (v : Lined). v.collected.turn) c.self.view_is in
+    let spread : c.spreads_gaps-spread.result ≡ spreads align now c.args.n = c.spreads_gaps-spread.ensures ∙ ap₂ (is_spread align) f.left_over f.gaps in
+    elim c.if-spread.branch [
+      | then-spread w ↦ rw (sym spread ∙ w.if-spread.true, ← turn, ← f.left_over, ← f.gaps) (w.result-is ∙ w.share.ensures)
+      | else-spread w ↦ rw (sym spread ∙ w.if-spread.false) (w.result-is ∙ w.none.ensures)
+    ]

@@ -1,5 +1,6 @@
 use Rattle.std.proofs.Common.{◌≡◌, ◌+◌, ◌-◌, ◌<◌, ◌≤◌, List, [], ◌∷◌, ◌++◌, length, map, take, drop, get_or, None, true, false, ◌&&◌, if◌then◌else◌, All, ap, sym, subst, ◌∙◌, refl, arith, length-append}
-use Rattle.std.proofs.lemmas.List.{length-map, length-take, nil_from_length, take_all, drop_all}
+use Rattle.std.proofs.lemmas.Grind.{common_steps}
+use Rattle.std.proofs.lemmas.List.{length-map, length-take, length-take-le, nil_from_length, take_all, drop_all}
 use Rattle.nr_settings.specs.Indents.{margins_of}
 use Rattle.nr_fill.specs.Cutting.{pieces_width}
 use Rattle.nr_fill.specs.Line.{Lined}
@@ -7,7 +8,7 @@ use Rattle.nr_fill.specs.Piece.{Collected, Piece, begins_line, ends_sentence, is
 use Rattle.nr_fill.specs.Plain.{IsPlain, run_cell}
 use Rattle.nr_fill.specs.declared.piece.Join.TheVariants.{Gap}
 use Rattle.nr_fill.specs.Laid.{read_cells}
-use Rattle.nr_fill.proofs.Lines.{no_title_of, none_from_word_of, text_cells-collected_of, widths_small}
+use Rattle.nr_fill.proofs.Lines.{line_cells-le, no_title_cells, no_title_of, none_from_word_of, text_cells-collected_of, widths_small}
 use Rattle.nr_fill.proofs.RunLemmas.{add_run-none, add_word-none, last_front, length_front, run_begun, run_worded, taken_front}
 use Rattle.nr_fill.proofs.line.Line.put_new_word.Goals.{then-self-eq0, else-self-eq0}
 use Rattle.nr_fill.proofs.line.Line.put_new_word.Goals as goal
@@ -136,3 +137,31 @@ returns-then-count-near-clause-run c = λ goes_on.
     c.ends_sentence-self-inside.ensures ∙ ap (λ b. ends_sentence (run_cell c.args.under b)) last_at in
     rw (c.new.ensures, c.push_plain-count.ensures.cells, last, front_is, behind, untitled, margins, sentence, ← c.self.view_is) (rw before refl)
     ∙ ap (λ (k : Collected). record c.args.self.now { collected = k }) (sym (add_run-none (margins_of c.args.indents.now) c.args.under (take count bytes) now c.requires.word (omega (arith, long, some))))
+
+pub push_plain-count-requires-clause-no_title : goal.push_plain-count-requires-clause-no_title
+push_plain-count-requires-clause-no_title c =
+    let s = c.self.inside in
+    nil_from_length s.row.title (no_title_cells c.self.invariant (ap (λ (v : Lined). v.collected.title) c.self.view_is ∙ c.requires.title))
+
+pub returns-then-count-near-clause-within : goal.returns-then-count-near-clause-within
+returns-then-count-near-clause-within c = λ some. line_cells-le c.self.inside.barred c.ends_sentence-self-inside.result c.if-self-eq0.self c.self.inside.turn (invariant_of-self-then-count-near c)
+
+pub returns-then-count-near-clause-stops : goal.returns-then-count-near-clause-stops
+returns-then-count-near-clause-stops c = grind (arith, common_steps)
+
+pub returns-then-count-near-clause-longest : goal.returns-then-count-near-clause-longest
+returns-then-count-near-clause-longest c = grind (arith, common_steps)
+
+pub close-requires-clause-within : goal.close-requires-clause-within
+close-requires-clause-within c =
+    let near = take c.min.result c.args.bytes.now in
+    let count = c.push_plain-count.result in
+    let run = map (run_cell c.args.under) (take count near) in
+    let long = length-take-le count near c.push_plain-count.ensures.front in
+    rw c.push_plain-count.ensures.cells (omega (arith, length-append c.self.inside.row.last run, length-map (take count near) (run_cell c.args.under)))
+
+pub returns-clause-ends : goal.returns-clause-ends
+returns-clause-ends c = grind (arith, common_steps)
+
+pub returns-clause-within : goal.returns-clause-within
+returns-clause-within c = λ some. line_cells-le false c.ends_sentence-self-inside.result c.if-self-eq0.self c.self.inside.turn (invariant_of-self-2 c)

@@ -1,4 +1,5 @@
 use Rattle.std.proofs.Common.{◌≡◌, ℕ, ◌-◌, ◌≤◌, List, length, take, get_or, ap, ap₂, sym, ◌∙◌, arith, inl, inr}
+use Rattle.std.proofs.lemmas.Grind.{common_steps}
 use Rattle.std.proofs.lemmas.Bool.{cases_lt}
 use Rattle.std.proofs.lemmas.List.{get_or-take, length-take, length-take-le, take-take}
 use Rattle.nr_fill.specs.Line.{Lined}
@@ -60,3 +61,9 @@ returns-clause-stops c =
       | inl below ↦ absurd (c.push_plain.ensures.stops (omega (arith, taken)) (rw (get_or-take m bytes count 0 below) plain))
       | inr all ↦ omega (arith, front, taken, c.text_measure.ensures.value, c.text_measure.ensures.within)
     ]
+
+pub push_plain-requires-clause-room : goal.push_plain-requires-clause-room
+push_plain-requires-clause-room c = grind (arith, common_steps)
+
+pub returns-clause-plain : goal.returns-clause-plain
+returns-clause-plain c = grind (arith, common_steps)

@@ -34,3 +34,15 @@ returns-clause-result c =
     let piece = text_cells-ended (with_word m now) in
     let v : Lined = record { collected = tabbed m c.args.stops.now c.args.aligned c.args.fill now; limit = c.args.self.now.limit } in
     afforded_ok v (rw is (omega arith))
+
+pub returns-clause-ok : goal.returns-clause-ok
+returns-clause-ok c =
+    let now = c.args.self.now.collected in
+    let stop = c.in-Some.stop in
+    let m = c.args.margins in
+    let some = ap (λ k. first_beyond k c.args.stops.now) (sym c.column-column.ensures.value) ∙ sym c.first_beyond.ensures ∙ c.in-Some.is in
+    let kind : is_aligned c.args.aligned stop.kind ≡ true = sym c.aligns.ensures ∙ c.if-not-aligns.false in
+    let is : tabbed m c.args.stops.now c.args.aligned c.args.fill now ≡ in_word (with_field (stop.column - column now) stop.kind c.args.fill) (in_word ended (with_word m now)) =
+    ap (to_stop m c.args.aligned c.args.fill now) some ∙ rw kind refl in
+    let width = c.saturating_sub-width.ensures ∙ ap (λ k. stop.column - k) c.column-column.ensures.value in
+    rw (c.begin_field.ensures, c.end_piece.ensures, c.open_word-2.ensures.opened, width, is) refl

@@ -1,4 +1,5 @@
 use Rattle.std.proofs.Common.{◌≡◌, ◌+◌, ◌-◌, ◌≤◌, ◌++◌, length, take, drop, ap, sym, ◌∙◌, subst, refl, arith}
+use Rattle.std.proofs.lemmas.Grind.{common_steps}
 use Rattle.std.proofs.Math.Seq.{drop-append_seam}
 use Rattle.std.proofs.lemmas.List.{take_rest}
 use Rattle.nr_fill.specs.Extents.{IsExtent, written_behind}
@@ -44,3 +45,12 @@ returns c =
           let whole = row_whole before (ap (λ (v : Row). v.kept) e) (ap (λ (v : Row). v.count) e) (omega (arith, c.self.invariant)) none_gone in
           (λ some. omega arith, λ fits. refl);
     }
+
+pub returns-then-self-start-clause-laid : goal.returns-then-self-start-clause-laid
+returns-then-self-start-clause-laid c = grind (arith, common_steps)
+
+pub slice_bounds-laid-count : goal.slice_bounds-laid-count
+slice_bounds-laid-count c = grind (arith, common_steps)
+
+pub slice_bounds-laid-start : goal.slice_bounds-laid-start
+slice_bounds-laid-start c = grind (arith, common_steps)

@@ -1,9 +1,71 @@
-use Rattle.std.proofs.Common.{◌≡◌, ◌+◌, ◌-◌, ◌≤◌, List, ◌++◌, length, take, drop, replicate, refl, ap, ap₂, sym, ◌∙◌, arith, length-take, length-drop}
+use Rattle.std.proofs.Common.{◌≡◌, ℕ, ◌+◌, ◌-◌, ◌≤◌, List, ◌++◌, length, take, drop, replicate, refl, ap, ap₂, sym, ◌∙◌, arith, length-take, length-drop}
 use Rattle.std.proofs.lemmas.List.{length-replicate}
 use borrow.Rule.Slice.PartMut.{put_mid}
 use Rattle.nr_vectors.specs.Items.{Items}
 use Rattle.nr_fill.proofs.Queues.{inserted, length_between, written_back}
 use Rattle.nr_fill.proofs.queue.Queue.insert_copies.Goals as goal
+
+-- a place among items is before their end
+placed : {X : Type 0} (xs ys : List X) (start end n place : ℕ) → drop start (take end xs) ≡ ys → start ≤ end → end + n ≤ length xs → place ≤ length ys → start + place ≤ end
+placed xs ys start end n place is ordered free within = omega (arith, length_between xs start end (omega arith), ap length is)
+
+pub make_room-span-requires-clause-room : goal.make_room-span-requires-clause-room
+make_room-span-requires-clause-room g c =
+    let s = c.self.inside in
+    let long = length_between s.slots.items s.start s.end c.self.invariant.1.0 in
+    let own = ap (λ (v : Items _). length v.items) c.self.view_is in
+    let room = ap (λ (v : Items _). v.capacity) c.self.view_is in
+    omega (arith, c.requires.room)
+
+pub overflow_add-at : goal.overflow_add-at
+overflow_add-at g c =
+    let s = c.make_room-span.result in
+    let items = c.make_room-span.ensures.items ∙ ap (λ (v : Items _). v.items) c.self.view_is in
+    let at : s.start + c.args.place ≤ s.end = placed c.make_room-span.new.slots.items c.args.self.now.items s.start s.end c.args.n c.args.place items c.make_room-span.ensures.ordered c.make_room-span.ensures.free c.requires.within in
+    omega (arith, c.make_room-span.ensures.free)
+
+pub overflow_add-at-2 : goal.overflow_add-at-2
+overflow_add-at-2 g c =
+    let s = c.make_room-span.result in
+    let items = c.make_room-span.ensures.items ∙ ap (λ (v : Items _). v.items) c.self.view_is in
+    let at : s.start + c.args.place ≤ s.end = placed c.make_room-span.new.slots.items c.args.self.now.items s.start s.end c.args.n c.args.place items c.make_room-span.ensures.ordered c.make_room-span.ensures.free c.requires.within in
+    omega (arith, c.make_room-span.ensures.free)
+
+pub copy_within-requires-clause-start_le_end : goal.copy_within-requires-clause-start_le_end
+copy_within-requires-clause-start_le_end g c =
+    let s = c.make_room-span.result in
+    let items = c.make_room-span.ensures.items ∙ ap (λ (v : Items _). v.items) c.self.view_is in
+    let at : s.start + c.args.place ≤ s.end = placed c.make_room-span.new.slots.items c.args.self.now.items s.start s.end c.args.n c.args.place items c.make_room-span.ensures.ordered c.make_room-span.ensures.free c.requires.within in
+    omega (arith, c.make_room-span.ensures.free)
+
+pub copy_within-requires-clause-dest_in_bounds : goal.copy_within-requires-clause-dest_in_bounds
+copy_within-requires-clause-dest_in_bounds g c =
+    let s = c.make_room-span.result in
+    let items = c.make_room-span.ensures.items ∙ ap (λ (v : Items _). v.items) c.self.view_is in
+    let at : s.start + c.args.place ≤ s.end = placed c.make_room-span.new.slots.items c.args.self.now.items s.start s.end c.args.n c.args.place items c.make_room-span.ensures.ordered c.make_room-span.ensures.free c.requires.within in
+    omega (arith, c.make_room-span.ensures.free)
+
+pub overflow_add-at-3 : goal.overflow_add-at-3
+overflow_add-at-3 g c =
+    let s = c.make_room-span.result in
+    let items = c.make_room-span.ensures.items ∙ ap (λ (v : Items _). v.items) c.self.view_is in
+    let at : s.start + c.args.place ≤ s.end = placed c.make_room-span.new.slots.items c.args.self.now.items s.start s.end c.args.n c.args.place items c.make_room-span.ensures.ordered c.make_room-span.ensures.free c.requires.within in
+    omega (arith, c.make_room-span.ensures.free)
+
+pub offset_bounds-slots-at : goal.offset_bounds-slots-at
+offset_bounds-slots-at g c =
+    let s = c.make_room-span.result in
+    let items = c.make_room-span.ensures.items ∙ ap (λ (v : Items _). v.items) c.self.view_is in
+    let at : s.start + c.args.place ≤ s.end = placed c.make_room-span.new.slots.items c.args.self.now.items s.start s.end c.args.n c.args.place items c.make_room-span.ensures.ordered c.make_room-span.ensures.free c.requires.within in
+    let low : s.start + c.args.place ≤ length c.as_mut_slice-slots.result.now = omega (arith, c.make_room-span.ensures.free, c.copy_within.ensures.len, ap length c.as_mut_slice-slots.ensures.value) in
+    grind arith
+
+pub slice_bounds-set_all-end : goal.slice_bounds-set_all-end
+slice_bounds-set_all-end g c =
+    let s = c.make_room-span.result in
+    let items = c.make_room-span.ensures.items ∙ ap (λ (v : Items _). v.items) c.self.view_is in
+    let at : s.start + c.args.place ≤ s.end = placed c.make_room-span.new.slots.items c.args.self.now.items s.start s.end c.args.n c.args.place items c.make_room-span.ensures.ordered c.make_room-span.ensures.free c.requires.within in
+    omega (arith, c.make_room-span.ensures.free, c.copy_within.ensures.len, ap length c.as_mut_slice-slots.ensures.value)
 
 pub returns-clause-items : goal.returns-clause-items
 returns-clause-items g c =

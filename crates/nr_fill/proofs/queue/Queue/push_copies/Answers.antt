@@ -1,9 +1,18 @@
 use Rattle.std.proofs.Common.{◌≡◌, ◌+◌, ◌-◌, ◌≤◌, List, ◌++◌, length, take, drop, replicate, refl, ap, ap₂, ◌∙◌, arith, length-take, length-drop}
+use Rattle.std.proofs.lemmas.Grind.{common_steps}
 use Rattle.std.proofs.lemmas.List.{length-replicate}
 use borrow.Rule.Slice.PartMut.{put_mid}
 use Rattle.nr_vectors.specs.Items.{Items}
-use Rattle.nr_fill.proofs.Queues.{extended, written_back}
+use Rattle.nr_fill.proofs.Queues.{extended, length_between, written_back}
 use Rattle.nr_fill.proofs.queue.Queue.push_copies.Goals as goal
+
+pub make_room-span-requires-clause-room : goal.make_room-span-requires-clause-room
+make_room-span-requires-clause-room g c =
+    let s = c.self.inside in
+    let long = length_between s.slots.items s.start s.end c.self.invariant.1.0 in
+    let own = ap (λ (v : Items _). length v.items) c.self.view_is in
+    let room = ap (λ (v : Items _). v.capacity) c.self.view_is in
+    omega (arith, c.requires)
 
 pub returns-clause-items : goal.returns-clause-items
 returns-clause-items g c =
@@ -22,3 +31,6 @@ returns-clause-items g c =
     ∙ ap₂ (λ k (zs : List _). drop s.start (take (s.end + n) (put_mid s.end k xs zs))) span filled
     ∙ extended xs (replicate n c.args.item) s.start s.end n c.make_room-span.ensures.ordered free (length-replicate n c.args.item)
     ∙ ap (λ (ws : List _). ws ++ replicate n c.args.item) (c.make_room-span.ensures.items ∙ ap (λ (v : Items _). v.items) c.self.view_is)
+
+pub invariant_of-self : goal.invariant_of-self
+invariant_of-self g c = grind (arith, common_steps)
