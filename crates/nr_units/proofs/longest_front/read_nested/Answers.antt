@@ -1,4 +1,5 @@
 use Rattle.std.proofs.Common.{◌≡◌, ◌+◌, ◌<◌, ◌∙◌, get_or, length, sym, subst, ap, arith, add-one, None}
+use Rattle.std.proofs.lemmas.Grind.{common_steps}
 use Rattle.std.specs.Option.{option_and_then}
 use Rattle.std.proofs.Math.Seq.{take-suc}
 use Rattle.nr_units.specs.Expression.{IsAnswer}
@@ -77,3 +78,15 @@ returns-clause-answer c =
 
 pub returns-clause-range : goal.returns-clause-range
 returns-clause-range c = answer_in_range c.args.ctx.now c.args.text.now c.read-2.result (returns-clause-answer c)
+
+pub returns-in_default-clause-computed : goal.returns-in_default-clause-computed
+returns-in_default-clause-computed c = grind (arith, common_steps)
+
+pub returns-clause-computed : goal.returns-clause-computed
+returns-clause-computed c = grind (arith, common_steps)
+
+pub returns-in-TooDeep-clause-computed : goal.returns-in-TooDeep-clause-computed
+returns-in-TooDeep-clause-computed c = grind (arith, common_steps)
+
+pub returns-in-TooDeep-clause-range : goal.returns-in-TooDeep-clause-range
+returns-in-TooDeep-clause-range c = tt
