@@ -4,7 +4,7 @@ use Rattle.std.specs.Prelude.{slice_index_or}
 use Rattle.std.proofs.lemmas.Bool.{cases_Bool, cases_eq}
 use Rattle.std.proofs.lemmas.List.{map-append}
 use Rattle.std.proofs.lemmas.List.Elements.{filter-append}
-use Rattle.std.proofs.lemmas.List.Sums.{fold_push, sum_by-cons, sum_by_push}
+use Rattle.std.proofs.lemmas.List.Sums.{fold_push, sum_by_push}
 use Rattle.std.specs.List.{filter, last_or}
 use Rattle.nr_vectors.specs.declared.cell.Cell.{Cell}
 use Rattle.nr_page.specs.Grid.{Placed, blank, is_blank, on_row, cells_at, last_shown, cell_at, page_charge}
@@ -156,8 +156,3 @@ ShowsSame-overlaid above below line cells none_above none_below = λ row column.
           ap (λ ls. last_shown (cells_at ls column)) (on_row-other above laid below row other ∙ sym (on_row-other above line below row other))
           ∙ sym (cell_at-push_other (above ++ line ∷ below) over row column other)
     ]
-
--- what is charged nothing is no line
-pub nil_from_page_charge : (lines : List Placed) → page_charge lines ≡ 0 → lines ≡ []
-nil_from_page_charge [] none = refl
-nil_from_page_charge (line ∷ lines) none = absurd (omega (arith, sum_by-cons (λ (l : Placed). 1 + length l.cells) line lines))

@@ -1,5 +1,5 @@
 //! The open page.
-ghost use Rattle.std.specs.Prelude.{◌*◌, ◌≡◌, ℕ, ◌+◌, ◌/◌, ◌^◌, ◌<◌, ◌≤◌, ◌↔◌, List, [], ◌∷◌, ◌++◌, length, OnOk, OnErr, IsErr, IsTrue, IfOk};
+ghost use Rattle.std.specs.Prelude.{◌*◌, ◌≡◌, ℕ, ◌+◌, ◌/◌, ◌^◌, ◌<◌, ◌≤◌, ◌↔◌, List, [], ◌∷◌, ◌++◌, length, OnOk, OnErr, IsErr, IfOk};
 ghost use Rattle.nr_page.specs.Grid.{Placed, page_charge};
 ghost use Rattle.nr_page.specs.Page.{Holds};
 ghost use Rattle.std.specs.Io.KnownBytes.{Appends};
@@ -115,21 +115,6 @@ impl Page {
         ensures within { result ≤ self.now.limit }
     {
         self.charge
-    }
-
-    /// Whether the page holds no line.
-    pub fn is_empty(&self) -> bool
-        ensures { (lines : List Placed) → Holds lines self.now → (IsTrue result ↔ (lines ≡ [])) }
-    {
-        self.charge == 0
-    }
-
-    /// Whether a line of this many cells can be placed.
-    pub fn has_room(&self, cells: usize) -> bool
-        ensures { (lines : List Placed) → Holds lines self.now
-            → (IsTrue result ↔ (page_charge lines + 1 + cells ≤ self.now.limit)) }
-    {
-        self.limit - self.charge > cells
     }
 
     /// Places a line on a row, counted from 0 at the top: its cells from column 0 on. `PageCells` where the limit would be
