@@ -5,7 +5,6 @@ use Rattle.std.proofs.lemmas.Bool.Decides.{nat_tests}
 use Rattle.std.specs.Prelude.{codes, encode_utf8_all}
 use Rattle.std.specs.Char.{encode_utf8}
 use Rattle.nr_units.specs.Name.{is_full}
-use Rattle.nr_coding.specs.declared.part.Part.{Part}
 use Rattle.nr_coding.specs.declared.part.Part.TheVariants.{Head, Eight}
 use Rattle.nr_coding.specs.declared.tag.Head.{Head as Heads}
 use Rattle.nr_coding.specs.declared.tag.Tag.TheVariants.{Blanks, Value}
@@ -14,7 +13,7 @@ use Rattle.nr_coding.specs.declared.names.Coding.{Coding}
 use Rattle.nr_coding.specs.declared.names.Coding.TheVariants as codings
 use Rattle.nr_coding.specs.declared.sets.Set.{Set}
 use Rattle.nr_coding.specs.Names.{coding_named}
-use Rattle.nr_coding.specs.Sets.{characters, character_of, characters_of}
+use Rattle.nr_coding.specs.Sets.{character_of, characters_of}
 use Rattle.nr_coding.specs.Tag.{goes_on, lowered, named, of_name, spelling, line_ended, going, in_value}
 use Rattle.nr_coding.specs.Part.{told}
 use Rattle.nr_coding.specs.UnderCoding.{text_from, text_of}

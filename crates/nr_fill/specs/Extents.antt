@@ -1,5 +1,5 @@
 -- How far cells reach: how many there are, and how many up to the last that is no blank.
-use Rattle.std.specs.Prelude.{◌≡◌, ℕ, ◌+◌, ◌-◌, ◌^◌, ◌==◌, min, if◌then◌else◌, List, [], ◌++◌, length}
+use Rattle.std.specs.Prelude.{◌≡◌, ℕ, ◌+◌, ◌-◌, ◌^◌, ◌==◌, min, if◌then◌else◌, List, ◌++◌, length}
 use Rattle.nr_vectors.specs.Cell.{trimmed}
 use Rattle.nr_vectors.specs.declared.cell.Cell.{Cell}
 

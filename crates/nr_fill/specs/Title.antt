@@ -1,7 +1,7 @@
 -- Titles of three parts. (CSTR 54, section 14.)
 use Rattle.std.specs.Prelude.{ℕ, ◌+◌, ◌-◌, ◌/◌, max, Bool, ◌&&◌, nat_le, nat_lt, if◌then◌else◌, List, [], ◌∷◌, ◌++◌, length, map, replicate, slice_index_or, Option, None, Some}
 use Rattle.std.specs.List.{range_with_len}
-use Rattle.nr_vectors.specs.Cell.{blank, trimmed}
+use Rattle.nr_vectors.specs.Cell.{blank}
 use Rattle.nr_vectors.specs.declared.cell.Cell.{Cell}
 use Rattle.nr_fill.specs.declared.title.TitlePart.{TitlePart}
 use Rattle.nr_fill.specs.declared.title.TitlePart.TheVariants.{Left, Centre, Right}

@@ -1,5 +1,5 @@
 -- A field over several columns fits in them.
-use Rattle.std.proofs.Common.{◌≡◌, ℕ, zero, suc, ◌+◌, ◌-◌, ◌<◌, ◌≤◌, ◌^◌, min, max, Bool, true, false, ◌&&◌, nat_lt, length, get_or, refl, sym, ap, subst, arith, ◌∙◌, length-set, if◌then◌else◌}
+use Rattle.std.proofs.Common.{◌≡◌, ℕ, zero, suc, ◌+◌, ◌-◌, ◌<◌, ◌≤◌, ◌^◌, min, Bool, true, false, ◌&&◌, nat_lt, length, get_or, refl, sym, ap, subst, arith, ◌∙◌, length-set, if◌then◌else◌}
 use Rattle.std.proofs.lemmas.Bool.Decides.{nat_tests}
 use Rattle.std.proofs.lemmas.List.{get_or-set_same}
 use Rattle.nr_vectors.specs.Items.{Items}
@@ -13,7 +13,6 @@ use Rattle.nr_layout.specs.Drawing.{spans}
 use Rattle.nr_layout.specs.Fitting.{SpansFit}
 use Rattle.nr_layout.specs.Held.{cell_of, column, columns, fresh, no_cell}
 use Rattle.nr_layout.specs.Lists.{in_turn, put}
-use Rattle.nr_layout.specs.Places.{sum}
 use Rattle.nr_layout.proofs.Fits.{equal_width, measured_same, most, spanned_width, width_in}
 use Rattle.nr_layout.proofs.Turns.{if_same, if_true, later, set_keeps, set_same, turn_same}
 

@@ -1,5 +1,5 @@
 -- Texts that go out after others.
-use Rattle.std.proofs.Common.{◌≡◌, ℕ, zero, suc, false, List, [], ◌++◌, Some, refl, ap, ◌∙◌}
+use Rattle.std.proofs.Common.{◌≡◌, ℕ, zero, suc, false, List, ◌++◌, Some, refl, ap, ◌∙◌}
 use Rattle.nr_layout.specs.declared.table.Table.{Table}
 use Rattle.nr_layout.specs.Drawing.{bars_lines, bars_on}
 use Rattle.nr_layout.specs.Pens.{Stroke}

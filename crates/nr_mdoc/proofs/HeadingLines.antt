@@ -1,5 +1,5 @@
 -- A heading says its words.
-use Rattle.std.proofs.Common.{◌≡◌, ℕ, ◌≤◌, ◌+◌, List, [], ◌∷◌, ◌++◌, length, Bool, true, false, ◌&&◌, ◌==◌, if◌then◌else◌, refl, sym, ◌∙◌, ap, subst, append_assoc, append-nil, arith}
+use Rattle.std.proofs.Common.{◌≡◌, ℕ, ◌≤◌, ◌+◌, List, [], ◌∷◌, ◌++◌, Bool, true, false, if◌then◌else◌, refl, sym, ◌∙◌, ap, subst, append_assoc, append-nil, arith}
 use Rattle.std.specs.Prelude.{codes}
 use Prim.Native.Char.{code}
 use Rattle.nr_mdoc.specs.declared.acts.Act.TheVariants as acts
@@ -19,10 +19,10 @@ use Rattle.nr_mdoc.specs.Options.{enters, option, option_for, option_word, reads
 use Rattle.nr_mdoc.specs.Reading.{State, said}
 use Rattle.nr_mdoc.specs.Saying.{parts_of, words_of}
 use Rattle.nr_mdoc.specs.Scanning.{meet, meet_at, meet_whole, meet_whole_at}
-use Rattle.nr_mdoc.specs.Seeing.{Met, met, left, taken, three}
+use Rattle.nr_mdoc.specs.Seeing.{Met, met, left, three}
 use Rattle.nr_mdoc.specs.WordLaws.{reads_at, HeadingsAreSaid}
 use Rattle.nr_mdoc.specs.Words.{ends_long, parsed, taken_behind}
-use Rattle.nr_mdoc.specs.WrittenLines.{Usual, Headed, way_of, names_no_string, Letter, are_letters, kept, written, Word, Bare, Quoted, is_first, headed, are_written, behind_each, line_of, printed_as, written_word}
+use Rattle.nr_mdoc.specs.WrittenLines.{Usual, Headed, way_of, names_no_string, Letter, kept, written, Word, Bare, Quoted, is_first, headed, are_written, behind_each, line_of, printed_as, written_word}
 use Rattle.nr_mdoc.proofs.After.{after, after-append, next-state, Fresh}
 use Rattle.nr_mdoc.proofs.Escapes.{line-text}
 use Rattle.nr_mdoc.proofs.Given.{Whole, whole_of}

@@ -18,7 +18,7 @@ use Rattle.nr_mdoc.specs.Reading.{State, said}
 use Rattle.nr_mdoc.specs.Scanning.{meet, meet_at}
 use Rattle.nr_mdoc.specs.Seeing.{Met, met, left, taken}
 use Rattle.nr_mdoc.specs.Words.{goes_to}
-use Rattle.nr_mdoc.specs.WrittenLines.{Way, holds_hyphen, Letter, Plain, is_escaped, is_held, is_letter, is_plain, is_quotable, kept_first, kept_letter}
+use Rattle.nr_mdoc.specs.WrittenLines.{Way, holds_hyphen, Plain, is_escaped, is_held, is_letter, is_plain, is_quotable, kept_first, kept_letter}
 use Rattle.nr_mdoc.proofs.Escapes.{and_left, and_right, is_not, same_byte}
 use Rattle.nr_mdoc.proofs.Given.{plain_reads}
 use Rattle.nr_mdoc.proofs.LongWords.{Flushed, flushed}

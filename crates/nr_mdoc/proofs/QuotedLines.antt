@@ -1,10 +1,9 @@
 -- A line of a macro says those of its words that call no macro.
-use Rattle.std.proofs.Common.{◌≡◌, ℕ, ◌≤◌, ◌+◌, List, [], ◌∷◌, ◌++◌, length, Bool, true, false, not, ◌&&◌, ◌==◌, nat_le, if◌then◌else◌, Option, None, Some, refl, sym, ◌∙◌, ap, subst, append_assoc, append-nil, arith}
+use Rattle.std.proofs.Common.{◌≡◌, ℕ, ◌≤◌, ◌+◌, List, [], ◌∷◌, ◌++◌, length, Bool, true, false, not, ◌&&◌, ◌==◌, if◌then◌else◌, Option, None, Some, refl, sym, ◌∙◌, ap, subst, append_assoc, append-nil, arith}
 use Rattle.std.specs.Prelude.{codes}
 use Prim.Native.Char.{code}
 use Rattle.nr_mdoc.specs.declared.acts.Act.TheVariants as acts
 use Rattle.nr_mdoc.specs.declared.acts.Text.TheVariants as texts
-use Rattle.nr_mdoc.specs.declared.macros.Font.TheVariants.{Roman}
 use Rattle.nr_mdoc.specs.declared.macros.Macro.{Macro}
 use Rattle.nr_mdoc.specs.declared.macros.Macro.TheVariants as macros
 use Rattle.nr_mdoc.specs.declared.macros.Pair.TheVariants as pairs
@@ -12,7 +11,7 @@ use Rattle.nr_mdoc.specs.declared.page.Behind.TheVariants as behinds
 use Rattle.nr_mdoc.specs.declared.page.Page.{Page}
 use Rattle.nr_mdoc.specs.declared.page.Scan.{Scan}
 use Rattle.nr_mdoc.specs.declared.page.Scan.TheVariants as scans
-use Rattle.nr_mdoc.specs.Calls.{callable, called_by, is_enclosure_due, is_none, leaves, seen_with, with_scan}
+use Rattle.nr_mdoc.specs.Calls.{callable, called_by, is_enclosure_due, is_none, with_scan}
 use Rattle.nr_mdoc.specs.Keeping.{keep_quote}
 use Rattle.nr_mdoc.specs.LayingOut.{lay_out}
 use Rattle.nr_mdoc.specs.Macros.{macro_of}
@@ -21,12 +20,12 @@ use Rattle.nr_mdoc.specs.Reading.{State, said}
 use Rattle.nr_mdoc.specs.Saying.{parts_of, words_of}
 use Rattle.nr_mdoc.specs.Scanning.{meet, meet_at, meet_whole, meet_whole_at}
 use Rattle.nr_mdoc.specs.Seeing.{Met, met, left}
-use Rattle.nr_mdoc.specs.Taking.{argument, some_taken, taken_word}
+use Rattle.nr_mdoc.specs.Taking.{argument, taken_word}
 use Rattle.nr_mdoc.specs.WordLaws.{reads_at, WordsAreSaid}
 use Rattle.nr_mdoc.specs.Words.{behind_long, closing_mark, ends_long, marked_or, parsed, read_or_called, taken_behind, unmarked}
-use Rattle.nr_mdoc.specs.WrittenLines.{Way, said_of, unless_called, way_of, way_then, each, names_no_string, Letter, are_letters, is_plain, is_word, kept, written, heads_words, Word, Bare, Quoted, is_written, are_written, behind_each, line_of, printed_as, none_or, prints_words}
+use Rattle.nr_mdoc.specs.WrittenLines.{Way, said_of, unless_called, way_of, way_then, each, names_no_string, are_letters, is_plain, is_word, kept, written, heads_words, Word, Bare, Quoted, are_written, behind_each, line_of, printed_as, none_or, prints_words}
 use Rattle.nr_mdoc.proofs.Endings.{ends_quiet, heads_end}
-use Rattle.nr_mdoc.proofs.Escapes.{and_left, and_right, both, line-text}
+use Rattle.nr_mdoc.proofs.Escapes.{and_left, and_right, line-text}
 use Rattle.nr_mdoc.proofs.Given.{Whole, whole_of, whole_behind, whole_within, plain_reads}
 use Rattle.nr_mdoc.proofs.After.{after, after-append, next-state, Fresh}
 use Rattle.nr_mdoc.proofs.LongWords.{argument_by, argument_is, said_long}
@@ -34,7 +33,7 @@ use Rattle.nr_mdoc.proofs.MacroLines.{head_of, blank_taken, over, five, sixteen,
 use Rattle.nr_mdoc.proofs.MarksHeld.{one_at_most, two_at_most}
 use Rattle.nr_mdoc.proofs.Meeting.{with_page, Leads, then_takes, leads_by}
 use Rattle.nr_mdoc.proofs.Outcomes.{is_quiet, of_word, never, takes_plain, Keeps, Out, out, same_page}
-use Rattle.nr_mdoc.proofs.ReadWords.{Read, Spelled, read_bare, read_quoted}
+use Rattle.nr_mdoc.proofs.ReadWords.{Read, read_bare, read_quoted}
 use Rattle.nr_mdoc.proofs.Stepping.{At, In, Head, Manner, plainly, in_as, out_step, leaves_step, marks_step}
 use Rattle.nr_mdoc.proofs.Taken.{taken_out}
 use Rattle.nr_mdoc.proofs.TextSaid.{next-words}

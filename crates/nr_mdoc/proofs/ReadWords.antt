@@ -15,10 +15,10 @@ use Rattle.nr_mdoc.specs.Saying.{parts_of, words_of}
 use Rattle.nr_mdoc.specs.Scanning.{between, meet, meet_at}
 use Rattle.nr_mdoc.specs.Seeing.{Met, met, left, taken}
 use Rattle.nr_mdoc.specs.Words.{goes_to}
-use Rattle.nr_mdoc.specs.WrittenLines.{Letter, Plain, Escape, is_hyphen, is_letter, are_letters, bytes_of, is_plain, kept, kept_first, kept_in, kept_letter, written}
+use Rattle.nr_mdoc.specs.WrittenLines.{Letter, Plain, Escape, is_hyphen, is_letter, are_letters, bytes_of, kept, kept_first, kept_in, kept_letter, written}
 use Rattle.nr_mdoc.proofs.Escapes.{and_left, and_right, same_byte}
 use Rattle.nr_mdoc.proofs.After.{after, after-append, next-state}
-use Rattle.nr_mdoc.proofs.KeptWords.{Grown, grown_behind, grown_escaped, grown_first, grown_quote, no_escape, no_quote, not_ending}
+use Rattle.nr_mdoc.proofs.KeptWords.{Grown, grown_behind, grown_escaped, grown_first, grown_quote, no_quote, not_ending}
 use Rattle.nr_mdoc.proofs.Meeting.{with_page, Leads, Takes, then_takes, leads_by, takes_by}
 use Rattle.nr_mdoc.proofs.Stepping.{In, Manner, in_as}
 use Rattle.nr_mdoc.proofs.TextSaid.{next-words, or_left, or_right}

@@ -1,8 +1,7 @@
 -- Whether the blanks of a word between quotes stay together is so for all of it.
-use Rattle.std.proofs.Common.{◌≡◌, List, Bool, true, false, not, ◌&&◌, if◌then◌else◌, refl, sym, ◌∙◌, ap}
+use Rattle.std.proofs.Common.{◌≡◌, Bool, true, false, not, ◌&&◌, if◌then◌else◌, refl, sym, ◌∙◌, ap}
 use Rattle.std.specs.Prelude.{codes}
 use Rattle.std.specs.Str.{bytes_eq}
-use Rattle.nr_mdoc.specs.declared.macros.Font.TheVariants.{Roman}
 use Rattle.nr_mdoc.specs.declared.macros.Macro.{Macro}
 use Rattle.nr_mdoc.specs.declared.macros.Macro.TheVariants as macros
 use Rattle.nr_mdoc.specs.declared.page.Page.{Page}
@@ -14,7 +13,7 @@ use Rattle.nr_mdoc.specs.declared.page.Split.TheVariants.{Never, Next, Always}
 use Rattle.nr_mdoc.specs.Calls.{heads_line, is_in_synopsis, is_none, with_place, takes_no_more}
 use Rattle.nr_mdoc.specs.Keeping.{is_whole, whole_for}
 use Rattle.nr_mdoc.specs.Seeing.{Met}
-use Rattle.nr_mdoc.specs.Taking.{author, author_line_by, behind_first, behind_later, function, function_begins, include, is_conditional, is_first, is_outside, keeps_link, link, listing, named, named_author, naming, parameter, prefix, reference, taken_alone_by, taken_by, taken_word}
+use Rattle.nr_mdoc.specs.Taking.{author, author_line_by, behind_first, function, function_begins, include, is_conditional, is_first, is_outside, keeps_link, link, listing, named, named_author, naming, parameter, prefix, reference, taken_alone_by, taken_by, taken_word}
 use Rattle.nr_mdoc.proofs.Outcomes.{never}
 
 -- ---- pages that are the same in this

@@ -1,9 +1,8 @@
 -- Rows of columns: a tab before each cell but the first, and what is too long for the last cell below it
 -- (mdoc(7), Bl -column and Ta).
-use Rattle.std.specs.Prelude.{ℕ, ◌+◌, ◌-◌, ◌*◌, List, [], ◌++◌, Bool, true, false, ◌==◌, ◌&&◌, ◌||◌, nat_lt, nat_le, if◌then◌else◌, codes}
+use Rattle.std.specs.Prelude.{ℕ, ◌+◌, ◌-◌, ◌*◌, List, [], ◌++◌, Bool, true, ◌==◌, ◌&&◌, ◌||◌, nat_lt, nat_le, if◌then◌else◌, codes}
 use Rattle.nr_mdoc.specs.declared.acts.Sized.TheVariants as sizes
 use Rattle.nr_mdoc.specs.declared.page.Block.{Block}
-use Rattle.nr_mdoc.specs.declared.page.Lay.{Lay}
 use Rattle.nr_mdoc.specs.declared.page.Page.{Page}
 use Rattle.nr_mdoc.specs.Laying.{Laid, laid, with_end, with_lay, was_put}
 use Rattle.nr_mdoc.specs.Options.{at_most}

@@ -8,7 +8,7 @@ use Rattle.nr_mdoc.specs.declared.acts.Sized.TheVariants as sizes
 use Rattle.nr_mdoc.specs.declared.page.At.{At}
 use Rattle.nr_mdoc.specs.declared.page.At.TheVariants.{Start, Middle, Ended}
 use Rattle.nr_mdoc.specs.declared.page.Page.{Page}
-use Rattle.nr_mdoc.specs.Laying.{Laid, laid, with_end, with_lay, was_put}
+use Rattle.nr_mdoc.specs.Laying.{Laid, laid, with_end, with_lay}
 use Rattle.nr_mdoc.specs.Texts.{request_of, sized_of}
 
 -- ---- numbers

@@ -1,5 +1,5 @@
 -- Lines as they are written: text lines, and lines of macros with their words.
-use Rattle.std.specs.Prelude.{ℕ, List, [], ◌∷◌, ◌++◌, Bool, true, false, not, ◌==◌, ◌&&◌, ◌||◌, if◌then◌else◌, codes, Option, None, Some}
+use Rattle.std.specs.Prelude.{ℕ, List, [], ◌∷◌, ◌++◌, Bool, true, false, not, ◌==◌, ◌&&◌, if◌then◌else◌, codes, Option, None, Some}
 use Rattle.std.specs.Str.{bytes_eq}
 use Prim.Native.Char.{code}
 use Rattle.nr_mdoc.specs.declared.macros.Macro.{Macro}

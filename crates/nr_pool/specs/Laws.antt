@@ -1,5 +1,5 @@
 -- What a change of one number's text does to each.
-use Rattle.std.specs.Prelude.{◌≡◌, ◌≢◌, ℕ, ◌+◌, ◌-◌, ◌<◌, ◌≤◌, List, [], ◌++◌, length, slice_get, Some}
+use Rattle.std.specs.Prelude.{◌≡◌, ◌≢◌, ℕ, ◌+◌, ◌-◌, ◌<◌, ◌≤◌, List, ◌++◌, length, slice_get, Some}
 use Rattle.std.proofs.Common.{ap, ◌∙◌, inl, inr, arith, sym, leb}
 use Rattle.std.proofs.lemmas.List.{get_or-set_same, get_or-set_other, get_or_past, set-set, set-get_or, set_past}
 use Rattle.std.proofs.lemmas.List.Sums.{sum_by-set}

@@ -1,7 +1,7 @@
 -- Interpolations that stand whole in a row, met at once.
 use Prim.Native.Char.{code}
 use Rattle.std.specs.Prelude.{slice_get, ◌==◌, ◌||◌, not}
-use Rattle.std.proofs.Common.{◌≡◌, ℕ, ◌+◌, ◌-◌, ◌<◌, Bool, true, false, if◌then◌else◌, List, [], ◌∷◌, length, Some, inl, inr, refl, sym, subst, ap, ◌∙◌, arith}
+use Rattle.std.proofs.Common.{◌≡◌, ℕ, ◌+◌, ◌<◌, Bool, true, false, List, [], ◌∷◌, length, Some, inl, inr, refl, sym, subst, ap, ◌∙◌, arith}
 use Rattle.std.proofs.lemmas.Bool.{cases_Bool, and_parts, not-true}
 use Rattle.nr_reading.specs.declared.ask.Ask.{Ask}
 use Rattle.nr_reading.specs.declared.ask.Kind.{Kind}
@@ -21,8 +21,8 @@ use Rattle.nr_reading.specs.declared.mode.Mode.{Mode}
 use Rattle.nr_reading.specs.declared.mode.Mode.TheVariants as modes
 use Rattle.nr_reading.specs.declared.mode.Signs.{Signs}
 use Rattle.nr_reading.specs.declared.notes.Notes.{Notes}
-use Rattle.nr_reading.specs.Ask.{begun_ask, at_stage, with_byte, is_given}
-use Rattle.nr_reading.specs.Ended.{due_of, event_of}
+use Rattle.nr_reading.specs.Ask.{begun_ask, at_stage, with_byte}
+use Rattle.nr_reading.specs.Ended.{event_of}
 use Rattle.nr_reading.specs.Delimited.{Texts}
 use Rattle.nr_reading.specs.Many.InText.{is_in_text, is_in_text_at}
 use Rattle.nr_reading.specs.Many.Interpolations.{interpolates_in, interpolates, is_lone_name, is_named, begun, named}

@@ -1,11 +1,9 @@
 -- Accepted and rejected parts of conditionals, and diverted lines (CSTR 54, 16, 7.4).
 use Prim.Native.Char.{code}
-use Rattle.std.specs.Prelude.{ℕ, ◌-◌, ◌==◌, Bool, true, false, if◌then◌else◌, None, Some}
+use Rattle.std.specs.Prelude.{ℕ, ◌-◌, ◌==◌, if◌then◌else◌, None, Some}
 use Rattle.nr_reading.specs.declared.event.Event.TheVariants as events
 use Rattle.nr_reading.specs.declared.front.Front.{Front}
 use Rattle.nr_reading.specs.declared.front.Front.TheVariants as fronts
-use Rattle.nr_reading.specs.declared.mode.Escape.{Escape}
-use Rattle.nr_reading.specs.declared.mode.Escape.TheVariants as escapes
 use Rattle.nr_reading.specs.declared.mode.Mode.TheVariants as modes
 use Rattle.nr_reading.specs.declared.mode.Reading.{Reading}
 use Rattle.nr_reading.specs.declared.mode.Signs.{Signs}

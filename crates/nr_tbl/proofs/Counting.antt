@@ -1,5 +1,5 @@
 -- How much is said for a byte: what is kept of a line pays for what its end says.
-use Rattle.std.proofs.Common.{◌≡◌, ℕ, zero, suc, ◌+◌, ◌-◌, ◌*◌, ◌<◌, ◌≤◌, List, [], ◌∷◌, ◌++◌, length, take, drop, Bool, true, false, not, ◌==◌, ◌&&◌, ◌||◌, if◌then◌else◌, nat_le, nat_lt, Option, None, Some, refl, ◌∙◌, ap, length-append, arith}
+use Rattle.std.proofs.Common.{◌≡◌, ℕ, zero, suc, ◌+◌, ◌-◌, ◌*◌, ◌<◌, ◌≤◌, List, [], ◌∷◌, ◌++◌, length, take, drop, Bool, true, false, not, ◌==◌, if◌then◌else◌, nat_le, nat_lt, Option, None, Some, refl, ◌∙◌, ap, length-append, arith}
 use Rattle.std.proofs.lemmas.List.{length-take, length-drop}
 use Prim.Native.Char.{code}
 use Rattle.nr_tbl.specs.declared.command.Start.{Start}

@@ -1,6 +1,6 @@
 -- What stands between rows, and the fields of rows (Tbl, "Data"; tbl(1), "Table data"), line by line: fields are separated by the
 -- byte that the options say, behind the last column it is text; a line that ends with a backslash goes on in the next.
-use Rattle.std.specs.Prelude.{ℕ, zero, suc, ◌+◌, ◌-◌, List, [], ◌∷◌, ◌++◌, length, take, drop, Bool, true, false, not, ◌==◌, ◌&&◌, ◌||◌, if◌then◌else◌, nat_lt, Option, None, Some}
+use Rattle.std.specs.Prelude.{ℕ, zero, suc, ◌+◌, ◌-◌, List, [], ◌∷◌, ◌++◌, length, take, drop, Bool, true, not, ◌==◌, ◌&&◌, if◌then◌else◌, nat_lt, Option, None, Some}
 use Prim.Native.Char.{code}
 use Rattle.nr_tbl.specs.declared.command.Start.TheVariants.{Nothing, Other}
 use Rattle.nr_tbl.specs.declared.complaint.Kind.TheVariants.{TooManyFields, RowLimit, TooWide}
