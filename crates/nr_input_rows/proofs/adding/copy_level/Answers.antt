@@ -1,3 +1,4 @@
+use Rattle.std.proofs.lemmas.Grind.{common_steps}
 use Rattle.std.specs.Prelude.{slice_get}
 use Rattle.std.specs.Option.{option_map}
 use Rattle.std.proofs.Common.{◌≡◌, ◌<◌, length, map, take, get_or, Some, ap, sym, ◌∙◌, subst, arith}
@@ -30,3 +31,6 @@ returns-in-Bytes-clause-longest g c = λ fewer byte is.
     let own : Some (elements.Byte (get_or bs n 0)) ≡ Some (elements.Byte byte) = sym (slice_get-map elements.Byte bs n ∙ ap (option_map elements.Byte) (slice_get-get_or bs n 0 less)) ∙ ap (λ xs. slice_get xs n) rest ∙ is in
     let same : get_or bs n 0 ≡ byte = cc in
     λ plain. c.copy_plain_bytes.ensures.longest fewer less (subst (λ e. IsPlain e (get_or bs n 0)) (sym c.ending_of-ending.ensures) (subst (IsPlain (ending_of c.args.half.now.reading.mode)) (sym same) plain))
+
+pub returns-in-Bytes-clause-front : goal.returns-in-Bytes-clause-front
+returns-in-Bytes-clause-front g c = grind (arith, common_steps)

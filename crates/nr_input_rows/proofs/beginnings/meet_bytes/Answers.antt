@@ -1,3 +1,4 @@
+use Rattle.std.proofs.lemmas.Grind.{common_steps}
 use Rattle.std.proofs.Common.{◌≡◌, All, ◌+◌, ◌*◌, ◌≤◌, length, take, drop, ap, sym, ◌∙◌, subst, arith}
 use Rattle.std.proofs.lemmas.Bool.{false≢true}
 use Rattle.std.proofs.lemmas.List.{length-drop, length-take}
@@ -166,3 +167,30 @@ returns-clause-room g c =
     let is = ap (λ (y : Stored _). charge_of y) added in
     let limit = ap (λ (y : Stored _). y.limit) added ∙ limit-with_more c.in-Some.target (take n (drop run.taken bytes)) w in
     omega (arith, room, is, limit, charge-more c.in-Some.target (take n (drop run.taken bytes)) w, length-take n (drop run.taken bytes), length-drop run.taken bytes)
+
+pub returns-then-not-matches-clause-within : goal.returns-then-not-matches-clause-within
+returns-then-not-matches-clause-within g c = grind (arith, common_steps)
+
+pub returns-in_default-of-clause-within : goal.returns-in_default-of-clause-within
+returns-in_default-of-clause-within g c = grind (arith, common_steps)
+
+pub returns-in_default-of-clause-room : goal.returns-in_default-of-clause-room
+returns-in_default-of-clause-room g c = grind (arith, common_steps)
+
+pub slice_bounds-add_front-count : goal.slice_bounds-add_front-count
+slice_bounds-add_front-count g c = grind (arith, common_steps)
+
+pub slice_bounds-add_front-start : goal.slice_bounds-add_front-start
+slice_bounds-add_front-start g c = grind (arith, common_steps)
+
+pub returns-clause-within : goal.returns-clause-within
+returns-clause-within g c = grind (arith, common_steps)
+
+pub returns-clause-levels : goal.returns-clause-levels
+returns-clause-levels g c = grind (arith, common_steps)
+
+pub returns-clause-deepest : goal.returns-clause-deepest
+returns-clause-deepest g c = grind (arith, common_steps)
+
+pub returns-clause-limits : goal.returns-clause-limits
+returns-clause-limits g c = grind (arith, common_steps)

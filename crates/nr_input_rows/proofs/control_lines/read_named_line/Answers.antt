@@ -1,3 +1,4 @@
+use Rattle.std.proofs.lemmas.Grind.{common_steps}
 use Rattle.std.specs.Prelude.{slice_index}
 use Rattle.std.proofs.Common.{◌≡◌, ◌+◌, ◌-◌, ◌<◌, ◌≤◌, length, length-drop, take, drop, map, refl, ap, subst, arith}
 use Rattle.std.proofs.lemmas.List.{length-map, take_all}
@@ -61,3 +62,18 @@ pub returns-clause-limits : goal.returns-clause-limits
 returns-clause-limits g c =
     let r = c.args.reader.now in
     act_stays c.args.store.now c.seek-told.new.store (record r { half = c.meet_name.new.self; burst = 0 }) c.seek-told.new.self dues.Seek (Ok c.seek-told.result) c.seek-told.ensures
+
+pub slice_bounds-meet_behind_name-count : goal.slice_bounds-meet_behind_name-count
+slice_bounds-meet_behind_name-count g c = grind (arith, common_steps)
+
+pub slice_bounds-meet_behind_name-start : goal.slice_bounds-meet_behind_name-start
+slice_bounds-meet_behind_name-start g c = grind (arith, common_steps)
+
+pub bounds-bytes-taken : goal.bounds-bytes-taken
+bounds-bytes-taken g c = grind (arith, common_steps)
+
+pub pass_run-requires-clause-room : goal.pass_run-requires-clause-room
+pass_run-requires-clause-room g c = grind (arith, common_steps)
+
+pub skip-requires : goal.skip-requires
+skip-requires g c = grind (arith, common_steps)

@@ -1,3 +1,4 @@
+use Rattle.std.proofs.lemmas.Grind.{common_steps}
 use Rattle.std.proofs.Common.{◌≡◌, ℕ, ◌+◌, ◌-◌, ◌<◌, ◌≤◌, ◌++◌, ◌∷◌, [], length, take, drop, inl, inr, ap, ◌∙◌, subst, length-drop, arith}
 use Rattle.std.proofs.lemmas.Bool.{cases_lt}
 use Rattle.std.proofs.lemmas.List.{length-take, length-take-le}
@@ -65,3 +66,6 @@ returns-clause-gathered g c = λ r old.
           ∙ behind_is bytes gathered.items gathered.moves gathered.splices v r q old.gathered old.reader look met.moves met.taken own h _ c.requires.row c.in-Some.ensures.met c.in-Some.ensures.asks may c.in-Some.ensures.few less fits
           ∙ behind_made gathered.splices splice r.half.notes.asked r;
     })
+
+pub returns-in_default-clause-gathered : goal.returns-in_default-clause-gathered
+returns-in_default-clause-gathered g c = grind (arith, common_steps)

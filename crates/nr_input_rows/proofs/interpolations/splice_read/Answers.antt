@@ -1,3 +1,4 @@
+use Rattle.std.proofs.lemmas.Grind.{common_steps}
 use Rattle.std.proofs.Common.{◌≡◌, ◌+◌, ◌<◌, length, subst, sym, ap, ◌∙◌, arith}
 use Rattle.std.proofs.lemmas.Bool.{false≢true}
 use Rattle.nr_store.specs.Store.{Stored, reading_bytes}
@@ -94,3 +95,6 @@ returns-clause-limits g c =
     let depth : length w.levels < w.deepest = (let same = ap length c.read_bytes-run.ensures.levels in let deepest = c.read_bytes-run.ensures.deepest in let some = c.may_splice.ensures.depth yes in omega (arith, same, deepest, some)) in
     let entered = entered_bytes bytes w c.enter_bytes.new.self c.enter_bytes.result c.read_bytes-run.ensures.room depth c.enter_bytes.ensures.answer c.enter_bytes.ensures.ok in
     ap (λ (x : Stored _). limits_of x s) (c.skip.ensures ∙ ap (λ (x : Stored _). left_times run.taken x) entered) ∙ left_times-limits run.taken (reading_bytes bytes w) s ∙ c.read_bytes-run.ensures.limits ∙ ap (λ (q : Reader). limits_of c.args.store.now q) c.begin_splice.ensures
+
+pub skip-requires : goal.skip-requires
+skip-requires g c = grind (arith, common_steps)

@@ -1,4 +1,5 @@
-use Rattle.std.proofs.Common.{map, subst, ap, ◌∙◌}
+use Rattle.std.proofs.lemmas.Grind.{common_steps}
+use Rattle.std.proofs.Common.{map, subst, ap, ◌∙◌, arith}
 use Rattle.nr_store.specs.Store.{Stored}
 use Rattle.nr_store.specs.Windows.{rest_of}
 use Rattle.nr_reading.specs.Many.Passing.{quiet}
@@ -32,3 +33,6 @@ returns-clause-limits g c =
     let v = c.args.store.now in
     let r = c.args.reader.now in
     ap (λ (w : Stored _). limits_of w r) c.skip.ensures ∙ left_times-limits c.in-Some.name.taken v r
+
+pub skip-requires : goal.skip-requires
+skip-requires g c = grind (arith, common_steps)

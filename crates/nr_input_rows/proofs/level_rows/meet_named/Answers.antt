@@ -1,3 +1,4 @@
+use Rattle.std.proofs.lemmas.Grind.{common_steps}
 use Rattle.std.proofs.Common.{◌≡◌, ◌+◌, false, drop, subst, sym, ◌∙◌, arith}
 use Rattle.std.proofs.lemmas.Bool.{false≢true}
 use Rattle.nr_store.specs.Windows.{left_times}
@@ -56,3 +57,9 @@ pub returns-clause-short : goal.returns-clause-short
 returns-clause-short g c =
     let more = c.meet_run-more.result in
     omega (arith, taken-le more.moves _ c.take_meaning-told.new.self.half (spot more c.meet_run-more.new.self) c.meet_run-more.ensures.met)
+
+pub behind-requires : goal.behind-requires
+behind-requires g c = grind (arith, common_steps)
+
+pub returns-clause-within : goal.returns-clause-within
+returns-clause-within g c = grind (arith, common_steps)

@@ -1,3 +1,4 @@
+use Rattle.std.proofs.lemmas.Grind.{common_steps}
 use Rattle.std.proofs.Common.{◌≡◌, ◌-◌, ◌*◌, length, take, drop, map, subst, length-drop, arith}
 use Rattle.std.proofs.lemmas.List.{take_all}
 use Rattle.nr_reading.specs.declared.front.Front.TheVariants as fronts
@@ -20,3 +21,9 @@ returns-clause-reads g c =
     reads_then (2 * added) end.moves added end.taken bs v w w r r (record r { half = k })
     (reads_added added bs v w r c.requires.argument add.front add.plain add.added add.afforded)
     (reads_met end.moves end.taken (drop added bs) w r k (subst (λ ys. HasMet end.moves (map fronts.Byte ys) r.half (quiet end.taken k)) rest c.end_argument-end.ensures.met))
+
+pub overflow_add-result : goal.overflow_add-result
+overflow_add-result g c = grind (arith, common_steps)
+
+pub overflow_add-result-2 : goal.overflow_add-result-2
+overflow_add-result-2 g c = grind (arith, common_steps)

@@ -1,3 +1,4 @@
+use Rattle.std.proofs.lemmas.Grind.{common_steps}
 use Rattle.std.proofs.Common.{◌+◌, ◌-◌, ◌≤◌, length, length-drop, drop, arith}
 use Rattle.std.proofs.lemmas.List.{length-map, length-take}
 use Rattle.nr_reading.specs.declared.front.Front.TheVariants as fronts
@@ -63,3 +64,15 @@ overflow_add-result-5 g c =
       c.do_argument-end.ensures.few,
       c.requires.short,
     )
+
+pub overflow_add-result : goal.overflow_add-result
+overflow_add-result g c = grind (arith, common_steps)
+
+pub slice_bounds-put_argument-count : goal.slice_bounds-put_argument-count
+slice_bounds-put_argument-count g c = grind (arith, common_steps)
+
+pub slice_bounds-put_argument-start : goal.slice_bounds-put_argument-start
+slice_bounds-put_argument-start g c = grind (arith, common_steps)
+
+pub overflow_add-result-3 : goal.overflow_add-result-3
+overflow_add-result-3 g c = grind (arith, common_steps)

@@ -1,3 +1,4 @@
+use Rattle.std.proofs.lemmas.Grind.{common_steps}
 use Rattle.std.proofs.Common.{◌-◌, ◌<◌, ◌≤◌, length, map, refl, arith, ap}
 use Rattle.std.specs.Prelude.{slice_index}
 use Rattle.std.proofs.lemmas.List.{length-map}
@@ -55,3 +56,12 @@ returns-clause-longest g c = λ none unseen.
     let p = spot run c.meet_run-run.new.self in
     source_longest (g.R.Source.at_hand c.args.source.now) bs run.moves c.args.place.now c.pass_run.new.self r (record r { half = p.half; burst = 0 }) c.args.store.now p
     (c.window-bytes.ensures.all unseen none) c.meet_run-run.ensures.met c.meet_run-run.ensures.longest refl (ap (λ q. q.taken) c.pass_run.ensures)
+
+pub bounds-bytes-run : goal.bounds-bytes-run
+bounds-bytes-run g c = grind (arith, common_steps)
+
+pub pass_run-requires-clause-room : goal.pass_run-requires-clause-room
+pass_run-requires-clause-room g c = grind (arith, common_steps)
+
+pub skip-requires : goal.skip-requires
+skip-requires g c = grind (arith, common_steps)

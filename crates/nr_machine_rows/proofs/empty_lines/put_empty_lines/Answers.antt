@@ -1,3 +1,4 @@
+use Rattle.std.proofs.lemmas.Grind.{common_steps}
 use Prim.Native.Char.{code}
 use Rattle.std.proofs.Common.{◌≡◌, ◌+◌, ◌*◌, ◌<◌, ◌≤◌, refl, ap, ◌∙◌, subst, sym, arith}
 use Rattle.nr_input_rows.specs.AtHand.{behind_last}
@@ -43,3 +44,6 @@ returns-clause-reads g c =
       failures = taken.failures;
       unfailed = λ u. rw taken.place refl;
     }
+
+pub go_down-requires : goal.go_down-requires
+go_down-requires g c = grind (arith, common_steps)

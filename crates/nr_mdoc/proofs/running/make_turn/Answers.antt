@@ -1,3 +1,5 @@
+use Rattle.std.proofs.Common.{arith}
+use Rattle.std.proofs.lemmas.Grind.{common_steps}
 use Rattle.nr_mdoc.specs.Reading.{state}
 use Rattle.nr_mdoc.proofs.Turning.{Took-byte, Took-passing}
 use Rattle.nr_mdoc.proofs.running.make_turn.Goals as goal
@@ -17,3 +19,6 @@ returns-then-count-gt0-clause-turns g c =
     Took-passing (g.R.Source.supply c.args.input.now) (g.R.Source.supply c.pass.new.input) (g.R.Source.at_hand c.args.input.now)
     c.passing_at_hand-count.result s c.args.out.now.items c.pass.new.out.items c.passing_at_hand-count.ensures.within
     c.pass.ensures.came (c.passing_at_hand-count.ensures.passes c.args.blocks.now.items) c.pass.ensures.items
+
+pub returns-then-count-gt0-clause-measured : goal.returns-then-count-gt0-clause-measured
+returns-then-count-gt0-clause-measured g c = grind (arith, common_steps)

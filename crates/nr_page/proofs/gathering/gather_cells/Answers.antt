@@ -1,3 +1,4 @@
+use Rattle.std.proofs.lemmas.Grind.{common_steps}
 use Rattle.std.proofs.Common.{◌≡◌, false, suc, List, [], ◌∷◌, ◌++◌, All, map, refl, ap, sym, ◌∙◌, arith}
 use Rattle.std.specs.List.{flat_map}
 use Rattle.nr_vectors.specs.declared.cell.Cell.{Cell}
@@ -17,3 +18,9 @@ plain_bytes (cell ∷ cells) plain =
 pub returns-then-not-any_under-clause-items : goal.returns-then-not-any_under-clause-items
 returns-then-not-any_under-clause-items c =
     c.extend_bytes.ensures.items ∙ ap (λ bs. c.args.pending.now.items ++ bs) (sym (plain_bytes c.args.cells.now (c.any_under.ensures c.if-not-any_under.true)))
+
+pub loop-cell-preserved : goal.loop-cell-preserved
+loop-cell-preserved c = grind (arith, common_steps)
+
+pub returns-clause-items : goal.returns-clause-items
+returns-clause-items c = grind (arith, common_steps)

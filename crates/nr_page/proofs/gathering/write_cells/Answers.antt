@@ -1,3 +1,4 @@
+use Rattle.std.proofs.lemmas.Grind.{common_steps}
 use Rattle.std.proofs.Common.{arith, ◌∙◌, []}
 use Rattle.std.proofs.lemmas.Result.{err_from_is_err_and}
 use Rattle.nr_page.specs.PageBytes.{cell_bytes}
@@ -16,3 +17,6 @@ loop-at-preserved g c = record {
   failures = c.in_ok-make_room.ensures.failures ∙ c.loop-at.invariant.failures;
   room = c.gather_cells.ensures.room ∙ c.in_ok-make_room.ensures.room ∙ c.loop-at.invariant.room;
 }
+
+pub returns-clause-gathers : goal.returns-clause-gathers
+returns-clause-gathers g c = grind (arith, common_steps)

@@ -1,3 +1,4 @@
+use Rattle.std.proofs.lemmas.Grind.{common_steps}
 use Rattle.std.proofs.Common.{◌≡◌, length, take, sym, ap, ◌∙◌, arith, length-drop}
 use Rattle.std.proofs.lemmas.List.{get_or_default, take_rest}
 use Rattle.nr_pool.specs.Texts.{text, with_text}
@@ -40,3 +41,9 @@ returns c =
     laid-all c.args.texts.now c.loop-column.texts c.append_slice.new.self c.args.id c.loop-column.column c.args.cells.now _ c.requires.is_open c.loop-column.invariant added
     (let size = c.len.ensures in let common = c.min-common.ensures in omega arith)
     (let at : c.loop-column.column ≡ c.min-common.result = omega arith in rw at (take_rest c.args.cells.now c.min-common.result))
+
+pub set-requires-clause-is_open : goal.set-requires-clause-is_open
+set-requires-clause-is_open c = grind (arith, common_steps)
+
+pub append_slice-requires : goal.append_slice-requires
+append_slice-requires c = grind (arith, common_steps)

@@ -1,3 +1,4 @@
+use Rattle.std.proofs.lemmas.Grind.{common_steps}
 use Rattle.std.proofs.Common.{◌≡◌, ℕ, List, [], ◌∷◌, ◌++◌, length, sym, ap, subst, ◌∙◌, append_assoc, arith, rules}
 use Rattle.nr_page.specs.declared.selection.PageRange.{PageRange}
 use Rattle.nr_page.specs.Selection.{Spells}
@@ -52,3 +53,12 @@ loop-item-preserved c =
             Continues-comma first.others first.after rest first.continues (sym same.1 ∙ c.in_ok-rest.ensures.found),
           );
     }
+
+pub returns-in_err-ok-clause-read : goal.returns-in_err-ok-clause-read
+returns-in_err-ok-clause-read c = grind (arith, common_steps)
+
+pub returns-then-is_empty-clause-listed : goal.returns-then-is_empty-clause-listed
+returns-then-is_empty-clause-listed c = grind (arith, common_steps)
+
+pub loop-item-smaller : goal.loop-item-smaller
+loop-item-smaller c = grind (arith, common_steps)

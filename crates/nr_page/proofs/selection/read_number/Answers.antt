@@ -1,3 +1,4 @@
+use Rattle.std.proofs.lemmas.Grind.{common_steps}
 use Rattle.std.proofs.Common.{◌≡◌, ℕ, ◌+◌, ◌<◌, ◌≤◌, length, get_or, take, drop, sym, ap, ◌∙◌, arith}
 use Rattle.std.specs.Char.{digit_value}
 use Rattle.std.specs.Str.Parse.{AllDigits, digits_value}
@@ -44,3 +45,9 @@ returns-clause-read c n front after writes ends is =
       c.loop-byte.invariant.value_is ∙ (ap (digits_value 10) cut.0 ∙ sym writes.value),
       take_rest text c.loop-byte.len ∙ (ap (λ (k : ℕ). drop k text) c.loop-byte.invariant.length_is ∙ cut.1),
     )
+
+pub returns-then-len-eq0-clause-read : goal.returns-then-len-eq0-clause-read
+returns-then-len-eq0-clause-read c = grind (arith, common_steps)
+
+pub returns-clause-found : goal.returns-clause-found
+returns-clause-found c = grind (arith, common_steps)

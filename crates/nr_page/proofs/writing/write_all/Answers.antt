@@ -1,6 +1,11 @@
+use Rattle.std.proofs.Common.{arith}
+use Rattle.std.proofs.lemmas.Grind.{common_steps}
 use Rattle.nr_page.proofs.Fronts.{OnErr-GathersOrFails}
 use Rattle.nr_page.proofs.writing.write_all.Goals as goal
 
 pub returns-clause-err : goal.returns-clause-err
 returns-clause-err g c =
     OnErr-GathersOrFails _ _ _ _ _ _ c.make_room.result (rw c.over-pending.ensures.empty at c.in_ok-write_rows.ensures.gathers) c.make_room.ensures.gathers
+
+pub returns-clause-ok : goal.returns-clause-ok
+returns-clause-ok g c = grind (arith, common_steps)

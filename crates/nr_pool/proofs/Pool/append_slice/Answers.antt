@@ -1,3 +1,4 @@
+use Rattle.std.proofs.lemmas.Grind.{common_steps}
 use Rattle.std.proofs.Common.{◌+◌, ◌≤◌, ◌++◌, length, refl, arith}
 use Rattle.std.proofs.lemmas.Bool.{false≢true}
 use Rattle.nr_pool.specs.Laws.{open_after_text, within_of_open}
@@ -53,3 +54,18 @@ returns-clause-ok g c =
 
 pub returns-clause-keeps : goal.returns-clause-keeps
 returns-clause-keeps g c = open_after_text c.args.self.now _ _ _ (returns-clause-ok g c)
+
+pub returns-then-count-eq0-clause-ok : goal.returns-then-count-eq0-clause-ok
+returns-then-count-eq0-clause-ok g c = grind (arith, common_steps)
+
+pub bring_last-requires-clause-within : goal.bring_last-requires-clause-within
+bring_last-requires-clause-within g c = grind (arith, common_steps)
+
+pub bring_last-requires-clause-held : goal.bring_last-requires-clause-held
+bring_last-requires-clause-held g c = grind (arith, common_steps)
+
+pub index_mut-requires : goal.index_mut-requires
+index_mut-requires g c = grind (arith, common_steps)
+
+pub overflow_add-index_mut : goal.overflow_add-index_mut
+overflow_add-index_mut g c = grind (arith, common_steps)

@@ -1,3 +1,4 @@
+use Rattle.std.proofs.lemmas.Grind.{common_steps}
 use Rattle.std.proofs.Common.{set, refl, ap, length, arith}
 use Rattle.nr_pool.specs.Texts.{Held}
 use Rattle.nr_pool.specs.Laws.{open_after_text, within_of_open}
@@ -18,3 +19,12 @@ returns-clause-replaced g c =
 
 pub returns-clause-keeps : goal.returns-clause-keeps
 returns-clause-keeps g c = open_after_text _ _ _ _ (returns-clause-replaced g c)
+
+pub index-requires : goal.index-requires
+index-requires g c = grind (arith, common_steps)
+
+pub overflow_add-start : goal.overflow_add-start
+overflow_add-start g c = grind (arith, common_steps)
+
+pub index_mut-requires : goal.index_mut-requires
+index_mut-requires g c = grind (arith, common_steps)

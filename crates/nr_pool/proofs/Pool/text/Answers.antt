@@ -1,3 +1,4 @@
+use Rattle.std.proofs.lemmas.Grind.{common_steps}
 use Rattle.std.proofs.Common.{refl, ap, length, arith}
 use Rattle.nr_pool.specs.Slot.{texts_of}
 use Rattle.nr_pool.specs.declared.slot.Slot.{Slot}
@@ -26,3 +27,12 @@ slice_bounds-result-end-2 g c =
     let same = ap length c.as_slice-elements.ensures.value in
     let room = packed.room in
     omega arith
+
+pub index-requires : goal.index-requires
+index-requires g c = grind (arith, common_steps)
+
+pub returns-then-len-eq0 : goal.returns-then-len-eq0
+returns-then-len-eq0 g c = grind (arith, common_steps)
+
+pub returns : goal.returns
+returns g c = grind (arith, common_steps)

@@ -1,3 +1,4 @@
+use Rattle.std.proofs.lemmas.Grind.{common_steps}
 use Rattle.std.proofs.Common.{take, refl, ap, ◌∙◌, length, arith}
 use Rattle.nr_pool.specs.Texts.{Held}
 use Rattle.nr_pool.specs.Laws.{open_after_text, within_of_open}
@@ -35,3 +36,27 @@ returns-clause-truncated g c =
 
 pub returns-clause-keeps : goal.returns-clause-keeps
 returns-clause-keeps g c = open_after_text c.args.self.now _ _ _ (returns-clause-truncated g c)
+
+pub returns-then-len-clause-truncated : goal.returns-then-len-clause-truncated
+returns-then-len-clause-truncated g c = grind (arith, common_steps)
+
+pub bring_last-requires-clause-within : goal.bring_last-requires-clause-within
+bring_last-requires-clause-within g c = grind (arith, common_steps)
+
+pub bring_last-requires-clause-held : goal.bring_last-requires-clause-held
+bring_last-requires-clause-held g c = grind (arith, common_steps)
+
+pub index_mut-slot-requires : goal.index_mut-slot-requires
+index_mut-slot-requires g c = grind (arith, common_steps)
+
+pub overflow_cast-self : goal.overflow_cast-self
+overflow_cast-self g c = grind (arith, common_steps)
+
+pub overflow_sub-self : goal.overflow_sub-self
+overflow_sub-self g c = grind (arith, common_steps)
+
+pub overflow_sub-self-2 : goal.overflow_sub-self-2
+overflow_sub-self-2 g c = grind (arith, common_steps)
+
+pub overflow_cast-slot : goal.overflow_cast-slot
+overflow_cast-slot g c = grind (arith, common_steps)

@@ -1,3 +1,4 @@
+use Rattle.std.proofs.lemmas.Grind.{common_steps}
 use Rattle.std.proofs.Common.{◌<◌, length, drop, subst, sym, ap, ◌∙◌, arith}
 use Rattle.std.proofs.lemmas.List.{take_at}
 use Rattle.nr_pool.specs.Spares.{HasSpares}
@@ -25,3 +26,30 @@ returns-then-len-eq0-clause-same g c =
     let read = slot_is c.args.slots.now.items c.args.index c.index.result.now c.index.ensures c.requires.within in
     let none = sym (ap (λ (s : Slot). s.len) read) ∙ c.if-len-eq0.true in
     emptied c.args.elements.now.items c.args.slots.now.items c.args.index _ c.requires.within none (ap (λ (s : Slot). s.len) here ∙ none) (ap (λ (s : Slot). s.holders) here)
+
+pub returns-then-len-eq0-clause-packed : goal.returns-then-len-eq0-clause-packed
+returns-then-len-eq0-clause-packed g c = grind (arith, common_steps)
+
+pub returns-then-len-eq0-clause-last : goal.returns-then-len-eq0-clause-last
+returns-then-len-eq0-clause-last g c = grind (arith, common_steps)
+
+pub overflow_add-start : goal.overflow_add-start
+overflow_add-start g c = grind (arith, common_steps)
+
+pub returns-then-start-len-clause-last : goal.returns-then-start-len-clause-last
+returns-then-start-len-clause-last g c = grind (arith, common_steps)
+
+pub returns-clause-packed : goal.returns-clause-packed
+returns-clause-packed g c = grind (arith, common_steps)
+
+pub returns-clause-last : goal.returns-clause-last
+returns-clause-last g c = grind (arith, common_steps)
+
+pub returns-clause-same : goal.returns-clause-same
+returns-clause-same g c = grind (arith, common_steps)
+
+pub returns-clause-elements : goal.returns-clause-elements
+returns-clause-elements g c = grind (arith, common_steps)
+
+pub returns-clause-slots : goal.returns-clause-slots
+returns-clause-slots g c = grind (arith, common_steps)

@@ -1,3 +1,4 @@
+use Rattle.std.proofs.lemmas.Grind.{common_steps}
 use Rattle.std.proofs.Common.{refl, arith}
 use Rattle.nr_pool.proofs.Places.{emptied}
 use Rattle.nr_pool.proofs.Spares.{spares_set}
@@ -21,3 +22,9 @@ returns-clause-same g c =
 pub returns-clause-spares : goal.returns-clause-spares
 returns-clause-spares g c =
     (brought_last _ _ _ _ _ _ _ _ _ _ c.requires.packed c.requires.within c.requires.held refl refl (omega arith) refl c.rotate.ensures.after c.shift_behind.ensures refl).spares
+
+pub returns-then-len-eq0-clause-packed : goal.returns-then-len-eq0-clause-packed
+returns-then-len-eq0-clause-packed g c = grind (arith, common_steps)
+
+pub returns-clause-last : goal.returns-clause-last
+returns-clause-last g c = grind (arith, common_steps)

@@ -1,3 +1,4 @@
+use Rattle.std.proofs.lemmas.Grind.{common_steps}
 use Rattle.std.proofs.Common.{◌≡◌, ◌+◌, ℕ, subst, arith}
 use Rattle.nr_preconv.specs.Running.{Took}
 use Rattle.nr_preconv.proofs.Turning.{Took-byte, Took-trans}
@@ -23,3 +24,9 @@ returns-in-Ok-Some-clause-turns g c =
     let P : ℕ → Type 0 = λ k. Took a d r c.read-steps.new.self p c.read-steps.new.out.items k c.read-steps.result in
     let Q : ℕ → Type 0 = λ k. Took a d r c.read-steps.new.self p c.read-steps.new.out.items (n + 1) k in
     subst P one (subst Q all both)
+
+pub returns-in-Ok-None-clause-turns : goal.returns-in-Ok-None-clause-turns
+returns-in-Ok-None-clause-turns g c = grind (arith, common_steps)
+
+pub returns-in-Err-clause-turns : goal.returns-in-Err-clause-turns
+returns-in-Err-clause-turns g c = grind (arith, common_steps)

@@ -1,3 +1,4 @@
+use Rattle.std.proofs.lemmas.Grind.{common_steps}
 use Prim.Native.Char.{code}
 use Rattle.std.proofs.Common.{◌≡◌, ◌+◌, ◌-◌, ◌<◌, ◌∙◌, [], get_or, length, sym, subst, ap, arith, add-one, None}
 use Rattle.std.specs.Option.{option_and_then, option_map}
@@ -94,3 +95,6 @@ returns-clause-answer c =
 
 pub returns-clause-range : goal.returns-clause-range
 returns-clause-range c = answer_in_range c.args.ctx.now c.args.text.now c.read-2.result (returns-clause-answer c)
+
+pub returns-clause-computed : goal.returns-clause-computed
+returns-clause-computed c = grind (arith, common_steps)

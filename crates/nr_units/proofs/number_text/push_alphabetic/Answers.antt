@@ -34,3 +34,12 @@ returns-clause-computed c =
     c.push_all-2.ensures
     ∙ ap (λ (ys : List ℕ). c.args.text.now.items ++ ys) (take_all (14 - l.start) row (omega (arith, i.0, length-drop l.start l.letters)) ∙ sym (letters_all l.start c.args.before l.rest row c.loop-rest-test.false) ∙ i.5)
     ∙ ap (λ (ys : List ℕ). c.args.text.now.items ++ ys) (letters_text c.args.before c.args.n c.if-n-eq0.false)
+
+pub returns-then-n-eq0-clause-short : goal.returns-then-n-eq0-clause-short
+returns-then-n-eq0-clause-short c = grind (arith, common_steps)
+
+pub returns-clause-appends : goal.returns-clause-appends
+returns-clause-appends c = grind (arith, common_steps)
+
+pub returns-clause-short : goal.returns-clause-short
+returns-clause-short c = grind (arith, common_steps)

@@ -1,4 +1,5 @@
-use Rattle.std.proofs.Common.{sym, ◌∙◌}
+use Rattle.std.proofs.lemmas.Grind.{common_steps}
+use Rattle.std.proofs.Common.{sym, ◌∙◌, arith}
 use Rattle.nr_coding.proofs.Giving.{step_stays, step_nearer, end_nearer}
 use Rattle.nr_coding.proofs.under_coding.UnderCodingSource.next.Goals as goal
 
@@ -19,3 +20,12 @@ pub loop-self-smaller : goal.loop-self-smaller
 loop-self-smaller g c =
     end_nearer c.loop-self.self.part c.loop-self.self.ready c.ends-text.result (sym c.is_empty.ensures ∙ c.loop-self-test.true)
     (sym c.is_empty-in-Ok-None.ensures ∙ c.if-is_empty.false)
+
+pub returns-then-is_empty-clause-gives : goal.returns-then-is_empty-clause-gives
+returns-then-is_empty-clause-gives g c = grind (arith, common_steps)
+
+pub loop-self-preserved : goal.loop-self-preserved
+loop-self-preserved g c = grind (arith, common_steps)
+
+pub returns-clause-gives : goal.returns-clause-gives
+returns-clause-gives g c = grind (arith, common_steps)

@@ -1,4 +1,4 @@
-use Rattle.std.proofs.Common.{◌≡◌, ◌∙◌, [], true, sym, subst}
+use Rattle.std.proofs.Common.{◌≡◌, ◌∙◌, [], sym, subst}
 use Rattle.nr_units.specs.Source.{Offers}
 use Rattle.nr_coding.specs.UnderCoding.{supply_from}
 use Rattle.nr_coding.proofs.Giving.{no_bytes, plain_offers}

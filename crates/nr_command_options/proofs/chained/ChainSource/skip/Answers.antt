@@ -1,3 +1,4 @@
+use Rattle.std.proofs.lemmas.Grind.{common_steps}
 use Rattle.std.proofs.Common.{◌<◌, length, ap, sym, ◌∙◌, arith}
 use Rattle.nr_command_options.proofs.Chaining.{chain_skips_some, hand_within, hand_is, failures_in-same}
 use Rattle.nr_command_options.proofs.chained.ChainSource.skip.Goals as goal
@@ -17,3 +18,15 @@ returns-clause-failures g c =
     let chain = c.args.self.now in
     let within = hand_within g.F.Source.at_hand chain.files.now chain.at (omega (arith, c.requires)) in
     failures_in-same g.F.Source.failures chain.files.now chain.at c.index-self-self.result c.skip.new.self within c.skip.ensures.failures
+
+pub offset_bounds-self-self : goal.offset_bounds-self-self
+offset_bounds-self-self g c = grind (arith, common_steps)
+
+pub bounds-self-self : goal.bounds-self-self
+bounds-self-self g c = grind (arith, common_steps)
+
+pub bounds-window-n : goal.bounds-window-n
+bounds-window-n g c = grind (arith, common_steps)
+
+pub skip-requires : goal.skip-requires
+skip-requires g c = grind (arith, common_steps)

@@ -7,3 +7,6 @@ returns-then-is_full-2 c = grind (arith, common_steps)
 
 pub returns-else-is_full : goal.returns-else-is_full
 returns-else-is_full c = search rules
+
+pub returns-else-is_full-2 : goal.returns-else-is_full-2
+returns-else-is_full-2 c = grind (arith, common_steps)

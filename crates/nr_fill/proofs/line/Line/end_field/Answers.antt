@@ -1,3 +1,4 @@
+use Rattle.std.proofs.lemmas.Grind.{common_steps}
 use Rattle.std.proofs.Common.{ap, arith}
 use Rattle.nr_fill.specs.Line.{Lined}
 use Rattle.nr_fill.proofs.Measures.{afforded_ok, line_cells-filled}
@@ -18,3 +19,6 @@ returns-clause-result c =
     let own = ap (λ (v : Lined). v.limit) c.self.view_is in
     let v : Lined = record { collected = with_field_filled c.args.self.now.collected; limit = c.args.self.now.limit } in
     afforded_ok v (omega (arith, c.text_measure.ensures.value, c.text_measure.ensures.within, c.field_fill-n.ensures))
+
+pub returns-then-n-self-clause-result : goal.returns-then-n-self-clause-result
+returns-then-n-self-clause-result c = grind (arith, common_steps)

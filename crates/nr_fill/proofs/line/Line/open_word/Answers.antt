@@ -1,4 +1,5 @@
-use Rattle.std.proofs.Common.{sym, ◌∙◌}
+use Rattle.std.proofs.lemmas.Grind.{common_steps}
+use Rattle.std.proofs.Common.{sym, ◌∙◌, arith}
 use Rattle.nr_fill.proofs.Lines.{is_line_untitled, is_line_opened, none_from_is_some, line_cells-le}
 use Rattle.nr_fill.proofs.line.Line.open_word.Goals as goal
 
@@ -16,3 +17,6 @@ returns-then-is_some-clause-within c = line_cells-le c.self.inside.barred c.self
 
 pub returns-clause-within : goal.returns-clause-within
 returns-clause-within c = line_cells-le c.self.inside.barred c.self.inside.sentence c.self.inside.margins c.self.inside.turn (invariant_of-self-2 c)
+
+pub returns-clause-opened : goal.returns-clause-opened
+returns-clause-opened c = grind (arith, common_steps)

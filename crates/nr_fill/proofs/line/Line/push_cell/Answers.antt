@@ -1,3 +1,4 @@
+use Rattle.std.proofs.lemmas.Grind.{common_steps}
 use Rattle.std.proofs.Common.{◌≡◌, ◌+◌, ◌++◌, ◌∷◌, [], length, drop, None, ap, ap₂, sym, ◌∙◌, refl, arith, length-append}
 use Rattle.nr_fill.specs.Laid.{Laid}
 use Rattle.nr_fill.specs.Line.{Lined}
@@ -47,3 +48,6 @@ returns-in-Some c =
     let pending_is : c.step_behind.new.self ≡ pending_behind c.args.behind (cells_in (drop s.pieces s.row.pieces) + length (s.row.last ++ c.args.cell ∷ [])) w.pending =
     c.step_behind.ensures ∙ ap₂ (λ a b. pending_behind c.args.behind (a + b) w.pending) (sym iw.parted_is) len in
     rw (c.push.ensures, pending_is, c.ends_sentence-self-inside.ensures, ← c.self.view_is, c.in-Some.is, none) refl
+
+pub push-requires-clause-no_title : goal.push-requires-clause-no_title
+push-requires-clause-no_title c = grind (arith, common_steps)

@@ -1,3 +1,4 @@
+use Rattle.std.proofs.lemmas.Grind.{common_steps}
 use Rattle.std.proofs.Common.{◌≡◌, ◌+◌, ◌++◌, length, take, drop, replicate, ap, ◌∙◌, arith, length-append}
 use Rattle.nr_fill.specs.Line.{Lined}
 use Rattle.nr_fill.specs.declared.line.WordState.{WordState}
@@ -46,3 +47,9 @@ invariant_of-self c =
       join_within = iw.join_within;
       needed = omega arith;
     }) (omega (arith, c.requires.room)))
+
+pub insert_copies-requires-clause-no_title : goal.insert_copies-requires-clause-no_title
+insert_copies-requires-clause-no_title c = grind (arith, common_steps)
+
+pub returns-in-Some : goal.returns-in-Some
+returns-in-Some c = grind (arith, common_steps)

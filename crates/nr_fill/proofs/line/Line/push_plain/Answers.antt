@@ -1,3 +1,4 @@
+use Rattle.std.proofs.lemmas.Grind.{common_steps}
 use Rattle.std.proofs.Common.{◌≡◌, ◌++◌, length, map, take, ap, ◌∙◌, arith, length-append}
 use Rattle.std.proofs.lemmas.List.{length-map, length-take-le}
 use Rattle.nr_fill.specs.Line.{Lined}
@@ -40,3 +41,6 @@ invariant_of-self-in-Some c =
       join_within = iw.join_within;
       needed = rw c.drop_point.ensures (omega arith);
     }) (omega (arith, c.requires.room, c.push_plain-count.ensures.front)))
+
+pub push_plain-count-requires-clause-no_title : goal.push_plain-count-requires-clause-no_title
+push_plain-count-requires-clause-no_title c = grind (arith, common_steps)

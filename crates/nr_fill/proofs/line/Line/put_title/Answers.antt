@@ -1,3 +1,4 @@
+use Rattle.std.proofs.lemmas.Grind.{common_steps}
 use Rattle.std.proofs.Common.{ap, refl, arith}
 use Rattle.nr_fill.specs.Line.{Lined}
 use Rattle.nr_fill.specs.Piece.{line_cells}
@@ -26,3 +27,12 @@ pub returns-clause-ok : goal.returns-clause-ok
 returns-clause-ok c =
     let s = c.self.inside in
     rw (c.push_title.ensures, ← c.self.view_is, title_of_push s.title s.row.title c.args.cell c.self.invariant.title_is) refl
+
+pub returns-then-measure-self-clause-result : goal.returns-then-measure-self-clause-result
+returns-then-measure-self-clause-result c = grind (arith, common_steps)
+
+pub push_title-requires : goal.push_title-requires
+push_title-requires c = grind (arith, common_steps)
+
+pub returns-clause-result : goal.returns-clause-result
+returns-clause-result c = grind (arith, common_steps)

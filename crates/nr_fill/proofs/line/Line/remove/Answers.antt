@@ -1,3 +1,4 @@
+use Rattle.std.proofs.lemmas.Grind.{common_steps}
 use Rattle.std.proofs.Common.{◌≡◌, ◌≤◌, Bool, true, false, not, Option, None, Some, is_none, is_some, length, take, drop, ap, sym, ◌∙◌, refl, arith}
 use Rattle.nr_fill.specs.declared.line.WordState.{WordState}
 use Rattle.nr_fill.specs.Line.{Lined}
@@ -37,3 +38,9 @@ returns c =
     let none = none_of s.word c.is_none.result c.is_none.ensures in
     let wordless = is_none_word s.word (drop s.pieces s.row.pieces) s.row.last in
     rw (c.remove_front.ensures, c.behind-self-inside.ensures, c.margins_behind-self-inside.ensures, none, behind.0, behind.1, ← c.self.view_is, nil, wordless) refl
+
+pub remove_front-requires-clause-cells : goal.remove_front-requires-clause-cells
+remove_front-requires-clause-cells c = grind (arith, common_steps)
+
+pub overflow_sub-self-2 : goal.overflow_sub-self-2
+overflow_sub-self-2 c = grind (arith, common_steps)

@@ -1,3 +1,4 @@
+use Rattle.std.proofs.lemmas.Grind.{common_steps}
 use Rattle.std.proofs.Common.{◌∙◌, arith}
 use Rattle.nr_fill.proofs.Pendings.{are_small}
 use Rattle.nr_fill.proofs.line.Line.word_wide.Goals as goal
@@ -22,3 +23,6 @@ returns-in-Some-clause-small c =
     let small = are_small h in
     let join = c.from-in-Some.ensures ∙ c.width.ensures in
     omega (arith, small.widths, small.join, c.last_len.ensures, small.parted, small.text, small.small)
+
+pub returns-in-Some-clause-value : goal.returns-in-Some-clause-value
+returns-in-Some-clause-value c = grind (arith, common_steps)

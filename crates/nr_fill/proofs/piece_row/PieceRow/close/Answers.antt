@@ -1,3 +1,4 @@
+use Rattle.std.proofs.lemmas.Grind.{common_steps}
 use Rattle.std.proofs.Common.{◌≡◌, ◌-◌, ◌∷◌, [], length, min, ap, sym, ◌∙◌, arith, length-append}
 use Rattle.nr_fill.specs.Laid.{Laid}
 use Rattle.std.proofs.lemmas.List.Sums.{sum_by_push}
@@ -42,3 +43,9 @@ returns c =
     let room = min s.slots.capacity s.cells.capacity in
     let last : s.read - s.pieced ≡ length c.args.self.now.last = sym (length-last room h) ∙ ap (λ (l : Laid). length l.last) c.self.view_is in
     rw (c.push.ensures.items, c.push.ensures.room, ← c.self.view_is) (laid_of_closed room c.args.join c.args.n h (omega (arith, c.requires.within)))
+
+pub overflow_cast-n : goal.overflow_cast-n
+overflow_cast-n c = grind (arith, common_steps)
+
+pub overflow_add-self : goal.overflow_add-self
+overflow_add-self c = grind (arith, common_steps)

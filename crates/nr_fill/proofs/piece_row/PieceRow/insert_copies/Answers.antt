@@ -1,3 +1,4 @@
+use Rattle.std.proofs.lemmas.Grind.{common_steps}
 use Rattle.std.proofs.Common.{◌≡◌, ◌+◌, ◌≤◌, ◌++◌, length, min, take, drop, replicate, arith, length-drop, length-append}
 use Rattle.std.proofs.lemmas.List.{length-replicate, length-take-le}
 use Rattle.nr_fill.proofs.Laying.{room_left, last_is, is_laid_longer, laid_of_inserted}
@@ -35,3 +36,6 @@ returns c =
     let last = last_is c.args.self.now room h c.self.view_is in
     let within : s.pieced + c.args.place ≤ s.read = omega (arith, c.requires.within, h.pieced_within) in
     rw (c.insert_copies.ensures.items, c.insert_copies.ensures.room, ← c.self.view_is) (laid_of_inserted room c.args.place c.args.n c.args.cell h left.0 within)
+
+pub insert_copies-requires-clause-within : goal.insert_copies-requires-clause-within
+insert_copies-requires-clause-within c = grind (arith, common_steps)

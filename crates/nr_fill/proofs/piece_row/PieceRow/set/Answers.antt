@@ -1,3 +1,4 @@
+use Rattle.std.proofs.lemmas.Grind.{common_steps}
 use Rattle.std.proofs.Common.{◌≤◌, List, length, min, ap, sym, refl, arith, subst, length-take}
 use Rattle.std.proofs.lemmas.List.{length-take-le}
 use Rattle.nr_fill.specs.Piece.{Piece}
@@ -47,3 +48,9 @@ pub returns-in-None-clause-extent : goal.returns-in-None-clause-extent
 returns-in-None-clause-extent g c =
     let s = c.self.inside in
     rw (← front_is c.args.self.now (min s.slots.capacity s.cells.capacity) c.args.n c.self.invariant c.self.view_is) (rw (c.as_slice.ensures.value, c.as_slice-cells.ensures.value) at c.set_pieces.ensures.extent)
+
+pub set_pieces-requires-clause-cells : goal.set_pieces-requires-clause-cells
+set_pieces-requires-clause-cells g c = grind (arith, common_steps)
+
+pub set_pieces-requires-clause-few : goal.set_pieces-requires-clause-few
+set_pieces-requires-clause-few g c = grind (arith, common_steps)

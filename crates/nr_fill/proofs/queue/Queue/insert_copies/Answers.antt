@@ -1,3 +1,4 @@
+use Rattle.std.proofs.lemmas.Grind.{common_steps}
 use Rattle.std.proofs.Common.{◌≡◌, ℕ, ◌+◌, ◌-◌, ◌≤◌, List, ◌++◌, length, take, drop, replicate, refl, ap, ap₂, sym, ◌∙◌, arith, length-take, length-drop}
 use Rattle.std.proofs.lemmas.List.{length-replicate}
 use borrow.Rule.Slice.PartMut.{put_mid}
@@ -93,3 +94,6 @@ returns-clause-items g c =
     ∙ ap₂ (λ k (zs : List _). drop s.start (take (s.end + n) (put_mid at k c.copy_within.new.self.items zs))) span filled
     ∙ inserted xs c.copy_within.new.self.items s.start place s.end n c.args.item within free moved
     ∙ ap (λ (ws : List _). take place ws ++ replicate n c.args.item ++ drop place ws) items
+
+pub invariant_of-self : goal.invariant_of-self
+invariant_of-self g c = grind (arith, common_steps)

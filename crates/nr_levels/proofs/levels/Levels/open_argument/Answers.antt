@@ -1,3 +1,4 @@
+use Rattle.std.proofs.lemmas.Grind.{common_steps}
 use Rattle.std.proofs.Common.{false, refl, arith}
 use Rattle.nr_levels.specs.Frame.{part}
 use Rattle.nr_levels.specs.declared.frame.Reads.TheVariants as reads
@@ -17,3 +18,6 @@ invariant_of-self g c =
 
 pub push-requires : goal.push-requires
 push-requires g c = more_frames _ _ _ _ _ _ _ _ c.self.view_is c.requires.room
+
+pub returns : goal.returns
+returns g c = grind (arith, common_steps)

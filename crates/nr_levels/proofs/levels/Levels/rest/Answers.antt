@@ -1,3 +1,4 @@
+use Rattle.std.proofs.lemmas.Grind.{common_steps}
 use Rattle.std.proofs.Common.{ap, sym, ◌∙◌, length, drop, take, ◌-◌, arith}
 use Rattle.std.proofs.lemmas.Slice.{between_is}
 use Rattle.nr_levels.specs.Levels.{Own}
@@ -26,3 +27,6 @@ returns-else-span g c =
 
 pub returns-in-Mark : goal.returns-in-Mark
 returns-in-Mark g c = sym (left_is _ _ _ _ _ _ _ _ _ _ c.self.view_is c.at.ensures c.in-Mark.is ∙ left_none c.self.inside.bytes.items (mode_of c.at.result.now.has_mode c.self.inside.modes.items))
+
+pub returns-then-is_empty : goal.returns-then-is_empty
+returns-then-is_empty g c = grind (arith, common_steps)

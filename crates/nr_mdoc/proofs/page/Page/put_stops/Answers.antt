@@ -1,4 +1,5 @@
-use Rattle.std.proofs.Common.{◌≡◌, ℕ, List, ◌++◌, ◌∙◌, ap, append_assoc}
+use Rattle.std.proofs.lemmas.Grind.{common_steps}
+use Rattle.std.proofs.Common.{◌≡◌, ℕ, List, ◌++◌, ◌∙◌, ap, append_assoc, arith}
 use Rattle.std.specs.Prelude.{codes}
 use Rattle.nr_mdoc.specs.declared.acts.Sized.TheVariants as sizes
 use Rattle.nr_mdoc.specs.OwnLines.{digits, put_sized}
@@ -16,3 +17,12 @@ returns-clause-items c =
     (digits c.args.gap) (codes "n\n.ta \\*(%c\n") c.put_sized.new.out.items c.extend.new.self.items
     c.put_number.new.out.items c.extend-2.new.self.items
     c.put_sized.ensures.items c.extend.ensures.items c.put_number.ensures.items c.extend-2.ensures.items
+
+pub put_number-requires : goal.put_number-requires
+put_number-requires c = grind (arith, common_steps)
+
+pub extend-requires-2 : goal.extend-requires-2
+extend-requires-2 c = grind (arith, common_steps)
+
+pub returns-clause-few : goal.returns-clause-few
+returns-clause-few c = grind (arith, common_steps)

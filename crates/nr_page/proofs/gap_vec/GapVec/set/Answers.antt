@@ -1,3 +1,4 @@
+use Rattle.std.proofs.lemmas.Grind.{common_steps}
 use Rattle.std.proofs.Common.{set, ap, ◌∙◌, arith}
 use Rattle.nr_vectors.specs.Items.{Items}
 use Rattle.nr_page.proofs.Gapped.{gapped-set_front, gapped-set_back}
@@ -14,3 +15,9 @@ returns-else-place-self-clause-items g c =
     let s = c.self.inside in
     gapped-set_back s.slots.items s.front s.gap c.args.place c.args.item (omega (arith, c.self.invariant.0)) c.if-place-self.false
     ∙ ap (λ (v : Items _). set v.items c.args.place c.args.item) c.self.view_is
+
+pub overflow_add-self-inside : goal.overflow_add-self-inside
+overflow_add-self-inside g c = grind (arith, common_steps)
+
+pub index_mut-requires-else-place-self : goal.index_mut-requires-else-place-self
+index_mut-requires-else-place-self g c = grind (arith, common_steps)

@@ -1,4 +1,5 @@
-use Rattle.std.proofs.Common.{◌++◌, sym, ◌∙◌, ap}
+use Rattle.std.proofs.lemmas.Grind.{common_steps}
+use Rattle.std.proofs.Common.{◌++◌, sym, ◌∙◌, ap, arith}
 use Rattle.nr_preconv.specs.declared.half.Half.{Half}
 use Rattle.nr_preconv.specs.declared.half.Coming.{Coming}
 use Rattle.nr_preconv.specs.Reading.{Told, heard_in, with_half}
@@ -27,3 +28,6 @@ returns-in-Byte-clause-steps c = λ _.
     ap (λ (t : Told). t.steps)
     (ap (λ (x : Coming). heard_in c.args.most x r) c.in-Byte.is
     ∙ heard_as_is c.args.most c.in-Byte.byte r c.if-most-gt0.true (sym c.takes_as_is.ensures ∙ c.if-takes_as_is.true))
+
+pub returns-in-Byte-clause-few : goal.returns-in-Byte-clause-few
+returns-in-Byte-clause-few c = grind (arith, common_steps)

@@ -1,3 +1,4 @@
+use Rattle.std.proofs.lemmas.Grind.{common_steps}
 use Rattle.std.proofs.Common.{◌≡◌, ◌+◌, ◌++◌, ◌∙◌, sym, ap, subst, arith}
 use Rattle.nr_preconv.specs.declared.reader.Reader.{Reader}
 use Rattle.nr_preconv.specs.Reading.{Told, Takes}
@@ -36,3 +37,12 @@ returns-clause-taken c =
     subst P still
     (Takes-byte c.args.bytes.now c.pass_name-len.new.self c.read-steps.new.self c.args.out.now.items c.read-steps.new.out.items c.read-steps.result
     c.requires.some c.read-steps.ensures.reader c.read-steps.ensures.items c.read-steps.ensures.steps)
+
+pub returns-then-pass_word-clause-few : goal.returns-then-pass_word-clause-few
+returns-then-pass_word-clause-few c = grind (arith, common_steps)
+
+pub returns-then-pass_comment-clause-few : goal.returns-then-pass_comment-clause-few
+returns-then-pass_comment-clause-few c = grind (arith, common_steps)
+
+pub returns-then-len-gt0-clause-few : goal.returns-then-len-gt0-clause-few
+returns-then-len-gt0-clause-few c = grind (arith, common_steps)

@@ -1,3 +1,4 @@
+use Rattle.std.proofs.lemmas.Grind.{common_steps}
 use Rattle.std.proofs.Common.{◌≡◌, ◌+◌, ◌∙◌, subst, arith}
 use Rattle.nr_preconv.specs.declared.reader.Reader.{Reader}
 use Rattle.nr_preconv.specs.Reading.{Takes}
@@ -26,3 +27,9 @@ returns-clause-taken c =
     let still : c.pass_control-control.new.self ≡ c.args.self.now = c.pass_control-control.ensures.none (omega arith) ∙ same in
     let P : Reader → Type 0 = λ r. Takes c.take_first.result.count c.args.bytes.now r c.take_first.new.self c.args.out.now.items c.take_first.new.out.items c.take_first.result.steps in
     subst P still c.take_first.ensures.taken
+
+pub returns-then-run-gt0-clause-few : goal.returns-then-run-gt0-clause-few
+returns-then-run-gt0-clause-few c = grind (arith, common_steps)
+
+pub returns-then-control-gt0-clause-few : goal.returns-then-control-gt0-clause-few
+returns-then-control-gt0-clause-few c = grind (arith, common_steps)

@@ -1,3 +1,4 @@
+use Rattle.std.proofs.lemmas.Grind.{common_steps}
 use Rattle.std.proofs.Common.{◌≡◌, ◌+◌, [], ◌∷◌, length, drop, ap, sym, ◌∙◌, arith}
 use Rattle.std.specs.Option.{option_map}
 use Rattle.nr_store.specs.Holders.{beside_of}
@@ -62,3 +63,6 @@ invariant_of-self g c =
     let more : s.charge + length xs ≡ s.charge + (c.args.indent + length c.args.cells.now + 1) = omega arith in
     rw (c.append_line.ensures, c.set_top.ensures, c.with_line.ensures, sym more)
     (grown_stands s.pool s.names s.drafts s.levels (beside_of s.gathering s.registers s.traps s.words) s.charge s.stored c.in-Some.draft (drop 1 s.drafts.items) xs c.self.invariant first dv (omega arith))
+
+pub set_top-requires : goal.set_top-requires
+set_top-requires g c = grind (arith, common_steps)

@@ -1,3 +1,4 @@
+use Rattle.std.proofs.lemmas.Grind.{common_steps}
 use Rattle.std.proofs.Common.{refl, ap, sym, ◌∙◌, arith}
 use Rattle.nr_store.specs.Holders.{beside_of}
 use Rattle.nr_pool.specs.Texts.{text}
@@ -100,3 +101,6 @@ returns-clause-ok g c =
     let below = c.self.invariant.within in
     let long = c.len-len.ensures in
     rw (c.in-Ok-copy_text.ensures.ok, c.in-Ok.ensures.ok, c.push.ensures, some_text_of s.pool s.names.entries s.drafts.items s.levels (beside_of s.gathering s.registers s.traps s.words) s.stored c.args.name c.in-Some.from c.text_in.result c.args.self.now c.self.view_is c.text_in.ensures c.in-Some.is) (copied_is s.pool s.names s.drafts s.levels (beside_of s.gathering s.registers s.traps s.words) s.charge s.stored c.in-Ok.id c.in-Some.from c.args.diversion c.self.invariant c.in-Ok.ensures.unused (is_named s.pool s.names s.drafts s.levels (beside_of s.gathering s.registers s.traps s.words) s.charge s.stored c.args.name c.in-Some.from c.text_in.result c.self.invariant c.text_in.ensures c.in-Some.is).there.is_open (omega arith) ∙ ap (begun (text s.pool c.in-Some.from) c.args.diversion) c.self.view_is)
+
+pub returns-then-self-lt48-clause-answer : goal.returns-then-self-lt48-clause-answer
+returns-then-self-lt48-clause-answer g c = grind (arith, common_steps)

@@ -1,3 +1,4 @@
+use Rattle.std.proofs.lemmas.Grind.{common_steps}
 use Rattle.std.proofs.Common.{[], ap, ◌∙◌, refl, arith}
 use Rattle.nr_store.specs.Holders.{beside_of}
 use Rattle.nr_store.specs.Store.{begun}
@@ -27,3 +28,9 @@ pub returns-clause-ok : goal.returns-clause-ok
 returns-clause-ok g c =
     let s = c.self.inside in
     rw (c.in-Ok.ensures.ok, c.push.ensures) (begun_is s.pool s.names s.drafts s.levels (beside_of s.gathering s.registers s.traps s.words) s.charge s.stored c.in-Ok.id c.args.diversion c.self.invariant c.in-Ok.ensures.unused ∙ ap (begun [] c.args.diversion) c.self.view_is)
+
+pub returns-then-self-lt48-clause-answer : goal.returns-then-self-lt48-clause-answer
+returns-then-self-lt48-clause-answer g c = grind (arith, common_steps)
+
+pub returns-clause-answer : goal.returns-clause-answer
+returns-clause-answer g c = grind (arith, common_steps)

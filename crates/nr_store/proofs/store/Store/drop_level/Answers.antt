@@ -1,3 +1,4 @@
+use Rattle.std.proofs.lemmas.Grind.{common_steps}
 use Rattle.std.proofs.Common.{ap, sym, ◌∙◌, arith}
 use Rattle.nr_store.specs.Store.{Stored, dropped}
 use Rattle.nr_store.specs.Holders.{beside_of}
@@ -74,3 +75,9 @@ pub invariant_of-self-in-Resume : goal.invariant_of-self-in-Resume
 invariant_of-self-in-Resume g c =
     let s = c.self.inside in
     rw c.drop_mode.ensures (mark_gone s.pool s.names s.drafts s.levels (beside_of s.gathering s.registers s.traps s.words) s.charge s.stored c.self.invariant c.in-Resume.ensures)
+
+pub lone_share-text-requires-clause-is_open : goal.lone_share-text-requires-clause-is_open
+lone_share-text-requires-clause-is_open g c = grind (arith, common_steps)
+
+pub release-requires : goal.release-requires
+release-requires g c = grind (arith, common_steps)

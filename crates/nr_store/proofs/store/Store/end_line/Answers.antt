@@ -1,3 +1,4 @@
+use Rattle.std.proofs.lemmas.Grind.{common_steps}
 use Rattle.std.proofs.Common.{◌≡◌, ◌∷◌, [], drop, ap, sym, ◌∙◌, refl, arith}
 use Rattle.std.specs.Option.{option_map}
 use Rattle.nr_store.specs.declared.element.Element.TheVariants.{LineEnd}
@@ -64,3 +65,6 @@ returns-clause-ok g c =
     (grown_is s.pool s.names s.drafts s.levels beside s.charge s.stored c.in-Some.draft (drop 1 s.drafts.items) (LineEnd c.args.height ∷ []) c.self.invariant first dv
     ∙ sym (diverted_end_is s.pool s.names s.drafts s.levels beside s.charge s.stored c.in-Some.draft (drop 1 s.drafts.items) c.self.invariant first c.args.cells c.args.height)
     ∙ ap (diverted_end c.args.cells c.args.height) c.self.view_is)
+
+pub set_top-requires : goal.set_top-requires
+set_top-requires g c = grind (arith, common_steps)

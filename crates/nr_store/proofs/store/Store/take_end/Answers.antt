@@ -1,3 +1,4 @@
+use Rattle.std.proofs.lemmas.Grind.{common_steps}
 use Rattle.std.proofs.Common.{ap, sym, ◌∙◌, arith}
 use Rattle.nr_store.specs.Holders.{beside_of}
 use Rattle.nr_store.specs.Store.{Stored, left}
@@ -59,3 +60,15 @@ pub overflow_sub-self : goal.overflow_sub-self
 overflow_sub-self g c =
     let s = c.self.inside in
     rw c.close.ensures.charge (end_paid s.pool s.names s.drafts s.levels (beside_of s.gathering s.registers s.traps s.words) s.charge s.stored c.self.invariant c.in-End.ensures)
+
+pub len-requires : goal.len-requires
+len-requires g c = grind (arith, common_steps)
+
+pub lone_share-share-requires-clause-is_open : goal.lone_share-share-requires-clause-is_open
+lone_share-share-requires-clause-is_open g c = grind (arith, common_steps)
+
+pub release-requires : goal.release-requires
+release-requires g c = grind (arith, common_steps)
+
+pub returns-else-place-len-clause-came : goal.returns-else-place-len-clause-came
+returns-else-place-len-clause-came g c = grind (arith, common_steps)

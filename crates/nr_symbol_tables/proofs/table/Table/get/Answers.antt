@@ -1,3 +1,4 @@
+use Rattle.std.proofs.lemmas.Grind.{common_steps}
 use Rattle.std.proofs.Common.{◌≡◌, ◌-◌, ◌<◌, ap, sym, ◌∙◌, Some, arith}
 use Rattle.nr_symbol_tables.specs.Table.{find}
 use Rattle.nr_symbol_tables.specs.Rows.{Table, place_in}
@@ -22,3 +23,18 @@ returns-then-is_same_short g c =
     sym (name_is row (at - 1) f (omega arith) again) ∙ name_is row (at - 1) e (omega arith) is ∙ ap (λ (x : Entry _). x.name) c.index-row-at.is ∙ same.1 in
     sym (sym (ap (λ (t : Table _). find c.args.name t.entries) c.self.view_is) ∙ found_value row c.args.name (at - 1) f c.self.invariant.apart (omega arith) again name
     ∙ ap (λ (x : Entry _). Some x.value) c.index-row-at-then-is_same_short.is)
+
+pub offset_bounds-row-at : goal.offset_bounds-row-at
+offset_bounds-row-at g c = grind (arith, common_steps)
+
+pub bounds-row-at : goal.bounds-row-at
+bounds-row-at g c = grind (arith, common_steps)
+
+pub offset_bounds-row-at-then-is_same_short : goal.offset_bounds-row-at-then-is_same_short
+offset_bounds-row-at-then-is_same_short g c = grind (arith, common_steps)
+
+pub bounds-row-at-then-is_same_short : goal.bounds-row-at-then-is_same_short
+bounds-row-at-then-is_same_short g c = grind (arith, common_steps)
+
+pub bounds-row-at-then-is_same_short-2 : goal.bounds-row-at-then-is_same_short-2
+bounds-row-at-then-is_same_short-2 g c = grind (arith, common_steps)

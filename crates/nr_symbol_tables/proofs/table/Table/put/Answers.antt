@@ -1,3 +1,4 @@
+use Rattle.std.proofs.lemmas.Grind.{common_steps}
 use Rattle.std.proofs.Common.{◌≡◌, ◌+◌, ◌-◌, ◌∷◌, [], length, map, List, ap, sym, ◌∙◌, refl, arith, length-append}
 use Rattle.std.proofs.lemmas.List.{length-map, map-append, map-set}
 use Rattle.std.proofs.lemmas.Option.{get_or_from_slice_get}
@@ -102,3 +103,6 @@ invariant_of-self-2 g c =
     let here = get_or_from_slice_get row (at - 1) e e c.get-was.ensures in
     let new : Entry _ = record { name = c.args.name; value = c.args.value; earlier = e.earlier } in
     rw c.set.ensures.items (linked_set row c.self.inside.latest.value (at - 1) e new (omega arith) (sym here) (sym (sym (name_is row (at - 1) e (omega arith) (sym here)) ∙ place.is (omega arith))) refl c.self.invariant)
+
+pub set-requires : goal.set-requires
+set-requires g c = grind (arith, common_steps)

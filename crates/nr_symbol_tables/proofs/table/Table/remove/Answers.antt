@@ -1,3 +1,4 @@
+use Rattle.std.proofs.lemmas.Grind.{common_steps}
 use Rattle.std.proofs.Common.{◌≡◌, ◌-◌, map, List, None, ap, sym, ◌∙◌, subst, arith}
 use Rattle.std.proofs.lemmas.Option.{get_or_from_slice_get}
 use Rattle.nr_symbol_tables.specs.Table.{Named, find, without}
@@ -170,3 +171,9 @@ invariant_of-self-2 g c =
       chains = c.replace.ensures.chains;
       apart = rw (c.replace.ensures.named, c.truncate.ensures.items) (replaced_apart row moved last (omega arith) there c.self.invariant.apart c.args.name (at - 1) e (omega arith) here same);
     }
+
+pub overflow_sub-last : goal.overflow_sub-last
+overflow_sub-last g c = grind (arith, common_steps)
+
+pub get-moved-requires : goal.get-moved-requires
+get-moved-requires g c = grind (arith, common_steps)

@@ -1,3 +1,4 @@
+use Rattle.std.proofs.lemmas.Grind.{common_steps}
 use Rattle.std.proofs.Common.{◌≡◌, ℕ, ◌+◌, ◌-◌, List, ap, take, drop, subst, arith}
 use Rattle.nr_utf8.specs.Spelling.{Puts, bytes_of}
 use Rattle.nr_utf8.proofs.Pieces.{Puts-piece, piece-spelled}
@@ -31,3 +32,6 @@ loop-at-preserved c =
       whole = omega (arith, whole);
       within = omega (arith, whole, more);
     }
+
+pub returns-clause-put : goal.returns-clause-put
+returns-clause-put c = grind (arith, common_steps)

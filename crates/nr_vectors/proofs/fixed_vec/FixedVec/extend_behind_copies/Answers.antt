@@ -1,3 +1,4 @@
+use Rattle.std.proofs.lemmas.Grind.{common_steps}
 use Rattle.std.proofs.Common.{◌≡◌, ◌+◌, ◌-◌, ◌++◌, length, take, drop, replicate, refl, ap, ◌∙◌, arith, length-take, length-drop}
 use Rattle.nr_vectors.specs.Items.{Items}
 use Rattle.nr_vectors.proofs.Written.{take_written_behind}
@@ -17,3 +18,9 @@ returns-then-len-clause-items g c =
     take_written_behind s.slots.items _ _ _ _ c.args.more.now c.args.item s.len size (m + 8 - m) m n 8 (length s.slots.items) value refl (omega (arith, c.len.ensures)) (omega arith) (omega arith)
     c.copy_from_slice.ensures.after rest c.copy_from_slice-then-len.ensures.after c.if-copies-le-CHUNK.true c.if-n-le-CHUNK.true c.if-more-ge-CHUNK.true
     ∙ ap (λ (v : Items _). v.items ++ replicate m c.args.item ++ take n c.args.more.now) c.self.view_is
+
+pub invariant_of-self : goal.invariant_of-self
+invariant_of-self g c = grind (arith, common_steps)
+
+pub extend-requires : goal.extend-requires
+extend-requires g c = grind (arith, common_steps)

@@ -1,3 +1,4 @@
+use Rattle.std.proofs.lemmas.Grind.{common_steps}
 use Rattle.std.proofs.Common.{◌≡◌, ◌++◌, length, take, replicate, refl, ap, ap₂, ◌∙◌, arith}
 use Rattle.std.proofs.lemmas.List.{length-replicate, take-replicate}
 use Rattle.nr_vectors.specs.Items.{Items}
@@ -16,3 +17,12 @@ returns-then-len-ge-CHUNK-clause-items g c =
     let few = c.if-n-le-CHUNK.true in
     take_written s.slots.items _ ys s.len _ n (length s.slots.items) c.as_mut_slice-slots.ensures.value refl (omega (arith, c.len.ensures)) (omega (arith, long)) (omega arith)
     ∙ ap₂ (λ (xs zs : _). xs ++ zs) (ap (λ (v : Items _). v.items) c.self.view_is) (ap (take n) copied ∙ take-replicate n 8 item (omega arith))
+
+pub invariant_of-self : goal.invariant_of-self
+invariant_of-self g c = grind (arith, common_steps)
+
+pub invariant_of-self-2 : goal.invariant_of-self-2
+invariant_of-self-2 g c = grind (arith, common_steps)
+
+pub returns-clause-items : goal.returns-clause-items
+returns-clause-items g c = grind (arith, common_steps)
