@@ -1,14 +1,10 @@
 //! The program preconv: it turns what manual pages use into the language of nroff, to standard output.
 //!
-//! It stands on nr_filters, nr_preconv, nr_coding, nr_characters and nr_units. To read: `arguments`, `lines`, `program`.
+//! It stands on nr_preconv_command, which has all but `main`, and on nr_filters. To read: this file, and nr_preconv_command.
 #![tactic(auto)]
 
-mod arguments;
-mod lines;
-mod program;
-
 use nr_filters::run_program;
-use program::Preconv;
+use nr_preconv_command::Preconv;
 use std::process::ExitCode;
 
 /// Turns the files that its words name, or standard input.

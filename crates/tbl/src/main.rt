@@ -1,16 +1,10 @@
 //! The program tbl: it turns the tables of a page into the language of nroff, to standard output.
 //!
-//! It stands on nr_filters, nr_tables, nr_characters, nr_units and nr_vectors. To read: `arguments`, `complaints`, `rooms`,
-//! `program`.
+//! It stands on nr_tbl_command, which has all but `main`, and on nr_filters. To read: this file, and nr_tbl_command.
 #![tactic(auto)]
 
-mod arguments;
-mod complaints;
-mod program;
-mod rooms;
-
 use nr_filters::run_program;
-use program::Tbl;
+use nr_tbl_command::Tbl;
 use std::process::ExitCode;
 
 /// Turns the files that its words name, or standard input.

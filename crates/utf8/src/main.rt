@@ -1,13 +1,10 @@
 //! The program utf8: it turns the bytes of a table of characters into UTF-8, to standard output.
 //!
-//! It stands on nr_filters, nr_utf8, nr_coding, nr_characters and nr_units. To read: `arguments`, `program`.
+//! It stands on nr_utf8_command, which has all but `main`, and on nr_filters. To read: this file, and nr_utf8_command.
 #![tactic(auto)]
 
-mod arguments;
-mod program;
-
 use nr_filters::run_program;
-use program::Utf8;
+use nr_utf8_command::Utf8;
 use std::process::ExitCode;
 
 /// Turns the files that its words name, or standard input.
