@@ -1,4 +1,5 @@
-use Rattle.std.proofs.Common.{◌≡◌, ◌∙◌, ◌++◌, codes, decimal}
+use Rattle.std.proofs.lemmas.Grind.{common_steps}
+use Rattle.std.proofs.Common.{◌≡◌, ◌∙◌, ◌++◌, codes, decimal, arith}
 use Rattle.std.proofs.KnownBytes.{Appends-trans}
 use Rattle.nr_units.proofs.Fronts.{AppendsFront-append, AppendsFront-after}
 use Rattle.nr_command.proofs.Telling.{on_err_always, AppendsFront-last}
@@ -25,3 +26,6 @@ returns-clause-err g c =
     let whole = rw digits at c.in_ok-put-2.ensures.ok in
     let begun = Appends-trans _ _ _ (codes " at byte ") at c.in_ok-put.ensures.ok whole in
     AppendsFront-last c.put-3.result _ _ _ (codes " at byte " ++ at) (codes "\n") begun c.put-3.ensures.err
+
+pub returns-clause-ok : goal.returns-clause-ok
+returns-clause-ok g c = grind (arith, common_steps)

@@ -1,4 +1,5 @@
-use Rattle.std.proofs.Common.{◌++◌, codes}
+use Rattle.std.proofs.lemmas.Grind.{common_steps}
+use Rattle.std.proofs.Common.{◌++◌, codes, arith}
 use Rattle.std.proofs.KnownBytes.{Appends-trans}
 use Rattle.nr_units.proofs.Fronts.{AppendsFront-append, AppendsFront-after}
 use Rattle.nr_command.proofs.Telling.{on_err_always, AppendsFront-last}
@@ -21,3 +22,6 @@ returns-clause-err g c =
     let folder = c.args.folder.now in
     let begun = Appends-trans _ _ _ folder (codes "/tmac.") c.in_ok-put.ensures.ok c.in_ok-put-2.ensures.ok in
     AppendsFront-last c.put-3.result _ _ _ (folder ++ codes "/tmac.") c.args.name.now begun c.put-3.ensures.err
+
+pub returns-clause-ok : goal.returns-clause-ok
+returns-clause-ok g c = grind (arith, common_steps)

@@ -1,4 +1,5 @@
-use Rattle.std.proofs.Common.{◌++◌, codes}
+use Rattle.std.proofs.lemmas.Grind.{common_steps}
+use Rattle.std.proofs.Common.{◌++◌, codes, arith}
 use Rattle.std.proofs.KnownBytes.{Appends-trans}
 use Rattle.nr_units.proofs.Fronts.{AppendsFront-append, AppendsFront-after}
 use Rattle.nr_command_options.specs.Inputs.{reading_of}
@@ -26,3 +27,6 @@ returns-clause-err g c =
     let name = name_of (reading_of c.args.input.now) in
     let begun = Appends-trans _ _ _ front name c.in_ok-put.ensures.ok c.in_ok-put_name.ensures.ok in
     AppendsFront-last c.put-2.result _ _ _ (front ++ name) (codes "\n") begun c.put-2.ensures.err
+
+pub returns-clause-ok : goal.returns-clause-ok
+returns-clause-ok g c = grind (arith, common_steps)

@@ -1,4 +1,5 @@
-use Rattle.std.proofs.Common.{rules, ◌≡◌, ℕ, Bool, List, [], ◌∷◌, Option, map, subst, ap, ◌∙◌}
+use Rattle.std.proofs.lemmas.Grind.{common_steps}
+use Rattle.std.proofs.Common.{rules, ◌≡◌, ℕ, Bool, List, [], ◌∷◌, Option, map, subst, ap, ◌∙◌, arith}
 use Rattle.nr_units.specs.Failures.{SinkFailures}
 use Rattle.nr_units.specs.Source.{Supply}
 use Rattle.nr_options.specs.Limits.{Bounds}
@@ -38,3 +39,9 @@ returns-clause-takes g c =
     let buffers : Asks (g.M.Memory.asked c.args.memory.now) (g.M.Memory.asked c.bytes.new.self) (buffers_of job ∷ []) = search rules in
     let desk = Asks-then _ _ _ (list_of job ∷ []) (DeskUnder job.limits ∷ []) c.open_texts.ensures.listed c.desk.ensures.asked in
     Asks-then _ _ _ (buffers_of job ∷ []) (list_of job ∷ DeskUnder job.limits ∷ []) buffers desk
+
+pub returns-in_err-texts-clause-takes : goal.returns-in_err-texts-clause-takes
+returns-in_err-texts-clause-takes g c = grind (arith, common_steps)
+
+pub returns-in_err-desk-clause-takes : goal.returns-in_err-desk-clause-takes
+returns-in_err-desk-clause-takes g c = grind (arith, common_steps)
