@@ -1,4 +1,5 @@
-use Rattle.std.proofs.Common.{ℕ, List, [], ◌∷◌, ◌++◌, ap, sym, map, take, ◌∙◌}
+use Rattle.std.proofs.lemmas.Grind.{common_steps}
+use Rattle.std.proofs.Common.{ℕ, List, [], ◌∷◌, ◌++◌, ap, sym, map, take, ◌∙◌, arith}
 use Rattle.std.proofs.lemmas.List.{map_more}
 use Rattle.nr_layout.specs.Pens.{Bytes}
 use Rattle.nr_layout.specs.Whole.{in_line}
@@ -11,3 +12,6 @@ loop-byte-preserved g c =
     (ap (λ (l : List ℕ). Bytes l ∷ [])
     (map_more in_line c.args.text.now c.loop-byte.byte-index 0 c.loop-byte-test.true
     ∙ ap (λ (b : ℕ). map in_line (take c.loop-byte.byte-index c.args.text.now) ++ b ∷ []) (sym c.in_line.ensures)))
+
+pub returns : goal.returns
+returns g c = grind (arith, common_steps)
