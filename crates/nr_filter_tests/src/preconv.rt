@@ -12,7 +12,7 @@ struct Row {
     line: &'static [u8],
 }
 
-static TEXTS: [(&str, Page<'static>); 20] = [
+static TEXTS: [(&str, Page<'static>); 21] = [
     (
         "quotes",
         Page::Bytes(b"\xe2\x80\x9ca\xe2\x80\x9d \\(em \\fIb\\fP\n"),
@@ -33,8 +33,12 @@ static TEXTS: [(&str, Page<'static>); 20] = [
     (
         "tags",
         Page::Bytes(
-            b".IP a\n\n.TH x\n.IP a\n\nb\n.IP\n\xc3\xa9\n.TS\n.IP\n\n.TE\n.IP \\(bu\n\\&c\n",
+            b".IP a\n\n.TH x\n.IP a\n\nb\n.IP\n\xc3\xa9\n.TS\n.IP\n\n.TE\n.IP \\(bu\n\\&c\n.TP\n.\\\"\nd\n\ne\n\n",
         ),
+    ),
+    (
+        "blanks",
+        Page::Bytes(b"\\fB \\fIa b\n.RB \" a\" \" b\"\n\\fBa b\n.TS\n\\fB a\n.TE\n"),
     ),
     // UTF-16, either byte of a unit first: a pair, a half of one, half a unit.
     (
@@ -68,7 +72,7 @@ static TEXTS: [(&str, Page<'static>); 20] = [
     ("cut", Page::Cut(b"a\\~b\n.BR c\\(l")),
 ];
 
-static ROWS: [Row; 28] = [
+static ROWS: [Row; 29] = [
     Row {
         words: &[b"preconv"],
         output: b"cafe\n",
@@ -147,10 +151,17 @@ static ROWS: [Row; 28] = [
         status: 0,
         line: b"",
     },
-    // In a manual page an empty line after `.IP` breaks first, but in a table.
+    // In a manual page an empty line after the tag of a paragraph breaks first, but in a table.
     Row {
         words: &[b"preconv", b"tags"],
-        output: b".IP a\n\n.TH x\n.IP a\n.br\n\nb\n.IP\ne\n.TS\n.IP\n\n.TE\n.IP \\(bu\n\\&c\n",
+        output: b".IP a\n\n.TH x\n.IP a\n.br\n\nb\n.IP\ne\n.TS\n.IP\n\n.TE\n.IP \\(bu\n\\&c\n.TP\n.\\\"\nd\n.br\n\ne\n\n",
+        status: 0,
+        line: b"",
+    },
+    // Blanks after a font or a quote, with which a line begins, are printed.
+    Row {
+        words: &[b"preconv", b"blanks"],
+        output: b"\\fB\\& \\fIa b\n.RB \"\\& a\" \" b\"\n\\fBa b\n.TS\n\\fB a\n.TE\n",
         status: 0,
         line: b"",
     },

@@ -13,7 +13,7 @@ use Rattle.nr_preconv.specs.declared.half.Mark.{Mark}
 use Rattle.nr_preconv.specs.declared.half.Mark.TheVariants.{Other}
 use Rattle.nr_preconv.specs.declared.reader.Reader.{Reader}
 use Rattle.nr_preconv.specs.declared.reader.Pending.TheVariants.{Nothing}
-use Rattle.nr_preconv.specs.Half.{is_plain}
+use Rattle.nr_preconv.specs.Half.{is_plain, next_line}
 use Rattle.nr_preconv.specs.Hyphens.{mark_of, followed, placed, gone_by, turns_hyphens}
 use Rattle.nr_preconv.specs.declared.words.Words.{Words}
 use Rattle.nr_preconv.specs.declared.words.Place.{Place}
@@ -21,7 +21,7 @@ use Rattle.nr_preconv.specs.declared.words.Place.TheVariants.{Quoted}
 use Rattle.nr_preconv.specs.declared.words.Class.{Class}
 use Rattle.nr_preconv.specs.declared.words.Class.TheVariants.{Space, Quote, Other as AnyClass}
 use Rattle.nr_preconv.specs.Words.{class_of, goes_on_at, goes_on_with, goes_on_with_space, spaced_at, behind_space, is_ninth, words_at}
-use Rattle.nr_preconv.specs.Meeting.{is_raw, is_as_is, is_as_is_at, line_on, line_behind, line_taken, taken_as_is}
+use Rattle.nr_preconv.specs.Meeting.{is_raw, is_as_is, is_as_is_at, line_on, line_taken, taken_as_is}
 use Rattle.nr_preconv.specs.Reading.{told, with_half, read}
 use Rattle.nr_preconv.specs.Passing.{Passes}
 use Rattle.nr_preconv.specs.Runs.{goes_on_text, goes_on_word, run_at, run_len}
@@ -45,7 +45,6 @@ no_newline b p = grind (arith, nat_tests)
 run_in : Line → ℕ → Bool
 run_in lines.Text = goes_on_text
 run_in lines.Request = goes_on_text
-run_in lines.Paragraph = goes_on_text
 run_in lines.Stored = goes_on_text
 run_in lines.Translation = goes_on_text
 run_in (lines.Words words) = goes_on_word words
@@ -55,7 +54,6 @@ is_text : (l : Line) (b : ℕ) → run_in l b ≡ true → goes_on_text b ≡ tr
 unfolding run_in
 is_text lines.Text b p = p
 is_text lines.Request b p = p
-is_text lines.Paragraph b p = p
 is_text lines.Stored b p = p
 is_text lines.Translation b p = p
 is_text (lines.Words words) b p = and-first (goes_on_text b) (goes_on_with (class_of b) words) p
@@ -65,7 +63,6 @@ not_raw : (l : Line) (b : ℕ) → run_in l b ≡ true → is_raw l ≡ false
 unfolding run_in
 not_raw lines.Text b p = refl
 not_raw lines.Request b p = refl
-not_raw lines.Paragraph b p = refl
 not_raw lines.Stored b p = refl
 not_raw lines.Translation b p = refl
 not_raw (lines.Words words) b p = refl
@@ -79,7 +76,6 @@ stays : (l : Line) (b : ℕ) → run_in l b ≡ true → line_on l b ≡ l
 unfolding run_in
 stays lines.Text b p = refl
 stays lines.Request b p = refl
-stays lines.Paragraph b p = refl
 stays lines.Stored b p = refl
 stays lines.Translation b p = refl
 stays (lines.Words words) b p =
@@ -88,7 +84,7 @@ stays line b p = absurd (let no : false ≡ true = p in cc)
 
 same_line : (l : Line) (b : ℕ) → run_in l b ≡ true → line_taken l b ≡ l
 same_line l b p =
-    ap (λ (x : Bool). if x then line_behind l else line_on l b) (no_newline b (is_text l b p)) ∙ stays l b p
+    ap (λ (x : Bool). if x then lines.Start else line_on l b) (no_newline b (is_text l b p)) ∙ stays l b p
 
 or-true : (x : Bool) → (x || true) ≡ true
 or-true true = refl
@@ -107,7 +103,6 @@ spaces_by false y words p = p
 as_is_at : (l : Line) (b : ℕ) (h : Half) → run_in l b ≡ true → is_as_is_at l b h ≡ true
 unfolding run_in
 as_is_at lines.Request b h p = refl
-as_is_at lines.Paragraph b h p = refl
 as_is_at lines.Stored b h p = refl
 as_is_at lines.Translation b h p = refl
 as_is_at lines.Text b h p =
@@ -165,7 +160,7 @@ placed_escape x h = escape_by h.manual x h
 taken_is : (b : ℕ) (h : Half) → (b == code "\n") ≡ false → line_taken h.line b ≡ h.line → taken_as_is b h ≡ placed (mark_of b) h
 taken_is b h line same =
     ap (λ (l : Line). gone_by b (record h { line = l })) same
-    ∙ ap (λ (x : Bool). if x then record h { before = Character Other } else placed (mark_of b) h) line
+    ∙ ap (λ (x : Bool). if x then record h { before = Character Other; tag = next_line h.tag } else placed (mark_of b) h) line
 
 taken_twice : (a b : ℕ) (h : Half) → (a == code "\n") ≡ false → (b == code "\n") ≡ false → line_taken h.line a ≡ h.line → line_taken h.line b ≡ h.line
     → taken_as_is b (taken_as_is a h) ≡ taken_as_is b h
@@ -220,7 +215,6 @@ run_at-is : (l : Line) (bs : List ℕ) → 0 < run_at l bs → run_at l bs ≡ p
 unfolding run_in
 run_at-is lines.Text bs some = refl
 run_at-is lines.Request bs some = refl
-run_at-is lines.Paragraph bs some = refl
 run_at-is lines.Stored bs some = refl
 run_at-is lines.Translation bs some = refl
 run_at-is (lines.Words words) bs some = refl

@@ -23,13 +23,13 @@ use Rattle.nr_preconv.specs.declared.words.Class.TheVariants.{Space, Quote, Othe
 use Rattle.nr_preconv.specs.declared.reader.Reader.{Reader}
 use Rattle.nr_preconv.specs.declared.reader.Pending.{Pending}
 use Rattle.nr_preconv.specs.declared.reader.Pending.TheVariants as pendings
-use Rattle.nr_preconv.specs.Half.{Met, taken, left, is_plain}
+use Rattle.nr_preconv.specs.Half.{Met, taken, left, next_line, is_plain}
 use Rattle.nr_preconv.specs.Hyphens.{mark_of, followed, gone_by, saying, hyphen, turns_hyphens, in_text}
 use Rattle.nr_preconv.specs.Words.{goes_on_at, goes_on_with, goes_on_with_space, spaced_at, behind_space, begins_word, is_ninth, class_of, words_at, blank_by, met_at}
 use Rattle.nr_preconv.specs.Words.{is_as_is as word_as_is, taken_as_is as word_taken}
 use Rattle.nr_preconv.specs.Saying.{bytes_of, sent}
 use Rattle.nr_preconv.specs.Escapes.{in_escape}
-use Rattle.nr_preconv.specs.Lines.{is_control, control, as_met, among_words, at_start, in_words, in_rest, in_paragraph, in_line_at, in_line, takes_escape, passing}
+use Rattle.nr_preconv.specs.Lines.{is_control, control, as_met, among_words, follows_tag, breaking, at_start, behind_fonts, in_words, in_rest, in_line_at, in_line, takes_escape, passing}
 use Rattle.nr_preconv.specs.Meeting.{meet, plain_byte, beginning, is_raw, is_as_is_at, is_as_is, line_taken, taken_as_is}
 use Rattle.nr_preconv.specs.Reading.{Told, told, behind, then_told, heard, heard_in, with_half, pending_with, strays, fresh, heard_behind, heard_byte, read, fed, is_lead, stray}
 use Rattle.nr_preconv.specs.Passing.{Passes}
@@ -67,18 +67,33 @@ text_by false y b h m p = ap (λ (z : Bool). if z then m else saying b lines.Tex
 text_met : (b : ℕ) (h : Half) → (not (turns_hyphens h) || not (b == code "-")) ≡ true → in_text b h ≡ goes b (if b == code "\n" then lines.Start else lines.Text) h
 text_met b h p = text_by (b == code "\n") (turns_hyphens h && (b == code "-")) b h (hyphen lines.Text h) (not_both (turns_hyphens h) (b == code "-") p)
 
-start_by : (x y : Bool) (b : ℕ) (h : Half) (m : Met) → y ≡ false → in_text b h ≡ goes b (if x then lines.Start else lines.Text) h
-    → (if y then m else (if x then saying b lines.Start h else in_text b h)) ≡ goes b (if x then lines.Start else lines.Text) h
+start_by : (x y z : Bool) (b : ℕ) (h : Half) (m n : Met) → y ≡ false → (z && x) ≡ false → in_text b h ≡ goes b (if x then lines.Start else lines.Text) h
+    → (if y then m else (if x then (if z then n else saying b lines.Start h) else in_text b h)) ≡ goes b (if x then lines.Start else lines.Text) h
 unfolding goes
-start_by x true b h m p q = absurd (let no : true ≡ false = p in cc)
-start_by true false b h m p q = refl
-start_by false false b h m p q = q
+start_by x true z b h m n p r q = absurd (let no : true ≡ false = p in cc)
+start_by true false true b h m n p r q = absurd (let no : true ≡ false = r in cc)
+start_by true false false b h m n p r q = refl
+start_by false false z b h m n p r q = q
 
-start_met : (b : ℕ) (h : Half) → (not (is_control b) && (not (turns_hyphens h) || not (b == code "-"))) ≡ true
+start_met : (b : ℕ) (h : Half)
+    → (not (is_control b) && (not (turns_hyphens h) || not (b == code "-")) && not (follows_tag h && (b == code "\n"))) ≡ true
     → at_start b h ≡ goes b (if b == code "\n" then lines.Start else lines.Text) h
 start_met b h p =
-    start_by (b == code "\n") (is_control b) b h (control false b h) (is_not (is_control b) (and-first (not (is_control b)) (not (turns_hyphens h) || not (b == code "-")) p))
-    (text_met b h (and-second (not (is_control b)) (not (turns_hyphens h) || not (b == code "-")) p))
+    let plain = not (is_control b) in
+    let whole = not (turns_hyphens h) || not (b == code "-") in
+    let behind = follows_tag h && (b == code "\n") in
+    let two = and-first (plain && whole) (not behind) p in
+    start_by (b == code "\n") (is_control b) (follows_tag h) b h (control false b h) (breaking h)
+    (is_not (is_control b) (and-first plain whole two)) (is_not behind (and-second (plain && whole) (not behind) p)) (text_met b h (and-second plain whole two))
+
+fonts_met : (b : ℕ) (h : Half) → (not (b == code " ") && (not (turns_hyphens h) || not (b == code "-"))) ≡ true
+    → behind_fonts b h ≡ goes b (if b == code "\n" then lines.Start else lines.Text) h
+fonts_met b h p =
+    let blank = not (b == code " ") in
+    let whole = not (turns_hyphens h) || not (b == code "-") in
+    ap (λ (x : Bool). if x && not h.table then left (says.Escape (code "&")) (record h { line = lines.Text }) else in_text b h)
+    (is_not (b == code " ") (and-first blank whole p))
+    ∙ text_met b h (and-second blank whole p)
 
 -- ---- among words
 
@@ -157,15 +172,11 @@ rest_met : (l : Line) (b : ℕ) (h : Half) → h.line ≡ l → in_rest b h ≡ 
 unfolding goes
 rest_met l b h e = ap (λ (m : Line). saying b (if b == code "\n" then lines.Start else m) h) e
 
-paragraph_met : (b : ℕ) (h : Half) → in_paragraph b h ≡ goes b (if b == code "\n" then lines.Behind else lines.Paragraph) h
-unfolding goes
-paragraph_met b h = refl
-
 line_met : (line : Line) (b : ℕ) (h : Half) → h.line ≡ line → is_as_is_at line b h ≡ true → in_line_at line b h ≡ goes b (line_taken line b) h
 line_met lines.Request b h e p = rest_met lines.Request b h e
 line_met lines.Stored b h e p = rest_met lines.Stored b h e
 line_met lines.Translation b h e p = rest_met lines.Translation b h e
-line_met lines.Paragraph b h e p = paragraph_met b h
+line_met lines.Fonts b h e p = fonts_met b h p
 line_met lines.Text b h e p = text_met b h p
 line_met lines.Start b h e p = start_met b h p
 line_met (lines.Words words) b h e p = words_met words b h p
@@ -174,7 +185,7 @@ line_met line b h e p = absurd (let no : false ≡ true = p in cc)
 -- ---- what is half read then
 
 gone_as : Bool → Bool → ℕ → Half → Half
-gone_as x m b h = if x then record h { before = befores.Character marks.Other } else (if m then record h { before = followed (mark_of b) h.before } else h)
+gone_as x m b h = if x then record h { before = befores.Character marks.Other; tag = next_line h.tag } else (if m then record h { before = followed (mark_of b) h.before } else h)
 
 gone_line : (x m : Bool) (b : ℕ) (h : Half) (l : Line) → record (gone_as x m b h) { line = l } ≡ gone_as x m b (record h { line = l })
 unfolding gone_as

@@ -45,7 +45,7 @@ backslash_at : (l : Line) → takes_plain_at l ≡ true → takes_escape l ≡ t
 backslash_at lines.Start p = refl
 backslash_at lines.Text p = refl
 backslash_at lines.Request p = refl
-backslash_at lines.Paragraph p = refl
+backslash_at lines.Fonts p = refl
 backslash_at (lines.Words words) p = refl
 backslash_at line p = absurd (let no : false ≡ true = p in cc)
 
@@ -53,7 +53,7 @@ cooked_at : (l : Line) → takes_plain_at l ≡ true → is_raw l ≡ false
 cooked_at lines.Start p = refl
 cooked_at lines.Text p = refl
 cooked_at lines.Request p = refl
-cooked_at lines.Paragraph p = refl
+cooked_at lines.Fonts p = refl
 cooked_at (lines.Words words) p = refl
 cooked_at line p = absurd (let no : false ≡ true = p in cc)
 
@@ -61,7 +61,7 @@ ready_at : (l : Line) → takes_plain_at l ≡ true → waits l ≡ false
 ready_at lines.Start p = refl
 ready_at lines.Text p = refl
 ready_at lines.Request p = refl
-ready_at lines.Paragraph p = refl
+ready_at lines.Fonts p = refl
 ready_at (lines.Words words) p = is_not (begins_word words) p
 ready_at line p = absurd (let no : false ≡ true = p in cc)
 

@@ -34,13 +34,13 @@ group_of b =
     if b == code "N" then (16, 18) else
     if b == code "R" then (18, 21) else
     if b == code "S" then (21, 27) else
-    if b == code "T" then (27, 32) else
-    if b == code "U" then (32, 33) else
-    if b == code "a" then (33, 35) else
-    if b == code "d" then (35, 37) else
-    if b == code "e" then (37, 38) else
-    if b == code "i" then (38, 41) else
-    if b == code "t" then (41, 42) else
+    if b == code "T" then (27, 34) else
+    if b == code "U" then (34, 35) else
+    if b == code "a" then (35, 37) else
+    if b == code "d" then (37, 39) else
+    if b == code "e" then (39, 40) else
+    if b == code "i" then (40, 43) else
+    if b == code "t" then (43, 44) else
     (0, 0)
 
 abbrev pub group : ℕ → List (ℕ × ℕ × Opens)

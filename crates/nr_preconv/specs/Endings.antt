@@ -7,7 +7,7 @@ use Rattle.nr_preconv.specs.declared.said.Said.TheVariants as says
 use Rattle.nr_preconv.specs.declared.half.Half.{Half}
 use Rattle.nr_preconv.specs.declared.half.Escape.{Escape}
 use Rattle.nr_preconv.specs.declared.half.Mark.TheVariants.{Other}
-use Rattle.nr_preconv.specs.Half.{Met, taken, is_beginning, without_escape, in_text}
+use Rattle.nr_preconv.specs.Half.{Met, taken, is_beginning, without_escape, in_text, in_fonts}
 use Rattle.nr_preconv.specs.Hyphens.{placed}
 
 -- one byte more, of those that a name holds
@@ -26,6 +26,10 @@ going_on b escape h = taken says.Nothing (record (keeping b h) { escape = escape
 -- it has ended, and this is said for it
 abbrev pub ended : Said → Half → Met
 ended said h = taken said (in_text (without_escape h))
+
+-- it was that of a font
+abbrev pub ended_font : Said → Half → Met
+ended_font said h = taken said (in_fonts (without_escape h))
 
 -- it goes out as it was kept
 abbrev pub ended_kept : Half → Met

@@ -9,6 +9,8 @@ use Rattle.nr_preconv.specs.declared.half.Line.{Line}
 use Rattle.nr_preconv.specs.declared.half.Line.TheVariants as lines
 use Rattle.nr_preconv.specs.declared.half.Before.TheVariants.{Character}
 use Rattle.nr_preconv.specs.declared.half.Mark.TheVariants.{Other}
+use Rattle.nr_preconv.specs.declared.half.Tag.{Tag}
+use Rattle.nr_preconv.specs.declared.half.Tag.TheVariants as tags
 use Rattle.nr_preconv.specs.declared.half.Escape.{Escape}
 use Rattle.nr_preconv.specs.declared.half.Escape.TheVariants as escapes
 use Rattle.nr_preconv.specs.Likeness.{is_blank}
@@ -45,6 +47,7 @@ first_half =
       manual = false;
       table = false;
       before = Character Other;
+      tag = tags.Nowhere;
     }
 
 -- ---- where a line is read
@@ -62,7 +65,33 @@ is_text lines.Start = true
 is_text lines.Part = true
 is_text lines.Braced = true
 is_text lines.Text = true
+is_text lines.Fonts = true
 is_text line = false
+
+-- after something that is printed
+abbrev pub with_text : Line → Line
+with_text lines.Start = lines.Text
+with_text lines.Part = lines.Text
+with_text lines.Braced = lines.Text
+with_text lines.Fonts = lines.Text
+with_text line = line
+
+-- after a font
+abbrev pub with_font : Line → Line
+with_font lines.Start = lines.Fonts
+with_font lines.Part = lines.Fonts
+with_font lines.Braced = lines.Fonts
+with_font line = line
+
+-- in which line a tag stands when this one ends
+abbrev pub next_line : Tag → Tag
+next_line tags.InNext = tags.InThis
+next_line tags.InThis = tags.InLast
+next_line tag = tags.Nowhere
+
+abbrev pub is_in_last : Tag → Bool
+is_in_last tags.InLast = true
+is_in_last tag = false
 
 -- a blank that isn't what separates words
 abbrev pub is_space : ℕ → Bool
@@ -91,7 +120,11 @@ without_escape h = record h { escape = escapes.Plain; kept = []; spelled = [] }
 
 -- the text of a line has begun
 abbrev pub in_text : Half → Half
-in_text h = if is_beginning h.line then record h { line = lines.Text } else h
+in_text h = record h { line = with_text h.line }
+
+-- or nothing of it but fonts
+abbrev pub in_fonts : Half → Half
+in_fonts h = record h { line = with_font h.line }
 
 -- it is none: what was kept goes out, and the character that comes is read anew
 abbrev pub abandoned : Half → Met

@@ -13,7 +13,7 @@ use Rattle.nr_preconv.specs.declared.half.Mark.TheVariants.{Letter, Opening, Oth
 use Rattle.nr_preconv.specs.declared.half.Escape.TheVariants as escapes
 use Rattle.nr_preconv.specs.Numbers.{is_within}
 use Rattle.nr_preconv.specs.Likeness.{is_latin_letter}
-use Rattle.nr_preconv.specs.Half.{Met, taken, left, without_escape, abandoned}
+use Rattle.nr_preconv.specs.Half.{Met, taken, left, next_line, without_escape, abandoned}
 
 -- ---- letters
 
@@ -50,7 +50,8 @@ abbrev pub placed : Mark → Half → Half
 placed mark h = if h.manual then record h { before = followed mark h.before } else h
 
 abbrev pub gone_by : ℕ → Half → Half
-gone_by b h = if b == code "\n" then record h { before = Character Other } else placed (mark_of b) h
+gone_by b h =
+    if b == code "\n" then record h { before = Character Other; tag = next_line h.tag } else placed (mark_of b) h
 
 -- a word begins there that no blank stands before
 abbrev pub is_begun : Before → Bool

@@ -126,6 +126,7 @@ is_stored line = false
 
 abbrev pub is_text_line : Line → Bool
 is_text_line lines.Text = true
+is_text_line lines.Fonts = true
 is_text_line line = false
 
 -- In a definition, and in the text of a string, an escape may have several backslashes. In a text line a note hides its newline.

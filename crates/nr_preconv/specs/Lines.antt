@@ -3,10 +3,12 @@ use Prim.Native.Char.{code}
 use Rattle.std.specs.Prelude.{ℕ, List, [], ◌∷◌, ◌++◌, length, Bool, true, false, not, ◌==◌, ◌&&◌, ◌||◌, nat_le, if◌then◌else◌, codes}
 use Rattle.nr_units.specs.Name.{is_full}
 use Rattle.nr_preconv.specs.declared.said.Said.{Said}
-use Rattle.nr_preconv.specs.declared.said.Said.TheVariants.{Nothing, Byte, Kept}
+use Rattle.nr_preconv.specs.declared.said.Said.TheVariants.{Nothing, Byte, Escape, Kept}
 use Rattle.nr_preconv.specs.declared.half.Half.{Half}
 use Rattle.nr_preconv.specs.declared.half.Line.{Line}
 use Rattle.nr_preconv.specs.declared.half.Line.TheVariants as lines
+use Rattle.nr_preconv.specs.declared.half.Tag.{Tag}
+use Rattle.nr_preconv.specs.declared.half.Tag.TheVariants as tags
 use Rattle.nr_preconv.specs.declared.half.Dots.{Dots}
 use Rattle.nr_preconv.specs.declared.half.Dots.TheVariants as dots
 use Rattle.nr_preconv.specs.declared.beginnings.Opens.{Opens}
@@ -15,7 +17,7 @@ use Rattle.nr_preconv.specs.declared.words.Words.{Words}
 use Rattle.nr_preconv.specs.declared.words.Told.{Told}
 use Rattle.nr_preconv.specs.declared.words.Class.{Class}
 use Rattle.nr_preconv.specs.declared.words.Class.TheVariants.{Other}
-use Rattle.nr_preconv.specs.Half.{Met, taken, left, character_said}
+use Rattle.nr_preconv.specs.Half.{Met, taken, left, is_in_last, character_said}
 use Rattle.nr_preconv.specs.Beginnings.{opened, said_name}
 use Rattle.nr_preconv.specs.Hyphens.{wide_mark, placed, gone_by, saying, in_text, hyphen, turns_hyphens}
 use Rattle.nr_preconv.specs.Conditions.{is_gap, before_condition, in_number, in_strings, in_asked}
@@ -33,10 +35,24 @@ is_control b = (b == code ".") || (b == code "'")
 abbrev pub control : Bool → ℕ → Half → Met
 control conditional b h = saying b lines.Control (record h { name = []; conditional = conditional })
 
+-- the line before has the tag of a paragraph
+abbrev pub follows_tag : Half → Bool
+follows_tag h = turns_hyphens h && is_in_last h.tag
+
+-- Text stands beside the tag that waits for it. An empty line leaves it below, as a break does.
+abbrev pub breaking : Half → Met
+breaking h = left (Kept (codes ".br\n")) (record h { tag = tags.Nowhere })
+
 abbrev pub at_start : ℕ → Half → Met
 at_start b h =
     if is_control b then control false b h else
-    if b == code "\n" then saying b lines.Start h else in_text b h
+    if b == code "\n" then (if follows_tag h then breaking h else saying b lines.Start h) else in_text b h
+
+-- Blanks before the first word of a filled line are dropped. After fonts they are printed, as are those between words.
+abbrev pub behind_fonts : ℕ → Half → Met
+behind_fonts b h =
+    if (b == code " ") && not h.table then left (Escape (code "&")) (record h { line = lines.Text })
+    else in_text b h
 
 -- after a condition, where blanks are skipped
 abbrev pub at_part : ℕ → Half → Met
@@ -67,7 +83,8 @@ line_of opens.Rest ignores = lines.Request
 line_of opens.Definition ignores = lines.Request
 line_of opens.End ignores = lines.Request
 line_of opens.Title ignores = lines.Request
-line_of opens.Paragraph ignores = lines.Paragraph
+line_of opens.Paragraph ignores = lines.Request
+line_of opens.Tagged ignores = lines.Request
 line_of opens.Table ignores = lines.Request
 line_of opens.TableEnd ignores = lines.Request
 line_of opens.Ignored ignores = if ignores then lines.Ignored dots.Other else lines.Request
@@ -93,12 +110,19 @@ table_by opens.Table before = true
 table_by opens.TableEnd before = false
 table_by o before = before
 
+-- the tag of a paragraph stands in the same line, or is the next one
+abbrev pub tag_by : Opens → Tag → Tag
+tag_by opens.Paragraph tag = tags.InThis
+tag_by opens.Tagged tag = tags.InNext
+tag_by o tag = tag
+
 abbrev pub opening : Opens → ℕ → Half → Half
 opening o b h = record h {
   line = line_of o ((b == code "\n") && not h.conditional);
   defining = defining_by o h.defining;
   manual = manual_by o h;
   table = table_by o h.table;
+  tag = tag_by o h.tag;
 }
 
 -- the name goes out before the byte that ended it
@@ -115,15 +139,6 @@ in_name b h =
 
 abbrev pub in_rest : ℕ → Half → Met
 in_rest b h = saying b (if b == code "\n" then lines.Start else h.line) h
-
-abbrev pub in_paragraph : ℕ → Half → Met
-in_paragraph b h = saying b (if b == code "\n" then lines.Behind else lines.Paragraph) h
-
--- Text stands beside the tag that waits for it. An empty line leaves it below, as a break does.
-abbrev pub behind_paragraph : Bool → Half → Met
-behind_paragraph breaks h =
-    left (if breaks && turns_hyphens h then Kept (codes ".br\n") else Nothing)
-    (record h { line = lines.Start })
 
 abbrev pub as_met : Told → Half → Met
 as_met told h =
@@ -182,8 +197,7 @@ in_line_at lines.Braced b h = at_part b h
 in_line_at lines.Comment b h = taken (Byte b) (passing b h)
 in_line_at (lines.Ignored d) b h = taken (Byte b) (passing b h)
 in_line_at lines.Text b h = in_text b h
-in_line_at lines.Paragraph b h = in_paragraph b h
-in_line_at lines.Behind b h = behind_paragraph (b == code "\n") h
+in_line_at lines.Fonts b h = behind_fonts b h
 in_line_at line b h = in_rest b h
 
 abbrev pub in_line : ℕ → Half → Met
@@ -199,7 +213,7 @@ wide_at lines.Start c h = showing c lines.Text h
 wide_at lines.Part c h = showing c lines.Text h
 wide_at lines.Braced c h = showing c lines.Text h
 wide_at lines.Condition c h = showing c lines.Text h
-wide_at lines.Behind c h = behind_paragraph false h
+wide_at lines.Fonts c h = showing c lines.Text h
 wide_at lines.Control c h = blanks_said lines.Request h
 wide_at lines.Name c h = named_line (code " ") h
 wide_at (lines.Words words) c h =
@@ -215,7 +229,6 @@ wide_in_line c h = wide_at h.line c h
 abbrev pub takes_escape : Line → Bool
 takes_escape lines.Control = false
 takes_escape lines.Name = false
-takes_escape lines.Behind = false
 takes_escape (lines.Asked asked) = false
 takes_escape lines.Comment = false
 takes_escape (lines.Ignored dots) = false

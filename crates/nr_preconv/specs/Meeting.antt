@@ -13,7 +13,7 @@ use Rattle.nr_preconv.specs.Half.{Met, taken, abandoned, is_plain}
 use Rattle.nr_preconv.specs.Hyphens.{gone_by, turns_hyphens}
 use Rattle.nr_preconv.specs.Words.{is_as_is as word_as_is, taken_as_is as word_taken}
 use Rattle.nr_preconv.specs.Escapes.{in_escape}
-use Rattle.nr_preconv.specs.Lines.{is_control, in_line, wide_in_line, takes_escape}
+use Rattle.nr_preconv.specs.Lines.{is_control, follows_tag, in_line, wide_in_line, takes_escape}
 
 abbrev pub beginning : Half → Met
 beginning h = taken Nothing (record h { escape = escapes.Begun; kept = code "\\" ∷ []; spelled = [] })
@@ -45,11 +45,12 @@ meet (Wide c) h = meet_wide c h
 
 abbrev pub is_as_is_at : Line → ℕ → Half → Bool
 is_as_is_at lines.Request b h = true
-is_as_is_at lines.Paragraph b h = true
 is_as_is_at lines.Stored b h = true
 is_as_is_at lines.Translation b h = true
 is_as_is_at lines.Text b h = not (turns_hyphens h) || not (b == code "-")
-is_as_is_at lines.Start b h = not (is_control b) && (not (turns_hyphens h) || not (b == code "-"))
+is_as_is_at lines.Fonts b h = not (b == code " ") && (not (turns_hyphens h) || not (b == code "-"))
+is_as_is_at lines.Start b h =
+    not (is_control b) && (not (turns_hyphens h) || not (b == code "-")) && not (follows_tag h && (b == code "\n"))
 is_as_is_at (lines.Words words) b h = word_as_is b words
 is_as_is_at line b h = false
 
@@ -58,15 +59,12 @@ is_as_is b h = nat_lt b 127 && not (b == code "\\") && is_plain h.escape && is_a
 
 abbrev pub line_on : Line → ℕ → Line
 line_on lines.Start b = lines.Text
+line_on lines.Fonts b = lines.Text
 line_on (lines.Words words) b = lines.Words (word_taken b words)
 line_on line b = line
 
-abbrev pub line_behind : Line → Line
-line_behind lines.Paragraph = lines.Behind
-line_behind line = lines.Start
-
 abbrev pub line_taken : Line → ℕ → Line
-line_taken line b = if b == code "\n" then line_behind line else line_on line b
+line_taken line b = if b == code "\n" then lines.Start else line_on line b
 
 -- it is taken: its line goes on, or ends
 abbrev pub taken_as_is : ℕ → Half → Half

@@ -9,7 +9,7 @@ use Rattle.nr_preconv.specs.declared.half.Line.TheVariants as lines
 use Rattle.nr_preconv.specs.declared.words.Words.{Words}
 use Rattle.nr_preconv.specs.declared.half.Before.TheVariants.{Character}
 use Rattle.nr_preconv.specs.declared.half.Mark.TheVariants.{Other}
-use Rattle.nr_preconv.specs.Half.{is_plain, without_escape, in_text}
+use Rattle.nr_preconv.specs.Half.{is_plain, without_escape, in_text, in_fonts}
 use Rattle.nr_preconv.specs.Hyphens.{placed, gone_by}
 use Rattle.nr_preconv.specs.Numbers.{is_within}
 use Rattle.nr_preconv.specs.declared.beginnings.Opens.{Opens}
@@ -32,7 +32,6 @@ goes_on_word words b = goes_on_text b && goes_on_with (class_of b) words
 abbrev pub run_at : Line → List ℕ → ℕ
 run_at lines.Text bs = prefix_len goes_on_text bs
 run_at lines.Request bs = prefix_len goes_on_text bs
-run_at lines.Paragraph bs = prefix_len goes_on_text bs
 run_at lines.Stored bs = prefix_len goes_on_text bs
 run_at lines.Translation bs = prefix_len goes_on_text bs
 run_at (lines.Words words) bs = prefix_len (goes_on_word words) bs
@@ -124,9 +123,9 @@ behind_word w b h = record (gone_by b h) { line = lines.Words (inside w) }
 -- no word begins with it
 abbrev pub takes_plain_at : Line → Bool
 takes_plain_at lines.Start = true
+takes_plain_at lines.Fonts = true
 takes_plain_at lines.Text = true
 takes_plain_at lines.Request = true
-takes_plain_at lines.Paragraph = true
 takes_plain_at (lines.Words words) = not (begins_word words)
 takes_plain_at line = false
 
@@ -154,7 +153,7 @@ begins_font (a ∷ b ∷ c ∷ bs) = (a == code "\\") && (b == code "f") && is_f
 
 -- what is half read then
 abbrev pub behind_font : Half → Half
-behind_font h = in_text (without_escape h)
+behind_font h = in_fonts (without_escape h)
 
 abbrev pub behind_kept : Half → Half
-behind_kept h = behind_font (placed Other h)
+behind_kept h = in_text (without_escape (placed Other h))

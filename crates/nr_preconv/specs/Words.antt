@@ -3,13 +3,13 @@
 use Prim.Native.Char.{code}
 use Rattle.std.specs.Prelude.{ℕ, ◌+◌, Bool, true, false, not, ◌==◌, ◌&&◌, nat_le, if◌then◌else◌}
 use Rattle.nr_preconv.specs.declared.said.Said.{Said}
-use Rattle.nr_preconv.specs.declared.said.Said.TheVariants.{Nothing, Byte, Quotes, Font}
+use Rattle.nr_preconv.specs.declared.said.Said.TheVariants.{Nothing, Byte, Escape, Quotes, Font}
 use Rattle.nr_preconv.specs.declared.words.Words.{Words}
 use Rattle.nr_preconv.specs.declared.words.Told.{Told}
 use Rattle.nr_preconv.specs.declared.words.Fonts.{Fonts}
 use Rattle.nr_preconv.specs.declared.words.Fonts.TheVariants.{One, Turn}
 use Rattle.nr_preconv.specs.declared.words.Place.{Place}
-use Rattle.nr_preconv.specs.declared.words.Place.TheVariants.{Between, Begun, Inside, Quoted, Closing}
+use Rattle.nr_preconv.specs.declared.words.Place.TheVariants.{Between, Begun, Opened, Inside, Quoted, Closing}
 use Rattle.nr_preconv.specs.declared.words.Class.{Class}
 use Rattle.nr_preconv.specs.declared.words.Class.TheVariants.{Space, Quote, Other}
 
@@ -26,6 +26,7 @@ is_ninth w = nat_le 9 w.count
 abbrev pub begins_at : Place → Bool
 begins_at Between = true
 begins_at Begun = true
+begins_at Opened = true
 begins_at Closing = true
 begins_at place = false
 
@@ -120,15 +121,22 @@ met_closing Quote said w = told Quoted (quoted_said said Quotes w) true w
 met_closing Space said w = told Between (blank_said said w) true w
 met_closing Other said w = told Between (blank_said (Byte (code " ")) w) false w
 
+-- After a quote with which a word begins. Blanks before the first word of a filled line are dropped: after the first quote
+-- they are printed, as are those between words.
+abbrev pub behind_quote : Words → Place
+behind_quote w = if w.count == 1 then Opened else Quoted
+
 -- by where it comes, and what it is
 abbrev pub met_at : Place → Class → Said → Words → Told
 met_at Between Space said w = told Between (blank_said said w) true w
 met_at Between class said w = begun w
-met_at Begun Quote said w = told Quoted (quoted_said said Nothing w) true w
+met_at Begun Quote said w = told (behind_quote w) (quoted_said said Nothing w) true w
 met_at Begun class said w = told Inside Nothing false w
 met_at Inside Space said w = told Between (blank_said said w) true w
 met_at Inside Quote said w = told Inside (quoted_said said Quotes w) true w
 met_at Inside Other said w = told Inside said true w
+met_at Opened Space said w = told Quoted (Escape (code "&")) false w
+met_at Opened class said w = told Quoted Nothing false w
 met_at Quoted Quote said w = told Closing (quoted_said said Nothing w) true w
 met_at Quoted class said w = told Quoted said true w
 met_at Closing class said w = met_closing class said w

@@ -34,6 +34,8 @@ pub(crate) enum Opens {
     Title,
     /// A paragraph with a tag in the same line.
     Paragraph,
+    /// A paragraph whose tag is the next line.
+    Tagged,
     /// A table.
     Table,
     /// Its end.
@@ -56,7 +58,7 @@ impl Opens {
 }
 
 /// The names that are of account here, those with the same first byte side by side.
-static OPENING: [(u8, u8, Opens); 42] = [
+static OPENING: [(u8, u8, Opens); 44] = [
     (b'.', b' ', Opens::End),
     (b'A', b'U', Opens::Words(Fonts::One)),
     (b'A', b'I', Opens::Words(Fonts::One)),
@@ -85,6 +87,8 @@ static OPENING: [(u8, u8, Opens); 42] = [
     (b'S', b'U', Opens::Words(Fonts::One)),
     (b'S', b'G', Opens::Words(Fonts::One)),
     (b'T', b'H', Opens::Title),
+    (b'T', b'P', Opens::Tagged),
+    (b'T', b'Q', Opens::Tagged),
     (b'T', b'S', Opens::Table),
     (b'T', b'E', Opens::TableEnd),
     (b'T', b'L', Opens::Words(Fonts::One)),
@@ -223,7 +227,7 @@ fn known_entry(name: &[u8]) -> Option<bool>
 fn group_of(first: u8) -> (usize, usize)
     ensures value { result ≡ group_of first }
     ensures within { result.0 ≤ result.1 }
-    ensures few { result.1 ≤ 42 }
+    ensures few { result.1 ≤ 44 }
 {
     match first {
         b'.' => (0, 1),
@@ -237,13 +241,13 @@ fn group_of(first: u8) -> (usize, usize)
         b'N' => (16, 18),
         b'R' => (18, 21),
         b'S' => (21, 27),
-        b'T' => (27, 32),
-        b'U' => (32, 33),
-        b'a' => (33, 35),
-        b'd' => (35, 37),
-        b'e' => (37, 38),
-        b'i' => (38, 41),
-        b't' => (41, 42),
+        b'T' => (27, 34),
+        b'U' => (34, 35),
+        b'a' => (35, 37),
+        b'd' => (37, 39),
+        b'e' => (39, 40),
+        b'i' => (40, 43),
+        b't' => (43, 44),
         _ => (0, 0),
     }
 }

@@ -3,7 +3,7 @@ ghost use Rattle.std.specs.Prelude.{◌≡◌};
 ghost use Rattle.nr_preconv.specs.Half.{abandoned, met, without_escape};
 ghost use Rattle.nr_preconv.specs.Endings as specs;
 
-use super::half::{Escape, Half, Line, Mark, Seen};
+use super::half::{Escape, Half, Mark, Seen};
 use super::said::Said;
 use nr_units::Name;
 
@@ -48,9 +48,16 @@ impl Half {
         ensures { met self.new result ≡ specs.ended said self.old }
     {
         self.forget();
-        if self.line.is_beginning() {
-            self.line = Line::Text;
-        }
+        self.line = self.line.with_text();
+        Seen::taken(said)
+    }
+
+    /// It was that of a font, for which this is said.
+    pub(crate) fn ended_font(&mut self, said: Said) -> Seen
+        ensures { met self.new result ≡ specs.ended_font said self.old }
+    {
+        self.forget();
+        self.line = self.line.with_font();
         Seen::taken(said)
     }
 

@@ -1,7 +1,7 @@
 //! What is half read of a page.
 ghost use Rattle.std.specs.Prelude.{◌≡◌, true, false};
 ghost use Rattle.nr_preconv.specs.Named.{is_delimited};
-ghost use Rattle.nr_preconv.specs.Half.{character_said, first_half, is_beginning, is_space, is_text, takes_brace};
+ghost use Rattle.nr_preconv.specs.Half.{character_said, first_half, is_beginning, is_space, is_text, next_line, takes_brace, with_font, with_text};
 
 use super::likeness::is_blank;
 use super::said::Said;
@@ -19,12 +19,10 @@ pub(crate) enum Line {
     Name,
     /// In a text line.
     Text,
+    /// In a text line of which nothing but fonts was read.
+    Fonts,
     /// In the rest of a control line.
     Request,
-    /// In the rest of a line `.IP`, after which a paragraph begins.
-    Paragraph,
-    /// At the beginning of the line after one.
-    Behind,
     /// In the text of a string, which may have two backslashes for one.
     Stored,
     /// In a line of `.tr`.
@@ -91,6 +89,19 @@ pub(crate) enum Before {
     Character(Mark),
     /// Anything, after an escape with a number or a text: up to the end of the line hyphens stay as they are.
     Argument,
+}
+
+/// In which line the tag of a paragraph stands, beside which its text may begin.
+#[derive(Clone, Copy)]
+pub(crate) enum Tag {
+    /// In none of these.
+    Nowhere,
+    /// In the next line.
+    InNext,
+    /// In this line.
+    InThis,
+    /// In the line before.
+    InLast,
 }
 
 /// What part of an escape is half read.
@@ -203,6 +214,8 @@ pub(crate) struct Half {
     pub table: bool,
     /// What stands before the next character, where it is a manual page.
     pub before: Before,
+    /// In which line a tag stands.
+    pub tag: Tag,
 }
 
 impl Seen {
@@ -233,7 +246,30 @@ impl Line {
     pub(crate) fn is_text(self) -> bool
         ensures { result ≡ is_text self }
     {
-        matches!(self, Line::Start | Line::Part | Line::Braced | Line::Text)
+        matches!(
+            self,
+            Line::Start | Line::Part | Line::Braced | Line::Text | Line::Fonts
+        )
+    }
+
+    /// The line after something that is printed.
+    pub(crate) fn with_text(self) -> Line
+        ensures { result ≡ with_text self }
+    {
+        match self {
+            Line::Start | Line::Part | Line::Braced | Line::Fonts => Line::Text,
+            line => line,
+        }
+    }
+
+    /// The line after a font.
+    pub(crate) fn with_font(self) -> Line
+        ensures { result ≡ with_font self }
+    {
+        match self {
+            Line::Start | Line::Part | Line::Braced => Line::Fonts,
+            line => line,
+        }
     }
 
     /// What is said for a character: a blank must not end a word of a control line.
@@ -255,6 +291,19 @@ impl Line {
             self,
             Line::Part | Line::Braced | Line::Number | Line::Strings(_, _)
         )
+    }
+}
+
+impl Tag {
+    /// In which line it stands when this one ends.
+    pub(crate) fn next_line(self) -> Tag
+        ensures { result ≡ next_line self }
+    {
+        match self {
+            Tag::InNext => Tag::InThis,
+            Tag::InThis => Tag::InLast,
+            _ => Tag::Nowhere,
+        }
     }
 }
 
@@ -285,6 +334,7 @@ impl Half {
             manual: false,
             table: false,
             before: Before::Character(Mark::Other),
+            tag: Tag::Nowhere,
         }
     }
 }

@@ -96,11 +96,13 @@ impl Half {
     }
 
     /// A byte is read.
+    #[inline(always)]
     pub(crate) fn goes_by(&mut self, byte: u8)
         ensures { self.new ≡ specs.gone_by byte self.old }
     {
         if byte == b'\n' {
             self.before = Before::Character(Mark::Other);
+            self.tag = self.tag.next_line();
         } else {
             self.places(mark_of(byte));
         }

@@ -195,7 +195,7 @@ impl Half {
                 let kept = self.kept;
                 self.comment(Said::Kept(kept))
             }
-            b'#' if matches!(self.line, Line::Text) => {
+            b'#' if matches!(self.line, Line::Text | Line::Fonts) => {
                 self.escape = Escape::Note;
                 Seen::taken(Said::Nothing)
             }

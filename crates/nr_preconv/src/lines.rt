@@ -4,7 +4,7 @@ ghost use Rattle.nr_preconv.specs.Half.{met};
 ghost use Rattle.nr_preconv.specs.Lines as specs;
 
 use super::beginnings::{Opens, opened, said_name};
-use super::half::{Dots, Half, Line, Seen};
+use super::half::{Dots, Half, Line, Seen, Tag};
 use super::hyphens::wide_mark;
 use super::said::Said;
 use super::words::{Class, Words};
@@ -27,12 +27,28 @@ impl Half {
         self.says(byte, Line::Control)
     }
 
+    /// Whether this line of a manual page follows that of a tag.
+    pub(crate) fn follows_tag(&self) -> bool
+        ensures { result ≡ specs.follows_tag self.now }
+    {
+        self.turns_hyphens() && matches!(self.tag, Tag::InLast)
+    }
+
+    /// A break comes first: what stands next doesn't stand beside the tag.
+    fn breaks(&mut self) -> Seen
+        ensures { met self.new result ≡ specs.breaking self.old }
+    {
+        self.tag = Tag::Nowhere;
+        Seen::left(Said::Kept(Name::of(b".br\n")))
+    }
+
     /// A byte at the beginning of a line.
     fn at_start(&mut self, byte: u8) -> Seen
         ensures { met self.new result ≡ specs.at_start byte self.old }
     {
         match byte {
             b'.' | b'\'' => self.control(false, byte),
+            b'\n' if self.follows_tag() => self.breaks(),
             b'\n' => self.says(byte, Line::Start),
             _ => self.in_text(byte),
         }
@@ -101,8 +117,8 @@ impl Half {
     {
         self.line = match opens {
             Opens::Rest | Opens::Definition | Opens::End => Line::Request,
+            Opens::Paragraph | Opens::Tagged => Line::Request,
             Opens::Title | Opens::Table | Opens::TableEnd => Line::Request,
-            Opens::Paragraph => Line::Paragraph,
             Opens::Ignored if byte == b'\n' && !self.conditional => Line::Ignored(Dots::Other),
             Opens::Ignored => Line::Request,
             Opens::Condition => Line::Condition,
@@ -115,6 +131,11 @@ impl Half {
             Opens::Definition => true,
             Opens::End => false,
             _ => self.defining,
+        };
+        self.tag = match opens {
+            Opens::Paragraph => Tag::InThis,
+            Opens::Tagged => Tag::InNext,
+            _ => self.tag,
         };
         match opens {
             Opens::Title if !self.table => self.manual = true,
@@ -158,27 +179,15 @@ impl Half {
         self.says(byte, line)
     }
 
-    /// A byte of the rest of a line `.IP`.
-    fn in_paragraph(&mut self, byte: u8) -> Seen
-        ensures { met self.new result ≡ specs.in_paragraph byte self.old }
+    /// A byte of a text line of which only fonts were read. Blanks there are printed, as are those between words.
+    fn behind_fonts(&mut self, byte: u8) -> Seen
+        ensures { met self.new result ≡ specs.behind_fonts byte self.old }
     {
-        let line = if byte == b'\n' {
-            Line::Behind
-        } else {
-            Line::Paragraph
-        };
-        self.says(byte, line)
-    }
-
-    /// The line after one begins as any other, but in a manual page an empty one breaks first.
-    fn behind_paragraph(&mut self, breaks: bool) -> Seen
-        ensures { met self.new result ≡ specs.behind_paragraph breaks self.old }
-    {
-        self.line = Line::Start;
-        if breaks && self.turns_hyphens() {
-            return Seen::left(Said::Kept(Name::of(b".br\n")));
+        if byte == b' ' && !self.table {
+            self.line = Line::Text;
+            return Seen::left(Said::Escape(b'&'));
         }
-        Seen::left(Said::Nothing)
+        self.in_text(byte)
     }
 
     /// A character among words that goes out as `said` elsewhere.
@@ -246,8 +255,7 @@ impl Half {
             Line::Part | Line::Braced => self.at_part(byte),
             Line::Text => self.in_text(byte),
             Line::Request | Line::Stored | Line::Translation => self.in_rest(byte),
-            Line::Paragraph => self.in_paragraph(byte),
-            Line::Behind => self.behind_paragraph(byte == b'\n'),
+            Line::Fonts => self.behind_fonts(byte),
             Line::Comment | Line::Ignored(_) => {
                 self.passes(byte);
                 Seen::taken(Said::Byte(byte))
@@ -270,11 +278,10 @@ impl Half {
         ensures { met self.new result ≡ specs.wide_in_line code self.old }
     {
         match self.line {
-            Line::Start | Line::Part | Line::Braced | Line::Condition => self.shows(
+            Line::Start | Line::Part | Line::Braced | Line::Condition | Line::Fonts => self.shows(
                 code,
                 Line::Text,
             ),
-            Line::Behind => self.behind_paragraph(false),
             Line::Control => self.blanks_said(Line::Request),
             Line::Name => self.named_line(b' '),
             Line::Words(words) => {
@@ -292,12 +299,7 @@ impl Half {
     {
         !matches!(
             self.line,
-            Line::Control
-                | Line::Name
-                | Line::Behind
-                | Line::Asked(_)
-                | Line::Comment
-                | Line::Ignored(_)
+            Line::Control | Line::Name | Line::Asked(_) | Line::Comment | Line::Ignored(_)
         )
     }
 }

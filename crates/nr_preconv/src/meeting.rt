@@ -14,9 +14,8 @@ impl Line {
         ensures { result ≡ specs.line_taken self byte }
     {
         match self {
-            Line::Paragraph if byte == b'\n' => Line::Behind,
             _ if byte == b'\n' => Line::Start,
-            Line::Start => Line::Text,
+            Line::Start | Line::Fonts => Line::Text,
             Line::Words(words) => Line::Words(words.taken(byte)),
             line => line,
         }
@@ -81,10 +80,13 @@ impl Half {
             return false;
         }
         match self.line {
-            Line::Request | Line::Paragraph | Line::Stored | Line::Translation => true,
+            Line::Request | Line::Stored | Line::Translation => true,
             Line::Text => !self.turns_hyphens() || byte != b'-',
+            Line::Fonts => byte != b' ' && (!self.turns_hyphens() || byte != b'-'),
             Line::Start => {
-                !matches!(byte, b'.' | b'\'') && (!self.turns_hyphens() || byte != b'-')
+                !matches!(byte, b'.' | b'\'')
+                    && (!self.turns_hyphens() || byte != b'-')
+                    && !(byte == b'\n' && self.follows_tag())
             }
             Line::Words(words) => words.takes_as_is(byte),
             _ => false,

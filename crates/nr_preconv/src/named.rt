@@ -156,7 +156,7 @@ impl Half {
         match kind {
             Kind::Glyph => self.glyph(),
             Kind::Code => self.numbered(),
-            Kind::Font => self.ended(Said::Font(font_of(name.as_bytes()))),
+            Kind::Font => self.ended_font(Said::Font(font_of(name.as_bytes()))),
             Kind::Register if is_pair(name.as_bytes(), b'.', b'g') => {
                 self.places(Mark::Other);
                 self.ended(Said::Byte(b'1'))

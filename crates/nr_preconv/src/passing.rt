@@ -146,8 +146,8 @@ impl Reader {
             return 0;
         }
         match self.half.line {
-            Line::Start => self.pass_line(bytes),
-            Line::Text | Line::Request | Line::Paragraph => self.pass_text(bytes),
+            Line::Start | Line::Fonts => self.pass_line(bytes),
+            Line::Text | Line::Request => self.pass_text(bytes),
             Line::Stored | Line::Translation | Line::Words(_) => self.pass_text(bytes),
             Line::Comment | Line::Ignored(_) => self.pass_raw(bytes),
             _ => 0,

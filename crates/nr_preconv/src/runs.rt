@@ -87,8 +87,7 @@ impl Half {
             return 0;
         }
         match self.line {
-            Line::Text | Line::Request | Line::Paragraph => text_run(bytes),
-            Line::Stored | Line::Translation => text_run(bytes),
+            Line::Text | Line::Request | Line::Stored | Line::Translation => text_run(bytes),
             Line::Words(words) => word_run(words, bytes),
             _ => 0,
         }
@@ -169,7 +168,7 @@ impl Half {
             return false;
         }
         match self.line {
-            Line::Start | Line::Text | Line::Request | Line::Paragraph => true,
+            Line::Start | Line::Fonts | Line::Text | Line::Request => true,
             Line::Words(words) => !words.begins_word(),
             _ => false,
         }
@@ -180,9 +179,7 @@ impl Half {
         ensures { self.new ≡ specs.behind_font self.old }
     {
         self.forget();
-        if self.line.is_beginning() {
-            self.line = Line::Text;
-        }
+        self.line = self.line.with_font();
     }
 
     /// Takes an escape of two bytes that goes out as it is.
@@ -190,7 +187,8 @@ impl Half {
         ensures { self.new ≡ specs.behind_kept self.old }
     {
         self.places(Mark::Other);
-        self.takes_font();
+        self.forget();
+        self.line = self.line.with_text();
     }
 }
 

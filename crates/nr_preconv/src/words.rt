@@ -1,7 +1,7 @@
 //! The words of a font macro's line. After the eighth all that follows is one word in quotes, since no
 //! more than nine are taken.
 ghost use Rattle.std.specs.Prelude.{◌≡◌, ◌<◌};
-ghost use Rattle.nr_preconv.specs.Words.{begun, begins_word, blank_said, class_of, first_words, font_said, goes_on_with, goes_on_with_space, inside, is_as_is, is_ninth, met_closing, met_words, quoted_said, taken_as_is, told, words_at};
+ghost use Rattle.nr_preconv.specs.Words.{begun, begins_word, behind_quote, blank_said, class_of, first_words, font_said, goes_on_with, goes_on_with_space, inside, is_as_is, is_ninth, met_closing, met_words, quoted_said, taken_as_is, told, words_at};
 
 use super::said::Said;
 
@@ -23,6 +23,8 @@ pub(crate) enum Place {
     Begun,
     /// In a word.
     Inside,
+    /// After the quote that opens the first word.
+    Opened,
     /// In a word between quotes.
     Quoted,
     /// After a quote that may be its last.
@@ -101,7 +103,10 @@ impl Words {
     pub(crate) fn begins_word(self) -> bool
         ensures { result ≡ begins_word self }
     {
-        matches!(self.place, Place::Between | Place::Begun | Place::Closing)
+        matches!(
+            self.place,
+            Place::Between | Place::Begun | Place::Opened | Place::Closing
+        )
     }
 
     fn told(self, place: Place, said: Said, takes: bool) -> Told
@@ -176,6 +181,17 @@ impl Words {
         ensures { result ≡ quoted_said said ninth self }
     {
         if self.is_ninth() { ninth } else { said }
+    }
+
+    /// After a quote with which a word begins. Blanks there are printed, as are those between words.
+    fn behind_quote(self) -> Place
+        ensures { result ≡ behind_quote self }
+    {
+        if self.count == 1 {
+            Place::Opened
+        } else {
+            Place::Quoted
+        }
     }
 
     /// What a character does right after a quote that may be the last of its word.
@@ -267,7 +283,7 @@ impl Words {
             ),
             (Place::Between, _) => self.begun(),
             (Place::Begun, Class::Quote) => self.told(
-                Place::Quoted,
+                self.behind_quote(),
                 self.quoted_said(said, Said::Nothing),
                 true,
             ),
@@ -279,6 +295,8 @@ impl Words {
                 true,
             ),
             (Place::Inside, Class::Other) => self.told(Place::Inside, said, true),
+            (Place::Opened, Class::Space) => self.told(Place::Quoted, Said::Escape(b'&'), false),
+            (Place::Opened, _) => self.told(Place::Quoted, Said::Nothing, false),
             (Place::Quoted, Class::Quote) => self.told(
                 Place::Closing,
                 self.quoted_said(said, Said::Nothing),
