@@ -151,10 +151,10 @@ static ROWS: [Row; 29] = [
         status: 0,
         line: b"",
     },
-    // In a manual page an empty line after the tag of a paragraph breaks first, but in a table.
+    // In a manual page an empty line after the tag of a paragraph is a request, but in a table.
     Row {
         words: &[b"preconv", b"tags"],
-        output: b".IP a\n\n.TH x\n.IP a\n.br\n\nb\n.IP\ne\n.TS\n.IP\n\n.TE\n.IP \\(bu\n\\&c\n.TP\n.\\\"\nd\n.br\n\ne\n\n",
+        output: b".IP a\n\n.TH x\n.IP a\n.sp\nb\n.IP\ne\n.TS\n.IP\n\n.TE\n.IP \\(bu\n\\&c\n.TP\n.\\\"\nd\n.sp\ne\n\n",
         status: 0,
         line: b"",
     },

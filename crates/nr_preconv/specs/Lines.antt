@@ -39,9 +39,9 @@ control conditional b h = saying b lines.Control (record h { name = []; conditio
 abbrev pub follows_tag : Half → Bool
 follows_tag h = turns_hyphens h && is_in_last h.tag
 
--- Text stands beside the tag that waits for it. An empty line leaves it below, as a break does.
+-- Text stands beside the tag that waits for it, where an empty line would only end a word. The request breaks.
 abbrev pub breaking : Half → Met
-breaking h = left (Kept (codes ".br\n")) (record h { tag = tags.Nowhere })
+breaking h = left (Kept (codes ".sp")) (record h { tag = tags.Nowhere })
 
 abbrev pub at_start : ℕ → Half → Met
 at_start b h =

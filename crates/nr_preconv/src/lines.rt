@@ -34,12 +34,12 @@ impl Half {
         self.turns_hyphens() && matches!(self.tag, Tag::InLast)
     }
 
-    /// A break comes first: what stands next doesn't stand beside the tag.
+    /// An empty line becomes a request of the same, which breaks also where text stands beside the tag.
     fn breaks(&mut self) -> Seen
         ensures { met self.new result ≡ specs.breaking self.old }
     {
         self.tag = Tag::Nowhere;
-        Seen::left(Said::Kept(Name::of(b".br\n")))
+        Seen::left(Said::Kept(Name::of(b".sp")))
     }
 
     /// A byte at the beginning of a line.
