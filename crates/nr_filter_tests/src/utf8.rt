@@ -12,7 +12,7 @@ struct Row {
     line: &'static [u8],
 }
 
-static TEXTS: [(&str, Page<'static>); 12] = [
+static TEXTS: [(&str, Page<'static>); 13] = [
     ("underlined", Page::Bytes(b"_\x08a_\x08b c__\x08_\n_")),
     ("hostile", Page::Bytes(b"\x1b[1m\x08\x7f_\x08-\x00\r\n\xff")),
     ("half", Page::Bytes(b"a_\x08")),
@@ -28,9 +28,10 @@ static TEXTS: [(&str, Page<'static>); 12] = [
     ("letters", Page::Bytes(b"\\(oeuvre \\[/l]")),
     ("accents", Page::Bytes(b"\\'a \\(14 \xe2\x80\x94")),
     ("ordinals", Page::Bytes(b"N\\(Om 1\xc2\xaa")),
+    ("arrow", Page::Bytes(b"a \xe2\x86\x92 b")),
 ];
 
-static ROWS: [Row; 27] = [
+static ROWS: [Row; 28] = [
     Row {
         words: &[b"utf8", b"latin"],
         output: b"caf\xc3\xa9_",
@@ -146,6 +147,13 @@ static ROWS: [Row; 27] = [
     Row {
         words: &[b"utf8", b"--choose", b"ordinals"],
         output: b"latin\n",
+        status: 0,
+        line: b"",
+    },
+    // Of two that have as many, the one that draws boxes.
+    Row {
+        words: &[b"utf8", b"--choose", b"arrow"],
+        output: b"english\n",
         status: 0,
         line: b"",
     },

@@ -115,10 +115,10 @@ better_same page counts h long s t =
 
 fullest_same : (page counts : List ℕ) → Counts page (length page) counts → length counts ≡ 10240 → fullest_by counts ≡ fullest page
 fullest_same page counts h long =
-    let european = better_same page counts h long Latin English in
-    let second : better_by counts (better_by counts Latin English) Cyrillic ≡ better page (better page Latin English) Cyrillic =
-    ap (λ (t : Table). better_by counts t Cyrillic) european ∙ better_same page counts h long (better page Latin English) Cyrillic in
-    ap (λ (t : Table). better_by counts t Greek) second ∙ better_same page counts h long (better page (better page Latin English) Cyrillic) Greek
+    let european = better_same page counts h long English Latin in
+    let second : better_by counts (better_by counts English Latin) Cyrillic ≡ better page (better page English Latin) Cyrillic =
+    ap (λ (t : Table). better_by counts t Cyrillic) european ∙ better_same page counts h long (better page English Latin) Cyrillic in
+    ap (λ (t : Table). better_by counts t Greek) second ∙ better_same page counts h long (better page (better page English Latin) Cyrillic) Greek
 
 pub chosen-same : (page counts : List ℕ) → Counts page (length page) counts → length counts ≡ 10240 → chosen_by counts ≡ chosen page
 chosen-same page counts h long =
@@ -144,12 +144,12 @@ best_by page n Latin1 is e l c g = absurd is
 
 fullest_best : (page : List ℕ) → IsBest page (fullest page)
 fullest_best page other is =
-    let european = better page Latin English in
+    let european = better page English Latin in
     let slavic = better page european Cyrillic in
-    let a = more page Latin English in
+    let a = more page English Latin in
     let b = more page european Cyrillic in
     let c = more page slavic Greek in
-    best_by page (covered page (fullest page)) other is (omega (arith, a.1, b.0, c.0)) (omega (arith, a.0, b.0, c.0)) (omega (arith, b.1, c.0)) c.1
+    best_by page (covered page (fullest page)) other is (omega (arith, a.0, b.0, c.0)) (omega (arith, a.1, b.0, c.0)) (omega (arith, b.1, c.0)) c.1
 
 zero_is : (n : ℕ) → (n == 0) ≡ true → n ≡ 0
 zero_is n p = grind (arith, nat_tests)

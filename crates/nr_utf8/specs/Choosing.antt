@@ -68,9 +68,9 @@ better page first second = if nat_lt (covered page first) (covered page second) 
 abbrev pub if_any : ℕ → Table → Table
 if_any count table = if count == 0 then English else table
 
--- the one that has most, the first of these where several have as many
+-- The one that has most; where several have as many, the first of these: `english` draws boxes and `latin` does not.
 abbrev pub fullest : List ℕ → Table
-fullest page = better page (better page (better page Latin English) Cyrillic) Greek
+fullest page = better page (better page (better page English Latin) Cyrillic) Greek
 
 abbrev pub chosen : List ℕ → Table
 chosen page = if_any (covered page (fullest page)) (fullest page)
@@ -112,7 +112,7 @@ better_by counts first second =
     if nat_lt (covered_by counts first) (covered_by counts second) then second else first
 
 abbrev pub fullest_by : List ℕ → Table
-fullest_by counts = better_by counts (better_by counts (better_by counts Latin English) Cyrillic) Greek
+fullest_by counts = better_by counts (better_by counts (better_by counts English Latin) Cyrillic) Greek
 
 abbrev pub chosen_by : List ℕ → Table
 chosen_by counts = if_any (covered_by counts (fullest_by counts)) (fullest_by counts)

@@ -158,7 +158,7 @@ fn better(first: Table, second: Table, counts: &[u32]) -> Table
 fn fullest(counts: &[u32]) -> Table
     ensures { result ≡ specs.fullest_by counts.now }
 {
-    let european = better(Table::Latin, Table::English, counts);
+    let european = better(Table::English, Table::Latin, counts);
     better(
         better(european, Table::Cyrillic, counts),
         Table::Greek,
@@ -197,8 +197,8 @@ fn read_front<R: Source>(input: &mut R, page: &mut SliceVec<'_, u8>) -> Result<(
 }
 
 /// Chooses a table for a page, by its first 65,536 bytes: the one that has most of the characters of UTF-8 in them, and
-/// of those that are named and that only some tables have; the first of `latin`, `english`, `cyrillic` and `greek` where
-/// several have as many, and `english` where none has one. The slices hold these bytes and what is counted; what they
+/// of those that are named and that only some tables have; the first of `english`, `latin`, `cyrillic` and `greek` where
+/// several have as many, and so `english` where none has one. The slices hold these bytes and what is counted; what they
 /// held is of no account. Nothing is allocated.
 pub fn choose<R: Source>(input: &mut R, page: &mut [u8], counts: &mut [u32]) -> Result<Table, Fault>
     requires page { length page.old ≡ 65536 }
