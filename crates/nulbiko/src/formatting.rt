@@ -1,5 +1,5 @@
 // A text is formatted under limits.
-ghost use Rattle.std.specs.Prelude.{◌≡◌, ◌≢◌, ◌↔◌, IfOk, OnErr};
+ghost use Rattle.std.specs.Prelude.{◌≡◌, ◌≢◌, ◌↔◌, drop, IfOk, OnErr};
 ghost use Rattle.nr_options.specs.Limits.{AreLimits};
 ghost use Rattle.nulbiko.specs.Told.{count_told, nothing_told};
 ghost use Rattle.nulbiko.specs.Formatting.{AreAsked, FormatsText, bounds_of, code_of, limit_number, limit_told, place_told};
@@ -109,6 +109,7 @@ fn run_desk(
     ensures not_range { IfOk result (λ code. code ≢ 2) }
     ensures not_memory { IfOk result (λ code. code ≢ 5) }
     ensures untouched { OnErr result ((output.new ≡ output.old) × (told.new ≡ told.old)) }
+    ensures rest { drop told.new.written output.new ≡ drop told.new.written output.old }
 {
     let mut pages = Pages::new(alloc, output.len())?;
     let options = options_of(first);
@@ -134,6 +135,7 @@ fn format_text(
     ensures not_range { IfOk result (λ code. code ≢ 2) }
     ensures not_memory { IfOk result (λ code. code ≢ 5) }
     ensures untouched { OnErr result ((output.new ≡ output.old) × (told.new ≡ told.old)) }
+    ensures rest { drop told.new.written output.new ≡ drop told.new.written output.old }
 {
     let mut desk = Desk::new(&mut CountedAlloc::new(alloc), limits)?;
     run_desk(alloc, &mut desk, first, input, output, told)
@@ -155,6 +157,7 @@ pub extern "C" fn nulbiko_format_lent(
         → FormatsText (bounds_of limits.now) options.now.first input.now output.new told.new result }
     ensures bad { result ≡ 2 → (output.new ≡ output.old) × (told.new ≡ nothing_told) }
     ensures no_memory { result ≡ 5 → (output.new ≡ output.old) × (told.new ≡ nothing_told) }
+    ensures rest { drop told.new.written output.new ≡ drop told.new.written output.old }
 {
     *told = Report::nothing();
     let Some(bounds) = Limits::new(

@@ -1,5 +1,5 @@
 // A page of mdoc(7) is turned into one of man(7), as mdoc does.
-ghost use Rattle.std.specs.Prelude.{◌≡◌, ◌≢◌, IfOk, OnErr};
+ghost use Rattle.std.specs.Prelude.{◌≡◌, ◌≢◌, drop, IfOk, OnErr};
 ghost use Rattle.nulbiko.specs.Told.{nothing_told};
 ghost use Rattle.nulbiko.specs.Mdoc.{TurnsPage, code_of};
 
@@ -39,6 +39,7 @@ fn turn_page(
     ensures turned { IfOk result (λ code. TurnsPage input.now output.new told.new code) }
     ensures not_memory { IfOk result (λ code. code ≢ 5) }
     ensures untouched { OnErr result ((output.new ≡ output.old) × (told.new ≡ told.old)) }
+    ensures rest { drop told.new.written output.new ≡ drop told.new.written output.old }
 {
     let mut pending = vec![in alloc; 0u8; PENDING_SIZE]?;
     let mut blocks = vec![in alloc; Block::NONE; MOST_BLOCKS]?;
@@ -69,6 +70,7 @@ pub extern "C" fn nulbiko_mdoc_lent(
 ) -> u32
     ensures turned { result ≢ 5 → TurnsPage input.now output.new told.new result }
     ensures no_memory { result ≡ 5 → (output.new ≡ output.old) × (told.new ≡ nothing_told) }
+    ensures rest { drop told.new.written output.new ≡ drop told.new.written output.old }
 {
     *told = Report::nothing();
     match turn_page(alloc, input, output, told) {

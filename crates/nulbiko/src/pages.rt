@@ -1,5 +1,5 @@
 // A sink in memory of its own, with room for so many bytes.
-ghost use Rattle.std.specs.Prelude.{◌≡◌, [], length, take, min, Some, IfOk};
+ghost use Rattle.std.specs.Prelude.{◌≡◌, [], length, take, drop, min, Some, IfOk};
 ghost use Rattle.nr_units.specs.Failures.{no_failures};
 
 use nr_units::sink::Sink;
@@ -65,10 +65,11 @@ impl Sink for Pages {
     }
 }
 
-/// Copies bytes to the front of the output, as many as fit, and answers how many.
+/// Copies bytes to the front of the output, as many as fit, and answers how many. What stands after them stays.
 pub(crate) fn hand_over(bytes: &[u8], output: &mut [u8]) -> usize
     ensures front { take result output.new ≡ take result bytes.now }
     ensures count { result ≡ min (length bytes.now) (length output.new) }
+    ensures rest { drop result output.new ≡ drop result output.old }
 {
     let count = bytes.len().min(output.len());
     output[..count].copy_from_slice(&bytes[..count]);

@@ -1,5 +1,5 @@
 // A text is turned into the language of the formatter, as preconv does.
-ghost use Rattle.std.specs.Prelude.{◌≡◌, ◌≢◌, ◌↔◌, ◌<◌, IfOk, OnErr};
+ghost use Rattle.std.specs.Prelude.{◌≡◌, ◌≢◌, ◌↔◌, ◌<◌, drop, IfOk, OnErr};
 ghost use Rattle.nulbiko.specs.Tables.{table_numbered};
 ghost use Rattle.nulbiko.specs.Told.{nothing_told};
 ghost use Rattle.nulbiko.specs.Preconv.{TurnsText, code_of};
@@ -43,6 +43,7 @@ fn turn_text(
     ensures not_range { IfOk result (λ code. code ≢ 2) }
     ensures not_memory { IfOk result (λ code. code ≢ 5) }
     ensures untouched { OnErr result ((output.new ≡ output.old) × (told.new ≡ told.old)) }
+    ensures rest { drop told.new.written output.new ≡ drop told.new.written output.old }
 {
     let mut pending = vec![in alloc; 0u8; PENDING_SIZE]?;
     let mut pages = Pages::new(alloc, output.len())?;
@@ -77,6 +78,7 @@ pub extern "C" fn nulbiko_preconv_lent(
         → TurnsText (table_numbered table) input.now output.new told.new result }
     ensures bad { result ≡ 2 → (output.new ≡ output.old) × (told.new ≡ nothing_told) }
     ensures no_memory { result ≡ 5 → (output.new ≡ output.old) × (told.new ≡ nothing_told) }
+    ensures rest { drop told.new.written output.new ≡ drop told.new.written output.old }
 {
     *told = Report::nothing();
     if table > MOST_TABLES {

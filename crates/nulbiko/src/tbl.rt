@@ -1,5 +1,5 @@
 // The tables of a text become requests, as tbl makes them.
-ghost use Rattle.std.specs.Prelude.{◌≡◌, ◌≢◌, ◌↔◌, ◌<◌, IfOk, OnErr};
+ghost use Rattle.std.specs.Prelude.{◌≡◌, ◌≢◌, ◌↔◌, ◌<◌, drop, IfOk, OnErr};
 ghost use Rattle.nulbiko.specs.Tables.{table_numbered};
 ghost use Rattle.nulbiko.specs.Told.{nothing_told};
 ghost use Rattle.nulbiko.specs.Tbl.{SetsTables, code_of, first_kind, first_line, kind_number};
@@ -77,6 +77,7 @@ fn set_tables(
     ensures not_range { IfOk result (λ code. code ≢ 2) }
     ensures not_memory { IfOk result (λ code. code ≢ 5) }
     ensures untouched { OnErr result ((output.new ≡ output.old) × (told.new ≡ told.old)) }
+    ensures rest { drop told.new.written output.new ≡ drop told.new.written output.old }
 {
     let mut rooms = Rooms::new(alloc, TABLE, ROW, line, table)?;
     let pages = Pages::new(alloc, output.len())?;
@@ -115,6 +116,7 @@ pub extern "C" fn nulbiko_tbl_lent(
         → SetsTables (table_numbered table) line input.now output.new told.new result }
     ensures bad { result ≡ 2 → (output.new ≡ output.old) × (told.new ≡ nothing_told) }
     ensures no_memory { result ≡ 5 → (output.new ≡ output.old) × (told.new ≡ nothing_told) }
+    ensures rest { drop told.new.written output.new ≡ drop told.new.written output.old }
 {
     *told = Report::nothing();
     if table > MOST_TABLES {

@@ -1,5 +1,5 @@
 // Bytes that a table has become its characters, as utf8 makes them.
-ghost use Rattle.std.specs.Prelude.{◌≡◌, ◌≢◌, ◌↔◌, IfOk, OnErr};
+ghost use Rattle.std.specs.Prelude.{◌≡◌, ◌≢◌, ◌↔◌, drop, IfOk, OnErr};
 ghost use Rattle.nr_characters.specs.declared.table.Table.{Table};
 ghost use Rattle.nulbiko.specs.Tables.{table_numbered};
 ghost use Rattle.nulbiko.specs.Told.{nothing_told};
@@ -45,6 +45,7 @@ fn turn_bytes(
     ensures not_range { IfOk result (λ code. code ≢ 2) }
     ensures not_memory { IfOk result (λ code. code ≢ 5) }
     ensures untouched { OnErr result ((output.new ≡ output.old) × (told.new ≡ told.old)) }
+    ensures rest { drop told.new.written output.new ≡ drop told.new.written output.old }
 {
     let mut pending = vec![in alloc; 0u8; PENDING_SIZE]?;
     let mut pages = Pages::new(alloc, output.len())?;
@@ -87,6 +88,7 @@ pub extern "C" fn nulbiko_utf8_lent(
         → TurnsBytes t escapes input.now output.new told.new result }
     ensures bad { result ≡ 2 → (output.new ≡ output.old) × (told.new ≡ nothing_told) }
     ensures no_memory { result ≡ 5 → (output.new ≡ output.old) × (told.new ≡ nothing_told) }
+    ensures rest { drop told.new.written output.new ≡ drop told.new.written output.old }
 {
     *told = Report::nothing();
     let Some(table) = table_of(table) else {
