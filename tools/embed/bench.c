@@ -53,7 +53,7 @@ static enum nulbiko_outcome format_page(const char *name, struct buffers *b)
     enum nulbiko_outcome outcome = nulbiko_preconv(NULBIKO_NO_TABLE, b->page, length, b->turned, MOST, &report);
     if (outcome != NULBIKO_DONE)
         return outcome;
-    outcome = nulbiko_tbl(78, b->turned, report.written, b->whole + head_length, MOST - head_length, &report);
+    outcome = nulbiko_tbl(NULBIKO_NO_TABLE, 78, b->turned, report.written, b->whole + head_length, MOST - head_length, &report);
     if (outcome != NULBIKO_DONE)
         return outcome;
     return nulbiko_format(&limits, &options, b->whole, head_length + report.written, b->out, MOST, &report);

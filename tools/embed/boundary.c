@@ -86,13 +86,13 @@ static void null_pointers(void)
     judge("utf8: 0 and 0", nulbiko_utf8(NULBIKO_LATIN, false, NULL, 0, NULL, 0, &report) == NULBIKO_DONE && put_out(""));
     judge("choose: no text", nulbiko_choose(NULL, 1) == NULBIKO_NO_TABLE);
     prepare();
-    judge("tbl: no text", nulbiko_tbl(78, NULL, 1, out, 9, &report) == NULBIKO_NULL && nothing_done());
+    judge("tbl: no text", nulbiko_tbl(NULBIKO_NO_TABLE, 78, NULL, 1, out, 9, &report) == NULBIKO_NULL && nothing_done());
     prepare();
-    judge("tbl: no output", nulbiko_tbl(78, text, 1, NULL, 9, &report) == NULBIKO_NULL && nothing_done());
+    judge("tbl: no output", nulbiko_tbl(NULBIKO_NO_TABLE, 78, text, 1, NULL, 9, &report) == NULBIKO_NULL && nothing_done());
     prepare();
-    judge("tbl: no report", nulbiko_tbl(78, text, 1, out, 9, NULL) == NULBIKO_NULL);
+    judge("tbl: no report", nulbiko_tbl(NULBIKO_NO_TABLE, 78, text, 1, out, 9, NULL) == NULBIKO_NULL);
     prepare();
-    judge("tbl: 0 and 0", nulbiko_tbl(78, NULL, 0, NULL, 0, &report) == NULBIKO_DONE && put_out(""));
+    judge("tbl: 0 and 0", nulbiko_tbl(NULBIKO_NO_TABLE, 78, NULL, 0, NULL, 0, &report) == NULBIKO_DONE && put_out(""));
 }
 
 static void ranges(void)
@@ -113,6 +113,9 @@ static void ranges(void)
     prepare();
     judge("preconv: no such table", nulbiko_preconv((enum nulbiko_table)6, text, sizeof text, out, sizeof out, &report) ==
                                         NULBIKO_OUT_OF_RANGE && nothing_done());
+    prepare();
+    judge("tbl: no such table", nulbiko_tbl((enum nulbiko_table)6, 78, text, sizeof text, out, sizeof out, &report) ==
+                                    NULBIKO_OUT_OF_RANGE && nothing_done());
     const struct nulbiko_limits least = {64, 1, 1, 1};
     judge("format: the least limits", format(&least, text, sizeof out) != NULBIKO_OUT_OF_RANGE);
 }
@@ -143,13 +146,17 @@ static void outcomes(void)
     prepare();
     judge("mdoc: full", nulbiko_mdoc("word\n", 5, out, 2, &report) == NULBIKO_FULL && put_out("wo"));
     prepare();
-    judge("tbl: no table", nulbiko_tbl(78, "word\n", 5, out, sizeof out, &report) == NULBIKO_DONE && put_out("word\n") &&
+    judge("tbl: no table", nulbiko_tbl(NULBIKO_NO_TABLE, 78, "word\n", 5, out, sizeof out, &report) == NULBIKO_DONE && put_out("word\n") &&
                                report.limit == 0);
     prepare();
-    judge("tbl: a table that doesn't end", nulbiko_tbl(78, ".TS\nl.\na\n", 9, out, sizeof out, &report) == NULBIKO_DONE &&
+    judge("tbl: a table that doesn't end", nulbiko_tbl(NULBIKO_NO_TABLE, 78, ".TS\nl.\na\n", 9, out, sizeof out, &report) == NULBIKO_DONE &&
                                                report.limit == NULBIKO_OPEN_TABLE && report.at == 3);
     prepare();
-    judge("tbl: full", nulbiko_tbl(78, "word\n", 5, out, 2, &report) == NULBIKO_FULL && put_out("wo"));
+    judge("tbl: a box of a table",
+          nulbiko_tbl(NULBIKO_ENGLISH, 78, ".TS\nbox;\nl.\na\n.TE\n", 18, out, sizeof out, &report) == NULBIKO_DONE &&
+              report.written < sizeof out && memchr(out, 0xa4, report.written) && !memchr(out, '+', report.written));
+    prepare();
+    judge("tbl: full", nulbiko_tbl(NULBIKO_NO_TABLE, 78, "word\n", 5, out, 2, &report) == NULBIKO_FULL && put_out("wo"));
     prepare();
     judge("preconv: a byte of a table", nulbiko_preconv(NULBIKO_LATIN, "\xc3\xa4\n", 3, out, sizeof out, &report) == NULBIKO_DONE &&
                                             put_out("\xe4\n"));
