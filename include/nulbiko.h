@@ -17,8 +17,9 @@
  * reads none, and prints nothing.
  *
  * Time. Every call ends. `moves` is how many moves or steps it made; nulbiko_tbl counts none. nulbiko_format makes at most
- * 256 * (expansions + 1) * (stored + cells + depth + 4) for each byte of the text, and as many more: that is finite,
- * and far above what a service waits for, so it has a bound of its own, as a process that it can end.
+ * as many as the limit `moves` says, and at most 256 * (expansions + 1) * (stored + cells + depth + 4) for each byte of the
+ * text and as many more. The second is far above what a service waits for, so it sets the first: 10^8 moves take some two
+ * seconds.
  */
 #ifndef NULBIKO_H
 #define NULBIKO_H
@@ -50,7 +51,8 @@ enum nulbiko_limit {
     NULBIKO_DEPTH = 2,
     NULBIKO_LINE_CELLS = 3,
     NULBIKO_PAGE_CELLS = 4,
-    NULBIKO_EXPANSIONS = 5
+    NULBIKO_EXPANSIONS = 5,
+    NULBIKO_MOVES = 6
 };
 
 /* What nulbiko_tbl finds wrong with a table. It sets what it can, and goes on. */
@@ -77,12 +79,13 @@ enum nulbiko_table {
     NULBIKO_LATIN1 = 5 /* Latin-1 at its own bytes: for a program that prints it as it is. */
 };
 
-/* What a text may cost. nroff's own: 262144, 256, 65536, 1000000. */
+/* What a text may cost. nroff's own: 262144, 256, 65536, 1000000, UINT64_MAX. */
 struct nulbiko_limits {
     uint64_t stored;     /* Bytes stored: texts under names, registers, traps, open levels. 64 to 2^24. */
     uint64_t depth;      /* Open levels of the input. 1 to 4096. */
     uint64_t cells;      /* Cells of a line, and of a page. 1 to 2^24. */
     uint64_t expansions; /* Expansions between two bytes of the text. 1 to 2^32. */
+    uint64_t moves;      /* All moves: a byte of text is two. 64 to 2^64 - 1, which takes thousands of years. */
 };
 
 struct nulbiko_options {

@@ -15,7 +15,7 @@ static const char *const outcomes[] = {
     "done", "a limit would be passed", "a limit is out of range", "a pointer is null",
     "the output is too small", "out of memory", "the text is too long",
 };
-static const char *const limits_told[] = {"", "stored bytes", "input depth", "line cells", "page cells", "expansions"};
+static const char *const limits_told[] = {"", "stored bytes", "input depth", "line cells", "page cells", "expansions", "moves"};
 
 struct text {
     char *bytes;
@@ -58,7 +58,7 @@ int main(int count, char **words)
 {
     if (count != 3)
         return 2;
-    const struct nulbiko_limits limits = {262144, 64, 65536, 1000000};
+    const struct nulbiko_limits limits = {262144, 64, 65536, 1000000, 100000000};
     const struct nulbiko_options options = {1};
     struct nulbiko_report report = {0}, shown = {0};
     struct text page = empty(), man = empty(), turned = empty(), whole = empty(), pages = empty(), out = empty();

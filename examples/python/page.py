@@ -10,12 +10,13 @@ import sys
 from ctypes import byref, c_bool, c_char_p, c_int64, c_size_t, c_uint32, c_uint64, c_void_p
 
 OUTCOMES = 'done', 'limit passed', 'limit out of range', 'null', 'output full', 'out of memory', 'text too long'
-LIMITS = '', 'stored bytes', 'input depth', 'cells of a line', 'cells of a page', 'expansions'
+LIMITS = '', 'stored bytes', 'input depth', 'cells of a line', 'cells of a page', 'expansions', 'moves'
 FULL = 4
 
 
 class Limits(ctypes.Structure):
-    _fields_ = [('stored', c_uint64), ('depth', c_uint64), ('cells', c_uint64), ('expansions', c_uint64)]
+    _fields_ = [('stored', c_uint64), ('depth', c_uint64), ('cells', c_uint64), ('expansions', c_uint64),
+                ('moves', c_uint64)]
 
 
 class Options(ctypes.Structure):
@@ -65,7 +66,7 @@ class Nulbiko:
         table = self.library.nulbiko_choose_lent(page, c_size_t(len(page)))
         turned = self.call('preconv', [table], self.call('mdoc', [], page))
         tables = self.call('tbl', [78], turned)
-        limits, options = Limits(262144, 64, 65536, 1000000), Options(1)
+        limits, options = Limits(262144, 64, 65536, 1000000, 100000000), Options(1)
         text = b'.nr C 1\n.nr L 78\n' + macros + tables
         return self.call('utf8', [table, False], self.call('format', [byref(limits), byref(options)], text))
 

@@ -4,7 +4,7 @@ use Rattle.std.specs.Io.KnownBytes.{Appends}
 use Rattle.nr_units.specs.Failures.{SinkFailures, put_counted_if}
 use Rattle.nr_units.specs.Sink.{AppendsFront}
 use Rattle.nr_machine.specs.declared.outcome.Measure.{Measure}
-use Rattle.nr_machine.specs.declared.outcome.Measure.TheVariants.{Stored, Depth, LineCells, PageCells, Expansions}
+use Rattle.nr_machine.specs.declared.outcome.Measure.TheVariants.{Stored, Depth, LineCells, PageCells, Expansions, Moves}
 use Rattle.nr_machine.specs.declared.outcome.Outcome.{Outcome}
 use Rattle.nr_machine.specs.declared.outcome.Outcome.TheVariants.{Done, Limit, ReadFault, TooLong, WriteFault}
 
@@ -15,6 +15,7 @@ limited_text Depth = codes "input depth"
 limited_text LineCells = codes "line cells"
 limited_text PageCells = codes "page cells"
 limited_text Expansions = codes "expansions"
+limited_text Moves = codes "moves"
 
 -- a place in the input, and the line's end
 abbrev pub place_text : ℕ → List ℕ

@@ -75,6 +75,7 @@ fn limited(which: Measure) -> &'static [u8]
         Measure::LineCells => b"line cells",
         Measure::PageCells => b"page cells",
         Measure::Expansions => b"expansions",
+        Measure::Moves => b"moves",
     }
 }
 

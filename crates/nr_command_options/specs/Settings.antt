@@ -7,7 +7,7 @@ use Rattle.nr_page.specs.Selection.{IsPageList, WritesNumber}
 use Rattle.nr_page.specs.declared.selection.PageRange.{PageRange}
 use Rattle.nr_options.specs.Limits.{IsInRange}
 use Rattle.nr_options.specs.declared.limits.Limit.{Limit}
-use Rattle.nr_options.specs.declared.limits.Limit.TheVariants.{Stored, Depth, Cells, Expansions}
+use Rattle.nr_options.specs.declared.limits.Limit.TheVariants.{Stored, Depth, Cells, Expansions, Moves}
 use Rattle.nr_command_options.specs.declared.usage.Case.{Case}
 use Rattle.nr_command_options.specs.declared.usage.Case.TheVariants.{LeftOut, Unknown, BadValue, TooMany}
 
@@ -35,12 +35,13 @@ letter_of (MacrosIn folder) = code "M"
 letter_of ReadInput = code "i"
 letter_of (SetLimit limit n) = code "L"
 
--- the letter of a limit: `s`, `d`, `p` or `x`
+-- the letter of a limit: `s`, `d`, `p`, `x` or `m`
 abbrev pub limit_letter : Limit → ℕ
 limit_letter Stored = code "s"
 limit_letter Depth = code "d"
 limit_letter Cells = code "p"
 limit_letter Expansions = code "x"
+limit_letter Moves = code "m"
 
 -- the text writes the number: decimal digits, or `-` and decimal digits
 abbrev pub WritesInteger : ℤ → List ℕ → Type 0

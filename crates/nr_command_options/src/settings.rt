@@ -141,7 +141,7 @@ fn read_input(value: &str) -> Option<Setting<'_>>
     }
 }
 
-/// `-LsN`, `-LdN`, `-LpN` and `-LxN`.
+/// `-LsN`, `-LdN`, `-LpN`, `-LxN` and `-LmN`.
 fn read_limit(value: &str) -> Option<Setting<'_>>
     ensures { Reads (code "L") value.now result }
 {
@@ -151,6 +151,7 @@ fn read_limit(value: &str) -> Option<Setting<'_>>
         b'd' => Limit::Depth,
         b'p' => Limit::Cells,
         b'x' => Limit::Expansions,
+        b'm' => Limit::Moves,
         _ => return None,
     };
     let number = read_number(number, u64::MAX)?;

@@ -8,7 +8,7 @@ use std::alloc::AllocError;
 use std::test::Fail;
 
 /// Each outcome that has a line.
-static FAULTS: [(Outcome, &[u8]); 10] = [
+static FAULTS: [(Outcome, &[u8]); 11] = [
     (
         Outcome::Limit {
             which: Measure::Stored,
@@ -43,6 +43,13 @@ static FAULTS: [(Outcome, &[u8]); 10] = [
             at: 1_000_000,
         },
         b"nroff: expansions limit passed at byte 1000000\n",
+    ),
+    (
+        Outcome::Limit {
+            which: Measure::Moves,
+            at: 431,
+        },
+        b"nroff: moves limit passed at byte 431\n",
     ),
     (
         Outcome::Limit {

@@ -41,7 +41,7 @@ fn expect(
     printed: &[u8],
     line: &[u8],
 ) {
-    let limits = Limits::new(1024, 4, 100, 10).unwrap();
+    let limits = Limits::new(1024, 4, 100, 10, 1_000_000).unwrap();
     let desk = Desk::new(&mut CountedAlloc::new(alloc), limits);
     assert!(rt; desk.is_ok());
     let mut out = [0; 80];
@@ -136,7 +136,7 @@ fn every_allocation_refused(rt: HostRuntime) {
 // A writer of std that is full takes no byte, and answers no error: it is as one that fails at the first.
 #[test]
 fn writer_that_takes_no_byte(rt: HostRuntime) {
-    let limits = Limits::new(1024, 4, 100, 10).unwrap();
+    let limits = Limits::new(1024, 4, 100, 10, 1_000_000).unwrap();
     let desk = Desk::new(&mut CountedAlloc::new(rt.alloc()), limits);
     assert!(rt; desk.is_ok());
     let mut input = Script::new(TITLED);

@@ -14,11 +14,11 @@ use Rattle.nr_formatter.specs.declared.formatter.Formatter.{Formatter}
 use Rattle.nr_machine.specs.State.{State, start, choices, formatter_at_first}
 use Rattle.nr_machine.specs.Machine.{state_after}
 use Rattle.nr_machine.specs.Run.{Answers, moves_a_byte}
-use Rattle.nr_machine.specs.Holding.{Shape, Holds, Made, weight, worth}
+use Rattle.nr_machine.specs.Holding.{Shape, Holds, Made, Halts, Finishes, weight, worth}
 use Rattle.nr_machine.specs.Choosing.{IsNew, StaysLight}
 use Rattle.nr_engine.specs.Travelling.{Travelled}
 use Rattle.nr_machine.specs.declared.outcome.Outcome.{Outcome}
-use Rattle.nr_machine.proofs.Standing.{state_after-add, halts_after, answers}
+use Rattle.nr_machine.proofs.Standing.{state_after-add, finishes_after, finishes_stopped, none_spent, answers}
 use Rattle.nr_machine_rows.proofs.Running.{worth_same}
 
 no_charge : (b : Bounds) → charge_of (formatter_at_first b).store ≡ 0
@@ -62,13 +62,6 @@ expansions-is : (x s : ℕ) → expansions_worth x 0 s ≡ x * (256 * (s + 3))
 unfolding expansions_worth
 expansions-is x s = let e : x - 0 ≡ x = omega arith in ap (λ k. k * (256 * (s + 3))) e
 
-pub starts_small : (b : Bounds) (e : Shape) → b.stored ≤ 2 ^ 24 → b.expansions ≤ 2 ^ 32 → e.formatter ≡ formatter_at_first b → worth e < 2 ^ 80
-starts_small b e stored expansions formatter_is =
-    let is = worth_first b e formatter_is in
-    let all = expansions-is b.expansions b.stored in
-    let most = mul-le b.expansions (256 * (b.stored + 3)) (2 ^ 32) (256 * (2 ^ 24 + 3)) expansions (omega (arith, stored)) in
-    omega (arith, is, all, most)
-
 few : (x s p d : ℕ) → x * (256 * (s + 3)) + 512 ≤ 256 * (x + 1) * (s + p + d + 4)
 few x s p d =
     let a : x * (256 * (s + 3)) ≡ 256 * (x * (s + 3)) = grind arith in
@@ -85,10 +78,6 @@ within_moves b e n taken formatter_is within =
 
 -- where the options have taken effect
 
-pub chosen_small : (b : Bounds) (e f : Shape) → b.stored ≤ 2 ^ 24 → b.expansions ≤ 2 ^ 32 → e.formatter ≡ formatter_at_first b → StaysLight e f → worth f < 2 ^ 80
-chosen_small b e f stored expansions formatter_is stays =
-    subst (λ k. k < 2 ^ 80) (sym (worth_same e f stays.limit stays.most)) (starts_small b e stored expansions formatter_is)
-
 pub chosen_bound : (b : Bounds) (e f : Shape) (m : ℕ) → e.formatter ≡ formatter_at_first b → e.place ≡ nothing_reached → StaysLight e f → m ≤ 33 → m + weight f ≤ worth f * (f.place.taken + 1)
 chosen_bound b e f m formatter_is place stays few_moves =
     let light = starts_light b e formatter_is place in
@@ -102,13 +91,20 @@ few_moves b n taken few_enough =
     let more = mul-le 33 1 (moves_a_byte b) (taken + 1) (omega (arith, all)) (omega arith) in
     omega (arith, few_enough, more)
 
--- the moves of the options, and then others up to where the run stops
+-- the moves of the options alone
+pub halted_early : (b : Bounds) (s : State) (n : ℕ) (outcome : Outcome) (old new : Option (List ℕ)) → s.pages ≡ [] → 64 ≤ b.moves → n ≤ 33 → Halts s n outcome old new → Answers b s n outcome old new
+halted_early b s n outcome old new none least few_enough h =
+    answers b s n outcome old new none
+    (finishes_stopped b.moves n s n outcome old new (omega arith) (none_spent b.moves n (state_after n s) (omega arith)) h) (few_moves b n (state_after n s).coming.taken few_enough)
+
+-- the moves of the options, and then others up to where the run ends
 pub answered : (b : Bounds) (s : State) (n after : ℕ) (e f : Shape) (x : Option Supply) (outcome : Outcome) (held new : Option (List ℕ)) → s.pages ≡ [] → e.formatter ≡ formatter_at_first b
-    → StaysLight e f → Made [] s n f x held held → Travelled (state_after n s) n after (worth f) outcome held new → Answers b s after outcome held new
+    → StaysLight e f → Made [] s n f x held held → Travelled b.moves (state_after n s) n after (worth f) outcome held new → Answers b s after outcome held new
 answered b s n after e f x outcome held new none formatter_is stays made u =
     let t = state_after u.count (state_after n s) in
     let all = within_moves b e after t.coming.taken formatter_is (subst (λ k. after ≤ k * (t.coming.taken + 1)) (worth_same e f stays.limit stays.most) u.bound) in
     let bound = subst (λ (v : State). after ≤ moves_a_byte b * (v.coming.taken + 1)) (sym (state_after-add s n u.count)) all in
     subst (λ k. Answers b s k outcome held new) (sym u.counted)
-    (answers b s (n + u.count) outcome held new none (halts_after [] s n u.count f x outcome held held new made u.halts)
+    (answers b s (n + u.count) outcome held new none
+    (subst (λ k. Finishes b.moves k s (n + u.count) outcome held new) u.counted (finishes_after [] b.moves after s n u.count f x outcome held held new made u.finishes))
     (subst (λ k. k ≤ moves_a_byte b * ((state_after (n + u.count) s).coming.taken + 1)) u.counted bound))

@@ -1,50 +1,79 @@
 //! A whole run.
-ghost use Rattle.std.specs.Prelude.{◌≡◌, ◌+◌, ◌*◌, ◌^◌, ◌<◌, ◌≤◌, Some, false};
+ghost use Rattle.std.specs.Prelude.{◌≡◌, ◌+◌, ◌*◌, ◌≤◌, Some, false, []};
 ghost use Rattle.nr_units.specs.Source.{Supply};
 ghost use Rattle.nr_input.specs.Place.{has_failed};
 ghost use Rattle.nr_machine.specs.State.{start};
-ghost use Rattle.nr_machine.specs.Run.{Answers, ToldFaults};
+ghost use Rattle.nr_machine.specs.Run.{Answers, ToldFaults, kind_of};
 ghost use Rattle.nr_machine.specs.Holding.{shape, weight, worth};
 ghost use Rattle.nr_machine.specs.Limits.{limits_of, limits_under};
-ghost use Rattle.nr_engine.specs.Travelling.{Travels};
+ghost use Rattle.nr_engine.specs.Travelling.{Travels, outcome_when_spent};
 
 use crate::desk::Work;
-use nr_machine::{Engine, Outcome};
+use nr_formatter::tasks::Task;
+use nr_input::Event;
+use nr_machine::{Engine, Measure, Outcome};
 use nr_machine_rows::{put_at_hand, reads_on};
 use nr_options::{Limits, Options};
 use nr_units::sink::Sink;
 use nr_units::source::Source;
 
-/// Moves are made until the run stops.
+/// How a run ends that has made all moves that it may make.
+fn outcome_when_spent(engine: &Engine) -> Outcome
+    ensures { result ≡ outcome_when_spent (kind_of [] engine.now.formatter.springs engine.now.formatter.event
+        engine.now.formatter.task) engine.now.place.taken }
+{
+    let limit = Outcome::Limit {
+        which: Measure::Moves,
+        at: engine.place.taken(),
+    };
+    if engine.formatter.springs.is_some() {
+        return limit;
+    }
+    match engine.formatter.event {
+        Event::Nothing => {}
+        _ => return limit,
+    }
+    match engine.formatter.task {
+        Task::Halted => Outcome::Done,
+        _ => limit,
+    }
+}
+
+/// Moves are made until the run ends: `most` at most, with those that were made before.
 fn run<R: Source, W: Sink>(
     engine: &mut Engine,
+    most: u64,
     input: &mut R,
     output: &mut W,
     moves: &mut u128,
 ) -> Outcome
     requires unfailed { has_failed engine.old.place.ahead ≡ false }
-    requires small { worth (shape engine.old) < 2 ^ 80 }
     requires bound { moves.old + weight (shape engine.old) ≤ worth (shape engine.old)
         * (engine.old.place.taken + 1) }
-    ensures travels { Travels (shape engine.old) (R.supply input.old) (W.held output.old)
+    requires allowed { moves.old ≤ most }
+    ensures travels { Travels most (shape engine.old) (R.supply input.old) (W.held output.old)
         (W.held output.new) moves.old moves.new result }
     ensures limits { limits_of (shape engine.new) ≡ limits_of (shape engine.old) }
     ensures faults { ToldFaults result (R.failures input.old) (R.failures input.new)
         (W.failures output.old) (W.failures output.new) }
 {
+    let mut left = most - *moves as u64;
     loop {
-        let many = put_at_hand(engine, input);
-        let _reached = engine.place.taken();
-        *moves += many;
+        let many = put_at_hand(engine, input, left);
+        left -= many;
         if many > 0 && reads_on(engine) {
             continue;
         }
+        if left == 0 {
+            *moves = u128::from(most);
+            return outcome_when_spent(engine);
+        }
         match engine.advance(input, output) {
-            Ok(()) => {
-                let _taken = engine.place.taken();
-                *moves += 1;
+            Ok(()) => left -= 1,
+            Err(outcome) => {
+                *moves = u128::from(most - left);
+                return outcome;
             }
-            Err(outcome) => return outcome,
         }
     }
 }
@@ -66,16 +95,18 @@ fn run_in<R: Source, W: Sink>(
         (W.failures output.new) }
     ensures stay { limits_of (shape engine.new) ≡ limits_of (shape engine.old) }
 {
+    let most = limits.moves();
     engine.clear(limits, &options.select);
     *moves = 0;
     match engine.choose(options, moves) {
         Err(outcome) => outcome,
-        Ok(()) => run(engine, input, output, moves),
+        Ok(()) => run(engine, most, input, output, moves),
     }
 }
 
 /// Formats the input until the run ends, a limit would be passed or the input or the output fails, and
-/// sets `moves` to the number of moves made. It consumes its working space.
+/// sets `moves` to the number of moves made. Where one more move would pass the limit of all moves, none is
+/// made, whatever else would stop it. It consumes its working space.
 pub fn format<R: Source, W: Sink>(
     work: Work<'_>,
     options: &Options,

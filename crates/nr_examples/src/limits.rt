@@ -21,6 +21,7 @@ fn set(limits: &mut Limits, word: &str) -> anyhow::Result<()> {
         "depth" => Limit::Depth,
         "cells" => Limit::Cells,
         "expansions" => Limit::Expansions,
+        "moves" => Limit::Moves,
         _ => anyhow::bail!("no limit: {word}"),
     };
     let number = digits.parse::<u64>()?;

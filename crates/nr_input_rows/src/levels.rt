@@ -22,6 +22,9 @@ use nr_store::Store;
 /// The most rows, ends of levels and dues in one call.
 const MOST_PARTS: u32 = 800;
 
+/// After how many moves no further part is read in one call.
+const ENOUGH_MOVES: usize = 65_536;
+
 // What is due may be done at once: no blank of a line's beginning is told by it, and there may be a splice more.
 #[inline(always)]
 fn may_act(reader: &Reader) -> bool
@@ -201,7 +204,7 @@ fn read_lines<K: Copy>(reader: &mut Reader, store: &mut Store<K>) -> Moved
         → HasRead result.moves (situation store.old c reader.old) result.event store.new reader.new p supply }
     ensures pays { (p : Reached)
         → PaysMany result.moves store.old p reader.old result.event store.new p reader.new }
-    ensures few { result.moves ≤ 327684 * 800 }
+    ensures few { result.moves ≤ 393220 }
     ensures limits { limits_of store.new reader.new ≡ limits_of store.old reader.old }
     ensures longest { IsLongestUpToText result.moves store.old reader.old result.event store.new reader.new }
 {
@@ -215,7 +218,7 @@ fn read_lines<K: Copy>(reader: &mut Reader, store: &mut Store<K>) -> Moved
                 event: part.event,
             };
         }
-        if reader.half.is_in_text() {
+        if reader.half.is_in_text() || moves > ENOUGH_MOVES {
             return Moved {
                 moves,
                 event: Event::Nothing,
@@ -262,7 +265,7 @@ fn read_text_on<K: Copy>(reader: &mut Reader, store: &mut Store<K>) -> Moved
         → HasRead result.moves (situation store.old c reader.old) result.event store.new reader.new p supply }
     ensures pays { (p : Reached)
         → PaysMany result.moves store.old p reader.old result.event store.new p reader.new }
-    ensures few { result.moves ≤ 65541 * 4096 }
+    ensures few { result.moves ≤ 458757 }
     ensures limits { limits_of store.new reader.new ≡ limits_of store.old reader.old }
     ensures longest { IsLongestUpToText result.moves store.old reader.old result.event store.new reader.new }
 {
@@ -286,7 +289,7 @@ pub fn read_levels<K: Copy>(reader: &mut Reader, store: &mut Store<K>, _mode: &m
         → HasRead result.moves (situation store.old c reader.old) result.event store.new reader.new p supply }
     ensures pays { (p : Reached)
         → PaysMany result.moves store.old p reader.old result.event store.new p reader.new }
-    ensures few { result.moves ≤ 65541 * 4096 }
+    ensures few { result.moves ≤ 458757 }
     ensures limits { limits_of store.new reader.new ≡ limits_of store.old reader.old }
     ensures longest { IsLongestUpToText result.moves store.old reader.old result.event store.new reader.new }
 {

@@ -10,7 +10,8 @@ use Rattle.nr_options.specs.declared.options.Options.{Options}
 use Rattle.nr_machine.specs.State.{State, Ended, start}
 use Rattle.nr_machine.specs.Machine.{step, state_after}
 use Rattle.nr_machine.specs.Printing.{bytes_of, text}
-use Rattle.nr_machine.specs.Run.{Kind, Over, kind, Goes, Runs, Stops, Writes, BreaksOff, is_write_fault}
+use Rattle.nr_machine.specs.Run.{Kind, Over, kind, Goes, GoesBy, Runs, Stops, Ends, AreSpent, Writes, BreaksOff, is_write_fault}
+use Rattle.nr_machine.specs.declared.outcome.Measure.TheVariants as measures
 use Rattle.nr_machine.specs.declared.outcome.Outcome.{Outcome}
 use Rattle.nr_machine.specs.declared.outcome.Outcome.TheVariants.{Done, Limit, ReadFault, TooLong, WriteFault}
 use Rattle.nr_laws.specs.Limited.{state_under}
@@ -52,12 +53,33 @@ broken s out b (Some xs) ended front =
     }
 
 -- a prefix of what the next move brings
-wrote_front : (s : State) (o : Outcome) (out : List ℕ) → Stops s o → Writes s o (Some []) (Some out) → IsFrontOf (text s.pages) (text (step s).pages) → IsFrontOf out (text (step s).pages)
-wrote_front s Done out stops w grows = subst (λ z. IsFrontOf z (text (step s).pages)) (sym w) grows
-wrote_front s (Limit which at) out stops w grows = subst (λ z. IsFrontOf z (text (step s).pages)) (sym w) grows
-wrote_front s (ReadFault at) out stops w grows = subst (λ z. IsFrontOf z (text (step s).pages)) (sym w) grows
-wrote_front s TooLong out stops w grows = subst (λ z. IsFrontOf z (text (step s).pages)) (sym w) grows
-wrote_front s WriteFault out stops w grows = broken s out w w.between w.ended w.front
+wrote_front : (s : State) (o : Outcome) (out : List ℕ) → Writes s o (Some []) (Some out) → IsFrontOf (text s.pages) (text (step s).pages) → IsFrontOf out (text (step s).pages)
+wrote_front s Done out w grows = subst (λ z. IsFrontOf z (text (step s).pages)) (sym w) grows
+wrote_front s (Limit which at) out w grows = subst (λ z. IsFrontOf z (text (step s).pages)) (sym w) grows
+wrote_front s (ReadFault at) out w grows = subst (λ z. IsFrontOf z (text (step s).pages)) (sym w) grows
+wrote_front s TooLong out w grows = subst (λ z. IsFrontOf z (text (step s).pages)) (sym w) grows
+wrote_front s WriteFault out w grows = broken s out w w.between w.ended w.front
+
+-- ---- how a run ends
+
+goes-due : (s : State) → Goes s → kind s ≡ Over → ⊥
+goes-due s goes over = subst (λ k. GoesBy k s) over goes
+
+-- where moves are not spent and one more is made, it is allowed
+left_one : (most n : ℕ) (s : State) → n ≤ most → (AreSpent most n s → ⊥) → Goes s → n + 1 ≤ most
+left_one most n s allowed left goes = elim (cases_lt n most) [ inl less ↦ omega arith | inr more ↦ absurd (left (omega arith, goes-due s goes)) ]
+
+-- where no limit ends it, moves are not spent, and it stops
+unmet_stops : (most n : ℕ) (s : State) (o : Outcome) → is_limit o ≡ false → Ends most n s o → (AreSpent most n s → ⊥) × Stops s o
+unmet_stops most n s o unmet (inl x) = absurd (let e : true ≡ false = sym (ap is_limit x.1) ∙ unmet in cc)
+unmet_stops most n s o unmet (inr x) = x
+
+-- there is one end
+ends-one : (most n : ℕ) (s : State) (o o' : Outcome) → is_settled s.coming.supply.faults o ≡ true → is_settled s.coming.supply.faults o' ≡ true → Ends most n s o → Ends most n s o' → o ≡ o'
+ends-one most n s o o' told told' (inl x) (inl y) = x.1 ∙ sym y.1
+ends-one most n s o o' told told' (inl x) (inr y) = absurd (y.0 x.0)
+ends-one most n s o o' told told' (inr x) (inl y) = absurd (x.0 y.0)
+ends-one most n s o o' told told' (inr x) (inr y) = stops-one s o o' told told' x.1 y.1
 
 -- ---- states of a run, and of that without limits
 
@@ -74,7 +96,7 @@ module _ (b : Bounds) (options : Options) (supply : Supply) where
   pub cut_at : (n : ℕ) (o : Outcome) (out : List ℕ) → AnswersWith b options supply n o out → IsFrontOf out (unlimited_text options supply (suc n))
   cut_at n o out a =
       let s = state_after n (start b options supply) in
-      subst (IsFrontOf out) (text_of (suc n)) (wrote_front s o out a.stops a.writes (text-grows zero (suc zero) s (omega arith)))
+      subst (IsFrontOf out) (text_of (suc n)) (wrote_front s o out a.writes (text-grows zero (suc zero) s (omega arith)))
 
 over_stays : (n : ℕ) (s : State) → kind s ≡ Over → state_after n s ≡ s
 over_stays zero s over = refl
@@ -105,7 +127,7 @@ limits_cut_output b options supply n o out whole a w =
 
 -- the run without limits is over then too
 pub over_at : (b : Bounds) (options : Options) (supply : Supply) (n : ℕ) (out : List ℕ) → AnswersWith b options supply n Done out → kind (unlimited options supply n) ≡ Over
-over_at b options supply n out a = ap kind (sym (at b options supply n)) ∙ a.stops
+over_at b options supply n out a = ap kind (sym (at b options supply n)) ∙ (unmet_stops b.moves n (state_after n (start b options supply)) Done refl a.ends).1
 
 pub done_is_whole : DoneIsWhole
 done_is_whole b options supply n out a = record {
@@ -121,18 +143,22 @@ one_whole options supply x y v w =
     ∙ after_over options supply w.moves v.moves w.over ∙ sym w.whole_is
 
 -- under wider limits the run does not stop earlier
-no_earlier : (b b' : Bounds) (options : Options) (supply : Supply) (n n' : ℕ) (o' : Outcome) → AtLeast b b' → is_settled supply.faults o' ≡ true → Runs n (start b options supply) → Runs n' (start b' options supply)
-    → Stops (state_after n' (start b' options supply)) o' → n' < n → ⊥
-no_earlier b b' options supply n n' o' h told runs runs' stops less =
+no_earlier : (b b' : Bounds) (options : Options) (supply : Supply) (n n' : ℕ) (o' : Outcome) → AtLeast b b' → is_settled supply.faults o' ≡ true → n ≤ b'.moves → Runs n (start b options supply) → Runs n' (start b' options supply)
+    → Ends b'.moves n' (state_after n' (start b' options supply)) o' → n' < n → ⊥
+no_earlier b b' options supply n n' o' h told allowed runs runs' (inl x) less = (let all : n' ≡ b'.moves = x.0.0 in absurd (omega (arith, all, less, allowed)))
+no_earlier b b' options supply n n' o' h told allowed runs runs' (inr x) less =
     let t = unlimited options supply n' in
     let e = at b options supply n' in
     let e' = at b' options supply n' in
-    goes-stops (state_under b' t) o' (settled_after o' n' (start nothing_allowed options supply) told) (goes-wider b b' t h (subst Goes e (runs n' less))) (subst (λ (s : State). Stops s o') e' stops)
+    goes-stops (state_under b' t) o' (settled_after o' n' (start nothing_allowed options supply) told) (goes-wider b b' t h (subst Goes e (runs n' less))) (subst (λ (s : State). Stops s o') e' x.1)
 
 -- what went out, a page of which a fault broke off among it, is a prefix of what goes out without limits where the run goes as far
 front_at : (b : Bounds) (options : Options) (supply : Supply) (n m : ℕ) (o : Outcome) (out : List ℕ) → AnswersWith b options supply n o out → n ≤ m
-    → (Goes (state_after n (start b options supply)) → n + 1 ≤ m) → IsFrontOf out (unlimited_text options supply m)
-front_at b options supply n m WriteFault out a far further = limits_cut b options supply n WriteFault out a m (further a.stops.0)
+    → (n + 1 ≤ b.moves → Goes (state_after n (start b options supply)) → n + 1 ≤ m) → IsFrontOf out (unlimited_text options supply m)
+front_at b options supply n m WriteFault out a far further =
+    let s = state_after n (start b options supply) in
+    let ends = unmet_stops b.moves n s WriteFault refl a.ends in
+    limits_cut b options supply n WriteFault out a m (further (left_one b.moves n s a.allowed ends.0 ends.1.0) ends.1.0)
 front_at b options supply n m o out a far further =
     subst (λ z. IsFrontOf z (unlimited_text options supply m)) (sym (text_at b options supply n o out a refl)) (text-grows n m (start nothing_allowed options supply) far)
 
@@ -143,23 +169,24 @@ runs_on n s runs goes m h = elim (cases_lt m n) [ inl less ↦ runs m less | inr
 pub wider_limits : WiderLimits
 wider_limits b b' options supply n n' o o' out out' h a a' told' =
     let s = start b options supply in
-    let far : n ≤ n' = elim (cases_lt n' n) [ inl less ↦ absurd (no_earlier b b' options supply n n' o' h told' a.runs a'.runs a'.stops less) | inr more ↦ omega arith ] in
-    let further = λ (goes : Goes (state_after n s)). (let x : n + 1 ≤ n' = elim (cases_lt n' (n + 1)) [
-      | inl less ↦ absurd (no_earlier b b' options supply (n + 1) n' o' h told' (runs_on n s a.runs goes) a'.runs a'.stops less)
+    let moves : b.moves ≤ b'.moves = h.moves in
+    let far : n ≤ n' = elim (cases_lt n' n) [ inl less ↦ absurd (no_earlier b b' options supply n n' o' h told' (omega (arith, a.allowed, moves)) a.runs a'.runs a'.ends less) | inr more ↦ omega arith ] in
+    let further = λ (left : n + 1 ≤ b.moves) (goes : Goes (state_after n s)). (let x : n + 1 ≤ n' = elim (cases_lt n' (n + 1)) [
+      | inl less ↦ absurd (no_earlier b b' options supply (n + 1) n' o' h told' (omega (arith, left, moves)) (runs_on n s a.runs goes) a'.runs a'.ends less)
       | inr more ↦ omega arith
     ] in x) in
     subst (IsFrontOf out) (sym (text_at b' options supply n' o' out' a' (settled-writes supply.faults o' told'))) (front_at b options supply n n' o out a far further)
 
 at_least_itself : (b : Bounds) → AtLeast b b
-at_least_itself b = record { stored = omega arith; depth = omega arith; cells = omega arith; expansions = omega arith }
+at_least_itself b = record { stored = omega arith; depth = omega arith; cells = omega arith; expansions = omega arith; moves = omega arith }
 
 pub one_answer : OneAnswer
 one_answer b options supply n n' o o' out out' a a' told told' =
-    let first = no_earlier b b options supply n n' o' (at_least_itself b) told' a.runs a'.runs a'.stops in
-    let second = no_earlier b b options supply n' n o (at_least_itself b) told a'.runs a.runs a.stops in
+    let first = no_earlier b b options supply n n' o' (at_least_itself b) told' a.allowed a.runs a'.runs a'.ends in
+    let second = no_earlier b b options supply n' n o (at_least_itself b) told a'.allowed a'.runs a.runs a.ends in
     let e : n ≡ n' = elim (cases_lt n' n) [ inl x ↦ absurd (first x) | inr x ↦ elim (cases_lt n n') [ inl y ↦ absurd (second y) | inr y ↦ omega arith ] ] in (
       e,
-      stops-one (state_after n' (start b options supply)) o o' (settled_after o n' (start b options supply) told) (settled_after o' n' (start b options supply) told') (subst (λ k. Stops (state_after k (start b options supply)) o) e a.stops) a'.stops,
+      ends-one b.moves n' (state_after n' (start b options supply)) o o' (settled_after o n' (start b options supply) told) (settled_after o' n' (start b options supply) told') (subst (λ k. Ends b.moves k (state_after k (start b options supply)) o) e a.ends) a'.ends,
       text_at b options supply n o out a (settled-writes supply.faults o told) ∙ ap (unlimited_text options supply) e ∙ sym (text_at b options supply n' o' out' a' (settled-writes supply.faults o' told')),
     )
 
@@ -172,17 +199,28 @@ no_later b b' options supply n n' o unmet told runs' stops less =
     goes-stops (state_under b' t) o told_there (subst Goes (at b' options supply n) (runs' n less))
     (stops-under b b' t o unmet told_there (subst (λ (s : State). Stops s o) (at b options supply n) stops))
 
+-- where it stops under narrower limits, moves are not spent under wider ones either
+not_spent : (b b' : Bounds) (n : ℕ) (t : State) → AtLeast b b' → n ≤ b.moves → (AreSpent b.moves n (state_under b t) → ⊥) → AreSpent b'.moves n (state_under b' t) → ⊥
+not_spent b b' n t h allowed left spent =
+    let moves : b.moves ≤ b'.moves = h.moves in
+    let all : n ≡ b'.moves = spent.0 in
+    let same : n ≡ b.moves = omega (arith, all, moves, allowed) in
+    left (same, spent.1)
+
 pub limits_unmet : LimitsUnmet
 limits_unmet b b' options supply n n' o o' out out' h a a' unmet told told' =
+    let moves : b.moves ≤ b'.moves = h.moves in
+    let ends = unmet_stops b.moves n (state_after n (start b options supply)) o unmet a.ends in
     let e : n ≡ n' = elim (cases_lt n' n) [
-      | inl x ↦ absurd (no_earlier b b' options supply n n' o' h told' a.runs a'.runs a'.stops x)
-      | inr x ↦ elim (cases_lt n n') [ inl y ↦ absurd (no_later b b' options supply n n' o unmet told a'.runs a.stops y) | inr y ↦ omega arith ]
+      | inl x ↦ absurd (no_earlier b b' options supply n n' o' h told' (omega (arith, a.allowed, moves)) a.runs a'.runs a'.ends x)
+      | inr x ↦ elim (cases_lt n n') [ inl y ↦ absurd (no_later b b' options supply n n' o unmet told a'.runs ends.1 y) | inr y ↦ omega arith ]
     ] in
     let t = unlimited options supply n in
     let told_there = λ (q : Outcome) (is : is_settled supply.faults q ≡ true). settled_after q n (start nothing_allowed options supply) is in
-    let first = stops-under b b' t o unmet (told_there o told) (subst (λ (s : State). Stops s o) (at b options supply n) a.stops) in
-    let second = subst (λ (s : State). Stops s o') (at b' options supply n) (subst (λ k. Stops (state_after k (start b' options supply)) o') (sym e) a'.stops) in (
+    let left = subst (λ (s : State). AreSpent b.moves n s → ⊥) (at b options supply n) ends.0 in
+    let first : Ends b'.moves n (state_under b' t) o = inr (not_spent b b' n t h a.allowed left, stops-under b b' t o unmet (told_there o told) (subst (λ (s : State). Stops s o) (at b options supply n) ends.1)) in
+    let second = subst (λ (s : State). Ends b'.moves n s o') (at b' options supply n) (subst (λ k. Ends b'.moves k (state_after k (start b' options supply)) o') (sym e) a'.ends) in (
       e,
-      stops-one (state_under b' t) o o' (told_there o told) (told_there o' told') first second,
+      ends-one b'.moves n (state_under b' t) o o' (told_there o told) (told_there o' told') first second,
       text_at b options supply n o out a (settled-writes supply.faults o told) ∙ ap (unlimited_text options supply) e ∙ sym (text_at b' options supply n' o' out' a' (settled-writes supply.faults o' told')),
     )

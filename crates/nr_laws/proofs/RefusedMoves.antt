@@ -44,6 +44,7 @@ named_stored measures.Depth is = cc
 named_stored measures.Expansions is = cc
 named_stored measures.LineCells is = absurd is
 named_stored measures.PageCells is = absurd is
+named_stored measures.Moves is = absurd is
 
 named_depth : (m : Measure) → IsRefusal m refusals.Depth → m ≡ measures.Depth
 named_depth measures.Stored is = cc
@@ -51,6 +52,7 @@ named_depth measures.Depth is = refl
 named_depth measures.Expansions is = cc
 named_depth measures.LineCells is = absurd is
 named_depth measures.PageCells is = absurd is
+named_depth measures.Moves is = absurd is
 
 named_expansions : (m : Measure) → IsRefusal m refusals.Expansions → m ≡ measures.Expansions
 named_expansions measures.Stored is = cc
@@ -58,6 +60,7 @@ named_expansions measures.Depth is = cc
 named_expansions measures.Expansions is = refl
 named_expansions measures.LineCells is = absurd is
 named_expansions measures.PageCells is = absurd is
+named_expansions measures.Moves is = absurd is
 
 -- the refusal is this one
 is_this : (x y : Refusal) (m : Measure) → x ≡ y → IsRefusal m y → IsRefusal m x

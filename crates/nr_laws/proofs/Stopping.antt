@@ -40,6 +40,7 @@ for_limit measures.Stored r is = subst ForLimit (sym is) ForStored
 for_limit measures.Depth r is = subst ForLimit (sym is) ForDepth
 for_limit measures.LineCells r is = absurd is
 for_limit measures.PageCells r is = absurd is
+for_limit measures.Moves r is = absurd is
 for_limit measures.Expansions r is = subst ForLimit (sym is) ForExpansions
 
 pub no_sight : (s : Shown Resume) (c : Coming) (r : Refusal) → ForLimit r → RefusesLook s c r → ⊥
@@ -103,8 +104,10 @@ same_limit measures.Expansions measures.Depth r a b = cc
 same_limit measures.Expansions measures.Expansions r a b = refl
 same_limit measures.LineCells m' r a b = absurd a
 same_limit measures.PageCells m' r a b = absurd a
+same_limit measures.Moves m' r a b = absurd a
 same_limit m measures.LineCells r a b = absurd b
 same_limit m measures.PageCells r a b = absurd b
+same_limit m measures.Moves r a b = absurd b
 
 -- ---- a move that reads is made, or refused
 

@@ -24,6 +24,7 @@ pub record AtLeast (b b' : Bounds) : Type 0 where
   pub depth : b.depth ≤ b'.depth
   pub cells : b.cells ≤ b'.cells
   pub expansions : b.expansions ≤ b'.expansions
+  pub moves : b.moves ≤ b'.moves
 
 -- a source fails at no call, or at each call after so many bytes
 abbrev pub are_told : Faults → Bool
@@ -50,7 +51,7 @@ AnswersWith b options supply n outcome out = Answers b (start b options supply) 
 
 -- what its states have where limits stand: no move asks
 abbrev pub nothing_allowed : Bounds
-nothing_allowed = record { stored = 0; depth = 0; cells = 0; expansions = 0 }
+nothing_allowed = record { stored = 0; depth = 0; cells = 0; expansions = 0; moves = 0 }
 
 -- after n moves, whatever limits they pass
 abbrev pub unlimited : Options → Supply → ℕ → State

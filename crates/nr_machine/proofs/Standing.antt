@@ -1,5 +1,5 @@
 -- Moves, one after another. Nothing here knows the language.
-use Rattle.std.proofs.Common.{◌≡◌, ℕ, zero, suc, ◌+◌, ◌-◌, ◌*◌, ◌≤◌, List, [], ◌++◌, Option, refl, sym, ap, ◌∙◌, subst, append-nil, append_assoc, arith, inl, inr}
+use Rattle.std.proofs.Common.{◌≡◌, ℕ, zero, suc, ◌+◌, ◌-◌, ◌*◌, ◌≤◌, ◌<◌, List, [], ◌++◌, Option, refl, sym, ap, ◌∙◌, subst, append-nil, append_assoc, arith, inl, inr}
 use Rattle.std.specs.Io.KnownBytes.{Appends, Keeps}
 use Rattle.std.proofs.KnownBytes.{Appends-nil, Appends-trans, Appends-kept}
 use Rattle.std.proofs.lemmas.Bool.{cases_lt}
@@ -8,8 +8,9 @@ use Rattle.nr_options.specs.Limits.{Bounds}
 use Rattle.nr_machine.specs.State.{State, Choice}
 use Rattle.nr_machine.specs.Machine.{step, state_after}
 use Rattle.nr_machine.specs.Printing.{text}
-use Rattle.nr_machine.specs.Run.{Goes, Stops, Runs, Writes, Answers, moves_a_byte}
-use Rattle.nr_machine.specs.Holding.{Shape, Holds, Moved, Left, Made, Halts, Grows, Wrote, WritesFrom}
+use Rattle.nr_machine.specs.Run.{Goes, Stops, Ends, AreSpent, Runs, Writes, Answers, kind, Over, moves_a_byte}
+use Rattle.nr_machine.specs.Holding.{Shape, Holds, Moved, Left, Made, Halts, Finishes, Grows, Wrote, WritesFrom}
+use Rattle.nr_machine.specs.declared.outcome.Measure.TheVariants as measures
 use Rattle.nr_machine.specs.declared.outcome.Outcome.{Outcome}
 use Rattle.nr_machine.specs.declared.outcome.Outcome.TheVariants.{Done, Limit, ReadFault, TooLong, WriteFault}
 
@@ -95,10 +96,37 @@ halts_after chosen s n m e x outcome old mid new p q =
       writes = rw both (writes-add s (state_after n s) (state_after m (state_after n s)) outcome old mid new p.wrote q.writes);
     }
 
+-- where the run stops, it ends, if moves are left or it is over
+pub finishes_stopped : (most made : ℕ) (s : State) (n : ℕ) (outcome : Outcome) (old new : Option (List ℕ)) → made ≤ most → (AreSpent most made (state_after n s) → ⊥)
+    → Halts s n outcome old new → Finishes most made s n outcome old new
+finishes_stopped most made s n outcome old new allowed left h = record { runs = h.runs; allowed = allowed; ends = inr (left, h.stops); writes = h.writes }
+
+-- fewer moves were made than are allowed
+pub none_spent : (most n : ℕ) (s : State) → n < most → AreSpent most n s → ⊥
+none_spent most n s less spent = omega (arith, less, spent.0)
+
+-- moves are spent here
+pub finishes_spent : (chosen : List Choice) (most made : ℕ) (s : State) (n : ℕ) (e : Shape) (x : Option Supply) (at : ℕ) (old new : Option (List ℕ)) → made ≡ most → (kind (state_after n s) ≡ Over → ⊥)
+    → at ≡ (state_after n s).coming.taken → Made chosen s n e x old new → Finishes most made s n (Limit measures.Moves at) old new
+finishes_spent chosen most made s n e x at old new all due place m =
+    record { runs = m.runs; allowed = omega (arith, all); ends = inl ((all, due), ap (Limit measures.Moves) place); writes = m.wrote }
+
+-- moves, and then others up to where the run ends
+pub finishes_after : (chosen : List Choice) (most made : ℕ) (s : State) (n m : ℕ) (e : Shape) (x : Option Supply) (outcome : Outcome) (old mid new : Option (List ℕ))
+    → Made chosen s n e x old mid → Finishes most made (state_after n s) m outcome mid new → Finishes most made s (n + m) outcome old new
+finishes_after chosen most made s n m e x outcome old mid new p q =
+    let both = state_after-add s n m in
+    record {
+      runs = runs-add s n m p.runs q.runs;
+      allowed = q.allowed;
+      ends = rw both q.ends;
+      writes = rw both (writes-add s (state_after n s) (state_after m (state_after n s)) outcome old mid new p.wrote q.writes);
+    }
+
 -- from a state in which no page has ended
-pub answers : (b : Bounds) (s : State) (n : ℕ) (outcome : Outcome) (old new : Option (List ℕ)) → s.pages ≡ [] → Halts s n outcome old new
+pub answers : (b : Bounds) (s : State) (n : ℕ) (outcome : Outcome) (old new : Option (List ℕ)) → s.pages ≡ [] → Finishes b.moves n s n outcome old new
     → n ≤ moves_a_byte b * ((state_after n s).coming.taken + 1) → Answers b s n outcome old new
-answers b s n outcome old new none h bound = record { runs = h.runs; stops = h.stops; writes = from outcome h.writes; bound = bound }
+answers b s n outcome old new none h bound = record { runs = h.runs; allowed = h.allowed; ends = h.ends; writes = from outcome h.writes; bound = bound }
   where
     clean : (t : State) (more : List ℕ) → Grows s t more → more ≡ text t.pages
     clean t more g = sym (g.grows ∙ ap (λ z. text z ++ more) none)

@@ -26,7 +26,7 @@ use Rattle.nr_machine.specs.State.{State, Ended, Choice}
 use Rattle.nr_machine.specs.Machine.{step, state_after, exit, placed}
 use Rattle.nr_machine.specs.Printing.{bytes_of, text}
 use Rattle.nr_machine.specs.Measures.{IsWithin, passed}
-use Rattle.nr_machine.specs.Run.{Goes, Stops, Runs, kind_of_task, stops_reading}
+use Rattle.nr_machine.specs.Run.{Goes, Stops, Ends, Runs, kind_of_task, stops_reading}
 use Rattle.nr_machine.specs.Run as kinds
 use Rattle.nr_machine.specs.declared.engine.Engine.{Engine}
 use Rattle.nr_machine.specs.declared.outcome.Measure.{Measure}
@@ -265,4 +265,12 @@ WritesFrom s t WriteFault old new =
 pub record Halts (s : State) (n : ℕ) (outcome : Outcome) (old new : Option (List ℕ)) : Type 0 where
   pub runs : Runs n s
   pub stops : Stops (state_after n s) outcome
+  pub writes : WritesFrom s (state_after n s) outcome old new
+
+-- n moves were made from s, the last of `made` moves of a run that may make so many at most, and the run ends there
+pub record Finishes (most made : ℕ) (s : State) (n : ℕ) (outcome : Outcome) (old new : Option (List ℕ))
+    : Type 0 where
+  pub runs : Runs n s
+  pub allowed : made ≤ most
+  pub ends : Ends most made (state_after n s) outcome
   pub writes : WritesFrom s (state_after n s) outcome old new

@@ -1,5 +1,5 @@
 -- What a run under limits answers: the moves that it makes, and where it stops.
-use Rattle.std.specs.Prelude.{◌≡◌, ℕ, ◌<◌, ◌≤◌, ◌+◌, ◌*◌, List, [], ◌∷◌, ◌++◌, Option, None, Some, Result, Ok, Err, Bool, true, false}
+use Rattle.std.specs.Prelude.{◌≡◌, ◌≢◌, ◌⊎◌, ℕ, ◌<◌, ◌≤◌, ◌+◌, ◌*◌, List, [], ◌∷◌, ◌++◌, Option, None, Some, Result, Ok, Err, Bool, true, false}
 use Rattle.std.specs.Io.KnownBytes.{Appends}
 use Rattle.nr_units.specs.Failures.{SinkFailures, counted_if, put_counted_if}
 use Rattle.nr_units.specs.Sink.{AppendsFront}
@@ -104,6 +104,16 @@ Stops s TooLong = (kind s ≡ Reads) × input.Refuses (situation_of s) refusals.
 -- the next move is made and ends a page, but not all of it is written
 Stops s WriteFault = Goes s × EndsPage s
 
+-- So many moves were made as a run may make, and one more is due.
+abbrev pub AreSpent : ℕ → ℕ → State → Type 0
+AreSpent most n s = (n ≡ most) × (kind s ≢ Over)
+
+-- The run ends here after n moves, as the outcome says: where they are spent at the limit of all moves, and elsewhere as it stops.
+abbrev pub Ends : ℕ → ℕ → State → Outcome → Type 0
+Ends most n s outcome =
+    (AreSpent most n s × (outcome ≡ Limit measures.Moves s.coming.taken))
+    ⊎ ((AreSpent most n s → ⊥) × Stops s outcome)
+
 -- every one of the first n moves is made
 abbrev pub Runs : ℕ → State → Type 0
 Runs n s = (m : ℕ) → m < n → Goes (state_after m s)
@@ -130,11 +140,12 @@ Writes s WriteFault old new = BreaksOff s old new
 abbrev pub moves_a_byte : Bounds → ℕ
 moves_a_byte b = item_worth * (b.expansions + 1) * (b.stored + b.cells + b.depth + 4)
 
--- The machine makes n moves from s, and the run stops there as the outcome says.
+-- The machine makes n moves from s, as many as are allowed at most, and the run ends there as the outcome says.
 pub record Answers (b : Bounds) (s : State) (n : ℕ) (outcome : Outcome)
     (old new : Option (List ℕ)) : Type 0 where
   pub runs : Runs n s
-  pub stops : Stops (state_after n s) outcome
+  pub allowed : n ≤ b.moves
+  pub ends : Ends b.moves n (state_after n s) outcome
   pub writes : Writes (state_after n s) outcome old new
   pub bound : n ≤ moves_a_byte b * ((state_after n s).coming.taken + 1)
 

@@ -19,6 +19,8 @@ pub enum Measure {
     PageCells,
     /// The splices and springs since the last byte of the input was taken.
     Expansions,
+    /// All moves of the run.
+    Moves,
 }
 
 /// Why a move that may write is not made.

@@ -2,6 +2,7 @@ mod CellBytes
 mod EmptyLines
 mod Flows
 mod FontEscapes
+mod FrontAtHand
 mod Gliding
 mod Judged
 mod LevelLines

@@ -19,9 +19,9 @@ pub record NewlinesAtHand (bs : List ℕ) (n : ℕ) (e : Shape) (supply : Option
   pub room : 0 < n → e.place.taken + n < 2 ^ 40
 
 -- The empty line that was read went down if it may, and so many newlines of these bytes after it: as many as come next there,
--- and as there is room for.
+-- and as there is room for, or 65,536.
 pub record WentDown (bs : List ℕ) (n made : ℕ) (f : Formatter) : Type 0 where
   pub left : lines_below f ≡ 0 → made ≡ 0
   pub moves : 0 < lines_below f → made ≡ 3 + 4 * n
-  pub longest : is_at_line f.reader.half ≡ true → n + 1 < lines_below f → n < length bs
+  pub longest : is_at_line f.reader.half ≡ true → n + 1 < lines_below f → n < 65536 → n < length bs
       → slice_index bs n ≢ code "\n"

@@ -20,11 +20,12 @@ pub record Begins (bs : List ℕ) (e f : Shape) (supply : Option Supply) : Type 
   pub has : HasNext bs e supply
   pub is : f ≡ begun_shape e
 
--- As many of these bytes at hand were put as could be, some where text begins with them, and 20 moves more than the n are paid.
+-- As many of the first 65,536 of these bytes at hand were put as could be, some where text begins with them, and 20 moves more than
+-- the n are paid.
 pub record PutsMost (bs : List ℕ) (n : ℕ) (e f : Shape) : Type 0 where
   pub longest : e.formatter.store.levels ≡ [] → is_unseen e.place.ahead ≡ true
       → e.place.taken + length bs < 2 ^ 40
-      → Longest bs (f.place.taken - e.place.taken) n f.formatter
+      → Longest (take 65536 bs) (f.place.taken - e.place.taken) n f.formatter
   pub some : e.formatter.store.levels ≡ [] → is_unseen e.place.ahead ≡ true
       → BeginsText (may_take e.place bs) e.formatter → 0 < n
   pub saves : 0 < n → Saves 20 n e f

@@ -14,6 +14,9 @@ use nr_input::Event;
 use nr_machine::Engine;
 use nr_units::source::Source;
 
+/// How many empty lines after one that was read go down with it, at most.
+const MOST_LINES: u32 = 65_536;
+
 /// How many newlines these bytes begin with.
 fn count_newlines(bytes: &[u8]) -> usize
     ensures front { result ≤ length bytes.now }
@@ -48,13 +51,13 @@ fn newlines_next<R: Source>(engine: &Engine, input: &R, most: usize) -> usize
 }
 
 /// The empty line that was read goes down the open page, if it does nothing else, and so do those that the source has at
-/// hand after it, as far as there is room for them. Tells how many moves that was.
+/// hand after it, as far as there is room for them, 65,536 at most. Tells how many moves that was.
 #[inline(never)]
 fn put_empty_lines<R: Source>(engine: &mut Engine, input: &mut R) -> u128
     requires empty { engine.old.formatter.event ≡ events.Empty }
     ensures reads { MakesReading result (shape engine.old) (shape engine.new) (R.supply input.old)
         (R.supply input.new) (R.failures input.old) (R.failures input.new) }
-    ensures few { result < 2 ^ 66 }
+    ensures few { result ≤ 262147 }
     ensures longest { engine.old.formatter.store.levels ≡ [] → is_unseen engine.old.place.ahead ≡ true →
         engine.old.place.taken + length (R.at_hand input.old) < 2 ^ 40 →
         WentDown (R.at_hand input.old) (engine.new.place.taken - engine.old.place.taken) result
@@ -64,7 +67,7 @@ fn put_empty_lines<R: Source>(engine: &mut Engine, input: &mut R) -> u128
     if lines == 0 {
         return 0;
     }
-    let count = newlines_next(engine, input, (lines - 1) as usize);
+    let count = newlines_next(engine, input, (lines - 1).min(MOST_LINES) as usize);
     engine.formatter.go_down(count as u32 + 1);
     if count == 0 {
         return 3;
@@ -80,7 +83,7 @@ fn put_empty_lines<R: Source>(engine: &mut Engine, input: &mut R) -> u128
 pub(crate) fn read_lines<R: Source>(engine: &mut Engine, input: &mut R) -> u128
     ensures reads { MakesReading result (shape engine.old) (shape engine.new) (R.supply input.old)
         (R.supply input.new) (R.failures input.old) (R.failures input.new) }
-    ensures few { result < 2 ^ 67 }
+    ensures few { result ≤ 524301 }
 {
     if engine.formatter.store.is_reading() {
         return read_levels(engine);

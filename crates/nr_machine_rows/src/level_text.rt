@@ -1,5 +1,5 @@
 //! Words of levels: many moves in one call.
-ghost use Rattle.std.specs.Prelude.{◌≡◌, ◌+◌, ◌*◌, ◌≤◌, length, true};
+ghost use Rattle.std.specs.Prelude.{◌≡◌, ◌≤◌, length, true};
 ghost use Rattle.nr_units.specs.Character.{code};
 ghost use Rattle.nr_store.specs.Store.{shown};
 ghost use Rattle.nr_store.specs.Windows.{rest_of};
@@ -19,6 +19,9 @@ use nr_machine::Engine;
 
 /// The most words, newlines and interpolations of a text in one call.
 const MOST_PARTS: u32 = 4096;
+
+/// After how many moves no further part is put in one call.
+const ENOUGH_MOVES: u128 = 65_536;
 
 /// How many bytes of levels are gathered at once, at most.
 const LONGEST_LINE: usize = 128;
@@ -107,13 +110,13 @@ fn put_level_line(engine: &mut Engine) -> u128
 pub(crate) fn put_level_text(engine: &mut Engine) -> u128
     requires line { is_in_line engine.old.formatter ≡ true }
     ensures puts { MakesInPlace result (shape engine.old) (shape engine.new) }
-    ensures few { result ≤ 4096 * (65541 * 4096 + 711) }
+    ensures few { result ≤ 525004 }
 {
     let mut moves = 0u128;
     for _ in 0..MOST_PARTS {
         let next = put_level_line(engine) + read_levels_once(engine);
         moves += next;
-        if next == 0 || !engine.formatter.is_in_line() {
+        if next == 0 || !engine.formatter.is_in_line() || moves > ENOUGH_MOVES {
             return moves;
         }
     }

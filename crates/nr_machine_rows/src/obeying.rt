@@ -1,5 +1,5 @@
 //! Requests that only set or make space: many moves in one call.
-ghost use Rattle.std.specs.Prelude.{◌≡◌, ◌+◌, ◌*◌, ◌<◌, ◌≤◌, false};
+ghost use Rattle.std.specs.Prelude.{◌≡◌, ◌<◌, ◌≤◌, false};
 ghost use Rattle.nr_reading.specs.declared.event.Event.TheVariants as events;
 ghost use Rattle.nr_formatter.specs.Many.Obeying.{is_spacing};
 ghost use Rattle.nr_machine.specs.Holding.{shape, ReadsNext};
@@ -12,6 +12,9 @@ use nr_units::source::Source;
 
 /// The most lines of requests that are acted on in one call.
 const MOST_LINES: u32 = 4096;
+
+/// After how many moves no further line is read in one call.
+const ENOUGH_MOVES: u128 = 65_536;
 
 /// The request whose line was read takes effect, if it only sets or makes space, is not refused, and its break does nothing.
 /// Tells how many moves that was.
@@ -56,7 +59,7 @@ pub(crate) fn obey_lines<R: Source>(engine: &mut Engine, input: &mut R) -> u128
     requires request { engine.old.formatter.event ≡ events.Request }
     ensures reads { MakesReading result (shape engine.old) (shape engine.new) (R.supply input.old)
         (R.supply input.new) (R.failures input.old) (R.failures input.new) }
-    ensures few { result ≤ 4096 * 65540 }
+    ensures few { result ≤ 131076 }
 {
     let mut moves = 0u128;
     for _ in 0..MOST_LINES {
@@ -65,7 +68,7 @@ pub(crate) fn obey_lines<R: Source>(engine: &mut Engine, input: &mut R) -> u128
             return moves;
         }
         moves += obeyed;
-        if !reads_next(engine) {
+        if !reads_next(engine) || moves > ENOUGH_MOVES {
             return moves;
         }
         moves += read_control_line(engine, input);
@@ -110,7 +113,7 @@ fn answer(engine: &mut Engine) -> u128
 #[inline(always)]
 pub(crate) fn answer_behind(engine: &mut Engine) -> u128
     ensures answers { MakesInPlace result (shape engine.old) (shape engine.new) }
-    ensures few { result ≤ 4 + 4096 * (65541 * 4096 + 4) }
+    ensures few { result ≤ 524301 }
 {
     let answered = answer(engine);
     if answered == 0 {
@@ -124,16 +127,16 @@ pub(crate) fn answer_behind(engine: &mut Engine) -> u128
 #[inline(always)]
 pub(crate) fn read_levels(engine: &mut Engine) -> u128
     ensures reads { MakesInPlace result (shape engine.old) (shape engine.new) }
-    ensures few { result ≤ 4096 * (65541 * 4096 + 4) }
+    ensures few { result ≤ 524297 }
 {
     let mut moves = 0u128;
     for _ in 0..MOST_LINES {
         moves += read_levels_once(engine);
         let answered = answer(engine);
-        if answered == 0 {
+        moves += answered;
+        if answered == 0 || moves > ENOUGH_MOVES {
             return moves;
         }
-        moves += answered;
     }
     moves
 }

@@ -1,11 +1,11 @@
 //! Runs of plain bytes of a text line: many moves in one call.
-ghost use Rattle.std.specs.Prelude.{◌≡◌, ◌<◌, ◌^◌, true, false, [], length};
+ghost use Rattle.std.specs.Prelude.{◌≡◌, ◌+◌, ◌<◌, ◌≤◌, ◌^◌, true, false, [], length, take};
 ghost use Rattle.nr_input.specs.Place.{is_unseen};
 ghost use Rattle.nr_formatter.specs.Many.LineBeginnings.{is_at_text, BeginsText};
 ghost use Rattle.nr_formatter.specs.Many.Runs.{is_in_line};
 ghost use Rattle.nr_machine.specs.Holding.{shape};
 ghost use Rattle.nr_machine_rows.specs.LineBeginnings.{may_take, Begins, PutsMost};
-ghost use Rattle.nr_machine_rows.specs.Running.{MakesReading, Longest, LongestWords, PutsOfFlow, PutsText};
+ghost use Rattle.nr_machine_rows.specs.Running.{HasNext, MakesReading, Longest, LongestWords, PutsOfFlow, PutsText};
 
 use crate::empty_lines::read_lines;
 use crate::fonts::{begin_font, put_font};
@@ -17,6 +17,12 @@ use nr_formatter::formatter::Formatter;
 use nr_formatter::many::runs::Gap;
 use nr_machine::Engine;
 use nr_units::source::Source;
+
+/// The fewest moves that may be left for many to be made at once: no call makes more.
+const MOST_MOVES: u64 = 1 << 21;
+
+/// How many bytes that the source has at hand are put in one call, at most.
+const MOST_BYTES: usize = 65_536;
 
 /// How much of some bytes was put.
 #[derive(Clone, Copy)]
@@ -119,6 +125,24 @@ fn put_words(formatter: &mut Formatter, bytes: &[u8]) -> Words
     }
 }
 
+/// The bytes that come next of the input, as far as the source has them at hand: 65,536 at most.
+#[inline(always)]
+fn front_at_hand<'s, R: Source>(engine: &Engine, input: &'s R) -> &'s [u8]
+    ensures few { length result.now ≤ 65536 }
+    ensures room { engine.now.place.taken + length result.now < 2 ^ 40 }
+    ensures front { take (length result.now) (R.at_hand input.now) ≡ result.now }
+    ensures next { 0 < length result.now → HasNext result.now (shape engine.now) (R.supply input.now) }
+    ensures whole { engine.now.formatter.store.levels ≡ [] → is_unseen engine.now.place.ahead ≡ true →
+        engine.now.place.taken + length (R.at_hand input.now) < 2 ^ 40
+        → result.now ≡ take 65536 (R.at_hand input.now) }
+    ensures begins { engine.now.formatter.store.levels ≡ [] → is_unseen engine.now.place.ahead ≡ true →
+        BeginsText (may_take engine.now.place (R.at_hand input.now)) engine.now.formatter
+        → BeginsText result.now engine.now.formatter }
+{
+    let bytes = nr_input_rows::window(&engine.place, &engine.formatter.store, input);
+    &bytes[..MOST_BYTES.min(bytes.len())]
+}
+
 /// Reads and puts the text of the source at hand, in a text line that has begun, with the blanks and newlines that do
 /// nothing but end their word, and tells how many moves that was.
 #[inline(always)]
@@ -126,10 +150,10 @@ fn put_source_text<R: Source>(engine: &mut Engine, input: &mut R) -> u128
     requires line { is_in_line engine.old.formatter ≡ true }
     ensures reads { MakesReading result (shape engine.old) (shape engine.new) (R.supply input.old)
         (R.supply input.new) (R.failures input.old) (R.failures input.new) }
-    ensures few { result < 2 ^ 66 }
+    ensures few { result ≤ 327680 }
     ensures most { PutsMost (R.at_hand input.old) result (shape engine.old) (shape engine.new) }
 {
-    let bytes = nr_input_rows::window(&engine.place, &engine.formatter.store, input);
+    let bytes = front_at_hand(engine, input);
     let words = put_words(&mut engine.formatter, bytes);
     if words.taken == 0 {
         return 0;
@@ -162,7 +186,7 @@ fn put_text<R: Source>(engine: &mut Engine, input: &mut R) -> u128
     requires at_text { is_at_text engine.old.formatter ≡ true }
     ensures reads { MakesReading result (shape engine.old) (shape engine.new) (R.supply input.old)
         (R.supply input.new) (R.failures input.old) (R.failures input.new) }
-    ensures few { result < 2 ^ 66 }
+    ensures few { result ≤ 525004 }
 {
     let in_line = engine.formatter.is_in_line();
     if engine.formatter.store.is_reading() {
@@ -183,7 +207,7 @@ fn put_text<R: Source>(engine: &mut Engine, input: &mut R) -> u128
 fn read_behind<R: Source>(engine: &mut Engine, input: &mut R) -> u128
     ensures reads { MakesReading result (shape engine.old) (shape engine.new) (R.supply input.old)
         (R.supply input.new) (R.failures input.old) (R.failures input.new) }
-    ensures few { result < 2 ^ 67 }
+    ensures few { result ≤ 524301 }
 {
     if engine.formatter.store.is_reading() {
         return answer_behind(engine);
@@ -194,13 +218,11 @@ fn read_behind<R: Source>(engine: &mut Engine, input: &mut R) -> u128
 /// Reads and puts what is at hand, and tells how many moves that was: plain text, else cells of a diverted line, else what
 /// can be read without anything being done, and empty lines after it.
 #[inline(always)]
-pub fn put_at_hand<R: Source>(engine: &mut Engine, input: &mut R) -> u128
+fn put_next<R: Source>(engine: &mut Engine, input: &mut R) -> u128
     ensures reads { MakesReading result (shape engine.old) (shape engine.new) (R.supply input.old)
         (R.supply input.new) (R.failures input.old) (R.failures input.new) }
+    ensures few { result ≤ 1049305 }
 {
-    if !reads_next(engine) {
-        return 0;
-    }
     if engine.formatter.is_at_text() {
         let text = put_text(engine, input);
         if text > 0 {
@@ -212,4 +234,18 @@ pub fn put_at_hand<R: Source>(engine: &mut Engine, input: &mut R) -> u128
         return cells;
     }
     read_lines(engine, input)
+}
+
+/// Reads and puts what is at hand, where the input is read next and so many moves are left that there can't be more. Tells how many
+/// moves that was.
+#[inline(always)]
+pub fn put_at_hand<R: Source>(engine: &mut Engine, input: &mut R, left: u64) -> u64
+    ensures reads { MakesReading result (shape engine.old) (shape engine.new) (R.supply input.old)
+        (R.supply input.new) (R.failures input.old) (R.failures input.new) }
+    ensures few { result ≤ left }
+{
+    if left < MOST_MOVES || !reads_next(engine) {
+        return 0;
+    }
+    put_next(engine, input) as u64
 }

@@ -1,5 +1,5 @@
 //! Many moves that read, in one call.
-ghost use Rattle.std.specs.Prelude.{◌≡◌, ◌*◌, ◌≤◌, true, None};
+ghost use Rattle.std.specs.Prelude.{◌≡◌, ◌≤◌, true, None};
 ghost use Rattle.nr_reading.specs.declared.event.Event.TheVariants as events;
 ghost use Rattle.nr_formatter.specs.declared.tasks.Task.TheVariants as tasks;
 ghost use Rattle.nr_machine.specs.Holding.{shape};
@@ -137,7 +137,7 @@ pub(crate) fn read_source<R: Source>(engine: &mut Engine, input: &mut R) -> u128
 #[inline(always)]
 pub(crate) fn read_levels_once(engine: &mut Engine) -> u128
     ensures reads { MakesInPlace result (shape engine.old) (shape engine.new) }
-    ensures few { result ≤ 65541 * 4096 }
+    ensures few { result ≤ 458757 }
 {
     if !reads_next(engine) {
         return 0;

@@ -35,7 +35,7 @@ fn put_cells(row: &mut Out, elements: &[Element]) -> usize
 #[inline(always)]
 pub(crate) fn put_row(engine: &mut Engine) -> u128
     ensures puts { MakesInPlace result (shape engine.old) (shape engine.new) }
-    ensures few { result < 2 ^ 66 }
+    ensures few { result ≤ 8192 }
 {
     if !engine.formatter.is_rereading() || engine.row.is_empty() {
         return 0;

@@ -1,10 +1,10 @@
-//! The four limits under which a text is formatted.
+//! The five limits under which a text is formatted.
 ghost use Rattle.std.specs.Prelude.{◌≡◌, ◌^◌, ◌≤◌, ◌↔◌, IsTrue, IsSome, IfSome};
 ghost use Rattle.nr_options.specs.Limits.{AreLimits, IsInRange, with_bound};
 
 use std::marker::Model;
 
-/// One of the four limits.
+/// One of the five limits.
 #[derive(Clone, Copy)]
 pub enum Limit {
     /// The bytes stored: texts under names, registers, traps, open levels. 64 to 2^24.
@@ -15,6 +15,8 @@ pub enum Limit {
     Cells,
     /// The expansions between two bytes of the input. 1 to 2^32.
     Expansions,
+    /// All moves of a run. 64 to 2^64 - 1.
+    Moves,
 }
 
 impl Limit {
@@ -27,18 +29,20 @@ impl Limit {
             Limit::Depth => (1..=4096).contains(&number),
             Limit::Cells => (1..=1 << 24).contains(&number),
             Limit::Expansions => (1..=1 << 32).contains(&number),
+            Limit::Moves => (64..=u64::MAX).contains(&number),
         }
     }
 }
 
 /// How much a text may cost: the bytes stored, the depth of the input, the cells of a line and of a
-/// page, and the expansions between two bytes of the input.
+/// page, the expansions between two bytes of the input, and all moves.
 #[derive(Clone, Copy)]
 pub struct Limits {
     stored: u64,
     depth: u64,
     cells: u64,
     expansions: u64,
+    moves: u64,
 }
 
 impl Model for Limits {
@@ -51,6 +55,7 @@ impl Model for Limits {
       depth = l.depth;
       cells = l.cells;
       expansions = l.expansions;
+      moves = l.moves;
     } };
 
     ghost inverse = { λ b. record {
@@ -58,6 +63,7 @@ impl Model for Limits {
       depth = b.depth;
       cells = b.cells;
       expansions = b.expansions;
+      moves = b.moves;
     } };
 
     ghost invariant = { λ l. AreLimits (record {
@@ -65,26 +71,34 @@ impl Model for Limits {
       depth = l.depth;
       cells = l.cells;
       expansions = l.expansions;
+      moves = l.moves;
     }) };
 }
 
 impl Limits {
     /// None outside the ranges: 64 to 2^24 stored bytes, a depth of 1 to 4096, 1 to 2^24 cells, 1 to
-    /// 2^32 expansions.
-    pub fn new(stored: u64, depth: u64, cells: u64, expansions: u64) -> Option<Limits>
-        ensures ranges { IsSome result
-            ↔ AreLimits (record { stored = stored; depth = depth; cells = cells; expansions = expansions }) }
+    /// 2^32 expansions, 64 to 2^64 - 1 moves.
+    pub fn new(stored: u64, depth: u64, cells: u64, expansions: u64, moves: u64) -> Option<Limits>
+        ensures ranges { IsSome result ↔ AreLimits (record {
+          stored = stored;
+          depth = depth;
+          cells = cells;
+          expansions = expansions;
+          moves = moves;
+        }) }
         ensures value { IfSome result (λ limits. limits ≡ record {
           stored = stored;
           depth = depth;
           cells = cells;
           expansions = expansions;
+          moves = moves;
         }) }
     {
         let good = Limit::Stored.admits(stored)
             && Limit::Depth.admits(depth)
             && Limit::Cells.admits(cells)
-            && Limit::Expansions.admits(expansions);
+            && Limit::Expansions.admits(expansions)
+            && Limit::Moves.admits(moves);
         if !good {
             return None;
         }
@@ -93,6 +107,7 @@ impl Limits {
             depth,
             cells,
             expansions,
+            moves,
         })
     }
 
@@ -106,6 +121,7 @@ impl Limits {
             Limit::Depth => self.depth = number,
             Limit::Cells => self.cells = number,
             Limit::Expansions => self.expansions = number,
+            Limit::Moves => self.moves = number,
         }
     }
 
@@ -140,10 +156,18 @@ impl Limits {
     {
         self.expansions
     }
+
+    /// The most moves that a run may make.
+    pub fn moves(&self) -> u64
+        ensures value { result ≡ self.now.moves }
+        ensures least { 64 ≤ result }
+    {
+        self.moves
+    }
 }
 
-/// The limits where none are given: 262144 stored bytes, a depth of 256, 65536 cells and 1000000
-/// expansions.
+/// The limits where none are given: 262144 stored bytes, a depth of 256, 65536 cells, 1000000
+/// expansions, and 2^64 - 1 moves, which take thousands of years.
 impl Default for Limits {
     ghost use Rattle.std.specs.Prelude.{◌≡◌};
     ghost use Rattle.nr_options.specs.Limits.{default_bounds};
@@ -156,6 +180,7 @@ impl Default for Limits {
             depth: 256,
             cells: 65_536,
             expansions: 1_000_000,
+            moves: u64::MAX,
         }
     }
 }

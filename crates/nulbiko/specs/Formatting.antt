@@ -20,6 +20,7 @@ bounds_of limits =
       depth = limits.depth;
       cells = limits.cells;
       expansions = limits.expansions;
+      moves = limits.moves;
     }
 
 -- the number of an outcome
@@ -38,6 +39,7 @@ limit_number measures.Depth = 2
 limit_number measures.LineCells = 3
 limit_number measures.PageCells = 4
 limit_number measures.Expansions = 5
+limit_number measures.Moves = 6
 
 -- which limit would be passed, and 0 where none would
 abbrev pub limit_told : Outcome → ℕ

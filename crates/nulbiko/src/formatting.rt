@@ -13,7 +13,7 @@ use super::told::{
 use nr_engine::{CountedAlloc, Desk, Limits, Measure, Options, Outcome, format};
 use std::alloc::{AllocError, Global};
 
-/// The four limits.
+/// The five limits.
 #[repr(C)]
 #[derive(Clone, Copy)]
 pub struct TextLimits {
@@ -25,6 +25,8 @@ pub struct TextLimits {
     pub cells: u64,
     /// The expansions between two bytes of the input, 1 to 2^32.
     pub expansions: u64,
+    /// All moves of a run, 64 to 2^64 - 1.
+    pub moves: u64,
 }
 
 /// What a run is given beside its text and its limits.
@@ -35,7 +37,7 @@ pub struct TextOptions {
     pub first: i64,
 }
 
-/// The number of a limit: 1 for stored bytes, 2 depth, 3 cells of a line, 4 cells of a page, 5 expansions.
+/// The number of a limit: 1 for stored bytes, 2 depth, 3 cells of a line, 4 cells of a page, 5 expansions, 6 moves.
 fn limit_number(which: Measure) -> u32
     ensures { result ≡ limit_number which }
 {
@@ -45,6 +47,7 @@ fn limit_number(which: Measure) -> u32
         Measure::LineCells => 3,
         Measure::PageCells => 4,
         Measure::Expansions => 5,
+        Measure::Moves => 6,
     }
 }
 
@@ -154,8 +157,13 @@ pub extern "C" fn nulbiko_format_lent(
     ensures no_memory { result ≡ 5 → (output.new ≡ output.old) × (told.new ≡ nothing_told) }
 {
     *told = Report::nothing();
-    let Some(bounds) = Limits::new(limits.stored, limits.depth, limits.cells, limits.expansions)
-    else {
+    let Some(bounds) = Limits::new(
+        limits.stored,
+        limits.depth,
+        limits.cells,
+        limits.expansions,
+        limits.moves,
+    ) else {
         return OUT_OF_RANGE;
     };
     match format_text(alloc, bounds, options.first, input, output, told) {

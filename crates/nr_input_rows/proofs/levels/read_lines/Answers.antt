@@ -60,7 +60,7 @@ loop-preserved g c =
           subst (λ (e : Event). PaysMany (c.loop.moves + part.moves) v p r e w p s) silent
           (many_then part.moves c.loop.moves v c.loop.store w p p p r c.loop.reader s part.event (c.loop.invariant.pays p) (c.read_part-part.ensures.pays p));
       limits = c.read_part-part.ensures.limits ∙ c.loop.invariant.limits;
-      few = omega (arith, c.loop.invariant.few, c.read_part-part.ensures.few);
+      few = omega (arith, c.if-moves-gt-ENOUGH_MOVES.false);
       many = omega (arith, c.loop.invariant.many, c.if-part-eq0.false);
       first = λ none. absurd (omega (arith, none, c.if-part-eq0.false));
     }

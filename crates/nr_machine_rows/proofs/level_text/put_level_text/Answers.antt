@@ -21,5 +21,5 @@ pub loop-preserved : goal.loop-preserved
 loop-preserved c = record {
   puts = part ((goal.at.loop-preserved c).After-read_levels_once);
   line = sym c.is_in_line.ensures ∙ c.if-not-is_in_line.false;
-  few = omega (arith, c.loop.invariant.few, c.put_level_line.ensures.few, c.read_levels_once.ensures.few);
+  few = omega (arith, c.if-moves-gt-ENOUGH_MOVES.false);
 }

@@ -1,4 +1,4 @@
-use Rattle.std.proofs.Common.{◌≡◌, ◌+◌, ◌*◌, ◌≤◌, true}
+use Rattle.std.proofs.Common.{◌≡◌, ◌≤◌, true}
 use Rattle.nr_formatter.specs.Many.Runs.{is_in_line}
 use Rattle.nr_machine.specs.Holding.{shape}
 use Rattle.nr_machine_rows.specs.Running.{MakesInPlace}
@@ -8,5 +8,5 @@ abbrev pub invariant-loop : goal.invariant-loop
 invariant-loop l = record {
   puts : MakesInPlace l.moves (shape l.fn.engine) (shape l.engine);
   line : is_in_line l.engine.formatter ≡ true;
-  few : l.moves ≤ (65541 * 4096 + 711) * l.counter;
+  few : l.moves ≤ 65536;
 }

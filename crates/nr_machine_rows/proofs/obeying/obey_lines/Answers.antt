@@ -32,7 +32,7 @@ loop-preserved g c = record {
       (reading_in_place c.obey-obeyed.result (shape c.loop.engine) (shape c.obey-obeyed.new.engine) _ _ c.obey-obeyed.ensures.obeys))
       c.read_control_line-moves.ensures.reads;
   request = c.in-Request.is;
-  few = omega (arith, c.loop.invariant.few, c.obey-obeyed.ensures.few, c.read_control_line-moves.ensures.few);
+  few = omega (arith, c.if-moves-gt-ENOUGH_MOVES.false, c.read_control_line-moves.ensures.few);
 }
 
 pub returns-in_default : goal.returns-in_default
@@ -41,11 +41,11 @@ returns-in_default g c = record {
       (reading-add c.loop.moves c.obey-obeyed.result (shape c.args.engine.now) (shape c.loop.engine) (shape c.obey-obeyed.new.engine) _ _ _ _ _ _ c.loop.invariant.reads
       (reading_in_place c.obey-obeyed.result (shape c.loop.engine) (shape c.obey-obeyed.new.engine) _ _ c.obey-obeyed.ensures.obeys))
       c.read_control_line-moves.ensures.reads;
-  few = omega (arith, c.loop.invariant.few, c.loop-test.true, c.obey-obeyed.ensures.few, c.read_control_line-moves.ensures.few);
+  few = omega (arith, c.if-moves-gt-ENOUGH_MOVES.false, c.read_control_line-moves.ensures.few);
 }
 
 pub returns-clause-reads : goal.returns-clause-reads
 returns-clause-reads g c = c.loop.invariant.reads
 
 pub returns-clause-few : goal.returns-clause-few
-returns-clause-few g c = omega (arith, c.loop.invariant.few, c.loop-test.false, c.loop.auto.counter-end)
+returns-clause-few g c = omega (arith, c.loop.invariant.few)

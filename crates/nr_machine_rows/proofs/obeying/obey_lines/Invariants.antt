@@ -1,4 +1,4 @@
-use Rattle.std.proofs.Common.{◌≡◌, ◌*◌, ◌≤◌}
+use Rattle.std.proofs.Common.{◌≡◌, ◌≤◌}
 use Rattle.nr_reading.specs.declared.event.Event.TheVariants as events
 use Rattle.nr_machine.specs.Holding.{shape}
 use Rattle.nr_machine_rows.specs.Running.{MakesReading}
@@ -8,5 +8,5 @@ abbrev pub invariant-loop : goal.invariant-loop
 invariant-loop g l = record {
   reads : MakesReading l.moves (shape l.fn.engine) (shape l.engine) (g.R.Source.supply l.fn.input) (g.R.Source.supply l.input) (g.R.Source.failures l.fn.input) (g.R.Source.failures l.input);
   request : l.engine.formatter.event ≡ events.Request;
-  few : l.moves ≤ 65540 * l.counter;
+  few : l.moves ≤ 131072;
 }

@@ -1,4 +1,4 @@
-use Rattle.std.proofs.Common.{◌+◌, ◌*◌, ◌≤◌}
+use Rattle.std.proofs.Common.{◌≤◌}
 use Rattle.nr_machine.specs.Holding.{shape}
 use Rattle.nr_machine_rows.specs.Running.{MakesInPlace}
 use Rattle.nr_machine_rows.proofs.obeying.read_levels.Given as goal
@@ -6,5 +6,5 @@ use Rattle.nr_machine_rows.proofs.obeying.read_levels.Given as goal
 abbrev pub invariant-loop : goal.invariant-loop
 invariant-loop l = record {
   reads : MakesInPlace l.moves (shape l.fn.engine) (shape l.engine);
-  few : l.moves ≤ (65541 * 4096 + 4) * l.counter;
+  few : l.moves ≤ 65536;
 }
