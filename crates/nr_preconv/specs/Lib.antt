@@ -21,6 +21,7 @@ pub mod Runs
 pub mod Saying
 pub mod Skipping
 pub mod Spelling
+pub mod Staged
 pub mod Translations
 pub mod Unread
 pub mod Words
