@@ -35,7 +35,7 @@
 .\"   )row 1 while a line is kept aside for the page's end, )rows its height
 .\"   )in-table 1 in a table, )flat 1 where a paragraph of it is in no block, )head height
 .\"   of its head   )level of a heading, )style and )sn 1 for numbers without a point
-.\" Private texts: )title )abstract-text, )kept-text, )keepN, )raw-notes, )notes, )notes-later, )notes-over,
+.\" Private texts: )title )abstract-text, )tag-text )item )note-mark, )kept-text, )keepN, )raw-notes, )notes, )notes-later, )notes-over,
 .\"   )line (kept aside), )contents, )head-text, )oh )eh )of )ef titles
 .cp 0
 .ds REFERENCES References
@@ -148,33 +148,29 @@
 .ie \\n[)bell] .DS L
 .el .nr )first 1
 ..
-.\" words with a blank between two of them
+.\" the words of a macro with a blank between two of them, as )joined; definitions take this in
 .de )join
-.ds )joined "\\$1
-.if !\a\\$2\a\a .as )joined " \\$2
-.if !\a\\$3\a\a .as )joined " \\$3
-.if !\a\\$4\a\a .as )joined " \\$4
-.if !\a\\$5\a\a .as )joined " \\$5
-.if !\a\\$6\a\a .as )joined " \\$6
-.if !\a\\$7\a\a .as )joined " \\$7
-.if !\a\\$8\a\a .as )joined " \\$8
-.if !\a\\$9\a\a .as )joined " \\$9
+.ds )joined "\\\\$1
+.if !\a\\\\$2\a\a .as )joined " \\\\$2
+.if !\a\\\\$3\a\a .as )joined " \\\\$3
+.if !\a\\\\$4\a\a .as )joined " \\\\$4
+.if !\a\\\\$5\a\a .as )joined " \\\\$5
+.if !\a\\\\$6\a\a .as )joined " \\\\$6
+.if !\a\\\\$7\a\a .as )joined " \\\\$7
+.if !\a\\\\$8\a\a .as )joined " \\\\$8
+.if !\a\\\\$9\a\a .as )joined " \\\\$9
 ..
 .de OH
-.)join "\\$1" "\\$2" "\\$3" "\\$4" "\\$5" "\\$6" "\\$7" "\\$8" "\\$9"
-.ds )oh "\\*[)joined]
+\*[)join].ds )oh "\\*[)joined]
 ..
 .de EH
-.)join "\\$1" "\\$2" "\\$3" "\\$4" "\\$5" "\\$6" "\\$7" "\\$8" "\\$9"
-.ds )eh "\\*[)joined]
+\*[)join].ds )eh "\\*[)joined]
 ..
 .de OF
-.)join "\\$1" "\\$2" "\\$3" "\\$4" "\\$5" "\\$6" "\\$7" "\\$8" "\\$9"
-.ds )of "\\*[)joined]
+\*[)join].ds )of "\\*[)joined]
 ..
 .de EF
-.)join "\\$1" "\\$2" "\\$3" "\\$4" "\\$5" "\\$6" "\\$7" "\\$8" "\\$9"
-.ds )ef "\\*[)joined]
+\*[)join].ds )ef "\\*[)joined]
 ..
 .\" notes that waited for this page
 .de )notes-wait
@@ -312,13 +308,11 @@
 .pn 0
 ..
 .de DA
-.)join "\\$1" "\\$2" "\\$3" "\\$4" "\\$5" "\\$6" "\\$7" "\\$8" "\\$9"
-.if \\n(.$ .ds DY "\\*[)joined]
+\*[)join].if \\n(.$ .ds DY "\\*[)joined]
 .ds CF \\*(DY
 ..
 .de ND
-.)join "\\$1" "\\$2" "\\$3" "\\$4" "\\$5" "\\$6" "\\$7" "\\$8" "\\$9"
-.if \\n(.$ .ds DY "\\*[)joined]
+\*[)join].if \\n(.$ .ds DY "\\*[)joined]
 ..
 .\" a part of the cover: set apart before the first paragraph, else where it is
 .de )part
@@ -540,19 +534,20 @@
 .if \\n(.$>1 .nr )width 0
 .if \\n(.$>1 .nr )width \\$2n
 .)start \\n[)width] 0
+.ds )tag-text "\\$1
 .nr )w \w\a\\$1\a
 .ie \\n[)flat] \&\\$1\ \c
-.el .if \\n()w .)tag "\\$1"
+.el .if \\n()w .)tag
 ..
 .de )tag
 .ti -\\n[)width]u
 .ie \\n()w<\\n[)width] \{\
 'nf
-\&\\$1\h\a|\\n[)width]u\a\c
+\&\\*[)tag-text]\h\a|\\n[)width]u\a\c
 'fi
 .\}
 .el \{\
-\&\\$1
+\&\\*[)tag-text]
 .br
 .\}
 ..
@@ -676,14 +671,20 @@
 .\" of later groff: the text of a heading, and an entry of the contents
 .de XN
 \&\\$1 \\$2 \\$3 \\$4 \\$5 \\$6 \\$7 \\$8 \\$9
-.)join "\\$1" "\\$2" "\\$3" "\\$4" "\\$5" "\\$6" "\\$7" "\\$8" "\\$9"
-.XS
+\*[)join].XS
 \\*[SN]\0 \\*[)joined]
 .XE
 ..
 .de XH
 \&\\$2 \\$3 \\$4 \\$5 \\$6 \\$7 \\$8 \\$9
-.)join "\\$2" "\\$3" "\\$4" "\\$5" "\\$6" "\\$7" "\\$8" "\\$9"
+.ds )joined "\\$2
+.if !\a\\$3\a\a .as )joined " \\$3
+.if !\a\\$4\a\a .as )joined " \\$4
+.if !\a\\$5\a\a .as )joined " \\$5
+.if !\a\\$6\a\a .as )joined " \\$6
+.if !\a\\$7\a\a .as )joined " \\$7
+.if !\a\\$8\a\a .as )joined " \\$8
+.if !\a\\$9\a\a .as )joined " \\$9
 .XS
 \\*[)joined]
 .XE
@@ -736,7 +737,8 @@ Piscataway, New Jersey 08854
 ..
 .\" ---- fonts: a word, what stands behind it, before it; of more words all
 .de B
-.if \\n(.$>3 .)join "\\$1" "\\$2" "\\$3" "\\$4" "\\$5" "\\$6" "\\$7" "\\$8" "\\$9"
+.if \\n(.$>3 \{\
+\*[)join].\}
 .ie \\n(.$>3 \&\fB\\*[)joined]\fP
 .el .ie \\n(.$ \&\\$3\fB\\$1\fP\\$2
 .el \{\
@@ -745,7 +747,8 @@ Piscataway, New Jersey 08854
 .\}
 ..
 .de I
-.if \\n(.$>3 .)join "\\$1" "\\$2" "\\$3" "\\$4" "\\$5" "\\$6" "\\$7" "\\$8" "\\$9"
+.if \\n(.$>3 \{\
+\*[)join].\}
 .ie \\n(.$>3 \&\fI\\*[)joined]\fP
 .el .ie \\n(.$ \&\\$3\fI\\$1\fP\\$2
 .el \{\
@@ -754,7 +757,8 @@ Piscataway, New Jersey 08854
 .\}
 ..
 .de R
-.if \\n(.$>3 .)join "\\$1" "\\$2" "\\$3" "\\$4" "\\$5" "\\$6" "\\$7" "\\$8" "\\$9"
+.if \\n(.$>3 \{\
+\*[)join].\}
 .ie \\n(.$>3 \&\fR\\*[)joined]\fP
 .el .ie \\n(.$ \&\\$3\fR\\$1\fP\\$2
 .el \{\
@@ -763,25 +767,27 @@ Piscataway, New Jersey 08854
 .\}
 ..
 .de CW
-.if \\n(.$>3 .)join "\\$1" "\\$2" "\\$3" "\\$4" "\\$5" "\\$6" "\\$7" "\\$8" "\\$9"
+.if \\n(.$>3 \{\
+\*[)join].\}
 .ie \\n(.$>3 \&\fR\\*[)joined]\fP
 .el .ie \\n(.$ \&\\$3\fR\\$1\fP\\$2
 .el .R
 ..
 .de BI
-.if \\n(.$>3 .)join "\\$1" "\\$2" "\\$3" "\\$4" "\\$5" "\\$6" "\\$7" "\\$8" "\\$9"
+.if \\n(.$>3 \{\
+\*[)join].\}
 .ie \\n(.$>3 \&\fI\\*[)joined]\fP
 .el .ie \\n(.$ \&\\$3\fI\\$1\fP\\$2
 .el .I
 ..
 .de UL
-.if \\n(.$>2 .)join "\\$1" "\\$2" "\\$3" "\\$4" "\\$5" "\\$6" "\\$7" "\\$8" "\\$9"
+.if \\n(.$>2 \{\
+\*[)join].\}
 .ie \\n(.$>2 \&\fI\\*[)joined]\fP
 .el .if \\n(.$ \&\fI\\$1\fP\\$2
 ..
 .de BX
-.)join "\\$1" "\\$2" "\\$3" "\\$4" "\\$5" "\\$6" "\\$7" "\\$8" "\\$9"
-\&[\\*[)joined]]
+\*[)join]\&[\\*[)joined]]
 ..
 .de UX
 \&UNIX\\$1\\*[)unix]
@@ -1047,7 +1053,8 @@ Piscataway, New Jersey 08854
 .if !\\n(.$ .if \\n[)marks]>\\n[)mark] .ds )m \\n+[)mark]
 .nr )raw +1
 .am )raw-notes FE
-.)note "\\*()m" \\n[)own] \\n(FF
+.ds )note-mark "\\*()m
+.)note \\n[)own] \\n(FF
 ..
 .de FE
 .if \\n(.t>160u .if !\\n[)keep] .if '\\n(.z'' \{\
@@ -1055,14 +1062,14 @@ Piscataway, New Jersey 08854
 .)place
 .\}
 ..
-.\" begins a note: mark, 1 if it is the writer's own, the form that it has
+.\" begins a note, of the mark )note-mark: 1 if it is the writer's own, the form that it has
 .de )note
 .)finish
 .if \\n[)second-note] .sp \\n[FPD]u
 .nr )second-note 1
 .nr )form \\n(FF
-.nr FF \\$3
-.FP "\\$1" \\$2
+.nr FF \\$2
+.FP "\\\\*[)note-mark]" \\$1
 .nr FF \\n[)form]
 ..
 .\" how notes begin, by FF
@@ -1511,7 +1518,8 @@ Piscataway, New Jersey 08854
 .el \&\\$2 <\\$1>\\$3
 ..
 .de FTP
-.URL "\\$1" "\\$2" "\\$3"
+.ie \a\\$2\a\a \&<\\$1>\\$3
+.el \&\\$2 <\\$1>\\$3
 ..
 .de MTO
 .ie \a\\$2\a\a \&\\$1\\$3
@@ -1547,7 +1555,10 @@ Piscataway, New Jersey 08854
 .de LI
 .nr )w \\n[)list\\n[)depth]]
 .ie \\n()w=1 .IP \\*[)bullet\\n[)bullets]] 3
-.el .ie \\n()w=3 .IP "\\$1"
+.el .ie \\n()w=3 \{\
+.ds )item "\\$1
+.IP "\\\\*[)item]"
+.\}
 .el \{\
 .nr )item\\n[)depth] +1
 .IP \\n[)item\\n[)depth]]. 4
