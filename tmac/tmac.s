@@ -11,7 +11,7 @@
 .\" Others      .SC .P2 .UC .SG .CT, addresses .MH .HO .WH .IH .PY
 .\" Of groff    .als .nop, and of www.tmac .URL .FTP .MTO .DC .ULS .OLS .DLS .LI
 .\" Titles      .OH .EH .OF .EF 'left'centre'right'   strings LH CH RH LF CF RF
-.\" Columns     .1C .2C .MC: one column
+.\" Columns     .2C   .MC width gap   .1C
 .\" Registers   LL LT FL PO HM FM PI QI DI FI PD DD FPD in u, PS VS FF PORPHANS
 .\"             HORPHANS, H1 to H8, PN
 .\" Options     -rLN lines of N cells (60)
@@ -24,7 +24,8 @@
 .\"   )cover 1 while its parts are set apart, 2 behind them, )titling 1 in the title,
 .\"   )abstract 1 in it, )report 1 after .RP, )again 1 if the title comes again
 .\"   )begun 1 from the first page on, )first 1 for a header on it, )aside 1 on a page
-.\"   without header and footer, )top the first place below the header
+.\"   without header and footer, )top the first place below the header or of the columns,
+.\"   )columns how many, )column this one, )gap between two, )all-LL )all-FL of the page
 .\"   )kind of a display   )keep depth of keeps, )keeping that of the one that is set apart
 .\"   )boxed depth of boxes, )box-keep that of keeps around them
 .\"   )float 1 in a keep that floats: of )kept )shown were printed, )wait1 .. are the
@@ -117,6 +118,7 @@
 .de )header
 .if !\\n[)begun] .)begin
 .nr PN \\n%
+.nr )column 1
 .po \\n(POu
 .rs
 'sp \\n(HMu/2u
@@ -198,6 +200,15 @@
 .if \\n[)raw] .)set-at-bottom
 .nr )room 0
 .if \\n[)noted] .)print-notes
+.ie \\n[)column]<\\n[)columns] .)next-column
+.el .)end-page
+.)place
+.if !\\n[)floating] .if \\n[)kept]>\\n[)shown] .)floats
+.if \\n[)head] .)print-head
+.if \\n[)row] .)back
+..
+.de )end-page
+.po \\n(POu
 'sp |(\\n(.pu-(\\n(FMu/2u))
 .if !\\n[)aside] \{\
 .lt \\n(LTu
@@ -206,10 +217,15 @@
 .ft P
 .\}
 'bp
-.)place
-.if !\\n[)floating] .if \\n[)kept]>\\n[)shown] .)floats
-.if \\n[)head] .)print-head
-.if \\n[)row] .)back
+..
+.\" where the columns of this page begin, further to the right
+.de )next-column
+.nr )column +1
+.nr )o \\n(LL+\\n[)gap]*(\\n[)column]-1)+\\n(PO
+.po \\n()ou
+'sp |\\n[)top]u
+.if \\n[)later] .)notes-wait
+.ns
 ..
 .\" the line under way is kept aside; it comes back as one word
 .de )aside
@@ -273,6 +289,7 @@
 .if '\\n(.z'' .)last-pages
 ..
 .de )last-pages
+.nr )column \\n[)columns]
 .if \\n(nl \{\
 .rs
 .bp
@@ -1499,14 +1516,56 @@ Piscataway, New Jersey 08854
 .nr PN 1
 .PX \\$1
 ..
-.\" ---- columns: there is one
-.de MC
-.)finish
-..
+.\" ---- columns, from here to the end of the page and on; LL is the width of one meanwhile
 .de 2C
-.)finish
+.MC
 ..
 .de 1C
+.)finish
+.if \\n[)columns]>1 .)end-columns
+..
+.de MC
+.1C
+.if \\n[)kept]>\\n[)shown] .)last
+.if !\\n[)begun] .)begin
+.nr )all-LL \\n(LL
+.nr )all-FL \\n(FL
+.nr )w \\n(LL*7/15
+.nr )gap \\n(LL-(2*\\n()w)
+.if \\n(.$ .)column-width \\$1n \\$2
+.if \\n()w<24 .nr )w 24
+.nr )columns \\n(LL-\\n()w/(\\n()w+\\n[)gap])+1
+.if \\n[)columns]>1 .)begin-columns
+..
+.de )column-width
+.if 0<\\$1 .nr )w \\$1
+.if \\n()w>\\n(LL .nr )w \\n(LL
+.nr )gap \\n[MINGW]
+.if \\n(.$>1 .nr )gap \\$2n
+.if \\n[)gap]<0 .nr )gap 0
+..
+.de )begin-columns
+.nr )w \\n()w/24*24
+.nr )gap \\n(LL-(\\n()w*\\n[)columns])/(\\n[)columns]-1)
+.nr LL \\n()w
+.nr FL \\n()w*5/6
+.nr )column 1
+.if !\\n(nl .sp 0
+.nr )top \\n(nl
+.)finish
+.ns
+..
+.\" the end of the columns, and of the page
+.de )end-columns
+.if \\n[)raw] .)set-now
+.nr )column \\n[)columns]
+.if \\n(nl \{\
+.rs
+.bp
+.\}
+.nr )columns 1
+.nr LL \\n[)all-LL]
+.nr FL \\n[)all-FL]
 .)finish
 ..
 .\" index words are not printed
@@ -1588,6 +1647,8 @@ Piscataway, New Jersey 08854
 .nr )width 5n
 .ll \n(LLu
 .TA
+.nr )columns 1
+.nr )column 1
 .wh 0 )header
 .em )end
 .\" end of tmac.s
