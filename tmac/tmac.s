@@ -7,6 +7,7 @@
 .\" Displays    .DS kind .DE kept together   .ID .LD .CD .BD .RD not   .B1 .B2
 .\" Keeps       .KS .KF .KE        Notes  \** and then .FS mark .FE
 .\" Tables      .TS H .TH .TE      Equations  .EQ kind number .EN   .PS .PE
+.\" References  of refer .]- .][ kind .]< .]>
 .\" Contents    .XS page indent .XA .XE   .PX no   .TC no   .XN words .XH level words
 .\" Others      .SC .P2 .UC .SG .CT, addresses .MH .HO .WH .IH .PY
 .\" Of groff    .als .nop, and of www.tmac .URL .FTP .MTO .DC .ULS .OLS .DLS .LI
@@ -22,10 +23,12 @@
 .\"   )left )right margins of .RS and .QS, )pleft )pright those of a paragraph in
 .\"   them, )width that of tags, )depth with )left1, )left2 .. the ones before
 .\"   )cover 1 while its parts are set apart, 2 behind them, )titling 1 in the title,
+.\"   )names 1 after .AU, )institution 1 after .AI,
 .\"   )abstract 1 in it, )report 1 after .RP, )again 1 if the title comes again
 .\"   )begun 1 from the first page on, )first 1 for a header on it, )aside 1 on a page
 .\"   without header and footer, )top the first place below the header or of the columns,
-.\"   )columns how many, )column this one, )gap between two, )all-LL )all-FL of the page
+.\"   )columns how many, )column this one, )gap between two, )all-LL )all-FL of the page,
+.\"   )low lowest place of them   )wide height of notes from above them
 .\"   )kind of a display   )keep depth of keeps, )keeping that of the one that is set apart
 .\"   )boxed depth of boxes, )box-keep that of keeps around them
 .\"   )float 1 in a keep that floats: of )kept )shown were printed, )wait1 .. are the
@@ -33,7 +36,8 @@
 .\"   )marks numbers of notes in the text, )mark in notes   )raw notes not set yet, with
 .\"   )room kept for them, )noted height of the set ones of this page, )later of the next
 .\"   )italics 1 while text is in italics, )centred 1 while lines are centred
-.\"   )row 1 while a line is kept aside for the page's end, )rows its height
+.\"   )row 1 while a line is kept aside, )rows its height, )set-apart1 1 if the footer
+.\"   does so, with )footers depth of footers
 .\"   )in-table 1 in a table, )flat 1 where a paragraph of it is in no block, )head height
 .\"   of its head   )level of a heading, )style and )sn 1 for numbers without a point
 .\" Private texts: )title )abstract-text, )tag-text )item )note-mark, )kept-text, )keepN, )raw-notes, )notes, )notes-later, )notes-over,
@@ -65,10 +69,10 @@
 .ds <
 .ds >
 .ds CH -\\n(PN-
-.ds )oh \a\\*(LH\a\\*(CH\a\\*(RH\a
-.ds )eh \a\\*(LH\a\\*(CH\a\\*(RH\a
-.ds )of \a\\*(LF\a\\*(CF\a\\*(RF\a
-.ds )ef \a\\*(LF\a\\*(CF\a\\*(RF\a
+.ds )oh \a\\*(LH\a\\*[)blank]\\*(CH\a\\*(RH\a
+.ds )eh \a\\*(LH\a\\*[)blank]\\*(CH\a\\*(RH\a
+.ds )of \a\\*(LF\a\\*[)blank]\\*(CF\a\\*(RF\a
+.ds )ef \a\\*(LF\a\\*[)blank]\\*(CF\a\\*(RF\a
 .ds )unix (R)
 .ds )bullet1 \(bu
 .ds )bullet2 []
@@ -125,6 +129,7 @@
 .if !\\n[)aside] \{\
 .lt \\n(LTu
 .ft R
+.)middle \\*(CH
 .PT
 .ft P
 .HD
@@ -134,6 +139,13 @@
 .if \\n[)later] .)notes-wait
 .)place
 .ns
+..
+.\" where the rest is odd the middle stands a blank further to the right
+.de )middle
+.ds )blank
+.ds )middle-text \\$1 \\$2 \\$3 \\$4 \\$5 \\$6 \\$7 \\$8 \\$9
+.nr )w \\n(LT-\w\a\\*[)middle-text]\a/24%2
+.if \\n()w>0 .ds )blank "\ \&
 ..
 .de PT
 .ie \\n%=1 .if \\n[)first] .tl \\*[)oh]
@@ -185,6 +197,7 @@
 .ch )footer
 .nr )w \\n[)noted]+\\n[)room]
 .if \\n()w .nr )w +40u
+.if \\n[)wide] .nr )w +\\n[)wide]+40u
 .nr )w \\n(.p-\\n(FM-\\n()w
 .if \\n()w<(\\n(HM+120u) .nr )w \\n(HM+120u
 .if \\n()w<=\\n(nl .nr )w \\n(nl+40u
@@ -195,24 +208,31 @@
 .de )footer
 .rs
 .ch )footer
-.nr )w \\n[)raw]+\\n[)noted]+\\n[)head]+\\n[)kept]-\\n[)shown]
+.nr )w \\n[)raw]+\\n[)noted]+\\n[)wide]+\\n[)head]+\\n[)kept]-\\n[)shown]
+.nr )footers +1
+.nr )set-apart\\n[)footers] \\n()w>0
 .if \\n()w .)aside
 .if \\n[)raw] .)set-at-bottom
 .nr )room 0
 .if \\n[)noted] .)print-notes
+.if \\n(nl>\\n[)low] .nr )low \\n(nl
 .ie \\n[)column]<\\n[)columns] .)next-column
 .el .)end-page
 .)place
 .if !\\n[)floating] .if \\n[)kept]>\\n[)shown] .)floats
 .if \\n[)head] .)print-head
-.if \\n[)row] .)back
+.if \\n[)set-apart\\n[)footers]] .)back
+.nr )footers -1
 ..
 .de )end-page
 .po \\n(POu
+.if \\n[)wide] .)print-wide-notes
+.nr )low 0
 'sp |(\\n(.pu-(\\n(FMu/2u))
 .if !\\n[)aside] \{\
 .lt \\n(LTu
 .ft R
+.)middle \\*(CF
 .BT
 .ft P
 .\}
@@ -343,6 +363,7 @@
 .de )close-part
 .if \\n[)abstract] .)close
 .br
+.if '\\n(.z')title' .if \\n[)titling] .sp
 .if \\n[)cover]=1 .if !'\\n(.z'' .di
 .if \\n[)abstract] \{\
 .nr )abstract 0
@@ -394,13 +415,18 @@
 .de )title-fi
 .ce 0
 ..
+.\" a row above the first names, and above those after an institution
 .de AU
 .)part
-.sp
+.ie \\n[)names] .if \\n[)institution] .sp
+.el .sp
+.nr )names 1
+.nr )institution 0
 .)centre
 ..
 .de AI
 .)part
+.nr )institution 1
 .)centre
 ..
 .de )centre
@@ -619,6 +645,7 @@
 .)finish
 .ne 3v+\\n[HORPHANS]v+\\n(PDu
 .sp
+.ti \\n(.iu
 .I
 ..
 .de SH
@@ -1078,6 +1105,29 @@ Piscataway, New Jersey 08854
 .nr )room +120u
 .)place
 .\}
+.)look
+..
+.\" fifteen lines above the bottom the notes are set while a line is under way, so that they
+.\" stand on the page of their mark; that is looked at after each line of the text
+.de )look
+.if \\n[)raw] .if '\\n(.z'' .if !\\n[)keep] \{\
+.nr )w \\n(.p-\\n(FM-\\n[)noted]-\\n(nl-(400u*\\n[)raw])
+.ie \\n()w<200 .if \\n(nl .)set-aside
+.el .it 1 )look
+.\}
+..
+.de )set-aside
+.)aside
+.)set
+.nr )room 0
+.)place
+.nr )w \\n[)noted]=0*40u+\\n[)rows]+80u
+.if \\n(.t<\\n()w .if \\n(nl>\\n[)top] \{\
+.rs
+'sp \\n(.tu
+.\}
+.)allot
+.)back
 ..
 .\" begins a note, of the mark )note-mark: 1 if it is the writer's own, the form that it has
 .de )note
@@ -1086,7 +1136,7 @@ Piscataway, New Jersey 08854
 .nr )second-note 1
 .nr )form \\n(FF
 .nr FF \\$2
-.FP "\\\\*[)note-mark]" \\$1
+.if !\a\\*[)note-mark]\a\a .FP "\\\\*[)note-mark]" \\$1
 .nr FF \\n[)form]
 ..
 .\" how notes begin, by FF
@@ -1181,12 +1231,14 @@ Piscataway, New Jersey 08854
 .if \\n(.p-\\n(nl-\\n(FM<(\\n[)noted]+\\n[)note-height]+40u) .nr )w 1
 .)store
 ..
-.\" for this page, if they have room and none waits, else for the next
+.\" for this page, if two lines have room and none waits, else for the next
 .de )allot
 .nr )w \\n[)later]
 .nr )o \\n(.t
 .if !\\n(nl .nr )o -\\n(HM
-.if \\n()o<(\\n[)noted]=0*40u+\\n[)note-height]+40u) .nr )w 1
+.nr )rest \\n[)note-height]
+.if \\n[)rest]>80 .nr )rest 80
+.if \\n()o<(\\n[)noted]=0*40u+\\n[)rest]+40u) .nr )w 1
 .ie \\n()w .)store
 .el \{\
 .)store
@@ -1326,7 +1378,8 @@ Piscataway, New Jersey 08854
 \&|\h'\\$1u'|
 .if \\n(nl<\\n[)box-end] .)bar \\$1
 ..
-.\" ---- tables; the head of one with a head stands again on each page
+.\" ---- tables; the head of one with a head stands again on each page. In the head tbl asks
+.\" for room for the whole table, which may go on over pages: nothing is asked there
 .de TS
 .br
 .if \\n[)cover]<2 .)reset
@@ -1357,14 +1410,18 @@ Piscataway, New Jersey 08854
 .)need \\n[)head-height]+40u
 .nr )head-in \\n(.i
 .in 0
+.rn ne )ne
 .)head-text
+.rn )ne ne
 .in \\n[)head-in]u
 .if '\\n(.z'' .if \\n[)head-height]<(\\n(.p-\\n(HM-\\n(FM-80u) .nr )head \\n[)head-height]
 ..
 .de )print-head
 .nr )head-in \\n(.i
 'in 0
+.rn ne )ne
 .)head-text
+.rn )ne ne
 'in \\n[)head-in]u
 ..
 .de TE
@@ -1521,12 +1578,14 @@ Piscataway, New Jersey 08854
 .MC
 ..
 .de 1C
+.)close
 .)finish
 .if \\n[)columns]>1 .)end-columns
 ..
 .de MC
 .1C
-.if \\n[)kept]>\\n[)shown] .)last
+.if \\n[)raw] .)set-now
+.if \\n[)later]+\\n[)kept]-\\n[)shown] .)last
 .if !\\n[)begun] .)begin
 .nr )all-LL \\n(LL
 .nr )all-FL \\n(FL
@@ -1550,10 +1609,30 @@ Piscataway, New Jersey 08854
 .nr LL \\n()w
 .nr FL \\n()w*5/6
 .nr )column 1
-.if !\\n(nl .sp 0
+.sp
 .nr )top \\n(nl
+.nr )low 0
+.if \\n[)noted] .)widen-notes
 .)finish
-.ns
+..
+.\" notes from above the columns stand below all of them
+.de )widen-notes
+.nr )wide \\n[)noted]
+.nr )noted 0
+.rn )notes )wide-notes
+.)place
+..
+.de )print-wide-notes
+.rs
+.if \\n(nl<\\n[)low] 'sp |\\n[)low]u
+.rn )wide-notes )notes
+.nr )wide 0
+.)print-notes
+.if \\n[)later] \{\
+.rn )notes-later )wide-notes
+.nr )wide \\n[)later]
+.nr )later 0
+.\}
 ..
 .\" the end of the columns, and of the page
 .de )end-columns
@@ -1563,9 +1642,95 @@ Piscataway, New Jersey 08854
 .rs
 .bp
 .\}
+.if \\n[)later]+\\n[)kept]-\\n[)shown] .)last
 .nr )columns 1
 .nr LL \\n[)all-LL]
 .nr FL \\n[)all-FL]
+.)finish
+..
+.\" ---- references, as refer hands them on: fields [A, [T .. , of which )field adds each that is
+.\" there, a comma or a stop before it, and what closes it behind the next one
+.ds [. [
+.ds .] ]
+.ds <. .
+.ds <, ,
+.ds >.
+.ds >,
+.de ]-
+.nr [A 0
+.nr [O 0
+.nr [P 0
+.nr [T 0
+..
+.de )field
+.ds )text "\\*([\\$1
+.if !\a\\*[)text]\a\a \{\
+.if !\a\\*[)reference]\a\a \{\
+.if !\\n[)stopped] .as )reference "\\$2
+.as )reference "\\*[)closing]
+.if !'\\$1'N' .as )reference " \&
+.\}
+.as )reference "\\$3\\*[)text]\\$4
+.ds )closing "\\$5
+.nr )stopped 0
+.if \\n(.$>5 .nr )stopped \\$6
+.rm [\\$1
+.\}
+..
+.\" the end of one, and its kind: 0 and 2 have the title in italics
+.de ][
+.ds )reference
+.ds )closing
+.nr )stopped 0
+.)field Q ,
+.)field A , "" "" "" \\n([A
+.ie (0\\$1=0):(0\\$1=2) .)field T , "\fI" "" "\fR" \\n([T
+.el .)field T , "\\*Q" "" "\\*U" \\n([T
+.)field J , "\fI" "" "\fR"
+.)field B "" "in \fI" "" "\fR"
+.)field E , "ed. "
+.)field R ,
+.)field G "" "(" ")"
+.)field S ,
+.)field V "" "\fB" "\fR"
+.ie 0\\$1=4 .)field N "" "\ "
+.el .)field N "" "(" ")"
+.ie \\n([P .)field P , "pp.\ "
+.el .)field P , "p.\ "
+.)field I ,
+.)field C ,
+.)field D "" "(" ")"
+.)field O . "" "" "" \\n([O
+.if !\\n[)stopped] .as )reference .
+.as )reference "\\*[)closing]
+.ie \\n[)listing] .)list-reference
+.el .)note-reference
+.ds [F
+..
+.de []
+.][ \\$1
+..
+.de )list-reference
+.ie \a\\*([F\a\a .XP
+.el .IP "\\*([F."
+\&\\*[)reference]
+..
+.de )note-reference
+.ds )text
+.if !\a\\*([F\a\a .ds )text "[\\*([F]
+.FS "\\*[)text]"
+\&\\*[)reference]
+.FE
+..
+.\" around those that stand together
+.de ]<
+.nr )listing 1
+.SH
+\&\\*[REFERENCES]
+.LP
+..
+.de ]>
+.nr )listing 0
 .)finish
 ..
 .\" index words are not printed
