@@ -37,9 +37,11 @@
 .\"   of those at the foot of this page, @kept @shown those for later ones with @wait1 ..
 .\"   @in-table 1 in a table, @flat 1 where a paragraph of it is in no block, @head height
 .\"   of its head   @kind of .++, @renumber 1 where it numbers pages anew
+.\"   @entries of indexes, with @entry-end1 .. the width of the last line
 .\"   @listing 1 in a list of references, @stopped 1 where one ends with a stop
 .\" Private texts: @header-even and the like, @keep1 .., @foot-text, @wait-text1 .., @raw-notes,
-.\"   @notes, @wide-notes, @notes-later, @notes-over, @line (kept aside), @delayed, @index-NAME, @head-text
+.\"   @notes, @wide-notes, @notes-later, @notes-over, @line (kept aside), @delayed, @head-text,
+.\"   @index-NAME, @entry1 .. with @entry-index1 @entry-page1 @entry-author1
 .cp 0
 .\" ---- what stands for an environment
 .rn ft @ft
@@ -339,7 +341,7 @@
 .\" a new page, which begins at once; none where nothing stands on this one, but with a number
 .rn bp @bp
 .de bp
-.if !\\n[@ending] .@new-page \\$1
+.if !\\n[@ending] .if '\\n(.z'' .@new-page \\$1
 ..
 .de @new-page
 .br
@@ -1125,28 +1127,47 @@
 .if '\\n(.z'@entry' \{\
 .rn in @entry-in
 .rn @in in
-.ds @page \\n%
-.if \\n(.$ .ds @page \\$1
-.ds @author "\\$2
 .br
 .nr @w \\n(.i+\\n(.n
 .di
 .if \\n(dn<80 .nr @w \\n(dl
-.if !\\n(dn .ds @page _
-.da @index-\\*[@index]
-.nf
-.in 0
-.@space \\n(xs
-.@entry
-.if !'\\*[@page]'_' \{\
-\!.ds @author "\\*[@author]
-\!.@dots \\n(@w "\\*[@page]"
-.\}
-.da
-.rm @entry
+.nr @entries +1
+.nr @entry-end\\n[@entries] \\n(@w
+.rn @entry @entry\\n[@entries]
+.ds @entry-index\\n[@entries] \\*[@index]
+.ds @entry-page\\n[@entries] \\\\n%
+.if \\n(.$ .ds @entry-page\\n[@entries] "\\$1
+.if !\\n(dn .ds @entry-page\\n[@entries] _
+.ds @entry-author\\n[@entries] "\\$2
 .@pop
+.@enter \\n[@entries]
 .@back
 .\}
+..
+.\" one in a keep gets its page where that is printed
+.de @enter
+.ie '\\n(.z'' .@store-entry \\$1
+.el \!.@enter \\$1
+..
+.de @store-entry
+.ds @page "\\*[@entry-page\\$1]
+.@push
+.da @index-\\*[@entry-index\\$1]
+'nf
+'in 0
+.@space \\n(xs
+.@entry\\$1
+.if !'\\*[@page]'_' \{\
+\!.ds @author "\\*[@entry-author\\$1]
+\!.@dots \\n[@entry-end\\$1] "\\*[@page]"
+.\}
+.da
+.@pop
+.rm @entry\\$1
+.rm @entry-index\\$1
+.rm @entry-page\\$1
+.rm @entry-author\\$1
+.rr @entry-end\\$1
 ..
 .de @dots
 .rs
