@@ -473,6 +473,7 @@
 .@close
 .@settle
 .if \\n($m>1 .1c
+.if \\n[@noted]+200>(\\n(.p-\\n(bm-\\n(nl) .if \\n[@noted] .@last
 .if \\n[@later] .@last
 .if \\n[@noted] .@widen-notes
 .nr $c 1

@@ -1585,7 +1585,9 @@ Piscataway, New Jersey 08854
 .de MC
 .1C
 .if \\n[)raw] .)set-now
-.if \\n[)later]+\\n[)kept]-\\n[)shown] .)last
+.nr )w \\n[)noted]+120-\\n(.p+\\n(FM+\\n(nl
+.if !\\n[)noted] .nr )w 0
+.if \\n()w>0:(\\n[)later]+\\n[)kept]-\\n[)shown]>0) .)last
 .if !\\n[)begun] .)begin
 .nr )all-LL \\n(LL
 .nr )all-FL \\n(FL
