@@ -1434,40 +1434,67 @@
 .de IF
 .PE
 ..
-.\" ---- fonts: a word, and what stands right after it; without words from here on
+.\" ---- fonts: a word, and what stands right after it; of more words all; without words from here on
 .de sz
 ..
 .de r
-.ie \\n(.$ \&\fR\\$1\fP\\$2
+.if \\n(.$>2 \{\
+\*[@join].\}
+.ie \\n(.$>2 \&\fR\\*[@joined]\fP
+.el .ie \\n(.$ \&\fR\\$1\fP\\$2
 .el .ft R
 ..
 .de i
-.ie \\n(.$ \&\fI\\$1\fP\\$2
+.if \\n(.$>2 \{\
+\*[@join].\}
+.ie \\n(.$>2 \&\fI\\*[@joined]\fP
+.el .ie \\n(.$ \&\fI\\$1\fP\\$2
 .el .ft I
 ..
 .de b
-.ie \\n(.$ \&\fB\\$1\fP\\$2
+.if \\n(.$>2 \{\
+\*[@join].\}
+.ie \\n(.$>2 \&\fB\\*[@joined]\fP
+.el .ie \\n(.$ \&\fB\\$1\fP\\$2
 .el .ft B
 ..
 .de rb
-.ie \\n(.$ \&\fB\\$1\fP\\$2
+.if \\n(.$>2 \{\
+\*[@join].\}
+.ie \\n(.$>2 \&\fB\\*[@joined]\fP
+.el .ie \\n(.$ \&\fB\\$1\fP\\$2
 .el .ft B
 ..
 .de bi
-.ie \\n(.$ \&\fI\\$1\fP\\$2
+.if \\n(.$>2 \{\
+\*[@join].\}
+.ie \\n(.$>2 \&\fI\\*[@joined]\fP
+.el .ie \\n(.$ \&\fI\\$1\fP\\$2
 .el .ft I
 ..
 .de u
-\&\fI\\$1\fP\\$2
+.if \\n(.$>2 \{\
+\*[@join].\}
+.ie \\n(.$>2 \&\fI\\*[@joined]\fP
+.el .if \\n(.$ \&\fI\\$1\fP\\$2
 ..
 .de q
-\&\\*(lq\\$1\\*(rq\\$2
+.if \\n(.$>2 \{\
+\*[@join].\}
+.ie \\n(.$>2 \&\\*(lq\\*[@joined]\\*(rq
+.el .if \\n(.$ \&\\*(lq\\$1\\*(rq\\$2
 ..
 .de bx
-\&[\\$1]\\$2
+.if \\n(.$>2 \{\
+\*[@join].\}
+.ie \\n(.$>2 \&[\\*[@joined]]
+.el .if \\n(.$ \&[\\$1]\\$2
 ..
 .de sm
-\&\\$1\\$2
+.if \\n(.$>2 \{\
+\*[@join].\}
+.ie \\n(.$>2 \&\\*[@joined]
+.el .if \\n(.$ \&\\$1\\$2
 ..
 .\" ---- references, as refer hands them on: fields [A, [T .. , of which @field adds each that is
 .\" there, a comma or a stop before it, and what closes it behind the next one
