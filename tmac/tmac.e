@@ -1497,7 +1497,7 @@
 .el .if \\n(.$ \&\\$1\\$2
 ..
 .\" ---- references, as refer hands them on: fields [A, [T .. , of which @field adds each that is
-.\" there, a comma or a stop before it, and what closes it behind the next one
+.\" there, a comma or a stop before it, and what closes it after the next one
 .ds [. " [
 .ds .] ]
 .ds <. .

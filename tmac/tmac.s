@@ -1651,7 +1651,7 @@ Piscataway, New Jersey 08854
 .)finish
 ..
 .\" ---- references, as refer hands them on: fields [A, [T .. , of which )field adds each that is
-.\" there, a comma or a stop before it, and what closes it behind the next one
+.\" there, a comma or a stop before it, and what closes it after the next one
 .ds [. [
 .ds .] ]
 .ds <. .
