@@ -1,5 +1,6 @@
 // The lines that tell what is wrong with pages.
 
+use super::shown::shown;
 use super::telling::{Complaint, Kind, Told};
 use itoa::Buffer;
 use nr_filters::put_all;
@@ -9,7 +10,7 @@ use nr_units::source::Fault;
 
 /// Writes what is wrong, and the name of a macro.
 fn put_about<E: Sink>(what: &[u8], name: Name, errors: &mut E) -> Result<(), Fault> {
-    put_all(&[what, name.as_bytes()], errors)
+    put_all(&[what, shown(name).as_bytes()], errors)
 }
 
 /// Writes the name of a macro that is none; what was cut of it stands as dots.
@@ -20,8 +21,11 @@ fn put_unknown<E: Sink>(name: Name, cut: bool, errors: &mut E) -> Result<(), Fau
 
 /// Writes what is wrong, and the names of two macros, of which the first breaks the block of the second.
 fn put_breaks<E: Sink>(what: &[u8], by: Name, block: Name, errors: &mut E) -> Result<(), Fault> {
-    let parts = [what, by.as_bytes(), b" breaks ", block.as_bytes()];
-    put_all(&parts, errors)
+    let (by, block) = (shown(by), shown(block));
+    put_all(
+        &[what, by.as_bytes(), b" breaks ", block.as_bytes()],
+        errors,
+    )
 }
 
 /// Writes what is wrong.

@@ -1,7 +1,7 @@
 //! The program mdoc: it turns manual pages of mdoc(7) into pages of man(7), to standard output.
 //!
 //! It stands on nr_filters, nr_mdoc, nr_units and nr_vectors. To read: `names`, `lines`, `blocks`, `telling`, `watching`,
-//! `watched`; `complaints`, `rooms`, `program`.
+//! `watched`; `shown`, `complaints`, `rooms`, `program`.
 #![tactic(auto)]
 
 mod blocks;
@@ -10,6 +10,7 @@ mod lines;
 mod names;
 mod program;
 mod rooms;
+mod shown;
 mod telling;
 mod watched;
 mod watching;

@@ -4,7 +4,7 @@ use Rattle.std.proofs.lemmas.Bool.Decides.{nat_tests}
 use Rattle.std.specs.Prelude.{codes}
 use Prim.Native.Char.{code}
 use Rattle.nr_mdoc.specs.declared.acts.Stack.{Stack}
-use Rattle.nr_mdoc.specs.declared.acts.Stack.TheVariants.{Stay, Opens, Closes}
+use Rattle.nr_mdoc.specs.declared.acts.Stack.TheVariants.{Stay, Opens, Closes, Empties}
 use Rattle.nr_mdoc.specs.declared.page.Block.{Block}
 use Rattle.nr_mdoc.specs.declared.strings.Next.TheVariants.{Waits, Breaks}
 use Rattle.nr_mdoc.specs.declared.pending.Pending.{Pending}
@@ -64,6 +64,7 @@ stacked-pending : (stack : Stack) (outer : Block) (s : State) → (stacked stack
 stacked-pending Stay outer s = refl
 stacked-pending Opens outer s = opened-pending (nat_lt (length s.blocks) 64) outer s
 stacked-pending Closes outer s = refl
+stacked-pending Empties outer s = refl
 
 once-pending : (b : ℕ) (s : State) → (once b s).state.pending ≡ s.pending
 unfolding once

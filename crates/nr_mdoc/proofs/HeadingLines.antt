@@ -3,6 +3,7 @@ use Rattle.std.proofs.Common.{◌≡◌, ℕ, ◌≤◌, ◌+◌, List, [], ◌�
 use Rattle.std.specs.Prelude.{codes}
 use Prim.Native.Char.{code}
 use Rattle.nr_mdoc.specs.declared.acts.Act.TheVariants as acts
+use Rattle.nr_mdoc.specs.declared.acts.Stack.TheVariants.{Empties}
 use Rattle.nr_mdoc.specs.declared.macros.Font.TheVariants.{Roman}
 use Rattle.nr_mdoc.specs.declared.macros.Macro.{Macro}
 use Rattle.nr_mdoc.specs.declared.macros.Macro.TheVariants as macros
@@ -16,10 +17,10 @@ use Rattle.nr_mdoc.specs.LayingOut.{lay_out}
 use Rattle.nr_mdoc.specs.Lines.{begins, in_section}
 use Rattle.nr_mdoc.specs.Macros.{letters_macro}
 use Rattle.nr_mdoc.specs.Options.{enters, option, option_for, option_word, reads_for}
-use Rattle.nr_mdoc.specs.Reading.{State, said}
+use Rattle.nr_mdoc.specs.Reading.{State, said, stacked}
 use Rattle.nr_mdoc.specs.Saying.{parts_of, words_of}
 use Rattle.nr_mdoc.specs.Scanning.{meet, meet_at, meet_whole, meet_whole_at}
-use Rattle.nr_mdoc.specs.Seeing.{Met, met, left, three}
+use Rattle.nr_mdoc.specs.Seeing.{Met, met, left, three, with_stack}
 use Rattle.nr_mdoc.specs.WordLaws.{reads_at, HeadingsAreSaid}
 use Rattle.nr_mdoc.specs.Words.{ends_long, parsed, taken_behind}
 use Rattle.nr_mdoc.specs.WrittenLines.{Usual, Headed, way_of, names_no_string, Letter, kept, written, Word, Bare, Quoted, is_first, headed, are_written, behind_each, line_of, printed_as, written_word}
@@ -28,7 +29,7 @@ use Rattle.nr_mdoc.proofs.Escapes.{line-text}
 use Rattle.nr_mdoc.proofs.Given.{Whole, whole_of}
 use Rattle.nr_mdoc.proofs.LongWords.{the_heading}
 use Rattle.nr_mdoc.proofs.MacroLines.{beginning, control_taken, given, given_at, given_leads, letters_names, macro_met, name_begun, name_taken, one_enough, reads_name, two_enough}
-use Rattle.nr_mdoc.proofs.Meeting.{with_page, Leads, Takes, then_takes, leads_by, takes_by}
+use Rattle.nr_mdoc.proofs.Meeting.{with_page, Leads, Takes, then_takes, leads_with, takes_by}
 use Rattle.nr_mdoc.proofs.Outcomes.{takes_plain, Keeps}
 use Rattle.nr_mdoc.proofs.QuotedLines.{each_names, given_quoted, long_whole, quoted_at, quoted_leads, Behind, behind_of, in_words, Line}
 use Rattle.nr_mdoc.proofs.ReadWords.{Read, between_by, between_met, read_bare, read_quoted}
@@ -51,7 +52,7 @@ record Begun (s : State) : Type 0 where
   at : In false heads next scans.Between (codes "Sh") []
 
 section_seen : Bool → Seen
-section_seen t = if t then left acts.Section else three acts.Title acts.TitleEnds acts.Section
+section_seen t = with_stack Empties (if t then left acts.Section else three acts.Title acts.TitleEnds acts.Section)
 
 heading : State → Page
 heading s = in_section (record s.page { scan = scans.Between; word = codes "Sh"; closers = []; call = (beginning macros.Section (codes "Sh") s).call })
@@ -68,8 +69,8 @@ unfolding said lay_out heading section_seen beginning reads_name
 begun_by true s none e =
     let p = heading s in
     record {
-      next = with_page (said (three acts.Section acts.Nothing acts.Nothing) p).page (reads_name (codes "Sh") s);
-      leads = leads_by (code " ") (reads_name (codes "Sh") s) p _ acts.Section acts.Nothing acts.Nothing [] (section_met true s e) refl refl;
+      next = stacked Empties s.page.block (with_page (said (three acts.Section acts.Nothing acts.Nothing) p).page (reads_name (codes "Sh") s));
+      leads = leads_with (code " ") (reads_name (codes "Sh") s) p _ Empties acts.Section acts.Nothing acts.Nothing [] (section_met true s e) refl refl;
       at = record {
         scan_is = refl;
         word_is = refl;
@@ -86,8 +87,8 @@ begun_by true s none e =
 begun_by false s none e =
     let p = heading s in
     record {
-      next = with_page (said (three acts.Title acts.TitleEnds acts.Section) p).page (reads_name (codes "Sh") s);
-      leads = leads_by (code " ") (reads_name (codes "Sh") s) p _ acts.Title acts.TitleEnds acts.Section [] (section_met false s e) refl refl;
+      next = stacked Empties s.page.block (with_page (said (three acts.Title acts.TitleEnds acts.Section) p).page (reads_name (codes "Sh") s));
+      leads = leads_with (code " ") (reads_name (codes "Sh") s) p _ Empties acts.Title acts.TitleEnds acts.Section [] (section_met false s e) refl refl;
       at = record {
         scan_is = refl;
         word_is = refl;

@@ -15,12 +15,12 @@ use Rattle.nr_mdoc.specs.Scanning.{meet}
 use Rattle.nr_mdoc.specs.Seeing.{Met, met, left}
 use Rattle.nr_mdoc.specs.Taking.{prefix}
 use Rattle.nr_mdoc.specs.WrittenLines.{Usual, way_of}
-use Rattle.nr_mdoc.specs.Words.{begins_anew, closing_mark, holding, is_closing, is_prefix, is_text, mark, mark_as_word, marked_or, most_marks, parsed, stands, takes_marks, taken_by_same}
+use Rattle.nr_mdoc.specs.Words.{begins_anew, closing_mark, holding, is_closing, is_prefix, is_text, mark, mark_as_word, marked_or, most_marks, parsed, stands, taken_after_mark, takes_marks, taken_by_same}
 use Rattle.nr_mdoc.proofs.Escapes.{and_left, is_not}
 use Rattle.nr_mdoc.proofs.Given.{Whole, whole_of, whole_behind, whole_within, given_met}
 use Rattle.nr_mdoc.proofs.Meeting.{with_page, leads_by}
-use Rattle.nr_mdoc.proofs.Outcomes.{is_quiet, of_word, never, takes_plain, Out, out, leaves_out}
-use Rattle.nr_mdoc.proofs.Stepping.{At, Head, Left, out_lays, out_step, out_next, step_at, leaves_step, marks_step, true_is_false}
+use Rattle.nr_mdoc.proofs.Outcomes.{is_quiet, of_word, never, takes_as, takes_plain, Out, out, leaves_out}
+use Rattle.nr_mdoc.proofs.Stepping.{At, Head, Left, plainly, out_lays, out_step, out_next, step_at, leaves_step, marks_step, true_is_false}
 use Rattle.nr_mdoc.proofs.Taken.{prefix_out}
 use Rattle.nr_mdoc.proofs.Ways.{due_usual, prefix_usual}
 
@@ -78,6 +78,16 @@ one_at_most = omega arith
 pub two_at_most : 1 ≤ 2
 two_at_most = omega arith
 
+after_mark_fits : (plain : Bool) (m : Macro) → takes_as plain m ≡ true → takes_as plain (taken_after_mark m) ≡ true
+unfolding takes_plain
+after_mark_fits true macros.BsdRelease h = refl
+after_mark_fits false macros.BsdRelease h = never h
+after_mark_fits plain m h = h
+
+after_mark_way : (m : Macro) → way_of (taken_after_mark m) ≡ way_of m
+after_mark_way macros.BsdRelease = refl
+after_mark_way m = refl
+
 pub held_whole : (head : Head) (b c : ℕ) (s : State) (word marks : List ℕ) → At head s (scans.Given false) word marks
     → meet b s.page ≡ met (holding c s.page) (left acts.Nothing) → word ≡ c ∷ [] → Whole head b s 1 (marks ++ word)
 unfolding said lay_out
@@ -94,8 +104,8 @@ held_whole head b c s word marks at e same =
         going = at.going;
         comment = at.comment;
         line = at.line;
-        fits = at.fits;
-        way = at.way;
+        fits = after_mark_fits (plainly head).plain s.page.call.taker at.fits;
+        way = after_mark_way s.page.call.taker ∙ at.way;
         free = λ h. never (sym h);
       };
     })

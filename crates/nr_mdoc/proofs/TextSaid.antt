@@ -4,6 +4,7 @@ use Rattle.std.specs.Prelude.{codes}
 use Prim.Native.Char.{code}
 use Rattle.nr_mdoc.specs.declared.acts.Act.{Act}
 use Rattle.nr_mdoc.specs.declared.acts.Act.TheVariants as acts
+use Rattle.nr_mdoc.specs.declared.escaping.Escape.{Escape}
 use Rattle.nr_mdoc.specs.declared.page.Before.{Before}
 use Rattle.nr_mdoc.specs.declared.page.Before.TheVariants as befores
 use Rattle.nr_mdoc.specs.declared.page.Page.{Page}
@@ -14,7 +15,7 @@ use Rattle.nr_mdoc.specs.Laying.{is_control, is_middle, with_lay}
 use Rattle.nr_mdoc.specs.LayingOut.{lay_out}
 use Rattle.nr_mdoc.specs.Reading.{State, said, heard}
 use Rattle.nr_mdoc.specs.Saying.{part_of, parts_at, parts_of, words_of}
-use Rattle.nr_mdoc.specs.Scanning.{before_next, behind_hyphen, behind_text, hyphen_in_text, is_letter, meet}
+use Rattle.nr_mdoc.specs.Scanning.{before_next, behind_hyphen, behind_text, first_before, hyphen_in_text, is_letter, meet}
 use Rattle.nr_mdoc.specs.Seeing.{met, taken}
 use Rattle.nr_mdoc.specs.WordLaws.{reads_at, TextIsSaid}
 use Rattle.nr_mdoc.specs.WrittenLines.{begins_text, each, is_text}
@@ -54,15 +55,15 @@ newline_taken before s =
     acts.Ends acts.Nothing acts.Nothing [] (newline_met before s.page) (ended_page s.page) refl
 
 byte_met : (before : Before) (b : ℕ) (p : Page) → (b == code "\n") ≡ false → (b == code "-") ≡ false
-    → meet b (with_scan (scans.Text before) p) ≡ met (with_scan (scans.Text (before_next b)) p) (taken (acts.Byte b))
+    → meet b (with_scan (scans.Text before) p) ≡ met (with_scan (scans.Text (before_next before b)) p) (taken (acts.Byte b))
 unfolding meet
 byte_met before b p e f = rw (e, f) refl
 
 byte_taken : (before : Before) (b : ℕ) (s : State) → (b == code "\n") ≡ false → (b == code "-") ≡ false
-    → Takes b (reads_at (scans.Text before) s) (reads_at (scans.Text (before_next b)) s) 1 (b ∷ [])
+    → Takes b (reads_at (scans.Text before) s) (reads_at (scans.Text (before_next before b)) s) 1 (b ∷ [])
 unfolding said lay_out
 byte_taken before b s e f =
-    takes_by b (reads_at (scans.Text before) s) (with_scan (scans.Text (before_next b)) s.page) (with_scan (scans.Text (before_next b)) s.page)
+    takes_by b (reads_at (scans.Text before) s) (with_scan (scans.Text (before_next before b)) s.page) (with_scan (scans.Text (before_next before b)) s.page)
     (acts.Byte b) acts.Nothing acts.Nothing (b ∷ []) (byte_met before b s.page e f) refl refl
 
 hyphen_met : (before : Before) (p : Page) → meet (code "-") (with_scan (scans.Text before) p) ≡ hyphen_in_text before (with_scan (scans.Text before) p)
@@ -75,11 +76,14 @@ held_back s =
     takes_by (code "-") (reads_at (scans.Text befores.Letter) s) (with_scan scans.Hyphen s.page) (with_scan scans.Hyphen s.page)
     acts.Nothing acts.Nothing acts.Nothing [] (hyphen_met befores.Letter s.page) refl refl
 
-behind_backslash : (s : State) → Takes (code "-") (reads_at (scans.Text befores.Backslash) s) (reads_at (scans.Text befores.Other) s) 1 (codes "-")
+-- a hyphen of an escape
+in_escape : (escape : Escape) (s : State)
+    → Takes (code "-") (reads_at (scans.Text (befores.Within escape)) s) (reads_at (scans.Text (before_next (befores.Within escape) (code "-"))) s) 1 (codes "-")
 unfolding said lay_out
-behind_backslash s =
-    takes_by (code "-") (reads_at (scans.Text befores.Backslash) s) (with_scan (scans.Text befores.Other) s.page) (with_scan (scans.Text befores.Other) s.page)
-    (acts.Byte (code "-")) acts.Nothing acts.Nothing (codes "-") (hyphen_met befores.Backslash s.page) refl refl
+in_escape escape s =
+    let p = with_scan (scans.Text (before_next (befores.Within escape) (code "-"))) s.page in
+    takes_by (code "-") (reads_at (scans.Text (befores.Within escape)) s) p p
+    (acts.Byte (code "-")) acts.Nothing acts.Nothing (codes "-") (hyphen_met (befores.Within escape) s.page) refl refl
 
 behind_other : (s : State) → Takes (code "-") (reads_at (scans.Text befores.Other) s) (reads_at (scans.Text befores.Other) s) 1 (codes "-")
 unfolding said lay_out
@@ -142,8 +146,9 @@ record Taken (b : ℕ) (before : Before) (s : State) : Type 0 where
 
 taken_hyphen : (before : Before) (s : State) → Taken (code "-") before s
 taken_hyphen befores.Letter s = record { next = reads_at scans.Hyphen s; xs = []; takes = held_back s; rest = λ bs rest. rest.hyphen s; fresh = λ bs rest none. rest.hyphen_fresh s none }
-taken_hyphen befores.Backslash s =
-    record { next = reads_at (scans.Text befores.Other) s; xs = codes "-"; takes = behind_backslash s; rest = λ bs rest. ap (λ (zs : List ℕ). code "-" ∷ zs) (rest.text befores.Other s); fresh = λ bs rest none. rest.text_fresh befores.Other s none }
+taken_hyphen (befores.Within escape) s =
+    let next = before_next (befores.Within escape) (code "-") in
+    record { next = reads_at (scans.Text next) s; xs = codes "-"; takes = in_escape escape s; rest = λ bs rest. ap (λ (zs : List ℕ). code "-" ∷ zs) (rest.text next s); fresh = λ bs rest none. rest.text_fresh next s none }
 taken_hyphen befores.Other s =
     record { next = reads_at (scans.Text befores.Other) s; xs = codes "-"; takes = behind_other s; rest = λ bs rest. ap (λ (zs : List ℕ). code "-" ∷ zs) (rest.text befores.Other s); fresh = λ bs rest none. rest.text_fresh befores.Other s none }
 
@@ -151,11 +156,11 @@ taken_by : (t : Bool) (b : ℕ) (before : Before) (s : State) → (b == code "\n
 taken_by true b before s e f = rw (same_byte b (code "-") f) at (taken_hyphen before s)
 taken_by false b before s e f =
     record {
-      next = reads_at (scans.Text (before_next b)) s;
+      next = reads_at (scans.Text (before_next before b)) s;
       xs = b ∷ [];
       takes = byte_taken before b s e f;
-      rest = λ bs rest. ap (λ (zs : List ℕ). b ∷ zs) (rest.text (before_next b) s);
-      fresh = λ bs rest none. rest.text_fresh (before_next b) s none;
+      rest = λ bs rest. ap (λ (zs : List ℕ). b ∷ zs) (rest.text (before_next before b) s);
+      fresh = λ bs rest none. rest.text_fresh (before_next before b) s none;
     }
 
 one_of : (k : ℕ) → 1 ≤ 16
@@ -207,7 +212,7 @@ all_said (b ∷ bs) h =
 -- ---- the first byte
 
 start_met : (b : ℕ) (s : State) → is_control b ≡ false → (b == code "\n") ≡ false → (b == code " ") ≡ false → (b == code "\t") ≡ false
-    → meet b (reads_at scans.Start s).page ≡ met (with_scan (scans.Text (before_next b)) (behind_text s.page)) (taken (acts.Begin b))
+    → meet b (reads_at scans.Start s).page ≡ met (with_scan (scans.Text (first_before b)) (behind_text s.page)) (taken (acts.Begin b))
 unfolding meet
 start_met b s c e f g = rw (c, e, f, g) refl
 
@@ -215,11 +220,11 @@ begun : ℕ → Page → Page
 begun b p = (lay_out (acts.Begin b) p).page
 
 start_taken : (b : ℕ) (s : State) → is_control b ≡ false → (b == code "\n") ≡ false → (b == code " ") ≡ false → (b == code "\t") ≡ false
-    → Takes b (reads_at scans.Start s) (reads_at (scans.Text (before_next b)) (with_page (begun b (behind_text s.page)) s)) 1 (b ∷ [])
+    → Takes b (reads_at scans.Start s) (reads_at (scans.Text (first_before b)) (with_page (begun b (behind_text s.page)) s)) 1 (b ∷ [])
 unfolding said lay_out begun
 start_taken b s c e f g =
-    let p = with_scan (scans.Text (before_next b)) (behind_text s.page) in
-    takes_by b (reads_at scans.Start s) p (with_scan (scans.Text (before_next b)) (begun b (behind_text s.page)))
+    let p = with_scan (scans.Text (first_before b)) (behind_text s.page) in
+    takes_by b (reads_at scans.Start s) p (with_scan (scans.Text (first_before b)) (begun b (behind_text s.page)))
     (acts.Begin b) acts.Nothing acts.Nothing (b ∷ []) (start_met b s c e f g) refl refl
 
 pub or_left : (a b : Bool) → not (a || b) ≡ true → a ≡ false
@@ -243,7 +248,7 @@ text_is_said s b bs first rest strings =
           next-words b (bs ++ codes "\n") (reads_at scans.Start s) _ 1 (b ∷ []) _ (one_of 0)
           (start_taken b s not_control (or_right blank_or (b == code "\n") no_end)
           (or_left (b == code " ") (b == code "\t") no_blank) (or_right (b == code " ") (b == code "\t") no_blank))
-          (later.text (before_next b) (with_page (begun b (behind_text s.page)) s));
+          (later.text (first_before b) (with_page (begun b (behind_text s.page)) s));
     }
 
 pub text_fresh : (b : ℕ) (bs : List ℕ) (s : State) → s.page.marks ≡ [] → begins_text b ≡ true → each is_text bs ≡ true
@@ -259,4 +264,4 @@ text_fresh b bs s none first rest =
     (sym (next-state b (bs ++ codes "\n") (reads_at scans.Start s) _ 1 (b ∷ []) (one_of 0)
     (start_taken b s not_control (or_right blank_or (b == code "\n") no_end)
     (or_left (b == code " ") (b == code "\t") no_blank) (or_right (b == code " ") (b == code "\t") no_blank))))
-    (later.text_fresh (before_next b) (with_page (begun b (behind_text s.page)) s) none)
+    (later.text_fresh (first_before b) (with_page (begun b (behind_text s.page)) s) none)

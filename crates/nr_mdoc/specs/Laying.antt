@@ -164,6 +164,11 @@ abbrev pub put_named : Option (List ℕ) → Page → Laid
 put_named None p = put_word (is_joined p) Roman p
 put_named (Some text) p = put (is_joined p) (before_nul text) p
 
+-- a standard that no table has prints nothing
+abbrev pub put_standard : Option (List ℕ) → Page → Laid
+put_standard None p = laid p []
+put_standard (Some text) p = put (is_joined p) (before_nul text) p
+
 abbrev pub put_other_library : Page → Laid
 put_other_library p =
     with_end (codes "\\(rq") (then_laid (put (is_joined p) (codes "library \\(lq") p)
@@ -206,7 +211,7 @@ lay_word acts.Own p = put_name p.name p
 lay_word acts.Held p = put_held p
 lay_word (acts.LastHeld many) p = put_last_held many p
 lay_word acts.Marks p = put_marks p
-lay_word acts.Standard p = put_named (standard_named p.word) p
+lay_word acts.Standard p = put_standard (standard_named p.word) p
 lay_word acts.Library p = put_library (library_named p.word) p
 lay_word acts.Att p = put_named (version_named p.word) p
 lay_word acts.Release p = put_release p

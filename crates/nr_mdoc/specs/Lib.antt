@@ -3,6 +3,7 @@ pub mod Blocks
 pub mod Calls
 pub mod Columns
 pub mod Definitions
+pub mod Escaping
 pub mod Keeping
 pub mod Laying
 pub mod LayingOut

@@ -4,6 +4,7 @@ use Rattle.std.specs.Str.{bytes_eq}
 use Prim.Native.Char.{code}
 use Rattle.nr_mdoc.specs.declared.acts.Act.{Act}
 use Rattle.nr_mdoc.specs.declared.acts.Act.TheVariants as acts
+use Rattle.nr_mdoc.specs.declared.acts.Stack.TheVariants.{Empties}
 use Rattle.nr_mdoc.specs.declared.acts.Request.TheVariants as requests
 use Rattle.nr_mdoc.specs.declared.acts.Text.TheVariants as texts
 use Rattle.nr_mdoc.specs.declared.macros.Font.TheVariants.{Roman}
@@ -26,7 +27,7 @@ use Rattle.nr_mdoc.specs.Blocks.{block_opens, item, item_ends, list_begins, list
 use Rattle.nr_mdoc.specs.Definitions.{is_own}
 use Rattle.nr_mdoc.specs.Macros.{macro_of}
 use Rattle.nr_mdoc.specs.Options.{none}
-use Rattle.nr_mdoc.specs.Seeing.{Met, met, left, two, three, and_taken}
+use Rattle.nr_mdoc.specs.Seeing.{Met, met, left, two, three, and_taken, with_stack}
 use Rattle.nr_mdoc.specs.Calls.{called, is_due, leaves, is_none, is_synopsis, with_place, with_scan}
 
 -- names of macros begin with a capital letter, or with a percent sign
@@ -104,10 +105,11 @@ titles p = none (record p { title = []; chapter = [] })
 abbrev pub silent : Page → Met
 silent p = none (with_scan scans.Dropped p)
 
--- the title's line goes out once
+-- the title's line goes out once: with the system, or where no title came before that, with the first section
 abbrev pub system : Page → Met
 system p =
-    if p.place.titled then silent (record p { call = record p.call { line = macros.Silent } })
+    if p.place.titled || is_none p.title
+    then silent (record p { call = record p.call { line = macros.Silent } })
     else met p (left acts.Title)
 
 abbrev pub in_section : Page → Page
@@ -115,13 +117,14 @@ in_section p =
     record p {
       place =
           record p.place { section = sections.Other; last = lasts.Heading; split = splits.Never; depth = 0 };
-      lay = record p.lay { kept = false };
+      lay = record p.lay { kept = false; literal = false };
     }
 
+-- lists and displays that are open end
 abbrev pub section : Page → Met
 section p =
-    met (in_section p) (if p.place.titled then left acts.Section
-    else three acts.Title acts.TitleEnds acts.Section)
+    met (in_section p) (with_stack Empties (if p.place.titled then left acts.Section
+    else three acts.Title acts.TitleEnds acts.Section))
 
 abbrev pub subsection : Page → Met
 subsection p =

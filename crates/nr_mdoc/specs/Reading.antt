@@ -2,7 +2,7 @@
 use Rattle.std.specs.Prelude.{ℕ, zero, suc, ◌+◌, ◌-◌, List, [], ◌∷◌, ◌++◌, length, take, Bool, true, false, ◌==◌, nat_lt, if◌then◌else◌, slice_get, Option, None, Some}
 use Prim.Native.Char.{code}
 use Rattle.nr_mdoc.specs.declared.acts.Stack.{Stack}
-use Rattle.nr_mdoc.specs.declared.acts.Stack.TheVariants.{Stay, Opens, Closes}
+use Rattle.nr_mdoc.specs.declared.acts.Stack.TheVariants.{Stay, Opens, Closes, Empties}
 use Rattle.nr_mdoc.specs.declared.macros.Font.TheVariants.{Roman}
 use Rattle.nr_mdoc.specs.declared.macros.Macro.TheVariants as macros
 use Rattle.nr_mdoc.specs.declared.page.At.TheVariants as ats
@@ -141,6 +141,7 @@ stacked Opens outer s =
 stacked Closes outer s =
     let n = length s.blocks - 1 in
     record s { page = record s.page { block = block_or (slice_get s.blocks n) }; blocks = take n s.blocks }
+stacked Empties outer s = record s { page = record s.page { block = no_block }; blocks = [] }
 
 pub record Once : Type 0 where
   pub state : State

@@ -11,12 +11,15 @@ use Rattle.nr_mdoc.specs.declared.page.Scan.{Scan}
 use Rattle.nr_mdoc.specs.declared.page.Scan.TheVariants as scans
 use Rattle.nr_mdoc.specs.declared.page.Before.{Before}
 use Rattle.nr_mdoc.specs.declared.page.Before.TheVariants as befores
+use Rattle.nr_mdoc.specs.declared.escaping.Escape.{Escape}
+use Rattle.nr_mdoc.specs.declared.escaping.Escape.TheVariants as escapes
 use Rattle.nr_mdoc.specs.declared.page.Dots.{Dots}
 use Rattle.nr_mdoc.specs.declared.page.Dots.TheVariants as dots
 use Rattle.nr_mdoc.specs.declared.page.Front.{Front}
 use Rattle.nr_mdoc.specs.declared.page.Front.TheVariants as fronts
 use Rattle.nr_mdoc.specs.declared.seen.Seen.{Seen}
 use Rattle.nr_mdoc.specs.Definitions.{in_definition}
+use Rattle.nr_mdoc.specs.Escaping.{escape_then}
 use Rattle.nr_mdoc.specs.Keeping.{ends_word, turns, word_begins, in_word, in_quotes, closing, in_escape}
 use Rattle.nr_mdoc.specs.Laying.{is_control}
 use Rattle.nr_mdoc.specs.Lines.{call_of, named_line, ends}
@@ -27,10 +30,20 @@ use Rattle.nr_mdoc.specs.Words.{given, long, goes_on}
 abbrev pub is_letter : ℕ → Bool
 is_letter b = (nat_le (code "A") b && nat_le b (code "Z")) || (nat_le (code "a") b && nat_le b (code "z"))
 
+-- what a byte that belongs to no escape is for the one after it
+abbrev pub first_before : ℕ → Before
+first_before b =
+    if is_letter b then befores.Letter else
+    if b == code "\\" then befores.Within escapes.Begun else befores.Other
+
+abbrev pub within : Option Escape → Before
+within None = befores.Other
+within (Some escape) = befores.Within escape
+
 -- what a byte is for the one after it
-abbrev pub before_next : ℕ → Before
-before_next b =
-    if is_letter b then befores.Letter else if b == code "\\" then befores.Backslash else befores.Other
+abbrev pub before_next : Before → ℕ → Before
+before_next (befores.Within escape) b = within (escape_then escape b)
+before_next before b = first_before b
 
 -- ---- text lines
 
@@ -48,12 +61,13 @@ at_start b p =
     if is_control b then turns scans.Control (taken acts.Nothing) p else
     if b == code "\n" then met p (empty_line p) else
     if ((b == code " ") || (b == code "\t")) && not p.lay.literal then met p (taken acts.Nothing) else
-    turns (scans.Text (before_next b)) (taken (acts.Begin b)) (behind_text p)
+    turns (scans.Text (first_before b)) (taken (acts.Begin b)) (behind_text p)
 
--- a line may be broken after a hyphen between letters: one behind a letter is held back
+-- a line may be broken after a hyphen between letters: one after a letter is held back; one of an escape stays
 abbrev pub hyphen_in_text : Before → Page → Met
 hyphen_in_text befores.Letter p = turns scans.Hyphen (taken acts.Nothing) p
-hyphen_in_text befores.Backslash p = turns (scans.Text befores.Other) (taken (acts.Byte (code "-"))) p
+hyphen_in_text (befores.Within escape) p =
+    turns (scans.Text (within (escape_then escape (code "-")))) (taken (acts.Byte (code "-"))) p
 hyphen_in_text befores.Other p = turns (scans.Text befores.Other) (taken acts.Hyphen) p
 
 abbrev pub behind_hyphen : ℕ → Page → Met
@@ -64,7 +78,7 @@ abbrev pub in_text : Before → ℕ → Page → Met
 in_text before b p =
     if b == code "\n" then turns scans.Start (taken acts.Ends) p else
     if b == code "-" then hyphen_in_text before p else
-    turns (scans.Text (before_next b)) (taken (acts.Byte b)) p
+    turns (scans.Text (before_next before b)) (taken (acts.Byte b)) p
 
 -- ---- control lines and their names
 

@@ -36,12 +36,17 @@ closing_mark quoted (a ∷ b ∷ rest) = None
 abbrev pub most_marks : ℕ
 most_marks = 32
 
+-- a mark ends what the release of BSD may be
+abbrev pub taken_after_mark : Macro → Macro
+taken_after_mark macros.BsdRelease = macros.Words Roman
+taken_after_mark m = m
+
 abbrev pub holding : ℕ → Page → Page
 holding b p =
     record p {
       scan = scans.Between;
       marks = p.marks ++ b ∷ [];
-      call = record p.call { some = true; listed = false };
+      call = record p.call { taker = taken_after_mark p.call.taker; some = true; listed = false };
     }
 
 abbrev pub is_prefix : Macro → Bool

@@ -212,4 +212,6 @@ pub(crate) enum Stack {
     Opens,
     /// The innermost is closed.
     Closes,
+    /// All are closed.
+    Empties,
 }

@@ -314,6 +314,19 @@ impl Page {
         }
     }
 
+    /// The standard that the word names, or nothing.
+    fn put_standard(&mut self, text: Option<[u8; 78]>, out: &mut SliceVec<'_, u8>)
+        requires { length out.old.items + 96 ≤ out.old.capacity }
+        ensures page { self.new ≡ (specs.put_standard text self.old).page }
+        ensures items { out.new.items ≡ out.old.items ++ (specs.put_standard text self.old).bytes }
+        ensures few { length out.new.items ≤ length out.old.items + 96 }
+        ensures room { out.new.capacity ≡ out.old.capacity }
+    {
+        if let Some(text) = text {
+            self.put(self.is_joined(), before_nul(&text), out);
+        }
+    }
+
     /// The word between quotes, as a library.
     fn put_other_library(&mut self, out: &mut SliceVec<'_, u8>)
         requires { length out.old.items + 96 ≤ out.old.capacity }
@@ -381,7 +394,7 @@ impl Page {
             Act::Held => self.put_held(out),
             Act::LastHeld(many) => self.put_last_held(many, out),
             Act::Marks => self.put_marks(out),
-            Act::Standard => self.put_named(standard_named(self.word), out),
+            Act::Standard => self.put_standard(standard_named(self.word), out),
             Act::Library => self.put_library(library_named(self.word), out),
             Act::Att => self.put_named(version_named(self.word), out),
             Act::Release => self.put_release(out),

@@ -2,7 +2,7 @@
 //!
 //! It stands on nr_units, nr_vectors and nr_stages. To read: `macros`, `page`, `acts`, `seen`; `texts`, `names`, `libraries`, `lookup`, `lay`,
 //! `own_lines`, `references`, `lay_out`; `options`, `calls`, `taking`, `words`, `blocks`, `lines`, `keeping`, `rows`,
-//! `definitions`, `scan`, which puts them together; `pending`, `reader`, `strings`, `at_hand`, `running`; `staged`; `passing`,
+//! `definitions`, `escaping`, `scan`, which puts them together; `pending`, `reader`, `strings`, `at_hand`, `running`; `staged`; `passing`,
 //! `word_laws`.
 #![tactic(auto)]
 
@@ -12,6 +12,7 @@ mod blocks;
 mod calls;
 mod columns;
 mod definitions;
+mod escaping;
 mod keeping;
 mod lay;
 mod lay_out;

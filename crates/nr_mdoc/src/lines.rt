@@ -3,7 +3,7 @@ ghost use Rattle.std.specs.Prelude.{◌≡◌};
 ghost use Rattle.nr_mdoc.specs.Seeing.{met};
 ghost use Rattle.nr_mdoc.specs.Lines as specs;
 
-use super::acts::{Act, Request, Text};
+use super::acts::{Act, Request, Stack, Text};
 use super::macros::{Font, Macro, macro_of};
 use super::page::{Behind, Call, Kind, Last, Page, Row, Scan, Section, Split, Wanted};
 use super::seen::Seen;
@@ -149,18 +149,18 @@ impl Page {
         Seen::left(Act::Nothing)
     }
 
-    /// The system comes: the title's line goes out.
+    /// The system comes: the title's line goes out; where no title came yet, it goes out with the first section.
     fn system(&mut self) -> Seen
         ensures { met self.new result ≡ specs.system self.old }
     {
-        if self.place.titled {
+        if self.place.titled || self.title.is_empty() {
             self.call.line = Macro::Silent;
             return self.silent();
         }
         Seen::left(Act::Title)
     }
 
-    /// A section begins.
+    /// A section begins: lists and displays that are open end.
     fn section(&mut self) -> Seen
         ensures { met self.new result ≡ specs.section self.old }
     {
@@ -169,10 +169,11 @@ impl Page {
         self.place.split = Split::Never;
         self.place.depth = 0;
         self.lay.kept = false;
+        self.lay.literal = false;
         if self.place.titled {
-            return Seen::left(Act::Section);
+            return Seen::left(Act::Section).with(Stack::Empties);
         }
-        Seen::three(Act::Title, Act::TitleEnds, Act::Section)
+        Seen::three(Act::Title, Act::TitleEnds, Act::Section).with(Stack::Empties)
     }
 
     /// A subsection begins.

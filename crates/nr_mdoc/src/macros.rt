@@ -245,7 +245,7 @@ static NAMES: [(u8, u8, Macro); 110] = [
     (b'L', b'k', Macro::Link),
     (b'L', b'p', Macro::Paragraph),
     (b'M', b's', Macro::Words(Font::Bold)),
-    (b'M', b't', Macro::Words(Font::Italic)),
+    (b'M', b't', Macro::Path),
     (b'N', b'd', Macro::Describes),
     (b'N', b'm', Macro::Name),
     (b'N', b'o', Macro::Words(Font::Roman)),

@@ -115,10 +115,10 @@ impl Page {
 
     /// A request on a line.
     pub(crate) fn put_request(&mut self, request: Request, out: &mut SliceVec<'_, u8>)
-        requires { length out.old.items + 64 ≤ out.old.capacity }
+        requires { length out.old.items + 192 ≤ out.old.capacity }
         ensures page { self.new ≡ (specs.put_request request self.old).page }
         ensures items { out.new.items ≡ out.old.items ++ (specs.put_request request self.old).bytes }
-        ensures few { length out.new.items ≤ length out.old.items + 64 }
+        ensures few { length out.new.items ≤ length out.old.items + 192 }
         ensures room { out.new.capacity ≡ out.old.capacity }
     {
         self.freshen(out);

@@ -1,5 +1,6 @@
 //! What is half read of a page.
 
+use super::escaping::Escape;
 use super::macros::{Font, Macro};
 use nr_units::Name;
 
@@ -61,8 +62,8 @@ pub(crate) enum Front {
 pub(crate) enum Before {
     /// A letter.
     Letter,
-    /// A backslash.
-    Backslash,
+    /// What was read of an escape.
+    Within(Escape),
     /// Another byte.
     Other,
 }

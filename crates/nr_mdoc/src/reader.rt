@@ -122,6 +122,10 @@ impl Reader {
                     None => Block::NONE,
                 };
             }
+            Stack::Empties => {
+                self.page.block = Block::NONE;
+                blocks.clear();
+            }
         }
     }
 

@@ -4,6 +4,7 @@ ghost use Rattle.nr_mdoc.specs.Seeing.{met};
 ghost use Rattle.nr_mdoc.specs.Scanning as specs;
 
 use super::acts::{Act, Text};
+use super::escaping::{Escape, escape_then};
 use super::keeping::ends_word;
 use super::lines::call_of;
 use super::macros::Macro;
@@ -21,16 +22,29 @@ fn is_letter(byte: u8) -> bool
     matches!(byte, b'A'..=b'Z' | b'a'..=b'z')
 }
 
-/// What a byte is for the one after it.
-fn before_next(byte: u8) -> Before
-    ensures { result ≡ specs.before_next byte }
+/// What a byte that belongs to no escape is for the one after it.
+fn first_before(byte: u8) -> Before
+    ensures { result ≡ specs.first_before byte }
 {
     if is_letter(byte) {
         Before::Letter
     } else if byte == b'\\' {
-        Before::Backslash
+        Before::Within(Escape::Begun)
     } else {
         Before::Other
+    }
+}
+
+/// What a byte is for the one after it.
+fn before_next(before: Before, byte: u8) -> Before
+    ensures { result ≡ specs.before_next before byte }
+{
+    match before {
+        Before::Within(escape) => match escape_then(escape, byte) {
+            Some(more) => Before::Within(more),
+            None => Before::Other,
+        },
+        _ => first_before(byte),
     }
 }
 
@@ -114,7 +128,10 @@ impl Page {
             return Seen::taken(Act::Nothing);
         }
         self.place.last = Last::Heading;
-        self.turns(Scan::Text(before_next(byte)), Seen::taken(Act::Begin(byte)))
+        self.turns(
+            Scan::Text(first_before(byte)),
+            Seen::taken(Act::Begin(byte)),
+        )
     }
 
     /// An empty line.
@@ -137,18 +154,23 @@ impl Page {
         if byte == b'-' {
             return self.hyphen_in_text(before);
         }
-        self.turns(Scan::Text(before_next(byte)), Seen::taken(Act::Byte(byte)))
+        self.turns(
+            Scan::Text(before_next(before, byte)),
+            Seen::taken(Act::Byte(byte)),
+        )
     }
 
-    /// A hyphen in a text line: behind a letter it is held back, since a line may be broken after it before another.
+    /// A hyphen in a text line: after a letter it is held back, since a line may be broken after it before another; in an escape it
+    /// stays.
     fn hyphen_in_text(&mut self, before: Before) -> Seen
         ensures { met self.new result ≡ specs.hyphen_in_text before self.old }
     {
         match before {
             Before::Letter => self.turns(Scan::Hyphen, Seen::taken(Act::Nothing)),
-            Before::Backslash => {
-                self.turns(Scan::Text(Before::Other), Seen::taken(Act::Byte(b'-')))
-            }
+            Before::Within(_) => self.turns(
+                Scan::Text(before_next(before, b'-')),
+                Seen::taken(Act::Byte(b'-')),
+            ),
             Before::Other => self.turns(Scan::Text(Before::Other), Seen::taken(Act::Hyphen)),
         }
     }

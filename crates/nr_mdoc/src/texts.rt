@@ -148,7 +148,7 @@ pub(crate) fn front_of(front: Front) -> &'static [u8]
 /// A request, as a line.
 pub(crate) fn request_of(request: Request) -> &'static [u8]
     ensures value { result.now ≡ specs.request_of request }
-    ensures few { length result.now ≤ 48 }
+    ensures few { length result.now ≤ 160 }
 {
     match request {
         Request::Break => b".br\n",
@@ -157,7 +157,8 @@ pub(crate) fn request_of(request: Request) -> &'static [u8]
         Request::Distance => b".PD\n",
         Request::Tabs => b".DT\n",
         Request::IndentEnds => b".RE\n",
-        Request::Literal => b".nf\n.ta 8n 16n 24n 32n 40n 48n 56n 64n 72n 80n\n",
+        Request::Literal =>
+            b".nf\n.ta 8n 16n 24n 32n 40n 48n 56n 64n 72n 80n 88n 96n 104n 112n 120n 128n 136n 144n 152n 160n 168n 176n 184n 192n 200n 208n 216n 224n 232n 240n 248n 256n\n",
         Request::LiteralEnds => b".fi\n.DT\n",
         Request::Hangs => b".in +4n\n.ti -4n\n",
         Request::HangEnds => b".br\n.in -4n\n",

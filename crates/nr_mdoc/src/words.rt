@@ -67,6 +67,16 @@ fn behind_long(behind: Behind) -> Seen
     }
 }
 
+/// What takes the words after a mark: it ends what the release of BSD may be.
+fn taken_after_mark(taker: Macro) -> Macro
+    ensures { result ≡ specs.taken_after_mark taker }
+{
+    match taker {
+        Macro::BsdRelease => Macro::Words(Font::Roman),
+        _ => taker,
+    }
+}
+
 impl Page {
     /// A word is whole.
     pub(crate) fn given(&mut self, quoted: bool) -> Seen
@@ -121,6 +131,7 @@ impl Page {
             return Seen::left(Act::Marks);
         }
         self.marks.push(mark);
+        self.call.taker = taken_after_mark(self.call.taker);
         self.call.some = true;
         self.call.listed = false;
         self.scan = Scan::Between;
