@@ -16,7 +16,7 @@ static void judge(const char *what, bool good)
     }
 }
 
-static const struct nulbiko_limits plain = {262144, 256, 65536, 1000000};
+static const struct nulbiko_limits plain = {262144, 256, 65536, 1000000, UINT64_MAX};
 static const struct nulbiko_options options = {1};
 static const char text[] = ".pl 1\na\n.br\nb\n.br\n";
 static struct nulbiko_report report;
@@ -98,9 +98,10 @@ static void null_pointers(void)
 static void ranges(void)
 {
     const struct nulbiko_limits bad[] = {
-        {63, 256, 65536, 1},        {64, 0, 65536, 1}, {64, 256, 0, 1}, {64, 256, 65536, 0}, {16777217, 256, 65536, 1},
-        {64, 4097, 65536, 1},       {64, 256, 16777217, 1}, {64, 256, 65536, 4294967297},
-        {UINT64_MAX, UINT64_MAX, UINT64_MAX, UINT64_MAX},
+        {63, 256, 65536, 1, 64},    {64, 0, 65536, 1, 64}, {64, 256, 0, 1, 64}, {64, 256, 65536, 0, 64},
+        {16777217, 256, 65536, 1, 64}, {64, 4097, 65536, 1, 64}, {64, 256, 16777217, 1, 64},
+        {64, 256, 65536, 4294967297, 64}, {64, 256, 65536, 1, 63}, {64, 256, 65536, 1, 0},
+        {UINT64_MAX, UINT64_MAX, UINT64_MAX, UINT64_MAX, UINT64_MAX},
     };
     for (size_t i = 0; i < sizeof bad / sizeof *bad; i++)
         judge("format: a limit out of range", format(&bad[i], text, sizeof out) == NULBIKO_OUT_OF_RANGE && nothing_done());
@@ -116,7 +117,7 @@ static void ranges(void)
     prepare();
     judge("tbl: no such table", nulbiko_tbl((enum nulbiko_table)6, 78, text, sizeof text, out, sizeof out, &report) ==
                                     NULBIKO_OUT_OF_RANGE && nothing_done());
-    const struct nulbiko_limits least = {64, 1, 1, 1};
+    const struct nulbiko_limits least = {64, 1, 1, 1, 64};
     judge("format: the least limits", format(&least, text, sizeof out) != NULBIKO_OUT_OF_RANGE);
 }
 
@@ -126,9 +127,12 @@ static void outcomes(void)
     judge("format: just enough room", format(&plain, text, 4) == NULBIKO_DONE && put_out("a\nb\n"));
     judge("format: full", format(&plain, text, 3) == NULBIKO_FULL && put_out("a\nb"));
     judge("format: full at once", format(&plain, text, 0) == NULBIKO_FULL && put_out(""));
-    const struct nulbiko_limits narrow = {64, 1, 6, 1};
+    const struct nulbiko_limits narrow = {64, 1, 6, 1, UINT64_MAX};
     judge("format: a limit", format(&narrow, "longword\n", sizeof out) == NULBIKO_LIMIT && put_out("") &&
                                  report.limit == NULBIKO_LINE_CELLS && report.at == 7);
+    const struct nulbiko_limits few = {262144, 256, 65536, 1000000, 64};
+    judge("format: a limit of all moves", format(&few, ".ds a bbbbbbbbbbbbbbbbbbbbbbbbbbbbbbbbbbbbbbbb\n", sizeof out) == NULBIKO_LIMIT &&
+                                              put_out("") && report.limit == NULBIKO_MOVES && report.moves == 64 && report.at == 32);
     const struct nulbiko_options fifth = {5};
     prepare();
     judge("format: the first page's number",
@@ -182,7 +186,7 @@ static void outcomes(void)
 /* Last, since it takes the program's memory away. */
 static void no_memory(void)
 {
-    const struct nulbiko_limits large = {16777216, 4096, 16777216, 1};
+    const struct nulbiko_limits large = {16777216, 4096, 16777216, 1, UINT64_MAX};
     struct rlimit most = {1 << 25, 1 << 25};
     setrlimit(RLIMIT_AS, &most);
     judge("format: out of memory", format(&large, text, sizeof out) == NULBIKO_OUT_OF_MEMORY && nothing_done());
