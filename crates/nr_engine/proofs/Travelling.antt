@@ -1,6 +1,6 @@
 -- A whole run: its moves, and how many there are.
 use Rattle.std.specs.Prelude.{is_some}
-use Rattle.std.proofs.Common.{◌≡◌, ℕ, ◌+◌, ◌-◌, ◌*◌, ◌≤◌, Bool, true, false, List, [], Option, None, Some, Ok, Err, refl, inr, sym, ap, ◌∙◌, subst, arith}
+use Rattle.std.proofs.Common.{◌≡◌, ℕ, ◌+◌, ◌-◌, ◌*◌, ◌≤◌, true, false, List, [], Option, None, Some, Ok, Err, refl, inr, sym, ap, ◌∙◌, subst, arith}
 use Rattle.nr_units.specs.Source.{Supply}
 use Rattle.nr_machine.specs.State.{State}
 use Rattle.nr_machine.specs.Machine.{state_after}

@@ -4,7 +4,7 @@ use Rattle.nr_units.specs.Source.{Supply}
 use Rattle.nr_machine.specs.State.{State}
 use Rattle.nr_machine.specs.Machine.{state_after}
 use Rattle.nr_machine.specs.Holding.{Shape, Holds, Finishes, worth}
-use Rattle.nr_machine.specs.Run.{Kind, Reads, Works, Over}
+use Rattle.nr_machine.specs.Run.{Kind, Over}
 use Rattle.nr_machine.specs.declared.outcome.Measure.TheVariants.{Moves}
 use Rattle.nr_machine.specs.declared.outcome.Outcome.{Outcome}
 use Rattle.nr_machine.specs.declared.outcome.Outcome.TheVariants.{Done, Limit}

@@ -8,7 +8,7 @@ use Rattle.nr_options.specs.Limits.{Bounds}
 use Rattle.nr_machine.specs.State.{State, Choice}
 use Rattle.nr_machine.specs.Machine.{step, state_after}
 use Rattle.nr_machine.specs.Printing.{text}
-use Rattle.nr_machine.specs.Run.{Goes, Stops, Ends, AreSpent, Runs, Writes, Answers, kind, Over, moves_a_byte}
+use Rattle.nr_machine.specs.Run.{Goes, Stops, AreSpent, Runs, Writes, Answers, kind, Over, moves_a_byte}
 use Rattle.nr_machine.specs.Holding.{Shape, Holds, Moved, Left, Made, Halts, Finishes, Grows, Wrote, WritesFrom}
 use Rattle.nr_machine.specs.declared.outcome.Measure.TheVariants as measures
 use Rattle.nr_machine.specs.declared.outcome.Outcome.{Outcome}

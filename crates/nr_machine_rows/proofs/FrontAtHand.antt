@@ -1,5 +1,5 @@
 -- A prefix of the bytes of the source that are at hand.
-use Rattle.std.proofs.Common.{◌≡◌, ℕ, ◌+◌, ◌<◌, ◌≤◌, min, List, length, take, Option, refl, sym, ap, ◌∙◌, subst, arith, take-take}
+use Rattle.std.proofs.Common.{◌≡◌, ℕ, ◌<◌, ◌≤◌, min, List, length, take, Option, sym, ap, ◌∙◌, subst, arith, take-take}
 use Rattle.std.specs.Prelude.{slice_index}
 use Rattle.std.proofs.lemmas.List.{get_or-take, length-take, take_min}
 use Rattle.nr_units.specs.Source.{Supply}

@@ -1,4 +1,4 @@
-use Rattle.std.proofs.Common.{◌≤◌, [], Some, refl, sym, ap, subst, arith}
+use Rattle.std.proofs.Common.{[], Some, refl, sym, ap, subst, arith}
 use Rattle.nr_units.specs.Failures.{counted_if, put_counted_if}
 use Rattle.nr_machine.specs.State.{start}
 use Rattle.nr_machine.specs.Machine.{state_after}
