@@ -10,8 +10,7 @@ use Rattle.nr_options.specs.declared.options.Options.{Options}
 use Rattle.nr_machine.specs.State.{State, Ended, start}
 use Rattle.nr_machine.specs.Machine.{step, state_after}
 use Rattle.nr_machine.specs.Printing.{bytes_of, text}
-use Rattle.nr_machine.specs.Run.{Kind, Over, kind, Goes, GoesBy, Runs, Stops, Ends, AreSpent, Writes, BreaksOff, is_write_fault}
-use Rattle.nr_machine.specs.declared.outcome.Measure.TheVariants as measures
+use Rattle.nr_machine.specs.Run.{Over, kind, Goes, GoesBy, Runs, Stops, Ends, AreSpent, Writes, BreaksOff, is_write_fault}
 use Rattle.nr_machine.specs.declared.outcome.Outcome.{Outcome}
 use Rattle.nr_machine.specs.declared.outcome.Outcome.TheVariants.{Done, Limit, ReadFault, TooLong, WriteFault}
 use Rattle.nr_laws.specs.Limited.{state_under}
