@@ -3,6 +3,9 @@
 #   plain    1: what is underlined or bold is a letter alone
 #   option   a word: only the paragraphs of that option, each below its heading
 #   list     1: only the options, each as it stands before its paragraph
+#   links    1: addresses, and the pages below SEE ALSO, are links of the terminal (OSC 8)
+#   tags     a file that gets tags of less: of each heading its first word, of each option itself, with its dashes and
+#            without, of another word before a paragraph of its own that word
 #
 # A character that could not be shown is named on standard error, as `lost <U+540D>`: the first one. It ends with 1 where
 # no option was found.
@@ -25,6 +28,34 @@ function is_tag(at,   deep) {
 function head(row) {
     sub(/^ +/, "", row)
     sub(/  +.*/, "", row)
+    return row
+}
+
+# Adds the tag of a row.
+function put_tag(name, row) {
+    gsub(/[\\\/]/, "\\\\&", row)
+    if (name != "") printf "%s\t-\t/^%s/\n", name, row >>tags
+}
+
+# Adds the tags of a row, whose next one is known.
+function put_tags(row, next_row,   deep, words, n, i, text) {
+    text = text_of(row)
+    deep = depth(text)
+    if (deep == 0) put_tag(substr(text, 1, match(text " ", / /) - 1), row)
+    if (deep < 1 || depth(text_of(next_row)) <= deep && head(text) == substr(text, deep + 1) && !(text_of(next_row) text ~ /^ *-.* -/)) return
+    n = split(head(text), words, /[][ ,|=<>()]+/)
+    for (i = 1; i <= n; i++)
+        if (i == 1 || words[i] ~ /^-/) {
+            put_tag(words[i], row)
+            if (sub(/^--?/, "", words[i])) put_tag(words[i], row)
+        }
+    fflush(tags)
+}
+
+# A row whose addresses and pages are links.
+function linked(row) {
+    gsub(/https?:\/\/[^][ <>"()\010\033]*[^][ <>"()\010\033.,;:]/, "\033]8;;&\007&\033]8;;\007", row)
+    if (below == "SEE ALSO") gsub(/[A-Za-z0-9_.:+-]+\([1-9][a-z]*\)/, "\033]8;;man:&\007&\033]8;;\007", row)
     return row
 }
 
@@ -72,11 +103,24 @@ BEGIN { keeps = option != "" || list }
     if (keeps) {
         row[++count] = $0
         text[count] = text_of($0)
-    } else if (NF || !blank) print
+    } else if (NF || !blank) {
+        if (tags != "" && NR > 1) put_tags(last, $0)
+        last = $0
+        if (links) {
+            if (/^[^ ]/) below = text_of($0)
+            $0 = linked($0)
+        }
+        # The first screen goes out at once; the rest when the tags of all of it are there, since a pipe takes 64 kB.
+        if (tags == "" || NR < 200) print
+        else later[++held] = $0
+        if (NR == 199) fflush()
+    }
     blank = !NF
 }
 
 END {
+    if (held) close(tags)
+    for (at = 1; at <= held; at++) print later[at]
     for (at = 1; at <= count; at++) {
         if (text[at] ~ /^[^ ]/) heading = row[at]
         else if (list && is_option(at) && is_tag(at)) {

@@ -16,7 +16,7 @@ _man_page() {
     case $word in
     -*)
         COMPREPLY=($(compgen -W $'-a\n-f\n-i\n-I\n-k\n-K\n-l\n-L\n-m\n-M\n-O\n-P\n-r\n-s\n-w\n--all\n--apropos\n--ascii\n--faces
---global-apropos\n--help\n--ignore-case\n--limits\n--local-file\n--locale\n--manpath\n--match-case\n--names\n--no-subpages
+--global-apropos\n--help\n--ignore-case\n--limits\n--links\n--local-file\n--locale\n--manpath\n--match-case\n--names\n--no-subpages
 --option\n--pager\n--prompt\n--sections\n--sgr\n--systems\n--version\n--warnings\n--whatis\n--where' -- "$word"))
         return
         ;;
