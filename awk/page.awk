@@ -7,7 +7,7 @@
 #   tags     a file that gets tags of less: of each heading its first word, of each option itself, with its dashes and
 #            without, of another word before a paragraph of its own that word
 #
-# A character that could not be shown is named on standard error, as `lost <U+540D>`: the first one. It ends with 1 where
+# A character that could not be shown is named on standard error, as `lost <U+540D>`: the first one. It ends with 9 where
 # no option was found.
 function text_of(row) {
     gsub(/_\010/, "", row)
@@ -128,5 +128,5 @@ END {
             print "       " head(row[at])
         } else if (!list && has_option(at) && is_tag(at)) at = put_paragraph(at)
     }
-    if (keeps && !put) exit 1
+    if (keeps && !put) exit 9
 }
