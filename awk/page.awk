@@ -9,8 +9,10 @@
 #
 # A character that could not be shown is named on standard error, as `lost <U+540D>`: the first one. It ends with 9 where
 # no option was found.
+# A row without what is struck over: each character before a backspace, of one byte or of several.
 function text_of(row) {
-    gsub(/_\010/, "", row)
+    if (index(row, "\010"))
+        gsub(/([\001-\177]|[\300-\337].|[\340-\357]..|[\360-\367]...)\010/, "", row)
     return row
 }
 
@@ -99,7 +101,7 @@ BEGIN { keeps = option != "" || list }
 }
 
 {
-    if (plain) gsub(/_\010/, "")
+    if (plain) $0 = text_of($0)
     if (keeps) {
         row[++count] = $0
         text[count] = text_of($0)
