@@ -239,12 +239,13 @@ fn words_that_others_give_nroff(rt: HostRuntime) {
 }
 
 /// Limits, the first page and what is printed in place of pages.
-fn numbers(words: &[&str]) -> Option<[u64; 6]> {
+fn numbers(words: &[&str]) -> Option<[u64; 7]> {
     match read_words(words) {
         Ok(job) => Some([
             job.limits.stored() as u64,
             job.limits.depth() as u64,
             job.limits.expansions(),
+            job.limits.moves(),
             job.plain.formats,
             job.plain.row,
             job.plain.first,
@@ -257,10 +258,18 @@ fn numbers(words: &[&str]) -> Option<[u64; 6]> {
 fn limits_and_numbers(rt: HostRuntime) {
     assert_eq!(rt;
         numbers(&[]),
-        Some([4_194_304, 256, 10_000_000, 262_144, 65_536, 1])
+        Some([4_194_304, 256, 10_000, 1_000_000_000, 262_144, 65_536, 1])
     );
-    let words = ["-Ls64", "-Ld1", "-Lx4294967296", "-Lt1", "-Lr64", "-n007"];
-    assert_eq!(rt; numbers(&words), Some([64, 1, 4_294_967_296, 1, 64, 7]));
+    let words = [
+        "-Ls64",
+        "-Ld1",
+        "-Lx4294967296",
+        "-Lm64",
+        "-Lt1",
+        "-Lr64",
+        "-n007",
+    ];
+    assert_eq!(rt; numbers(&words), Some([64, 1, 4_294_967_296, 64, 1, 64, 7]));
 }
 
 #[test]

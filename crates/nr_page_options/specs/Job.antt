@@ -39,7 +39,7 @@ pub record Asked : Type 0 where
 
 -- the limits where no word sets them
 abbrev pub usual_bounds : Bounds
-usual_bounds = record { stored = 4194304; depth = 256; cells = 1048576; expansions = 10000000 }
+usual_bounds = record { stored = 4194304; depth = 256; cells = 1048576; expansions = 10000; moves = 1000000000 }
 
 -- where there is no word
 abbrev pub nothing_asked : Asked

@@ -6,7 +6,7 @@ use Rattle.std.specs.Option.{option_map}
 use Rattle.std.specs.List.{list_any, list_all, before_first, after_first, position_or_len}
 use Rattle.std.specs.Str.{bytes_eq}
 use Rattle.nr_options.specs.declared.limits.Limit.{Limit}
-use Rattle.nr_options.specs.declared.limits.Limit.TheVariants.{Stored, Depth, Cells, Expansions}
+use Rattle.nr_options.specs.declared.limits.Limit.TheVariants.{Stored, Depth, Cells, Expansions, Moves}
 use Rattle.nr_page_options.specs.declared.plain.Device.{Device}
 use Rattle.nr_page_options.specs.declared.plain.Device.TheVariants.{Utf8, Latin1, Ascii}
 use Rattle.nr_page_options.specs.declared.plain.Faces.{Faces}
@@ -83,6 +83,7 @@ limit_of letter n =
     if letter == code "d" then Some (Limits Depth n) else
     if letter == code "p" then Some (Limits Cells n) else
     if letter == code "x" then Some (Limits Expansions n) else
+    if letter == code "m" then Some (Limits Moves n) else
     if letter == code "t" && (nat_le 1 n && nat_le n 1048576) then Some (Changes (changes.Formats n)) else
     if letter == code "r" && (nat_le 64 n && nat_le n 1048576) then Some (Changes (changes.Row n)) else
     None

@@ -33,7 +33,8 @@ fn usual_limits() -> Limits
     let mut limits = Limits::default();
     limits.set(Limit::Stored, 4_194_304);
     limits.set(Limit::Cells, 1_048_576);
-    limits.set(Limit::Expansions, 10_000_000);
+    limits.set(Limit::Expansions, 10_000);
+    limits.set(Limit::Moves, 1_000_000_000);
     limits
 }
 

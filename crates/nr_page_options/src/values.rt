@@ -165,6 +165,7 @@ fn read_limit(value: &[u8]) -> Option<Ask<'_>>
         b'd' => Some(Ask::Limit(Limit::Depth, number)),
         b'p' => Some(Ask::Limit(Limit::Cells, number)),
         b'x' => Some(Ask::Limit(Limit::Expansions, number)),
+        b'm' => Some(Ask::Limit(Limit::Moves, number)),
         b't' if 1 <= number && number <= MOST_HELD => Some(Ask::Change(Change::Formats(number))),
         b'r' if LEAST_ROW <= number && number <= MOST_HELD => {
             Some(Ask::Change(Change::Row(number)))
