@@ -91,10 +91,17 @@ put joined text p = laid (was_put p) (gap joined (first_of text) p ++ text)
 abbrev pub is_stop : ℕ → Bool
 is_stop b = (b == code ".") || (b == code "?") || (b == code "!")
 
+-- what may stand between the end of a sentence and the end of its line (groff manual, "Sentences")
+abbrev pub is_transparent : ℕ → Bool
+is_transparent b =
+    (b == code ")") || (b == code "]") || (b == code "\"") || (b == code "'") || (b == code "*")
+
 -- a word that would end a sentence at the end of its line
 abbrev pub ends_sentence : List ℕ → Bool
 ends_sentence word =
-    nat_lt 0 (length word) && is_stop (slice_index word (length word - 1))
+    (nat_lt 0 (length word) && is_stop (slice_index word (length word - 1)))
+    || (nat_lt 1 (length word) && is_transparent (slice_index word (length word - 1))
+    && is_stop (slice_index word (length word - 2)))
 
 abbrev pub is_roman : Font → Bool
 is_roman Roman = true

@@ -46,12 +46,27 @@ fn before_hyphen(word: &[u8]) -> &'static [u8]
     }
 }
 
+/// A full stop, a question mark or an exclamation mark.
+fn is_stop(byte: u8) -> bool
+    ensures { result ≡ specs.is_stop byte }
+{
+    matches!(byte, b'.' | b'?' | b'!')
+}
+
+/// A mark that may stand between the end of a sentence and the end of its line.
+fn is_transparent(byte: u8) -> bool
+    ensures { result ≡ specs.is_transparent byte }
+{
+    matches!(byte, b')' | b']' | b'"' | b'\'' | b'*')
+}
+
 /// Whether a word would end a sentence at the end of its line.
 fn ends_sentence(word: &[u8]) -> bool
     ensures { result ≡ specs.ends_sentence word.now }
 {
     let len = word.len();
-    len > 0 && matches!(word[len - 1], b'.' | b'?' | b'!')
+    (len > 0 && is_stop(word[len - 1]))
+        || (len > 1 && is_transparent(word[len - 1]) && is_stop(word[len - 2]))
 }
 
 /// The first byte of a text.
