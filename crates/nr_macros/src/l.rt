@@ -10,7 +10,7 @@ pub(crate) static TEXT: &[u8] = b"\
 .\\\"   .TO words      name and address of who gets it\n\
 .\\\"   .SU words      subject\n\
 .\\\"   .GR words      salutation, then paragraphs:\n\
-.\\\"   .PP .LP .IP tag width   .DS .DE lines as they are   .B .I .R words\n\
+.\\\"   .PP .LP .IP tag width   .DS .DE lines as they are   .TS .TE tables   .B .I .R words\n\
 .\\\"   .CL words      close\n\
 .\\\"   .SG words      room to sign, and who signs\n\
 .\\\"   .EN words      enclosures, a line for each\n\
@@ -25,8 +25,20 @@ pub(crate) static TEXT: &[u8] = b"\
 .\\\" Private strings   )name words of .TO   )date words of .DA   )joined words, joined\n\
 .\\\" Private registers )width of tags   )tag width of a tag   )used room of a header's words\n\
 .\\\" Private macros    )end-block what comes before a block   )left a block at the left\n\
-.\\\"   )middle one at the middle   )words of a block, filled   )join joins words\n\
+.\\\"   )middle one at the middle   )words of a block, filled: )joined   )join joins words\n\
 .cp 0\n\
+.\\\" the words of a macro with a blank between two of them, as )joined; definitions take this in\n\
+.de )join\n\
+.ds )joined \"\\\\\\\\$1\n\
+.if !\\a\\\\\\\\$2\\a\\a .as )joined \" \\\\\\\\$2\n\
+.if !\\a\\\\\\\\$3\\a\\a .as )joined \" \\\\\\\\$3\n\
+.if !\\a\\\\\\\\$4\\a\\a .as )joined \" \\\\\\\\$4\n\
+.if !\\a\\\\\\\\$5\\a\\a .as )joined \" \\\\\\\\$5\n\
+.if !\\a\\\\\\\\$6\\a\\a .as )joined \" \\\\\\\\$6\n\
+.if !\\a\\\\\\\\$7\\a\\a .as )joined \" \\\\\\\\$7\n\
+.if !\\a\\\\\\\\$8\\a\\a .as )joined \" \\\\\\\\$8\n\
+.if !\\a\\\\\\\\$9\\a\\a .as )joined \" \\\\\\\\$9\n\
+..\n\
 .\\\" header; words that have no room side by side stand one above the other\n\
 .de )header\n\
 .rs\n\
@@ -57,15 +69,14 @@ pub(crate) static TEXT: &[u8] = b"\
 ..\n\
 .de )left\n\
 .)end-block\n\
-.)words \"\\\\$1\" \"\\\\$2\" \"\\\\$3\" \"\\\\$4\" \"\\\\$5\" \"\\\\$6\" \"\\\\$7\" \"\\\\$8\" \"\\\\$9\"\n\
+.)words\n\
 ..\n\
 .de )middle\n\
 .)end-block\n\
 .in \\\\n(LLu/2u\n\
-.)words \"\\\\$1\" \"\\\\$2\" \"\\\\$3\" \"\\\\$4\" \"\\\\$5\" \"\\\\$6\" \"\\\\$7\" \"\\\\$8\" \"\\\\$9\"\n\
+.)words\n\
 ..\n\
 .de )words\n\
-.)join \"\\\\$1\" \"\\\\$2\" \"\\\\$3\" \"\\\\$4\" \"\\\\$5\" \"\\\\$6\" \"\\\\$7\" \"\\\\$8\" \"\\\\$9\"\n\
 .if \\w\\a\\\\*[)joined]\\a \\{\\\n\
 .na\n\
 .fi\n\
@@ -75,36 +86,24 @@ pub(crate) static TEXT: &[u8] = b"\
 .ad\n\
 .\\}\n\
 ..\n\
-.\\\" words with a blank between two of them\n\
-.de )join\n\
-.ds )joined \"\\\\$1\n\
-.if !\\a\\\\$2\\a\\a .as )joined \" \\\\$2\n\
-.if !\\a\\\\$3\\a\\a .as )joined \" \\\\$3\n\
-.if !\\a\\\\$4\\a\\a .as )joined \" \\\\$4\n\
-.if !\\a\\\\$5\\a\\a .as )joined \" \\\\$5\n\
-.if !\\a\\\\$6\\a\\a .as )joined \" \\\\$6\n\
-.if !\\a\\\\$7\\a\\a .as )joined \" \\\\$7\n\
-.if !\\a\\\\$8\\a\\a .as )joined \" \\\\$8\n\
-.if !\\a\\\\$9\\a\\a .as )joined \" \\\\$9\n\
-..\n\
 .de SE\n\
-.)middle \"\\\\$1\" \"\\\\$2\" \"\\\\$3\" \"\\\\$4\" \"\\\\$5\" \"\\\\$6\" \"\\\\$7\" \"\\\\$8\" \"\\\\$9\"\n\
+\\*[)join].)middle\n\
 ..\n\
 .de DA\n\
-.)middle \"\\\\$1\" \"\\\\$2\" \"\\\\$3\" \"\\\\$4\" \"\\\\$5\" \"\\\\$6\" \"\\\\$7\" \"\\\\$8\" \"\\\\$9\"\n\
+\\*[)join].)middle\n\
 .ds )date \"\\\\*[)joined]\n\
 ..\n\
 .de TO\n\
-.)left \"\\\\$1\" \"\\\\$2\" \"\\\\$3\" \"\\\\$4\" \"\\\\$5\" \"\\\\$6\" \"\\\\$7\" \"\\\\$8\" \"\\\\$9\"\n\
+\\*[)join].)left\n\
 .ds )name \"\\\\*[)joined]\n\
 ..\n\
 .de SU\n\
 .)end-block\n\
 .ft I\n\
-.)words \"\\\\$1\" \"\\\\$2\" \"\\\\$3\" \"\\\\$4\" \"\\\\$5\" \"\\\\$6\" \"\\\\$7\" \"\\\\$8\" \"\\\\$9\"\n\
+\\*[)join].)words\n\
 ..\n\
 .de GR\n\
-.)left \"\\\\$1\" \"\\\\$2\" \"\\\\$3\" \"\\\\$4\" \"\\\\$5\" \"\\\\$6\" \"\\\\$7\" \"\\\\$8\" \"\\\\$9\"\n\
+\\*[)join].)left\n\
 ..\n\
 .\\\" paragraphs\n\
 .de PP\n\
@@ -155,19 +154,34 @@ PS:\n\
 .fi\n\
 .in 0\n\
 ..\n\
+.\\\" around what tbl makes of a table\n\
+.de TS\n\
+.)end-block\n\
+..\n\
+.de TH\n\
+..\n\
+.de T&\n\
+..\n\
+.de TE\n\
+.br\n\
+.fi\n\
+.in 0\n\
+.sp\n\
+.ns\n\
+..\n\
 .\\\" close, with what signs it on the same page\n\
 .de CL\n\
 .)end-block\n\
 .ne 8v\n\
 .in \\\\n(LLu/2u\n\
-.)words \"\\\\$1\" \"\\\\$2\" \"\\\\$3\" \"\\\\$4\" \"\\\\$5\" \"\\\\$6\" \"\\\\$7\" \"\\\\$8\" \"\\\\$9\"\n\
+\\*[)join].)words\n\
 ..\n\
 .de SG\n\
 .br\n\
 .sp 3\n\
 .nf\n\
 .in \\\\n(LLu/2u\n\
-.)words \"\\\\$1\" \"\\\\$2\" \"\\\\$3\" \"\\\\$4\" \"\\\\$5\" \"\\\\$6\" \"\\\\$7\" \"\\\\$8\" \"\\\\$9\"\n\
+\\*[)join].)words\n\
 ..\n\
 .\\\" lists below the letter\n\
 .de EN\n\
@@ -175,14 +189,14 @@ PS:\n\
 .ne 2v\n\
 Enclosures:\n\
 .in 4n\n\
-.)words \"\\\\$1\" \"\\\\$2\" \"\\\\$3\" \"\\\\$4\" \"\\\\$5\" \"\\\\$6\" \"\\\\$7\" \"\\\\$8\" \"\\\\$9\"\n\
+\\*[)join].)words\n\
 ..\n\
 .de CC\n\
 .)end-block\n\
 .ne 2v\n\
 Copies:\n\
 .in 4n\n\
-.)words \"\\\\$1\" \"\\\\$2\" \"\\\\$3\" \"\\\\$4\" \"\\\\$5\" \"\\\\$6\" \"\\\\$7\" \"\\\\$8\" \"\\\\$9\"\n\
+\\*[)join].)words\n\
 ..\n\
 .\\\" fonts; without words: from here on\n\
 .de B\n\

@@ -4,6 +4,7 @@
 #![tactic(auto)]
 
 mod an;
+mod e;
 mod l;
 mod s;
 
@@ -14,6 +15,8 @@ pub const VERSION: &[u8] = b"nulbiko 0.1.0\n";
 pub fn macro_file(name: &[u8]) -> Option<&'static [u8]> {
     if name == b"an".as_slice() {
         Some(an::TEXT)
+    } else if name == b"e".as_slice() {
+        Some(e::TEXT)
     } else if name == b"l".as_slice() {
         Some(l::TEXT)
     } else if name == b"s".as_slice() {

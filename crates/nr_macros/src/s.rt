@@ -11,11 +11,12 @@ pub(crate) static TEXT: &[u8] = b"\
 .\\\" Displays    .DS kind .DE kept together   .ID .LD .CD .BD .RD not   .B1 .B2\n\
 .\\\" Keeps       .KS .KF .KE        Notes  \\** and then .FS mark .FE\n\
 .\\\" Tables      .TS H .TH .TE      Equations  .EQ kind number .EN   .PS .PE\n\
+.\\\" References  of refer .]- .][ kind .]< .]>\n\
 .\\\" Contents    .XS page indent .XA .XE   .PX no   .TC no   .XN words .XH level words\n\
 .\\\" Others      .SC .P2 .UC .SG .CT, addresses .MH .HO .WH .IH .PY\n\
 .\\\" Of groff    .als .nop, and of www.tmac .URL .FTP .MTO .DC .ULS .OLS .DLS .LI\n\
 .\\\" Titles      .OH .EH .OF .EF 'left'centre'right'   strings LH CH RH LF CF RF\n\
-.\\\" Columns     .1C .2C .MC: one column\n\
+.\\\" Columns     .2C   .MC width gap   .1C\n\
 .\\\" Registers   LL LT FL PO HM FM PI QI DI FI PD DD FPD in u, PS VS FF PORPHANS\n\
 .\\\"             HORPHANS, H1 to H8, PN\n\
 .\\\" Options     -rLN lines of N cells (60)\n\
@@ -26,9 +27,12 @@ pub(crate) static TEXT: &[u8] = b"\
 .\\\"   )left )right margins of .RS and .QS, )pleft )pright those of a paragraph in\n\
 .\\\"   them, )width that of tags, )depth with )left1, )left2 .. the ones before\n\
 .\\\"   )cover 1 while its parts are set apart, 2 behind them, )titling 1 in the title,\n\
+.\\\"   )names 1 after .AU, )institution 1 after .AI,\n\
 .\\\"   )abstract 1 in it, )report 1 after .RP, )again 1 if the title comes again\n\
 .\\\"   )begun 1 from the first page on, )first 1 for a header on it, )aside 1 on a page\n\
-.\\\"   without header and footer, )top the first place below the header\n\
+.\\\"   without header and footer, )top the first place below the header or of the columns,\n\
+.\\\"   )columns how many, )column this one, )gap between two, )all-LL )all-FL of the page,\n\
+.\\\"   )low lowest place of them   )wide height of notes from above them\n\
 .\\\"   )kind of a display   )keep depth of keeps, )keeping that of the one that is set apart\n\
 .\\\"   )boxed depth of boxes, )box-keep that of keeps around them\n\
 .\\\"   )float 1 in a keep that floats: of )kept )shown were printed, )wait1 .. are the\n\
@@ -36,10 +40,11 @@ pub(crate) static TEXT: &[u8] = b"\
 .\\\"   )marks numbers of notes in the text, )mark in notes   )raw notes not set yet, with\n\
 .\\\"   )room kept for them, )noted height of the set ones of this page, )later of the next\n\
 .\\\"   )italics 1 while text is in italics, )centred 1 while lines are centred\n\
-.\\\"   )row 1 while a line is kept aside for the page's end, )rows its height\n\
+.\\\"   )row 1 while a line is kept aside, )rows its height, )set-apart1 1 if the footer\n\
+.\\\"   does so, with )footers depth of footers\n\
 .\\\"   )in-table 1 in a table, )flat 1 where a paragraph of it is in no block, )head height\n\
 .\\\"   of its head   )level of a heading, )style and )sn 1 for numbers without a point\n\
-.\\\" Private texts: )title )abstract-text, )kept-text, )keepN, )raw-notes, )notes, )notes-later, )notes-over,\n\
+.\\\" Private texts: )title )abstract-text, )tag-text )item )note-mark, )kept-text, )keepN, )raw-notes, )notes, )notes-later, )notes-over,\n\
 .\\\"   )line (kept aside), )contents, )head-text, )oh )eh )of )ef titles\n\
 .cp 0\n\
 .ds REFERENCES References\n\
@@ -68,10 +73,10 @@ pub(crate) static TEXT: &[u8] = b"\
 .ds <\n\
 .ds >\n\
 .ds CH -\\\\n(PN-\n\
-.ds )oh \\a\\\\*(LH\\a\\\\*(CH\\a\\\\*(RH\\a\n\
-.ds )eh \\a\\\\*(LH\\a\\\\*(CH\\a\\\\*(RH\\a\n\
-.ds )of \\a\\\\*(LF\\a\\\\*(CF\\a\\\\*(RF\\a\n\
-.ds )ef \\a\\\\*(LF\\a\\\\*(CF\\a\\\\*(RF\\a\n\
+.ds )oh \\a\\\\*(LH\\a\\\\*[)blank]\\\\*(CH\\a\\\\*(RH\\a\n\
+.ds )eh \\a\\\\*(LH\\a\\\\*[)blank]\\\\*(CH\\a\\\\*(RH\\a\n\
+.ds )of \\a\\\\*(LF\\a\\\\*[)blank]\\\\*(CF\\a\\\\*(RF\\a\n\
+.ds )ef \\a\\\\*(LF\\a\\\\*[)blank]\\\\*(CF\\a\\\\*(RF\\a\n\
 .ds )unix (R)\n\
 .ds )bullet1 \\(bu\n\
 .ds )bullet2 []\n\
@@ -121,12 +126,14 @@ pub(crate) static TEXT: &[u8] = b"\
 .de )header\n\
 .if !\\\\n[)begun] .)begin\n\
 .nr PN \\\\n%\n\
+.nr )column 1\n\
 .po \\\\n(POu\n\
 .rs\n\
 'sp \\\\n(HMu/2u\n\
 .if !\\\\n[)aside] \\{\\\n\
 .lt \\\\n(LTu\n\
 .ft R\n\
+.)middle \\\\*(CH\n\
 .PT\n\
 .ft P\n\
 .HD\n\
@@ -136,6 +143,13 @@ pub(crate) static TEXT: &[u8] = b"\
 .if \\\\n[)later] .)notes-wait\n\
 .)place\n\
 .ns\n\
+..\n\
+.\\\" where the rest is odd the middle stands a blank further to the right\n\
+.de )middle\n\
+.ds )blank\n\
+.ds )middle-text \\\\$1 \\\\$2 \\\\$3 \\\\$4 \\\\$5 \\\\$6 \\\\$7 \\\\$8 \\\\$9\n\
+.nr )w \\\\n(LT-\\w\\a\\\\*[)middle-text]\\a/24%2\n\
+.if \\\\n()w>0 .ds )blank \"\\ \\&\n\
 ..\n\
 .de PT\n\
 .ie \\\\n%=1 .if \\\\n[)first] .tl \\\\*[)oh]\n\
@@ -152,33 +166,29 @@ pub(crate) static TEXT: &[u8] = b"\
 .ie \\\\n[)bell] .DS L\n\
 .el .nr )first 1\n\
 ..\n\
-.\\\" words with a blank between two of them\n\
+.\\\" the words of a macro with a blank between two of them, as )joined; definitions take this in\n\
 .de )join\n\
-.ds )joined \"\\\\$1\n\
-.if !\\a\\\\$2\\a\\a .as )joined \" \\\\$2\n\
-.if !\\a\\\\$3\\a\\a .as )joined \" \\\\$3\n\
-.if !\\a\\\\$4\\a\\a .as )joined \" \\\\$4\n\
-.if !\\a\\\\$5\\a\\a .as )joined \" \\\\$5\n\
-.if !\\a\\\\$6\\a\\a .as )joined \" \\\\$6\n\
-.if !\\a\\\\$7\\a\\a .as )joined \" \\\\$7\n\
-.if !\\a\\\\$8\\a\\a .as )joined \" \\\\$8\n\
-.if !\\a\\\\$9\\a\\a .as )joined \" \\\\$9\n\
+.ds )joined \"\\\\\\\\$1\n\
+.if !\\a\\\\\\\\$2\\a\\a .as )joined \" \\\\\\\\$2\n\
+.if !\\a\\\\\\\\$3\\a\\a .as )joined \" \\\\\\\\$3\n\
+.if !\\a\\\\\\\\$4\\a\\a .as )joined \" \\\\\\\\$4\n\
+.if !\\a\\\\\\\\$5\\a\\a .as )joined \" \\\\\\\\$5\n\
+.if !\\a\\\\\\\\$6\\a\\a .as )joined \" \\\\\\\\$6\n\
+.if !\\a\\\\\\\\$7\\a\\a .as )joined \" \\\\\\\\$7\n\
+.if !\\a\\\\\\\\$8\\a\\a .as )joined \" \\\\\\\\$8\n\
+.if !\\a\\\\\\\\$9\\a\\a .as )joined \" \\\\\\\\$9\n\
 ..\n\
 .de OH\n\
-.)join \"\\\\$1\" \"\\\\$2\" \"\\\\$3\" \"\\\\$4\" \"\\\\$5\" \"\\\\$6\" \"\\\\$7\" \"\\\\$8\" \"\\\\$9\"\n\
-.ds )oh \"\\\\*[)joined]\n\
+\\*[)join].ds )oh \"\\\\*[)joined]\n\
 ..\n\
 .de EH\n\
-.)join \"\\\\$1\" \"\\\\$2\" \"\\\\$3\" \"\\\\$4\" \"\\\\$5\" \"\\\\$6\" \"\\\\$7\" \"\\\\$8\" \"\\\\$9\"\n\
-.ds )eh \"\\\\*[)joined]\n\
+\\*[)join].ds )eh \"\\\\*[)joined]\n\
 ..\n\
 .de OF\n\
-.)join \"\\\\$1\" \"\\\\$2\" \"\\\\$3\" \"\\\\$4\" \"\\\\$5\" \"\\\\$6\" \"\\\\$7\" \"\\\\$8\" \"\\\\$9\"\n\
-.ds )of \"\\\\*[)joined]\n\
+\\*[)join].ds )of \"\\\\*[)joined]\n\
 ..\n\
 .de EF\n\
-.)join \"\\\\$1\" \"\\\\$2\" \"\\\\$3\" \"\\\\$4\" \"\\\\$5\" \"\\\\$6\" \"\\\\$7\" \"\\\\$8\" \"\\\\$9\"\n\
-.ds )ef \"\\\\*[)joined]\n\
+\\*[)join].ds )ef \"\\\\*[)joined]\n\
 ..\n\
 .\\\" notes that waited for this page\n\
 .de )notes-wait\n\
@@ -191,6 +201,7 @@ pub(crate) static TEXT: &[u8] = b"\
 .ch )footer\n\
 .nr )w \\\\n[)noted]+\\\\n[)room]\n\
 .if \\\\n()w .nr )w +40u\n\
+.if \\\\n[)wide] .nr )w +\\\\n[)wide]+40u\n\
 .nr )w \\\\n(.p-\\\\n(FM-\\\\n()w\n\
 .if \\\\n()w<(\\\\n(HM+120u) .nr )w \\\\n(HM+120u\n\
 .if \\\\n()w<=\\\\n(nl .nr )w \\\\n(nl+40u\n\
@@ -201,23 +212,44 @@ pub(crate) static TEXT: &[u8] = b"\
 .de )footer\n\
 .rs\n\
 .ch )footer\n\
-.nr )w \\\\n[)raw]+\\\\n[)noted]+\\\\n[)head]+\\\\n[)kept]-\\\\n[)shown]\n\
+.nr )w \\\\n[)raw]+\\\\n[)noted]+\\\\n[)wide]+\\\\n[)head]+\\\\n[)kept]-\\\\n[)shown]\n\
+.nr )footers +1\n\
+.nr )set-apart\\\\n[)footers] \\\\n()w>0\n\
 .if \\\\n()w .)aside\n\
 .if \\\\n[)raw] .)set-at-bottom\n\
 .nr )room 0\n\
 .if \\\\n[)noted] .)print-notes\n\
+.if \\\\n(nl>\\\\n[)low] .nr )low \\\\n(nl\n\
+.ie \\\\n[)column]<\\\\n[)columns] .)next-column\n\
+.el .)end-page\n\
+.)place\n\
+.if !\\\\n[)floating] .if \\\\n[)kept]>\\\\n[)shown] .)floats\n\
+.if \\\\n[)head] .)print-head\n\
+.if \\\\n[)set-apart\\\\n[)footers]] .)back\n\
+.nr )footers -1\n\
+..\n\
+.de )end-page\n\
+.po \\\\n(POu\n\
+.if \\\\n[)wide] .)print-wide-notes\n\
+.nr )low 0\n\
 'sp |(\\\\n(.pu-(\\\\n(FMu/2u))\n\
 .if !\\\\n[)aside] \\{\\\n\
 .lt \\\\n(LTu\n\
 .ft R\n\
+.)middle \\\\*(CF\n\
 .BT\n\
 .ft P\n\
 .\\}\n\
 'bp\n\
-.)place\n\
-.if !\\\\n[)floating] .if \\\\n[)kept]>\\\\n[)shown] .)floats\n\
-.if \\\\n[)head] .)print-head\n\
-.if \\\\n[)row] .)back\n\
+..\n\
+.\\\" where the columns of this page begin, further to the right\n\
+.de )next-column\n\
+.nr )column +1\n\
+.nr )o \\\\n(LL+\\\\n[)gap]*(\\\\n[)column]-1)+\\\\n(PO\n\
+.po \\\\n()ou\n\
+'sp |\\\\n[)top]u\n\
+.if \\\\n[)later] .)notes-wait\n\
+.ns\n\
 ..\n\
 .\\\" the line under way is kept aside; it comes back as one word\n\
 .de )aside\n\
@@ -281,6 +313,7 @@ pub(crate) static TEXT: &[u8] = b"\
 .if '\\\\n(.z'' .)last-pages\n\
 ..\n\
 .de )last-pages\n\
+.nr )column \\\\n[)columns]\n\
 .if \\\\n(nl \\{\\\n\
 .rs\n\
 .bp\n\
@@ -316,13 +349,11 @@ pub(crate) static TEXT: &[u8] = b"\
 .pn 0\n\
 ..\n\
 .de DA\n\
-.)join \"\\\\$1\" \"\\\\$2\" \"\\\\$3\" \"\\\\$4\" \"\\\\$5\" \"\\\\$6\" \"\\\\$7\" \"\\\\$8\" \"\\\\$9\"\n\
-.if \\\\n(.$ .ds DY \"\\\\*[)joined]\n\
+\\*[)join].if \\\\n(.$ .ds DY \"\\\\*[)joined]\n\
 .ds CF \\\\*(DY\n\
 ..\n\
 .de ND\n\
-.)join \"\\\\$1\" \"\\\\$2\" \"\\\\$3\" \"\\\\$4\" \"\\\\$5\" \"\\\\$6\" \"\\\\$7\" \"\\\\$8\" \"\\\\$9\"\n\
-.if \\\\n(.$ .ds DY \"\\\\*[)joined]\n\
+\\*[)join].if \\\\n(.$ .ds DY \"\\\\*[)joined]\n\
 ..\n\
 .\\\" a part of the cover: set apart before the first paragraph, else where it is\n\
 .de )part\n\
@@ -336,6 +367,7 @@ pub(crate) static TEXT: &[u8] = b"\
 .de )close-part\n\
 .if \\\\n[)abstract] .)close\n\
 .br\n\
+.if '\\\\n(.z')title' .if \\\\n[)titling] .sp\n\
 .if \\\\n[)cover]=1 .if !'\\\\n(.z'' .di\n\
 .if \\\\n[)abstract] \\{\\\n\
 .nr )abstract 0\n\
@@ -387,13 +419,18 @@ pub(crate) static TEXT: &[u8] = b"\
 .de )title-fi\n\
 .ce 0\n\
 ..\n\
+.\\\" a row above the first names, and above those after an institution\n\
 .de AU\n\
 .)part\n\
-.sp\n\
+.ie \\\\n[)names] .if \\\\n[)institution] .sp\n\
+.el .sp\n\
+.nr )names 1\n\
+.nr )institution 0\n\
 .)centre\n\
 ..\n\
 .de AI\n\
 .)part\n\
+.nr )institution 1\n\
 .)centre\n\
 ..\n\
 .de )centre\n\
@@ -544,19 +581,20 @@ pub(crate) static TEXT: &[u8] = b"\
 .if \\\\n(.$>1 .nr )width 0\n\
 .if \\\\n(.$>1 .nr )width \\\\$2n\n\
 .)start \\\\n[)width] 0\n\
+.ds )tag-text \"\\\\$1\n\
 .nr )w \\w\\a\\\\$1\\a\n\
 .ie \\\\n[)flat] \\&\\\\$1\\ \\c\n\
-.el .if \\\\n()w .)tag \"\\\\$1\"\n\
+.el .if \\\\n()w .)tag\n\
 ..\n\
 .de )tag\n\
 .ti -\\\\n[)width]u\n\
 .ie \\\\n()w<\\\\n[)width] \\{\\\n\
 'nf\n\
-\\&\\\\$1\\h\\a|\\\\n[)width]u\\a\\c\n\
+\\&\\\\*[)tag-text]\\h\\a|\\\\n[)width]u\\a\\c\n\
 'fi\n\
 .\\}\n\
 .el \\{\\\n\
-\\&\\\\$1\n\
+\\&\\\\*[)tag-text]\n\
 .br\n\
 .\\}\n\
 ..\n\
@@ -611,6 +649,7 @@ pub(crate) static TEXT: &[u8] = b"\
 .)finish\n\
 .ne 3v+\\\\n[HORPHANS]v+\\\\n(PDu\n\
 .sp\n\
+.ti \\\\n(.iu\n\
 .I\n\
 ..\n\
 .de SH\n\
@@ -680,14 +719,20 @@ pub(crate) static TEXT: &[u8] = b"\
 .\\\" of later groff: the text of a heading, and an entry of the contents\n\
 .de XN\n\
 \\&\\\\$1 \\\\$2 \\\\$3 \\\\$4 \\\\$5 \\\\$6 \\\\$7 \\\\$8 \\\\$9\n\
-.)join \"\\\\$1\" \"\\\\$2\" \"\\\\$3\" \"\\\\$4\" \"\\\\$5\" \"\\\\$6\" \"\\\\$7\" \"\\\\$8\" \"\\\\$9\"\n\
-.XS\n\
+\\*[)join].XS\n\
 \\\\*[SN]\\0 \\\\*[)joined]\n\
 .XE\n\
 ..\n\
 .de XH\n\
 \\&\\\\$2 \\\\$3 \\\\$4 \\\\$5 \\\\$6 \\\\$7 \\\\$8 \\\\$9\n\
-.)join \"\\\\$2\" \"\\\\$3\" \"\\\\$4\" \"\\\\$5\" \"\\\\$6\" \"\\\\$7\" \"\\\\$8\" \"\\\\$9\"\n\
+.ds )joined \"\\\\$2\n\
+.if !\\a\\\\$3\\a\\a .as )joined \" \\\\$3\n\
+.if !\\a\\\\$4\\a\\a .as )joined \" \\\\$4\n\
+.if !\\a\\\\$5\\a\\a .as )joined \" \\\\$5\n\
+.if !\\a\\\\$6\\a\\a .as )joined \" \\\\$6\n\
+.if !\\a\\\\$7\\a\\a .as )joined \" \\\\$7\n\
+.if !\\a\\\\$8\\a\\a .as )joined \" \\\\$8\n\
+.if !\\a\\\\$9\\a\\a .as )joined \" \\\\$9\n\
 .XS\n\
 \\\\*[)joined]\n\
 .XE\n\
@@ -740,7 +785,8 @@ Piscataway, New Jersey 08854\n\
 ..\n\
 .\\\" ---- fonts: a word, what stands behind it, before it; of more words all\n\
 .de B\n\
-.if \\\\n(.$>3 .)join \"\\\\$1\" \"\\\\$2\" \"\\\\$3\" \"\\\\$4\" \"\\\\$5\" \"\\\\$6\" \"\\\\$7\" \"\\\\$8\" \"\\\\$9\"\n\
+.if \\\\n(.$>3 \\{\\\n\
+\\*[)join].\\}\n\
 .ie \\\\n(.$>3 \\&\\fB\\\\*[)joined]\\fP\n\
 .el .ie \\\\n(.$ \\&\\\\$3\\fB\\\\$1\\fP\\\\$2\n\
 .el \\{\\\n\
@@ -749,7 +795,8 @@ Piscataway, New Jersey 08854\n\
 .\\}\n\
 ..\n\
 .de I\n\
-.if \\\\n(.$>3 .)join \"\\\\$1\" \"\\\\$2\" \"\\\\$3\" \"\\\\$4\" \"\\\\$5\" \"\\\\$6\" \"\\\\$7\" \"\\\\$8\" \"\\\\$9\"\n\
+.if \\\\n(.$>3 \\{\\\n\
+\\*[)join].\\}\n\
 .ie \\\\n(.$>3 \\&\\fI\\\\*[)joined]\\fP\n\
 .el .ie \\\\n(.$ \\&\\\\$3\\fI\\\\$1\\fP\\\\$2\n\
 .el \\{\\\n\
@@ -758,7 +805,8 @@ Piscataway, New Jersey 08854\n\
 .\\}\n\
 ..\n\
 .de R\n\
-.if \\\\n(.$>3 .)join \"\\\\$1\" \"\\\\$2\" \"\\\\$3\" \"\\\\$4\" \"\\\\$5\" \"\\\\$6\" \"\\\\$7\" \"\\\\$8\" \"\\\\$9\"\n\
+.if \\\\n(.$>3 \\{\\\n\
+\\*[)join].\\}\n\
 .ie \\\\n(.$>3 \\&\\fR\\\\*[)joined]\\fP\n\
 .el .ie \\\\n(.$ \\&\\\\$3\\fR\\\\$1\\fP\\\\$2\n\
 .el \\{\\\n\
@@ -767,25 +815,27 @@ Piscataway, New Jersey 08854\n\
 .\\}\n\
 ..\n\
 .de CW\n\
-.if \\\\n(.$>3 .)join \"\\\\$1\" \"\\\\$2\" \"\\\\$3\" \"\\\\$4\" \"\\\\$5\" \"\\\\$6\" \"\\\\$7\" \"\\\\$8\" \"\\\\$9\"\n\
+.if \\\\n(.$>3 \\{\\\n\
+\\*[)join].\\}\n\
 .ie \\\\n(.$>3 \\&\\fR\\\\*[)joined]\\fP\n\
 .el .ie \\\\n(.$ \\&\\\\$3\\fR\\\\$1\\fP\\\\$2\n\
 .el .R\n\
 ..\n\
 .de BI\n\
-.if \\\\n(.$>3 .)join \"\\\\$1\" \"\\\\$2\" \"\\\\$3\" \"\\\\$4\" \"\\\\$5\" \"\\\\$6\" \"\\\\$7\" \"\\\\$8\" \"\\\\$9\"\n\
+.if \\\\n(.$>3 \\{\\\n\
+\\*[)join].\\}\n\
 .ie \\\\n(.$>3 \\&\\fI\\\\*[)joined]\\fP\n\
 .el .ie \\\\n(.$ \\&\\\\$3\\fI\\\\$1\\fP\\\\$2\n\
 .el .I\n\
 ..\n\
 .de UL\n\
-.if \\\\n(.$>2 .)join \"\\\\$1\" \"\\\\$2\" \"\\\\$3\" \"\\\\$4\" \"\\\\$5\" \"\\\\$6\" \"\\\\$7\" \"\\\\$8\" \"\\\\$9\"\n\
+.if \\\\n(.$>2 \\{\\\n\
+\\*[)join].\\}\n\
 .ie \\\\n(.$>2 \\&\\fI\\\\*[)joined]\\fP\n\
 .el .if \\\\n(.$ \\&\\fI\\\\$1\\fP\\\\$2\n\
 ..\n\
 .de BX\n\
-.)join \"\\\\$1\" \"\\\\$2\" \"\\\\$3\" \"\\\\$4\" \"\\\\$5\" \"\\\\$6\" \"\\\\$7\" \"\\\\$8\" \"\\\\$9\"\n\
-\\&[\\\\*[)joined]]\n\
+\\*[)join]\\&[\\\\*[)joined]]\n\
 ..\n\
 .de UX\n\
 \\&UNIX\\\\$1\\\\*[)unix]\n\
@@ -1051,22 +1101,46 @@ Piscataway, New Jersey 08854\n\
 .if !\\\\n(.$ .if \\\\n[)marks]>\\\\n[)mark] .ds )m \\\\n+[)mark]\n\
 .nr )raw +1\n\
 .am )raw-notes FE\n\
-.)note \"\\\\*()m\" \\\\n[)own] \\\\n(FF\n\
+.ds )note-mark \"\\\\*()m\n\
+.)note \\\\n[)own] \\\\n(FF\n\
 ..\n\
 .de FE\n\
 .if \\\\n(.t>160u .if !\\\\n[)keep] .if '\\\\n(.z'' \\{\\\n\
 .nr )room +120u\n\
 .)place\n\
 .\\}\n\
+.)look\n\
 ..\n\
-.\\\" begins a note: mark, 1 if it is the writer's own, the form that it has\n\
+.\\\" fifteen lines above the bottom the notes are set while a line is under way, so that they\n\
+.\\\" stand on the page of their mark; that is looked at after each line of the text\n\
+.de )look\n\
+.if \\\\n[)raw] .if '\\\\n(.z'' .if !\\\\n[)keep] \\{\\\n\
+.nr )w \\\\n(.p-\\\\n(FM-\\\\n[)noted]-\\\\n(nl-(400u*\\\\n[)raw])\n\
+.ie \\\\n()w<200 .if \\\\n(nl .)set-aside\n\
+.el .it 1 )look\n\
+.\\}\n\
+..\n\
+.de )set-aside\n\
+.)aside\n\
+.)set\n\
+.nr )room 0\n\
+.)place\n\
+.nr )w \\\\n[)noted]=0*40u+\\\\n[)rows]+80u\n\
+.if \\\\n(.t<\\\\n()w .if \\\\n(nl>\\\\n[)top] \\{\\\n\
+.rs\n\
+'sp \\\\n(.tu\n\
+.\\}\n\
+.)allot\n\
+.)back\n\
+..\n\
+.\\\" begins a note, of the mark )note-mark: 1 if it is the writer's own, the form that it has\n\
 .de )note\n\
 .)finish\n\
 .if \\\\n[)second-note] .sp \\\\n[FPD]u\n\
 .nr )second-note 1\n\
 .nr )form \\\\n(FF\n\
-.nr FF \\\\$3\n\
-.FP \"\\\\$1\" \\\\$2\n\
+.nr FF \\\\$2\n\
+.if !\\a\\\\*[)note-mark]\\a\\a .FP \"\\\\\\\\*[)note-mark]\" \\\\$1\n\
 .nr FF \\\\n[)form]\n\
 ..\n\
 .\\\" how notes begin, by FF\n\
@@ -1161,12 +1235,14 @@ Piscataway, New Jersey 08854\n\
 .if \\\\n(.p-\\\\n(nl-\\\\n(FM<(\\\\n[)noted]+\\\\n[)note-height]+40u) .nr )w 1\n\
 .)store\n\
 ..\n\
-.\\\" for this page, if they have room and none waits, else for the next\n\
+.\\\" for this page, if two lines have room and none waits, else for the next\n\
 .de )allot\n\
 .nr )w \\\\n[)later]\n\
 .nr )o \\\\n(.t\n\
 .if !\\\\n(nl .nr )o -\\\\n(HM\n\
-.if \\\\n()o<(\\\\n[)noted]=0*40u+\\\\n[)note-height]+40u) .nr )w 1\n\
+.nr )rest \\\\n[)note-height]\n\
+.if \\\\n[)rest]>80 .nr )rest 80\n\
+.if \\\\n()o<(\\\\n[)noted]=0*40u+\\\\n[)rest]+40u) .nr )w 1\n\
 .ie \\\\n()w .)store\n\
 .el \\{\\\n\
 .)store\n\
@@ -1306,7 +1382,8 @@ Piscataway, New Jersey 08854\n\
 \\&|\\h'\\\\$1u'|\n\
 .if \\\\n(nl<\\\\n[)box-end] .)bar \\\\$1\n\
 ..\n\
-.\\\" ---- tables; the head of one with a head stands again on each page\n\
+.\\\" ---- tables; the head of one with a head stands again on each page. In the head tbl asks\n\
+.\\\" for room for the whole table, which may go on over pages: nothing is asked there\n\
 .de TS\n\
 .br\n\
 .if \\\\n[)cover]<2 .)reset\n\
@@ -1337,14 +1414,18 @@ Piscataway, New Jersey 08854\n\
 .)need \\\\n[)head-height]+40u\n\
 .nr )head-in \\\\n(.i\n\
 .in 0\n\
+.rn ne )ne\n\
 .)head-text\n\
+.rn )ne ne\n\
 .in \\\\n[)head-in]u\n\
 .if '\\\\n(.z'' .if \\\\n[)head-height]<(\\\\n(.p-\\\\n(HM-\\\\n(FM-80u) .nr )head \\\\n[)head-height]\n\
 ..\n\
 .de )print-head\n\
 .nr )head-in \\\\n(.i\n\
 'in 0\n\
+.rn ne )ne\n\
 .)head-text\n\
+.rn )ne ne\n\
 'in \\\\n[)head-in]u\n\
 ..\n\
 .de TE\n\
@@ -1496,14 +1577,166 @@ Piscataway, New Jersey 08854\n\
 .nr PN 1\n\
 .PX \\\\$1\n\
 ..\n\
-.\\\" ---- columns: there is one\n\
-.de MC\n\
-.)finish\n\
-..\n\
+.\\\" ---- columns, from here to the end of the page and on; LL is the width of one meanwhile\n\
 .de 2C\n\
-.)finish\n\
+.MC\n\
 ..\n\
 .de 1C\n\
+.)close\n\
+.)finish\n\
+.if \\\\n[)columns]>1 .)end-columns\n\
+..\n\
+.de MC\n\
+.1C\n\
+.if \\\\n[)raw] .)set-now\n\
+.nr )w \\\\n[)noted]+120-\\\\n(.p+\\\\n(FM+\\\\n(nl\n\
+.if !\\\\n[)noted] .nr )w 0\n\
+.if \\\\n()w>0:(\\\\n[)later]+\\\\n[)kept]-\\\\n[)shown]>0) .)last\n\
+.if !\\\\n[)begun] .)begin\n\
+.nr )all-LL \\\\n(LL\n\
+.nr )all-FL \\\\n(FL\n\
+.nr )w \\\\n(LL*7/15\n\
+.nr )gap \\\\n(LL-(2*\\\\n()w)\n\
+.if \\\\n(.$ .)column-width \\\\$1n \\\\$2\n\
+.if \\\\n()w<24 .nr )w 24\n\
+.nr )columns \\\\n(LL-\\\\n()w/(\\\\n()w+\\\\n[)gap])+1\n\
+.if \\\\n[)columns]>1 .)begin-columns\n\
+..\n\
+.de )column-width\n\
+.if 0<\\\\$1 .nr )w \\\\$1\n\
+.if \\\\n()w>\\\\n(LL .nr )w \\\\n(LL\n\
+.nr )gap \\\\n[MINGW]\n\
+.if \\\\n(.$>1 .nr )gap \\\\$2n\n\
+.if \\\\n[)gap]<0 .nr )gap 0\n\
+..\n\
+.de )begin-columns\n\
+.nr )w \\\\n()w/24*24\n\
+.nr )gap \\\\n(LL-(\\\\n()w*\\\\n[)columns])/(\\\\n[)columns]-1)\n\
+.nr LL \\\\n()w\n\
+.nr FL \\\\n()w*5/6\n\
+.nr )column 1\n\
+.sp\n\
+.nr )top \\\\n(nl\n\
+.nr )low 0\n\
+.if \\\\n[)noted] .)widen-notes\n\
+.)finish\n\
+..\n\
+.\\\" notes from above the columns stand below all of them\n\
+.de )widen-notes\n\
+.nr )wide \\\\n[)noted]\n\
+.nr )noted 0\n\
+.rn )notes )wide-notes\n\
+.)place\n\
+..\n\
+.de )print-wide-notes\n\
+.rs\n\
+.if \\\\n(nl<\\\\n[)low] 'sp |\\\\n[)low]u\n\
+.rn )wide-notes )notes\n\
+.nr )wide 0\n\
+.)print-notes\n\
+.if \\\\n[)later] \\{\\\n\
+.rn )notes-later )wide-notes\n\
+.nr )wide \\\\n[)later]\n\
+.nr )later 0\n\
+.\\}\n\
+..\n\
+.\\\" the end of the columns, and of the page\n\
+.de )end-columns\n\
+.if \\\\n[)raw] .)set-now\n\
+.nr )column \\\\n[)columns]\n\
+.if \\\\n(nl \\{\\\n\
+.rs\n\
+.bp\n\
+.\\}\n\
+.if \\\\n[)later]+\\\\n[)kept]-\\\\n[)shown] .)last\n\
+.nr )columns 1\n\
+.nr LL \\\\n[)all-LL]\n\
+.nr FL \\\\n[)all-FL]\n\
+.)finish\n\
+..\n\
+.\\\" ---- references, as refer hands them on: fields [A, [T .. , of which )field adds each that is\n\
+.\\\" there, a comma or a stop before it, and what closes it after the next one\n\
+.ds [. [\n\
+.ds .] ]\n\
+.ds <. .\n\
+.ds <, ,\n\
+.ds >.\n\
+.ds >,\n\
+.de ]-\n\
+.nr [A 0\n\
+.nr [O 0\n\
+.nr [P 0\n\
+.nr [T 0\n\
+..\n\
+.de )field\n\
+.ds )text \"\\\\*([\\\\$1\n\
+.if !\\a\\\\*[)text]\\a\\a \\{\\\n\
+.if !\\a\\\\*[)reference]\\a\\a \\{\\\n\
+.if !\\\\n[)stopped] .as )reference \"\\\\$2\n\
+.as )reference \"\\\\*[)closing]\n\
+.if !'\\\\$1'N' .as )reference \" \\&\n\
+.\\}\n\
+.as )reference \"\\\\$3\\\\*[)text]\\\\$4\n\
+.ds )closing \"\\\\$5\n\
+.nr )stopped 0\n\
+.if \\\\n(.$>5 .nr )stopped \\\\$6\n\
+.rm [\\\\$1\n\
+.\\}\n\
+..\n\
+.\\\" the end of one, and its kind: 0 and 2 have the title in italics\n\
+.de ][\n\
+.ds )reference\n\
+.ds )closing\n\
+.nr )stopped 0\n\
+.)field Q ,\n\
+.)field A , \"\" \"\" \"\" \\\\n([A\n\
+.ie (0\\\\$1=0):(0\\\\$1=2) .)field T , \"\\fI\" \"\" \"\\fR\" \\\\n([T\n\
+.el .)field T , \"\\\\*Q\" \"\" \"\\\\*U\" \\\\n([T\n\
+.)field J , \"\\fI\" \"\" \"\\fR\"\n\
+.)field B \"\" \"in \\fI\" \"\" \"\\fR\"\n\
+.)field E , \"ed. \"\n\
+.)field R ,\n\
+.)field G \"\" \"(\" \")\"\n\
+.)field S ,\n\
+.)field V \"\" \"\\fB\" \"\\fR\"\n\
+.ie 0\\\\$1=4 .)field N \"\" \"\\ \"\n\
+.el .)field N \"\" \"(\" \")\"\n\
+.ie \\\\n([P .)field P , \"pp.\\ \"\n\
+.el .)field P , \"p.\\ \"\n\
+.)field I ,\n\
+.)field C ,\n\
+.)field D \"\" \"(\" \")\"\n\
+.)field O . \"\" \"\" \"\" \\\\n([O\n\
+.if !\\\\n[)stopped] .as )reference .\n\
+.as )reference \"\\\\*[)closing]\n\
+.ie \\\\n[)listing] .)list-reference\n\
+.el .)note-reference\n\
+.ds [F\n\
+..\n\
+.de []\n\
+.][ \\\\$1\n\
+..\n\
+.de )list-reference\n\
+.ie \\a\\\\*([F\\a\\a .XP\n\
+.el .IP \"\\\\*([F.\"\n\
+\\&\\\\*[)reference]\n\
+..\n\
+.de )note-reference\n\
+.ds )text\n\
+.if !\\a\\\\*([F\\a\\a .ds )text \"[\\\\*([F]\n\
+.FS \"\\\\*[)text]\"\n\
+\\&\\\\*[)reference]\n\
+.FE\n\
+..\n\
+.\\\" around those that stand together\n\
+.de ]<\n\
+.nr )listing 1\n\
+.SH\n\
+\\&\\\\*[REFERENCES]\n\
+.LP\n\
+..\n\
+.de ]>\n\
+.nr )listing 0\n\
 .)finish\n\
 ..\n\
 .\\\" index words are not printed\n\
@@ -1515,7 +1748,8 @@ Piscataway, New Jersey 08854\n\
 .el \\&\\\\$2 <\\\\$1>\\\\$3\n\
 ..\n\
 .de FTP\n\
-.URL \"\\\\$1\" \"\\\\$2\" \"\\\\$3\"\n\
+.ie \\a\\\\$2\\a\\a \\&<\\\\$1>\\\\$3\n\
+.el \\&\\\\$2 <\\\\$1>\\\\$3\n\
 ..\n\
 .de MTO\n\
 .ie \\a\\\\$2\\a\\a \\&\\\\$1\\\\$3\n\
@@ -1551,7 +1785,10 @@ Piscataway, New Jersey 08854\n\
 .de LI\n\
 .nr )w \\\\n[)list\\\\n[)depth]]\n\
 .ie \\\\n()w=1 .IP \\\\*[)bullet\\\\n[)bullets]] 3\n\
-.el .ie \\\\n()w=3 .IP \"\\\\$1\"\n\
+.el .ie \\\\n()w=3 \\{\\\n\
+.ds )item \"\\\\$1\n\
+.IP \"\\\\\\\\*[)item]\"\n\
+.\\}\n\
 .el \\{\\\n\
 .nr )item\\\\n[)depth] +1\n\
 .IP \\\\n[)item\\\\n[)depth]]. 4\n\
@@ -1581,6 +1818,8 @@ Piscataway, New Jersey 08854\n\
 .nr )width 5n\n\
 .ll \\n(LLu\n\
 .TA\n\
+.nr )columns 1\n\
+.nr )column 1\n\
 .wh 0 )header\n\
 .em )end\n\
 .\\\" end of tmac.s\n";

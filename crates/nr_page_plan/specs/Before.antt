@@ -1,14 +1,18 @@
 -- The cells of a line.
-use Rattle.std.specs.Prelude.{ℕ, List, [], ◌∷◌, Option, None, Some, if◌then◌else◌, codes}
+use Rattle.std.specs.Prelude.{ℕ, List, [], ◌∷◌, Bool, Option, None, Some, ◌||◌, if◌then◌else◌, codes}
 use Rattle.std.specs.Str.{bytes_eq}
 use Rattle.nr_page_options.specs.Job.{Asked}
 use Rattle.nr_page_plan.specs.declared.macros.Macros.{Macros}
 use Rattle.nr_page_plan.specs.declared.macros.Macros.TheVariants.{Manual}
 
+-- macro files of papers: -ms and -me
+abbrev pub is_paper : List ℕ → Bool
+is_paper name = bytes_eq name (codes "s") || bytes_eq name (codes "e")
+
 -- those of papers, and of all other text
 abbrev pub paper_cells : List (List ℕ) → ℕ
 paper_cells [] = 65
-paper_cells (name ∷ names) = if bytes_eq name (codes "s") then 60 else 65
+paper_cells (name ∷ names) = if is_paper name then 60 else 65
 
 -- those of macro files
 abbrev pub usual_cells : Macros → List (List ℕ) → ℕ

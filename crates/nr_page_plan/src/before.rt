@@ -1,7 +1,7 @@
 //! What is read before a text.
 ghost use Rattle.std.specs.Prelude.{◌≡◌};
 ghost use Rattle.nr_page_options.specs.Job.{asked_of, texts};
-ghost use Rattle.nr_page_plan.specs.Before.{cells_of, usual_cells};
+ghost use Rattle.nr_page_plan.specs.Before.{cells_of, is_paper, usual_cells};
 
 use crate::macros::{Macros, file_name};
 use crate::prefix::put_prefix;
@@ -30,6 +30,13 @@ pub fn cells_of(job: &Job<'_>, macros: Macros) -> usize
     }
 }
 
+/// The name of a macro file of papers: of -ms or -me.
+fn is_paper(name: &[u8]) -> bool
+    ensures { result ≡ is_paper name.now }
+{
+    name == b"s".as_slice() || name == b"e".as_slice()
+}
+
 /// The cells of a line of macro files: 78 of manual pages, 60 of papers, 65 of others and without any.
 fn usual_cells(macros: Macros, names: &[&str]) -> usize
     ensures { result ≡ usual_cells macros (texts names.now) }
@@ -38,7 +45,7 @@ fn usual_cells(macros: Macros, names: &[&str]) -> usize
         return 78;
     }
     match names.first() {
-        Some(name) if name.as_bytes() == b"s".as_slice() => 60,
+        Some(name) if is_paper(name.as_bytes()) => 60,
         _ => 65,
     }
 }
