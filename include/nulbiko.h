@@ -69,7 +69,7 @@ enum nulbiko_wrong {
     NULBIKO_TOO_WIDE = 10         /* The table is wider than the line. */
 };
 
-/* Tables of characters: bytes from 128 on stand for characters beyond ASCII between nulbiko_preconv and nulbiko_utf8. */
+/* Tables of characters: bytes from 128 on stand for characters beyond ASCII from nulbiko_preconv to nulbiko_utf8. */
 enum nulbiko_table {
     NULBIKO_NO_TABLE = 0, /* All is spelled in ASCII. */
     NULBIKO_ENGLISH = 1,  /* Signs, and Latin-1. */
@@ -111,8 +111,8 @@ uint32_t nulbiko_preconv_lent(uint32_t table, const uint8_t *input, size_t lengt
                               size_t capacity, struct nulbiko_report *report);
 uint32_t nulbiko_mdoc_lent(const uint8_t *input, size_t length, uint8_t *output, size_t capacity,
                            struct nulbiko_report *report);
-uint32_t nulbiko_tbl_lent(size_t line, const uint8_t *input, size_t length, uint8_t *output, size_t capacity,
-                          struct nulbiko_report *report);
+uint32_t nulbiko_tbl_lent(uint32_t table, size_t line, const uint8_t *input, size_t length, uint8_t *output,
+                          size_t capacity, struct nulbiko_report *report);
 uint32_t nulbiko_utf8_lent(uint32_t table, bool escapes, const uint8_t *input, size_t length, uint8_t *output,
                            size_t capacity, struct nulbiko_report *report);
 uint32_t nulbiko_choose_lent(const uint8_t *input, size_t length);
@@ -163,16 +163,18 @@ static inline enum nulbiko_outcome nulbiko_mdoc(const void *input, size_t length
                                                    output ? (uint8_t *)output : &none, capacity, report);
 }
 
-/* Turns tables into the language of nulbiko_format, as tbl does, for a line of so many cells. What is wrong with one
- * is told, and changes no outcome. */
-static inline enum nulbiko_outcome nulbiko_tbl(size_t line, const void *input, size_t length, void *output,
-                                               size_t capacity, struct nulbiko_report *report)
+/* Turns tables into the language of nulbiko_format, as tbl does, for a line of so many cells. Boxes are drawn with the
+ * characters of the table, where it has them: give it that of nulbiko_preconv. What is wrong with one is told, and
+ * changes no outcome. */
+static inline enum nulbiko_outcome nulbiko_tbl(enum nulbiko_table table, size_t line, const void *input,
+                                               size_t length, void *output, size_t capacity,
+                                               struct nulbiko_report *report)
 {
     uint8_t none = 0;
     if (!report || (!input && length) || (!output && capacity))
         return nulbiko_null(report);
-    return (enum nulbiko_outcome)nulbiko_tbl_lent(line, input ? (const uint8_t *)input : &none, length,
-                                                  output ? (uint8_t *)output : &none, capacity, report);
+    return (enum nulbiko_outcome)nulbiko_tbl_lent((uint32_t)table, line, input ? (const uint8_t *)input : &none,
+                                                  length, output ? (uint8_t *)output : &none, capacity, report);
 }
 
 /* Turns bytes of a table into its characters, in UTF-8, behind nulbiko_format, as utf8 does. With `escapes` underlined

@@ -70,7 +70,7 @@ int main(int count, char **words)
     whole.length = (size_t)sprintf(whole.bytes, ".nr C 1\n.nr L 78\n"); /* one long page, 78 cells wide */
     add_file(&whole, words[1]);
     char *behind = whole.bytes + whole.length;
-    judge("tbl", nulbiko_tbl(78, turned.bytes, report.written, behind, MOST - whole.length, &report), &report);
+    judge("tbl", nulbiko_tbl(table, 78, turned.bytes, report.written, behind, MOST - whole.length, &report), &report);
     whole.length += report.written;
     enum nulbiko_outcome outcome =
         nulbiko_format(&limits, &options, whole.bytes, whole.length, pages.bytes, MOST, &report);

@@ -43,7 +43,7 @@ class Nulbiko:
     def __init__(self, path):
         self.library = ctypes.CDLL(path)
         slices = [c_char_p, c_size_t, c_void_p, c_size_t, c_void_p]
-        firsts = {'format': [c_void_p, c_void_p], 'mdoc': [], 'preconv': [c_uint32], 'tbl': [c_size_t],
+        firsts = {'format': [c_void_p, c_void_p], 'mdoc': [], 'preconv': [c_uint32], 'tbl': [c_uint32, c_size_t],
                   'utf8': [c_uint32, c_bool]}
         for name, first in firsts.items():
             call = getattr(self.library, f'nulbiko_{name}_lent')
@@ -65,7 +65,7 @@ class Nulbiko:
     def page(self, macros, page):
         table = self.library.nulbiko_choose_lent(page, c_size_t(len(page)))
         turned = self.call('preconv', [table], self.call('mdoc', [], page))
-        tables = self.call('tbl', [78], turned)
+        tables = self.call('tbl', [table, 78], turned)
         limits, options = Limits(262144, 64, 65536, 1000000, 100000000), Options(1)
         text = b'.nr C 1\n.nr L 78\n' + macros + tables
         return self.call('utf8', [table, False], self.call('format', [byref(limits), byref(options)], text))

@@ -2,6 +2,7 @@
 use Rattle.std.specs.Prelude.{◌≡◌, ℕ, List, [], ◌∷◌, length, Bool, false, Option, None, Some}
 use Rattle.nr_vectors.specs.Items.{Items}
 use Rattle.nr_units.specs.Source.{Supply}
+use Rattle.nr_characters.specs.declared.table.Table.{Table}
 use Rattle.nr_tables.specs.Drawing.{signs_of}
 use Rattle.nr_tables.specs.Running.{Ran, is_read_fault}
 use Rattle.nr_tbl.specs.declared.reader.Limits.{Limits}
@@ -47,14 +48,14 @@ first_line (c ∷ cs) = c.line
 abbrev pub limits : Limits
 limits = record { formats = 262144; row = 16384 }
 
--- The tables of the text were set for a line of so many cells, with frames in ASCII, what came out was handed over, and what was wrong first is reported.
-pub record SetsTables (line : ℕ) (text output : List ℕ) (report : Report) (code : ℕ) : Type 0 where
+-- The tables of the text were set for a line of so many cells, with boxes of the characters of the table if there is one, what came out was handed over, and what was wrong first is reported.
+pub record SetsTables (table : Option Table) (line : ℕ) (text output : List ℕ) (report : Report) (code : ℕ) : Type 0 where
   pub outcome : Outcome
   pub left : Option Supply
   pub bytes : List ℕ
   pub kept : Items Complaint
   pub missed : Bool
-  pub ran : Ran (signs_of None) limits line (Some (whole_text text)) left (Some []) (Some bytes) kept
+  pub ran : Ran (signs_of table) limits line (Some (whole_text text)) left (Some []) (Some bytes) kept
       missed outcome
   pub room : kept.capacity ≡ 1
   pub handed : IsHanded bytes output report.written

@@ -1,11 +1,16 @@
 // The tables of a text become requests, as tbl makes them.
-ghost use Rattle.std.specs.Prelude.{◌≡◌, ◌≢◌, IfOk, OnErr};
+ghost use Rattle.std.specs.Prelude.{◌≡◌, ◌≢◌, ◌↔◌, ◌<◌, IfOk, OnErr};
+ghost use Rattle.nulbiko.specs.Tables.{table_numbered};
 ghost use Rattle.nulbiko.specs.Told.{nothing_told};
 ghost use Rattle.nulbiko.specs.Tbl.{SetsTables, code_of, first_kind, first_line, kind_number};
 
 use super::pages::{Pages, hand_over};
+use super::tables::{MOST_TABLES, table_of};
 use super::text::Text;
-use super::told::{DONE, FULL, OUT_OF_MEMORY, Report, TOO_LONG, UNREADABLE, code_within};
+use super::told::{
+    DONE, FULL, OUT_OF_MEMORY, OUT_OF_RANGE, Report, TOO_LONG, UNREADABLE, code_within,
+};
+use nr_characters::Table;
 use nr_tables::{Complaint, Kind, Outcome, Rooms, convert};
 use nr_vectors::slice_vec::SliceVec;
 use std::alloc::{AllocError, Global};
@@ -62,16 +67,18 @@ fn first_wrong(complaints: &[Complaint]) -> (u32, u64)
 /// Sets the tables, hands over what comes out and gives the number of the outcome.
 fn set_tables(
     alloc: Global,
+    table: Option<Table>,
     line: usize,
     input: &[u8],
     output: &mut [u8],
     told: &mut Report,
 ) -> Result<u32, AllocError>
-    ensures set { IfOk result (λ code. SetsTables line input.now output.new told.new code) }
+    ensures set { IfOk result (λ code. SetsTables table line input.now output.new told.new code) }
+    ensures not_range { IfOk result (λ code. code ≢ 2) }
     ensures not_memory { IfOk result (λ code. code ≢ 5) }
     ensures untouched { OnErr result ((output.new ≡ output.old) × (told.new ≡ told.old)) }
 {
-    let mut rooms = Rooms::new(alloc, TABLE, ROW, line, None)?;
+    let mut rooms = Rooms::new(alloc, TABLE, ROW, line, table)?;
     let pages = Pages::new(alloc, output.len())?;
     let mut text = Text::over(input);
     let mut slots = [Complaint::NONE];
@@ -91,21 +98,29 @@ fn set_tables(
 }
 
 /// Turns the tables of a text into the language of the formatter, for a line of so many cells, into a buffer, reports how it went
-/// and what was wrong first, and gives the number of the outcome: 0 done, 4 the buffer is full, 5 there is not enough memory,
-/// 6 the text is too long.
+/// and what was wrong first, and gives the number of the outcome: 0 done, 2 no table has the number, 4 the buffer is full, 5
+/// there is not enough memory, 6 the text is too long. Boxes are drawn with the characters of the table, where it has them;
+/// 0 is the number of none, and then they are drawn in ASCII.
 #[unsafe(no_mangle)]
 pub extern "C" fn nulbiko_tbl_lent(
     alloc: Global,
+    table: u32,
     line: usize,
     input: &[u8],
     output: &mut [u8],
     told: &mut Report,
 ) -> u32
-    ensures set { result ≢ 5 → SetsTables line input.now output.new told.new result }
+    ensures ranges { (result ≡ 2) ↔ (5 < table) }
+    ensures set { result ≢ 2 → result ≢ 5
+        → SetsTables (table_numbered table) line input.now output.new told.new result }
+    ensures bad { result ≡ 2 → (output.new ≡ output.old) × (told.new ≡ nothing_told) }
     ensures no_memory { result ≡ 5 → (output.new ≡ output.old) × (told.new ≡ nothing_told) }
 {
     *told = Report::nothing();
-    match set_tables(alloc, line, input, output, told) {
+    if table > MOST_TABLES {
+        return OUT_OF_RANGE;
+    }
+    match set_tables(alloc, table_of(table), line, input, output, told) {
         Ok(code) => code,
         Err(_) => OUT_OF_MEMORY,
     }
