@@ -97,8 +97,8 @@ impl Reader {
         self.from = end + 1;
         self.start = end + 1;
         setter.tell(Tell::Options(options), b"");
-        if options.unknown {
-            self.state.complains(Kind::UnknownOption, setter);
+        if let Some(kind) = options.wrong {
+            self.state.complains(kind, setter);
         }
     }
 

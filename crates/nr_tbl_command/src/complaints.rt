@@ -6,15 +6,16 @@ use nr_tables::{Complaint, Kind, Report};
 use nr_units::sink::Sink;
 use nr_units::source::Fault;
 
-/// What a line says of its kind.
+/// What a line says of its kind, before what it names.
 fn words_of(kind: Kind) -> &'static [u8] {
     match kind {
         Kind::NoFormat => b"table without a format".as_slice(),
-        Kind::BadFormat => b"bad format".as_slice(),
-        Kind::UnknownOption => b"unknown option".as_slice(),
+        Kind::BadFormat(_) => b"bad format: ".as_slice(),
+        Kind::UnknownOption(_) => b"unknown option: ".as_slice(),
+        Kind::BadArgument(_) => b"not one character after ".as_slice(),
         Kind::TooManyFields => b"more fields than columns".as_slice(),
-        Kind::OpenBlock => b"text block without an end".as_slice(),
-        Kind::OpenTable => b"table without an end".as_slice(),
+        Kind::OpenBlock(_) => b"text block without an end, from line ".as_slice(),
+        Kind::OpenTable(_) => b"table without an end, from line ".as_slice(),
         Kind::TooManyColumns => b"more than 64 columns".as_slice(),
         Kind::FormatsLimit => b"table formats limit passed".as_slice(),
         Kind::RowLimit => b"table row limit passed".as_slice(),
@@ -22,12 +23,29 @@ fn words_of(kind: Kind) -> &'static [u8] {
     }
 }
 
+/// Writes a number.
+fn put_number<E: Sink>(number: u64, errors: &mut E) -> Result<(), Fault> {
+    let mut digits = Buffer::new();
+    errors.put(digits.format(number).as_bytes())
+}
+
+/// Writes what a line names: a word, a byte that prints, or else its number, or a line.
+fn put_named<E: Sink>(kind: Kind, errors: &mut E) -> Result<(), Fault> {
+    match kind {
+        Kind::BadFormat(byte) if matches!(byte, b'!'..=b'~') => errors.put(&[byte]),
+        Kind::BadFormat(byte) => put_number(u64::from(byte), errors),
+        Kind::UnknownOption(word) | Kind::BadArgument(word) => errors.put(word.as_bytes()),
+        Kind::OpenBlock(line) | Kind::OpenTable(line) => put_number(line, errors),
+        _ => Ok(()),
+    }
+}
+
 /// Writes the line of a complaint about the text of this name.
 fn put_complaint<E: Sink>(name: &str, complaint: Complaint, errors: &mut E) -> Result<(), Fault> {
-    let mut digits = Buffer::new();
-    let line = digits.format(complaint.line).as_bytes();
-    put_all(&[b"tbl: ", name.as_bytes(), b":", line, b": "], errors)?;
-    errors.put(words_of(complaint.kind))?;
+    put_all(&[b"tbl: ", name.as_bytes(), b":"], errors)?;
+    put_number(complaint.line, errors)?;
+    put_all(&[b": ", words_of(complaint.kind)], errors)?;
+    put_named(complaint.kind, errors)?;
     errors.put(b"\n")
 }
 
@@ -58,5 +76,5 @@ pub fn tell_complaints<E: Sink>(
     report.missed
         || complaints
             .iter()
-            .any(|complaint| complaint.kind != Kind::TooWide)
+            .any(|complaint| !matches!(complaint.kind, Kind::TooWide))
 }
