@@ -11,6 +11,8 @@ pub mod LineTexts
 pub mod NameSteps
 pub mod Narrow
 pub mod Nexts
+pub mod Once
+pub mod OnceStands
 pub mod Pairs
 pub mod Parts
 pub mod Pieces

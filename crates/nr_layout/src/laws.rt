@@ -1,6 +1,7 @@
 //! Laws of the lines of a table, each the contract of a function that does nothing: they speak of the definitions alone.
 ghost use Rattle.nr_layout.specs.Ends.{EdgesEndTogether, RowsEndTogether, RowsEndWithin, RulesEndTogether};
 ghost use Rattle.nr_layout.specs.Fitting.{EqualColumns, FieldsFit, LeastFits, SpansFit};
+ghost use Rattle.nr_layout.specs.Once.{FieldsStandOnce};
 ghost use Rattle.nr_layout.specs.Ordering.{RowsGoOut};
 ghost use Rattle.nr_layout.specs.Texts.{BarsHaveTheirTexts, EdgesHaveNone, RowsHaveTheirTexts, RulesHaveTheirTexts, TextsGoOut};
 
@@ -42,4 +43,11 @@ pub fn columns_keep_formats()
 /// Among the lines of a table stands each row that takes room, once and in its order, and no other row; so it is in a part of one, too.
 pub fn rows_go_out_once()
     ensures { RowsGoOut }
+{}
+
+/// Each field stands on one line of those that go out, and on no other: in its row; one that goes on over rows below in one of these,
+/// beside its bars, or over a rule between two of them. So it is in each table, or part of one, whose fields begin in their first
+/// rows, which take room and stand below one another in their order.
+pub fn fields_stand_once()
+    ensures { FieldsStandOnce }
 {}
