@@ -1,3 +1,4 @@
 pub mod Filling
 pub mod Laws
 pub mod Parts
+pub mod Units

@@ -4,7 +4,9 @@
 mod filling;
 mod laws;
 mod parts;
+mod units;
 
 pub use filling::fill;
 pub use laws::{lines_fit, parts_stand_once};
 pub use parts::{Join, Line, Part};
+pub use units::{Does, Unit};
