@@ -9,6 +9,7 @@ pub mod OpeningTable
 pub mod Plain
 pub mod PlainEscapes
 pub mod Reading
+pub mod SaidParts
 pub mod Sent
 pub mod Steps
 pub mod Taking

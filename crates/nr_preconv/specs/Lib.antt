@@ -20,5 +20,6 @@ pub mod Runs
 pub mod Saying
 pub mod Skipping
 pub mod Spelling
+pub mod Staged
 pub mod Unread
 pub mod Words

@@ -1,8 +1,8 @@
 //! What manual pages use, turned into the language of the formatter.
 //!
-//! It stands on nr_units, nr_vectors and nr_characters. To read: `numbers`, `pairs`, `glyphs`; `signs`, `likeness`, `said`; `words`, `half`;
+//! It stands on nr_units, nr_vectors, nr_characters and nr_stages. To read: `numbers`, `pairs`, `glyphs`; `signs`, `likeness`, `said`; `words`, `half`;
 //! `beginnings`, `hyphens`, `lines`, `conditions`; `endings`, `skipping`, `letters`,
-//! `named`, `spelling`, `escapes`; `meeting`, which puts them together; `runs`, `passing`, `reader`, `running`;
+//! `named`, `spelling`, `escapes`; `meeting`, which puts them together; `runs`, `passing`, `reader`, `running`; `staged`;
 //! `plain_text`.
 #![tactic(auto)]
 
@@ -29,7 +29,9 @@ mod said;
 mod signs;
 mod skipping;
 mod spelling;
+mod staged;
 mod words;
 
 pub use plain_text::passes_unchanged;
 pub use running::{Outcome, convert};
+pub use staged::Turner;
