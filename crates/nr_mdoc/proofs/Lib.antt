@@ -23,6 +23,7 @@ mod PartLines
 mod QuotedLines
 mod ReadWords
 mod Reading
+mod SaidParts
 mod Saying
 mod Stepping
 mod Steps

@@ -19,6 +19,7 @@ pub mod Running
 pub mod Saying
 pub mod Scanning
 pub mod Seeing
+pub mod Staged
 pub mod Strings
 pub mod Taking
 pub mod Texts

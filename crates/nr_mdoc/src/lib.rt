@@ -1,8 +1,8 @@
 //! Pages of mdoc(7) become pages of man(7).
 //!
-//! It stands on nr_units and nr_vectors. To read: `macros`, `page`, `acts`, `seen`; `texts`, `names`, `libraries`, `lookup`, `lay`,
+//! It stands on nr_units, nr_vectors and nr_stages. To read: `macros`, `page`, `acts`, `seen`; `texts`, `names`, `libraries`, `lookup`, `lay`,
 //! `own_lines`, `references`, `lay_out`; `options`, `calls`, `taking`, `words`, `blocks`, `lines`, `keeping`, `rows`,
-//! `definitions`, `scan`, which puts them together; `pending`, `reader`, `strings`, `at_hand`, `running`; `passing`,
+//! `definitions`, `scan`, which puts them together; `pending`, `reader`, `strings`, `at_hand`, `running`; `staged`; `passing`,
 //! `word_laws`.
 #![tactic(auto)]
 
@@ -31,6 +31,7 @@ mod rows;
 mod running;
 mod scan;
 mod seen;
+mod staged;
 mod strings;
 mod taking;
 mod texts;
@@ -41,4 +42,5 @@ pub use macros::is_macro;
 pub use page::Block;
 pub use passing::passes_unchanged;
 pub use running::{Outcome, convert};
+pub use staged::Turner;
 pub use word_laws::words_are_said;
