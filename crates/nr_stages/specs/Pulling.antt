@@ -1,6 +1,6 @@
 -- A stage over a source is a source.
-use Rattle.std.specs.Prelude.{◌≡◌, ℕ, ◌+◌, ◌<◌, ◌≤◌, List, [], ◌++◌, length, take, nat_lt, nat_le, Bool, true, false, ◌&&◌, Option, None, Some, Result, Ok, Err, ⊤, if◌then◌else◌}
-use Rattle.nr_units.specs.Source.{Faults, Never, After, Anytime, Supply, Gives, MayFail, MayGive, MayGiveAll, later}
+use Rattle.std.specs.Prelude.{◌≡◌, ℕ, ◌+◌, ◌<◌, ◌≤◌, List, [], ◌++◌, length, take, nat_lt, Bool, true, false, ◌&&◌, Option, None, Some, Result, Ok, Err, ⊤, if◌then◌else◌}
+use Rattle.nr_units.specs.Source.{Faults, Never, After, Anytime, Supply, Gives, MayFail, MayGiveAll, later}
 use Rattle.nr_units.specs.declared.source.Fault.{Fault}
 use Rattle.nr_stages.specs.declared.pull.Step.{Step}
 use Rattle.nr_stages.specs.declared.pull.Step.TheVariants as steps

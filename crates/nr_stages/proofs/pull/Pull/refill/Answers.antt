@@ -1,4 +1,4 @@
-use Rattle.std.proofs.Common.{◌≡◌, ◌<◌, ◌≤◌, arith}
+use Rattle.std.proofs.Common.{arith}
 use Rattle.nr_stages.proofs.Steps.{Stays-going, Stays-refilled, MayBreak-refilled, MayBreak-small}
 use Rattle.nr_stages.proofs.pull.Pull.refill.Goals as goal
 
