@@ -1,0 +1,9 @@
+pub mod Plain
+pub mod Names
+pub mod Numbers
+pub mod Values
+pub mod Words
+pub mod Job
+pub mod Reading
+pub mod Locale
+pub mod Usage
