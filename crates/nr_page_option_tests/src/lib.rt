@@ -1,7 +1,7 @@
 //! Nothing for other crates: tests of what the words of nulbiko mean: those of its own, and those that man-db, debhelper,
-//! lintian and makefiles give GNU nroff.
+//! lintian and makefiles give GNU nroff; what a text asks for by itself.
 //!
-//! It stands on nr_page_options and nr_options. To read: the files in any order.
+//! It stands on nr_page_options, nr_page_plan and nr_options. To read: the files in any order.
 #![tactic(auto)]
 
 #[cfg(test)]
@@ -10,3 +10,5 @@ mod bad_words;
 mod good_words;
 #[cfg(test)]
 mod locales;
+#[cfg(test)]
+mod plans;
