@@ -15,7 +15,7 @@ use Rattle.nr_preconv.specs.declared.said.Said.TheVariants as says
 use Rattle.nr_preconv.specs.declared.words.Words.{Words}
 use Rattle.nr_preconv.specs.declared.words.Told.{Told as WordsTold}
 use Rattle.nr_preconv.specs.declared.words.Fonts.{Fonts}
-use Rattle.nr_preconv.specs.declared.words.Fonts.TheVariants.{One, Turn}
+use Rattle.nr_preconv.specs.declared.words.Fonts.TheVariants.{One, Turn, Tag}
 use Rattle.nr_preconv.specs.declared.words.Place.{Place}
 use Rattle.nr_preconv.specs.declared.words.Place.TheVariants.{Between, Inside, Quoted}
 use Rattle.nr_preconv.specs.declared.words.Class.{Class}
@@ -29,7 +29,7 @@ use Rattle.nr_preconv.specs.Words.{goes_on_at, goes_on_with, goes_on_with_space,
 use Rattle.nr_preconv.specs.Words.{is_as_is as word_as_is, taken_as_is as word_taken}
 use Rattle.nr_preconv.specs.Saying.{bytes_of, sent}
 use Rattle.nr_preconv.specs.Escapes.{in_escape}
-use Rattle.nr_preconv.specs.Lines.{is_control, control, as_met, among_words, follows_tag, breaking, at_start, behind_fonts, in_words, in_rest, in_line_at, in_line, takes_escape, passing}
+use Rattle.nr_preconv.specs.Lines.{is_control, control, as_met, among_words, follows_tag, begins_apart, breaking, at_start, behind_fonts, in_words, in_rest, in_line_at, in_line, takes_escape, passing}
 use Rattle.nr_preconv.specs.Meeting.{meet, plain_byte, beginning, is_raw, is_as_is_at, is_as_is, line_taken, taken_as_is}
 use Rattle.nr_preconv.specs.Reading.{Told, told, behind, then_told, heard, heard_in, with_half, pending_with, strays, fresh, heard_behind, heard_byte, read, fed, is_lead, stray}
 use Rattle.nr_preconv.specs.Passing.{Passes}
@@ -67,23 +67,23 @@ text_by false y b h m p = ap (λ (z : Bool). if z then m else saying b lines.Tex
 text_met : (b : ℕ) (h : Half) → (not (turns_hyphens h) || not (b == code "-")) ≡ true → in_text b h ≡ goes b (if b == code "\n" then lines.Start else lines.Text) h
 text_met b h p = text_by (b == code "\n") (turns_hyphens h && (b == code "-")) b h (hyphen lines.Text h) (not_both (turns_hyphens h) (b == code "-") p)
 
-start_by : (x y z : Bool) (b : ℕ) (h : Half) (m n : Met) → y ≡ false → (z && x) ≡ false → in_text b h ≡ goes b (if x then lines.Start else lines.Text) h
-    → (if y then m else (if x then (if z then n else saying b lines.Start h) else in_text b h)) ≡ goes b (if x then lines.Start else lines.Text) h
+start_by : (x y z : Bool) (b : ℕ) (h : Half) (m n : Met) → y ≡ false → z ≡ false → in_text b h ≡ goes b (if x then lines.Start else lines.Text) h
+    → (if y then m else (if z then n else (if x then saying b lines.Start h else in_text b h))) ≡ goes b (if x then lines.Start else lines.Text) h
 unfolding goes
 start_by x true z b h m n p r q = absurd (let no : true ≡ false = p in cc)
-start_by true false true b h m n p r q = absurd (let no : true ≡ false = r in cc)
+start_by x false true b h m n p r q = absurd (let no : true ≡ false = r in cc)
 start_by true false false b h m n p r q = refl
-start_by false false z b h m n p r q = q
+start_by false false false b h m n p r q = q
 
 start_met : (b : ℕ) (h : Half)
-    → (not (is_control b) && (not (turns_hyphens h) || not (b == code "-")) && not (follows_tag h && (b == code "\n"))) ≡ true
+    → (not (is_control b) && (not (turns_hyphens h) || not (b == code "-")) && not (follows_tag h && begins_apart b)) ≡ true
     → at_start b h ≡ goes b (if b == code "\n" then lines.Start else lines.Text) h
 start_met b h p =
     let plain = not (is_control b) in
     let whole = not (turns_hyphens h) || not (b == code "-") in
-    let behind = follows_tag h && (b == code "\n") in
+    let behind = follows_tag h && begins_apart b in
     let two = and-first (plain && whole) (not behind) p in
-    start_by (b == code "\n") (is_control b) (follows_tag h) b h (control false b h) (breaking h)
+    start_by (b == code "\n") (is_control b) behind b h (control false b h) (breaking b h)
     (is_not (is_control b) (and-first plain whole two)) (is_not behind (and-second (plain && whole) (not behind) p)) (text_met b h (and-second plain whole two))
 
 fonts_met : (b : ℕ) (h : Half) → (not (b == code " ") && (not (turns_hyphens h) || not (b == code "-"))) ≡ true
@@ -107,6 +107,7 @@ words_told place class said w p = absurd (let no : false ≡ true = p in cc)
 blank_kept : (fonts : Fonts) (said : Said) → blank_by fonts false said ≡ said
 blank_kept One said = refl
 blank_kept (Turn a b) said = refl
+blank_kept Tag said = refl
 
 -- up to the eighth word
 space_told : (place : Place) (said : Said) (w : Words) → spaced_at place ≡ true → is_ninth w ≡ false

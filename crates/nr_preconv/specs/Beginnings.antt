@@ -31,16 +31,17 @@ group_of b =
     if b == code "G" then (10, 11) else
     if b == code "I" then (11, 15) else
     if b == code "L" then (15, 16) else
-    if b == code "N" then (16, 18) else
-    if b == code "R" then (18, 21) else
-    if b == code "S" then (21, 27) else
-    if b == code "T" then (27, 34) else
-    if b == code "U" then (34, 35) else
-    if b == code "a" then (35, 37) else
-    if b == code "d" then (37, 39) else
-    if b == code "e" then (39, 40) else
-    if b == code "i" then (40, 43) else
-    if b == code "t" then (43, 44) else
+    if b == code "M" then (16, 18) else
+    if b == code "N" then (18, 20) else
+    if b == code "R" then (20, 23) else
+    if b == code "S" then (23, 29) else
+    if b == code "T" then (29, 36) else
+    if b == code "U" then (36, 39) else
+    if b == code "a" then (39, 41) else
+    if b == code "d" then (41, 43) else
+    if b == code "e" then (43, 44) else
+    if b == code "i" then (44, 47) else
+    if b == code "t" then (47, 48) else
     (0, 0)
 
 abbrev pub group : ℕ → List (ℕ × ℕ × Opens)

@@ -1,6 +1,6 @@
 -- The names of characters and fonts (groff_char(7)).
 use Prim.Native.Char.{code}
-use Rattle.std.specs.Prelude.{ℕ, ◌-◌, List, [], ◌∷◌, length, drop, Bool, false, ◌==◌, ◌&&◌, ◌||◌, nat_le, nat_lt, if◌then◌else◌, Option, None, Some, codes, slice_get, slice_index}
+use Rattle.std.specs.Prelude.{ℕ, ◌-◌, List, [], ◌∷◌, length, take, drop, Bool, false, ◌==◌, ◌&&◌, ◌||◌, nat_le, nat_lt, if◌then◌else◌, Option, None, Some, codes, slice_get, slice_index}
 use Rattle.nr_preconv.specs.Numbers.{number_from}
 use Rattle.std.specs.Str.{bytes_eq}
 use Rattle.nr_preconv.specs.Likeness.{before_nul}
@@ -63,6 +63,14 @@ is_native name =
     || is_pair (code "b") (code "u") name
     || is_pair (code "a") (code "q") name || is_pair (code "d") (code "q") name
     || is_pair (code "r") (code "s") name
+
+-- ---- characters over one another
+
+-- of which the last is shown (the groff manual, Drawing Commands): by its name, or by itself
+abbrev pub overstruck : List ℕ → Option ℕ
+overstruck text =
+    if nat_le 4 (length text) && bytes_eq (take 2 (drop (length text - 4) text)) (codes "\\(")
+    then glyph_code (drop (length text - 2) text) else slice_get text (length text - 1)
 
 -- ---- translations
 

@@ -89,6 +89,12 @@ next_line tags.InNext = tags.InThis
 next_line tags.InThis = tags.InLast
 next_line tag = tags.Nowhere
 
+-- the words of this line stay whole: those of a tag or an address
+abbrev pub is_whole : Tag → Bool
+is_whole tags.InThis = true
+is_whole tags.Address = true
+is_whole tag = false
+
 abbrev pub is_in_last : Tag → Bool
 is_in_last tags.InLast = true
 is_in_last tag = false

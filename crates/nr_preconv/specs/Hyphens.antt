@@ -9,11 +9,12 @@ use Rattle.nr_preconv.specs.declared.half.Line.TheVariants as lines
 use Rattle.nr_preconv.specs.declared.half.Before.{Before}
 use Rattle.nr_preconv.specs.declared.half.Before.TheVariants.{Character, Argument}
 use Rattle.nr_preconv.specs.declared.half.Mark.{Mark}
-use Rattle.nr_preconv.specs.declared.half.Mark.TheVariants.{Letter, Opening, Other}
+use Rattle.nr_preconv.specs.declared.half.Mark.TheVariants.{Letter, Opening, Backslash, Other}
 use Rattle.nr_preconv.specs.declared.half.Escape.TheVariants as escapes
 use Rattle.nr_preconv.specs.Numbers.{is_within}
 use Rattle.nr_preconv.specs.Likeness.{is_latin_letter}
-use Rattle.nr_preconv.specs.Half.{Met, taken, left, next_line, without_escape, abandoned}
+use Rattle.nr_preconv.specs.Half.{Met, taken, left, next_line, is_whole, without_escape, abandoned}
+use Rattle.nr_preconv.specs.Words.{has_hyphens as words_have}
 
 -- ---- letters
 
@@ -71,15 +72,25 @@ leaving_hyphens h = if h.manual then record h { before = Argument } else h
 abbrev pub turns_hyphens : Half → Bool
 turns_hyphens h = h.manual && not h.table
 
--- after a letter what comes decides; else it goes out as `\-`, after which no line is broken
+-- After a letter what comes decides, but in a tag or an address; else it goes out as `\-`, after which no line is broken. One
+-- that copying a macro's word makes `\-` stays.
 abbrev pub hyphen_by : Before → Half → Met
 hyphen_by (Character Letter) h =
-    taken says.Nothing (record h { before = Character Other; escape = escapes.Hyphen; kept = code "-" ∷ [] })
+    if is_whole h.tag then taken (says.Escape (code "-")) (record h { before = Character Other })
+    else taken says.Nothing (record h { before = Character Other; escape = escapes.Hyphen; kept = code "-" ∷ [] })
+hyphen_by (Character Backslash) h = taken (says.Byte (code "-")) (record h { before = Character Other })
 hyphen_by (Character mark) h = taken (says.Escape (code "-")) (record h { before = Character Other })
 hyphen_by Argument h = taken (says.Byte (code "-")) h
 
+abbrev pub has_hyphens : Line → Bool
+has_hyphens (lines.Words words) = words_have words
+has_hyphens line = true
+
+-- in a number it is a sign
 abbrev pub hyphen : Line → Half → Met
-hyphen line h = hyphen_by h.before (record h { line = line })
+hyphen line h =
+    if not (has_hyphens line) then taken (says.Byte (code "-")) (record h { line = line })
+    else hyphen_by h.before (record h { line = line })
 
 -- between letters it stays, and so does one before an escape, which may be that of a font
 abbrev pub behind_hyphen : ℕ → Half → Met

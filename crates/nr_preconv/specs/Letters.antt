@@ -8,7 +8,8 @@ use Rattle.nr_preconv.specs.declared.half.Line.{Line}
 use Rattle.nr_preconv.specs.declared.half.Line.TheVariants as lines
 use Rattle.nr_preconv.specs.declared.half.Escape.TheVariants as escapes
 use Rattle.nr_preconv.specs.declared.half.Before.TheVariants.{Character}
-use Rattle.nr_preconv.specs.declared.half.Mark.TheVariants.{Other}
+use Rattle.nr_preconv.specs.declared.half.Mark.{Mark}
+use Rattle.nr_preconv.specs.declared.half.Mark.TheVariants.{Backslash, Other}
 use Rattle.nr_preconv.specs.declared.half.Kind.TheVariants as kinds
 use Rattle.nr_preconv.specs.declared.words.Class.TheVariants as classes
 use Rattle.nr_preconv.specs.declared.words.Told.{Told}
@@ -45,8 +46,7 @@ blank h = ended (says.Escape (if is_text h.line then code " " else code "0")) (p
 abbrev pub is_measured : ℕ → Bool
 is_measured b =
     (b == code "h") || (b == code "v") || (b == code "w") || (b == code "l") || (b == code "L")
-    || (b == code "D") || (b == code "b")
-    || (b == code "o") || (b == code "x")
+    || (b == code "D") || (b == code "b") || (b == code "x")
 
 abbrev pub measured : ℕ → Half → Met
 measured b h =
@@ -75,10 +75,19 @@ abbrev pub is_start : Line → Bool
 is_start lines.Start = true
 is_start line = false
 
--- A text line that begins with `\.` is a control line (groff reads it so), but in a definition it may be one within.
+-- copying a macro's word makes one backslash of two
+abbrev pub copied_mark : Line → Mark
+copied_mark (lines.Words words) = Backslash
+copied_mark line = Other
+
+abbrev pub backslash : Half → Met
+backslash h = ended (says.Kept (with_byte (code "\\") h.kept)) (placed (copied_mark h.line) (keeping (code "\\") h))
+
+-- A text line that begins with `\.` is a control line (groff reads it so), but in a definition it may be one within, and in a
+-- table it is a row.
 abbrev pub dot : Half → Met
 dot h =
-    if h.defining || not (is_start h.line) then ends_with (code ".") h
+    if h.defining || h.table || not (is_start h.line) then ends_with (code ".") h
     else control false (code ".") (without_escape h)
 
 -- By the byte after the backslash. `\%` after an opening bracket or a quote only keeps a word whole, and is no place to cut it.
@@ -94,6 +103,8 @@ letter b h =
     if b == code "C" then going_on b (escapes.Delimiter kinds.Glyph) h else
     if b == code "A" then going_on b (escapes.Delimiter kinds.Identifier) h else
     if b == code "B" then going_on b (escapes.Delimiter kinds.Number) h else
+    if b == code "o" then going_on b (escapes.Delimiter kinds.Overstruck) h else
+    if b == code "\\" then backslash h else
     if b == code "?" then embed h else
     if (b == code ",") || (b == code "/") || (b == code ")") || (b == code ":") then dropped h else
     if (b == code "%") && begins_behind h then dropped h else

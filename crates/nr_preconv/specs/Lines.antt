@@ -15,6 +15,7 @@ use Rattle.nr_preconv.specs.declared.beginnings.Opens.{Opens}
 use Rattle.nr_preconv.specs.declared.beginnings.Opens.TheVariants as opens
 use Rattle.nr_preconv.specs.declared.words.Words.{Words}
 use Rattle.nr_preconv.specs.declared.words.Told.{Told}
+use Rattle.nr_preconv.specs.declared.words.Fonts.TheVariants.{Tag as TagFonts}
 use Rattle.nr_preconv.specs.declared.words.Class.{Class}
 use Rattle.nr_preconv.specs.declared.words.Class.TheVariants.{Other}
 use Rattle.nr_preconv.specs.Half.{Met, taken, left, is_in_last, character_said}
@@ -39,14 +40,19 @@ control conditional b h = saying b lines.Control (record h { name = []; conditio
 abbrev pub follows_tag : Half → Bool
 follows_tag h = turns_hyphens h && is_in_last h.tag
 
--- Text stands beside the tag that waits for it, where an empty line would only end a word. The request breaks.
-abbrev pub breaking : Half → Met
-breaking h = left (Kept (codes ".sp")) (record h { tag = tags.Nowhere })
+-- Text stands beside the tag that waits for it, where an empty line, or one that begins with a blank, would only end a
+-- word. The request breaks.
+abbrev pub begins_apart : ℕ → Bool
+begins_apart b = (b == code "\n") || (b == code " ")
+
+abbrev pub breaking : ℕ → Half → Met
+breaking b h = left (Kept (if b == code "\n" then codes ".sp" else codes ".br\n")) (record h { tag = tags.Nowhere })
 
 abbrev pub at_start : ℕ → Half → Met
 at_start b h =
     if is_control b then control false b h else
-    if b == code "\n" then (if follows_tag h then breaking h else saying b lines.Start h) else in_text b h
+    if follows_tag h && begins_apart b then breaking b h else
+    if b == code "\n" then saying b lines.Start h else in_text b h
 
 -- Blanks before the first word of a filled line are dropped. After fonts they are printed, as are those between words.
 abbrev pub behind_fonts : ℕ → Half → Met
@@ -83,7 +89,8 @@ line_of opens.Rest ignores = lines.Request
 line_of opens.Definition ignores = lines.Request
 line_of opens.End ignores = lines.Request
 line_of opens.Title ignores = lines.Request
-line_of opens.Paragraph ignores = lines.Request
+line_of opens.Paragraph ignores = lines.Words (first_words TagFonts)
+line_of opens.Address ignores = lines.Words (first_words TagFonts)
 line_of opens.Tagged ignores = lines.Request
 line_of opens.Table ignores = lines.Request
 line_of opens.TableEnd ignores = lines.Request
@@ -110,10 +117,11 @@ table_by opens.Table before = true
 table_by opens.TableEnd before = false
 table_by o before = before
 
--- the tag of a paragraph stands in the same line, or is the next one
+-- the tag of a paragraph stands in the same line, or is the next one; an address stands in its line
 abbrev pub tag_by : Opens → Tag → Tag
 tag_by opens.Paragraph tag = tags.InThis
 tag_by opens.Tagged tag = tags.InNext
+tag_by opens.Address tag = tags.Address
 tag_by o tag = tag
 
 abbrev pub opening : Opens → ℕ → Half → Half

@@ -13,7 +13,7 @@ use Rattle.nr_preconv.specs.Half.{Met, taken, abandoned, is_plain}
 use Rattle.nr_preconv.specs.Hyphens.{gone_by, turns_hyphens}
 use Rattle.nr_preconv.specs.Words.{is_as_is as word_as_is, taken_as_is as word_taken}
 use Rattle.nr_preconv.specs.Escapes.{in_escape}
-use Rattle.nr_preconv.specs.Lines.{is_control, follows_tag, in_line, wide_in_line, takes_escape}
+use Rattle.nr_preconv.specs.Lines.{is_control, follows_tag, begins_apart, in_line, wide_in_line, takes_escape}
 
 abbrev pub beginning : Half → Met
 beginning h = taken Nothing (record h { escape = escapes.Begun; kept = code "\\" ∷ []; spelled = [] })
@@ -50,7 +50,7 @@ is_as_is_at lines.Translation b h = true
 is_as_is_at lines.Text b h = not (turns_hyphens h) || not (b == code "-")
 is_as_is_at lines.Fonts b h = not (b == code " ") && (not (turns_hyphens h) || not (b == code "-"))
 is_as_is_at lines.Start b h =
-    not (is_control b) && (not (turns_hyphens h) || not (b == code "-")) && not (follows_tag h && (b == code "\n"))
+    not (is_control b) && (not (turns_hyphens h) || not (b == code "-")) && not (follows_tag h && begins_apart b)
 is_as_is_at (lines.Words words) b h = word_as_is b words
 is_as_is_at line b h = false
 

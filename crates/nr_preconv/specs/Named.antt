@@ -13,7 +13,7 @@ use Rattle.nr_preconv.specs.declared.half.Kind.{Kind}
 use Rattle.nr_preconv.specs.declared.half.Kind.TheVariants as kinds
 use Rattle.nr_preconv.specs.Half.{Met, taken, character_said, without_escape}
 use Rattle.nr_preconv.specs.Hyphens.{wide_mark, placed, is_hang}
-use Rattle.nr_preconv.specs.Glyphs.{is_pair, is_native, is_struck, glyph_code, code_of, quote_of, string_code, font_of}
+use Rattle.nr_preconv.specs.Glyphs.{is_pair, is_native, is_struck, glyph_code, code_of, overstruck, quote_of, string_code, font_of}
 use Rattle.nr_preconv.specs.Numbers.{is_number}
 use Rattle.nr_preconv.specs.Endings.{ended, ended_font, ended_kept, dropped, kept_or}
 
@@ -90,3 +90,4 @@ named kinds.Identifier h = tested (not (length h.spelled == 0)) h
 named kinds.Number h = tested (is_number h.spelled) h
 named kinds.Text h = string (string_code h.spelled) h
 named kinds.Hang h = hang h
+named kinds.Overstruck h = character (overstruck h.spelled) h

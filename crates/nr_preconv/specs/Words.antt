@@ -7,7 +7,7 @@ use Rattle.nr_preconv.specs.declared.said.Said.TheVariants.{Nothing, Byte, Escap
 use Rattle.nr_preconv.specs.declared.words.Words.{Words}
 use Rattle.nr_preconv.specs.declared.words.Told.{Told}
 use Rattle.nr_preconv.specs.declared.words.Fonts.{Fonts}
-use Rattle.nr_preconv.specs.declared.words.Fonts.TheVariants.{One, Turn}
+use Rattle.nr_preconv.specs.declared.words.Fonts.TheVariants.{One, Turn, Tag}
 use Rattle.nr_preconv.specs.declared.words.Place.{Place}
 use Rattle.nr_preconv.specs.declared.words.Place.TheVariants.{Between, Begun, Opened, Inside, Quoted, Closing}
 use Rattle.nr_preconv.specs.declared.words.Class.{Class}
@@ -22,6 +22,14 @@ first_words fonts = record { fonts = fonts; count = 0; second = true; place = Be
 
 abbrev pub is_ninth : Words → Bool
 is_ninth w = nat_le 9 w.count
+
+abbrev pub hyphens_by : Fonts → ℕ → Bool
+hyphens_by Tag count = count == 1
+hyphens_by fonts count = true
+
+-- a hyphen here is one of text: where a tag or an address stands, the words after it are numbers
+abbrev pub has_hyphens : Words → Bool
+has_hyphens w = hyphens_by w.fonts w.count
 
 abbrev pub begins_at : Place → Bool
 begins_at Between = true
@@ -78,6 +86,7 @@ told place said takes w = record { words = words_at place w; said = said; takes 
 
 abbrev pub turned : Fonts → Bool → Said
 turned One second = Nothing
+turned Tag second = Nothing
 turned (Turn a b) second = Font (if second then a else b)
 
 -- after the ninth word the font changes

@@ -34,6 +34,8 @@ pub(crate) enum Opens {
     Title,
     /// A paragraph with a tag in the same line.
     Paragraph,
+    /// An address.
+    Address,
     /// A paragraph whose tag is the next line.
     Tagged,
     /// A table.
@@ -58,7 +60,7 @@ impl Opens {
 }
 
 /// The names that are of account here, those with the same first byte side by side.
-static OPENING: [(u8, u8, Opens); 44] = [
+static OPENING: [(u8, u8, Opens); 48] = [
     (b'.', b' ', Opens::End),
     (b'A', b'U', Opens::Words(Fonts::One)),
     (b'A', b'I', Opens::Words(Fonts::One)),
@@ -75,6 +77,8 @@ static OPENING: [(u8, u8, Opens); 44] = [
     (b'I', b'B', Opens::Words(Fonts::Turn(b'I', b'B'))),
     (b'I', b'R', Opens::Words(Fonts::Turn(b'I', b'R'))),
     (b'L', b'G', Opens::Words(Fonts::One)),
+    (b'M', b'E', Opens::Words(Fonts::One)),
+    (b'M', b'T', Opens::Address),
     (b'N', b'H', Opens::Words(Fonts::One)),
     (b'N', b'D', Opens::Words(Fonts::One)),
     (b'R', b' ', Opens::Words(Fonts::One)),
@@ -94,6 +98,8 @@ static OPENING: [(u8, u8, Opens); 44] = [
     (b'T', b'L', Opens::Words(Fonts::One)),
     (b'T', b'O', Opens::Words(Fonts::One)),
     (b'U', b'L', Opens::Words(Fonts::One)),
+    (b'U', b'E', Opens::Words(Fonts::One)),
+    (b'U', b'R', Opens::Address),
     (b'a', b'm', Opens::Definition),
     (b'a', b's', Opens::Stored),
     (b'd', b'e', Opens::Definition),
@@ -227,7 +233,7 @@ fn known_entry(name: &[u8]) -> Option<bool>
 fn group_of(first: u8) -> (usize, usize)
     ensures value { result ≡ group_of first }
     ensures within { result.0 ≤ result.1 }
-    ensures few { result.1 ≤ 44 }
+    ensures few { result.1 ≤ 48 }
 {
     match first {
         b'.' => (0, 1),
@@ -238,16 +244,17 @@ fn group_of(first: u8) -> (usize, usize)
         b'G' => (10, 11),
         b'I' => (11, 15),
         b'L' => (15, 16),
-        b'N' => (16, 18),
-        b'R' => (18, 21),
-        b'S' => (21, 27),
-        b'T' => (27, 34),
-        b'U' => (34, 35),
-        b'a' => (35, 37),
-        b'd' => (37, 39),
-        b'e' => (39, 40),
-        b'i' => (40, 43),
-        b't' => (43, 44),
+        b'M' => (16, 18),
+        b'N' => (18, 20),
+        b'R' => (20, 23),
+        b'S' => (23, 29),
+        b'T' => (29, 36),
+        b'U' => (36, 39),
+        b'a' => (39, 41),
+        b'd' => (41, 43),
+        b'e' => (43, 44),
+        b'i' => (44, 47),
+        b't' => (47, 48),
         _ => (0, 0),
     }
 }

@@ -1,6 +1,6 @@
 //! The names of characters (groff_char(7)).
 ghost use Rattle.std.specs.Prelude.{◌≡◌};
-ghost use Rattle.nr_preconv.specs.Glyphs.{code_of, glyph_code, is_native, is_pair, is_struck, long_code, looked_up, below_codes, font_of, letter_of, named_in, pair_code, quote_of, string_code};
+ghost use Rattle.nr_preconv.specs.Glyphs.{code_of, glyph_code, is_native, is_pair, is_struck, long_code, looked_up, below_codes, font_of, letter_of, named_in, overstruck, pair_code, quote_of, string_code};
 ghost use Rattle.nr_preconv.specs.Likeness.{before_nul};
 
 use super::numbers::number_from;
@@ -155,6 +155,19 @@ pub(crate) fn string_code(name: &[u8]) -> Option<u32>
         return Some(u32::from('®'));
     }
     None
+}
+
+/// The character that stands last of those over one another.
+pub(crate) fn overstruck(text: &[u8]) -> Option<u32>
+    ensures { result ≡ overstruck text.now }
+{
+    if text.len() >= 4 && &text[text.len() - 4..text.len() - 2] == b"\\(".as_slice() {
+        return glyph_code(&text[text.len() - 2..]);
+    }
+    match text.last() {
+        Some(last) => Some(u32::from(*last)),
+        None => None,
+    }
 }
 
 /// The letter of a font by the last byte of its name.

@@ -1,7 +1,7 @@
 //! What is half read of a page.
 ghost use Rattle.std.specs.Prelude.{◌≡◌, true, false};
 ghost use Rattle.nr_preconv.specs.Named.{is_delimited};
-ghost use Rattle.nr_preconv.specs.Half.{character_said, first_half, is_beginning, is_space, is_text, next_line, takes_brace, with_font, with_text};
+ghost use Rattle.nr_preconv.specs.Half.{character_said, first_half, is_beginning, is_space, is_text, is_whole, next_line, takes_brace, with_font, with_text};
 
 use super::likeness::is_blank;
 use super::said::Said;
@@ -78,6 +78,8 @@ pub(crate) enum Mark {
     Letter,
     /// An opening bracket or a quote, after which a word begins.
     Opening,
+    /// Two backslashes in a word of a macro, which copying it makes one.
+    Backslash,
     /// Anything else.
     Other,
 }
@@ -91,7 +93,8 @@ pub(crate) enum Before {
     Argument,
 }
 
-/// In which line the tag of a paragraph stands, beside which its text may begin.
+/// In which line the tag of a paragraph stands, beside which its text may begin. A tag isn't broken at its hyphens,
+/// nor is an address.
 #[derive(Clone, Copy)]
 pub(crate) enum Tag {
     /// In none of these.
@@ -102,6 +105,8 @@ pub(crate) enum Tag {
     InThis,
     /// In the line before.
     InLast,
+    /// In none, but this line has an address.
+    Address,
 }
 
 /// What part of an escape is half read.
@@ -160,6 +165,8 @@ pub(crate) enum Kind {
     Number,
     /// How far a text line begins to the left.
     Hang,
+    /// Characters over one another.
+    Overstruck,
 }
 
 /// A character that comes.
@@ -304,6 +311,13 @@ impl Tag {
             Tag::InThis => Tag::InLast,
             _ => Tag::Nowhere,
         }
+    }
+
+    /// Whether the words of this line stay whole: those of a tag or an address.
+    pub(crate) fn is_whole(self) -> bool
+        ensures { result ≡ is_whole self }
+    {
+        matches!(self, Tag::InThis | Tag::Address)
     }
 }
 

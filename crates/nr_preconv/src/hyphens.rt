@@ -73,6 +73,16 @@ pub(crate) fn is_hang(number: &[u8]) -> bool
     }
 }
 
+/// Whether a hyphen is read as that of text in a line.
+fn has_hyphens(line: Line) -> bool
+    ensures { result ≡ specs.has_hyphens line }
+{
+    match line {
+        Line::Words(words) => words.has_hyphens(),
+        _ => true,
+    }
+}
+
 impl Before {
     /// What stands there after one more character.
     fn followed(self, mark: Mark) -> Before
@@ -131,13 +141,21 @@ impl Half {
         self.manual && !self.table
     }
 
-    /// A hyphen in a line.
+    /// A hyphen among words of which this is a tag or none, or in text. In a tag or an address no line is broken after it.
     pub(crate) fn hyphen(&mut self, line: Line) -> Seen
         ensures { met self.new result ≡ specs.hyphen line self.old }
     {
         self.line = line;
+        if !has_hyphens(line) {
+            return Seen::taken(Said::Byte(b'-'));
+        }
+        let whole = self.tag.is_whole();
         match self.before {
-            Before::Character(Mark::Letter) => {
+            Before::Character(Mark::Backslash) => {
+                self.before = Before::Character(Mark::Other);
+                Seen::taken(Said::Byte(b'-'))
+            }
+            Before::Character(Mark::Letter) if !whole => {
                 self.before = Before::Character(Mark::Other);
                 self.escape = Escape::Hyphen;
                 self.kept = Name::of(b"-");

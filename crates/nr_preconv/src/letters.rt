@@ -13,7 +13,7 @@ fn is_measured(byte: u8) -> bool
 {
     matches!(
         byte,
-        b'h' | b'v' | b'w' | b'l' | b'L' | b'D' | b'b' | b'o' | b'x'
+        b'h' | b'v' | b'w' | b'l' | b'L' | b'D' | b'b' | b'x'
     )
 }
 
@@ -84,11 +84,23 @@ impl Half {
         self.kept_or(u32::from('´'))
     }
 
-    /// `\.`: where a text line begins with it, a control character. In a definition it may be that of a line within.
+    /// A backslash after another. Copying a macro's word makes one of both, so that a hyphen after it is a minus sign.
+    fn backslash(&mut self) -> Seen
+        ensures { met self.new result ≡ specs.backslash self.old }
+    {
+        self.keep(b'\\');
+        let kept = self.kept;
+        let copied = matches!(self.line, Line::Words(_));
+        self.places(if copied { Mark::Backslash } else { Mark::Other });
+        self.ended(Said::Kept(kept))
+    }
+
+    /// `\.`: where a text line begins with it, a control character. In a definition it may be that of a line within,
+    /// and in a table it begins a row.
     fn dot(&mut self) -> Seen
         ensures { met self.new result ≡ specs.dot self.old }
     {
-        if self.defining || !matches!(self.line, Line::Start) {
+        if self.defining || self.table || !matches!(self.line, Line::Start) {
             return self.ends_with(b'.');
         }
         self.forget();
@@ -136,6 +148,8 @@ impl Half {
             b'C' => self.goes_on(byte, Escape::Delimiter(Kind::Glyph)),
             b'A' => self.goes_on(byte, Escape::Delimiter(Kind::Identifier)),
             b'B' => self.goes_on(byte, Escape::Delimiter(Kind::Number)),
+            b'o' => self.goes_on(byte, Escape::Delimiter(Kind::Overstruck)),
+            b'\\' => self.backslash(),
             b'?' => self.embed(),
             b',' | b'/' | b')' | b':' => self.dropped(),
             b'%' if self.begins_behind() => self.dropped(),

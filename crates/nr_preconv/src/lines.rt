@@ -7,7 +7,7 @@ use super::beginnings::{Opens, opened, said_name};
 use super::half::{Dots, Half, Line, Seen, Tag};
 use super::hyphens::wide_mark;
 use super::said::Said;
-use super::words::{Class, Words};
+use super::words::{Class, Fonts, Words};
 use nr_units::Name;
 
 /// A blank, a control byte or a backslash, which end a name.
@@ -34,12 +34,16 @@ impl Half {
         self.turns_hyphens() && matches!(self.tag, Tag::InLast)
     }
 
-    /// An empty line becomes a request of the same, which breaks also where text stands beside the tag.
-    fn breaks(&mut self) -> Seen
-        ensures { met self.new result ≡ specs.breaking self.old }
+    /// Before a line that is empty or begins with a blank, as this byte says, a request breaks, also where text stands
+    /// beside the tag.
+    fn breaks(&mut self, byte: u8) -> Seen
+        ensures { met self.new result ≡ specs.breaking byte self.old }
     {
         self.tag = Tag::Nowhere;
-        Seen::left(Said::Kept(Name::of(b".sp")))
+        if byte == b'\n' {
+            return Seen::left(Said::Kept(Name::of(b".sp")));
+        }
+        Seen::left(Said::Kept(Name::of(b".br\n")))
     }
 
     /// A byte at the beginning of a line.
@@ -48,7 +52,7 @@ impl Half {
     {
         match byte {
             b'.' | b'\'' => self.control(false, byte),
-            b'\n' if self.follows_tag() => self.breaks(),
+            b'\n' | b' ' if self.follows_tag() => self.breaks(byte),
             b'\n' => self.says(byte, Line::Start),
             _ => self.in_text(byte),
         }
@@ -117,7 +121,8 @@ impl Half {
     {
         self.line = match opens {
             Opens::Rest | Opens::Definition | Opens::End => Line::Request,
-            Opens::Paragraph | Opens::Tagged => Line::Request,
+            Opens::Paragraph | Opens::Address => Line::Words(Words::new(Fonts::Tag)),
+            Opens::Tagged => Line::Request,
             Opens::Title | Opens::Table | Opens::TableEnd => Line::Request,
             Opens::Ignored if byte == b'\n' && !self.conditional => Line::Ignored(Dots::Other),
             Opens::Ignored => Line::Request,
@@ -135,6 +140,7 @@ impl Half {
         self.tag = match opens {
             Opens::Paragraph => Tag::InThis,
             Opens::Tagged => Tag::InNext,
+            Opens::Address => Tag::Address,
             _ => self.tag,
         };
         match opens {

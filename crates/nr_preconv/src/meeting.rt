@@ -86,7 +86,7 @@ impl Half {
             Line::Start => {
                 !matches!(byte, b'.' | b'\'')
                     && (!self.turns_hyphens() || byte != b'-')
-                    && !(byte == b'\n' && self.follows_tag())
+                    && !(matches!(byte, b'\n' | b' ') && self.follows_tag())
             }
             Line::Words(words) => words.takes_as_is(byte),
             _ => false,

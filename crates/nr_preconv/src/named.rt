@@ -4,7 +4,7 @@ ghost use Rattle.nr_preconv.specs.Half.{met};
 ghost use Rattle.nr_preconv.specs.Named as specs;
 
 use super::glyphs::{
-    code_of, font_of, glyph_code, is_native, is_pair, is_struck, quote_of, string_code,
+    code_of, font_of, glyph_code, is_native, is_pair, is_struck, overstruck, quote_of, string_code,
 };
 use super::half::{Before, Half, Kind, Line, Mark, Seen};
 use super::hyphens::{is_hang, wide_mark};
@@ -164,6 +164,7 @@ impl Half {
             Kind::Register => self.ended_kept(),
             Kind::Text => self.string(string_code(name.as_bytes())),
             Kind::Hang => self.hang(),
+            Kind::Overstruck => self.character(overstruck(name.as_bytes())),
             Kind::Identifier => self.tested(!name.is_empty()),
             Kind::Number => self.tested(is_number(name.as_bytes())),
             Kind::Size | Kind::Dropped => self.dropped(),

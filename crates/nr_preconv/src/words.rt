@@ -1,7 +1,7 @@
 //! The words of a font macro's line. After the eighth all that follows is one word in quotes, since no
 //! more than nine are taken.
 ghost use Rattle.std.specs.Prelude.{◌≡◌, ◌<◌};
-ghost use Rattle.nr_preconv.specs.Words.{begun, begins_word, behind_quote, blank_said, class_of, first_words, font_said, goes_on_with, goes_on_with_space, inside, is_as_is, is_ninth, met_closing, met_words, quoted_said, taken_as_is, told, words_at};
+ghost use Rattle.nr_preconv.specs.Words.{begun, begins_word, behind_quote, blank_said, class_of, first_words, font_said, goes_on_with, goes_on_with_space, has_hyphens, inside, is_as_is, is_ninth, met_closing, met_words, quoted_said, taken_as_is, told, words_at};
 
 use super::said::Said;
 
@@ -12,6 +12,8 @@ pub(crate) enum Fonts {
     One,
     /// Two fonts in turn, by their letters.
     Turn(u8, u8),
+    /// None: the first word is a tag or an address, and others are numbers.
+    Tag,
 }
 
 /// Where among words.
@@ -99,6 +101,16 @@ impl Words {
         self.count >= 9
     }
 
+    /// Whether a hyphen here is read as that of text: not where numbers stand.
+    pub(crate) fn has_hyphens(self) -> bool
+        ensures { result ≡ has_hyphens self }
+    {
+        match self.fonts {
+            Fonts::Tag => self.count == 1,
+            _ => true,
+        }
+    }
+
     /// Whether an escape that comes begins a word, or ends one before.
     pub(crate) fn begins_word(self) -> bool
         ensures { result ≡ begins_word self }
@@ -126,7 +138,7 @@ impl Words {
         ensures { result ≡ font_said self }
     {
         match self.fonts {
-            Fonts::One => Said::Nothing,
+            Fonts::One | Fonts::Tag => Said::Nothing,
             Fonts::Turn(first, second) => Said::Font(if self.second { first } else { second }),
         }
     }
