@@ -12,7 +12,7 @@ struct Row {
     line: &'static [u8],
 }
 
-static TEXTS: [(&str, Page<'static>); 21] = [
+static TEXTS: [(&str, Page<'static>); 28] = [
     (
         "quotes",
         Page::Bytes(b"\xe2\x80\x9ca\xe2\x80\x9d \\(em \\fIb\\fP\n"),
@@ -39,6 +39,33 @@ static TEXTS: [(&str, Page<'static>); 21] = [
     (
         "blanks",
         Page::Bytes(b"\\fB \\fIa b\n.RB \" a\" \" b\"\n\\fBa b\n.TS\n\\fB a\n.TE\n"),
+    ),
+    ("rows", Page::Bytes(b".TH x\n.TS\nl.\n\\.a\n.TE\n\\.B a\n")),
+    (
+        "whole",
+        Page::Bytes(
+            b".TH x\n.TP\na-b -c\nd-e\n.IP [--a-b] -4\n.UR a-b\n.UE c-d\n.B \"\\-a\\\\-b\"\na\\(en-b\n",
+        ),
+    ),
+    ("begun", Page::Bytes(b".TH x\n.TP\na\n b\n.IP a\n  b\n c\n")),
+    ("over", Page::Bytes(b"a\\o'\\(aae'b\\o'c\\(bu'\\o''d\n")),
+    (
+        "translated",
+        Page::Bytes(
+            b".tr %.Q\"~\n%a Q~\n.B %b %\\%\n.tr QQ\nQ \\(*W\n.tr \\(*W-%%\n% \\(*W\r\n.PP\r\n.ds %\r\n",
+        ),
+    ),
+    (
+        "sentences",
+        Page::Bytes(
+            b"(a.)\nb\n.TH x\n(a.)\nb.\n\"c?\"\n.B d\n[e!]\n f\n(g.)\n\n.de h\n(i.)\n..\n.TS\nl.\n(j.)\nk\n.TE\n(l.)\n\xc3\xa9 (m.)",
+        ),
+    ),
+    (
+        "faces",
+        Page::Bytes(
+            b".TH x\n\\fBa\\fCb\\f(CWc\\fPd\\fR\\fXe\n\\fIf\\fP\n.ft C\ng\n.ft P\n.B a \\f(CWb\\fP\n.BR a \\fXb\n.ft CB\n\\fXh\n.PP\n\\fX\\f[BI]\\f5i\n.ft\n.ft \\*x\n",
+        ),
     ),
     // UTF-16, either byte of a unit first: a pair, a half of one, half a unit.
     (
@@ -72,7 +99,7 @@ static TEXTS: [(&str, Page<'static>); 21] = [
     ("cut", Page::Cut(b"a\\~b\n.BR c\\(l")),
 ];
 
-static ROWS: [Row; 29] = [
+static ROWS: [Row; 36] = [
     Row {
         words: &[b"preconv"],
         output: b"cafe\n",
@@ -162,6 +189,55 @@ static ROWS: [Row; 29] = [
     Row {
         words: &[b"preconv", b"blanks"],
         output: b"\\fB\\& \\fIa b\n.RB \"\\& a\" \" b\"\n\\fBa b\n.TS\n\\fB a\n.TE\n",
+        status: 0,
+        line: b"",
+    },
+    // A row of a table that begins with `\.` is no control line.
+    Row {
+        words: &[b"preconv", b"rows"],
+        output: b".TH x\n.TS\nl.\n\\.a\n.TE\n.B a\n",
+        status: 0,
+        line: b"",
+    },
+    // No line is broken after a hyphen of a tag or an address, nor after an en dash.
+    Row {
+        words: &[b"preconv", b"whole"],
+        output: b".TH x\n.TP\na\\-b \\-c\nd-e\n.IP [\\-\\-a\\-b] -4\n.UR a\\-b\n.UE c-d\n.B \"\\-a\\\\-b\"\na\\-\\-b\n",
+        status: 0,
+        line: b"",
+    },
+    // Text that begins with a blank stands below its tag.
+    Row {
+        words: &[b"preconv", b"begun"],
+        output: b".TH x\n.TP\na\n.br\n b\n.IP a\n.br\n  b\n c\n",
+        status: 0,
+        line: b"",
+    },
+    // Of characters over one another the last is shown.
+    Row {
+        words: &[b"preconv", b"over"],
+        output: b"aeb\\(bud\n",
+        status: 0,
+        line: b"",
+    },
+    // Bytes are translated where they are printed. Carriage returns are dropped.
+    Row {
+        words: &[b"preconv", b"translated"],
+        output: b".tr %.Q\"~\n\\&.a \\(dq\\ \n.B \\&.b \\&.\\%\n.tr QQ\nQ <Omega>\n.tr \\(*W-%%\n% \\-\n.PP\n.ds %\n",
+        status: 0,
+        line: b"",
+    },
+    // A sentence that ends in a bracket or a quote, but before a line that breaks, and in no definition or table.
+    Row {
+        words: &[b"preconv", b"sentences"],
+        output: b"(a.)\nb\n.TH x\n(a.)\\*(.\\n(.u\nb.\n\"c?\"\\*(.\\n(.u\n.B d\n[e!]\n f\n(g.)\n\n.de h\n(i.)\n..\n.TS\nl.\n(j.)\nk\n.TE\n(l.)\\*(.\\n(.u\ne (m.)\n",
+        status: 0,
+        line: b"",
+    },
+    // A name that is no font keeps the font, and counts as a change.
+    Row {
+        words: &[b"preconv", b"faces"],
+        output: b".TH x\n\\fBa\\fBb\\fBc\\fPd\\fR\\fRe\n\\fIf\\fP\n.ft R\ng\n.ft P\n.B a \\fBb\\fP\n.BR a \\fRb\n.ft B\n\\fBh\n.PP\n\\fR\\fI\\fRi\n.ft\n.ft \\*x\n",
         status: 0,
         line: b"",
     },

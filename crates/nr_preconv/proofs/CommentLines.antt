@@ -4,7 +4,7 @@ use Rattle.std.proofs.Common.{◌≡◌, ℕ, List, [], ◌∷◌, take, Bool, t
 use Rattle.nr_preconv.specs.declared.half.Half.{Half}
 use Rattle.nr_preconv.specs.declared.half.Line.TheVariants as lines
 use Rattle.nr_preconv.specs.declared.half.Before.TheVariants.{Character}
-use Rattle.nr_preconv.specs.declared.half.Mark.TheVariants.{Other}
+use Rattle.nr_preconv.specs.declared.half.Mark.TheVariants.{Stop, Other}
 use Rattle.nr_preconv.specs.declared.half.Escape.TheVariants as escapes
 use Rattle.nr_preconv.specs.declared.half.Coming.TheVariants as comings
 use Rattle.nr_preconv.specs.declared.said.Said.TheVariants as says
@@ -25,22 +25,22 @@ use Rattle.nr_preconv.proofs.Names.{after_dot, dot_read}
 -- ---- after the dot, and after the backslash
 
 behind_blanks : Half → Half
-behind_blanks h = record (placed Other h) { conditional = false; name = []; line = lines.Request }
+behind_blanks h = record (placed Stop h) { conditional = false; name = []; line = lines.Request }
 
 escaped : Half → Half
-escaped h = record (placed Other h) { conditional = false; name = []; line = lines.Request; escape = escapes.Begun; kept = code "\\" ∷ []; spelled = [] }
+escaped h = record (placed Stop h) { conditional = false; name = []; line = lines.Request; escape = escapes.Begun; kept = code "\\" ∷ []; spelled = [] }
 
 blanks_met : (h : Half) → is_plain h.escape ≡ true → meet (comings.Byte (code "\\")) (after_dot h) ≡ left (says.Kept []) (behind_blanks h)
 unfolding after_dot behind_blanks
 blanks_met h plain =
-    let k = record (placed Other h) { conditional = false; name = []; line = lines.Control } in
-    ap (λ (x : Bool). if x then plain_byte (code "\\") k else in_escape (code "\\") k) (placed_escape Other h ∙ plain)
+    let k = record (placed Stop h) { conditional = false; name = []; line = lines.Control } in
+    ap (λ (x : Bool). if x then plain_byte (code "\\") k else in_escape (code "\\") k) (placed_escape Stop h ∙ plain)
 
 backslash_met : (h : Half) → is_plain h.escape ≡ true → meet (comings.Byte (code "\\")) (behind_blanks h) ≡ taken says.Nothing (escaped h)
 unfolding behind_blanks escaped
 backslash_met h plain =
-    let k = record (placed Other h) { conditional = false; name = []; line = lines.Request } in
-    ap (λ (x : Bool). if x then plain_byte (code "\\") k else in_escape (code "\\") k) (placed_escape Other h ∙ plain)
+    let k = record (placed Stop h) { conditional = false; name = []; line = lines.Request } in
+    ap (λ (x : Bool). if x then plain_byte (code "\\") k else in_escape (code "\\") k) (placed_escape Stop h ∙ plain)
 
 backslash_heard : (r : Reader) → is_plain r.half.escape ≡ true → heard (comings.Byte (code "\\")) (with_half (after_dot r.half) r) ≡ told (with_half (escaped r.half) r) [] 2
 unfolding heard
@@ -52,12 +52,12 @@ backslash_heard r plain =
 backslash_read : (r : Reader) → r.pending ≡ Nothing → is_plain r.half.escape ≡ true → read (code "\\") (with_half (after_dot r.half) r) ≡ told (with_half (escaped r.half) r) [] 2
 unfolding after_dot
 backslash_read r none plain =
-    let s = with_half (record (placed Other r.half) { conditional = false; name = []; line = lines.Control }) r in
+    let s = with_half (record (placed Stop r.half) { conditional = false; name = []; line = lines.Control }) r in
     nothing_pending (code "\\") s none ∙ backslash_heard r plain
 
 -- ---- after the quote
 
-comment_by : (m : Bool) (h : Half) → record (without_escape (record (placed_as m Other h) { conditional = false; name = []; line = lines.Request; escape = escapes.Begun; kept = code "\\" ∷ []; spelled = [] })) { before = Character Other; line = lines.Comment } ≡ behind_comment h
+comment_by : (m : Bool) (h : Half) → record (without_escape (record (placed_as m Stop h) { conditional = false; name = []; line = lines.Request; escape = escapes.Begun; kept = code "\\" ∷ []; spelled = [] })) { before = Character Other; line = lines.Comment } ≡ behind_comment h
 comment_by true h = refl
 comment_by false h = refl
 

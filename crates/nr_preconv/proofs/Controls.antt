@@ -10,11 +10,11 @@ use Rattle.nr_preconv.specs.declared.said.Said.TheVariants as says
 use Rattle.nr_preconv.specs.declared.beginnings.Opens.{Opens}
 use Rattle.nr_preconv.specs.declared.beginnings.Opens.TheVariants as opens
 use Rattle.nr_preconv.specs.declared.half.Half.{Half}
-use Rattle.nr_preconv.specs.declared.half.Mark.TheVariants.{Other}
+use Rattle.nr_preconv.specs.declared.half.Mark.TheVariants.{Stop}
 use Rattle.nr_preconv.specs.declared.half.Coming.TheVariants as comings
 use Rattle.nr_preconv.specs.declared.reader.Reader.{Reader}
 use Rattle.nr_preconv.specs.declared.reader.Pending.TheVariants.{Nothing}
-use Rattle.nr_preconv.specs.Half.{Met, taken, is_plain}
+use Rattle.nr_preconv.specs.Half.{Met, taken, is_plain, is_open}
 use Rattle.nr_preconv.specs.Beginnings.{opened, said_name, goes_out}
 use Rattle.nr_preconv.specs.Saying.{all_sent, bytes_of}
 use Rattle.nr_preconv.specs.Escapes.{in_escape}
@@ -24,7 +24,7 @@ use Rattle.nr_preconv.specs.Reading.{Told, told, behind, then_told, heard, heard
 use Rattle.nr_preconv.specs.Runs.{goes_on_name, dotted_len, is_start, name_len, behind_name, behind_control, is_end}
 use Rattle.nr_preconv.proofs.Plain.{is_not, nothing_pending, heard_as_is}
 use Rattle.nr_preconv.proofs.Reading.{fed-append}
-use Rattle.nr_preconv.proofs.AtOnce.{placed_escape}
+use Rattle.nr_preconv.proofs.AtOnce.{placed_escape, placed_open}
 use Rattle.nr_preconv.proofs.PlainEscapes.{is_one}
 use Rattle.nr_preconv.proofs.Names.{is_ascii, dotted_is, dotted_value, both_first, both_value, name_fed}
 use Rattle.nr_preconv.proofs.Sent.{sent_is, ascii-goes}
@@ -60,6 +60,8 @@ blank_goes : (o : Opens) (len : ℕ) (x : Bool) (h : Half) → goes_out o len �
 blank_goes opens.Condition len x h p = absurd (let no : false ≡ true = p in cc)
 blank_goes opens.Else len x h p = absurd (let no : false ≡ true = p in cc)
 blank_goes opens.Nop len x h p = absurd (let no : false ≡ true = p in cc)
+blank_goes opens.Translation len x h p = absurd (let no : false ≡ true = p in cc)
+blank_goes opens.Face len x h p = absurd (let no : false ≡ true = p in cc)
 blank_goes opens.Ignored len x h p = absurd (let no : false ≡ true = p in cc)
 blank_goes o len x h p = refl
 
@@ -67,6 +69,8 @@ newline_goes : (o : Opens) (len : ℕ) (x : Bool) (h : Half) → goes_out o len 
 newline_goes opens.Condition len x h p = absurd (let no : false ≡ true = p in cc)
 newline_goes opens.Else len x h p = absurd (let no : false ≡ true = p in cc)
 newline_goes opens.Nop len x h p = absurd (let no : false ≡ true = p in cc)
+newline_goes opens.Translation len x h p = absurd (let no : false ≡ true = p in cc)
+newline_goes opens.Face len x h p = absurd (let no : false ≡ true = p in cc)
 newline_goes opens.Ignored len x h p = absurd (let no : false ≡ true = p in cc)
 newline_goes o len x h p = refl
 
@@ -87,7 +91,7 @@ end_met : (b : ℕ) (name : List ℕ) (h : Half) → (b == code "\\") ≡ false 
     → meet (comings.Byte b) (behind_name name h) ≡ named_line b (behind_name name h)
 end_met b name h back ends plain =
     let k = behind_name name h in
-    ap (λ (x : Bool). if x then plain_byte b k else in_escape b k) (placed_escape Other h ∙ plain)
+    ap (λ (x : Bool). if x then plain_byte b k else in_escape b k) (placed_escape Stop h ∙ plain)
     ∙ ap (λ (x : Bool). if x && false then beginning k else in_line b k) back
     ∙ ap (λ (x : Bool). if x || is_full name then named_line b k else taken says.Nothing (record k { name = name ++ b ∷ [] })) ends
 
@@ -104,27 +108,27 @@ end_heard b name r back ends plain goes sends is =
     ∙ ap (λ (k : Half). behind name 1 (heard_in 5 c (with_half k r))) (opening_same o b name r.half)
     ∙ ap (behind name 1) (heard_as_is 5 b (with_half h r) (omega arith) is)
 
-blank_ends : (name : List ℕ) (r : Reader) → r.pending ≡ Nothing → is_plain r.half.escape ≡ true → goes_out (opened name) (length name) ≡ true
+blank_ends : (name : List ℕ) (r : Reader) → r.pending ≡ Nothing → is_plain r.half.escape ≡ true → is_open r.half ≡ true → goes_out (opened name) (length name) ≡ true
     → all_sent r.table name ≡ name → Ends (code " ") name r
 unfolding Ends
-blank_ends name r none plain goes sends =
+blank_ends name r none plain free goes sends =
     let s = with_half (behind_name name r.half) r in
     let o = opened name in
     let h = opening o (code " ") (behind_name [] r.half) in
     nothing_pending (code " ") s none
     ∙ end_heard (code " ") name r refl refl plain goes sends
-    (ap (λ (x : Bool). x && is_as_is_at h.line (code " ") h) (placed_escape Other r.half ∙ plain) ∙ blank_goes o (length name) false h goes)
+    (ap (λ (x : Bool). x && is_as_is_at h.line (code " ") h) (placed_open Stop r.half ∙ free) ∙ blank_goes o (length name) false h goes)
 
-newline_ends : (name : List ℕ) (r : Reader) → r.pending ≡ Nothing → is_plain r.half.escape ≡ true → goes_out (opened name) (length name) ≡ true
+newline_ends : (name : List ℕ) (r : Reader) → r.pending ≡ Nothing → is_plain r.half.escape ≡ true → is_open r.half ≡ true → goes_out (opened name) (length name) ≡ true
     → all_sent r.table name ≡ name → Ends (code "\n") name r
 unfolding Ends
-newline_ends name r none plain goes sends =
+newline_ends name r none plain free goes sends =
     let s = with_half (behind_name name r.half) r in
     let o = opened name in
     let h = opening o (code "\n") (behind_name [] r.half) in
     nothing_pending (code "\n") s none
     ∙ end_heard (code "\n") name r refl refl plain goes sends
-    (ap (λ (x : Bool). x && is_as_is_at h.line (code "\n") h) (placed_escape Other r.half ∙ plain) ∙ newline_goes o (length name) true h goes)
+    (ap (λ (x : Bool). x && is_as_is_at h.line (code "\n") h) (placed_open Stop r.half ∙ free) ∙ newline_goes o (length name) true h goes)
 
 by_end : (P : ℕ → Type 0) → P (code " ") → P (code "\n") → (b : ℕ) (x y : Bool) → (b == code " ") ≡ x → (b == code "\n") ≡ y → (x || y) ≡ true → P b
 by_end P p q b true y e f is = subst P (sym (is_one b (code " ") e)) p
@@ -154,10 +158,10 @@ dotted n (dot ∷ first ∷ more) is some =
       (let l : min (prefix_len goes_on_name bs) capacity ≤ prefix_len goes_on_name bs = omega arith in omega (arith, value)),
     )
 
-pub control_fed : (n : ℕ) (bs : List ℕ) (r : Reader) (b : ℕ) → r.pending ≡ Nothing → n ≡ name_len bs r.half → 0 < n → n + 1 < length bs → b ≡ get_or bs (n + 1) 0
+pub control_fed : (n : ℕ) (bs : List ℕ) (r : Reader) (b : ℕ) → r.pending ≡ Nothing → is_open r.half ≡ true → n ≡ name_len bs r.half → 0 < n → n + 1 < length bs → b ≡ get_or bs (n + 1) 0
     → is_end b ≡ true → goes_out (opened (take n (drop 1 bs))) n ≡ true
     → fed r (take (n + 2) bs) ≡ told (with_half (behind_control (opened (take n (drop 1 bs))) b r.half) r) (take (n + 2) bs) (n + 3)
-control_fed n bs r b none is some more last ends goes =
+control_fed n bs r b none free is some more last ends goes =
     let x = is_plain r.half.escape in
     let y = is_start r.half.line in
     let k = dotted_len bs in
@@ -169,7 +173,7 @@ control_fed n bs r b none is some more last ends goes =
     let len : length name ≡ n = (let l = length-take n (drop 1 bs) in omega (arith, l, within)) in
     let all : goes_out (opened name) (length name) ≡ true = ap (λ (m : ℕ). goes_out (opened name) m) len ∙ goes in
     let sends = name_sent r.table n (drop 1 bs) front.1 in
-    let end : Ends b name r = by_end (λ (c : ℕ). Ends c name r) (blank_ends name r none parts.0 all sends) (newline_ends name r none parts.0 all sends)
+    let end : Ends b name r = by_end (λ (c : ℕ). Ends c name r) (blank_ends name r none parts.0 free all sends) (newline_ends name r none parts.0 free all sends)
     b (b == code " ") (b == code "\n") refl refl ends in
     let whole : take (n + 2) bs ≡ take (n + 1) bs ++ b ∷ [] =
     ap (λ (m : ℕ). take m bs) (let e : n + 2 ≡ n + 1 + 1 = omega arith in e) ∙ take_more bs (n + 1) 0 more ∙ ap (λ (c : ℕ). take (n + 1) bs ++ c ∷ []) (sym last) in

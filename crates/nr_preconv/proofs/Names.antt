@@ -7,7 +7,7 @@ use Rattle.std.proofs.lemmas.List.{length-take, take_more}
 use Rattle.std.proofs.lemmas.List.Sums.{prefix_len_passes, prefix_len-le-length}
 use Rattle.nr_units.specs.Name.{capacity, is_full}
 use Rattle.nr_preconv.specs.declared.half.Half.{Half}
-use Rattle.nr_preconv.specs.declared.half.Mark.TheVariants.{Other}
+use Rattle.nr_preconv.specs.declared.half.Mark.TheVariants.{Stop}
 use Rattle.nr_preconv.specs.declared.half.Line.{Line}
 use Rattle.nr_preconv.specs.declared.half.Line.TheVariants as lines
 use Rattle.nr_preconv.specs.declared.half.Coming.TheVariants as comings
@@ -44,10 +44,10 @@ no_gap b p = grind (arith, nat_tests)
 -- ---- after the dot, and in the name
 
 unfoldable pub after_dot : Half → Half
-after_dot h = record (placed Other h) { conditional = false; name = []; line = lines.Control }
+after_dot h = record (placed Stop h) { conditional = false; name = []; line = lines.Control }
 
 dot_by : (m : Bool) (h : Half)
-    → record (placed_as m Other (record h { name = []; conditional = false })) { line = lines.Control } ≡ record (placed_as m Other h) { conditional = false; name = []; line = lines.Control }
+    → record (placed_as m Stop (record h { name = []; conditional = false })) { line = lines.Control } ≡ record (placed_as m Stop h) { conditional = false; name = []; line = lines.Control }
 dot_by true h = refl
 dot_by false h = refl
 
@@ -62,8 +62,8 @@ first_met : (b : ℕ) (h : Half) → is_plain h.escape ≡ true → goes_on_name
     → meet (comings.Byte b) (after_dot h) ≡ taken says.Nothing (behind_name (b ∷ []) h)
 unfolding after_dot
 first_met b h plain goes other =
-    let k = record (placed Other h) { conditional = false; name = []; line = lines.Control } in
-    ap (λ (x : Bool). if x then plain_byte b k else in_escape b k) (placed_escape Other h ∙ plain)
+    let k = record (placed Stop h) { conditional = false; name = []; line = lines.Control } in
+    ap (λ (x : Bool). if x then plain_byte b k else in_escape b k) (placed_escape Stop h ∙ plain)
     ∙ ap (λ (x : Bool). if x && false then beginning k else in_line b k) (no_backslash b goes)
     ∙ ap (λ (x : Bool). if x && k.defining then naming (code "." ∷ []) lines.Name k else
     (if is_gap b && not (is_full k.name) then naming (k.name ++ b ∷ []) lines.Control k else
@@ -80,7 +80,7 @@ next_met : (b : ℕ) (name : List ℕ) (h : Half) → is_plain h.escape ≡ true
     → meet (comings.Byte b) (behind_name name h) ≡ taken says.Nothing (behind_name (name ++ b ∷ []) h)
 next_met b name h plain goes few =
     let k = behind_name name h in
-    ap (λ (x : Bool). if x then plain_byte b k else in_escape b k) (placed_escape Other h ∙ plain)
+    ap (λ (x : Bool). if x then plain_byte b k else in_escape b k) (placed_escape Stop h ∙ plain)
     ∙ ap (λ (x : Bool). if x && false then beginning k else in_line b k) (no_backslash b goes)
     ∙ ap (λ (x : Bool). if x || is_full name then named_line b k else taken says.Nothing (record k { name = name ++ b ∷ [] })) (no_end b goes)
     ∙ ap (λ (x : Bool). if x then named_line b k else taken says.Nothing (record k { name = name ++ b ∷ [] })) (not_full name few)

@@ -15,7 +15,7 @@ use Rattle.nr_preconv.specs.declared.said.Said.TheVariants as says
 use Rattle.nr_preconv.specs.declared.words.Words.{Words}
 use Rattle.nr_preconv.specs.declared.words.Told.{Told as WordsTold}
 use Rattle.nr_preconv.specs.declared.words.Fonts.{Fonts}
-use Rattle.nr_preconv.specs.declared.words.Fonts.TheVariants.{One, Turn, Tag}
+use Rattle.nr_preconv.specs.declared.words.Fonts.TheVariants.{One, Same, Turn, Tag}
 use Rattle.nr_preconv.specs.declared.words.Place.{Place}
 use Rattle.nr_preconv.specs.declared.words.Place.TheVariants.{Between, Inside, Quoted}
 use Rattle.nr_preconv.specs.declared.words.Class.{Class}
@@ -23,14 +23,15 @@ use Rattle.nr_preconv.specs.declared.words.Class.TheVariants.{Space, Quote, Othe
 use Rattle.nr_preconv.specs.declared.reader.Reader.{Reader}
 use Rattle.nr_preconv.specs.declared.reader.Pending.{Pending}
 use Rattle.nr_preconv.specs.declared.reader.Pending.TheVariants as pendings
-use Rattle.nr_preconv.specs.Half.{Met, taken, left, next_line, is_plain}
-use Rattle.nr_preconv.specs.Hyphens.{mark_of, followed, gone_by, saying, hyphen, turns_hyphens, in_text}
+use Rattle.nr_preconv.specs.Half.{Met, taken, left, next_line, is_plain, is_open}
+use Rattle.nr_preconv.specs.Translations.{translated}
+use Rattle.nr_preconv.specs.Hyphens.{mark_of, followed, gone_by, saying, hyphen, turns_hyphens, carriage_return, is_moved, moved, closes, newline_held, in_text}
 use Rattle.nr_preconv.specs.Words.{goes_on_at, goes_on_with, goes_on_with_space, spaced_at, behind_space, begins_word, is_ninth, class_of, words_at, blank_by, met_at}
 use Rattle.nr_preconv.specs.Words.{is_as_is as word_as_is, taken_as_is as word_taken}
 use Rattle.nr_preconv.specs.Saying.{bytes_of, sent}
 use Rattle.nr_preconv.specs.Escapes.{in_escape}
-use Rattle.nr_preconv.specs.Lines.{is_control, control, as_met, among_words, follows_tag, begins_apart, breaking, at_start, behind_fonts, in_words, in_rest, in_line_at, in_line, takes_escape, passing}
-use Rattle.nr_preconv.specs.Meeting.{meet, plain_byte, beginning, is_raw, is_as_is_at, is_as_is, line_taken, taken_as_is}
+use Rattle.nr_preconv.specs.Lines.{is_control, control, as_met, among_words, follows_tag, begins_apart, breaking, at_start, behind_fonts, word_moved, in_words, in_rest, in_line_at, in_line, takes_escape, passing}
+use Rattle.nr_preconv.specs.Meeting.{meet, plain_byte, beginning, is_raw, may_pass, is_text_as_is, is_as_is_at, is_as_is, line_taken, taken_as_is}
 use Rattle.nr_preconv.specs.Reading.{Told, told, behind, then_told, heard, heard_in, with_half, pending_with, strays, fresh, heard_behind, heard_byte, read, fed, is_lead, stray}
 use Rattle.nr_preconv.specs.Passing.{Passes}
 use Rattle.nr_preconv.proofs.Reading.{behind-none, fed-append}
@@ -54,18 +55,35 @@ not_both : (x y : Bool) → (not x || not y) ≡ true → (x && y) ≡ false
 not_both false y p = refl
 not_both true y p = is_not y p
 
+-- it is neither dropped nor translated
+pub not_moved_by : (x y z : Bool) → x ≡ false → y ≡ false → (x || (y && z)) ≡ false
+not_moved_by true y z p q = absurd (let no : true ≡ false = p in cc)
+not_moved_by false true z p q = absurd (let no : true ≡ false = q in cc)
+not_moved_by false false z p q = refl
+
+pub stays : (b : ℕ) (h : Half) → (b == carriage_return) ≡ false → h.translating ≡ false → is_moved b h ≡ false
+stays b h p q = not_moved_by (b == carriage_return) h.translating (not (translated b h.translations == 0)) p q
+
 -- a byte goes out as it is, and the line goes on so
 goes : ℕ → Line → Half → Met
 goes b line h = taken (says.Byte b) (record (gone_by b h) { line = line })
 
-text_by : (x y : Bool) (b : ℕ) (h : Half) (m : Met) → y ≡ false
-    → (if x then saying b lines.Start h else (if y then m else saying b lines.Text h)) ≡ goes b (if x then lines.Start else lines.Text) h
+text_by : (x y z : Bool) (b : ℕ) (h : Half) (m n : Met) → y ≡ false → (not z || not x) ≡ true
+    → (if x then (if z then n else saying b lines.Start h) else (if y then m else saying b lines.Text h)) ≡ goes b (if x then lines.Start else lines.Text) h
 unfolding goes
-text_by true y b h m p = refl
-text_by false y b h m p = ap (λ (z : Bool). if z then m else saying b lines.Text h) p
+text_by true y true b h m n p q = absurd (let no : false ≡ true = q in cc)
+text_by true y false b h m n p q = refl
+text_by false y z b h m n p q = ap (λ (w : Bool). if w then m else saying b lines.Text h) p
 
-text_met : (b : ℕ) (h : Half) → (not (turns_hyphens h) || not (b == code "-")) ≡ true → in_text b h ≡ goes b (if b == code "\n" then lines.Start else lines.Text) h
-text_met b h p = text_by (b == code "\n") (turns_hyphens h && (b == code "-")) b h (hyphen lines.Text h) (not_both (turns_hyphens h) (b == code "-") p)
+text_met : (b : ℕ) (h : Half) → is_moved b h ≡ false → is_text_as_is b h ≡ true → in_text b h ≡ goes b (if b == code "\n" then lines.Start else lines.Text) h
+text_met b h still p =
+    let whole = not (turns_hyphens h) || not (b == code "-") in
+    let free = not (closes h) || not (b == code "\n") in
+    ap (λ (x : Bool). if x then moved b h else
+    (if b == code "\n" then (if closes h then newline_held h else saying b lines.Start h) else
+    (if turns_hyphens h && (b == code "-") then hyphen lines.Text h else saying b lines.Text h))) still
+    ∙ text_by (b == code "\n") (turns_hyphens h && (b == code "-")) (closes h) b h (hyphen lines.Text h) (newline_held h)
+    (not_both (turns_hyphens h) (b == code "-") (and-first whole free p)) (and-second whole free p)
 
 start_by : (x y z : Bool) (b : ℕ) (h : Half) (m n : Met) → y ≡ false → z ≡ false → in_text b h ≡ goes b (if x then lines.Start else lines.Text) h
     → (if y then m else (if z then n else (if x then saying b lines.Start h else in_text b h))) ≡ goes b (if x then lines.Start else lines.Text) h
@@ -75,25 +93,25 @@ start_by x false true b h m n p r q = absurd (let no : true ≡ false = r in cc)
 start_by true false false b h m n p r q = refl
 start_by false false false b h m n p r q = q
 
-start_met : (b : ℕ) (h : Half)
-    → (not (is_control b) && (not (turns_hyphens h) || not (b == code "-")) && not (follows_tag h && begins_apart b)) ≡ true
+start_met : (b : ℕ) (h : Half) → is_moved b h ≡ false
+    → (not (is_control b) && is_text_as_is b h && not (follows_tag h && begins_apart b)) ≡ true
     → at_start b h ≡ goes b (if b == code "\n" then lines.Start else lines.Text) h
-start_met b h p =
+start_met b h still p =
     let plain = not (is_control b) in
-    let whole = not (turns_hyphens h) || not (b == code "-") in
+    let whole = is_text_as_is b h in
     let behind = follows_tag h && begins_apart b in
     let two = and-first (plain && whole) (not behind) p in
     start_by (b == code "\n") (is_control b) behind b h (control false b h) (breaking b h)
-    (is_not (is_control b) (and-first plain whole two)) (is_not behind (and-second (plain && whole) (not behind) p)) (text_met b h (and-second plain whole two))
+    (is_not (is_control b) (and-first plain whole two)) (is_not behind (and-second (plain && whole) (not behind) p)) (text_met b h still (and-second plain whole two))
 
-fonts_met : (b : ℕ) (h : Half) → (not (b == code " ") && (not (turns_hyphens h) || not (b == code "-"))) ≡ true
+fonts_met : (b : ℕ) (h : Half) → is_moved b h ≡ false → (not (b == code " ") && is_text_as_is b h) ≡ true
     → behind_fonts b h ≡ goes b (if b == code "\n" then lines.Start else lines.Text) h
-fonts_met b h p =
+fonts_met b h still p =
     let blank = not (b == code " ") in
-    let whole = not (turns_hyphens h) || not (b == code "-") in
+    let whole = is_text_as_is b h in
     ap (λ (x : Bool). if x && not h.table then left (says.Escape (code "&")) (record h { line = lines.Text }) else in_text b h)
     (is_not (b == code " ") (and-first blank whole p))
-    ∙ text_met b h (and-second blank whole p)
+    ∙ text_met b h still (and-second blank whole p)
 
 -- ---- among words
 
@@ -106,6 +124,7 @@ words_told place class said w p = absurd (let no : false ≡ true = p in cc)
 
 blank_kept : (fonts : Fonts) (said : Said) → blank_by fonts false said ≡ said
 blank_kept One said = refl
+blank_kept (Same a) said = refl
 blank_kept (Turn a b) said = refl
 blank_kept Tag said = refl
 
@@ -159,9 +178,13 @@ words_by true b w h e p =
 words_by false b w h e p =
     ap (λ (t : WordsTold). as_met t (gone_by b h)) (word_by (b == code " ") b w refl p)
 
-words_met : (w : Words) (b : ℕ) (h : Half) → word_as_is b w ≡ true → in_words w b h ≡ goes b (line_taken (lines.Words w) b) h
-words_met w b h p =
-    ap (λ (x : Bool). if x && turns_hyphens h && not (begins_word w) then hyphen (lines.Words w) h else
+words_met : (w : Words) (b : ℕ) (h : Half) → is_moved b h ≡ false → word_as_is b w ≡ true → in_words w b h ≡ goes b (line_taken (lines.Words w) b) h
+words_met w b h still p =
+    ap (λ (x : Bool). if x then word_moved w b h else
+    (if (b == code "-") && turns_hyphens h && not (begins_word w) then hyphen (lines.Words w) h else
+    (if not (b == code "\n") then among_words w (class_of b) (says.Byte b) (gone_by b h) else
+    (if is_ninth w then left (says.Byte (code "\"")) (record h { line = lines.Request }) else saying b lines.Start h)))) still
+    ∙ ap (λ (x : Bool). if x && turns_hyphens h && not (begins_word w) then hyphen (lines.Words w) h else
     if not (b == code "\n") then among_words w (class_of b) (says.Byte b) (gone_by b h) else
     if is_ninth w then left (says.Byte (code "\"")) (record h { line = lines.Request }) else saying b lines.Start h)
     (no_hyphen_by (b == code "\n") (b == code " ") b w refl refl p)
@@ -169,19 +192,21 @@ words_met w b h p =
 
 -- ---- by where the line is read
 
-rest_met : (l : Line) (b : ℕ) (h : Half) → h.line ≡ l → in_rest b h ≡ goes b (if b == code "\n" then lines.Start else l) h
+rest_met : (l : Line) (b : ℕ) (h : Half) → h.line ≡ l → (b == carriage_return) ≡ false → in_rest b h ≡ goes b (if b == code "\n" then lines.Start else l) h
 unfolding goes
-rest_met l b h e = ap (λ (m : Line). saying b (if b == code "\n" then lines.Start else m) h) e
+rest_met l b h e back =
+    ap (λ (x : Bool). if x then taken says.Nothing h else saying b (if b == code "\n" then lines.Start else h.line) h) back
+    ∙ ap (λ (m : Line). saying b (if b == code "\n" then lines.Start else m) h) e
 
-line_met : (line : Line) (b : ℕ) (h : Half) → h.line ≡ line → is_as_is_at line b h ≡ true → in_line_at line b h ≡ goes b (line_taken line b) h
-line_met lines.Request b h e p = rest_met lines.Request b h e
-line_met lines.Stored b h e p = rest_met lines.Stored b h e
-line_met lines.Translation b h e p = rest_met lines.Translation b h e
-line_met lines.Fonts b h e p = fonts_met b h p
-line_met lines.Text b h e p = text_met b h p
-line_met lines.Start b h e p = start_met b h p
-line_met (lines.Words words) b h e p = words_met words b h p
-line_met line b h e p = absurd (let no : false ≡ true = p in cc)
+line_met : (line : Line) (b : ℕ) (h : Half) → h.line ≡ line → (b == carriage_return) ≡ false → is_moved b h ≡ false → is_as_is_at line b h ≡ true
+    → in_line_at line b h ≡ goes b (line_taken line b) h
+line_met lines.Request b h e back still p = rest_met lines.Request b h e back
+line_met lines.Stored b h e back still p = rest_met lines.Stored b h e back
+line_met lines.Fonts b h e back still p = fonts_met b h still p
+line_met lines.Text b h e back still p = text_met b h still p
+line_met lines.Start b h e back still p = start_met b h still p
+line_met (lines.Words words) b h e back still p = words_met words b h still p
+line_met line b h e back still p = absurd (let no : false ≡ true = p in cc)
 
 -- ---- what is half read then
 
@@ -202,23 +227,29 @@ goes_is b h = ap (taken (says.Byte b)) (gone_line (b == code "\n") h.manual b h 
 
 pub as_is_meets : (b : ℕ) (h : Half) → is_as_is b h ≡ true → meet (comings.Byte b) h ≡ taken (says.Byte b) (taken_as_is b h)
 as_is_meets b h p =
-    let ascii = nat_lt b 127 in
+    let passes = may_pass b in
     let back = not (b == code "\\") in
-    let plain = is_plain h.escape in
+    let free = is_open h in
     let at = is_as_is_at h.line b h in
-    let three = and-first (ascii && back && plain) at p in
-    ap (λ (x : Bool). if x then plain_byte b h else in_escape b h) (and-second (ascii && back) plain three)
+    let plain = is_plain h.escape in
+    let three = and-first (passes && back && free) at p in
+    let both = and-first (passes && back) free three in
+    let clear = and-second (passes && back) free three in
+    let no_return = is_not (b == carriage_return) (and-second (nat_lt b 127) (not (b == carriage_return)) (and-first passes back both)) in
+    let still = stays b h no_return (is_not h.translating (and-second plain (not h.translating) clear)) in
+    ap (λ (x : Bool). if x then plain_byte b h else in_escape b h) (and-first plain (not h.translating) clear)
     ∙ ap (λ (x : Bool). if x && takes_escape h.line then beginning h else in_line b h)
-    (is_not (b == code "\\") (and-second ascii back (and-first (ascii && back) plain three)))
-    ∙ line_met h.line b h refl (and-second (ascii && back && plain) at p)
+    (is_not (b == code "\\") (and-second passes back both))
+    ∙ line_met h.line b h refl no_return still (and-second (passes && back && free) at p)
     ∙ goes_is b h
 
 pub as_is_ascii : (b : ℕ) (h : Half) → is_as_is b h ≡ true → nat_lt b 127 ≡ true
 as_is_ascii b h p =
-    let ascii = nat_lt b 127 in
+    let passes = may_pass b in
     let back = not (b == code "\\") in
-    let plain = is_plain h.escape in
-    and-first ascii back (and-first (ascii && back) plain (and-first (ascii && back && plain) (is_as_is_at h.line b h) p))
+    let free = is_open h in
+    and-first (nat_lt b 127) (not (b == carriage_return))
+    (and-first passes back (and-first (passes && back) free (and-first (passes && back && free) (is_as_is_at h.line b h) p)))
 
 pub heard_byte_taken : (b : ℕ) (r : Reader) (h : Half) → nat_lt b 127 ≡ true → meet (comings.Byte b) r.half ≡ taken (says.Byte b) h
     → heard (comings.Byte b) r ≡ told (with_half h r) (b ∷ []) 1

@@ -1,6 +1,6 @@
 -- Escapes that go out as they are: those of two bytes, and fonts.
 use Prim.Native.Char.{code}
-use Rattle.std.proofs.Common.{◌≡◌, ℕ, List, [], ◌∷◌, ◌++◌, Bool, true, false, ◌==◌, ◌&&◌, ◌||◌, nat_lt, if◌then◌else◌, refl, sym, ◌∙◌, ap, subst, arith}
+use Rattle.std.proofs.Common.{get_or, ◌≡◌, ℕ, List, [], ◌∷◌, ◌++◌, Bool, true, false, ◌==◌, ◌&&◌, ◌||◌, nat_lt, if◌then◌else◌, refl, sym, ◌∙◌, ap, subst, arith}
 use Rattle.std.proofs.lemmas.Bool.Decides.{nat_tests}
 use Rattle.nr_preconv.specs.declared.half.Half.{Half}
 use Rattle.nr_preconv.specs.declared.half.Mark.TheVariants.{Other}
@@ -160,20 +160,19 @@ kept_fed r b none plain at p =
     ∙ ap (λ (t : Told). behind [] 1 (then_told t (λ s. told s [] 0))) (kept_read r none at b p)
 
 FontRead : Reader → ℕ → Type 0
-FontRead r c = read c (with_half (named r.half) r) ≡ told (with_half (behind_font r.half) r) (code "\\" ∷ code "f" ∷ c ∷ []) 1
+FontRead r c = read c (with_half (named r.half) r) ≡ told (with_half (behind_font c r.half) r) (code "\\" ∷ code "f" ∷ c ∷ []) 1
 
 font_read : (r : Reader) → r.pending ≡ Nothing → takes_plain_at r.half.line ≡ true → (c : ℕ) → is_font c ≡ true → FontRead r c
 unfolding FontRead named
 font_read r none at c p =
     let s = with_half (named r.half) r in
     let cooked = cooked_at r.half.line at in
-    let h = behind_font r.half in
-    by_letter (FontRead r) (meets (code "B") s (says.Font (code "B")) h none cooked refl refl) (meets (code "I") s (says.Font (code "I")) h none cooked refl refl)
-    (meets (code "P") s (says.Font (code "P")) h none cooked refl refl) (meets (code "R") s (says.Font (code "R")) h none cooked refl refl)
+    by_letter (FontRead r) (meets (code "B") s (says.Font (code "B")) (behind_font (code "B") r.half) none cooked refl refl) (meets (code "I") s (says.Font (code "I")) (behind_font (code "I") r.half) none cooked refl refl)
+    (meets (code "P") s (says.Font (code "P")) (behind_font (code "P") r.half) none cooked refl refl) (meets (code "R") s (says.Font (code "R")) (behind_font (code "R") r.half) none cooked refl refl)
     c (c == code "B") (c == code "I") (c == code "P") (c == code "R") refl refl refl refl p
 
 font_fed : (r : Reader) (c : ℕ) → r.pending ≡ Nothing → is_plain r.half.escape ≡ true → takes_plain_at r.half.line ≡ true → is_font c ≡ true
-    → fed r (code "\\" ∷ code "f" ∷ c ∷ []) ≡ told (with_half (behind_font r.half) r) (code "\\" ∷ code "f" ∷ c ∷ []) 3
+    → fed r (code "\\" ∷ code "f" ∷ c ∷ []) ≡ told (with_half (behind_font c r.half) r) (code "\\" ∷ code "f" ∷ c ∷ []) 3
 unfolding FontRead
 font_fed r c none plain at p =
     ap (λ (t : Told). then_told t (λ s. fed s (code "f" ∷ c ∷ []))) (backslash_read r none plain at)
@@ -202,13 +201,13 @@ kept_passes (a ∷ b ∷ bs) r none may is =
     subst P (sym (is_one a (code "\\") (and-first (a == code "\\") (is_kept b) is))) whole
 
 pub font_passes : (bs : List ℕ) (r : Reader) → r.pending ≡ Nothing → takes_plain_escape r.half ≡ true → begins_font bs ≡ true
-    → Passes 3 bs r (with_half (behind_font r.half) r)
+    → Passes 3 bs r (with_half (behind_font (get_or bs 2 0) r.half) r)
 font_passes [] r none may is = absurd (let no : false ≡ true = is in cc)
 font_passes (a ∷ []) r none may is = absurd (let no : false ≡ true = is in cc)
 font_passes (a ∷ b ∷ []) r none may is = absurd (let no : false ≡ true = is in cc)
 font_passes (a ∷ b ∷ c ∷ bs) r none may is =
     let front = and-first ((a == code "\\") && (b == code "f")) (is_font c) is in
-    let P : ℕ → ℕ → Type 0 = λ x y. fed r (x ∷ y ∷ c ∷ []) ≡ told (with_half (behind_font r.half) r) (x ∷ y ∷ c ∷ []) 3 in
+    let P : ℕ → ℕ → Type 0 = λ x y. fed r (x ∷ y ∷ c ∷ []) ≡ told (with_half (behind_font c r.half) r) (x ∷ y ∷ c ∷ []) 3 in
     let whole : P (code "\\") (code "f") =
     font_fed r c none (plain_first (is_plain r.half.escape) (takes_plain_at r.half.line) may) (plain_second (is_plain r.half.escape) (takes_plain_at r.half.line) may)
     (and-second ((a == code "\\") && (b == code "f")) (is_font c) is) in

@@ -1,6 +1,6 @@
 -- Plain text is what comes of it.
 use Prim.Native.Char.{code}
-use Rattle.std.proofs.Common.{◌≡◌, ℕ, suc, ◌+◌, ◌≤◌, List, [], ◌∷◌, ◌++◌, length, drop, Bool, true, false, not, ◌==◌, ◌&&◌, nat_lt, if◌then◌else◌, Option, refl, sym, ◌∙◌, ap, append-nil, arith}
+use Rattle.std.proofs.Common.{◌≡◌, ℕ, suc, ◌+◌, ◌≤◌, List, [], ◌∷◌, ◌++◌, length, drop, Bool, true, false, not, ◌==◌, ◌&&◌, ◌||◌, nat_lt, if◌then◌else◌, Option, refl, sym, ◌∙◌, ap, append-nil, arith}
 use Rattle.std.proofs.lemmas.List.{drop_all}
 use Rattle.nr_characters.specs.declared.table.Table.{Table}
 use Rattle.nr_preconv.specs.declared.half.Half.{Half}
@@ -13,9 +13,9 @@ use Rattle.nr_preconv.specs.declared.said.Said.TheVariants as says
 use Rattle.nr_preconv.specs.declared.reader.Reader.{Reader}
 use Rattle.nr_preconv.specs.declared.reader.Pending.TheVariants as pendings
 use Rattle.nr_preconv.specs.Half.{Met, taken, first_half}
-use Rattle.nr_preconv.specs.Hyphens.{mark_of, placed, saying, in_text}
+use Rattle.nr_preconv.specs.Hyphens.{mark_of, placed, carriage_return, moved, saying, in_text}
 use Rattle.nr_preconv.specs.Lines.{in_line, is_control, control}
-use Rattle.nr_preconv.specs.Meeting.{meet, beginning}
+use Rattle.nr_preconv.specs.Meeting.{meet, beginning, may_pass}
 use Rattle.nr_preconv.specs.PlainText.{goes_on, is_plain_from, is_plain_text}
 use Rattle.nr_preconv.specs.Reading.{Told, told, behind, then_told, heard, read, fed, fresh, stray, is_lead, pending_with, pending_heard, finished, first_reader, converted, steps_of}
 use Rattle.nr_preconv.proofs.Reading.{told-eq}
@@ -45,31 +45,41 @@ start_said true b = refl
 start_said false b = refl
 
 -- a byte that goes on it
-start_meets : (b : ℕ) → (b == code "\\") ≡ false → is_control b ≡ false → meet (comings.Byte b) (half_at true) ≡ taken (says.Byte b) (half_at (b == code "\n"))
+start_meets : (b : ℕ) → (b == code "\\") ≡ false → (b == carriage_return) ≡ false → is_control b ≡ false → meet (comings.Byte b) (half_at true) ≡ taken (says.Byte b) (half_at (b == code "\n"))
 unfolding half_at text_as said_as
-start_meets b back control_no =
+start_meets b back return_no control_no =
     ap (λ (x : Bool). if x && true then beginning (half_at true) else in_line b (half_at true)) back
     ∙ ap (λ (x : Bool). if x then control false b (half_at true) else
     (if b == code "\n" then saying b lines.Start (half_at true) else in_text b (half_at true))) control_no
+    ∙ ap (λ (x : Bool). if b == code "\n" then said_as (b == code "\n") b lines.Start (half_at true) else
+    (if x || false then moved b (half_at true) else text_as (b == code "\n") b (half_at true))) return_no
     ∙ start_said (b == code "\n") b
 
-text_meets : (b : ℕ) → (b == code "\\") ≡ false → meet (comings.Byte b) (half_at false) ≡ taken (says.Byte b) (half_at (b == code "\n"))
+text_meets : (b : ℕ) → (b == code "\\") ≡ false → (b == carriage_return) ≡ false → meet (comings.Byte b) (half_at false) ≡ taken (says.Byte b) (half_at (b == code "\n"))
 unfolding half_at text_as said_as
-text_meets b back =
+text_meets b back return_no =
     ap (λ (x : Bool). if x && true then beginning (half_at false) else in_line b (half_at false)) back
+    ∙ ap (λ (x : Bool). if x || false then moved b (half_at false) else text_as (b == code "\n") b (half_at false)) return_no
     ∙ text_said (b == code "\n") b false
 
+meets_by : (starts : Bool) (b : ℕ) → (b == code "\\") ≡ false → (b == carriage_return) ≡ false → (starts && is_control b) ≡ false
+    → meet (comings.Byte b) (half_at starts) ≡ taken (says.Byte b) (half_at (b == code "\n"))
+meets_by true b back return_no control_no = start_meets b back return_no control_no
+meets_by false b back return_no control_no = text_meets b back return_no
+
 goes_meets : (starts : Bool) (b : ℕ) → goes_on starts b ≡ true → meet (comings.Byte b) (half_at starts) ≡ taken (says.Byte b) (half_at (b == code "\n"))
-goes_meets true b g =
-    start_meets b (is_not (b == code "\\") (and-second (nat_lt b 127) (not (b == code "\\")) (and-first _ (not (is_control b)) g)))
-    (is_not (is_control b) (and-second (nat_lt b 127 && not (b == code "\\")) (not (is_control b)) g))
-goes_meets false b g =
-    text_meets b (is_not (b == code "\\") (and-second (nat_lt b 127) (not (b == code "\\")) (and-first (nat_lt b 127 && not (b == code "\\")) true g)))
+goes_meets starts b g =
+    let both = and-first (may_pass b && not (b == code "\\")) (not (starts && is_control b)) g in
+    let back = is_not (b == code "\\") (and-second (may_pass b) (not (b == code "\\")) both) in
+    let return_no = is_not (b == carriage_return) (and-second (nat_lt b 127) (not (b == carriage_return)) (and-first (may_pass b) (not (b == code "\\")) both)) in
+    let last = is_not (starts && is_control b) (and-second (may_pass b && not (b == code "\\")) (not (starts && is_control b)) g) in
+    meets_by starts b back return_no last
 
 read_going : (e : Option Table) (starts : Bool) (b : ℕ) → goes_on starts b ≡ true → fresh b (reader_at e starts) ≡ told (reader_at e (b == code "\n")) (b ∷ []) 1
 unfolding reader_at
 read_going e starts b g =
-    let ascii : nat_lt b 127 ≡ true = and-first (nat_lt b 127) (not (b == code "\\")) (and-first (nat_lt b 127 && not (b == code "\\")) (not (starts && is_control b)) g) in
+    let passes : may_pass b ≡ true = and-first (may_pass b) (not (b == code "\\")) (and-first (may_pass b && not (b == code "\\")) (not (starts && is_control b)) g) in
+    let ascii : nat_lt b 127 ≡ true = and-first (nat_lt b 127) (not (b == carriage_return)) passes in
     let r = reader_at e starts in
     ap (λ (x : Bool). if x then heard (comings.Byte b) r else (if is_lead b then told (pending_with (pendings.One b) r) [] 0 else stray b r)) ascii
     ∙ heard_byte_taken b r (half_at (b == code "\n")) ascii (goes_meets starts b g)

@@ -18,17 +18,17 @@ use Rattle.nr_preconv.specs.declared.half.Mark.TheVariants as marks
 use Rattle.nr_preconv.specs.declared.half.Coming.TheVariants as comings
 use Rattle.nr_preconv.specs.declared.reader.Reader.{Reader}
 use Rattle.nr_preconv.specs.declared.reader.Pending.TheVariants.{Nothing, One}
-use Rattle.nr_preconv.specs.Half.{Met, taken, left, next_line, is_plain}
-use Rattle.nr_preconv.specs.Hyphens.{mark_of, placed, gone_by, saying, hyphen, turns_hyphens}
+use Rattle.nr_preconv.specs.Half.{Met, taken, left, next_line, is_plain, is_open}
+use Rattle.nr_preconv.specs.Hyphens.{mark_of, placed, gone_by, saying, hyphen, turns_hyphens, is_closer}
 use Rattle.nr_preconv.specs.Words.{begins_word, is_ninth, class_of, met_at, begun, font_said, inside}
 use Rattle.nr_preconv.specs.Saying.{bytes_of, sent}
 use Rattle.nr_preconv.specs.Escapes.{in_escape}
-use Rattle.nr_preconv.specs.Lines.{as_met, among_words, in_words, passing}
+use Rattle.nr_preconv.specs.Lines.{as_met, among_words, word_moved, in_words, passing}
 use Rattle.nr_preconv.specs.Meeting.{meet, plain_byte, beginning, is_raw}
 use Rattle.nr_preconv.specs.Reading.{told, behind, heard, heard_in, heard_byte, with_half, pending_with, read, is_lead, stray}
 use Rattle.nr_preconv.specs.Runs.{goes_on_text, is_between, begins_word_with, behind_word}
-use Rattle.nr_preconv.proofs.Plain.{and-first, and-second, is_not, nothing_pending}
-use Rattle.nr_preconv.proofs.AtOnce.{placed_as, placed_escape, placed_twice, is_ascii, no_backslash, no_hyphen, no_newline}
+use Rattle.nr_preconv.proofs.Plain.{and-first, and-second, is_not, stays, nothing_pending}
+use Rattle.nr_preconv.proofs.AtOnce.{placed_as, placed_open, placed_twice, is_ascii, no_return, no_closer, no_backslash, no_hyphen, no_newline}
 use Rattle.nr_preconv.proofs.Sent.{sent_is, ascii-goes}
 
 -- ---- a byte among words
@@ -52,13 +52,19 @@ class_is b e f =
     ap (λ (x : Bool). if x then Space else (if b == code "\"" then Quote else Other)) e
     ∙ ap (λ (x : Bool). if x then Quote else Other) f
 
-other_met : (b : ℕ) (w : Words) (h : Half) → goes_on_text b ≡ true → class_of b ≡ Other → is_plain h.escape ≡ true
+other_met : (b : ℕ) (w : Words) (h : Half) → goes_on_text b ≡ true → class_of b ≡ Other → is_open h ≡ true
     → meet (comings.Byte b) (at w h) ≡ as_met (met_at w.place Other (says.Byte b) w) (gone_by b (at w h))
 unfolding at
-other_met b w h text class plain =
+other_met b w h text class free =
     let k = record h { line = lines.Words w } in
+    let plain = and-first (is_plain h.escape) (not h.translating) free in
+    let still = stays b k (no_return b text) (is_not h.translating (and-second (is_plain h.escape) (not h.translating) free)) in
     ap (λ (x : Bool). if x then plain_byte b k else in_escape b k) plain
     ∙ ap (λ (x : Bool). if x && true then beginning k else in_words w b k) (no_backslash b text)
+    ∙ ap (λ (x : Bool). if x then word_moved w b k else
+    (if (b == code "-") && turns_hyphens k && not (begins_word w) then hyphen (lines.Words w) k else
+    (if not (b == code "\n") then among_words w (class_of b) (says.Byte b) (gone_by b k) else
+    (if is_ninth w then left (says.Byte (code "\"")) (record k { line = lines.Request }) else saying b lines.Start k)))) still
     ∙ ap (λ (x : Bool). if x && turns_hyphens k && not (begins_word w) then hyphen (lines.Words w) k else
     if not (b == code "\n") then among_words w (class_of b) (says.Byte b) (gone_by b k) else
     if is_ninth w then left (says.Byte (code "\"")) (record k { line = lines.Request }) else saying b lines.Start k) (no_hyphen b text)
@@ -82,54 +88,54 @@ few_begun w few =
     else record { words = more; said = if w.count == 8 then says.Byte (code "\"") else says.Nothing; takes = false }) not_nine
     ∙ ap (λ (x : Bool). record { words = more; said = if x then says.Byte (code "\"") else says.Nothing; takes = false }) not_eight
 
-first_met : (b : ℕ) (w : Words) (h : Half) → goes_on_text b ≡ true → class_of b ≡ Other → is_plain h.escape ≡ true → w.place ≡ Between → nat_lt w.count 8 ≡ true
+first_met : (b : ℕ) (w : Words) (h : Half) → goes_on_text b ≡ true → class_of b ≡ Other → is_open h ≡ true → w.place ≡ Between → nat_lt w.count 8 ≡ true
     → meet (comings.Byte b) (at w h) ≡ left says.Nothing (at (begun_words w) (placed (mark_of b) h))
 unfolding at
-first_met b w h text class plain between few =
+first_met b w h text class free between few =
     let k = record h { line = lines.Words w } in
-    other_met b w h text class plain
+    other_met b w h text class free
     ∙ ap (λ (p : Place). as_met (met_at p Other (says.Byte b) w) (gone_by b k)) between
     ∙ ap (λ (t : WordsTold). as_met t (gone_by b k)) (few_begun w few)
     ∙ ap (left says.Nothing) (moved (b == code "\n") b w (begun_words w) h (no_newline b text))
 
-second_met : (b : ℕ) (w : Words) (h : Half) → goes_on_text b ≡ true → class_of b ≡ Other → is_plain h.escape ≡ true
+second_met : (b : ℕ) (w : Words) (h : Half) → goes_on_text b ≡ true → class_of b ≡ Other → is_open h ≡ true
     → meet (comings.Byte b) (at (begun_words w) h) ≡ left says.Nothing (at (inside w) (placed (mark_of b) h))
 unfolding at begun_words
-second_met b w h text class plain =
+second_met b w h text class free =
     let v : Words = record { fonts = w.fonts; count = w.count + 1; second = not w.second; place = Begun } in
-    other_met b v h text class plain
+    other_met b v h text class free
     ∙ ap (left says.Nothing) (moved (b == code "\n") b v (inside w) h (no_newline b text))
 
-third_met : (b : ℕ) (w : Words) (h : Half) → goes_on_text b ≡ true → class_of b ≡ Other → is_plain h.escape ≡ true
+third_met : (b : ℕ) (w : Words) (h : Half) → goes_on_text b ≡ true → class_of b ≡ Other → is_open h ≡ true
     → meet (comings.Byte b) (at (inside w) h) ≡ taken (says.Byte b) (at (inside w) (placed (mark_of b) h))
 unfolding at
-third_met b w h text class plain =
-    other_met b (inside w) h text class plain
+third_met b w h text class free =
+    other_met b (inside w) h text class free
     ∙ ap (taken (says.Byte b)) (moved (b == code "\n") b (inside w) (inside w) h (no_newline b text))
 
 -- ---- so it is read
 
-thrice : (m : Mark) (h : Half) → placed m (placed m (placed m h)) ≡ placed m h
-thrice m h = placed_twice m m (placed m h) ∙ placed_twice m m h
+thrice : (m : Mark) (h : Half) → is_closer m ≡ false → placed m (placed m (placed m h)) ≡ placed m h
+thrice m h last = placed_twice m m (placed m h) last ∙ placed_twice m m h last
 
-word_heard : (b : ℕ) (w : Words) (r : Reader) → is_plain r.half.escape ≡ true → r.half.line ≡ lines.Words w → goes_on_text b ≡ true → class_of b ≡ Other
+word_heard : (b : ℕ) (w : Words) (r : Reader) → is_open r.half ≡ true → r.half.line ≡ lines.Words w → goes_on_text b ≡ true → class_of b ≡ Other
     → w.place ≡ Between → nat_lt w.count 8 ≡ true → heard (comings.Byte b) r ≡ told (with_half (behind_word w b r.half) r) (b ∷ []) 3
 unfolding heard at
-word_heard b w r plain line text class between few =
+word_heard b w r free line text class between few =
     let c = comings.Byte b in
     let e = r.table in
     let m = mark_of b in
     let h = r.half in
     let p = placed m h in
     let q = placed m p in
-    let plain_p = placed_escape m h ∙ plain in
-    let plain_q = placed_escape m p ∙ plain_p in
+    let open_p = placed_open m h ∙ free in
+    let open_q = placed_open m p ∙ open_p in
     let there : h ≡ record h { line = lines.Words w } = ap (λ (l : Line). record h { line = l }) line in
-    let one = ap (meet c) there ∙ first_met b w h text class plain between few in
+    let one = ap (meet c) there ∙ first_met b w h text class free between few in
     ap (λ (n : Met). behind (bytes_of e n.said) 1 (if n.takes then told (with_half n.half r) [] 0 else heard_in 5 c (with_half n.half r))) one
-    ∙ ap (λ (n : Met). behind [] 1 (behind (bytes_of e n.said) 1 (if n.takes then told (with_half n.half r) [] 0 else heard_in 4 c (with_half n.half r)))) (second_met b w p text class plain_p)
-    ∙ ap (λ (n : Met). behind [] 1 (behind [] 1 (behind (bytes_of e n.said) 1 (if n.takes then told (with_half n.half r) [] 0 else heard_in 3 c (with_half n.half r))))) (third_met b w q text class plain_q)
-    ∙ ap (λ (k : Half). told (with_half (record k { line = lines.Words (inside w) }) r) (sent e b ∷ []) 3) (thrice m h)
+    ∙ ap (λ (n : Met). behind [] 1 (behind (bytes_of e n.said) 1 (if n.takes then told (with_half n.half r) [] 0 else heard_in 4 c (with_half n.half r)))) (second_met b w p text class open_p)
+    ∙ ap (λ (n : Met). behind [] 1 (behind [] 1 (behind (bytes_of e n.said) 1 (if n.takes then told (with_half n.half r) [] 0 else heard_in 3 c (with_half n.half r))))) (third_met b w q text class open_q)
+    ∙ ap (λ (k : Half). told (with_half (record k { line = lines.Words (inside w) }) r) (sent e b ∷ []) 3) (thrice m h (no_closer b text))
     ∙ ap (λ (x : Bool). told (with_half (record (if x then record h { before = Character marks.Other; tag = next_line h.tag } else placed m h) { line = lines.Words (inside w) }) r) (sent e b ∷ []) 3) (sym (no_newline b text))
     ∙ ap (λ (x : ℕ). told (with_half (behind_word w b h) r) (x ∷ []) 3) (sent_is e b (ascii-goes e b (is_ascii b text)))
 
@@ -137,9 +143,9 @@ between_is : (place : Place) → is_between place ≡ true → place ≡ Between
 between_is Between p = refl
 between_is place p = absurd (let no : false ≡ true = p in cc)
 
-pub word_read : (b : ℕ) (w : Words) (r : Reader) → r.pending ≡ Nothing → is_plain r.half.escape ≡ true → r.half.line ≡ lines.Words w → begins_word_with w b ≡ true
+pub word_read : (b : ℕ) (w : Words) (r : Reader) → r.pending ≡ Nothing → is_open r.half ≡ true → r.half.line ≡ lines.Words w → begins_word_with w b ≡ true
     → read b r ≡ told (with_half (behind_word w b r.half) r) (b ∷ []) 3
-word_read b w r none plain line p =
+word_read b w r none free line p =
     let text = goes_on_text b in
     let space = not (b == code " ") in
     let quote = not (b == code "\"") in
@@ -152,4 +158,4 @@ word_read b w r none plain line p =
     ap (λ (x : Bool). if x then told (with_half (passing b r.half) r) (sent r.table b ∷ []) 1 else heard_byte b r) (ap is_raw line)
     ∙ nothing_pending b r none
     ∙ ap (λ (x : Bool). if x then heard (comings.Byte b) r else (if is_lead b then told (pending_with (One b) r) [] 0 else stray b r)) (is_ascii b is)
-    ∙ word_heard b w r plain line is class (between_is w.place (and-second (text && space && quote) between four)) (and-second (text && space && quote && between) (nat_lt w.count 8) p)
+    ∙ word_heard b w r free line is class (between_is w.place (and-second (text && space && quote) between four)) (and-second (text && space && quote && between) (nat_lt w.count 8) p)

@@ -6,7 +6,7 @@ use Rattle.nr_units.specs.Name.{is_full}
 use Rattle.nr_preconv.specs.declared.said.Said.{Said}
 use Rattle.nr_preconv.specs.declared.said.Said.TheVariants.{Kept}
 use Rattle.nr_preconv.specs.declared.beginnings.Opens.{Opens}
-use Rattle.nr_preconv.specs.declared.beginnings.Opens.TheVariants.{Rest, Definition, Ignored, Condition, Else, Nop}
+use Rattle.nr_preconv.specs.declared.beginnings.Opens.TheVariants.{Rest, Definition, Ignored, Condition, Else, Nop, Translation, Face, Words, Paragraph, Tagged, Plain, Title}
 use Rattle.nr_preconv.specs.declared.beginnings.TheConstants.{OPENING, KNOWN}
 use Rattle.nr_preconv.specs.Glyphs.{looked_up}
 
@@ -29,19 +29,22 @@ group_of b =
     if b == code "C" then (7, 9) else
     if b == code "D" then (9, 10) else
     if b == code "G" then (10, 11) else
-    if b == code "I" then (11, 15) else
-    if b == code "L" then (15, 16) else
-    if b == code "M" then (16, 18) else
-    if b == code "N" then (18, 20) else
-    if b == code "R" then (20, 23) else
-    if b == code "S" then (23, 29) else
-    if b == code "T" then (29, 36) else
-    if b == code "U" then (36, 39) else
-    if b == code "a" then (39, 41) else
-    if b == code "d" then (41, 43) else
-    if b == code "e" then (43, 44) else
-    if b == code "i" then (44, 47) else
-    if b == code "t" then (47, 48) else
+    if b == code "H" then (11, 12) else
+    if b == code "I" then (12, 16) else
+    if b == code "L" then (16, 18) else
+    if b == code "M" then (18, 20) else
+    if b == code "N" then (20, 22) else
+    if b == code "P" then (22, 24) else
+    if b == code "R" then (24, 27) else
+    if b == code "S" then (27, 33) else
+    if b == code "T" then (33, 40) else
+    if b == code "U" then (40, 43) else
+    if b == code "a" then (43, 45) else
+    if b == code "d" then (45, 47) else
+    if b == code "e" then (47, 48) else
+    if b == code "f" then (48, 49) else
+    if b == code "i" then (49, 52) else
+    if b == code "t" then (52, 53) else
     (0, 0)
 
 abbrev pub group : ℕ → List (ℕ × ℕ × Opens)
@@ -84,11 +87,22 @@ said_name Else name b = Kept (apart name b)
 said_name Nop name b = Kept (codes "if 1 ")
 said_name opens name b = Kept name
 
+-- text after its line is roman
+abbrev pub is_roman : Opens → Bool
+is_roman (Words fonts) = true
+is_roman Paragraph = true
+is_roman Tagged = true
+is_roman Plain = true
+is_roman Title = true
+is_roman opens = false
+
 -- so it goes out as it is, and so does a blank or a newline after it
 abbrev pub goes_out : Opens → ℕ → Bool
 goes_out Ignored len = false
 goes_out Condition len = false
 goes_out Else len = false
 goes_out Nop len = false
+goes_out Translation len = false
+goes_out Face len = false
 goes_out Definition len = not (len == 3)
 goes_out opens len = true

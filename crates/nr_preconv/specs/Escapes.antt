@@ -8,7 +8,7 @@ use Rattle.nr_preconv.specs.declared.half.Escape.{Escape}
 use Rattle.nr_preconv.specs.declared.half.Escape.TheVariants as escapes
 use Rattle.nr_preconv.specs.declared.half.Mark.TheVariants.{Other}
 use Rattle.nr_preconv.specs.Half.{Met, taken, abandoned}
-use Rattle.nr_preconv.specs.Hyphens.{placed, behind_hyphen}
+use Rattle.nr_preconv.specs.Hyphens.{placed, behind_hyphen, behind_sentence}
 use Rattle.nr_preconv.specs.Endings.{ended, ends_with}
 use Rattle.nr_preconv.specs.Skipping.{skip_from, skipped, embedded}
 use Rattle.nr_preconv.specs.Letters.{newline_hidden, behind_backslash}
@@ -38,6 +38,7 @@ in_part (escapes.Skipped end) b h = skipped end b h
 in_part (escapes.Embedded backslash) b h = embedded backslash b h
 in_part escapes.Note b h = noted b h
 in_part escapes.Hyphen b h = behind_hyphen b h
+in_part escapes.Sentence b h = behind_sentence b h
 
 -- an escape that is longer than what is kept goes out
 abbrev pub in_escape : ℕ → Half → Met

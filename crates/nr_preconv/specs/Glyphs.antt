@@ -92,16 +92,23 @@ string_code name =
 
 -- ---- fonts
 
--- by the last byte of a name: bold, italic, the previous one, or roman
-abbrev pub letter_of : ℕ → ℕ
-letter_of last =
-    if (last == code "B") || (last == code "3") then code "B" else
-    if (last == code "I") || (last == code "2") || (last == code "4") then code "I" else
-    if last == code "P" then code "P" else code "R"
+-- a font with a name of one byte, if it is one: a terminal has no others
+abbrev pub letter_of : ℕ → Option ℕ
+letter_of b =
+    if (b == code "R") || (b == code "1") || (b == code "5") then Some (code "R") else
+    if (b == code "I") || (b == code "2") || (b == code "4") then Some (code "I") else
+    if (b == code "B") || (b == code "3") then Some (code "B") else
+    if b == code "P" then Some (code "P") else None
 
-abbrev pub font_by : Option ℕ → ℕ
-font_by None = code "P"
-font_by (Some last) = letter_of last
+-- bold italic is italic, and typewriter fonts are those that they look like
+abbrev pub pair_font : ℕ → ℕ → Option ℕ
+pair_font a b =
+    if (a == code "C") && (b == code "R") then Some (code "R") else
+    if ((a == code "C") || (a == code "B")) && (b == code "I") then Some (code "I") else
+    if (a == code "C") && (b == code "B") then Some (code "B") else None
 
-abbrev pub font_of : List ℕ → ℕ
-font_of name = font_by (slice_get name (length name - 1))
+abbrev pub font_of : List ℕ → Option ℕ
+font_of [] = Some (code "P")
+font_of (a ∷ []) = letter_of a
+font_of (a ∷ b ∷ []) = pair_font a b
+font_of (a ∷ b ∷ c ∷ rest) = None

@@ -11,9 +11,12 @@ use Rattle.nr_preconv.specs.declared.half.Before.TheVariants.{Character}
 use Rattle.nr_preconv.specs.declared.half.Mark.TheVariants.{Other}
 use Rattle.nr_preconv.specs.declared.half.Tag.{Tag}
 use Rattle.nr_preconv.specs.declared.half.Tag.TheVariants as tags
+use Rattle.nr_preconv.specs.declared.half.Pair.{Pair}
+use Rattle.nr_preconv.specs.declared.half.Pair.TheVariants.{First, Second, Other as OtherPair}
 use Rattle.nr_preconv.specs.declared.half.Escape.{Escape}
 use Rattle.nr_preconv.specs.declared.half.Escape.TheVariants as escapes
 use Rattle.nr_preconv.specs.Likeness.{is_blank}
+use Rattle.nr_preconv.specs.Translations.{no_translations}
 
 -- what is half read then, what goes out, and whether the character is taken: one that is left is met again
 pub record Met : Type 0 where
@@ -48,6 +51,10 @@ first_half =
       table = false;
       before = Character Other;
       tag = tags.Nowhere;
+      font = code "R";
+      previous = code "R";
+      translating = false;
+      translations = no_translations;
     }
 
 -- ---- where a line is read
@@ -68,12 +75,19 @@ is_text lines.Text = true
 is_text lines.Fonts = true
 is_text line = false
 
+-- in a line of `.tr` after a character that is no byte: one that is translated so, or what a byte becomes, is left
+abbrev pub after_other : Pair → Pair
+after_other First = OtherPair
+after_other (Second b) = First
+after_other OtherPair = First
+
 -- after something that is printed
 abbrev pub with_text : Line → Line
 with_text lines.Start = lines.Text
 with_text lines.Part = lines.Text
 with_text lines.Braced = lines.Text
 with_text lines.Fonts = lines.Text
+with_text (lines.Translation pair) = lines.Translation (after_other pair)
 with_text line = line
 
 -- after a font
@@ -118,6 +132,10 @@ takes_brace line = false
 abbrev pub is_plain : Escape → Bool
 is_plain escapes.Plain = true
 is_plain escape = false
+
+-- no escape is half read, and no byte is translated
+abbrev pub is_open : Half → Bool
+is_open h = is_plain h.escape && not h.translating
 
 -- ---- escapes that end
 

@@ -1,7 +1,7 @@
 -- Hyphens of a manual page: a line may be broken after one only where it stands between two letters (groff(7), `.cflags`).
 -- A text line may hang to the left of its paragraph.
 use Prim.Native.Char.{code}
-use Rattle.std.specs.Prelude.{ℕ, List, [], ◌∷◌, Bool, true, false, not, ◌==◌, ◌&&◌, ◌||◌, nat_le, if◌then◌else◌}
+use Rattle.std.specs.Prelude.{ℕ, List, [], ◌∷◌, Bool, true, false, not, ◌==◌, ◌&&◌, ◌||◌, nat_le, if◌then◌else◌, codes}
 use Rattle.nr_preconv.specs.declared.said.Said.TheVariants as says
 use Rattle.nr_preconv.specs.declared.half.Half.{Half}
 use Rattle.nr_preconv.specs.declared.half.Line.{Line}
@@ -9,11 +9,12 @@ use Rattle.nr_preconv.specs.declared.half.Line.TheVariants as lines
 use Rattle.nr_preconv.specs.declared.half.Before.{Before}
 use Rattle.nr_preconv.specs.declared.half.Before.TheVariants.{Character, Argument}
 use Rattle.nr_preconv.specs.declared.half.Mark.{Mark}
-use Rattle.nr_preconv.specs.declared.half.Mark.TheVariants.{Letter, Opening, Backslash, Other}
+use Rattle.nr_preconv.specs.declared.half.Mark.TheVariants.{Letter, Opening, Quote, Stop, Closing, Closed, Backslash, Other}
 use Rattle.nr_preconv.specs.declared.half.Escape.TheVariants as escapes
 use Rattle.nr_preconv.specs.Numbers.{is_within}
 use Rattle.nr_preconv.specs.Likeness.{is_latin_letter}
-use Rattle.nr_preconv.specs.Half.{Met, taken, left, next_line, is_whole, without_escape, abandoned}
+use Rattle.nr_preconv.specs.Half.{Met, taken, left, next_line, is_whole, character_said, without_escape, abandoned}
+use Rattle.nr_preconv.specs.Translations.{translated}
 use Rattle.nr_preconv.specs.Words.{has_hyphens as words_have}
 
 -- ---- letters
@@ -29,11 +30,23 @@ is_letter c = is_ascii_letter c || is_within 256 8191 c || nat_le 11264 c || is_
 
 -- after an opening bracket or a quote a word begins: ( [ < " and the opening quotes of Unicode
 abbrev pub is_opening : ℕ → Bool
-is_opening c =
-    (c == code "(") || (c == code "[") || (c == code "<") || (c == code "\"") || (c == 8216) || (c == 8220)
+is_opening c = (c == code "(") || (c == code "[") || (c == code "<") || (c == 8216) || (c == 8220)
+
+-- a sentence ends with one of these at a line's end, or with one of the next after it
+abbrev pub is_stop : ℕ → Bool
+is_stop c = (c == code ".") || (c == code "?") || (c == code "!")
+
+abbrev pub is_closing : ℕ → Bool
+is_closing c =
+    (c == code ")") || (c == code "]") || (c == code "'") || (c == code "*") || (c == 8217) || (c == 8221)
 
 abbrev pub mark_by : Bool → ℕ → Mark
-mark_by letter c = if letter then Letter else if is_opening c then Opening else Other
+mark_by letter c =
+    if letter then Letter else
+    if c == code "\"" then Quote else
+    if is_opening c then Opening else
+    if is_stop c then Stop else
+    if is_closing c then Closing else Other
 
 -- what an ASCII character is for what stands after it, and another
 abbrev pub mark_of : ℕ → Mark
@@ -42,9 +55,23 @@ mark_of b = mark_by (is_ascii_letter b) b
 abbrev pub wide_mark : ℕ → Mark
 wide_mark c = mark_by (is_letter c) c
 
+-- a sentence ends there, or goes on to end: with a stop, or what closes after one
+abbrev pub has_ended : Mark → Bool
+has_ended Stop = true
+has_ended Closed = true
+has_ended mark = false
+
+abbrev pub is_closer : Mark → Bool
+is_closer Quote = true
+is_closer Closing = true
+is_closer mark = false
+
+abbrev pub mark_after : Mark → Mark → Mark
+mark_after before mark = if has_ended before && is_closer mark then Closed else mark
+
 abbrev pub followed : Mark → Before → Before
 followed mark Argument = Argument
-followed mark (Character before) = Character mark
+followed mark (Character before) = Character (mark_after before mark)
 
 -- a character is read
 abbrev pub placed : Mark → Half → Half
@@ -57,6 +84,7 @@ gone_by b h =
 -- a word begins there that no blank stands before
 abbrev pub is_begun : Before → Bool
 is_begun (Character Opening) = true
+is_begun (Character Quote) = true
 is_begun before = false
 
 abbrev pub begins_behind : Half → Bool
@@ -103,9 +131,44 @@ behind_hyphen b h =
 abbrev pub saying : ℕ → Line → Half → Met
 saying b line h = taken (says.Byte b) (record (gone_by b h) { line = line })
 
+-- a character goes out as what it looks like, and the line goes on so
+abbrev pub showing : ℕ → Line → Half → Met
+showing c line h = taken (character_said h.line c) (record (placed (wide_mark c) h) { line = line })
+
+-- A carriage return is dropped, and a byte may be translated.
+abbrev pub carriage_return : ℕ
+carriage_return = 13
+
+abbrev pub is_moved : ℕ → Half → Bool
+is_moved b h = (b == carriage_return) || (h.translating && not (translated b h.translations == 0))
+
+abbrev pub moved : ℕ → Half → Met
+moved b h = if b == carriage_return then taken says.Nothing h else showing (translated b h.translations) lines.Text h
+
+-- The language ends a sentence with `.`, `?` or `!` alone, groff also with what closes after it. So the newline waits for what
+-- comes: after it a word of the sentence that begins stands two blanks apart where lines are filled (tmac.an, `.1`).
+abbrev pub is_closed : Before → Bool
+is_closed (Character Closed) = true
+is_closed before = false
+
+abbrev pub closes : Half → Bool
+closes h = turns_hyphens h && not h.defining && is_closed h.before
+
+abbrev pub newline_held : Half → Met
+newline_held h =
+    taken says.Nothing (record (gone_by (code "\n") h)
+    { line = lines.Start; escape = escapes.Sentence; kept = code "\n" ∷ [] })
+
+-- a blank or an empty line breaks
+abbrev pub behind_sentence : ℕ → Half → Met
+behind_sentence b h =
+    left (says.Kept (if (b == code " ") || (b == code "\n") then code "\n" ∷ [] else codes "\\*(.\\n(.u\n"))
+    (without_escape h)
+
 abbrev pub in_text : ℕ → Half → Met
 in_text b h =
-    if b == code "\n" then saying b lines.Start h else
+    if is_moved b h then moved b h else
+    if b == code "\n" then (if closes h then newline_held h else saying b lines.Start h) else
     if turns_hyphens h && (b == code "-") then hyphen lines.Text h else saying b lines.Text h
 
 -- ---- a text line that hangs

@@ -3,6 +3,7 @@ pub mod Characters
 pub mod Conditions
 pub mod Endings
 pub mod Escapes
+pub mod Faces
 pub mod Glyphs
 pub mod Half
 pub mod Hyphens
@@ -20,5 +21,6 @@ pub mod Runs
 pub mod Saying
 pub mod Skipping
 pub mod Spelling
+pub mod Translations
 pub mod Unread
 pub mod Words

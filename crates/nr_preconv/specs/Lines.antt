@@ -9,6 +9,8 @@ use Rattle.nr_preconv.specs.declared.half.Line.{Line}
 use Rattle.nr_preconv.specs.declared.half.Line.TheVariants as lines
 use Rattle.nr_preconv.specs.declared.half.Tag.{Tag}
 use Rattle.nr_preconv.specs.declared.half.Tag.TheVariants as tags
+use Rattle.nr_preconv.specs.declared.half.Pair.{Pair}
+use Rattle.nr_preconv.specs.declared.half.Pair.TheVariants.{First, Second, Other as OtherPair}
 use Rattle.nr_preconv.specs.declared.half.Dots.{Dots}
 use Rattle.nr_preconv.specs.declared.half.Dots.TheVariants as dots
 use Rattle.nr_preconv.specs.declared.beginnings.Opens.{Opens}
@@ -18,9 +20,11 @@ use Rattle.nr_preconv.specs.declared.words.Told.{Told}
 use Rattle.nr_preconv.specs.declared.words.Fonts.TheVariants.{Tag as TagFonts}
 use Rattle.nr_preconv.specs.declared.words.Class.{Class}
 use Rattle.nr_preconv.specs.declared.words.Class.TheVariants.{Other}
-use Rattle.nr_preconv.specs.Half.{Met, taken, left, is_in_last, character_said}
-use Rattle.nr_preconv.specs.Beginnings.{opened, said_name}
-use Rattle.nr_preconv.specs.Hyphens.{wide_mark, placed, gone_by, saying, in_text, hyphen, turns_hyphens}
+use Rattle.nr_preconv.specs.Half.{Met, taken, left, is_in_last, character_said, with_text}
+use Rattle.nr_preconv.specs.Translations.{translated, with_pair}
+use Rattle.nr_preconv.specs.Beginnings.{opened, said_name, is_roman}
+use Rattle.nr_preconv.specs.Faces.{in_face, face_ended}
+use Rattle.nr_preconv.specs.Hyphens.{wide_mark, placed, gone_by, showing, carriage_return, is_moved, saying, in_text, hyphen, turns_hyphens}
 use Rattle.nr_preconv.specs.Conditions.{is_gap, before_condition, in_number, in_strings, in_asked}
 use Rattle.nr_preconv.specs.Words.{first_words, begins_word, is_ninth, met_words, class_of}
 
@@ -92,6 +96,8 @@ line_of opens.Title ignores = lines.Request
 line_of opens.Paragraph ignores = lines.Words (first_words TagFonts)
 line_of opens.Address ignores = lines.Words (first_words TagFonts)
 line_of opens.Tagged ignores = lines.Request
+line_of opens.Plain ignores = lines.Request
+line_of opens.Face ignores = lines.Face
 line_of opens.Table ignores = lines.Request
 line_of opens.TableEnd ignores = lines.Request
 line_of opens.Ignored ignores = if ignores then lines.Ignored dots.Other else lines.Request
@@ -99,7 +105,7 @@ line_of opens.Condition ignores = lines.Condition
 line_of opens.Else ignores = lines.Part
 line_of opens.Nop ignores = lines.Part
 line_of opens.Stored ignores = lines.Stored
-line_of opens.Translation ignores = lines.Translation
+line_of opens.Translation ignores = lines.Translation First
 line_of (opens.Words fonts) ignores = lines.Words (first_words fonts)
 
 abbrev pub defining_by : Opens → Bool → Bool
@@ -131,6 +137,8 @@ opening o b h = record h {
   manual = manual_by o h;
   table = table_by o h.table;
   tag = tag_by o h.tag;
+  font = if is_roman o then code "R" else h.font;
+  previous = if is_roman o then code "R" else h.previous;
 }
 
 -- the name goes out before the byte that ended it
@@ -146,7 +154,27 @@ in_name b h =
 -- ---- the rest of a line
 
 abbrev pub in_rest : ℕ → Half → Met
-in_rest b h = saying b (if b == code "\n" then lines.Start else h.line) h
+in_rest b h =
+    if b == carriage_return then taken Nothing h else saying b (if b == code "\n" then lines.Start else h.line) h
+
+-- ---- a line of `.tr`: of each two characters the first becomes the second, and the last a blank if it stands alone
+
+abbrev pub pairing : ℕ → ℕ → Half → Half
+pairing a b h = record h { translating = true; translations = with_pair a b h.translations }
+
+abbrev pub translation_ended : Pair → Half → Half
+translation_ended (Second a) h = pairing a (code " ") h
+translation_ended pair h = h
+
+abbrev pub translation_on : Pair → ℕ → Half → Met
+translation_on First b h = saying b (lines.Translation (if b == code " " then First else Second b)) h
+translation_on (Second a) b h = saying b (lines.Translation First) (pairing a b h)
+translation_on OtherPair b h = saying b (lines.Translation First) h
+
+abbrev pub in_translation : Pair → ℕ → Half → Met
+in_translation pair b h =
+    if b == carriage_return then taken Nothing h else
+    if b == code "\n" then saying b lines.Start (translation_ended pair h) else translation_on pair b h
 
 abbrev pub as_met : Told → Half → Met
 as_met told h =
@@ -156,8 +184,16 @@ abbrev pub among_words : Words → Class → Said → Half → Met
 among_words words class said h = as_met (met_words class said words) h
 
 -- the ninth word has its last quote before the newline
+-- one that is dropped or translated
+abbrev pub word_moved : Words → ℕ → Half → Met
+word_moved words b h =
+    if b == carriage_return then taken Nothing h else
+    let c = translated b h.translations in
+    among_words words Other (character_said (lines.Words words) c) (placed (wide_mark c) h)
+
 abbrev pub in_words : Words → ℕ → Half → Met
 in_words words b h =
+    if is_moved b h then word_moved words b h else
     if (b == code "-") && turns_hyphens h && not (begins_word words) then hyphen (lines.Words words) h else
     if not (b == code "\n") then among_words words (class_of b) (Byte b) (gone_by b h) else
     if is_ninth words then left (Byte (code "\"")) (record h { line = lines.Request })
@@ -196,6 +232,8 @@ in_line_at lines.Start b h = at_start b h
 in_line_at lines.Control b h = behind_control b h
 in_line_at lines.Name b h = in_name b h
 in_line_at (lines.Words words) b h = in_words words b h
+in_line_at (lines.Translation pair) b h = in_translation pair b h
+in_line_at lines.Face b h = in_face b h
 in_line_at lines.Condition b h = before_condition b h
 in_line_at lines.Number b h = in_number b h
 in_line_at (lines.Strings delimiter ended) b h = in_strings delimiter ended b h
@@ -213,9 +251,6 @@ in_line b h = in_line_at h.line b h
 
 -- ---- characters beyond ASCII
 
-abbrev pub showing : ℕ → Line → Half → Met
-showing c line h = taken (character_said h.line c) (record (placed (wide_mark c) h) { line = line })
-
 abbrev pub wide_at : Line → ℕ → Half → Met
 wide_at lines.Start c h = showing c lines.Text h
 wide_at lines.Part c h = showing c lines.Text h
@@ -224,10 +259,11 @@ wide_at lines.Condition c h = showing c lines.Text h
 wide_at lines.Fonts c h = showing c lines.Text h
 wide_at lines.Control c h = blanks_said lines.Request h
 wide_at lines.Name c h = named_line (code " ") h
+wide_at lines.Face c h = face_ended h
 wide_at (lines.Words words) c h =
     among_words words Other (character_said (lines.Words words) c) (placed (wide_mark c) h)
 wide_at (lines.Asked asked) c h = in_asked asked (code "?") h
-wide_at line c h = showing c line h
+wide_at line c h = showing c (with_text line) h
 
 abbrev pub wide_in_line : ℕ → Half → Met
 wide_in_line c h = wide_at h.line c h
@@ -237,6 +273,7 @@ wide_in_line c h = wide_at h.line c h
 abbrev pub takes_escape : Line → Bool
 takes_escape lines.Control = false
 takes_escape lines.Name = false
+takes_escape lines.Face = false
 takes_escape (lines.Asked asked) = false
 takes_escape lines.Comment = false
 takes_escape (lines.Ignored dots) = false

@@ -9,8 +9,8 @@ use Rattle.nr_preconv.specs.declared.half.Escape.{Escape}
 use Rattle.nr_preconv.specs.declared.half.Escape.TheVariants as escapes
 use Rattle.nr_preconv.specs.declared.half.Line.{Line}
 use Rattle.nr_preconv.specs.declared.half.Line.TheVariants as lines
-use Rattle.nr_preconv.specs.Half.{Met, taken, abandoned, is_plain}
-use Rattle.nr_preconv.specs.Hyphens.{gone_by, turns_hyphens}
+use Rattle.nr_preconv.specs.Half.{Met, taken, abandoned, is_plain, is_open}
+use Rattle.nr_preconv.specs.Hyphens.{gone_by, turns_hyphens, carriage_return, closes, behind_sentence}
 use Rattle.nr_preconv.specs.Words.{is_as_is as word_as_is, taken_as_is as word_taken}
 use Rattle.nr_preconv.specs.Escapes.{in_escape}
 use Rattle.nr_preconv.specs.Lines.{is_control, follows_tag, begins_apart, in_line, wide_in_line, takes_escape}
@@ -32,6 +32,7 @@ wide_by escapes.Skip c h = taken Nothing h
 wide_by (escapes.Skipped end) c h = taken Nothing h
 wide_by (escapes.Embedded backslash) c h = taken Nothing h
 wide_by escapes.Note c h = taken Nothing h
+wide_by escapes.Sentence c h = behind_sentence (code "?") h
 wide_by escape c h = abandoned h
 
 abbrev pub meet_wide : ℕ → Half → Met
@@ -43,19 +44,25 @@ meet (Wide c) h = meet_wide c h
 
 -- ---- an ASCII character that goes out as it is and is taken at once
 
+-- in a text line: no hyphen that is read, and no newline that waits
+abbrev pub is_text_as_is : ℕ → Half → Bool
+is_text_as_is b h = (not (turns_hyphens h) || not (b == code "-")) && (not (closes h) || not (b == code "\n"))
+
+-- of ASCII, but for a carriage return
+abbrev pub may_pass : ℕ → Bool
+may_pass b = nat_lt b 127 && not (b == carriage_return)
+
 abbrev pub is_as_is_at : Line → ℕ → Half → Bool
 is_as_is_at lines.Request b h = true
 is_as_is_at lines.Stored b h = true
-is_as_is_at lines.Translation b h = true
-is_as_is_at lines.Text b h = not (turns_hyphens h) || not (b == code "-")
-is_as_is_at lines.Fonts b h = not (b == code " ") && (not (turns_hyphens h) || not (b == code "-"))
-is_as_is_at lines.Start b h =
-    not (is_control b) && (not (turns_hyphens h) || not (b == code "-")) && not (follows_tag h && begins_apart b)
+is_as_is_at lines.Text b h = is_text_as_is b h
+is_as_is_at lines.Fonts b h = not (b == code " ") && is_text_as_is b h
+is_as_is_at lines.Start b h = not (is_control b) && is_text_as_is b h && not (follows_tag h && begins_apart b)
 is_as_is_at (lines.Words words) b h = word_as_is b words
 is_as_is_at line b h = false
 
 abbrev pub is_as_is : ℕ → Half → Bool
-is_as_is b h = nat_lt b 127 && not (b == code "\\") && is_plain h.escape && is_as_is_at h.line b h
+is_as_is b h = may_pass b && not (b == code "\\") && is_open h && is_as_is_at h.line b h
 
 abbrev pub line_on : Line → ℕ → Line
 line_on lines.Start b = lines.Text

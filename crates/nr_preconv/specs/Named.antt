@@ -13,9 +13,10 @@ use Rattle.nr_preconv.specs.declared.half.Kind.{Kind}
 use Rattle.nr_preconv.specs.declared.half.Kind.TheVariants as kinds
 use Rattle.nr_preconv.specs.Half.{Met, taken, character_said, without_escape}
 use Rattle.nr_preconv.specs.Hyphens.{wide_mark, placed, is_hang}
-use Rattle.nr_preconv.specs.Glyphs.{is_pair, is_native, is_struck, glyph_code, code_of, overstruck, quote_of, string_code, font_of}
+use Rattle.nr_preconv.specs.Glyphs.{is_pair, is_native, is_struck, glyph_code, code_of, overstruck, quote_of, string_code}
+use Rattle.nr_preconv.specs.Faces.{font_named}
 use Rattle.nr_preconv.specs.Numbers.{is_number}
-use Rattle.nr_preconv.specs.Endings.{ended, ended_font, ended_kept, dropped, kept_or}
+use Rattle.nr_preconv.specs.Endings.{ended, ended_kept, dropped, kept_or}
 
 -- between delimiters, which the language has for no name of a character
 abbrev pub is_delimited : Escape → Bool
@@ -31,7 +32,7 @@ struck None h = character None h
 struck (Some c) h = ended (says.Struck c) (placed Other h)
 
 abbrev pub is_translation : Line → Bool
-is_translation lines.Translation = true
+is_translation (lines.Translation pair) = true
 is_translation line = false
 
 -- one that the language has goes out as it was kept, or as a byte
@@ -80,7 +81,7 @@ hang h =
 abbrev pub named : Kind → Half → Met
 named kinds.Glyph h = glyph h
 named kinds.Code h = numbered h
-named kinds.Font h = ended_font (says.Font (font_of h.spelled)) h
+named kinds.Font h = font_named h
 named kinds.Register h =
     if is_pair (code ".") (code "g") h.spelled then ended (says.Byte (code "1")) (placed Other h)
     else ended_kept h

@@ -1,11 +1,12 @@
 -- Text that goes out as it is.
 use Prim.Native.Char.{code}
-use Rattle.std.specs.Prelude.{ℕ, List, [], ◌∷◌, Bool, true, not, ◌==◌, ◌&&◌, nat_lt}
+use Rattle.std.specs.Prelude.{ℕ, List, [], ◌∷◌, Bool, true, not, ◌==◌, ◌&&◌}
 use Rattle.nr_preconv.specs.Lines.{is_control}
+use Rattle.nr_preconv.specs.Meeting.{may_pass}
 
--- a byte of ASCII that is neither DEL nor a backslash, and at the beginning of a line no control character
+-- a byte of ASCII that is neither DEL, a carriage return nor a backslash, and at the beginning of a line no control character
 abbrev pub goes_on : Bool → ℕ → Bool
-goes_on starts b = nat_lt b 127 && not (b == code "\\") && not (starts && is_control b)
+goes_on starts b = may_pass b && not (b == code "\\") && not (starts && is_control b)
 
 -- from the beginning of a line, or from the midst of one
 abbrev pub is_plain_from : Bool → List ℕ → Bool

@@ -128,6 +128,7 @@ read b r = if is_raw r.half.line then told (with_half (passing b r.half) r) (sen
 abbrev pub name_left : Line → List ℕ → List ℕ
 name_left lines.Control name = name
 name_left lines.Name name = name
+name_left lines.Face name = name
 name_left (lines.Asked asked) name = name
 name_left line name = []
 

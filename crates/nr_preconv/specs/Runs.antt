@@ -8,9 +8,10 @@ use Rattle.nr_preconv.specs.declared.half.Line.{Line}
 use Rattle.nr_preconv.specs.declared.half.Line.TheVariants as lines
 use Rattle.nr_preconv.specs.declared.words.Words.{Words}
 use Rattle.nr_preconv.specs.declared.half.Before.TheVariants.{Character}
-use Rattle.nr_preconv.specs.declared.half.Mark.TheVariants.{Other}
-use Rattle.nr_preconv.specs.Half.{is_plain, without_escape, in_text, in_fonts}
+use Rattle.nr_preconv.specs.declared.half.Mark.TheVariants.{Stop, Other}
+use Rattle.nr_preconv.specs.Half.{is_plain, is_open, without_escape, in_text, in_fonts}
 use Rattle.nr_preconv.specs.Hyphens.{placed, gone_by}
+use Rattle.nr_preconv.specs.Faces.{faced}
 use Rattle.nr_preconv.specs.Numbers.{is_within}
 use Rattle.nr_preconv.specs.declared.beginnings.Opens.{Opens}
 use Rattle.nr_preconv.specs.Lines.{ends_name, opening}
@@ -19,11 +20,12 @@ use Rattle.nr_preconv.specs.declared.words.Place.{Place}
 use Rattle.nr_preconv.specs.declared.words.Place.TheVariants.{Between}
 use Rattle.nr_preconv.specs.Words.{class_of, goes_on_with, begins_word, inside}
 
--- a printing byte that is neither a hyphen nor a backslash
+-- a printing byte that is neither a hyphen, a backslash nor what closes a sentence
 abbrev pub goes_on_text : ℕ → Bool
 goes_on_text b =
-    is_within (code " ") (code ",") b || is_within (code ".") (code "[") b
-    || is_within (code "]") (code "~") b
+    is_within (code " ") (code "!") b || is_within (code "#") (code "&") b || (b == code "(")
+    || is_within (code "+") (code ",") b || is_within (code ".") (code "[") b
+    || is_within (code "^") (code "~") b
 
 abbrev pub goes_on_word : Words → ℕ → Bool
 goes_on_word words b = goes_on_text b && goes_on_with (class_of b) words
@@ -33,12 +35,11 @@ abbrev pub run_at : Line → List ℕ → ℕ
 run_at lines.Text bs = prefix_len goes_on_text bs
 run_at lines.Request bs = prefix_len goes_on_text bs
 run_at lines.Stored bs = prefix_len goes_on_text bs
-run_at lines.Translation bs = prefix_len goes_on_text bs
 run_at (lines.Words words) bs = prefix_len (goes_on_word words) bs
 run_at line bs = 0
 
 abbrev pub run_len : List ℕ → Half → ℕ
-run_len bs h = if is_plain h.escape then run_at h.line bs else 0
+run_len bs h = if is_open h then run_at h.line bs else 0
 
 -- ---- comments
 
@@ -79,7 +80,7 @@ name_len bs h = if is_plain h.escape && is_start h.line then dotted_len bs else 
 
 -- the dot and the name were read
 abbrev pub behind_name : List ℕ → Half → Half
-behind_name name h = record (placed Other h) { conditional = false; name = name; line = lines.Name }
+behind_name name h = record (placed Stop h) { conditional = false; name = name; line = lines.Name }
 
 abbrev pub is_end : ℕ → Bool
 is_end b = (b == code " ") || (b == code "\n")
@@ -152,8 +153,8 @@ begins_font (a ∷ b ∷ []) = false
 begins_font (a ∷ b ∷ c ∷ bs) = (a == code "\\") && (b == code "f") && is_font c
 
 -- what is half read then
-abbrev pub behind_font : Half → Half
-behind_font h = in_fonts (without_escape h)
+abbrev pub behind_font : ℕ → Half → Half
+behind_font letter h = in_fonts (without_escape (faced letter h))
 
 abbrev pub behind_kept : Half → Half
 behind_kept h = in_text (without_escape (placed Other h))

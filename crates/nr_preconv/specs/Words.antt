@@ -7,7 +7,7 @@ use Rattle.nr_preconv.specs.declared.said.Said.TheVariants.{Nothing, Byte, Escap
 use Rattle.nr_preconv.specs.declared.words.Words.{Words}
 use Rattle.nr_preconv.specs.declared.words.Told.{Told}
 use Rattle.nr_preconv.specs.declared.words.Fonts.{Fonts}
-use Rattle.nr_preconv.specs.declared.words.Fonts.TheVariants.{One, Turn, Tag}
+use Rattle.nr_preconv.specs.declared.words.Fonts.TheVariants.{One, Same, Turn, Tag}
 use Rattle.nr_preconv.specs.declared.words.Place.{Place}
 use Rattle.nr_preconv.specs.declared.words.Place.TheVariants.{Between, Begun, Opened, Inside, Quoted, Closing}
 use Rattle.nr_preconv.specs.declared.words.Class.{Class}
@@ -26,6 +26,15 @@ is_ninth w = nat_le 9 w.count
 abbrev pub hyphens_by : Fonts → ℕ → Bool
 hyphens_by Tag count = count == 1
 hyphens_by fonts count = true
+
+-- the font of the word, by its letter
+abbrev pub face_by : Fonts → Bool → ℕ
+face_by (Same a) second = a
+face_by (Turn a b) second = if second then b else a
+face_by fonts second = code "R"
+
+abbrev pub word_face : Words → ℕ
+word_face w = face_by w.fonts w.second
 
 -- a hyphen here is one of text: where a tag or an address stands, the words after it are numbers
 abbrev pub has_hyphens : Words → Bool
@@ -86,6 +95,7 @@ told place said takes w = record { words = words_at place w; said = said; takes 
 
 abbrev pub turned : Fonts → Bool → Said
 turned One second = Nothing
+turned (Same a) second = Nothing
 turned Tag second = Nothing
 turned (Turn a b) second = Font (if second then a else b)
 

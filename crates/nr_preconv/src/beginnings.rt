@@ -2,7 +2,7 @@
 ghost use Rattle.std.specs.Prelude.{◌≡◌, ◌≤◌, ℕ};
 ghost use Rattle.nr_preconv.specs.declared.beginnings.TheConstants.{OPENING};
 ghost use Rattle.nr_preconv.specs.Glyphs.{looked_up};
-ghost use Rattle.nr_preconv.specs.Beginnings.{entry, goes_out, group, group_of, is_known, known_entry, opened, opened_by, opening_entry, said_name};
+ghost use Rattle.nr_preconv.specs.Beginnings.{entry, goes_out, group, group_of, is_known, is_roman, known_entry, opened, opened_by, opening_entry, said_name};
 
 use super::glyphs::looked_up;
 use super::said::Said;
@@ -36,6 +36,10 @@ pub(crate) enum Opens {
     Paragraph,
     /// An address.
     Address,
+    /// A paragraph without a tag.
+    Plain,
+    /// A font.
+    Face,
     /// A paragraph whose tag is the next line.
     Tagged,
     /// A table.
@@ -47,12 +51,23 @@ pub(crate) enum Opens {
 }
 
 impl Opens {
+    /// Whether text after its line is roman: that of a heading, a paragraph, or words in fonts.
+    pub(crate) fn is_roman(self) -> bool
+        ensures { result ≡ is_roman self }
+    {
+        matches!(
+            self,
+            Opens::Words(_) | Opens::Paragraph | Opens::Tagged | Opens::Plain | Opens::Title
+        )
+    }
+
     /// Whether a name of this length that opens so goes out as it is, and so does a blank or a newline after it.
     pub(crate) fn goes_out(self, len: usize) -> bool
         ensures { result ≡ goes_out self len }
     {
         match self {
-            Opens::Ignored | Opens::Condition | Opens::Else | Opens::Nop => false,
+            Opens::Ignored | Opens::Condition | Opens::Else => false,
+            Opens::Nop | Opens::Translation | Opens::Face => false,
             Opens::Definition => len != 3,
             _ => true,
         }
@@ -60,11 +75,11 @@ impl Opens {
 }
 
 /// The names that are of account here, those with the same first byte side by side.
-static OPENING: [(u8, u8, Opens); 48] = [
+static OPENING: [(u8, u8, Opens); 53] = [
     (b'.', b' ', Opens::End),
     (b'A', b'U', Opens::Words(Fonts::One)),
     (b'A', b'I', Opens::Words(Fonts::One)),
-    (b'B', b' ', Opens::Words(Fonts::One)),
+    (b'B', b' ', Opens::Words(Fonts::Same(b'B'))),
     (b'B', b'X', Opens::Words(Fonts::One)),
     (b'B', b'R', Opens::Words(Fonts::Turn(b'B', b'R'))),
     (b'B', b'I', Opens::Words(Fonts::Turn(b'B', b'I'))),
@@ -72,22 +87,26 @@ static OPENING: [(u8, u8, Opens); 48] = [
     (b'C', b'L', Opens::Words(Fonts::One)),
     (b'D', b'A', Opens::Words(Fonts::One)),
     (b'G', b'R', Opens::Words(Fonts::One)),
+    (b'H', b'P', Opens::Plain),
     (b'I', b'P', Opens::Paragraph),
-    (b'I', b' ', Opens::Words(Fonts::One)),
+    (b'I', b' ', Opens::Words(Fonts::Same(b'I'))),
     (b'I', b'B', Opens::Words(Fonts::Turn(b'I', b'B'))),
     (b'I', b'R', Opens::Words(Fonts::Turn(b'I', b'R'))),
     (b'L', b'G', Opens::Words(Fonts::One)),
+    (b'L', b'P', Opens::Plain),
     (b'M', b'E', Opens::Words(Fonts::One)),
     (b'M', b'T', Opens::Address),
     (b'N', b'H', Opens::Words(Fonts::One)),
     (b'N', b'D', Opens::Words(Fonts::One)),
+    (b'P', b'P', Opens::Plain),
+    (b'P', b' ', Opens::Plain),
     (b'R', b' ', Opens::Words(Fonts::One)),
     (b'R', b'B', Opens::Words(Fonts::Turn(b'R', b'B'))),
     (b'R', b'I', Opens::Words(Fonts::Turn(b'R', b'I'))),
     (b'S', b'M', Opens::Words(Fonts::One)),
-    (b'S', b'B', Opens::Words(Fonts::One)),
-    (b'S', b'H', Opens::Words(Fonts::One)),
-    (b'S', b'S', Opens::Words(Fonts::One)),
+    (b'S', b'B', Opens::Words(Fonts::Same(b'B'))),
+    (b'S', b'H', Opens::Words(Fonts::Same(b'B'))),
+    (b'S', b'S', Opens::Words(Fonts::Same(b'B'))),
     (b'S', b'U', Opens::Words(Fonts::One)),
     (b'S', b'G', Opens::Words(Fonts::One)),
     (b'T', b'H', Opens::Title),
@@ -105,6 +124,7 @@ static OPENING: [(u8, u8, Opens); 48] = [
     (b'd', b'e', Opens::Definition),
     (b'd', b's', Opens::Stored),
     (b'e', b'l', Opens::Else),
+    (b'f', b't', Opens::Face),
     (b'i', b'g', Opens::Ignored),
     (b'i', b'f', Opens::Condition),
     (b'i', b'e', Opens::Condition),
@@ -233,7 +253,7 @@ fn known_entry(name: &[u8]) -> Option<bool>
 fn group_of(first: u8) -> (usize, usize)
     ensures value { result ≡ group_of first }
     ensures within { result.0 ≤ result.1 }
-    ensures few { result.1 ≤ 48 }
+    ensures few { result.1 ≤ 53 }
 {
     match first {
         b'.' => (0, 1),
@@ -242,19 +262,22 @@ fn group_of(first: u8) -> (usize, usize)
         b'C' => (7, 9),
         b'D' => (9, 10),
         b'G' => (10, 11),
-        b'I' => (11, 15),
-        b'L' => (15, 16),
-        b'M' => (16, 18),
-        b'N' => (18, 20),
-        b'R' => (20, 23),
-        b'S' => (23, 29),
-        b'T' => (29, 36),
-        b'U' => (36, 39),
-        b'a' => (39, 41),
-        b'd' => (41, 43),
-        b'e' => (43, 44),
-        b'i' => (44, 47),
-        b't' => (47, 48),
+        b'H' => (11, 12),
+        b'I' => (12, 16),
+        b'L' => (16, 18),
+        b'M' => (18, 20),
+        b'N' => (20, 22),
+        b'P' => (22, 24),
+        b'R' => (24, 27),
+        b'S' => (27, 33),
+        b'T' => (33, 40),
+        b'U' => (40, 43),
+        b'a' => (43, 45),
+        b'd' => (45, 47),
+        b'e' => (47, 48),
+        b'f' => (48, 49),
+        b'i' => (49, 52),
+        b't' => (52, 53),
         _ => (0, 0),
     }
 }

@@ -58,6 +58,7 @@ impl Half {
             Escape::Embedded(backslash) => self.embedded(backslash, byte),
             Escape::Note => self.noted(byte),
             Escape::Hyphen => self.behind_hyphen(byte),
+            Escape::Sentence => self.behind_sentence(byte),
         }
     }
 }

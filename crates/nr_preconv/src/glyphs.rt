@@ -170,24 +170,32 @@ pub(crate) fn overstruck(text: &[u8]) -> Option<u32>
     }
 }
 
-/// The letter of a font by the last byte of its name.
-fn letter_of(last: u8) -> u8
-    ensures { result ≡ letter_of last }
+/// The letter of a font with a name of one byte, if it is one.
+fn letter_of(name: u8) -> Option<u8>
+    ensures { result ≡ letter_of name }
 {
-    match last {
-        b'B' | b'3' => b'B',
-        b'I' | b'2' | b'4' => b'I',
-        b'P' => b'P',
-        _ => b'R',
+    match name {
+        b'R' | b'1' | b'5' => Some(b'R'),
+        b'I' | b'2' | b'4' => Some(b'I'),
+        b'B' | b'3' => Some(b'B'),
+        b'P' => Some(b'P'),
+        _ => None,
     }
 }
 
-/// The letter of a font: roman, italic, bold or the previous one.
-pub(crate) fn font_of(name: &[u8]) -> u8
+/// The letter of a font: roman, italic, bold or the previous one. Bold italic is italic.
+pub(crate) fn font_of(name: &[u8]) -> Option<u8>
     ensures { result ≡ font_of name.now }
 {
-    match name.last() {
-        Some(last) => letter_of(*last),
-        None => b'P',
+    match name {
+        [] => Some(b'P'),
+        [letter] => letter_of(*letter),
+        [first, second] => match (*first, *second) {
+            (b'C', b'R') => Some(b'R'),
+            (b'C' | b'B', b'I') => Some(b'I'),
+            (b'C', b'B') => Some(b'B'),
+            _ => None,
+        },
+        _ => None,
     }
 }

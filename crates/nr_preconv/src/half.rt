@@ -1,10 +1,11 @@
 //! What is half read of a page.
 ghost use Rattle.std.specs.Prelude.{◌≡◌, true, false};
 ghost use Rattle.nr_preconv.specs.Named.{is_delimited};
-ghost use Rattle.nr_preconv.specs.Half.{character_said, first_half, is_beginning, is_space, is_text, is_whole, next_line, takes_brace, with_font, with_text};
+ghost use Rattle.nr_preconv.specs.Half.{after_other, character_said, first_half, is_beginning, is_space, is_text, is_whole, next_line, takes_brace, with_font, with_text};
 
 use super::likeness::is_blank;
 use super::said::Said;
+use super::translations::no_translations;
 use super::words::Words;
 use nr_units::Name;
 
@@ -25,8 +26,10 @@ pub(crate) enum Line {
     Request,
     /// In the text of a string, which may have two backslashes for one.
     Stored,
+    /// In the name of a font, in a line of `.ft`.
+    Face,
     /// In a line of `.tr`.
-    Translation,
+    Translation(Pair),
     /// Among the words of a font macro's line.
     Words(Words),
     /// Before a condition.
@@ -45,6 +48,17 @@ pub(crate) enum Line {
     Comment,
     /// In lines that are ignored.
     Ignored(Dots),
+}
+
+/// Where in a line of `.tr`.
+#[derive(Clone, Copy)]
+pub(crate) enum Pair {
+    /// Before a character that becomes another.
+    First,
+    /// After it, a byte.
+    Second(u8),
+    /// After it, which is no byte.
+    Other,
 }
 
 /// What a condition asks of a name.
@@ -78,6 +92,14 @@ pub(crate) enum Mark {
     Letter,
     /// An opening bracket or a quote, after which a word begins.
     Opening,
+    /// A `"`, which opens or closes.
+    Quote,
+    /// What ends a sentence.
+    Stop,
+    /// What may close a sentence after that.
+    Closing,
+    /// The same after a stop.
+    Closed,
     /// Two backslashes in a word of a macro, which copying it makes one.
     Backslash,
     /// Anything else.
@@ -140,6 +162,8 @@ pub(crate) enum Escape {
     Note,
     /// No escape, but a hyphen after a letter.
     Hyphen,
+    /// No escape, but a newline after what closes a sentence.
+    Sentence,
 }
 
 /// What an escape names.
@@ -223,6 +247,14 @@ pub(crate) struct Half {
     pub before: Before,
     /// In which line a tag stands.
     pub tag: Tag,
+    /// The letter of the font in text.
+    pub font: u8,
+    /// That of the font before.
+    pub previous: u8,
+    /// A byte is translated.
+    pub translating: bool,
+    /// What each byte of ASCII becomes, 0 if it stays.
+    pub translations: [u8; 128],
 }
 
 impl Seen {
@@ -265,6 +297,7 @@ impl Line {
     {
         match self {
             Line::Start | Line::Part | Line::Braced | Line::Fonts => Line::Text,
+            Line::Translation(pair) => Line::Translation(pair.after_other()),
             line => line,
         }
     }
@@ -298,6 +331,18 @@ impl Line {
             self,
             Line::Part | Line::Braced | Line::Number | Line::Strings(_, _)
         )
+    }
+}
+
+impl Pair {
+    /// Where it is after a character that is no byte.
+    fn after_other(self) -> Pair
+        ensures { result ≡ after_other self }
+    {
+        match self {
+            Pair::First => Pair::Other,
+            _ => Pair::First,
+        }
     }
 }
 
@@ -349,6 +394,10 @@ impl Half {
             table: false,
             before: Before::Character(Mark::Other),
             tag: Tag::Nowhere,
+            font: b'R',
+            previous: b'R',
+            translating: false,
+            translations: no_translations(),
         }
     }
 }

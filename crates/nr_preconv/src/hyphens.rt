@@ -26,7 +26,21 @@ pub(crate) fn is_letter(code: u32) -> bool
 fn is_opening(code: u32) -> bool
     ensures { result ≡ specs.is_opening code }
 {
-    matches!(code, 0x22 | 0x28 | 0x3C | 0x5B | 0x2018 | 0x201C)
+    matches!(code, 0x28 | 0x3C | 0x5B | 0x2018 | 0x201C)
+}
+
+/// What ends a sentence.
+fn is_stop(code: u32) -> bool
+    ensures { result ≡ specs.is_stop code }
+{
+    matches!(code, 0x2E | 0x3F | 0x21)
+}
+
+/// What may close a sentence.
+fn is_closing(code: u32) -> bool
+    ensures { result ≡ specs.is_closing code }
+{
+    matches!(code, 0x29 | 0x5D | 0x27 | 0x2A | 0x2019 | 0x201D)
 }
 
 /// What a character is, a letter or not.
@@ -35,8 +49,14 @@ fn mark_by(letter: bool, code: u32) -> Mark
 {
     if letter {
         Mark::Letter
+    } else if code == u32::from('"') {
+        Mark::Quote
     } else if is_opening(code) {
         Mark::Opening
+    } else if is_stop(code) {
+        Mark::Stop
+    } else if is_closing(code) {
+        Mark::Closing
     } else {
         Mark::Other
     }
@@ -83,6 +103,18 @@ fn has_hyphens(line: Line) -> bool
     }
 }
 
+impl Mark {
+    /// What it is after another: a bracket or a quote may close a sentence.
+    fn after(self, before: Mark) -> Mark
+        ensures { result ≡ specs.mark_after before self }
+    {
+        match (before, self) {
+            (Mark::Stop | Mark::Closed, Mark::Quote | Mark::Closing) => Mark::Closed,
+            _ => self,
+        }
+    }
+}
+
 impl Before {
     /// What stands there after one more character.
     fn followed(self, mark: Mark) -> Before
@@ -90,7 +122,7 @@ impl Before {
     {
         match self {
             Before::Argument => Before::Argument,
-            Before::Character(_) => Before::Character(mark),
+            Before::Character(before) => Before::Character(mark.after(before)),
         }
     }
 }
@@ -122,7 +154,7 @@ impl Half {
     pub(crate) fn begins_behind(&self) -> bool
         ensures { result ≡ specs.begins_behind self.now }
     {
-        matches!(self.before, Before::Character(Mark::Opening))
+        matches!(self.before, Before::Character(Mark::Opening | Mark::Quote))
     }
 
     /// The hyphens of this line are left as they are from here on.
@@ -193,7 +225,11 @@ impl Half {
     pub(crate) fn in_text(&mut self, byte: u8) -> Seen
         ensures { met self.new result ≡ specs.in_text byte self.old }
     {
+        if self.is_moved(byte) {
+            return self.moved(byte);
+        }
         match byte {
+            b'\n' if self.closes() => self.holds_newline(),
             b'\n' => self.says(byte, Line::Start),
             b'-' if self.turns_hyphens() => self.hyphen(Line::Text),
             _ => self.says(byte, Line::Text),

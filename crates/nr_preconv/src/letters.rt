@@ -11,10 +11,7 @@ use super::said::Said;
 fn is_measured(byte: u8) -> bool
     ensures { result ≡ specs.is_measured byte }
 {
-    matches!(
-        byte,
-        b'h' | b'v' | b'w' | b'l' | b'L' | b'D' | b'b' | b'x'
-    )
+    matches!(byte, b'h' | b'v' | b'w' | b'l' | b'L' | b'D' | b'b' | b'x')
 }
 
 /// The letter of an escape with a name that is dropped: colours, families, devices.

@@ -1,7 +1,7 @@
 //! What manual pages use, turned into the language of the formatter.
 //!
 //! It stands on nr_units, nr_vectors and nr_characters. To read: `numbers`, `pairs`, `glyphs`; `signs`, `likeness`, `said`; `words`, `half`;
-//! `beginnings`, `hyphens`, `lines`, `conditions`; `endings`, `skipping`, `letters`,
+//! `beginnings`, `hyphens`, `sentences`, `translations`, `lines`, `conditions`; `endings`, `faces`, `skipping`, `letters`,
 //! `named`, `spelling`, `escapes`; `meeting`, which puts them together; `runs`, `passing`, `reader`, `running`;
 //! `plain_text`.
 #![tactic(auto)]
@@ -10,6 +10,7 @@ mod beginnings;
 mod conditions;
 mod endings;
 mod escapes;
+mod faces;
 mod glyphs;
 mod half;
 mod hyphens;
@@ -26,9 +27,11 @@ mod reader;
 mod running;
 mod runs;
 mod said;
+mod sentences;
 mod signs;
 mod skipping;
 mod spelling;
+mod translations;
 mod words;
 
 pub use plain_text::passes_unchanged;

@@ -4,7 +4,7 @@ ghost use Rattle.nr_preconv.specs.Half.{met};
 ghost use Rattle.nr_preconv.specs.Lines as specs;
 
 use super::beginnings::{Opens, opened, said_name};
-use super::half::{Dots, Half, Line, Seen, Tag};
+use super::half::{Dots, Half, Line, Pair, Seen, Tag};
 use super::hyphens::wide_mark;
 use super::said::Said;
 use super::words::{Class, Fonts, Words};
@@ -122,14 +122,15 @@ impl Half {
         self.line = match opens {
             Opens::Rest | Opens::Definition | Opens::End => Line::Request,
             Opens::Paragraph | Opens::Address => Line::Words(Words::new(Fonts::Tag)),
-            Opens::Tagged => Line::Request,
+            Opens::Tagged | Opens::Plain => Line::Request,
+            Opens::Face => Line::Face,
             Opens::Title | Opens::Table | Opens::TableEnd => Line::Request,
             Opens::Ignored if byte == b'\n' && !self.conditional => Line::Ignored(Dots::Other),
             Opens::Ignored => Line::Request,
             Opens::Condition => Line::Condition,
             Opens::Else | Opens::Nop => Line::Part,
             Opens::Stored => Line::Stored,
-            Opens::Translation => Line::Translation,
+            Opens::Translation => Line::Translation(Pair::First),
             Opens::Words(fonts) => Line::Words(Words::new(fonts)),
         };
         self.defining = match opens {
@@ -143,6 +144,10 @@ impl Half {
             Opens::Address => Tag::Address,
             _ => self.tag,
         };
+        if opens.is_roman() {
+            self.font = b'R';
+            self.previous = b'R';
+        }
         match opens {
             Opens::Title if !self.table => self.manual = true,
             Opens::Table => self.table = true,
@@ -177,6 +182,9 @@ impl Half {
     fn in_rest(&mut self, byte: u8) -> Seen
         ensures { met self.new result ≡ specs.in_rest byte self.old }
     {
+        if byte == b'\r' {
+            return Seen::taken(Said::Nothing);
+        }
         let line = if byte == b'\n' {
             Line::Start
         } else {
@@ -209,11 +217,27 @@ impl Half {
         }
     }
 
+    /// A byte among words that is dropped or translated.
+    fn word_moved(&mut self, words: Words, byte: u8) -> Seen
+        ensures { met self.new result ≡ specs.word_moved words byte self.old }
+    {
+        if byte == b'\r' {
+            return Seen::taken(Said::Nothing);
+        }
+        let code = u32::from(self.translated(byte));
+        self.places(wide_mark(code));
+        let said = Line::Words(words).character(code);
+        self.among_words(words, Class::Other, said)
+    }
+
     /// A byte among words. The ninth has its last quote before the newline.
     #[inline(always)]
     fn in_words(&mut self, words: Words, byte: u8) -> Seen
         ensures { met self.new result ≡ specs.in_words words byte self.old }
     {
+        if self.is_moved(byte) {
+            return self.word_moved(words, byte);
+        }
         if byte == b'-' && self.turns_hyphens() && !words.begins_word() {
             return self.hyphen(Line::Words(words));
         }
@@ -260,23 +284,15 @@ impl Half {
             Line::Asked(asked) => self.in_asked(asked, byte),
             Line::Part | Line::Braced => self.at_part(byte),
             Line::Text => self.in_text(byte),
-            Line::Request | Line::Stored | Line::Translation => self.in_rest(byte),
+            Line::Request | Line::Stored => self.in_rest(byte),
+            Line::Translation(pair) => self.in_translation(pair, byte),
+            Line::Face => self.in_face(byte),
             Line::Fonts => self.behind_fonts(byte),
             Line::Comment | Line::Ignored(_) => {
                 self.passes(byte);
                 Seen::taken(Said::Byte(byte))
             }
         }
-    }
-
-    /// A character beyond ASCII goes out, and the line goes on so.
-    fn shows(&mut self, code: u32, line: Line) -> Seen
-        ensures { met self.new result ≡ specs.showing code line self.old }
-    {
-        let said = self.line.character(code);
-        self.places(wide_mark(code));
-        self.line = line;
-        Seen::taken(said)
     }
 
     /// A character beyond ASCII in a line, in no escape.
@@ -290,12 +306,13 @@ impl Half {
             ),
             Line::Control => self.blanks_said(Line::Request),
             Line::Name => self.named_line(b' '),
+            Line::Face => self.face_ends(),
             Line::Words(words) => {
                 self.places(wide_mark(code));
                 self.among_words(words, Class::Other, self.line.character(code))
             }
             Line::Asked(asked) => self.in_asked(asked, b'?'),
-            line => self.shows(code, line),
+            line => self.shows(code, line.with_text()),
         }
     }
 
@@ -305,7 +322,12 @@ impl Half {
     {
         !matches!(
             self.line,
-            Line::Control | Line::Name | Line::Asked(_) | Line::Comment | Line::Ignored(_)
+            Line::Control
+                | Line::Name
+                | Line::Face
+                | Line::Asked(_)
+                | Line::Comment
+                | Line::Ignored(_)
         )
     }
 }

@@ -1,6 +1,6 @@
 //! A character meets what is half read.
 ghost use Rattle.std.specs.Prelude.{◌≡◌};
-ghost use Rattle.nr_preconv.specs.Half.{met};
+ghost use Rattle.nr_preconv.specs.Half.{is_open, met};
 ghost use Rattle.nr_preconv.specs.Meeting as specs;
 
 use super::half::{Coming, Escape, Half, Line, Seen};
@@ -56,6 +56,7 @@ impl Half {
             Escape::Skip | Escape::Skipped(_) | Escape::Embedded(_) | Escape::Note => {
                 Seen::taken(Said::Nothing)
             }
+            Escape::Sentence => self.behind_sentence(b'?'),
             _ => self.abandoned(),
         }
     }
@@ -71,21 +72,41 @@ impl Half {
         }
     }
 
+    /// Whether no escape is half read, and no byte is translated.
+    #[inline(always)]
+    pub(crate) fn is_open(&self) -> bool
+        ensures { result ≡ is_open self.now }
+    {
+        matches!(self.escape, Escape::Plain) && !self.translating
+    }
+
+    /// Whether a byte of a text line is no hyphen that is read, and no newline that waits.
+    #[inline(always)]
+    fn is_text_as_is(&self, byte: u8) -> bool
+        ensures { result ≡ specs.is_text_as_is byte self.now }
+    {
+        match byte {
+            b'-' => !self.turns_hyphens(),
+            b'\n' => !self.closes(),
+            _ => true,
+        }
+    }
+
     /// Whether an ASCII character goes out as it is and is taken at once.
     #[inline(always)]
     pub(crate) fn takes_as_is(&self, byte: u8) -> bool
         ensures { result ≡ specs.is_as_is byte self.now }
     {
-        if byte >= 127 || byte == b'\\' || !matches!(self.escape, Escape::Plain) {
+        if byte >= 127 || byte == b'\r' || byte == b'\\' || !self.is_open() {
             return false;
         }
         match self.line {
-            Line::Request | Line::Stored | Line::Translation => true,
-            Line::Text => !self.turns_hyphens() || byte != b'-',
-            Line::Fonts => byte != b' ' && (!self.turns_hyphens() || byte != b'-'),
+            Line::Request | Line::Stored => true,
+            Line::Text => self.is_text_as_is(byte),
+            Line::Fonts => byte != b' ' && self.is_text_as_is(byte),
             Line::Start => {
                 !matches!(byte, b'.' | b'\'')
-                    && (!self.turns_hyphens() || byte != b'-')
+                    && self.is_text_as_is(byte)
                     && !(matches!(byte, b'\n' | b' ') && self.follows_tag())
             }
             Line::Words(words) => words.takes_as_is(byte),

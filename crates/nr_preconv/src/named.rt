@@ -4,7 +4,7 @@ ghost use Rattle.nr_preconv.specs.Half.{met};
 ghost use Rattle.nr_preconv.specs.Named as specs;
 
 use super::glyphs::{
-    code_of, font_of, glyph_code, is_native, is_pair, is_struck, overstruck, quote_of, string_code,
+    code_of, glyph_code, is_native, is_pair, is_struck, overstruck, quote_of, string_code,
 };
 use super::half::{Before, Half, Kind, Line, Mark, Seen};
 use super::hyphens::{is_hang, wide_mark};
@@ -63,7 +63,7 @@ impl Half {
             return self.native(glyph_code(name.as_bytes()));
         }
         if is_pair(name.as_bytes(), b'*', b'W') {
-            if matches!(self.line, Line::Translation) {
+            if matches!(self.line, Line::Translation(_)) {
                 self.dashes = true;
                 return self.ended_kept();
             }
@@ -72,7 +72,7 @@ impl Half {
                 return self.ended(Said::Escape(b'-'));
             }
         }
-        let translates = matches!(self.line, Line::Translation);
+        let translates = matches!(self.line, Line::Translation(_));
         if is_pair(name.as_bytes(), b'i', b's') && translates {
             self.quotes = true;
             return self.ended_kept();
@@ -156,7 +156,7 @@ impl Half {
         match kind {
             Kind::Glyph => self.glyph(),
             Kind::Code => self.numbered(),
-            Kind::Font => self.ended_font(Said::Font(font_of(name.as_bytes()))),
+            Kind::Font => self.font(),
             Kind::Register if is_pair(name.as_bytes(), b'.', b'g') => {
                 self.places(Mark::Other);
                 self.ended(Said::Byte(b'1'))

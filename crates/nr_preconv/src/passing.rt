@@ -1,7 +1,7 @@
 //! Many bytes at once: those that go out as they are.
 ghost use Rattle.std.specs.Prelude.{◌≡◌, ◌+◌, ◌<◌, ◌≤◌, ◌∷◌, [], length, take, true, false};
 ghost use Rattle.nr_preconv.specs.declared.reader.Pending.TheVariants.{Nothing};
-ghost use Rattle.nr_preconv.specs.Half.{is_plain};
+ghost use Rattle.nr_preconv.specs.Half.{is_open};
 ghost use Rattle.nr_preconv.specs.Runs.{dot};
 ghost use Rattle.nr_preconv.specs.Passing.{Passes};
 ghost use Rattle.nr_preconv.specs.Reading as specs;
@@ -14,13 +14,13 @@ use super::said::may_go_out;
 use nr_units::Name;
 
 impl Reader {
-    /// Whether nothing is half read of a character, and nothing of an escape.
+    /// Whether nothing is half read of a character, and nothing of an escape, and no byte is translated.
     #[inline(always)]
     fn is_between(&self) -> bool
         ensures pending { result ≡ true → self.now.pending ≡ Nothing }
-        ensures escape { result ≡ true → is_plain self.now.half.escape ≡ true }
+        ensures clear { result ≡ true → is_open self.now.half ≡ true }
     {
-        matches!(self.pending, Pending::Nothing) && matches!(self.half.escape, Escape::Plain)
+        matches!(self.pending, Pending::Nothing) && self.half.is_open()
     }
 
     /// Takes a byte that goes out as it is in one step, where nothing is half read of a character.
@@ -148,7 +148,7 @@ impl Reader {
         match self.half.line {
             Line::Start | Line::Fonts => self.pass_line(bytes),
             Line::Text | Line::Request => self.pass_text(bytes),
-            Line::Stored | Line::Translation | Line::Words(_) => self.pass_text(bytes),
+            Line::Stored | Line::Words(_) => self.pass_text(bytes),
             Line::Comment | Line::Ignored(_) => self.pass_raw(bytes),
             _ => 0,
         }
@@ -169,7 +169,7 @@ impl Reader {
             return 2;
         }
         if begins_font(bytes) {
-            self.half.takes_font();
+            self.half.takes_font(bytes[2]);
             return 3;
         }
         0

@@ -8,10 +8,10 @@ ghost use Rattle.nr_preconv.specs.Reading.{converted, steps_of};
 fn goes_on(starts: bool, byte: u8) -> bool
     ensures { result ≡ goes_on starts byte }
 {
-    byte < 127 && byte != b'\\' && !(starts && (byte == b'.' || byte == b'\''))
+    byte < 127 && byte != b'\r' && byte != b'\\' && !(starts && (byte == b'.' || byte == b'\''))
 }
 
-/// Whether a text is of ASCII, without DEL and backslashes, and none of its lines begins with a control character. Such a
+/// Whether a text is of ASCII, without DEL, carriage returns and backslashes, and none of its lines begins with a control character. Such a
 /// text is what `convert` makes of it, in one step for each byte.
 pub fn passes_unchanged(text: &[u8]) -> bool
     ensures value { result ≡ is_plain_text text.now }

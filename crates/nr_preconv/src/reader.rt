@@ -309,7 +309,10 @@ impl Reader {
     {
         let steps = self.hear_pending(out);
         put_sent(self.half.kept.as_bytes(), self.table, out);
-        if matches!(self.half.line, Line::Control | Line::Name | Line::Asked(_)) {
+        if matches!(
+            self.half.line,
+            Line::Control | Line::Name | Line::Face | Line::Asked(_)
+        ) {
             put_sent(self.half.name.as_bytes(), self.table, out);
         }
         steps

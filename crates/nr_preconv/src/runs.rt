@@ -10,10 +10,10 @@ use nr_units::Name;
 
 /// Each byte that only goes on a text line or a request, at its place, and a hyphen at that of each other.
 static TEXT: [u8; 256] =
-    *b"-------------------------------- !\"#$%&'()*+,-./0123456789:;<=>?@ABCDEFGHIJKLMNOPQRSTUVWXYZ[-]^_`abcdefghijklmnopqrstuvwxyz{|}~---------------------------------------------------------------------------------------------------------------------------------";
+    *b"-------------------------------- !-#$%&-(--+,-./0123456789:;<=>?@ABCDEFGHIJKLMNOPQRSTUVWXYZ[--^_`abcdefghijklmnopqrstuvwxyz{|}~---------------------------------------------------------------------------------------------------------------------------------";
 
-/// Whether a byte only goes on a text line or a request: it prints, and is neither a hyphen nor a backslash. One look
-/// at a table takes half the instructions of comparing with the ends of three ranges.
+/// Whether a byte only goes on a text line or a request: it prints, and is neither a hyphen, a backslash nor what
+/// closes a sentence. One look at a table takes half the instructions of comparing with the ends of three ranges.
 fn goes_on_text(byte: u8) -> bool
     ensures { result ≡ specs.goes_on_text byte }
 {
@@ -83,11 +83,11 @@ impl Half {
         ensures len { result ≡ specs.run_len bytes.now self.now }
         ensures within { result ≤ length bytes.now }
     {
-        if !matches!(self.escape, Escape::Plain) {
+        if !self.is_open() {
             return 0;
         }
         match self.line {
-            Line::Text | Line::Request | Line::Stored | Line::Translation => text_run(bytes),
+            Line::Text | Line::Request | Line::Stored => text_run(bytes),
             Line::Words(words) => word_run(words, bytes),
             _ => 0,
         }
@@ -122,7 +122,7 @@ impl Half {
     pub(crate) fn takes_name(&mut self, name: Name)
         ensures { self.new ≡ specs.behind_name name self.old }
     {
-        self.places(Mark::Other);
+        self.places(Mark::Stop);
         self.conditional = false;
         self.name = name;
         self.line = Line::Name;
@@ -175,9 +175,10 @@ impl Half {
     }
 
     /// Takes a font, as `\\fB`.
-    pub(crate) fn takes_font(&mut self)
-        ensures { self.new ≡ specs.behind_font self.old }
+    pub(crate) fn takes_font(&mut self, letter: u8)
+        ensures { self.new ≡ specs.behind_font letter self.old }
     {
+        self.faces(letter);
         self.forget();
         self.line = self.line.with_font();
     }
@@ -257,7 +258,8 @@ pub(crate) fn begins_comment(bytes: &[u8]) -> bool
 
 /// Whether a text begins with one of the fonts that the language has.
 pub(crate) fn begins_font(bytes: &[u8]) -> bool
-    ensures { result ≡ specs.begins_font bytes.now }
+    ensures value { result ≡ specs.begins_font bytes.now }
+    ensures within { result ≡ true → 3 ≤ length bytes.now }
 {
     match bytes {
         [backslash, letter, font, ..] => {

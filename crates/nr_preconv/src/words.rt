@@ -1,15 +1,17 @@
 //! The words of a font macro's line. After the eighth all that follows is one word in quotes, since no
 //! more than nine are taken.
 ghost use Rattle.std.specs.Prelude.{◌≡◌, ◌<◌};
-ghost use Rattle.nr_preconv.specs.Words.{begun, begins_word, behind_quote, blank_said, class_of, first_words, font_said, goes_on_with, goes_on_with_space, has_hyphens, inside, is_as_is, is_ninth, met_closing, met_words, quoted_said, taken_as_is, told, words_at};
+ghost use Rattle.nr_preconv.specs.Words.{begun, begins_word, behind_quote, blank_said, class_of, first_words, font_said, goes_on_with, goes_on_with_space, has_hyphens, inside, is_as_is, is_ninth, met_closing, met_words, quoted_said, taken_as_is, told, word_face, words_at};
 
 use super::said::Said;
 
 /// The fonts of a macro's words.
 #[derive(Clone, Copy)]
 pub(crate) enum Fonts {
-    /// One font.
+    /// None, or one that isn't known here.
     One,
+    /// One font, by its letter.
+    Same(u8),
     /// Two fonts in turn, by their letters.
     Turn(u8, u8),
     /// None: the first word is a tag or an address, and others are numbers.
@@ -111,6 +113,17 @@ impl Words {
         }
     }
 
+    /// The letter of the font of the word.
+    pub(crate) fn face(self) -> u8
+        ensures { result ≡ word_face self }
+    {
+        match self.fonts {
+            Fonts::One | Fonts::Tag => b'R',
+            Fonts::Same(letter) => letter,
+            Fonts::Turn(first, second) => if self.second { second } else { first },
+        }
+    }
+
     /// Whether an escape that comes begins a word, or ends one before.
     pub(crate) fn begins_word(self) -> bool
         ensures { result ≡ begins_word self }
@@ -138,7 +151,7 @@ impl Words {
         ensures { result ≡ font_said self }
     {
         match self.fonts {
-            Fonts::One | Fonts::Tag => Said::Nothing,
+            Fonts::One | Fonts::Same(_) | Fonts::Tag => Said::Nothing,
             Fonts::Turn(first, second) => Said::Font(if self.second { first } else { second }),
         }
     }

@@ -65,3 +65,8 @@ returns-clause-steps t c =
     ap (λ (n : ℕ). 1 + n) (c.hear_in.ensures.steps ∙ ap (λ (s : Reader). (heard_in (c.args.most - 1) c.args.coming s).steps) (c.hears_as_is.ensures.left c.if-hears_as_is.false))
     ∙ ap (λ (x : Told). x.steps)
     (sym (heard_left c.args.most c.args.coming c.args.self.now c.meet-seen.new.self c.meet-seen.result c.meet-seen.ensures (omega arith) c.if-seen.false))
+
+pub returns-then-seen-clause-reader : goal.returns-then-seen-clause-reader
+returns-then-seen-clause-reader t c =
+    ap (λ (x : Told). x.reader)
+    (sym (heard_taken c.args.most c.args.coming c.args.self.now c.meet-seen.new.self c.meet-seen.result c.meet-seen.ensures (omega arith) c.if-seen.true))

@@ -1,6 +1,8 @@
-use Rattle.std.proofs.Common.{take, sym, ◌∙◌, ap}
+use Rattle.std.proofs.Common.{take, not, sym, ◌∙◌, ap}
 use Rattle.nr_preconv.specs.declared.half.Half.{Half}
 use Rattle.nr_preconv.specs.Reading.{told, with_half}
+use Rattle.nr_preconv.specs.Half.{is_plain}
+use Rattle.nr_preconv.proofs.Plain.{and-first}
 use Rattle.nr_preconv.proofs.CommentLines.{comment_begun}
 use Rattle.nr_preconv.proofs.reader.Reader.pass_comment.Goals as goal
 
@@ -8,6 +10,6 @@ pub returns-in-Start-clause-taken : goal.returns-in-Start-clause-taken
 returns-in-Start-clause-taken c = λ _.
     let bs = c.args.bytes.now in
     let r = c.args.self.now in
-    comment_begun bs r (c.is_between.ensures.pending c.if-not-is_between.false) (c.is_between.ensures.escape c.if-not-is_between.false) c.in-Start.is
+    comment_begun bs r (c.is_between.ensures.pending c.if-not-is_between.false) (and-first (is_plain r.half.escape) (not r.half.translating) (c.is_between.ensures.clear c.if-not-is_between.false)) c.in-Start.is
     (sym c.begins_comment.ensures.value ∙ c.if-begins_comment.true)
     ∙ ap (λ (h : Half). told (with_half h r) (take 3 bs) 4) (sym c.takes_comment.ensures)

@@ -19,7 +19,7 @@ returns-clause-taken c = λ _.
     let is : c.opened-opens.result ≡ opened (take n (drop 1 bs)) = c.opened-opens.ensures ∙ ap (λ (name : List ℕ). opened name) cut in
     let goes : goes_out (opened (take n (drop 1 bs))) n ≡ true =
     ap (λ (o : Opens). goes_out o n) (sym is) ∙ sym c.goes_out.ensures ∙ c.if-not-goes_out.false in
-    control_fed n bs r b (c.is_between.ensures.pending c.if-not-is_between.false) c.name_len-len.ensures.len (omega arith) (omega arith) refl
+    control_fed n bs r b (c.is_between.ensures.pending c.if-not-is_between.false) (c.is_between.ensures.clear c.if-not-is_between.false) c.name_len-len.ensures.len (omega arith) (omega arith) refl
     (sym c.is_end.ensures ∙ c.if-not-is_end.false) goes
     ∙ ap (λ (h : Half). told (with_half h r) (take (n + 2) bs) (n + 3)) (ap (λ (o : Opens). behind_control o b r.half) (sym is) ∙ sym c.takes_control.ensures)
     ∙ ap (λ (m : ℕ). told (with_half c.takes_control.new.self r) (take (n + 2) bs) m) (let e : n + 3 ≡ n + 2 + 1 = omega arith in e)

@@ -17,4 +17,4 @@ returns-then-begins_font-clause-plain c =
     let P : Half → Type 0 = λ h. Passes 3 c.args.bytes.now c.args.self.now (with_half h c.args.self.now) in
     subst P (sym c.takes_font.ensures)
     (font_passes c.args.bytes.now c.args.self.now c.requires (sym c.takes_plain_escape.ensures ∙ c.if-not-takes_plain_escape.false)
-    (sym c.begins_font.ensures ∙ c.if-begins_font.true))
+    (sym c.begins_font.ensures.value ∙ c.if-begins_font.true))
