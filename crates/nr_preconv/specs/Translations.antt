@@ -1,6 +1,5 @@
 -- Translations of bytes to bytes by `.tr` (the groff manual, Character Translations).
-use Prim.Native.Char.{code}
-use Rattle.std.specs.Prelude.{ℕ, List, ◌==◌, nat_lt, if◌then◌else◌, replicate, slice_index, slice_set}
+use Rattle.std.specs.Prelude.{ℕ, List, nat_lt, if◌then◌else◌, replicate, slice_index, slice_set}
 
 -- for each byte of ASCII what it becomes: none is translated at first
 unfoldable pub no_translations : List ℕ
