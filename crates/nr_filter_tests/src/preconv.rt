@@ -12,7 +12,7 @@ struct Row {
     line: &'static [u8],
 }
 
-static TEXTS: [(&str, Page<'static>); 28] = [
+static TEXTS: [(&str, Page<'static>); 32] = [
     (
         "quotes",
         Page::Bytes(b"\xe2\x80\x9ca\xe2\x80\x9d \\(em \\fIb\\fP\n"),
@@ -67,6 +67,18 @@ static TEXTS: [(&str, Page<'static>); 28] = [
             b".TH x\n\\fBa\\fCb\\f(CWc\\fPd\\fR\\fXe\n\\fIf\\fP\n.ft C\ng\n.ft P\n.B a \\f(CWb\\fP\n.BR a \\fXb\n.ft CB\n\\fXh\n.PP\n\\fX\\f[BI]\\f5i\n.ft\n.ft \\*x\n",
         ),
     ),
+    (
+        "faults",
+        Page::Bytes(
+            b"a\n.TH x\n.Xx\n\\*(yy\\*[R]\\y\n.RE\n.EE\n.UE\n.YS\n.RS\n.EX\n.de Xx\n.Zz\n..\n.Xx\n.if n .Zz\n.ds yy a\n\\*(yy\n.MT a\n.SY a\n.\x1bq\n",
+        ),
+    ),
+    ("mdoc", Page::Bytes(b".Dd x\n.Zz\n")),
+    ("another", Page::Bytes(b".so a\n")),
+    (
+        "untitled",
+        Page::Bytes(b".SH A\n.if n \\{\\\n.Zz\n.\\}\nb\n"),
+    ),
     // UTF-16, either byte of a unit first: a pair, a half of one, half a unit.
     (
         "little",
@@ -99,7 +111,7 @@ static TEXTS: [(&str, Page<'static>); 28] = [
     ("cut", Page::Cut(b"a\\~b\n.BR c\\(l")),
 ];
 
-static ROWS: [Row; 36] = [
+static ROWS: [Row; 41] = [
     Row {
         words: &[b"preconv"],
         output: b"cafe\n",
@@ -240,6 +252,38 @@ static ROWS: [Row; 36] = [
         output: b".TH x\n\\fBa\\fBb\\fBc\\fPd\\fR\\fRe\n\\fIf\\fP\n.ft R\ng\n.ft P\n.B a \\fBb\\fP\n.BR a \\fRb\n.ft B\n\\fBh\n.PP\n\\fR\\fI\\fRi\n.ft\n.ft \\*x\n",
         status: 0,
         line: b"",
+    },
+    // What is wrong in a page is told to who asks for it, and changes nothing.
+    Row {
+        words: &[b"preconv", b"--warnings", b"faults"],
+        output: b"a\n.TH x\n.Xx\n\\*(yy\\*[R]\\y\n.RE\n.EE\n.UE\n.YS\n.RS\n.EX\n.de Xx\n.Zz\n..\n.Xx\n.if n .Zz\n.ds yy a\n\\*(yy\n.MT a\n.SY a\n.\x1bq\n",
+        status: 1,
+        line: b"preconv: faults:2: text before .TH\npreconv: faults:3: unknown macro or request: Xx\npreconv: faults:4: unknown string: yy\npreconv: faults:4: unknown escape: \\y\npreconv: faults:5: end of what is not open: RE\npreconv: faults:6: end of what is not open: EE\npreconv: faults:7: end of what is not open: UE\npreconv: faults:8: end of what is not open: YS\npreconv: faults:20: unknown macro or request: ?q\npreconv: faults:9: missing end: RS\npreconv: faults:10: missing end: EX\npreconv: faults:18: missing end: MT\npreconv: faults:19: missing end: SY\n",
+    },
+    Row {
+        words: &[b"preconv", b"faults"],
+        output: b"a\n.TH x\n.Xx\n\\*(yy\\*[R]\\y\n.RE\n.EE\n.UE\n.YS\n.RS\n.EX\n.de Xx\n.Zz\n..\n.Xx\n.if n .Zz\n.ds yy a\n\\*(yy\n.MT a\n.SY a\n.\x1bq\n",
+        status: 0,
+        line: b"",
+    },
+    Row {
+        words: &[b"preconv", b"--warnings", b"untitled"],
+        output: b".SH A\n.if n \\{\\\n.Zz\n.\\}\nb\n",
+        status: 1,
+        line: b"preconv: untitled:1: missing .TH\n",
+    },
+    // A page of mdoc(7) isn't looked at, nor one that names another.
+    Row {
+        words: &[b"preconv", b"--warnings", b"mdoc", b"another"],
+        output: b".Dd x\n.Zz\n.so a\n",
+        status: 0,
+        line: b"",
+    },
+    Row {
+        words: &[b"preconv", b"--warning"],
+        output: b"",
+        status: 2,
+        line: b"preconv: unknown option --warning\n",
     },
     // Text is read under its coding.
     Row {

@@ -11,6 +11,8 @@ use nr_filters::is_option;
 pub struct Job {
     /// What bytes from 128 on stand for, if anything.
     pub table: Option<Table>,
+    /// What is wrong in pages is told.
+    pub warnings: bool,
     /// The place of the first file among the words: there may be none.
     pub files: usize,
 }
@@ -32,6 +34,7 @@ pub fn read_words(words: &[&str]) -> Result<Job, Wrong>
     ensures within { IsWithin (length words.now) result }
 {
     let mut table = None;
+    let mut warnings = false;
     let mut awaits = false;
     for (place, word) in words.iter().enumerate() {
         let bytes = word.as_bytes();
@@ -44,12 +47,15 @@ pub fn read_words(words: &[&str]) -> Result<Job, Wrong>
         } else if !is_option(word) {
             return Ok(Job {
                 table,
+                warnings,
                 files: place,
             });
         } else if bytes == b"-8".as_slice() {
             table = Some(Table::Latin1);
         } else if bytes == b"-u".as_slice() {
             awaits = true;
+        } else if bytes == b"--warnings".as_slice() {
+            warnings = true;
         } else {
             return Err(Wrong::UnknownOption(place));
         }
@@ -59,6 +65,7 @@ pub fn read_words(words: &[&str]) -> Result<Job, Wrong>
     }
     Ok(Job {
         table,
+        warnings,
         files: words.len(),
     })
 }

@@ -1,14 +1,18 @@
 // The program over its words and its texts.
 
-use super::arguments::{Wrong, read_words};
+use super::arguments::{Job, Wrong, read_words};
+use super::complaints::tell_complaints;
 use super::lines::Lines;
 use itoa::Buffer;
 use nr_characters::Table;
 use nr_coding::{UnderCoding, Unknown};
 use nr_filters::{Buffers, Disk, Ending, Filter, Turns, put_all, turn_all};
+use nr_man_lint::{Complaint, Watch, Watched, room_for};
 use nr_preconv::{Outcome, convert};
+use nr_units::Name;
 use nr_units::buffered::Buffered;
 use nr_units::sink::Sink;
+use std::alloc::{AllocError, Global};
 use std::io::Read;
 use std::rt::Files;
 
@@ -39,12 +43,8 @@ impl Filter for Preconv {
             Ok(texts) => texts,
             Err(ending) => return ending,
         };
-        let Ok(buffers) = Buffers::new(disk.alloc) else {
+        let Ok(mut turner) = Turner::new(job, disk.alloc) else {
             return Ending::OutOfMemory;
-        };
-        let mut turner = Turner {
-            table: job.table,
-            buffers,
         };
         turn_all(&mut turner, texts, output, errors)
     }
@@ -54,7 +54,33 @@ impl Filter for Preconv {
 #[derive(Drop)]
 struct Turner {
     table: Option<Table>,
+    warnings: bool,
     buffers: Buffers,
+    /// Names that a page defines.
+    names: Vec<Name>,
+    /// What is wrong with it.
+    complaints: Vec<Complaint>,
+}
+
+/// How many names of its own a page that is watched may have.
+const MOST_NAMES: usize = 256;
+
+/// How many complaints about a text are told.
+const MOST_COMPLAINTS: usize = 64;
+
+impl Turner {
+    /// Takes the memory of a job: that of complaints only where they are told.
+    fn new(job: Job, alloc: Global) -> Result<Turner, AllocError> {
+        let names = if job.warnings { MOST_NAMES } else { 0 };
+        let complaints = if job.warnings { MOST_COMPLAINTS } else { 0 };
+        Ok(Turner {
+            table: job.table,
+            warnings: job.warnings,
+            buffers: Buffers::new(alloc)?,
+            names: vec![in alloc; Name::new(); names]?,
+            complaints: room_for(complaints, alloc)?,
+        })
+    }
 }
 
 impl Turns for Turner {
@@ -66,7 +92,9 @@ impl Turns for Turner {
         output: &mut W,
         errors: &mut E,
     ) -> Ending<'a> {
-        let mut source = UnderCoding::over(Buffered::over(text, &mut self.buffers.input));
+        let text = UnderCoding::over(Buffered::over(text, &mut self.buffers.input));
+        let page = Watch::over(&mut self.names, &mut self.complaints);
+        let mut source = Watched::over(text, page, self.warnings);
         let mut lines = Lines::over(output);
         let mut steps = 0;
         let pending = &mut self.buffers.pending;
@@ -79,9 +107,14 @@ impl Turns for Turner {
             Outcome::TooLong => Ending::TooLong(Some(name)),
             Outcome::ReadFault { at } => Ending::ReadFault(Some(name), at),
         };
-        match source.unknown() {
+        let ending = match source.source().unknown() {
             Some(unknown) => complained(name, unknown, ending, errors),
             None => ending,
+        };
+        let wrong = tell_complaints(name, source.told(), errors);
+        match ending {
+            Ending::Done if wrong => Ending::Complained,
+            _ => ending,
         }
     }
 }

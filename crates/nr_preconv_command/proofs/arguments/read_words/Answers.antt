@@ -8,8 +8,8 @@ returns-in-None-clause-answer c = grind (arith, common_steps)
 pub returns-then-not-is_option-clause-answer : goal.returns-then-not-is_option-clause-answer
 returns-then-not-is_option-clause-answer c = grind (arith, common_steps)
 
-pub returns-else-eq-2-clause-answer : goal.returns-else-eq-2-clause-answer
-returns-else-eq-2-clause-answer c = grind (arith, common_steps)
+pub returns-else-eq-3-clause-answer : goal.returns-else-eq-3-clause-answer
+returns-else-eq-3-clause-answer c = grind (arith, common_steps)
 
 pub loop-place-preserved : goal.loop-place-preserved
 loop-place-preserved c = grind (arith, common_steps)

@@ -5,4 +5,4 @@ use Rattle.nr_preconv_command.specs.Arguments.{asked, asked_from}
 use Rattle.nr_preconv_command.proofs.arguments.read_words.Given as goal
 
 abbrev pub invariant-loop-place : goal.invariant-loop-place
-invariant-loop-place l = asked (texts l.words) ≡ asked_from l.awaits l.table l.place (texts (drop l.place l.words))
+invariant-loop-place l = asked (texts l.words) ≡ asked_from l.awaits l.table l.warnings l.place (texts (drop l.place l.words))
