@@ -91,6 +91,8 @@ struct nulbiko_limits {
 struct nulbiko_options {
     int64_t first; /* The number of the first page, 1 where it is nothing else. One outside -2147483647 to
                     * 2147483647 sets nothing. */
+    bool bold;     /* Each cell but a blank is shown as it looks: underlined as `_`, a backspace and itself, bold as
+                    * itself, a backspace and itself. Else letters and digits of ASCII are underlined alone. */
 };
 
 /* What a call tells beside its outcome. */

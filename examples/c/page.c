@@ -59,7 +59,7 @@ int main(int count, char **words)
     if (count != 3)
         return 2;
     const struct nulbiko_limits limits = {262144, 64, 65536, 1000000, 100000000};
-    const struct nulbiko_options options = {1};
+    const struct nulbiko_options options = {1, false};
     struct nulbiko_report report = {0}, shown = {0};
     struct text page = empty(), man = empty(), turned = empty(), whole = empty(), pages = empty(), out = empty();
 

@@ -20,7 +20,7 @@ class Limits(ctypes.Structure):
 
 
 class Options(ctypes.Structure):
-    _fields_ = [('first', c_int64)]
+    _fields_ = [('first', c_int64), ('bold', c_bool)]
 
 
 class Report(ctypes.Structure):
@@ -66,7 +66,7 @@ class Nulbiko:
         table = self.library.nulbiko_choose_lent(page, c_size_t(len(page)))
         turned = self.call('preconv', [table], self.call('mdoc', [], page))
         tables = self.call('tbl', [table, 78], turned)
-        limits, options = Limits(262144, 64, 65536, 1000000, 100000000), Options(1)
+        limits, options = Limits(262144, 64, 65536, 1000000, 100000000), Options(1, False)
         text = b'.nr C 1\n.nr L 78\n' + macros + tables
         return self.call('utf8', [table, False], self.call('format', [byref(limits), byref(options)], text))
 

@@ -15,7 +15,7 @@
 enum { MOST = 1 << 23 };
 
 static const struct nulbiko_limits limits = {262144, 64, 65536, 1000000, 100000000};
-static const struct nulbiko_options options = {1};
+static const struct nulbiko_options options = {1, false};
 static char head[1 << 20];
 static size_t head_length;
 static char **pages;

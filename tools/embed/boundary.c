@@ -17,7 +17,7 @@ static void judge(const char *what, bool good)
 }
 
 static const struct nulbiko_limits plain = {262144, 256, 65536, 1000000, UINT64_MAX};
-static const struct nulbiko_options options = {1};
+static const struct nulbiko_options options = {1, false};
 static const char text[] = ".pl 1\na\n.br\nb\n.br\n";
 static struct nulbiko_report report;
 static char out[1 << 16];
@@ -137,6 +137,10 @@ static void outcomes(void)
     prepare();
     judge("format: the first page's number",
           nulbiko_format(&plain, &fifth, "\\n%\n", 4, out, 1, &report) == NULBIKO_FULL && put_out("5"));
+    const struct nulbiko_options bold = {1, true};
+    prepare();
+    judge("format: bold",
+          nulbiko_format(&plain, &bold, ".pl 1\n\\fBa\n", 11, out, sizeof out, &report) == NULBIKO_DONE && put_out("a\ba\n"));
     prepare();
     judge("preconv: a character", nulbiko_preconv(NULBIKO_NO_TABLE, "\xe2\x80\x94\n", 4, out, sizeof out, &report) == NULBIKO_DONE &&
                                       put_out("\\(em\n"));

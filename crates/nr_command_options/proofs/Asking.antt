@@ -2,7 +2,7 @@
 use Rattle.std.proofs.Common.{◌≡◌, ℕ, Bool, true, false, ◌||◌, List, [], ◌∷◌, ◌++◌, Option, Some, refl, sym, ap, ◌∙◌, arith, append-nil, length-append}
 use Rattle.std.proofs.lemmas.List.Elements.{filter_map-append}
 use Rattle.std.specs.List.{last_or, list_any, fold, AllZip}
-use Rattle.nr_command_options.specs.Settings.{Meaning, PrintOnly, BeginAt, SetRegister, ReadMacros, MacrosIn, ReadInput, SetLimit}
+use Rattle.nr_command_options.specs.Settings.{Meaning, PrintOnly, BeginAt, SetRegister, ReadMacros, MacrosIn, ReadInput, ShowFaces, SetLimit}
 use Rattle.nr_command_options.specs.Arguments.{AreFew, asked_by, last_of}
 use Rattle.nr_command_options.specs.Job.{Taken, OnlyMeans, HasRoom, with_meaning}
 
@@ -43,6 +43,7 @@ asked_by-more meanings (SetRegister name n) files = simp (filter_map-append, app
 asked_by-more meanings (ReadMacros name) files = simp (filter_map-append, append-nil, list_any-more, or-false)
 asked_by-more meanings (MacrosIn folder) files = simp (filter_map-append, append-nil, last_of-append, list_any-more, or-false)
 asked_by-more meanings ReadInput files = simp (filter_map-append, append-nil, list_any-more, or-false, or-true)
+asked_by-more meanings ShowFaces files = simp (filter_map-append, append-nil, last_of-append, list_any-more, or-false)
 asked_by-more meanings (SetLimit which n) files = simp (filter_map-append, append-nil, fold-append, list_any-more, or-false)
 
 -- one more where there is room leaves few

@@ -5,7 +5,7 @@ use Rattle.std.proofs.lemmas.List.Elements.{filter_map-append}
 use Rattle.std.specs.List.{filter_map, AllZip}
 use Rattle.nr_command_options.specs.declared.usage.Case.{Case}
 use Rattle.nr_command_options.specs.declared.usage.Case.TheVariants.{LeftOut, Unknown, BadValue, TooMany}
-use Rattle.nr_command_options.specs.Settings.{Meaning, PrintOnly, BeginAt, SetRegister, ReadMacros, MacrosIn, ReadInput, SetLimit, Means, IsIllFormed, hyphen, letter_of, is_among, known_letters, left_out_letters}
+use Rattle.nr_command_options.specs.Settings.{Meaning, PrintOnly, BeginAt, SetRegister, ReadMacros, MacrosIn, ReadInput, ShowFaces, SetLimit, Means, IsIllFormed, hyphen, letter_of, is_among, known_letters, left_out_letters}
 use Rattle.nr_command_options.specs.Arguments.{AreFew, IsFull, IsBad, Asked, Complaint, IsAnswer, IsGood, IsFirstBad, Mean, asked_by, register, macro_name, options, files}
 use Rattle.nr_command_options.specs.Job.{OnlyMeans, Taken, LacksRoom, Refuses}
 
@@ -18,6 +18,7 @@ letter_known (SetRegister name n) = refl
 letter_known (ReadMacros name) = refl
 letter_known (MacrosIn folder) = refl
 letter_known ReadInput = refl
+letter_known ShowFaces = refl
 letter_known (SetLimit limit n) = refl
 
 letter_not_left_out : (letter : ℕ) → IsTrue (is_among known_letters letter) → IsTrue (is_among left_out_letters letter) → ⊥

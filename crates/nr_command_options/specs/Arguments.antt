@@ -1,12 +1,14 @@
 -- What the words of the command line come to. (CSTR 54, usage.)
 use Rattle.std.specs.Prelude.{◌≡◌, ℕ, ◌≤◌, List, [], ◌∷◌, ◌++◌, length, drop, Bool, true, false, ◌==◌, ◌||◌, Option, None, Some, Result, Ok, Err, ℤ, pos, codes}
 use Rattle.std.specs.List.{take_while, filter_map, last_or, list_any, fold, AllZip}
+use Rattle.nr_page.specs.declared.faces.Faces.{Faces}
+use Rattle.nr_page.specs.declared.faces.Faces.TheVariants.{Letters, All}
 use Rattle.nr_page.specs.declared.selection.PageRange.{PageRange}
 use Rattle.nr_options.specs.Limits.{Bounds, default_bounds, with_bound}
 use Rattle.nr_options.specs.declared.limits.Limit.{Limit}
 use Rattle.nr_command_options.specs.declared.usage.Case.{Case}
 use Rattle.nr_command_options.specs.declared.usage.Case.TheVariants.{LeftOut, Unknown, BadValue, TooMany}
-use Rattle.nr_command_options.specs.Settings.{Meaning, PrintOnly, BeginAt, SetRegister, ReadMacros, MacrosIn, ReadInput, SetLimit, Means, IsIllFormed, hyphen}
+use Rattle.nr_command_options.specs.Settings.{Meaning, PrintOnly, BeginAt, SetRegister, ReadMacros, MacrosIn, ReadInput, ShowFaces, SetLimit, Means, IsIllFormed, hyphen}
 
 -- an option begins with `-` and is not `-`
 abbrev pub is_option : List ℕ → Bool
@@ -29,6 +31,10 @@ Mean meanings words = AllZip Means meanings words
 abbrev pub page_list : Meaning → Option (List PageRange)
 page_list (PrintOnly pages) = Some pages
 page_list other = None
+
+abbrev pub shown : Meaning → Option Faces
+shown ShowFaces = Some All
+shown other = None
 
 abbrev pub first_page : Meaning → Option ℤ
 first_page (BeginAt n) = Some (pos n)
@@ -71,6 +77,7 @@ pub record Asked : Type 0 where
   pub registers : List (ℕ × ℤ)
   -- None: all pages
   pub select : Option (List PageRange)
+  pub faces : Faces
   pub limits : Bounds
   pub folder : List ℕ
   pub macros : List (List ℕ)
@@ -94,6 +101,7 @@ asked_by meanings files = record {
   first = last_of (pos 1) (filter_map first_page meanings);
   registers = filter_map register meanings;
   select = last_or None (filter_map page_list meanings);
+  faces = last_of Letters (filter_map shown meanings);
   limits = limited (filter_map limit meanings);
   folder = last_of (codes ".") (filter_map macro_folder meanings);
   macros = filter_map macro_name meanings;

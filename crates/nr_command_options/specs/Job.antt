@@ -3,13 +3,14 @@ use Rattle.std.specs.Prelude.{◌≡◌, ℕ, ◌<◌, List, [], ◌∷◌, ◌+
 use Rattle.std.specs.Borrow.{Bor}
 use Rattle.std.specs.List.{AllZip}
 use Rattle.nr_options.specs.Limits.{IsInRange, with_bound}
+use Rattle.nr_page.specs.declared.faces.Faces.TheVariants.{All}
 use Rattle.nr_command_options.specs.declared.usage.Case.{Case}
 use Rattle.nr_command_options.specs.declared.usage.Case.TheVariants.{LeftOut, Unknown, BadValue, TooMany}
 use Rattle.nr_command_options.specs.declared.usage.Usage.{Usage}
 use Rattle.nr_command_options.specs.declared.job.Job.{Job}
 use Rattle.nr_command_options.specs.declared.settings.Setting.{Setting}
-use Rattle.nr_command_options.specs.declared.settings.Setting.TheVariants.{Select, First, Register, Macros, Folder, Input, Limit}
-use Rattle.nr_command_options.specs.Settings.{Meaning, PrintOnly, BeginAt, SetRegister, ReadMacros, MacrosIn, ReadInput, SetLimit, Means, IsIllFormed, letter_of, IsValue}
+use Rattle.nr_command_options.specs.declared.settings.Setting.TheVariants.{Select, First, Register, Macros, Folder, Input, Bold, Limit}
+use Rattle.nr_command_options.specs.Settings.{Meaning, PrintOnly, BeginAt, SetRegister, ReadMacros, MacrosIn, ReadInput, ShowFaces, SetLimit, Means, IsIllFormed, letter_of, IsValue}
 use Rattle.nr_command_options.specs.Arguments.{Asked, AreFew, asked_by, Complaint}
 
 -- the texts that references point to
@@ -24,6 +25,7 @@ meaning_of (Register name n) = SetRegister name n
 meaning_of (Macros name) = ReadMacros name.now
 meaning_of (Folder folder) = MacrosIn folder.now
 meaning_of Input = ReadInput
+meaning_of Bold = ShowFaces
 meaning_of (Limit limit n) = SetLimit limit n
 
 -- a setting that some option asks for: a page list, and a limit in its range
@@ -34,6 +36,7 @@ CanBeAsked (Register name n) = ⊤
 CanBeAsked (Macros name) = ⊤
 CanBeAsked (Folder folder) = ⊤
 CanBeAsked Input = ⊤
+CanBeAsked Bold = ⊤
 CanBeAsked (Limit limit n) = IsInRange limit n
 
 -- the value after this letter means this
@@ -63,6 +66,7 @@ asked_of job = record {
   first = job.options.first;
   registers = job.options.registers.items;
   select = job.options.select;
+  faces = job.options.faces;
   limits = job.limits;
   folder = job.macro_folder.now;
   macros = texts job.macros.items;
@@ -85,6 +89,7 @@ with_meaning (SetRegister name n) asked = record asked { registers = asked.regis
 with_meaning (ReadMacros name) asked = record asked { macros = asked.macros ++ name ∷ [] }
 with_meaning (MacrosIn folder) asked = record asked { folder = folder }
 with_meaning ReadInput asked = record asked { reads_input = true }
+with_meaning ShowFaces asked = record asked { faces = All }
 with_meaning (SetLimit limit n) asked = record asked { limits = with_bound limit n asked.limits }
 
 -- there is room for one of this kind, or there is none

@@ -11,7 +11,7 @@ use Rattle.nr_options.specs.declared.limits.Limit.TheVariants.{Stored, Depth, Ce
 use Rattle.nr_command_options.specs.declared.usage.Case.{Case}
 use Rattle.nr_command_options.specs.declared.usage.Case.TheVariants.{LeftOut, Unknown, BadValue, TooMany}
 
--- what one option asks for: `-olist`, `-nN`, `-raN`, `-mname`, `-Mdir`, `-i`, or `-L`, a letter and N
+-- what one option asks for: `-olist`, `-nN`, `-raN`, `-mname`, `-Mdir`, `-i`, `-b`, or `-L`, a letter and N
 pub data Meaning : Type 0 where
   PrintOnly : List PageRange → Meaning
   BeginAt : ℕ → Meaning
@@ -19,13 +19,14 @@ pub data Meaning : Type 0 where
   ReadMacros : List ℕ → Meaning
   MacrosIn : List ℕ → Meaning
   ReadInput : Meaning
+  ShowFaces : Meaning
   SetLimit : Limit → ℕ → Meaning
 
 -- the byte `-`
 abbrev pub hyphen : ℕ
 hyphen = code "-"
 
--- the letter of the option: `o`, `n`, `r`, `m`, `M`, `i` or `L`
+-- the letter of the option: `o`, `n`, `r`, `m`, `M`, `i`, `b` or `L`
 abbrev pub letter_of : Meaning → ℕ
 letter_of (PrintOnly pages) = code "o"
 letter_of (BeginAt n) = code "n"
@@ -33,6 +34,7 @@ letter_of (SetRegister name n) = code "r"
 letter_of (ReadMacros name) = code "m"
 letter_of (MacrosIn folder) = code "M"
 letter_of ReadInput = code "i"
+letter_of ShowFaces = code "b"
 letter_of (SetLimit limit n) = code "L"
 
 -- the letter of a limit: `s`, `d`, `p`, `x` or `m`
@@ -66,6 +68,7 @@ IsValue (SetRegister name n) value =
 IsValue (ReadMacros name) value = (value ≡ name) × (name ≢ [])
 IsValue (MacrosIn folder) value = (value ≡ folder) × (folder ≢ [])
 IsValue ReadInput value = value ≡ []
+IsValue ShowFaces value = value ≡ []
 IsValue (SetLimit limit n) value =
     (number : List ℕ) × (value ≡ limit_letter limit ∷ number) × WritesLimit limit n number
 
@@ -75,7 +78,7 @@ Means meaning word = (value : List ℕ) × (word ≡ hyphen ∷ letter_of meanin
 
 -- the letters of the options, and those of options that other programs of this name have
 abbrev pub known_letters : List ℕ
-known_letters = codes "onrmMiL"
+known_letters = codes "onrmMibL"
 
 abbrev pub left_out_letters : List ℕ
 left_out_letters = codes "Tsqehz"

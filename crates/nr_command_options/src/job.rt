@@ -7,6 +7,7 @@ use crate::settings::{Setting, read_option};
 use crate::usage::Case;
 use arrayvec::ArrayVec;
 use nr_options::{Limits, Options};
+use nr_page::Faces;
 
 /// The most macro files that may be named.
 pub const MOST_MACROS: usize = 32;
@@ -14,7 +15,7 @@ pub const MOST_MACROS: usize = 32;
 /// What the command line asks the program to do.
 #[derive(Drop)]
 pub struct Job<'a> {
-    /// The first page's number, registers in the order of `-r`, and the pages to print.
+    /// The first page's number, registers in the order of `-r`, the pages to print, and the faces that they show.
     pub options: Options,
     /// The four limits.
     pub limits: Limits,
@@ -77,6 +78,7 @@ impl<'a> Job<'a> {
             }
             Setting::Folder(folder) => self.macro_folder = folder,
             Setting::Input => self.reads_input = true,
+            Setting::Bold => self.options.faces = Faces::All,
             Setting::Limit(limit, number) => self.limits.set(limit, number),
         }
         Ok(())

@@ -11,7 +11,7 @@ use nr_options::Limit;
 use nr_page::Select;
 
 /// The letters of the options.
-const KNOWN_LETTERS: &[u8] = b"onrmMiL";
+const KNOWN_LETTERS: &[u8] = b"onrmMibL";
 
 /// The letters of options that other programs of this name have, and this one has not.
 const LEFT_OUT_LETTERS: &[u8] = b"Tsqehz";
@@ -31,6 +31,8 @@ pub(crate) enum Setting<'a> {
     Folder(&'a str),
     /// Standard input is read after the files.
     Input,
+    /// Bold is shown, and all that is underlined.
+    Bold,
     /// A limit, and its number.
     Limit(Limit, u64),
 }
@@ -64,6 +66,7 @@ fn read_value(letter: u8, value: &str) -> Option<Setting<'_>>
         b'm' => read_macros(value),
         b'M' => read_folder(value),
         b'i' => read_input(value),
+        b'b' => read_bold(value),
         b'L' => read_limit(value),
         _ => None,
     }
@@ -136,6 +139,17 @@ fn read_input(value: &str) -> Option<Setting<'_>>
 {
     if value.is_empty() {
         Some(Setting::Input)
+    } else {
+        None
+    }
+}
+
+/// `-b`.
+fn read_bold(value: &str) -> Option<Setting<'_>>
+    ensures { Reads (code "b") value.now result }
+{
+    if value.is_empty() {
+        Some(Setting::Bold)
     } else {
         None
     }

@@ -32,7 +32,7 @@ within_first b = record {
   burst = omega arith;
 }
 
-pub starts : (b : Bounds) (options : Options) (supply : Supply) (e : Shape) → IsNew b options.select e → Holds (choices options) (Some supply) (start b options supply) e
+pub starts : (b : Bounds) (options : Options) (supply : Supply) (e : Shape) → IsNew b options e → Holds (choices options) (Some supply) (start b options supply) e
 starts b options supply e new = record {
   formatter = new.formatter;
   stands = record {
@@ -42,6 +42,7 @@ starts b options supply e new = record {
     page = new.page;
     page_limit = new.page_limit;
     select = new.select;
+    faces = new.faces;
     within = record { formatter = subst (λ (x : Formatter). formatter.IsWithin x) (sym new.formatter) (within_first b); page = omega arith };
   };
 }

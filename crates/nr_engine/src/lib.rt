@@ -11,7 +11,7 @@ pub use desk::{Desk, Work};
 pub use nr_machine::{Measure, Outcome, Sizes, sizes};
 pub use nr_options::{Limit, Limits, MOST_REGISTERS, Options};
 pub use nr_page::page::WriteFault;
-pub use nr_page::{BadList, Select};
+pub use nr_page::{BadList, Faces, Select};
 pub use nr_units::buffered::Buffered;
 pub use nr_units::over_std::{FromReader, ToWriter};
 pub use nr_units::sink::Sink;

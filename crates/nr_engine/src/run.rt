@@ -96,7 +96,7 @@ fn run_in<R: Source, W: Sink>(
     ensures stay { limits_of (shape engine.new) ≡ limits_of (shape engine.old) }
 {
     let most = limits.moves();
-    engine.clear(limits, &options.select);
+    engine.clear(limits, options);
     *moves = 0;
     match engine.choose(options, moves) {
         Err(outcome) => outcome,

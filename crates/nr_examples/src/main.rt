@@ -1,12 +1,14 @@
 //! Examples: inputs of the formatter with the pages that they must give, as files in data/, NAME.roff and NAME.out.
-//! data/examples lists those that end under the limits by default, data/examples_with_limits the others, with their limits and
-//! their ends; data/examples_of_tables lists inputs that go through tbl first, with their limits and what that reports;
+//! data/examples lists those that end under the limits by default, data/examples_with_faces those that show faces (`-b`),
+//! data/examples_with_limits the others, with their limits and their ends; data/examples_of_tables lists inputs that go through tbl first, with their limits and what that reports;
 //! data/examples_with_faults lists inputs that are run with a fault at every byte. The program runs them.
 //!
 //! It stands on nr_units, nr_vectors, nr_characters, nr_engine and nr_tables. To read: this file, `limits`, `tables`, `faults`.
 #![tactic(auto)]
 
-use nr_engine::{Buffered, CountedAlloc, Desk, Limits, Options, Outcome, Sink, Source, format};
+use nr_engine::{
+    Buffered, CountedAlloc, Desk, Faces, Limits, Options, Outcome, Sink, Source, format,
+};
 use nr_units::fakes::Slate;
 use std::alloc::{AllocError, Global};
 use std::fs;
@@ -26,6 +28,8 @@ const BUFFER_SIZE: usize = 4096;
 fn main(rt: HostRuntime) -> anyhow::Result<()> {
     let plain = plain_examples(&rt)?;
     println!(rt; "{plain} examples")?;
+    let faced = examples_with_faces(&rt)?;
+    println!(rt; "{faced} examples with faces")?;
     let limited = examples_with_limits(&rt)?;
     println!(rt; "{limited} examples with limits")?;
     let turned = examples_of_tables(&rt)?;
@@ -38,18 +42,26 @@ fn main(rt: HostRuntime) -> anyhow::Result<()> {
 /// How many of the examples under the limits by default pass. One desk serves them all.
 fn plain_examples<R: Files + AllocGlobal + Print>(rt: &R) -> anyhow::Result<u64> {
     let mut desk = Desk::new(&mut CountedAlloc::new(rt.alloc()), Limits::default())?;
-    plain_examples_at(rt, &mut desk)
+    examples_at(rt, &mut desk, "examples", Faces::Letters)
 }
 
-/// The same at this desk.
-fn plain_examples_at<R: Files + AllocGlobal + Print>(
+/// How many of the examples that show faces pass. One desk serves them all.
+fn examples_with_faces<R: Files + AllocGlobal + Print>(rt: &R) -> anyhow::Result<u64> {
+    let mut desk = Desk::new(&mut CountedAlloc::new(rt.alloc()), Limits::default())?;
+    examples_at(rt, &mut desk, "examples_with_faces", Faces::All)
+}
+
+/// How many of the examples of this list pass at this desk.
+fn examples_at<R: Files + AllocGlobal + Print>(
     rt: &R,
     desk: &mut Desk,
+    list: &str,
+    faces: Faces,
 ) -> anyhow::Result<u64> {
-    let list = fs::read_to_string(rt, "examples")?;
+    let list = fs::read_to_string(rt, list)?;
     let mut passed = 0u64;
     for name in list.lines() {
-        if passes(rt, desk, name, "Done")? {
+        if passes(rt, desk, faces, name, "Done")? {
             passed = passed.saturating_add(1);
         }
     }
@@ -80,7 +92,7 @@ fn passes_under<R: Files + AllocGlobal + Print>(
     end: &str,
 ) -> anyhow::Result<bool> {
     let mut desk = Desk::new(&mut CountedAlloc::new(rt.alloc()), limits)?;
-    passes(rt, &mut desk, name, end)
+    passes(rt, &mut desk, Faces::Letters, name, end)
 }
 
 /// How many of the examples of tables pass.
@@ -132,21 +144,23 @@ fn examples_with_faults_at<R: Files + AllocGlobal + Print>(
 fn passes<R: Files + AllocGlobal + Print>(
     rt: &R,
     desk: &mut Desk,
+    faces: Faces,
     name: &str,
     end: &str,
 ) -> anyhow::Result<bool> {
     let mut buffer = [0u8; BUFFER_SIZE];
-    let whole = gives(rt, desk, name, end, &mut buffer)?;
+    let whole = gives(rt, desk, faces, name, end, &mut buffer)?;
     if !whole {
         return Ok(false);
     }
-    gives(rt, desk, name, end, &mut buffer[..1])
+    gives(rt, desk, faces, name, end, &mut buffer[..1])
 }
 
 /// Whether an example gives its pages and ends so, read into this buffer.
 fn gives<R: Files + AllocGlobal + Print>(
     rt: &R,
     desk: &mut Desk,
+    faces: Faces,
     name: &str,
     end: &str,
     buffer: &mut [u8],
@@ -156,7 +170,7 @@ fn gives<R: Files + AllocGlobal + Print>(
     let mut printed = vec![in rt.alloc(); 0u8; pages.len()]?;
     let mut input = Buffered::over(file, buffer);
     let mut output = Slate::over(&mut printed);
-    let outcome = formatted(desk, &mut input, &mut output);
+    let outcome = formatted_with(desk, faces, &mut input, &mut output);
     let ended = end_of(rt.alloc(), outcome)?;
     let good = ended.as_str() == end && output.bytes() == pages.as_slice();
     if !good {
@@ -175,7 +189,18 @@ fn end_of(alloc: Global, outcome: Outcome) -> Result<String, AllocError> {
 
 /// Formats on what the desk lends.
 fn formatted<R: Source, W: Sink>(desk: &mut Desk, input: &mut R, output: &mut W) -> Outcome {
-    let options = Options::plain();
+    formatted_with(desk, Faces::Letters, input, output)
+}
+
+/// The same, and shows these faces.
+fn formatted_with<R: Source, W: Sink>(
+    desk: &mut Desk,
+    faces: Faces,
+    input: &mut R,
+    output: &mut W,
+) -> Outcome {
+    let mut options = Options::plain();
+    options.faces = faces;
     let mut moves = 0;
     format(desk.lend(), &options, input, output, &mut moves)
 }

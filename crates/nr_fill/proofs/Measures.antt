@@ -5,6 +5,7 @@ use Rattle.std.proofs.lemmas.List.{length-map, length-replicate, take-append-dro
 use Rattle.std.proofs.lemmas.List.Sums.{sum_by_push, sum_by-append, sum_by-cons}
 use Rattle.nr_vectors.specs.Cell.{blank}
 use Rattle.nr_vectors.specs.declared.cell.Cell.{Cell}
+use Rattle.nr_vectors.specs.declared.cell.Look.{Look}
 use Rattle.nr_fill.specs.declared.line.LineCells.{LineCells}
 use Rattle.nr_settings.specs.declared.indents.Margins.{Margins}
 use Rattle.nr_fill.specs.declared.piece.Behind.{Behind}
@@ -59,15 +60,15 @@ line_cells-add_cell m b x c =
     omega arith
 
 -- a run is as many cells more as it has bytes
-pub measured_run : (m : Margins) (under : Bool) (bs : List ℕ) (c : Collected) → 0 < length bs
-    → (text_cells (add_run m under bs c) ≡ text_cells c + length bs) × (line_cells (add_run m under bs c) ≡ text_cells c + length bs)
-measured_run m under bs c some =
+pub measured_run : (m : Margins) (look : Look) (bs : List ℕ) (c : Collected) → 0 < length bs
+    → (text_cells (add_run m look bs c) ≡ text_cells c + length bs) × (line_cells (add_run m look bs c) ≡ text_cells c + length bs)
+measured_run m look bs c some =
     let w = word_or_new c.gap c.word in
     let new = word_length-new c.gap c.word in
     let same = word_length-ended_at w.pending w in
-    let longer = length-append (ended w).last.cells (map (run_cell under) bs) in
-    let many = length-map bs (run_cell under) in
-    rw (add_run-run m under bs c some) (omega arith, omega arith)
+    let longer = length-append (ended w).last.cells (map (run_cell look) bs) in
+    let many = length-map bs (run_cell look) in
+    rw (add_run-run m look bs c some) (omega arith, omega arith)
 
 -- blanks are as many cells more
 pub measured_blanks : (m : Margins) (n : ℕ) (c : Collected) → 0 < n → line_cells (add_blanks m n c) ≡ text_cells c + n

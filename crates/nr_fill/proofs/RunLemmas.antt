@@ -2,6 +2,7 @@
 use Rattle.std.proofs.Common.{◌≡◌, ℕ, suc, ◌+◌, ◌-◌, ◌<◌, ◌≤◌, List, [], ◌∷◌, ◌++◌, length, map, take, drop, get_or, Option, None, Some, Bool, true, false, ◌&&◌, if◌then◌else◌, refl, ap, sym, ◌∙◌, append_assoc, arith}
 use Rattle.std.proofs.lemmas.List.{get_or-take, length-map, length-take, length-take-le, nil_from_length, take-take, take_all, drop_all}
 use Rattle.nr_vectors.specs.declared.cell.Cell.{Cell}
+use Rattle.nr_vectors.specs.declared.cell.Look.{Look}
 use Rattle.nr_settings.specs.declared.indents.Margins.{Margins}
 use Rattle.nr_fill.specs.declared.piece.Behind.TheVariants.{Letter}
 use Rattle.nr_fill.specs.declared.stops.Pending.{Pending}
@@ -17,16 +18,16 @@ use Rattle.nr_fill.specs.PieceRow.{IsLine}
 use Rattle.nr_fill.proofs.Lines.{is_line_begun, is_line_worded}
 
 -- whether a sentence ends after a run, where one ended before it or not
-run_sentence : Bool → Bool → List ℕ → Bool
-run_sentence before under [] = before
-run_sentence before under (b ∷ bs) = run_sentence (ends_sentence (run_cell under b)) under bs
+run_sentence : Bool → Look → List ℕ → Bool
+run_sentence before look [] = before
+run_sentence before look (b ∷ bs) = run_sentence (ends_sentence (run_cell look b)) look bs
 
-run_sentence-last : (before under : Bool) (b : ℕ) (bs : List ℕ) → run_sentence before under (b ∷ bs) ≡ ends_sentence (run_cell under (get_or (b ∷ bs) (length (b ∷ bs) - 1) 0))
+run_sentence-last : (before : Bool) (look : Look) (b : ℕ) (bs : List ℕ) → run_sentence before look (b ∷ bs) ≡ ends_sentence (run_cell look (get_or (b ∷ bs) (length (b ∷ bs) - 1) 0))
 unfolding run_sentence
-run_sentence-last before under b [] = refl
-run_sentence-last before under b (x ∷ bs) =
+run_sentence-last before look b [] = refl
+run_sentence-last before look b (x ∷ bs) =
     let at : length (b ∷ x ∷ bs) - 1 ≡ suc (length (x ∷ bs) - 1) = omega arith in
-    run_sentence-last (ends_sentence (run_cell under b)) under x bs ∙ ap (λ k. ends_sentence (run_cell under (get_or (b ∷ x ∷ bs) k 0))) (sym at)
+    run_sentence-last (ends_sentence (run_cell look b)) look x bs ∙ ap (λ k. ends_sentence (run_cell look (get_or (b ∷ x ∷ bs) k 0))) (sym at)
 
 -- ---- what waits after a letter
 
@@ -63,85 +64,85 @@ pub with_word-at_word : (m : Margins) (c : Collected) (w : Word) (sentence : Boo
 with_word-at_word m c w sentence = rw (and_false (is_nil c.pieces)) refl
 
 -- a letter more
-add_cell-at_word : (m : Margins) (under : Bool) (b : ℕ) (c : Collected) (w : Word) (sentence : Bool) → HasNoPoint w.pending
-    → add_cell m Letter (run_cell under b) (at_word c w sentence) ≡ at_word c (run_behind under (b ∷ []) w) (ends_sentence (run_cell under b))
-add_cell-at_word m under b c w sentence none =
-    let x : Cell = run_cell under b in
+add_cell-at_word : (m : Margins) (look : Look) (b : ℕ) (c : Collected) (w : Word) (sentence : Bool) → HasNoPoint w.pending
+    → add_cell m Letter (run_cell look b) (at_word c w sentence) ≡ at_word c (run_behind look (b ∷ []) w) (ends_sentence (run_cell look b))
+add_cell-at_word m look b c w sentence none =
+    let x : Cell = run_cell look b in
     ap (λ (k : Collected). record (in_word (add_cell_behind Letter x) (in_word ended k)) { sentence = ends_sentence x }) (with_word-at_word m c w sentence)
     ∙ ap (λ (v : Word). at_word c (add_cell_behind Letter x v) (ends_sentence x)) (ended_at-none w.pending w none)
     ∙ ap (λ (p : Pending). at_word c (record (append (x ∷ []) w) { pending = p }) (ends_sentence x)) (behind_letter (word_length (append (x ∷ []) w)) w.pending)
 
 -- one run after another
-run_behind-cons : (under : Bool) (b : ℕ) (bs : List ℕ) (w : Word) → run_behind under bs (run_behind under (b ∷ []) w) ≡ run_behind under (b ∷ bs) w
-run_behind-cons under b bs w =
-    let xs = map (run_cell under) bs in
+run_behind-cons : (look : Look) (b : ℕ) (bs : List ℕ) (w : Word) → run_behind look bs (run_behind look (b ∷ []) w) ≡ run_behind look (b ∷ bs) w
+run_behind-cons look b bs w =
+    let xs = map (run_cell look) bs in
     ap (λ (cells : List Cell). record w { last = record w.last { cells = cells }; blanks = 0; pending = pending_without_point (pending_without_point w.pending) })
-    (append_assoc w.last.cells (run_cell under b ∷ []) xs)
-    ∙ ap (λ (p : Pending). record w { last = record w.last { cells = w.last.cells ++ run_cell under b ∷ xs }; blanks = 0; pending = p }) (no_point_without w.pending)
+    (append_assoc w.last.cells (run_cell look b ∷ []) xs)
+    ∙ ap (λ (p : Pending). record w { last = record w.last { cells = w.last.cells ++ run_cell look b ∷ xs }; blanks = 0; pending = p }) (no_point_without w.pending)
 
-add_run-at_word : (m : Margins) (under : Bool) (b : ℕ) (bs : List ℕ) (c : Collected) (w : Word) (sentence : Bool) → HasNoPoint w.pending
-    → add_run m under (b ∷ bs) (at_word c w sentence) ≡ at_word c (run_behind under (b ∷ bs) w) (run_sentence sentence under (b ∷ bs))
+add_run-at_word : (m : Margins) (look : Look) (b : ℕ) (bs : List ℕ) (c : Collected) (w : Word) (sentence : Bool) → HasNoPoint w.pending
+    → add_run m look (b ∷ bs) (at_word c w sentence) ≡ at_word c (run_behind look (b ∷ bs) w) (run_sentence sentence look (b ∷ bs))
 unfolding run_sentence
-add_run-at_word m under b [] c w sentence none = add_cell-at_word m under b c w sentence none
-add_run-at_word m under b (x ∷ bs) c w sentence none =
-    ap (add_run m under (x ∷ bs)) (add_cell-at_word m under b c w sentence none)
-    ∙ add_run-at_word m under x bs c (run_behind under (b ∷ []) w) (ends_sentence (run_cell under b)) (no_point_without w.pending)
-    ∙ ap (λ (v : Word). at_word c v (run_sentence sentence under (b ∷ x ∷ bs))) (run_behind-cons under b (x ∷ bs) w)
+add_run-at_word m look b [] c w sentence none = add_cell-at_word m look b c w sentence none
+add_run-at_word m look b (x ∷ bs) c w sentence none =
+    ap (add_run m look (x ∷ bs)) (add_cell-at_word m look b c w sentence none)
+    ∙ add_run-at_word m look x bs c (run_behind look (b ∷ []) w) (ends_sentence (run_cell look b)) (no_point_without w.pending)
+    ∙ ap (λ (v : Word). at_word c v (run_sentence sentence look (b ∷ x ∷ bs))) (run_behind-cons look b (x ∷ bs) w)
 
 -- ---- a run at once
 
 -- the first letter takes the word from where it stands
-add_cell-ended : (m : Margins) (under : Bool) (b : ℕ) (c : Collected)
-    → add_cell m Letter (run_cell under b) c
-    ≡ at_word (with_word m c) (run_behind under (b ∷ []) (ended (word_or_new c.gap c.word))) (ends_sentence (run_cell under b))
-add_cell-ended m under b c =
-    let x : Cell = run_cell under b in
+add_cell-ended : (m : Margins) (look : Look) (b : ℕ) (c : Collected)
+    → add_cell m Letter (run_cell look b) c
+    ≡ at_word (with_word m c) (run_behind look (b ∷ []) (ended (word_or_new c.gap c.word))) (ends_sentence (run_cell look b))
+add_cell-ended m look b c =
+    let x : Cell = run_cell look b in
     let w = ended (word_or_new c.gap c.word) in
     ap (λ (p : Pending). at_word (with_word m c) (record (append (x ∷ []) w) { pending = p }) (ends_sentence x)) (behind_letter (word_length (append (x ∷ []) w)) w.pending)
 
-add_run-at_once : (m : Margins) (under : Bool) (b : ℕ) (bs : List ℕ) (c : Collected)
-    → add_run m under (b ∷ bs) c
-    ≡ record (in_word (run_behind under (b ∷ bs)) (in_word ended (with_word m c))) { sentence = ends_sentence (run_cell under (get_or (b ∷ bs) (length (b ∷ bs) - 1) 0)) }
+add_run-at_once : (m : Margins) (look : Look) (b : ℕ) (bs : List ℕ) (c : Collected)
+    → add_run m look (b ∷ bs) c
+    ≡ record (in_word (run_behind look (b ∷ bs)) (in_word ended (with_word m c))) { sentence = ends_sentence (run_cell look (get_or (b ∷ bs) (length (b ∷ bs) - 1) 0)) }
 unfolding run_sentence
-add_run-at_once m under b [] c = add_cell-ended m under b c
-add_run-at_once m under b (x ∷ bs) c =
+add_run-at_once m look b [] c = add_cell-ended m look b c
+add_run-at_once m look b (x ∷ bs) c =
     let w = ended (word_or_new c.gap c.word) in
-    ap (add_run m under (x ∷ bs)) (add_cell-ended m under b c)
-    ∙ add_run-at_word m under x bs (with_word m c) (run_behind under (b ∷ []) w) (ends_sentence (run_cell under b)) (no_point_without w.pending)
-    ∙ ap (λ (v : Word). at_word (with_word m c) v (run_sentence c.sentence under (b ∷ x ∷ bs))) (run_behind-cons under b (x ∷ bs) w)
-    ∙ ap (λ s. at_word (with_word m c) (run_behind under (b ∷ x ∷ bs) w) s) (run_sentence-last c.sentence under b (x ∷ bs))
+    ap (add_run m look (x ∷ bs)) (add_cell-ended m look b c)
+    ∙ add_run-at_word m look x bs (with_word m c) (run_behind look (b ∷ []) w) (ends_sentence (run_cell look b)) (no_point_without w.pending)
+    ∙ ap (λ (v : Word). at_word (with_word m c) v (run_sentence c.sentence look (b ∷ x ∷ bs))) (run_behind-cons look b (x ∷ bs) w)
+    ∙ ap (λ s. at_word (with_word m c) (run_behind look (b ∷ x ∷ bs) w) s) (run_sentence-last c.sentence look b (x ∷ bs))
 
-pub add_run-run : (m : Margins) (under : Bool) (bs : List ℕ) (c : Collected) → 0 < length bs
-    → add_run m under bs c
-    ≡ record (in_word (run_behind under bs) (in_word ended (with_word m c))) { sentence = ends_sentence (run_cell under (get_or bs (length bs - 1) 0)) }
-add_run-run m under [] c some = absurd (omega arith)
-add_run-run m under (b ∷ bs) c some = add_run-at_once m under b bs c
+pub add_run-run : (m : Margins) (look : Look) (bs : List ℕ) (c : Collected) → 0 < length bs
+    → add_run m look bs c
+    ≡ record (in_word (run_behind look bs) (in_word ended (with_word m c))) { sentence = ends_sentence (run_cell look (get_or bs (length bs - 1) 0)) }
+add_run-run m look [] c some = absurd (omega arith)
+add_run-run m look (b ∷ bs) c some = add_run-at_once m look b bs c
 
 -- a run that begins a word
-pub add_run-none : (m : Margins) (under : Bool) (bs : List ℕ) (c : Collected) → c.word ≡ None → 0 < length bs
-    → add_run m under bs c
+pub add_run-none : (m : Margins) (look : Look) (bs : List ℕ) (c : Collected) → c.word ≡ None → 0 < length bs
+    → add_run m look bs c
     ≡ record c {
-      word = Some (record { parts = []; last = record { join = Gap c.gap; cells = map (run_cell under) bs }; pending = Nothing; blanks = 0 });
+      word = Some (record { parts = []; last = record { join = Gap c.gap; cells = map (run_cell look) bs }; pending = Nothing; blanks = 0 });
       gap = 0;
-      sentence = ends_sentence (run_cell under (get_or bs (length bs - 1) 0));
+      sentence = ends_sentence (run_cell look (get_or bs (length bs - 1) 0));
       margins = if begins_line c then m else c.margins;
       title = None;
     }
-add_run-none m under bs c none some = add_run-run m under bs c some ∙ rw none refl
+add_run-none m look bs c none some = add_run-run m look bs c some ∙ rw none refl
 
 -- a word at once, and the blank after it
-pub add_word-none : (m : Margins) (under : Bool) (bs : List ℕ) (c : Collected) → c.word ≡ None → 0 < length bs
-    → add_word m under bs c
+pub add_word-none : (m : Margins) (look : Look) (bs : List ℕ) (c : Collected) → c.word ≡ None → 0 < length bs
+    → add_word m look bs c
     ≡ record c {
-      pieces = c.pieces ++ record { join = Gap c.gap; cells = map (run_cell under) bs } ∷ [];
+      pieces = c.pieces ++ record { join = Gap c.gap; cells = map (run_cell look) bs } ∷ [];
       word = None;
       gap = 1;
       barred = false;
-      sentence = ends_sentence (run_cell under (get_or bs (length bs - 1) 0));
+      sentence = ends_sentence (run_cell look (get_or bs (length bs - 1) 0));
       margins = if begins_line c then m else c.margins;
       title = None;
     }
-add_word-none m under bs c none some = ap (λ (k : Collected). one_blank_more (end_word k)) (add_run-none m under bs c none some)
+add_word-none m look bs c none some = ap (λ (k : Collected). one_blank_more (end_word k)) (add_run-none m look bs c none some)
 
 -- ---- a run of the bytes that there is room for
 
@@ -161,7 +162,7 @@ module _ (count most : ℕ) (bytes : List ℕ) (front : count ≤ length (take m
       get_or-take most bytes (count - 1) 0 within ∙ sym (get_or-take count bytes (count - 1) 0 below) ∙ ap (λ k. get_or (take count bytes) (k - 1) 0) (sym length_front)
 
   -- what it makes of a line in which neither a word nor a title is read
-  module _ {row : Laid} {limit pieces wide : ℕ} {word : Option WordState} {gap : ℕ} {title : Option TitleState} (under : Bool) (h : IsLine row limit pieces wide word gap title)
+  module _ {row : Laid} {limit pieces wide : ℕ} {word : Option WordState} {gap : ℕ} {title : Option TitleState} (look : Look) (h : IsLine row limit pieces wide word gap title)
       (no_word : word ≡ None) (no_title : title ≡ None) (room : pieces + read_cells row + most ≤ limit) where
     untitled : IsLine row limit pieces wide None gap None
     untitled = rw (no_word, no_title) at h
@@ -169,24 +170,24 @@ module _ (count most : ℕ) (bytes : List ℕ) (front : count ≤ length (take m
     nothing_read : row.last ≡ []
     nothing_read = nil_from_length row.last (untitled.no_word refl).1
 
-    length_run : length (map (run_cell under) (take count (take most bytes))) ≡ count
-    length_run = length-map (take count (take most bytes)) (run_cell under) ∙ length-take-le count (take most bytes) front
+    length_run : length (map (run_cell look) (take count (take most bytes))) ≡ count
+    length_run = length-map (take count (take most bytes)) (run_cell look) ∙ length-take-le count (take most bytes) front
 
     -- a word that goes on
     pub run_begun : (w : WordState) → w ≡ record { join = Gap gap; pending = Nothing; blanks = 0; parted = 0; wide = 0 }
-        → IsLine (record row { last = row.last ++ map (run_cell under) (take count (take most bytes)) }) limit pieces wide (Some w) 0 title
+        → IsLine (record row { last = row.last ++ map (run_cell look) (take count (take most bytes)) }) limit pieces wide (Some w) 0 title
     run_begun w is =
         let titled = untitled.no_title refl in
         let read = untitled.no_word refl in
-        rw (nothing_read, no_title) (is_line_begun w (map (run_cell under) (take count (take most bytes))) untitled is (omega (arith, titled, read, length_run, room, front, length-take most bytes)))
+        rw (nothing_read, no_title) (is_line_begun w (map (run_cell look) (take count (take most bytes))) untitled is (omega (arith, titled, read, length_run, room, front, length-take most bytes)))
 
     -- a word that a blank ends
     pub run_worded : count < most → IsLine (record row {
-      pieces = row.pieces ++ record { join = Gap gap; cells = take count (row.last ++ map (run_cell under) (take count (take most bytes))) } ∷ [];
-      last = drop count (row.last ++ map (run_cell under) (take count (take most bytes)));
+      pieces = row.pieces ++ record { join = Gap gap; cells = take count (row.last ++ map (run_cell look) (take count (take most bytes))) } ∷ [];
+      last = drop count (row.last ++ map (run_cell look) (take count (take most bytes)));
     }) limit (pieces + 1) (wide + (gap + count)) word 1 title
     run_worded below =
-        let run = map (run_cell under) (take count (take most bytes)) in
+        let run = map (run_cell look) (take count (take most bytes)) in
         let titled = untitled.no_title refl in
         let whole : take count run ≡ run = take_all count run (omega (arith, length_run)) in
         let nothing : drop count run ≡ [] = drop_all count run (omega (arith, length_run)) in

@@ -2,24 +2,25 @@
 use Prim.Native.Char.{code}
 use Rattle.std.specs.Prelude.{◌≡◌, ℕ, zero, suc, ◌+◌, ◌<◌, Bool, true, List, [], ◌∷◌, ◌++◌, length, map, replicate, slice_index, None}
 use Rattle.nr_vectors.specs.Cell.{blank}
+use Rattle.nr_vectors.specs.declared.cell.Look.{Look}
 use Rattle.nr_settings.specs.declared.indents.Margins.{Margins}
 use Rattle.nr_fill.specs.declared.piece.Behind.TheVariants.{Letter}
 use Rattle.nr_fill.specs.Piece.{Collected, Word, add_blank, add_cell, append, end_word, one_blank_more, pending_without_point}
 use Rattle.nr_fill.specs.Plain.{run_cell}
 
 -- the bytes one after another, each a cell after which no line may be cut
-abbrev pub add_run : Margins → Bool → List ℕ → Collected → Collected
-add_run margins under [] c = c
-add_run margins under (b ∷ bs) c = add_run margins under bs (add_cell margins Letter (run_cell under b) c)
+abbrev pub add_run : Margins → Look → List ℕ → Collected → Collected
+add_run margins look [] c = c
+add_run margins look (b ∷ bs) c = add_run margins look bs (add_cell margins Letter (run_cell look b) c)
 
 -- the cells of a run after those of a word: no break point waits after them
-abbrev pub run_behind : Bool → List ℕ → Word → Word
-run_behind under bs w =
-    record (append (map (run_cell under) bs) w) { pending = pending_without_point w.pending }
+abbrev pub run_behind : Look → List ℕ → Word → Word
+run_behind look bs w =
+    record (append (map (run_cell look) bs) w) { pending = pending_without_point w.pending }
 
 -- the bytes as a word, and the blank after it
-abbrev pub add_word : Margins → Bool → List ℕ → Collected → Collected
-add_word margins under bs c = one_blank_more (end_word (add_run margins under bs c))
+abbrev pub add_word : Margins → Look → List ℕ → Collected → Collected
+add_word margins look bs c = one_blank_more (end_word (add_run margins look bs c))
 
 -- a word of so many of these bytes ends at a blank after it, where blanks end words and it begins there
 pub record EndsWord (ends : Bool) (n : ℕ) (bs : List ℕ) (c : Collected) : Type 0 where

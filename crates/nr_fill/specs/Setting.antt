@@ -3,6 +3,7 @@ use Prim.Native.Char.{code}
 use Rattle.std.specs.Prelude.{ℕ, ◌+◌, ◌-◌, ◌/◌, Bool, false, ◌&&◌, nat_lt, if◌then◌else◌, List, ◌++◌, length, take, drop, replicate}
 use Rattle.nr_vectors.specs.Cell.{blank, trimmed}
 use Rattle.nr_vectors.specs.declared.cell.Cell.{Cell}
+use Rattle.nr_vectors.specs.declared.cell.Look.TheVariants.{Plain}
 use Rattle.nr_settings.specs.declared.indents.Margins.{Margins}
 use Rattle.nr_settings.specs.declared.filling.Align.{Align}
 use Rattle.nr_settings.specs.declared.filling.Align.TheVariants.{Left, Spread, Right, Centre}
@@ -14,7 +15,7 @@ use Rattle.nr_fill.specs.Spreading.{gaps, no_extra, shared, other_turn, cells_in
 
 -- the hyphen that a cut at a soft point prints
 abbrev pub hyphen : Cell
-hyphen = record { byte = code "-"; under = false }
+hyphen = record { byte = code "-"; look = Plain }
 
 abbrev pub hyphens : ℕ → List Cell
 hyphens n = replicate n hyphen

@@ -16,7 +16,7 @@ use crate::piece::{Join, PieceSlot};
 use crate::queue::Queue;
 use crate::setting::Extra;
 use nr_vectors::CountedAlloc;
-use nr_vectors::cell::Cell;
+use nr_vectors::cell::{Cell, Look};
 use std::alloc::AllocError;
 use std::marker::Model;
 
@@ -148,16 +148,16 @@ impl PieceRow {
     /// Puts the cells of these bytes after the last piece, up to the first that is not plain, and tells how many these
     /// are.
     #[inline]
-    pub(crate) fn push_plain(&mut self, under: bool, bytes: &[u8]) -> usize
+    pub(crate) fn push_plain(&mut self, look: Look, bytes: &[u8]) -> usize
         requires room { read_cells self.old + length bytes.now ≤ self.old.capacity }
         requires no_title { self.old.title ≡ [] }
         ensures front { result ≤ length bytes.now }
         ensures plain { All IsPlain (take result bytes.now) }
         ensures stops { result < length bytes.now → ¬ IsPlain (slice_index bytes.now result) }
         ensures cells { self.new ≡ record self.old
-            { last = self.old.last ++ map (run_cell under) (take result bytes.now) } }
+            { last = self.old.last ++ map (run_cell look) (take result bytes.now) } }
     {
-        let count = self.cells.push_plain(under, bytes);
+        let count = self.cells.push_plain(look, bytes);
         self.read += count;
         count
     }

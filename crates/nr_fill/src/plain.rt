@@ -2,7 +2,7 @@
 ghost use Rattle.std.specs.Prelude.{◌≡◌, ◌<◌, ◌≤◌, ◌↔◌, IsTrue, length, map, take, slice_index, All};
 ghost use Rattle.nr_fill.specs.Plain.{IsPlain, run_cell};
 
-use nr_vectors::cell::Cell;
+use nr_vectors::cell::{Cell, Look};
 
 /// Whether the byte is a cell of a word, after which no line may be cut, wherever it stands in a text line's midst.
 #[inline]
@@ -17,12 +17,12 @@ pub(crate) fn is_plain(byte: u8) -> bool
 
 /// Puts the cells of these bytes there, up to the first that is not plain, and tells how many these are.
 #[inline]
-pub(crate) fn set_plain(slots: &mut [Cell], under: bool, bytes: &[u8]) -> usize
+pub(crate) fn set_plain(slots: &mut [Cell], look: Look, bytes: &[u8]) -> usize
     requires { length bytes.now ≤ length slots.old }
     ensures front { result ≤ length bytes.now }
     ensures plain { All IsPlain (take result bytes.now) }
     ensures stops { result < length bytes.now → ¬ IsPlain (slice_index bytes.now result) }
-    ensures cells { take result slots.new ≡ map (run_cell under) (take result bytes.now) }
+    ensures cells { take result slots.new ≡ map (run_cell look) (take result bytes.now) }
     ensures length { length slots.new ≡ length slots.old }
 {
     for i in 0..bytes.len() {
@@ -30,7 +30,7 @@ pub(crate) fn set_plain(slots: &mut [Cell], under: bool, bytes: &[u8]) -> usize
         if !is_plain(byte) {
             return i;
         }
-        slots[i] = Cell { byte, under };
+        slots[i] = Cell { byte, look };
     }
     bytes.len()
 }

@@ -3,7 +3,7 @@ ghost use Rattle.std.specs.Prelude.{◌≡◌, ◌+◌, ◌-◌, ◌<◌, ◌≤
 ghost use Rattle.nr_fill.specs.Plain.{IsPlain, run_cell};
 
 use crate::plain::set_plain;
-use nr_vectors::cell::Cell;
+use nr_vectors::cell::{Cell, Look};
 use nr_vectors::{CountedAlloc, ReservedVec};
 use std::alloc::AllocError;
 use std::marker::Model;
@@ -108,12 +108,12 @@ fn set_all<T: Copy>(slots: &mut [T], item: T)
 impl Queue<Cell> {
     /// Puts the cells of these bytes at the end, up to the first that is not plain, and tells how many these are.
     #[inline]
-    pub(crate) fn push_plain(&mut self, under: bool, bytes: &[u8]) -> usize
+    pub(crate) fn push_plain(&mut self, look: Look, bytes: &[u8]) -> usize
         requires { length self.old.items + length bytes.now ≤ self.old.capacity }
         ensures front { result ≤ length bytes.now }
         ensures plain { All IsPlain (take result bytes.now) }
         ensures stops { result < length bytes.now → ¬ IsPlain (slice_index bytes.now result) }
-        ensures items { self.new.items ≡ self.old.items ++ map (run_cell under) (take result bytes.now) }
+        ensures items { self.new.items ≡ self.old.items ++ map (run_cell look) (take result bytes.now) }
         ensures room { self.new.capacity ≡ self.old.capacity }
     {
         let span = Span {
@@ -123,7 +123,7 @@ impl Queue<Cell> {
         let n = bytes.len();
         let span = make_room(&mut self.slots, self.capacity, span, n, Cell::blank());
         let slots = self.slots.as_mut_slice();
-        let count = set_plain(&mut slots[span.end..span.end + n], under, bytes);
+        let count = set_plain(&mut slots[span.end..span.end + n], look, bytes);
         self.start = span.start;
         self.end = span.end + count;
         count

@@ -12,7 +12,7 @@ use crate::piece::Join;
 use crate::plain::is_plain;
 use crate::words::ends_sentence;
 use nr_settings::Indents;
-use nr_vectors::cell::Cell;
+use nr_vectors::cell::{Cell, Look};
 
 /// How much of some bytes was read.
 #[derive(Clone, Copy)]
@@ -39,14 +39,14 @@ fn count_blanks(bytes: &[u8]) -> usize
 }
 
 impl Line {
-    /// Reads a prefix of these bytes as cells of a word, underlined or not, as many calls of `put` would: up to the first
+    /// Reads a prefix of these bytes as cells of a word, of this look, as many calls of `put` would: up to the first
     /// that is not plain or whose cell would pass the limit. Tells how many it read. It takes the time of one pass
     /// over those bytes.
-    pub fn put_run(&mut self, margins: Margins, under: bool, bytes: &[u8]) -> usize
+    pub fn put_run(&mut self, margins: Margins, look: Look, bytes: &[u8]) -> usize
         ensures front { result ≤ length bytes.now }
         ensures plain { All IsPlain (take result bytes.now) }
         ensures cells { self.new ≡ record self.old
-            { collected = add_run margins under (take result bytes.now) self.old.collected } }
+            { collected = add_run margins look (take result bytes.now) self.old.collected } }
         ensures within { 0 < result → line_cells self.new.collected ≤ self.new.limit }
         ensures stops { result < length bytes.now → IsPlain (slice_index bytes.now result)
             → text_cells self.new.collected ≡ self.new.limit }
@@ -58,22 +58,22 @@ impl Line {
         }
         self.open_word(margins);
         self.end_piece();
-        self.push_plain(under, bytes)
+        self.push_plain(look, bytes)
     }
 
     /// Reads a prefix of these bytes as `put_run` would, and after it a blank as `end_word` and `widen_gap` would: where
     /// `ends` says that a blank ends a word, no word and no title was being read, and the piece passes no limit. The margins are looked
     /// up only where the line may take them.
     #[inline(always)]
-    pub fn put_word(&mut self, indents: &Indents, under: bool, ends: bool, bytes: &[u8]) -> WordRun
+    pub fn put_word(&mut self, indents: &Indents, look: Look, ends: bool, bytes: &[u8]) -> WordRun
         ensures front { result.count ≤ length bytes.now }
         ensures plain { All IsPlain (take result.count bytes.now) }
         ensures run { result.ended ≡ false → self.new ≡ record self.old {
-          collected = add_run (margins_of indents.now) under (take result.count bytes.now)
+          collected = add_run (margins_of indents.now) look (take result.count bytes.now)
               self.old.collected;
         } }
         ensures word { result.ended ≡ true → self.new ≡ record self.old {
-          collected = add_word (margins_of indents.now) under (take result.count bytes.now)
+          collected = add_word (margins_of indents.now) look (take result.count bytes.now)
               self.old.collected;
         } }
         ensures ends { result.ended ≡ true → EndsWord ends result.count bytes.now self.old.collected }
@@ -85,9 +85,9 @@ impl Line {
             → text_cells self.new.collected ≡ self.new.limit }
     {
         if ends && self.word.is_none() && self.title.is_none() {
-            return self.put_new_word(indents, under, bytes);
+            return self.put_new_word(indents, look, bytes);
         }
-        let count = self.put_run(indents.margins(), under, bytes);
+        let count = self.put_run(indents.margins(), look, bytes);
         WordRun {
             count,
             ended: false,
@@ -96,17 +96,17 @@ impl Line {
 
     /// The same where a blank ends a word, and no word and no title is being read.
     #[inline(always)]
-    fn put_new_word(&mut self, indents: &Indents, under: bool, bytes: &[u8]) -> WordRun
+    fn put_new_word(&mut self, indents: &Indents, look: Look, bytes: &[u8]) -> WordRun
         requires word { self.old.collected.word ≡ None }
         requires title { self.old.collected.title ≡ None }
         ensures front { result.count ≤ length bytes.now }
         ensures plain { All IsPlain (take result.count bytes.now) }
         ensures run { result.ended ≡ false → self.new ≡ record self.old {
-          collected = add_run (margins_of indents.now) under (take result.count bytes.now)
+          collected = add_run (margins_of indents.now) look (take result.count bytes.now)
               self.old.collected;
         } }
         ensures word { result.ended ≡ true → self.new ≡ record self.old {
-          collected = add_word (margins_of indents.now) under (take result.count bytes.now)
+          collected = add_word (margins_of indents.now) look (take result.count bytes.now)
               self.old.collected;
         } }
         ensures ends { result.ended ≡ true → EndsWord true result.count bytes.now self.old.collected }
@@ -118,7 +118,7 @@ impl Line {
     {
         let room = self.limit - self.text_measure();
         let near = &bytes[..room.min(bytes.len())];
-        let count = self.row.push_plain(under, near);
+        let count = self.row.push_plain(look, near);
         if count == 0 {
             return WordRun {
                 count,
@@ -127,7 +127,7 @@ impl Line {
         }
         self.sentence = ends_sentence(Cell {
             byte: near[count - 1],
-            under,
+            look,
         });
         self.margins = if self.pieces == 0 {
             indents.margins()
@@ -161,7 +161,7 @@ impl Line {
     }
 
     /// More cells of the piece that is being read: those of the bytes before the first that is not plain, at least one.
-    fn push_plain(&mut self, under: bool, bytes: &[u8]) -> usize
+    fn push_plain(&mut self, look: Look, bytes: &[u8]) -> usize
         requires some { 0 < length bytes.now }
         requires first { IsPlain (slice_index bytes.now 0) }
         requires room { text_cells self.old.collected + length bytes.now ≤ self.old.limit }
@@ -172,17 +172,17 @@ impl Line {
         ensures plain { All IsPlain (take result bytes.now) }
         ensures stops { result < length bytes.now → ¬ IsPlain (slice_index bytes.now result) }
         ensures cells { self.new ≡ record self.old {
-          collected = record (in_word (run_behind under (take result bytes.now)) self.old.collected)
-              { sentence = ends_sentence (run_cell under (slice_index bytes.now (result - 1))) };
+          collected = record (in_word (run_behind look (take result bytes.now)) self.old.collected)
+              { sentence = ends_sentence (run_cell look (slice_index bytes.now (result - 1))) };
         } }
     {
         match &mut self.word {
             None => 0,
             Some(word) => {
-                let count = self.row.push_plain(under, bytes);
+                let count = self.row.push_plain(look, bytes);
                 self.sentence = ends_sentence(Cell {
                     byte: bytes[count - 1],
-                    under,
+                    look,
                 });
                 word.pending.drop_point();
                 word.blanks = 0;

@@ -11,7 +11,7 @@ use crate::cutting::Sums;
 use crate::line::Line;
 use crate::margins::{Margins, margins_behind};
 use crate::setting::{Extra, Setting, shift_of, spreads_gaps};
-use nr_vectors::cell::Cell;
+use nr_vectors::cell::{Cell, Look};
 
 /// What the first pieces of a line come to.
 #[derive(Clone, Copy)]
@@ -45,7 +45,7 @@ fn push_hyphens<S: CellSink>(out: &mut S, count: u16)
     for _hyphen in 0..count {
         out.push(Cell {
             byte: b'-',
-            under: false,
+            look: Look::Plain,
         });
     }
 }

@@ -1,18 +1,20 @@
 -- What is held of a row that goes into a diversion, once more cells came.
 use Prim.Native.Char.{code}
-use Rattle.std.proofs.Common.{◌≡◌, ℕ, ◌+◌, ◌-◌, ◌^◌, ◌<◌, min, ◌&&◌, Bool, true, false, if◌then◌else◌, List, [], ◌∷◌, ◌++◌, length, map, take, replicate, Result, Err, refl, ap, ap₂, sym, ◌∙◌, append_assoc, subst, arith, length-append, inl, inr}
+use Rattle.std.proofs.Common.{◌≡◌, ℕ, ◌+◌, ◌-◌, ◌^◌, ◌<◌, min, ◌&&◌, Bool, true, false, not, if◌then◌else◌, List, [], ◌∷◌, ◌++◌, length, map, take, replicate, Result, Err, refl, ap, ap₂, sym, ◌∙◌, append_assoc, subst, arith, length-append, inl, inr}
 use Rattle.std.specs.List.{list_any}
 use Rattle.std.specs.Prelude.{◌==◌, get_or}
 use Rattle.std.proofs.lemmas.Bool.{cases_lt, eqb-true, ne_eqb, or_parts}
 use Rattle.std.proofs.lemmas.List.{append-nil, length-replicate, map-append, replicate-append-replicate, replicate_more, take_all, take_more}
-use Rattle.nr_vectors.specs.Cell.{blank, is_blank, trimmed}
+use Rattle.nr_vectors.specs.Cell.{blank, is_blank, is_plain, trimmed}
 use Rattle.nr_vectors.specs.declared.cell.Cell.{Cell}
+use Rattle.nr_vectors.specs.declared.cell.Look.{Look}
+use Rattle.nr_vectors.specs.declared.cell.Look.TheVariants.{Plain, Under, Bold}
 use Rattle.nr_store.specs.declared.element.Element.TheVariants as elements
 use Rattle.nr_store.specs.declared.refusal.StoredBytes.{StoredBytes}
 use Rattle.nr_store.proofs.Building.{affordable}
 use Rattle.nr_store.specs.Store.{Stored, Built, afforded, charge_of, on_newest, longer, diverted, diverted_end}
 use Rattle.nr_formatter.specs.declared.tasks.Resume.{Resume}
-use Rattle.nr_formatter.specs.DiversionRow.{plain, diverted_cells, is_under_blank, with_cells, EndsRow, HoldsRow}
+use Rattle.nr_formatter.specs.DiversionRow.{plain, diverted_cells, is_faced_blank, with_cells, EndsRow, HoldsRow}
 use Rattle.nr_formatter.specs.Limits.{stored_limits}
 use Rattle.nr_formatter.proofs.DivertedRows.{share, share-le, with_cells-with_cells, with_cells-nothing, charge_of-with_cells, diverted_end-with_cells, charge_of-diverted-le, trimmed-blanks, trimmed-some, plain-blank, plain-some, plain-blanks}
 
@@ -66,26 +68,27 @@ ends_behind front cell some xs =
 pub ends_one : (cell : Cell) → is_blank cell ≡ false → EndsRow (cell ∷ [])
 ends_one cell some = record { plain_is = ap (λ (x : Cell). x ∷ []) (plain-some cell some); all_written = ends_behind [] cell some }
 
--- a blank that is not underlined is a blank
-plain_under : (under : Bool) (byte : ℕ) → (under && (byte == code " ")) ≡ false → plain (record { byte = byte; under = under }) ≡ record { byte = byte; under = under }
-plain_under under byte none = by_blank (byte == code " ") refl none
+-- a blank that looks plain is a plain blank
+plain_look : (look : Look) (byte : ℕ) → (not (is_plain look) && (byte == code " ")) ≡ false → plain (record { byte = byte; look = look }) ≡ record { byte = byte; look = look }
+plain_look look byte none = by_blank (byte == code " ") refl none
   where
-    by_under : (u : Bool) → byte ≡ code " " → (u && true) ≡ false → ◌≡◌ {A = Cell} blank (record { byte = byte; under = u })
-    by_under true is other = absurd (let wrong : true ≡ false = other in cc)
-    by_under false is other = ap (λ n. record { byte = n; under = false }) (sym is)
+    by_look : (l : Look) → byte ≡ code " " → (not (is_plain l) && true) ≡ false → ◌≡◌ {A = Cell} blank (record { byte = byte; look = l })
+    by_look Plain is other = ap (λ n. record { byte = n; look = Plain }) (sym is)
+    by_look Under is other = absurd (let wrong : true ≡ false = other in cc)
+    by_look Bold is other = absurd (let wrong : true ≡ false = other in cc)
 
-    by_blank : (b : Bool) → (byte == code " ") ≡ b → (under && b) ≡ false → (if b then blank else record { byte = byte; under = under }) ≡ record { byte = byte; under = under }
-    by_blank true is other = by_under under (eqb-true byte (code " ") is) other
+    by_blank : (b : Bool) → (byte == code " ") ≡ b → (not (is_plain look) && b) ≡ false → (if b then blank else record { byte = byte; look = look }) ≡ record { byte = byte; look = look }
+    by_blank true is other = by_look look (eqb-true byte (code " ") is) other
     by_blank false is other = refl
 
-plain_cells : (cells : List Cell) → list_any is_under_blank cells ≡ false → map plain cells ≡ cells
+plain_cells : (cells : List Cell) → list_any is_faced_blank cells ≡ false → map plain cells ≡ cells
 plain_cells [] none = refl
 plain_cells (cell ∷ cells) none =
-    let parts = or_parts (is_under_blank cell) (list_any is_under_blank cells) none in
-    ap₂ (λ (x : Cell) (xs : List Cell). x ∷ xs) (plain_under cell.under cell.byte parts.0) (plain_cells cells parts.1)
+    let parts = or_parts (is_faced_blank cell) (list_any is_faced_blank cells) none in
+    ap₂ (λ (x : Cell) (xs : List Cell). x ∷ xs) (plain_look cell.look cell.byte parts.0) (plain_cells cells parts.1)
 
--- the last of these cells is no blank, and no blank of them is underlined
-pub ends_row : (cells : List Cell) (d : Cell) → 0 < length cells → list_any is_under_blank cells ≡ false → ((get_or cells (length cells - 1) d).byte ≡ code " " → ⊥) → EndsRow cells
+-- the last of these cells is no blank, and each blank of them is plain
+pub ends_row : (cells : List Cell) (d : Cell) → 0 < length cells → list_any is_faced_blank cells ≡ false → ((get_or cells (length cells - 1) d).byte ≡ code " " → ⊥) → EndsRow cells
 ends_row cells d some none last =
     let n = length cells - 1 in
     let cell = get_or cells n d in

@@ -4,6 +4,7 @@ use Rattle.std.proofs.Common.{◌≡◌, ℕ, ◌+◌, ◌*◌, ◌≤◌, Bool,
 use Rattle.std.specs.Prelude.{◌==◌, if◌then◌else◌, nat_lt, not, is_none}
 use Rattle.std.proofs.lemmas.Bool.{ne_eqb, le-leb, lt-ltb}
 use Rattle.nr_vectors.specs.declared.cell.Cell.{Cell}
+use Rattle.nr_vectors.specs.declared.cell.Look.{Look}
 use Rattle.nr_settings.specs.declared.indents.Margins.{Margins}
 use Rattle.nr_fill.specs.declared.piece.Behind.TheVariants.{Letter}
 use Rattle.nr_fill.specs.Piece.{Collected, Word, add_cell, begins_line, end_word, one_blank_more, is_nil, line_cells, may_hyphenate, text_cells}
@@ -57,20 +58,20 @@ text_cells-cell : (m : Margins) (x : Cell) (c : Collected) → text_cells (add_c
 text_cells-cell m x c = let one = line_cells-add_cell m Letter x c in omega (arith, one)
 
 -- a run is as many cells as it has bytes
-line_cells-cells : (m : Margins) (under : Bool) (x : Cell) (bs : List ℕ) (c : Collected)
-    → line_cells (add_run m under bs (add_cell m Letter x c)) ≡ text_cells c + 1 + length bs
-line_cells-cells m under x [] c = omega (arith, line_cells-add_cell m Letter x c)
-line_cells-cells m under x (b ∷ bs) c =
-    omega (arith, line_cells-cells m under (run_cell under b) bs (add_cell m Letter x c), text_cells-cell m x c)
+line_cells-cells : (m : Margins) (look : Look) (x : Cell) (bs : List ℕ) (c : Collected)
+    → line_cells (add_run m look bs (add_cell m Letter x c)) ≡ text_cells c + 1 + length bs
+line_cells-cells m look x [] c = omega (arith, line_cells-add_cell m Letter x c)
+line_cells-cells m look x (b ∷ bs) c =
+    omega (arith, line_cells-cells m look (run_cell look b) bs (add_cell m Letter x c), text_cells-cell m x c)
 
-pub line_cells-run : (m : Margins) (under : Bool) (b : ℕ) (bs : List ℕ) (c : Collected) → line_cells (add_run m under (b ∷ bs) c) ≡ text_cells c + 1 + length bs
-line_cells-run m under b bs c = line_cells-cells m under (run_cell under b) bs c
+pub line_cells-run : (m : Margins) (look : Look) (b : ℕ) (bs : List ℕ) (c : Collected) → line_cells (add_run m look (b ∷ bs) c) ≡ text_cells c + 1 + length bs
+line_cells-run m look b bs c = line_cells-cells m look (run_cell look b) bs c
 
 -- each byte may add 175
-pub weight-run : (m : Margins) (under : Bool) (bs : List ℕ) (c : Collected) → weight_of_line (add_run m under bs c) ≤ weight_of_line c + 175 * length bs
-weight-run m under [] c = omega arith
-weight-run m under (b ∷ bs) c =
-    omega (arith, weight-run m under bs (add_cell m Letter (run_cell under b) c), weight-add_cell m Letter (run_cell under b) c)
+pub weight-run : (m : Margins) (look : Look) (bs : List ℕ) (c : Collected) → weight_of_line (add_run m look bs c) ≤ weight_of_line c + 175 * length bs
+weight-run m look [] c = omega arith
+weight-run m look (b ∷ bs) c =
+    omega (arith, weight-run m look bs (add_cell m Letter (run_cell look b) c), weight-add_cell m Letter (run_cell look b) c)
 
 -- ---- in a line
 

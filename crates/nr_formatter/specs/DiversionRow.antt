@@ -1,15 +1,15 @@
 -- The rows that go into a diversion. (CSTR 54, section 7.4.)
-use Rattle.std.specs.Prelude.{◌≡◌, ℕ, ◌<◌, ◌^◌, ◌-◌, ◌&&◌, min, Bool, true, false, if◌then◌else◌, List, [], ◌++◌, map, replicate}
+use Rattle.std.specs.Prelude.{◌≡◌, ℕ, ◌<◌, ◌^◌, ◌-◌, ◌&&◌, min, Bool, true, false, not, if◌then◌else◌, List, [], ◌++◌, map, replicate}
 use Rattle.std.proofs.Common.{sym, append_assoc, subst}
 use Rattle.std.proofs.lemmas.List.{append-nil}
-use Rattle.nr_vectors.specs.Cell.{blank, is_blank, trimmed}
+use Rattle.nr_vectors.specs.Cell.{blank, is_blank, is_plain, trimmed}
 use Rattle.nr_vectors.specs.declared.cell.Cell.{Cell}
 use Rattle.nr_store.specs.declared.element.Element.TheVariants as elements
 use Rattle.nr_store.specs.Store.{Stored, added, charge_of}
 use Rattle.nr_formatter.specs.declared.tasks.Resume.{Resume}
 use Rattle.nr_formatter.specs.Limits.{stored_limits}
 
--- a blank is a blank, underlined or not
+-- a blank is a plain blank
 abbrev pub plain : Cell → Cell
 plain x = if is_blank x then blank else x
 
@@ -21,9 +21,9 @@ diverted_cells row = trimmed (map plain row)
 abbrev pub with_cells : List Cell → Stored Resume → Stored Resume
 with_cells cells v = added (map elements.Cell cells) v
 
--- a blank that is underlined
-abbrev pub is_under_blank : Cell → Bool
-is_under_blank x = x.under && is_blank x
+-- a blank that isn't plain
+abbrev pub is_faced_blank : Cell → Bool
+is_faced_blank x = not (is_plain x.look) && is_blank x
 
 -- cells with which a row ends that has no blank to leave out
 pub record EndsRow (cells : List Cell) : Type 0 where

@@ -10,7 +10,7 @@ ghost use Rattle.nr_fill.specs.Title.{titled_row};
 ghost use Rattle.nr_formatter.specs.Limits.{stored_limits};
 ghost use Rattle.nr_formatter.specs.Lines.{row_of, rest_of, settings_behind};
 ghost use Rattle.nr_formatter.specs.declared.tasks.Resume.{Resume as ResumeValue};
-ghost use Rattle.nr_formatter.specs.DiversionRow.{AddsToDiversion, AddsToDiversion-both, AddsToDiversion-nothing, EndsRow, HoldsRow, diverted_cells, is_under_blank, with_cells};
+ghost use Rattle.nr_formatter.specs.DiversionRow.{AddsToDiversion, AddsToDiversion-both, AddsToDiversion-nothing, EndsRow, HoldsRow, diverted_cells, is_faced_blank, with_cells};
 
 use crate::lines::{Going, set_going};
 use crate::tasks::Resume;
@@ -22,7 +22,7 @@ use nr_fill::piece::PieceSlot;
 use nr_fill::setting::Extra;
 use nr_settings::Settings;
 use nr_store::{Element, Store, StoredBytes};
-use nr_vectors::cell::Cell;
+use nr_vectors::cell::{Cell, Look};
 use nr_vectors::slice_vec::SliceVec;
 
 /// How many cells a line has at most that is laid at once.
@@ -40,26 +40,36 @@ pub(crate) struct DiversionRow<'b> {
     refused: bool,
 }
 
-/// Whether one of the cells is an underlined blank.
-fn has_under_blank(cells: &[Cell]) -> bool
-    ensures { result ≡ list_any is_under_blank cells.now }
+/// Whether a cell is a blank that isn't plain.
+fn is_faced_blank(cell: Cell) -> bool
+    ensures { result ≡ is_faced_blank cell }
+{
+    match cell.look {
+        Look::Plain => false,
+        Look::Under | Look::Bold => cell.byte == b' ',
+    }
+}
+
+/// Whether one of the cells is a blank that isn't plain.
+fn has_faced_blank(cells: &[Cell]) -> bool
+    ensures { result ≡ list_any is_faced_blank cells.now }
 {
     for cell in cells {
-        if cell.under && cell.byte == b' ' {
+        if is_faced_blank(*cell) {
             return true;
         }
     }
     false
 }
 
-/// Whether the cells end with one that is no blank, and no blank of them is underlined.
+/// Whether the cells end with one that is no blank, and each blank of them is plain.
 fn ends_row(cells: &[Cell]) -> bool
     ensures { result ≡ true → EndsRow cells.now }
 {
     if cells.is_empty() || cells[cells.len() - 1].byte == b' ' {
         return false;
     }
-    !has_under_blank(cells)
+    !has_faced_blank(cells)
 }
 
 /// Adds so many blanks and cells after them, and tells what the store is charged then.

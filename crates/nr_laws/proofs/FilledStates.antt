@@ -79,7 +79,7 @@ event_bytes e = []
 
 -- the pages that have ended, the open one, and all that is to come
 abbrev pub output_of : State → List ℕ
-output_of s = text s.pages ++ text_of (rows_shown s.lines ++ rows_after (collected s.formatter) (event_bytes s.formatter.event ++ s.coming.supply.bytes))
+output_of s = text s.pages ++ text_of s.faces (rows_shown s.lines ++ rows_after (collected s.formatter) (event_bytes s.formatter.event ++ s.coming.supply.bytes))
 
 -- a state leads to another, and to the same output
 pub record Continues (s t : State) : Type 0 where

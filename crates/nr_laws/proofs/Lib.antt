@@ -1,3 +1,5 @@
+pub mod FacesLaws
+pub mod FacesStates
 pub mod FilledLines
 pub mod FilledPages
 pub mod FilledPieces

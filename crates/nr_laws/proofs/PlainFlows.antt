@@ -42,8 +42,8 @@ above-behind : (n r : ℕ) (ls : List Placed) (cells : List Cell) → Above n ls
 above-behind n r [] cells under h = (h, tt)
 above-behind n r (l ∷ ls) cells under h = (under.0, above-behind n r ls cells under.1 h)
 
-lines_ink-behind : (ls : List Placed) (l : Placed) → lines_ink (ls ++ l ∷ []) ≡ lines_ink ls ++ ink l.cells
-lines_ink-behind ls l = flat_map-append (λ (x : Placed). ink x.cells) ls (l ∷ []) ∙ ap (λ z. lines_ink ls ++ z) (append-nil (ink l.cells))
+lines_ink-behind : (faces : Faces) (ls : List Placed) (l : Placed) → lines_ink faces (ls ++ l ∷ []) ≡ lines_ink faces ls ++ ink faces l.cells
+lines_ink-behind faces ls l = flat_map-append (λ (x : Placed). ink faces x.cells) ls (l ∷ []) ∙ ap (λ z. lines_ink faces ls ++ z) (append-nil (ink faces l.cells))
 
 pub text-one : (pages : List Ended) (page : Ended) → text (pages ++ page ∷ []) ≡ text pages ++ bytes_of page
 text-one pages page = flat_map-append bytes_of pages (page ∷ []) ∙ ap (λ z. text pages ++ z) (append-nil (bytes_of page))
@@ -69,7 +69,7 @@ module _ (m : Mode) (d : Due) (k : Task) (p : Step) (bs : List ℕ) (i : Bool) (
 
   -- what is held besides the page
   abbrev held : List ℕ
-  held = collected_ink c ++ ([] ++ squeezed bs)
+  held = collected_ink s.faces c ++ ([] ++ squeezed bs)
 
   -- ---- a page begins
 
@@ -80,11 +80,11 @@ module _ (m : Mode) (d : Due) (k : Task) (p : Step) (bs : List ℕ) (i : Bool) (
   begins_page stays shut closed phase some =
       keeps at (begin_page at) (begun k) m d events.Nothing k p bs i (ap begun stays) refl phase
       (record { clean = o.clean; ascends = tt; above = tt; shut = λ never. refl; drained = o.drained; closed = closed })
-      (ap (λ ls. squeezed (text s.pages) ++ (lines_ink ls ++ held)) (sym (o.shut shut)))
+      (ap (λ ls. squeezed (text s.pages) ++ (lines_ink s.faces ls ++ held)) (sym (o.shut shut)))
       (λ r f. record {
         reads = record { goes = r.goes; bytes = r.bytes; inside = r.inside };
         prints = record { rows = tt; down = λ is_so. refl; few = omega arith; begun = λ is_so none. some r; measure = f.measure };
-        same = ap (λ ls. text s.pages ++ text_of (rows_shown ls ++ rows_after c bs)) (sym (o.shut shut));
+        same = ap (λ ls. text s.pages ++ text_of s.faces (rows_shown ls ++ rows_after c bs)) (sym (o.shut shut));
       })
 
   -- ---- a page ends
@@ -97,8 +97,8 @@ module _ (m : Mode) (d : Due) (k : Task) (p : Step) (bs : List ℕ) (i : Bool) (
       keeps at (end_page at) (ended k) m d events.Nothing k p bs i (ap ended stays) refl phase
       (record { clean = o.clean; ascends = tt; above = tt; shut = λ never. refl; drained = o.drained; closed = closed })
       (ap (λ z. squeezed z ++ ([] ++ held)) (text-one s.pages (page_of at))
-      ∙ ap (λ z. z ++ ([] ++ held)) (squeezed-append (text s.pages) (bytes_of (page_of at)) ∙ ap (λ z. squeezed (text s.pages) ++ z) (page-ink (2640 / 40) s.lines o.ascends))
-      ∙ append_assoc (squeezed (text s.pages)) (lines_ink s.lines) held)
+      ∙ ap (λ z. z ++ ([] ++ held)) (squeezed-append (text s.pages) (bytes_of (page_of at)) ∙ ap (λ z. squeezed (text s.pages) ++ z) (page-ink s.faces (2640 / 40) s.lines o.ascends))
+      ∙ append_assoc (squeezed (text s.pages)) (lines_ink s.faces s.lines) held)
       (λ r f. record {
         reads = record { goes = r.goes; bytes = r.bytes; inside = r.inside };
         prints = record { rows = tt; down = λ is_so. never_here is_so; few = omega arith; begun = λ is_so. never_here is_so; measure = f.measure };
@@ -106,8 +106,8 @@ module _ (m : Mode) (d : Due) (k : Task) (p : Step) (bs : List ℕ) (i : Bool) (
             let down = f.down is_open_now in
             let few = f.few in
             let rest = rows_after c bs in
-            ap (λ z. z ++ text_of rest) (text-one s.pages (page_of at)) ∙ append_assoc (text s.pages) (page_bytes 66 s.lines) (text_of rest)
-            ∙ ap (λ z. text s.pages ++ z) (full-page s.lines rest f.rows (omega arith));
+            ap (λ z. z ++ text_of s.faces rest) (text-one s.pages (page_of at)) ∙ append_assoc (text s.pages) (page_bytes s.faces 66 s.lines) (text_of s.faces rest)
+            ∙ ap (λ z. text s.pages ++ z) (full-page s.faces s.lines rest f.rows (omega arith));
       })
 
   -- ---- a line is placed
@@ -151,11 +151,11 @@ module _ (m : Mode) (d : Due) (k : Task) (p : Step) (bs : List ℕ) (i : Bool) (
         drained = drained;
         closed = closed;
       })
-      (ap (λ ls. squeezed (text s.pages) ++ (lines_ink ls ++ (collected_ink (left g) ++ ([] ++ squeezed bs)))) lines_are
-      ∙ ap (λ z. squeezed (text s.pages) ++ (z ++ (collected_ink (left g) ++ ([] ++ squeezed bs)))) (lines_ink-behind s.lines (record { row = down / 40; cells = trimmed row }) ∙ ap (λ z. lines_ink s.lines ++ z) (ink-trimmed row))
-      ∙ ap (λ z. squeezed (text s.pages) ++ z) (append_assoc (lines_ink s.lines) (ink row) (collected_ink (left g) ++ ([] ++ squeezed bs))
-      ∙ ap (λ z. lines_ink s.lines ++ z) (sym (append_assoc (ink row) (collected_ink (left g)) ([] ++ squeezed bs))
-      ∙ ap (λ z. z ++ ([] ++ squeezed bs)) (cut-ink (record { align = g.align; offset = 0 }) (margins_of first_indents) c n o.clean.pieces))))
+      (ap (λ ls. squeezed (text s.pages) ++ (lines_ink s.faces ls ++ (collected_ink s.faces (left g) ++ ([] ++ squeezed bs)))) lines_are
+      ∙ ap (λ z. squeezed (text s.pages) ++ (z ++ (collected_ink s.faces (left g) ++ ([] ++ squeezed bs)))) (lines_ink-behind s.faces s.lines (record { row = down / 40; cells = trimmed row }) ∙ ap (λ z. lines_ink s.faces s.lines ++ z) (ink-trimmed s.faces row))
+      ∙ ap (λ z. squeezed (text s.pages) ++ z) (append_assoc (lines_ink s.faces s.lines) (ink s.faces row) (collected_ink s.faces (left g) ++ ([] ++ squeezed bs))
+      ∙ ap (λ z. lines_ink s.faces s.lines ++ z) (sym (append_assoc (ink s.faces row) (collected_ink s.faces (left g)) ([] ++ squeezed bs))
+      ∙ ap (λ z. z ++ ([] ++ squeezed bs)) (cut-ink s.faces (record { align = g.align; offset = 0 }) (margins_of first_indents) c n o.clean.pieces))))
       (λ r f. record {
         reads = record { goes = r.goes; bytes = r.bytes; inside = r.inside };
         prints =
@@ -172,7 +172,7 @@ module _ (m : Mode) (d : Due) (k : Task) (p : Step) (bs : List ℕ) (i : Bool) (
             (subst (λ ls. OnFilledPage (left g) ls (min (down + 40) 2147483647) true) (sym lines_are) filled);
         same =
             let rest = rows_after (left g) bs in
-            ap (λ ls. text s.pages ++ text_of (rows_shown ls ++ rest)) lines_are
-            ∙ ap (λ rows. text s.pages ++ text_of rows) (ap (λ rows. rows ++ rest) (rows_shown-behind s.lines (record { row = down / 40; cells = trimmed row }))
+            ap (λ ls. text s.pages ++ text_of s.faces (rows_shown ls ++ rest)) lines_are
+            ∙ ap (λ rows. text s.pages ++ text_of s.faces rows) (ap (λ rows. rows ++ rest) (rows_shown-behind s.lines (record { row = down / 40; cells = trimmed row }))
             ∙ append_assoc (rows_shown s.lines) (trimmed row ∷ []) rest ∙ ap (λ rows. rows_shown s.lines ++ rows) (sym (next r f)));
       })

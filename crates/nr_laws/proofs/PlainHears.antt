@@ -30,9 +30,10 @@ use Rattle.nr_machine.specs.State.{State}
 use Rattle.nr_machine.specs.Machine.{step}
 use Rattle.nr_machine.specs.Printing.{text}
 use Rattle.nr_laws.specs.PlainText.{squeezed, is_plain_from}
-use Rattle.nr_laws.proofs.PlainPages.{if-true, if-false, same_if, lines_ink}
+use Rattle.nr_laws.proofs.PlainPages.{plain_bytes, if-true, if-false, same_if, lines_ink}
 use Rattle.nr_laws.proofs.PlainLines.{Clean, CleanWords, IsPlainPending, collected_ink, add_cell-ink, add_cell-clean, add_blank-ink, add_blank-clean, end_word-ink, end_word-clean}
 use Rattle.nr_vectors.specs.declared.cell.Cell.{Cell}
+use Rattle.nr_vectors.specs.declared.cell.Look.TheVariants.{Plain}
 use Rattle.nr_input.specs.Acting.{is_look}
 use Rattle.nr_laws.specs.FilledText.{text_of}
 use Rattle.nr_laws.proofs.FilledLines.{rows_at}
@@ -55,7 +56,7 @@ no_field (Some w) clean = by w.pending clean.pending
 
 -- where the line, the word or the gap changes, and no ink
 abbrev around : State → List ℕ → List ℕ
-around s z = squeezed (text s.pages) ++ (lines_ink s.lines ++ z)
+around s z = squeezed (text s.pages) ++ (lines_ink s.faces s.lines ++ z)
 
 module _ (s : State) (o : OrderlyIn tasks.Read steps.NotYet s) where
   -- the line changed
@@ -79,7 +80,7 @@ module _ (s : State) (o : OrderlyIn tasks.Read steps.NotYet s) where
 
   -- the output, with these rows to come
   abbrev outcome : List (List Cell) → List ℕ
-  outcome rows = text s.pages ++ text_of (rows_shown s.lines ++ rows)
+  outcome rows = text s.pages ++ text_of s.faces (rows_shown s.lines ++ rows)
 
   -- ---- what ends no word
 
@@ -119,7 +120,7 @@ module _ (s : State) (o : OrderlyIn tasks.Read steps.NotYet s) where
       let e = add_blank (margins_of first_indents) c in
       keeps x (step x) (with_line e tasks.Read x) modes.Text d events.Nothing tasks.Read steps.NotYet bs i (ap (indented e x) (same_if (begins_line c) first_indents)) refl (InText owes plain)
       (changed tasks.Read e tt (add_blank-clean (margins_of first_indents) c o.clean))
-      (ap (λ z. around s (z ++ ([] ++ squeezed bs))) (add_blank-ink (margins_of first_indents) c o.clean))
+      (ap (λ z. around s (z ++ ([] ++ squeezed bs))) (add_blank-ink s.faces (margins_of first_indents) c o.clean))
       (λ r p. never_here (lead_never d r.goes))
 
   -- ---- a character
@@ -133,7 +134,7 @@ module _ (s : State) (o : OrderlyIn tasks.Read steps.NotYet s) where
       let no_tab : (b == 9) ≡ false = ne_eqb b 9 (omega arith) in
       let no_leader : (b == 1) ≡ false = ne_eqb b 1 (omega arith) in
       let is : prints b ≡ true = grind (arith, nat_tests) in
-      let e = add_cell (margins_of first_indents) (texts.behind_of b) (record { byte = b; under = false }) c in
+      let e = add_cell (margins_of first_indents) (texts.behind_of b) (record { byte = b; look = Plain }) c in
       let leads : step x ≡ with_line e tasks.Read x =
       ap (λ (g : Formatter). record x { formatter = g })
       (if-false (b == 32) (texts.blank f) (if b == 9 then texts.tab f.settings.tabs.tab f else (if b == 1 then texts.tab f.settings.tabs.leader f else (if prints b then texts.character b f else record f { event = events.Nothing }))) other
@@ -142,9 +143,10 @@ module _ (s : State) (o : OrderlyIn tasks.Read steps.NotYet s) where
       ∙ if-true (prints b) (texts.character b f) (record f { event = events.Nothing }) is)
       ∙ ap (indented e x) (same_if (begins_line c) first_indents) in
       keeps x (step x) (with_line e tasks.Read x) modes.Text dues.Look events.Nothing tasks.Read steps.NotYet bs i leads refl (InText Nothing plain)
-      (changed tasks.Read e tt (add_cell-clean (margins_of first_indents) (texts.behind_of b) (record { byte = b; under = false }) c o.clean))
-      (ap (λ z. around s (z ++ ([] ++ squeezed bs))) (add_cell-ink (margins_of first_indents) (texts.behind_of b) (record { byte = b; under = false }) c o.clean)
-      ∙ ap (around s) (append_assoc (collected_ink c) (squeezed (b ∷ [])) (squeezed bs)))
+      (changed tasks.Read e tt (add_cell-clean (margins_of first_indents) (texts.behind_of b) (record { byte = b; look = Plain }) c o.clean))
+      (ap (λ z. around s (z ++ ([] ++ squeezed bs))) (add_cell-ink s.faces (margins_of first_indents) (texts.behind_of b) (record { byte = b; look = Plain }) c o.clean
+      ∙ ap (λ z. collected_ink s.faces c ++ squeezed (z ++ [])) (plain_bytes s.faces b))
+      ∙ ap (around s) (append_assoc (collected_ink s.faces c) (squeezed (b ∷ [])) (squeezed bs)))
       (λ r p. record {
         reads = record { goes = refl; bytes = r.bytes; inside = λ begins. never_here begins };
         prints = record { rows = p.rows; down = p.down; few = p.few; begun = p.begun; measure = λ begun. margins_by (begins_line c) c p.measure };
@@ -198,7 +200,7 @@ module _ (s : State) (o : OrderlyIn tasks.Read steps.NotYet s) where
       ap (λ (g : Formatter). record x { formatter = g }) (if-false (lines.reads_a_field f) (lines.field_ended f) (texts.gap_blank f) (no_field c.word o.clean.word))
       ∙ ap (λ k. with_line (one_blank_more (end_word k)) task x) (pointed_is modes.Text dues.Look (events.Byte 32) bs i) in
       keeps x (step x) (with_line (one_blank_more (end_word c)) task x) modes.Text dues.Look events.Nothing task steps.NotYet bs i leads refl (phase_by some bs i plain)
-      (orderly_by some (one_blank_more (end_word c)) ended_clean) (ap (λ z. around s (z ++ ([] ++ squeezed bs))) (end_word-ink c))
+      (orderly_by some (one_blank_more (end_word c)) ended_clean) (ap (λ z. around s (z ++ ([] ++ squeezed bs))) (end_word-ink s.faces c))
       (λ r p. record { reads = record { goes = goes_by some; bytes = r.bytes; inside = λ begins. never_here begins }; prints = let w = word_printed p in record { rows = w.rows; down = w.down; few = w.few; begun = w.begun; measure = w.measure }; same = refl })
 
   pub end_hears : (bs : List ℕ) (i : Bool) → is_plain_from true bs ≡ true → Keeps (told modes.Start dues.Look events.EndLine bs i) (step (told modes.Start dues.Look events.EndLine bs i))
@@ -211,7 +213,7 @@ module _ (s : State) (o : OrderlyIn tasks.Read steps.NotYet s) where
       ap (λ (g : Formatter). record x { formatter = g }) (if-false (lines.reads_a_field f) (lines.field_ended f) (texts.word_line_ended afters.Line f) (no_field c.word o.clean.word))
       ∙ ap (λ k. with_line (after_newline (end_word k)) task x) (pointed_is modes.Start dues.Look events.EndLine bs i) in
       keeps x (step x) (with_line (after_newline (end_word c)) task x) modes.Start dues.Look events.Nothing task steps.NotYet bs i leads refl (FlowsLine plain)
-      (record { clean = newline_clean; ascends = o.ascends; above = o.above; shut = o.shut; drained = tt; closed = tt }) (ap (λ z. around s (z ++ ([] ++ squeezed bs))) (end_word-ink c))
+      (record { clean = newline_clean; ascends = o.ascends; above = o.above; shut = o.shut; drained = tt; closed = tt }) (ap (λ z. around s (z ++ ([] ++ squeezed bs))) (end_word-ink s.faces c))
       (λ r p. record { reads = record { goes = refl; bytes = r.bytes; inside = r.inside }; prints = let w = word_printed p in record { rows = w.rows; down = w.down; few = w.few; begun = w.begun; measure = w.measure }; same = refl })
 
   pub byte_hears : (b : ℕ) (bs : List ℕ) (i : Bool) → 32 ≤ b → b ≤ 126 → is_plain_from false bs ≡ true → Keeps (told modes.Text dues.Look (events.Byte b) bs i) (step (told modes.Text dues.Look (events.Byte b) bs i))

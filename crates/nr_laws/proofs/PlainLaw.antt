@@ -135,8 +135,8 @@ works_on e = cc
 over_by : {m : Mode} {d : Due} {e : Event} {k : Task} {p : Step} {bs : List ℕ} {i : Bool} (s : State) → Phase m d e k p bs i → OrderlyIn k p s → kind (calm m d e k p bs i s) ≡ Over
     → whole (calm m d e k p bs i s) ≡ squeezed (text s.pages)
 over_by s Halts o over =
-    ap (λ ls. squeezed (text s.pages) ++ (lines_ink ls ++ ((pieces_ink (collected s.formatter).pieces ++ word_ink (collected s.formatter).word) ++ []))) o.closed
-    ∙ ap₂ (λ ps w. squeezed (text s.pages) ++ ((pieces_ink ps ++ word_ink w) ++ [])) o.drained.0 o.drained.1 ∙ append-nil (squeezed (text s.pages))
+    ap (λ ls. squeezed (text s.pages) ++ (lines_ink s.faces ls ++ ((pieces_ink s.faces (collected s.formatter).pieces ++ word_ink s.faces (collected s.formatter).word) ++ []))) o.closed
+    ∙ ap₂ (λ ps w. squeezed (text s.pages) ++ ((pieces_ink s.faces ps ++ word_ink s.faces w) ++ [])) o.drained.0 o.drained.1 ∙ append-nil (squeezed (text s.pages))
 over_by s (AtStart plain) o over = absurd (reads_on over)
 over_by s (InLead n plain) o over = absurd (reads_on over)
 over_by s (InText owes plain) o over = absurd (reads_on over)
@@ -180,7 +180,7 @@ output_by : {m : Mode} {d : Due} {e : Event} {k : Task} {p : Step} {bs : List �
 output_by s Halts o over =
     let c = collected s.formatter in
     let none : rows_after c [] ≡ [] = ap₂ (λ ps w. rows_at c.turn (ps ++ word_pieces w)) o.drained.0 o.drained.1 in
-    ap₂ (λ ls rows. text s.pages ++ text_of (rows_shown ls ++ rows)) o.closed none ∙ append-nil (text s.pages)
+    ap₂ (λ ls rows. text s.pages ++ text_of s.faces (rows_shown ls ++ rows)) o.closed none ∙ append-nil (text s.pages)
 output_by s (AtStart plain) o over = absurd (reads_on over)
 output_by s (InLead n plain) o over = absurd (reads_on over)
 output_by s (InText owes plain) o over = absurd (reads_on over)

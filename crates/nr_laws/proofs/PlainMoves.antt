@@ -194,14 +194,14 @@ module _ (s : State) where
       let x = calm modes.Start dues.Look events.Nothing k steps.LastPage [] false s in
       let open_page = is_open s.formatter.paper.state in
       let over = plainly (λ f. record f { task = tasks.Halted }) x in
-      let held = collected_ink c ++ [] in
+      let held = collected_ink s.faces c ++ [] in
       by_bool open_page (Keeps x (step x))
       (λ is_so. keeps x (step x) (end_page x) modes.Start dues.Look events.Nothing tasks.Halted steps.LastPage [] false
       (if-true (open_page && s.formatter.paper.ejecting) (end_page x) over (ap₂ (λ a b. a && b) is_so o.closed)) refl Halts
       (record { clean = o.clean; ascends = tt; above = tt; shut = λ never. refl; drained = o.drained; closed = refl })
       (ap (λ z. squeezed z ++ ([] ++ held)) (text-one s.pages (page_of x))
-      ∙ ap (λ z. z ++ ([] ++ held)) (squeezed-append (text s.pages) (bytes_of (page_of x)) ∙ ap (λ z. squeezed (text s.pages) ++ z) (page-ink (2640 / 40) s.lines o.ascends))
-      ∙ append_assoc (squeezed (text s.pages)) (lines_ink s.lines) held)
+      ∙ ap (λ z. z ++ ([] ++ held)) (squeezed-append (text s.pages) (bytes_of (page_of x)) ∙ ap (λ z. squeezed (text s.pages) ++ z) (page-ink s.faces (2640 / 40) s.lines o.ascends))
+      ∙ append_assoc (squeezed (text s.pages)) (lines_ink s.faces s.lines) held)
       (λ r f. record {
         reads = record { goes = refl; bytes = r.bytes; inside = r.inside };
         prints = record { rows = tt; down = λ is_so. never_here is_so; few = omega arith; begun = λ is_so. never_here is_so; measure = f.measure };
@@ -209,8 +209,8 @@ module _ (s : State) where
             let some = not_empty s.lines (λ none. sym (f.begun is_so none) ∙ ap is_nil o.drained.0) in
             let none : rows_after c [] ≡ [] = ap₂ (λ ps w. rows_at c.turn (ps ++ word_pieces w)) o.drained.0 o.drained.1 in
             let all = text (s.pages ++ page_of x ∷ []) in
-            ap (λ rows. all ++ text_of rows) none ∙ append-nil all ∙ text-one s.pages (page_of x) ∙ ap (λ z. text s.pages ++ z) (last-page s.lines f.rows some f.few)
-            ∙ ap (λ rows. text s.pages ++ text_of rows) (sym (ap (λ rows. rows_shown s.lines ++ rows) none ∙ append-nil (rows_shown s.lines)));
+            ap (λ rows. all ++ text_of s.faces rows) none ∙ append-nil all ∙ text-one s.pages (page_of x) ∙ ap (λ z. text s.pages ++ z) (last-page s.faces s.lines f.rows some f.few)
+            ∙ ap (λ rows. text s.pages ++ text_of s.faces rows) (sym (ap (λ rows. rows_shown s.lines ++ rows) none ∙ append-nil (rows_shown s.lines)));
       }))
       (λ other. keeps x (step x) over modes.Start dues.Look events.Nothing tasks.Halted steps.LastPage [] false
       (if-false (open_page && s.formatter.paper.ejecting) (end_page x) over (ap (λ a. a && s.formatter.paper.ejecting) other)) refl Halts

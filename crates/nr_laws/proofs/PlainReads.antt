@@ -88,7 +88,7 @@ reads st s = with_situation (met_at (met_directly st s.formatter.reader.half) (s
 
 -- what is told and what is to come changes
 abbrev rest : State → List ℕ → List ℕ
-rest s z = squeezed (text s.pages) ++ (lines_ink s.lines ++ (collected_ink (collected s.formatter) ++ z))
+rest s z = squeezed (text s.pages) ++ (lines_ink s.faces s.lines ++ (collected_ink s.faces (collected s.formatter) ++ z))
 
 -- what follows a byte
 after_byte : (begins : Bool) (b : ℕ) (bs : List ℕ) (x : Bool) → (b == 10) ≡ x → is_plain_from begins (b ∷ bs) ≡ true → is_plain_from x bs ≡ true
@@ -111,7 +111,7 @@ behind_first b bs filled = both-right (not (b == 10 || b == 32)) (is_filled_from
 
 -- the output, where these bytes are told or to come
 abbrev ahead : State → List ℕ → List ℕ
-ahead s bs = text s.pages ++ text_of (rows_shown s.lines ++ rows_after (collected s.formatter) bs)
+ahead s bs = text s.pages ++ text_of s.faces (rows_shown s.lines ++ rows_after (collected s.formatter) bs)
 
 -- with this to come, the input is read next
 abbrev reading : Mode → Due → List ℕ → Bool → State → State
@@ -173,11 +173,11 @@ module _ (s : State) (o : OrderlyIn tasks.Read steps.NotYet s) where
   text_reads [] true Nothing plain =
       let c = reading modes.Text dues.Look [] true s in
       keeps c (step c) (step c) modes.Start dues.Look events.EndLine tasks.Read steps.NotYet [] false refl refl (HearsEnd refl) o refl
-      (λ r p. record { reads = record { goes = refl; bytes = refl; inside = λ begins. refl }; prints = p; same = ap (λ rows. text s.pages ++ text_of (rows_shown s.lines ++ rows)) (added-newline (collected s.formatter)) })
+      (λ r p. record { reads = record { goes = refl; bytes = refl; inside = λ begins. refl }; prints = p; same = ap (λ rows. text s.pages ++ text_of s.faces (rows_shown s.lines ++ rows)) (added-newline (collected s.formatter)) })
   text_reads [] false Nothing plain =
       let c = reading modes.Text dues.Look [] false s in
       keeps c (step c) (step c) modes.Start dues.Look events.EndLine tasks.Read steps.NotYet [] false refl refl (HearsEnd refl) o refl
-      (λ r p. record { reads = record { goes = refl; bytes = refl; inside = λ begins. refl }; prints = p; same = ap (λ rows. text s.pages ++ text_of (rows_shown s.lines ++ rows)) (added-newline (collected s.formatter)) })
+      (λ r p. record { reads = record { goes = refl; bytes = refl; inside = λ begins. refl }; prints = p; same = ap (λ rows. text s.pages ++ text_of s.faces (rows_shown s.lines ++ rows)) (added-newline (collected s.formatter)) })
   text_reads bs i (Blanks n) plain =
       let c = reading modes.Text (dues.Lead n) bs i s in
       keeps c (step c) (step c) modes.Text (behind_lead n) events.Lead tasks.Read steps.NotYet bs i refl refl (HearsLead (owes_by (nat_le n 1) (n - 1)) plain) o refl

@@ -137,7 +137,7 @@ event_ink e = []
 
 -- all of the text, less blanks and newlines: what has gone out, what is held, and what is to come
 abbrev pub whole : State → List ℕ
-whole s = squeezed (text s.pages) ++ (lines_ink s.lines ++ (collected_ink (collected s.formatter) ++ (event_ink s.formatter.event ++ squeezed s.coming.supply.bytes)))
+whole s = squeezed (text s.pages) ++ (lines_ink s.faces s.lines ++ (collected_ink s.faces (collected s.formatter) ++ (event_ink s.formatter.event ++ squeezed s.coming.supply.bytes)))
 
 -- one state leads to another, no ink is lost, and filled text leads to the same output
 pub record Keeps (s t : State) : Type 0 where

@@ -154,7 +154,7 @@ module _ (m : Mode) (d : Due) (k : Task) (p : Step) (bs : List ℕ) (i : Bool) (
       ∙ ap (λ x. with_line (end_word x)) pointed in
       keeps at (plainly lines.break_word_end at) (with_line (end_word c)) m d events.Nothing k p bs i leads refl phase
       (record { clean = end_word-clean c o.clean; ascends = o.ascends; above = o.above; shut = o.shut; drained = drained; closed = o.closed })
-      (ap (λ z. squeezed (text s.pages) ++ (lines_ink s.lines ++ (z ++ ([] ++ squeezed bs)))) (end_word-ink c))
+      (ap (λ z. squeezed (text s.pages) ++ (lines_ink s.faces s.lines ++ (z ++ ([] ++ squeezed bs)))) (end_word-ink s.faces c))
       (λ r f. record {
         reads = record { goes = r.goes; bytes = r.bytes; inside = r.inside };
         prints = record {
@@ -164,7 +164,7 @@ module _ (m : Mode) (d : Due) (k : Task) (p : Step) (bs : List ℕ) (i : Bool) (
           begun = λ is_so none. some_behind c.pieces (word_pieces c.word) (f.begun is_so none);
           measure = λ begun. f.measure (still_begun c.pieces c.word begun);
         };
-        same = ap (λ rows. text s.pages ++ text_of (rows_shown s.lines ++ rows)) (word_rows bs (last r));
+        same = ap (λ rows. text s.pages ++ text_of s.faces (rows_shown s.lines ++ rows)) (word_rows bs (last r));
       })
 
   -- of filled text a line is broken at the end alone

@@ -4,6 +4,7 @@ use Rattle.std.specs.Prelude.{◌≡◌, ℕ, zero, suc, ◌<◌, ◌≤◌, ◌
 use Rattle.std.specs.List.{flat_map, fold}
 use Rattle.nr_units.specs.Source.{Supply}
 use Rattle.nr_vectors.specs.declared.cell.Cell.{Cell}
+use Rattle.nr_vectors.specs.declared.cell.Look.TheVariants.{Plain}
 use Rattle.nr_settings.specs.declared.indents.Margins.{Margins}
 use Rattle.nr_settings.specs.declared.filling.Align.{Align}
 use Rattle.nr_settings.specs.declared.filling.Align.TheVariants.{Left, Spread}
@@ -11,6 +12,7 @@ use Rattle.nr_fill.specs.Piece.{Piece, Collected, is_nil, nothing_collected, add
 use Rattle.nr_fill.specs.Cutting.{fits, cut}
 use Rattle.nr_fill.specs.Setting.{cut_of, set_line, behind}
 use Rattle.nr_page.specs.PageBytes.{cell_bytes}
+use Rattle.nr_page.specs.declared.faces.Faces.{Faces}
 use Rattle.nr_options.specs.Limits.{Bounds}
 use Rattle.nr_options.specs.declared.options.Options.{Options}
 use Rattle.nr_formatter.specs.Text.{behind_of}
@@ -33,7 +35,7 @@ abbrev pub with_byte : Collected → ℕ → Collected
 with_byte c b =
     if b == code "\n" then after_newline (end_word c)
     else (if b == code " " then one_blank_more (end_word c)
-    else add_cell first_margins (behind_of b) (record { byte = b; under = false }) c)
+    else add_cell first_margins (behind_of b) (record { byte = b; look = Plain }) c)
 
 -- the pieces of the whole text, from which no line was taken
 abbrev pub pieces_of : List ℕ → List Piece
@@ -60,9 +62,9 @@ abbrev pub missing : ℕ → ℕ
 missing rows = (66 - rows % 66) % 66
 
 -- the bytes of the rows, on pages of 66
-abbrev pub text_of : List (List Cell) → List ℕ
-text_of rows =
-    flat_map (λ (row : List Cell). flat_map cell_bytes row ++ code "\n" ∷ []) rows
+abbrev pub text_of : Faces → List (List Cell) → List ℕ
+text_of faces rows =
+    flat_map (λ (row : List Cell). flat_map (cell_bytes faces) row ++ code "\n" ∷ []) rows
     ++ replicate (missing (length rows)) (code "\n")
 
 -- Such text is filled: its rows are cut from the pieces of all of it.
@@ -71,7 +73,7 @@ FilledTextIsRows =
     (b : Bounds) (options : Options) (supply : Supply) (n : ℕ) (out : List ℕ)
     → is_plain supply.bytes ≡ true → is_filled_from true supply.bytes ≡ true → TakesAll options.select
     → AnswersWith b options supply n Done out
-    → out ≡ text_of (rows_of (pieces_of supply.bytes))
+    → out ≡ text_of options.faces (rows_of (pieces_of supply.bytes))
 
 -- Each of these rows is cut as long as it may be: of the pieces that are left no longer prefix fits a line,
 abbrev pub CutIsLongest : Type 0

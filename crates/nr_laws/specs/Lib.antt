@@ -1,3 +1,4 @@
+pub mod Faces
 pub mod FilledText
 pub mod Laws
 pub mod Limited

@@ -2,6 +2,7 @@
 ghost use Rattle.nr_laws.specs.Laws.{LimitsOnlyStop, NoLimitAsked, LimitsCut, LimitsCutOutput, DoneIsWhole, OneWhole, WiderLimits, LimitsUnmet, OneAnswer};
 ghost use Rattle.nr_laws.specs.Moves.{RefusedIsAbove, AboveIsRefused, MovesAreFew, MovesBeforeByte, MovesBetween};
 ghost use Rattle.nr_laws.specs.PlainText.{PlainTextStays};
+ghost use Rattle.nr_laws.specs.Faces.{FacesOnlyShow, StruckOutIsSame, LettersAreLeft};
 ghost use Rattle.nr_laws.specs.FilledText.{FilledTextIsRows, CutIsLongest, CutFits};
 
 /// Limits only stop a run: no move asks for one, so the states are those of the run without limits, as far as the run goes.
@@ -70,4 +71,13 @@ pub fn filled_text_is_rows()
     ensures rows { FilledTextIsRows }
     ensures longest { CutIsLongest }
     ensures fits { CutFits }
+{}
+
+/// With other faces a run makes the same moves and places the same lines. Without what is struck over, the output is the same with
+/// any faces; and with letters and digits alone underlined, and nothing bold, it is that without: where no backspace shows on a page,
+/// and nothing that is read puts one there.
+pub fn faces_only_show()
+    ensures states { FacesOnlyShow }
+    ensures struck { StruckOutIsSame }
+    ensures letters { LettersAreLeft }
 {}

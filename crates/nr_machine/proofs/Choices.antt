@@ -124,6 +124,7 @@ module _ (c : Choice) (cs : List Choice) (supply : Option Supply) (held : Option
           page = h.stands.page;
           page_limit = h.stands.page_limit;
           select = h.stands.select;
+          faces = h.stands.faces;
           within = record { formatter = within; page = h.stands.within.page };
         };
       } in

@@ -34,8 +34,8 @@ use Rattle.nr_machine.proofs.Measured.{passed_none, judged_within, judged_passed
 
 -- the engine holds a state whose formatter is its own
 pub holds_of : (supply : Option Supply) (t : State) (e : Shape) → e.formatter ≡ t.formatter → t.chosen ≡ [] → HoldsComing t.coming e.place supply
-    → IsRow t.row e.row → HoldsPage t.lines e.page → e.page.limit ≡ t.page_limit → e.select ≡ t.select → IsWithin t → Holds [] supply t e
-holds_of supply t e formatter chosen coming row page limit select within = record {
+    → IsRow t.row e.row → HoldsPage t.lines e.page → e.page.limit ≡ t.page_limit → e.select ≡ t.select → e.faces ≡ t.faces → IsWithin t → Holds [] supply t e
+holds_of supply t e formatter chosen coming row page limit select faces within = record {
   formatter = formatter;
   stands = record {
     chosen_is = chosen;
@@ -44,6 +44,7 @@ holds_of supply t e formatter chosen coming row page limit select within = recor
     page = page;
     page_limit = limit;
     select = select;
+    faces = faces;
     within = subst (λ f. IsWithin (record t { formatter = f })) (sym formatter) within;
   };
 }
@@ -52,7 +53,7 @@ holds_of supply t e formatter chosen coming row page limit select within = recor
 pub holds_plainly : (g : Formatter → Formatter) (supply : Option Supply) (s : State) (e : Shape) (f : Formatter) → Stands [] supply s e → f ≡ g e.formatter
     → IsWithin (plainly g (at e s)) → Holds [] supply (plainly g (at e s)) (record e { formatter = f })
 holds_plainly g supply s e f h is within =
-    holds_of supply (plainly g (at e s)) (record e { formatter = f }) is h.chosen_is h.coming h.row h.page h.page_limit h.select within
+    holds_of supply (plainly g (at e s)) (record e { formatter = f }) is h.chosen_is h.coming h.row h.page h.page_limit h.select h.faces within
 
 -- a work of the formatter alone, by its answer
 pub formatter_worked : (g : Formatter → Formatter) (supply : Option Supply) (s : State) (e : Shape) (f : Formatter) (r : Result (Unit {0}) Passed)

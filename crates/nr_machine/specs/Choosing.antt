@@ -7,7 +7,6 @@ use Rattle.nr_input.specs.Place.{nothing_reached}
 use Rattle.nr_fill.specs.CellRow.{IsRow}
 use Rattle.nr_formatter.specs.Limits.{IsWithin}
 use Rattle.nr_page.specs.Page.{Holds as HoldsPage}
-use Rattle.nr_page.specs.declared.selection.PageRange.{PageRange}
 use Rattle.nr_store.specs.Store.{charge_of}
 use Rattle.nr_machine.specs.State.{State, Choice, choices, formatter_at_first}
 use Rattle.nr_machine.specs.Machine.{choose}
@@ -17,14 +16,15 @@ use Rattle.nr_machine.specs.declared.outcome.Measure.TheVariants.{Stored}
 use Rattle.nr_machine.specs.declared.outcome.Outcome.{Outcome}
 use Rattle.nr_machine.specs.declared.outcome.Outcome.TheVariants.{Limit}
 
--- Under these limits nothing is read yet, and nothing placed; of the pages these are to be printed.
-pub record IsNew (b : Bounds) (printed : Option (List PageRange)) (e : Shape) : Type 0 where
+-- Under these limits nothing is read yet, and nothing placed; what is printed is as the options say.
+pub record IsNew (b : Bounds) (options : Options) (e : Shape) : Type 0 where
   pub formatter : e.formatter ≡ formatter_at_first b
   pub place : e.place ≡ nothing_reached
   pub row : IsRow [] e.row
   pub page : HoldsPage [] e.page
   pub page_limit : e.page.limit ≡ b.cells
-  pub select : e.select ≡ printed
+  pub select : e.select ≡ options.select
+  pub faces : e.faces ≡ options.faces
 
 -- a choice takes effect, or too much would be stored
 abbrev pub Chooses : Choice → Shape → Shape → Result (Unit {0}) Outcome → Type 0

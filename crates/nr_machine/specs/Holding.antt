@@ -8,6 +8,7 @@ use Rattle.nr_vectors.specs.declared.cell.Cell.{Cell}
 use Rattle.nr_fill.specs.CellRow.{Row, IsRow}
 use Rattle.nr_page.specs.Grid.{Placed, page_charge}
 use Rattle.nr_page.specs.Page.{Sheet, Holds as HoldsPage}
+use Rattle.nr_page.specs.declared.faces.Faces.{Faces}
 use Rattle.nr_page.specs.declared.selection.PageRange.{PageRange}
 use Rattle.nr_reading.specs.declared.event.Event.TheVariants as events
 use Rattle.nr_input.specs.Place.{Reached, HoldsComing, has_failed, is_read_fault}
@@ -43,9 +44,17 @@ pub record Shape : Type 0 where
   pub row : Row
   pub page : Sheet
   pub select : Option (List PageRange)
+  pub faces : Faces
 
 abbrev pub shape : Engine → Shape
-shape e = record { formatter = e.formatter; place = e.place; row = e.row; page = e.page; select = e.select }
+shape e = record {
+  formatter = e.formatter;
+  place = e.place;
+  row = e.row;
+  page = e.page;
+  select = e.select;
+  faces = e.faces;
+}
 
 -- the state with all that the engine keeps but pages
 abbrev pub at : Shape → State → State
@@ -60,6 +69,7 @@ pub record Stands (chosen : List Choice) (supply : Option Supply) (s : State) (e
   pub page : HoldsPage s.lines e.page
   pub page_limit : e.page.limit ≡ s.page_limit
   pub select : e.select ≡ s.select
+  pub faces : e.faces ≡ s.faces
   pub within : IsWithin (at e s)
 
 -- the engine holds the state, but for what has gone out
@@ -187,7 +197,7 @@ pub record Exits (e e' : Shape) : Type 0 where
 -- the cells go on the page as a line of this height, or the page's limit stops it; the formatter is that of the engine
 abbrev pub Places : List Cell → ℕ → Shape → Shape → Result (Unit {0}) Measure → Type 0
 Places cells height e e' (Ok x) = (e'.formatter ≡ line_placed height e.formatter) × (e'.place ≡ e.place)
-    × (e'.select ≡ e.select) × IsRow [] e'.row × (e'.page.limit ≡ e.page.limit)
+    × ((e'.select ≡ e.select) × (e'.faces ≡ e.faces)) × IsRow [] e'.row × (e'.page.limit ≡ e.page.limit)
     × ((lines : List Placed) → HoldsPage lines e.page
     → HoldsPage (lines ++ placed cells height e.formatter ∷ []) e'.page
     × (page_charge (lines ++ placed cells height e.formatter ∷ []) ≤ e.page.limit))

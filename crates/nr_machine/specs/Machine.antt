@@ -80,6 +80,7 @@ abbrev pub page_of : State → Ended
 page_of s =
     record {
       printed = selects s.select s.formatter.paper.number;
+      faces = s.faces;
       rows = s.formatter.settings.pages.page_length / 40;
       lines = s.lines;
     }

@@ -19,7 +19,7 @@ selects (Some items) page = list_any (λ item. includes item page) items
 
 -- the bytes of a page that has ended: none where it is not printed
 abbrev pub bytes_of : Ended → List ℕ
-bytes_of p = if p.printed then page_bytes p.rows p.lines else []
+bytes_of p = if p.printed then page_bytes p.faces p.rows p.lines else []
 
 -- the bytes of the pages
 abbrev pub text : List Ended → List ℕ

@@ -4,6 +4,7 @@ use Rattle.nr_units.specs.Source.{Supply}
 use Rattle.nr_vectors.specs.declared.cell.Cell.{Cell}
 use Rattle.nr_fill.specs.Piece.{nothing_collected}
 use Rattle.nr_page.specs.Grid.{Placed}
+use Rattle.nr_page.specs.declared.faces.Faces.{Faces}
 use Rattle.nr_page.specs.declared.selection.PageRange.{PageRange}
 use Rattle.nr_store.specs.Store.{nothing}
 use Rattle.nr_store.specs.Request.{request_names}
@@ -13,9 +14,11 @@ use Rattle.nr_options.specs.declared.options.Options.{Options}
 use Rattle.nr_formatter.specs.Beginning.{first_formatter}
 use Rattle.nr_formatter.specs.declared.formatter.Formatter.{Formatter}
 
--- a page that has ended: whether it is one to print, how many rows its length holds, and the lines placed on it
+-- a page that has ended: whether it is one to print, the faces that it shows, how many rows its length holds, and the lines
+-- placed on it
 pub record Ended : Type 0 where
   pub printed : Bool
+  pub faces : Faces
   pub rows : ℕ
   pub lines : List Placed
 
@@ -43,6 +46,8 @@ pub record State : Type 0 where
   pub page_limit : ℕ
   -- the pages to print; all where there is no list
   pub select : Option (List PageRange)
+  -- the faces that they show
+  pub faces : Faces
 
 -- the number of the first page, and then the registers in order
 abbrev pub choices : Options → List Choice
@@ -65,6 +70,7 @@ start b options supply = record {
   pages = [];
   page_limit = b.cells;
   select = options.select;
+  faces = options.faces;
 }
 
 -- a move that touches neither the source nor a page

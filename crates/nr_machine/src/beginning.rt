@@ -13,9 +13,9 @@ use nr_formatter::formatter::Formatter;
 use nr_formatter::tasks::Resume;
 use nr_input::Place;
 use nr_input_rows::Gathered;
-use nr_options::Limits;
-use nr_page::Select;
+use nr_options::{Limits, Options};
 use nr_page::page::{Page, room};
+use nr_page::{Faces, Select};
 use nr_store::memory::Room;
 use nr_vectors::CountedAlloc;
 use std::alloc::AllocError;
@@ -74,15 +74,16 @@ impl Engine {
             row,
             page,
             select: Select::all(),
+            faces: Faces::Letters,
             resumed: Resume::blank(),
             gathered: Gathered::new(),
         })
     }
 
-    /// Nothing is read yet, and nothing placed, under the limits that it was made for. Of the pages these are printed.
-    pub fn clear(&mut self, limits: Limits, select: &Select)
+    /// Nothing is read yet, and nothing placed, under the limits that it was made for. What is printed is as the options say.
+    pub fn clear(&mut self, limits: Limits, options: &Options)
         requires { limits_of (shape self.old) ≡ limits_under limits }
-        ensures is_new { IsNew limits select.now (shape self.new) }
+        ensures is_new { IsNew limits options.now (shape self.new) }
         ensures stored { limits.stored ≤ 2 ^ 24 }
         ensures expansions { limits.expansions ≤ 2 ^ 32 }
     {
@@ -92,7 +93,8 @@ impl Engine {
         self.place = Place::new();
         self.row.clear();
         self.page.clear();
-        self.select = select.copied();
+        self.select = options.select.copied();
+        self.faces = options.faces;
         self.resumed = Resume::blank();
         self.gathered = Gathered::new();
     }

@@ -8,8 +8,8 @@ use nr_formatter::formatter::Formatter;
 use nr_formatter::tasks::{Resume, Task};
 use nr_input::{Event, Heard, Place, Refusal};
 use nr_input_rows::Gathered;
-use nr_page::Select;
 use nr_page::page::Page;
+use nr_page::{Faces, Select};
 use nr_store::Request;
 use nr_units::Name;
 use nr_units::sink::Sink;
@@ -28,6 +28,8 @@ pub struct Engine {
     pub page: Page,
     /// The pages to print.
     pub select: Select,
+    /// The faces that they show.
+    pub faces: Faces,
     /// What was under way where the text was sprung whose mark was taken last.
     pub resumed: Resume,
     /// What was gathered of levels last.

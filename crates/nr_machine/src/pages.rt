@@ -50,10 +50,10 @@ impl Engine {
     /// The bytes of the open page go out, if its number is one to print.
     fn print<W: Sink>(&self, output: &mut W) -> Result<(), WriteFault>
         ensures ok { OnOk result ((s : State) → HoldsPage s.lines self.now.page → s.select ≡ self.now.select
-            → s.formatter ≡ self.now.formatter
+            → s.faces ≡ self.now.faces → s.formatter ≡ self.now.formatter
             → Appends (W.held output.old) (W.held output.new) (bytes_of (page_of s))) }
         ensures err { OnErr result ((s : State) → HoldsPage s.lines self.now.page → s.select ≡ self.now.select
-            → s.formatter ≡ self.now.formatter
+            → s.faces ≡ self.now.faces → s.formatter ≡ self.now.formatter
             → AppendsFront (W.held output.old) (W.held output.new) (bytes_of (page_of s))) }
         ensures failures { W.failures output.new ≡ put_counted (W.failures output.old) result }
     {
@@ -61,7 +61,7 @@ impl Engine {
             return Ok(());
         }
         let rows = self.formatter.settings.pages.page_length.units() / ROW_HEIGHT;
-        self.page.write_page(rows, output)
+        self.page.write_page(self.faces, rows, output)
     }
 
     /// The open page ends: its bytes go out.

@@ -287,7 +287,7 @@ made_empty e supply held s h empty room =
     let glides = glides_empty (at e s) h.chosen_is empty room h.within in
     let within = within_kept (at e s) s.coming (gone_down 1 e.formatter) refl refl h.within.formatter.burst h.within in
     let holds : Holds [] supply (plainly (gone_down 1) (at e s)) (down_shape e) =
-    holds_of supply (plainly (gone_down 1) (at e s)) (down_shape e) refl h.chosen_is h.coming h.row h.page h.page_limit h.select within in
+    holds_of supply (plainly (gone_down 1) (at e s)) (down_shape e) refl h.chosen_is h.coming h.row h.page h.page_limit h.select h.faces within in
     record {
       runs = glides.runs;
       holds = rw glides.leads holds;
@@ -315,7 +315,7 @@ made_lines n e supply supply' held s h start room next behind =
     let t = lines_down (suc n) (at e s) in
     let glides = glides_lines n (at e s) h.chosen_is start h.within room (next s.coming h.coming) in
     let holds : Holds [] supply' t (lines_shape (suc n) e) =
-    holds_of supply' t (lines_shape (suc n) e) refl h.chosen_is (behind s.coming h.coming) h.row h.page h.page_limit h.select (within_lines (suc n) (at e s) h.within) in
+    holds_of supply' t (lines_shape (suc n) e) refl h.chosen_is (behind s.coming h.coming) h.row h.page h.page_limit h.select h.faces (within_lines (suc n) (at e s) h.within) in
     record {
       runs = glides.runs;
       holds = rw glides.leads holds;

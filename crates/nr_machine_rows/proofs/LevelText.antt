@@ -21,7 +21,7 @@ use Rattle.nr_reading.proofs.InText.{in_text, meet-plain}
 use Rattle.nr_input.specs.Moving.{move as input_move, situation, met_at}
 use Rattle.nr_input.specs.Moving as input
 use Rattle.nr_input.specs.declared.told.Told.TheVariants as tells
-use Rattle.nr_settings.specs.Fonts.{is_under}
+use Rattle.nr_settings.specs.Fonts.{present_look}
 use Rattle.nr_formatter.specs.Access.{collected, margins}
 use Rattle.nr_formatter.specs.Lines.{fits_line}
 use Rattle.nr_formatter.specs.Many.Runs.{IsGap, IsInLine, gap_flows, gap_put, gapped, is_in_line, run_put}
@@ -103,7 +103,7 @@ pub made_glided : (n : ℕ) (e : Shape) (f g : Formatter) (supply : Option Suppl
     → IsWithin (record (at e s) { formatter = f }) → Glides (at e s) n (record (at e s) { formatter = f }) → Made [] (at e s) n (record e { formatter = g }) supply held held
 made_glided n e f g supply held s h is within glides =
     let holds : Holds [] supply (record (at e s) { formatter = f }) (record e { formatter = g }) =
-    holds_of supply (record (at e s) { formatter = f }) (record e { formatter = g }) is h.chosen_is h.coming h.row h.page h.page_limit h.select within in
+    holds_of supply (record (at e s) { formatter = f }) (record e { formatter = g }) is h.chosen_is h.coming h.row h.page h.page_limit h.select h.faces within in
     record {
       runs = glides.runs;
       holds = rw glides.leads holds;
@@ -175,7 +175,7 @@ plain_spends : (b : ℕ) (e : Shape) → 1 ≤ length (rest_of e.formatter.store
     → weight (level_gone (run_put (b ∷ [])) e) + 2 + worth e * e.place.taken ≤ weight e + worth e * e.place.taken
 unfolding weights.weight weights.steps_left weights.owed
 plain_spends b e few =
-    omega (arith, items_fewer 1 e.formatter.store.levels few, weight-run (margins e.formatter) (is_under e.formatter.settings.fonts) (b ∷ []) (collected e.formatter))
+    omega (arith, items_fewer 1 e.formatter.store.levels few, weight-run (margins e.formatter) (present_look e.formatter.settings.fonts) (b ∷ []) (collected e.formatter))
 
 -- a plain byte that comes next of the newest level, in a line that has begun
 pub makes_plain : (b : ℕ) (e : Shape) (supply : Option Supply) → is_in_line e.formatter ≡ true → IsPlain b → line_cells (collected (run_put (b ∷ []) e.formatter)) ≤ e.formatter.line.limit

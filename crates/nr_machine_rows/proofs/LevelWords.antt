@@ -11,7 +11,7 @@ use Rattle.nr_store.specs.Store.{Level, Read, Reading, Stored}
 use Rattle.nr_store.specs.Windows.{levels_behind, rest_of}
 use Rattle.nr_store.specs.declared.element.Element.{Element}
 use Rattle.nr_store.specs.declared.element.Element.TheVariants as elements
-use Rattle.nr_settings.specs.Fonts.{is_under}
+use Rattle.nr_settings.specs.Fonts.{present_look}
 use Rattle.nr_input.specs.declared.reader.Reader.{Reader}
 use Rattle.nr_formatter.specs.Access.{collected, margins}
 use Rattle.nr_formatter.specs.Many.CellBytes.{IsCellByte, PutsCellBytes, byte_put}
@@ -128,8 +128,8 @@ first_fits b bs f fits =
     omega (
       arith,
       fits,
-      line_cells-run (margins f) (is_under f.settings.fonts) b bs (collected f),
-      line_cells-run (margins f) (is_under f.settings.fonts) b [] (collected f),
+      line_cells-run (margins f) (present_look f.settings.fonts) b bs (collected f),
+      line_cells-run (margins f) (present_look f.settings.fonts) b [] (collected f),
     )
 
 flows_run : (bs : List ℕ) (f : Formatter) → is_in_line f ≡ true → ArePlain bs → (0 < length bs → line_cells (collected (run_put bs f)) ≤ f.line.limit) → Flows bs (2 * length bs) f (run_put bs f)

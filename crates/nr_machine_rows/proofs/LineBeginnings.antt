@@ -138,6 +138,7 @@ stands_begun supply s e h = record {
   page = h.page;
   page_limit = h.page_limit;
   select = h.select;
+  faces = h.faces;
   within = record {
     formatter = record { stored = h.within.formatter.stored; depth = h.within.formatter.depth; line = h.within.formatter.line; burst = h.within.formatter.burst };
     page = h.within.page;

@@ -231,7 +231,7 @@ made_obeyed e supply held s h request may =
     let g : Formatter = behind_space (acted f) in
     let is : obeyed f ≡ g = rw may refl in
     let holds : Holds [] supply (with_formatter g (at e s)) (obeyed_shape g e) =
-    holds_of supply (with_formatter g (at e s)) (obeyed_shape g e) refl h.chosen_is h.coming h.row h.page h.page_limit h.select within in
+    holds_of supply (with_formatter g (at e s)) (obeyed_shape g e) refl h.chosen_is h.coming h.row h.page h.page_limit h.select h.faces within in
     subst (λ (x : Formatter). Made [] (at e s) (moves_acting f) (obeyed_shape x e) supply held held) (sym is) (record {
       runs = glides.runs;
       holds = rw glides.leads holds;

@@ -56,7 +56,7 @@ pub made_gone : (n : ℕ) (g : Formatter → Formatter) (e : Shape) (supply supp
     → Made [] (at e s) n (gone_shape g e) supply' held held
 made_gone n g e supply supply' held s h behind within glides =
     let holds : Holds [] supply' (made_of g (behind_byte (at e s))) (gone_shape g e) =
-    holds_of supply' (made_of g (behind_byte (at e s))) (gone_shape g e) refl h.chosen_is behind h.row h.page h.page_limit h.select within in
+    holds_of supply' (made_of g (behind_byte (at e s))) (gone_shape g e) refl h.chosen_is behind h.row h.page h.page_limit h.select h.faces within in
     record {
       runs = glides.runs;
       holds = rw glides.leads holds;

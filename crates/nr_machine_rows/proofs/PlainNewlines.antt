@@ -210,7 +210,7 @@ made_line : (n : ℕ) (g : Formatter → Formatter) (e : Shape) (supply supply' 
     → Made [] (at e s) n (ended_shape g e) supply' held held
 made_line n g e supply supply' held s h behind within glides =
     let holds : Holds [] supply' (ended_state g (at e s)) (ended_shape g e) =
-    holds_of supply' (ended_state g (at e s)) (ended_shape g e) refl h.chosen_is behind h.row h.page h.page_limit h.select within in
+    holds_of supply' (ended_state g (at e s)) (ended_shape g e) refl h.chosen_is behind h.row h.page h.page_limit h.select h.faces within in
     record {
       runs = glides.runs;
       holds = rw glides.leads holds;

@@ -18,7 +18,7 @@ use Rattle.nr_input.specs.declared.place.Ahead.TheVariants.{Unseen}
 use Rattle.nr_input.specs.declared.told.Told.TheVariants as tells
 use Rattle.nr_store.specs.Store.{shown}
 use Rattle.nr_reading.specs.Half.{meet}
-use Rattle.nr_settings.specs.Fonts.{is_under}
+use Rattle.nr_settings.specs.Fonts.{present_look}
 use Rattle.nr_formatter.specs.Access.{collected, margins}
 use Rattle.nr_formatter.specs.Many.Runs.{IsInLine, is_in_line, run_put}
 use Rattle.nr_formatter.specs.Weights as weights
@@ -178,8 +178,8 @@ within_front b bs s w fits = record {
     line = omega (
       arith,
       fits,
-      line_cells-run (margins s.formatter) (is_under s.formatter.settings.fonts) b bs (collected s.formatter),
-      line_cells-run (margins s.formatter) (is_under s.formatter.settings.fonts) b [] (collected s.formatter),
+      line_cells-run (margins s.formatter) (present_look s.formatter.settings.fonts) b bs (collected s.formatter),
+      line_cells-run (margins s.formatter) (present_look s.formatter.settings.fonts) b [] (collected s.formatter),
     );
     burst = omega arith;
   };
@@ -194,7 +194,7 @@ typing_on b s typing within = record {
     event = typing.line.event;
     task = typing.line.task;
     half = typing.line.half;
-    begun = begun-cell (margins s.formatter) (run_cell (is_under s.formatter.settings.fonts) b) (collected s.formatter);
+    begun = begun-cell (margins s.formatter) (run_cell (present_look s.formatter.settings.fonts) b) (collected s.formatter);
   };
   levels = typing.levels;
   within = within;
@@ -272,7 +272,7 @@ glided b bs e supply supply' held s h line levels plain next fits behind =
     let glides = glides_run b bs (at e s) (stands_typing supply s e h line levels) plain (next s.coming h.coming) fits in
     let within = within_run b bs (at e s) h.within fits in
     let holds : Holds [] supply' (typed (b ∷ bs) (at e s)) (run_shape (b ∷ bs) e) =
-    holds_of supply' (typed (b ∷ bs) (at e s)) (run_shape (b ∷ bs) e) refl h.chosen_is (behind s.coming h.coming) h.row h.page h.page_limit h.select within in
+    holds_of supply' (typed (b ∷ bs) (at e s)) (run_shape (b ∷ bs) e) refl h.chosen_is (behind s.coming h.coming) h.row h.page h.page_limit h.select h.faces within in
     record {
       runs = glides.runs;
       holds = rw glides.leads holds;
@@ -295,7 +295,7 @@ run_saves bs e some =
     omega (
       arith,
       some,
-      weight-run (margins e.formatter) (is_under e.formatter.settings.fonts) bs (collected e.formatter),
+      weight-run (margins e.formatter) (present_look e.formatter.settings.fonts) bs (collected e.formatter),
       paid (expansions_worth e.formatter.reader.most 0 e.formatter.store.limit) (length bs) e.place.taken some,
     )
 

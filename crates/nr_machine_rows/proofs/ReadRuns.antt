@@ -101,7 +101,7 @@ makes_reading n x v r p e supply supply' reads read pays same fits = record {
       }
       in
       let holds : Holds [] supply' end (read_shape v r x p e) =
-      holds_of supply' end (read_shape v r x p e) formatter_is h.chosen_is there.stands.coming h.row h.page h.page_limit h.select within in
+      holds_of supply' end (read_shape v r x p e) formatter_is h.chosen_is there.stands.coming h.row h.page h.page_limit h.select h.faces within in
       record {
         runs = glides.runs;
         holds = rw glides.leads holds;

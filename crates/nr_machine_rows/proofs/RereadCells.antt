@@ -182,7 +182,7 @@ module _ (ys zs : List Element) (row : Row) (e : Shape) (supply : Option Supply)
       ap (λ v. record e.formatter { store = record e.formatter.store { levels = v } }) (ap (levels_behind (length ys)) levels_is ∙ same ∙ sym levels_is) in
       let row_is : IsRow s.row row = subst (λ r. IsRow r row) (ap (λ y. s.row ++ cells_of y) none ∙ append-nil s.row) (adds.1 s.row h.row) in
       let holds : Holds [] supply (at e s) (reread_shape (length ys) row e) =
-      holds_of supply (at e s) (reread_shape (length ys) row e) formatter_is h.chosen_is h.coming row_is h.page h.page_limit h.select h.within in
+      holds_of supply (at e s) (reread_shape (length ys) row e) formatter_is h.chosen_is h.coming row_is h.page h.page_limit h.select h.faces h.within in
       let count : 2 * length ys ≡ 0 = ap (λ y. 2 * length y) none in
       subst (λ n. Made [] (at e s) n (reread_shape (length ys) row e) supply held held) (sym count)
       (record { runs = λ m below. absurd (omega (arith, below)); holds = holds; wrote = wrote_nothing (at e s) (at e s) held refl })
@@ -201,7 +201,7 @@ module _ (ys zs : List Element) (row : Row) (e : Shape) (supply : Option Supply)
       let formatter_is : record e.formatter { store = run_left (length ys) e.formatter.store } ≡ end.formatter =
       ap (λ v. record e.formatter { store = record e.formatter.store { levels = v } }) (ap (levels_behind (length ys)) levels_is ∙ ap (λ r. Read (record l { rest = r }) ∷ ls) left) in
       let holds : Holds [] supply end (reread_shape (length ys) row e) =
-      holds_of supply end (reread_shape (length ys) row e) formatter_is h.chosen_is h.coming (adds.1 s.row h.row) h.page h.page_limit h.select
+      holds_of supply end (reread_shape (length ys) row e) formatter_is h.chosen_is h.coming (adds.1 s.row h.row) h.page h.page_limit h.select h.faces
       (within_rest l ls (at e s) h.chosen_is line (ys ++ zs) zs s.row (s.row ++ cells_of ys) within) in
       record {
         runs = glides.runs;

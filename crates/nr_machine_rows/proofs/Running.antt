@@ -40,7 +40,7 @@ makes-add n m e f g x y z a b =
 -- none were made
 pub makes_none : (e : Shape) (supply : Option Supply) → Makes 0 e e supply supply
 makes_none e supply = record {
-  makes = λ held s h. made_none [] (at e s) e supply held (holds_of supply (at e s) e refl h.chosen_is h.coming h.row h.page h.page_limit h.select h.within);
+  makes = λ held s h. made_none [] (at e s) e supply held (holds_of supply (at e s) e refl h.chosen_is h.coming h.row h.page h.page_limit h.select h.faces h.within);
   limit = refl;
   most = refl;
   limits = refl;

@@ -7,7 +7,7 @@ use Rattle.std.proofs.Math.Seq.{drop-nil}
 use Rattle.std.proofs.lemmas.List.{drop-take, get_or-drop, get_or-take, take_rest}
 use Rattle.nr_units.specs.Source.{Faults, Never, After, Anytime, Supply, MayGiveAll, later, skipped}
 use Rattle.nr_settings.specs.declared.indents.Margins.{Margins}
-use Rattle.nr_settings.specs.Fonts.{is_under}
+use Rattle.nr_settings.specs.Fonts.{present_look}
 use Rattle.nr_fill.specs.Piece.{Collected, Piece, Word, begins_line, is_nil, line_cells, word_pieces}
 use Rattle.nr_fill.specs.Plain.{run_cell}
 use Rattle.nr_fill.specs.Runs.{add_run}
@@ -147,7 +147,7 @@ begun-run m under (b ∷ bs) c begun = begun-run m under bs _ (begun-cell m (run
 line_run : (bs : List ℕ) (f : Formatter) → is_in_line f ≡ true → is_in_line (run_put bs f) ≡ true
 line_run bs f is =
     let line = in_line f is in
-    rw (line.springs, line.event, line.task, line.half, begun-run (margins f) (is_under f.settings.fonts) bs (collected f) line.begun) refl
+    rw (line.springs, line.event, line.task, line.half, begun-run (margins f) (present_look f.settings.fonts) bs (collected f) line.begun) refl
 
 -- a list with an item at its end is not empty
 some_behind : (ps qs : List Piece) (p : Piece) → is_nil (ps ++ (qs ++ p ∷ [])) ≡ false
@@ -366,6 +366,7 @@ makes_there n e f x y z m there = record {
             page = stands.page;
             page_limit = stands.page_limit;
             select = stands.select;
+            faces = stands.faces;
             within = stands.within;
           };
         };

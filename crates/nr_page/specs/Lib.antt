@@ -1,3 +1,4 @@
+pub mod Faces
 pub mod Gathering
 pub mod Grid
 pub mod Overlay

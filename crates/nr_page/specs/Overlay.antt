@@ -4,6 +4,7 @@ use Rattle.std.specs.List.{flat_map, range_with_len}
 use Rattle.nr_vectors.specs.declared.cell.Cell.{Cell}
 use Rattle.nr_page.specs.Grid.{Placed, blank, is_blank}
 use Rattle.nr_page.specs.PageBytes.{row_bytes}
+use Rattle.nr_page.specs.declared.faces.Faces.{Faces}
 
 -- what shows of two cells at one place: the upper one, unless it is blank
 abbrev pub covered : Cell → Cell → Cell
@@ -25,9 +26,9 @@ pub record IsTrimmed (cells : List Cell) (width : ℕ) : Type 0 where
   pub last : 0 < width → is_blank (cell_or_blank cells (width - 1)) ≡ false
 
 -- the bytes of a row on which these cells alone were placed
-abbrev pub line_bytes : List Cell → List ℕ
-line_bytes cells = row_bytes ((record { row = 0; cells = cells }) ∷ []) 0
+abbrev pub line_bytes : Faces → List Cell → List ℕ
+line_bytes faces cells = row_bytes faces ((record { row = 0; cells = cells }) ∷ []) 0
 
 -- the bytes of so many rows, from one on
-abbrev pub rows_bytes : List Placed → ℕ → ℕ → List ℕ
-rows_bytes lines row count = flat_map (row_bytes lines) (range_with_len row count)
+abbrev pub rows_bytes : Faces → List Placed → ℕ → ℕ → List ℕ
+rows_bytes faces lines row count = flat_map (row_bytes faces lines) (range_with_len row count)

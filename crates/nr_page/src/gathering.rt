@@ -1,15 +1,17 @@
 // Bytes are gathered and go out to a sink many at a time.
 ghost use Rattle.std.specs.Prelude.{◌≡◌, ℕ, ◌+◌, ◌*◌, ◌<◌, ◌≤◌, List, [], ◌∷◌, ◌++◌, length, replicate, false, All, OnOk, OnErr};
 ghost use Rattle.nr_units.specs.Character.{code};
+ghost use Rattle.nr_vectors.specs.Cell.{is_under};
 ghost use Rattle.nr_vectors.specs.declared.cell.Cell.{Cell as CellValue};
 ghost use Rattle.std.specs.List.{flat_map};
 ghost use Rattle.nr_units.specs.Failures.{put_counted};
 ghost use Rattle.nr_page.specs.Gathering.{GathersOrFails};
-ghost use Rattle.nr_page.specs.PageBytes.{cell_bytes};
+ghost use Rattle.nr_page.specs.Faces.{cell_bytes, is_bold, may_show, shown_look, shows_all};
 
+use crate::faces::Faces;
 use nr_units::sink::Sink;
 use nr_units::source::Fault;
-use nr_vectors::cell::Cell;
+use nr_vectors::cell::{Cell, Look};
 use nr_vectors::slice_vec::SliceVec;
 
 /// How many bytes are gathered.
@@ -39,54 +41,112 @@ pub(crate) fn make_room<W: Sink>(
     Ok(())
 }
 
-fn gather_cell(pending: &mut SliceVec<'_, u8>, cell: Cell)
-    requires { length pending.old.items + 3 ≤ pending.old.capacity }
-    ensures items { pending.new.items ≡ pending.old.items ++ cell_bytes cell }
-    ensures few { length pending.new.items ≤ length pending.old.items + 3 }
-    ensures room { pending.new.capacity ≡ pending.old.capacity }
+/// The look that shows of a cell.
+fn shown_look(faces: Faces, cell: Cell) -> Look
+    ensures { result ≡ shown_look faces cell }
 {
-    if cell.under && cell.byte.is_ascii_alphanumeric() {
-        pending.extend(&[b'_', 8, cell.byte]);
-    } else {
-        pending.push(cell.byte);
+    match faces {
+        Faces::Letters => {
+            if is_under(cell.look) && cell.byte.is_ascii_alphanumeric() {
+                return Look::Under;
+            }
+            Look::Plain
+        }
+        Faces::All => {
+            if cell.byte == b' ' {
+                return Look::Plain;
+            }
+            cell.look
+        }
     }
 }
 
-/// Whether one of the cells is underlined.
-fn any_under(cells: &[Cell]) -> bool
-    ensures { result ≡ false → All (λ (cell : CellValue). cell.under ≡ false) cells.now }
+fn gather_cell(pending: &mut SliceVec<'_, u8>, faces: Faces, cell: Cell)
+    requires { length pending.old.items + 3 ≤ pending.old.capacity }
+    ensures items { pending.new.items ≡ pending.old.items ++ cell_bytes faces cell }
+    ensures few { length pending.new.items ≤ length pending.old.items + 3 }
+    ensures room { pending.new.capacity ≡ pending.old.capacity }
+{
+    match shown_look(faces, cell) {
+        Look::Plain => pending.push(cell.byte),
+        Look::Under => pending.extend(&[b'_', 8, cell.byte]),
+        Look::Bold => pending.extend(&[cell.byte, 8, cell.byte]),
+    }
+}
+
+/// Whether a look is that of underlined cells.
+fn is_under(look: Look) -> bool
+    ensures { result ≡ is_under look }
+{
+    match look {
+        Look::Plain | Look::Bold => false,
+        Look::Under => true,
+    }
+}
+
+/// Whether it is that of bold ones.
+fn is_bold(look: Look) -> bool
+    ensures { result ≡ is_bold look }
+{
+    match look {
+        Look::Plain | Look::Under => false,
+        Look::Bold => true,
+    }
+}
+
+/// Whether each cell but a blank shows as it looks.
+fn shows_all(faces: Faces) -> bool
+    ensures { result ≡ shows_all faces }
+{
+    match faces {
+        Faces::Letters => false,
+        Faces::All => true,
+    }
+}
+
+/// Whether a cell of this look may show as more than its byte.
+fn may_show(faces: Faces, look: Look) -> bool
+    ensures { result ≡ may_show faces look }
+{
+    is_under(look) | (is_bold(look) & shows_all(faces))
+}
+
+/// Whether one of the cells may show as more than its byte.
+fn any_shown(faces: Faces, cells: &[Cell]) -> bool
+    ensures { result ≡ false → All (λ (cell : CellValue). may_show faces cell.look ≡ false) cells.now }
 {
     let mut any = false;
     for cell in cells {
-        any |= cell.under;
+        any |= may_show(faces, cell.look);
     }
     any
 }
 
-/// Most rows have no cell that is underlined, and their bytes are copied in one plain loop.
-fn gather_cells(pending: &mut SliceVec<'_, u8>, cells: &[Cell])
+/// Most rows are plain, and their bytes are copied in one plain loop.
+fn gather_cells(pending: &mut SliceVec<'_, u8>, faces: Faces, cells: &[Cell])
     requires { length pending.old.items + 3 * length cells.now ≤ pending.old.capacity }
-    ensures items { pending.new.items ≡ pending.old.items ++ flat_map cell_bytes cells.now }
+    ensures items { pending.new.items ≡ pending.old.items ++ flat_map (cell_bytes faces) cells.now }
     ensures room { pending.new.capacity ≡ pending.old.capacity }
 {
-    if !any_under(cells) {
+    if !any_shown(faces, cells) {
         pending.extend_bytes(cells);
         return;
     }
     for cell in cells {
-        gather_cell(pending, *cell);
+        gather_cell(pending, faces, *cell);
     }
 }
 
 /// The bytes of the cells.
 pub(crate) fn write_cells<W: Sink>(
     pending: &mut SliceVec<'_, u8>,
+    faces: Faces,
     cells: &[Cell],
     output: &mut W,
 ) -> Result<(), Fault>
     requires { 3 * RUN ≤ pending.old.capacity }
     ensures gathers { GathersOrFails (W.held output.old) (W.held output.new) pending.old.items
-        pending.new.items (flat_map cell_bytes cells.now) result }
+        pending.new.items (flat_map (cell_bytes faces) cells.now) result }
     ensures failures { W.failures output.new ≡ put_counted (W.failures output.old) result }
     ensures room { pending.new.capacity ≡ pending.old.capacity }
 {
@@ -94,7 +154,7 @@ pub(crate) fn write_cells<W: Sink>(
     while at < cells.len() {
         let end = at + RUN.min(cells.len() - at);
         make_room(pending, 3 * (end - at), output)?;
-        gather_cells(pending, &cells[at..end]);
+        gather_cells(pending, faces, &cells[at..end]);
         at = end;
     }
     Ok(())

@@ -7,6 +7,7 @@ ghost use Rattle.nr_units.specs.Failures.{put_counted};
 ghost use Rattle.nr_units.specs.Sink.{AppendsFront};
 ghost use Rattle.nr_page.specs.PageBytes.{page_bytes};
 
+use crate::faces::Faces;
 use crate::gap_vec::GapVec;
 use crate::placing::put;
 use crate::row::RowSlot;
@@ -137,17 +138,23 @@ impl Page {
     }
 
     /// Writes the page: as many rows as asked for, or down to the lowest line where that is more. Each row is without
-    /// trailing blanks and has a newline after it, and an underlined letter or digit is `_`, a backspace and the byte.
+    /// trailing blanks and has a newline after it. What `faces` shows as underlined is `_`, a backspace and the byte,
+    /// and what it shows as bold the byte, a backspace and the byte.
     /// `WriteFault` where the sink failed; a prefix of the bytes went out then.
-    pub fn write_page<W: Sink>(&self, rows: u32, output: &mut W) -> Result<(), WriteFault>
+    pub fn write_page<W: Sink>(
+        &self,
+        faces: Faces,
+        rows: u32,
+        output: &mut W,
+    ) -> Result<(), WriteFault>
         ensures ok { OnOk result ((lines : List Placed) → Holds lines self.now
-            → Appends (W.held output.old) (W.held output.new) (page_bytes rows lines)) }
+            → Appends (W.held output.old) (W.held output.new) (page_bytes faces rows lines)) }
         ensures err { OnErr result ((lines : List Placed) → Holds lines self.now
-            → AppendsFront (W.held output.old) (W.held output.new) (page_bytes rows lines)) }
+            → AppendsFront (W.held output.old) (W.held output.new) (page_bytes faces rows lines)) }
         ensures failures { W.failures output.new ≡ put_counted (W.failures output.old) result }
     {
         let count = self.row_count.max(rows as usize);
-        match write_all(&self.texts, &self.rows, count, output) {
+        match write_all(faces, &self.texts, &self.rows, count, output) {
             Ok(()) => Ok(()),
             Err(Fault) => Err(WriteFault),
         }

@@ -1,7 +1,9 @@
 -- Fonts and underlining (CSTR 54, font and character size control; underlining).
 use Prim.Native.Char.{code}
-use Rattle.std.specs.Prelude.{ℕ, ◌-◌, Bool, true, false, not, ◌||◌, List, [], ◌∷◌, ◌==◌, Option, Some, None, if◌then◌else◌}
+use Rattle.std.specs.Prelude.{ℕ, ◌-◌, Bool, ◌||◌, List, [], ◌∷◌, ◌==◌, Option, Some, None, if◌then◌else◌}
 use Rattle.nr_vectors.specs.declared.cell.Cell.{Cell}
+use Rattle.nr_vectors.specs.declared.cell.Look.{Look}
+use Rattle.nr_vectors.specs.declared.cell.Look.TheVariants as looks
 use Rattle.nr_settings.specs.Arguments.{name_in}
 use Rattle.nr_settings.specs.Numbers.{counted_lines}
 use Rattle.nr_settings.specs.declared.fonts.Font.{Font}
@@ -47,17 +49,18 @@ ul line v s = record s { underlined = counted_lines line v }
 abbrev pub behind_underlined_line : Fonts → Fonts
 behind_underlined_line s = record s { underlined = s.underlined - 1 }
 
--- the italic font is printed by underlining
-abbrev pub is_italic : Font → Bool
-is_italic Roman = false
-is_italic Italic = true
-is_italic Bold = false
+-- a terminal shows italics by underlining
+abbrev pub look_of : Font → Look
+look_of Roman = looks.Plain
+look_of Italic = looks.Under
+look_of Bold = looks.Bold
 
-abbrev pub is_under : Fonts → Bool
-is_under s = is_italic s.font || not (s.underlined == 0)
+-- how what is read now looks: on a line of `.ul` it is underlined in any font
+abbrev pub present_look : Fonts → Look
+present_look s = if s.underlined == 0 then look_of s.font else looks.Under
 
 abbrev pub cell_of : ℕ → Fonts → Cell
-cell_of byte s = record { byte = byte; under = is_under s }
+cell_of byte s = record { byte = byte; look = present_look s }
 
 abbrev pub first_fonts : Fonts
 first_fonts = record { font = Roman; previous = Roman; underlined = 0 }

@@ -3,15 +3,32 @@ use crate::arguments::Arguments;
 use crate::lengths::Height;
 use crate::numbers::counted_lines;
 use nr_units::Name;
-use nr_vectors::cell::Cell;
+use nr_vectors::cell::{Cell, Look};
 
-/// A font. A terminal prints bold as roman.
+/// A font.
 #[derive(Clone, Copy)]
 pub enum Font {
     Roman,
-    /// Printed by underlining.
+    /// Shown by underlining.
     Italic,
     Bold,
+}
+
+impl Font {
+    ghost use Rattle.std.specs.Prelude.{◌≡◌};
+    ghost use Rattle.nr_settings.specs.Fonts.{look_of};
+
+    /// How a terminal shows it.
+    #[inline]
+    fn look(self) -> Look
+        ensures { result ≡ look_of self }
+    {
+        match self {
+            Font::Roman => Look::Plain,
+            Font::Italic => Look::Under,
+            Font::Bold => Look::Bold,
+        }
+    }
 }
 
 /// The font, the one before it, and the number of text lines that are still to be underlined.
@@ -24,7 +41,7 @@ pub struct Fonts {
 
 impl Fonts {
     ghost use Rattle.std.specs.Prelude.{◌≡◌};
-    ghost use Rattle.nr_settings.specs.Fonts.{font_by, font_named, with_named, ft, ul, behind_underlined_line, is_under, cell_of, first_fonts};
+    ghost use Rattle.nr_settings.specs.Fonts.{font_by, font_named, with_named, ft, ul, behind_underlined_line, present_look, cell_of, first_fonts};
 
     /// Roman, and nothing underlined.
     pub fn new() -> Self
@@ -99,12 +116,15 @@ impl Fonts {
         self.underlined = self.underlined.saturating_sub(1);
     }
 
-    /// Whether what is read now is underlined.
+    /// How what is read now looks.
     #[inline]
-    pub fn is_under(&self) -> bool
-        ensures { result ≡ is_under self.now }
+    pub fn look(&self) -> Look
+        ensures { result ≡ present_look self.now }
     {
-        matches!(self.font, Font::Italic) || self.underlined > 0
+        if self.underlined > 0 {
+            return Look::Under;
+        }
+        self.font.look()
     }
 
     /// The cell of a byte that is read now.
@@ -114,7 +134,7 @@ impl Fonts {
     {
         Cell {
             byte,
-            under: self.is_under(),
+            look: self.look(),
         }
     }
 }

@@ -1,8 +1,8 @@
 -- What a store holds, as its callers see it, and what each call makes of it.
-use Prim.Native.Char.{code}
 use Rattle.std.specs.Prelude.{ℕ, ◌+◌, ◌*◌, nat_lt, nat_le, min, max, Bool, true, false, if◌then◌else◌, List, [], ◌∷◌, ◌++◌, map, length, drop, replicate, sum_by, ℤ, pos, ◌+ℤ◌, ◌-ℤ◌, unsigned_abs, Option, Some, None, Result, Ok, Err}
 use Rattle.std.specs.Option.{option_map, option_and_then, unwrap_or}
 use Rattle.std.specs.List.{flat_map}
+use Rattle.nr_vectors.specs.Cell.{blank}
 use Rattle.nr_vectors.specs.declared.cell.Cell.{Cell}
 use Rattle.nr_units.specs.declared.number_text.Format.{Format}
 use Rattle.nr_units.specs.declared.number_text.Format.TheVariants.{Arabic}
@@ -206,7 +206,7 @@ added xs v = record v { building = on_newest (longer xs) v.building }
 
 -- a cell of no letter
 abbrev pub blank_cell : Element
-blank_cell = elements.Cell (record { byte = code " "; under = false })
+blank_cell = elements.Cell blank
 
 -- a diverted line: blanks, cells, and its end
 abbrev pub line_of : ℕ → List Cell → ℕ → List Element

@@ -2,23 +2,31 @@
 ghost use Rattle.std.specs.Prelude.{◌≡◌};
 ghost use Rattle.nr_vectors.specs.Cell as specs;
 
-/// A character of an output line: its byte, and whether it is underlined.
+/// How a character looks. One that is underlined and bold is underlined.
+#[derive(Clone, Copy)]
+pub enum Look {
+    Plain,
+    Under,
+    Bold,
+}
+
+/// A character of an output line: its byte, and how it looks.
 #[derive(Clone, Copy)]
 pub struct Cell {
     /// The byte that is printed.
     pub byte: u8,
-    /// The byte is underlined.
-    pub under: bool,
+    /// How the byte looks.
+    pub look: Look,
 }
 
 impl Cell {
-    /// A blank that is not underlined, to fill new slices with.
+    /// A plain blank, to fill new slices with.
     pub fn blank() -> Cell
         ensures { result ≡ specs.blank }
     {
         Cell {
             byte: b' ',
-            under: false,
+            look: Look::Plain,
         }
     }
 }

@@ -1,6 +1,8 @@
 -- What a call that formats comes to.
-use Rattle.std.specs.Prelude.{◌≡◌, ℕ, ℤ, List, [], length, false, None, Some}
+use Rattle.std.specs.Prelude.{◌≡◌, ℕ, Bool, if◌then◌else◌, List, [], length, false, None, Some}
 use Rattle.nr_options.specs.Limits.{Bounds}
+use Rattle.nr_page.specs.declared.faces.Faces.{Faces}
+use Rattle.nr_page.specs.declared.faces.Faces.TheVariants.{Letters, All}
 use Rattle.nr_options.specs.declared.options.Options.{Options}
 use Rattle.nr_machine.specs.State.{start}
 use Rattle.nr_machine.specs.Run.{Answers, is_read_fault}
@@ -10,6 +12,7 @@ use Rattle.nr_machine.specs.declared.outcome.Outcome.{Outcome}
 use Rattle.nr_machine.specs.declared.outcome.Outcome.TheVariants.{Done, Limit, ReadFault, TooLong, WriteFault}
 use Rattle.nulbiko.specs.Told.{IsHanded, code_within, count_told, whole_text}
 use Rattle.nulbiko.specs.declared.formatting.TextLimits.{TextLimits}
+use Rattle.nulbiko.specs.declared.formatting.TextOptions.{TextOptions}
 use Rattle.nulbiko.specs.declared.told.Report.{Report}
 
 -- what the limits bound
@@ -51,17 +54,22 @@ abbrev pub place_told : Outcome → ℕ
 place_told (Limit which at) = at
 place_told outcome = 0
 
--- the first page has this number, no register is set, and all pages are printed
-pub record AreAsked (first : ℤ) (options : Options) : Type 0 where
-  pub first_page : options.first ≡ first
+-- where bold is asked for, each cell but a blank shows as it looks
+abbrev pub faces_of : Bool → Faces
+faces_of bold = if bold then All else Letters
+
+-- the first page has this number, no register is set, all pages are printed, and they show these faces
+pub record AreAsked (asked : TextOptions) (options : Options) : Type 0 where
+  pub first_page : options.first ≡ asked.first
   pub no_registers : options.registers.items ≡ []
   pub all_pages : options.select ≡ None
+  pub faces : options.faces ≡ faces_of asked.bold
 
 -- The text was formatted under the bounds, and its pages were handed over.
-pub record FormatsText (b : Bounds) (first : ℤ) (text output : List ℕ) (report : Report)
+pub record FormatsText (b : Bounds) (wanted : TextOptions) (text output : List ℕ) (report : Report)
     (code : ℕ) : Type 0 where
   pub options : Options
-  pub asked : AreAsked first options
+  pub asked : AreAsked wanted options
   pub moves : ℕ
   pub outcome : Outcome
   pub bytes : List ℕ

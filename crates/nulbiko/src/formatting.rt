@@ -2,7 +2,7 @@
 ghost use Rattle.std.specs.Prelude.{◌≡◌, ◌≢◌, ◌↔◌, drop, IfOk, OnErr};
 ghost use Rattle.nr_options.specs.Limits.{AreLimits};
 ghost use Rattle.nulbiko.specs.Told.{count_told, nothing_told};
-ghost use Rattle.nulbiko.specs.Formatting.{AreAsked, FormatsText, bounds_of, code_of, limit_number, limit_told, place_told};
+ghost use Rattle.nulbiko.specs.Formatting.{AreAsked, FormatsText, bounds_of, code_of, faces_of, limit_number, limit_told, place_told};
 
 use super::pages::{Pages, hand_over};
 use super::text::Text;
@@ -10,7 +10,7 @@ use super::told::{
     DONE, FULL, LIMIT, OUT_OF_MEMORY, OUT_OF_RANGE, Report, TOO_LONG, UNREADABLE, code_within,
     count_told,
 };
-use nr_engine::{CountedAlloc, Desk, Limits, Measure, Options, Outcome, format};
+use nr_engine::{CountedAlloc, Desk, Faces, Limits, Measure, Options, Outcome, format};
 use std::alloc::{AllocError, Global};
 
 /// The five limits.
@@ -35,6 +35,8 @@ pub struct TextLimits {
 pub struct TextOptions {
     /// The number of the first page. One outside -2147483647 to 2147483647 sets nothing.
     pub first: i64,
+    /// Bold is shown, and all that is underlined; else underlined letters and digits of ASCII.
+    pub bold: bool,
 }
 
 /// The number of a limit: 1 for stored bytes, 2 depth, 3 cells of a line, 4 cells of a page, 5 expansions, 6 moves.
@@ -87,12 +89,20 @@ fn report_of(outcome: Outcome, written: usize, moves: u128) -> Report
     }
 }
 
+/// The faces that show where bold is asked for, and where it isn't.
+fn faces_of(bold: bool) -> Faces
+    ensures { result ≡ faces_of bold }
+{
+    if bold { Faces::All } else { Faces::Letters }
+}
+
 /// The options that are asked for.
-fn options_of(first: i64) -> Options
-    ensures { AreAsked first result }
+fn options_of(asked: TextOptions) -> Options
+    ensures { AreAsked asked result }
 {
     let mut options = Options::plain();
-    options.first = first;
+    options.first = asked.first;
+    options.faces = faces_of(asked.bold);
     options
 }
 
@@ -100,19 +110,19 @@ fn options_of(first: i64) -> Options
 fn run_desk(
     alloc: Global,
     desk: &mut Desk,
-    first: i64,
+    asked: TextOptions,
     input: &[u8],
     output: &mut [u8],
     told: &mut Report,
 ) -> Result<u32, AllocError>
-    ensures formatted { IfOk result (λ code. FormatsText desk.old first input.now output.new told.new code) }
+    ensures formatted { IfOk result (λ code. FormatsText desk.old asked input.now output.new told.new code) }
     ensures not_range { IfOk result (λ code. code ≢ 2) }
     ensures not_memory { IfOk result (λ code. code ≢ 5) }
     ensures untouched { OnErr result ((output.new ≡ output.old) × (told.new ≡ told.old)) }
     ensures rest { drop told.new.written output.new ≡ drop told.new.written output.old }
 {
     let mut pages = Pages::new(alloc, output.len())?;
-    let options = options_of(first);
+    let options = options_of(asked);
     let mut text = Text::over(input);
     let mut moves = 0;
     let outcome = format(desk.lend(), &options, &mut text, &mut pages, &mut moves);
@@ -126,19 +136,19 @@ fn run_desk(
 fn format_text(
     alloc: Global,
     limits: Limits,
-    first: i64,
+    asked: TextOptions,
     input: &[u8],
     output: &mut [u8],
     told: &mut Report,
 ) -> Result<u32, AllocError>
-    ensures formatted { IfOk result (λ code. FormatsText limits first input.now output.new told.new code) }
+    ensures formatted { IfOk result (λ code. FormatsText limits asked input.now output.new told.new code) }
     ensures not_range { IfOk result (λ code. code ≢ 2) }
     ensures not_memory { IfOk result (λ code. code ≢ 5) }
     ensures untouched { OnErr result ((output.new ≡ output.old) × (told.new ≡ told.old)) }
     ensures rest { drop told.new.written output.new ≡ drop told.new.written output.old }
 {
     let mut desk = Desk::new(&mut CountedAlloc::new(alloc), limits)?;
-    run_desk(alloc, &mut desk, first, input, output, told)
+    run_desk(alloc, &mut desk, asked, input, output, told)
 }
 
 /// Formats a text under limits into a buffer, reports how it went, and gives the number of the outcome: 0 done, 1 a limit would
@@ -154,7 +164,7 @@ pub extern "C" fn nulbiko_format_lent(
 ) -> u32
     ensures ranges { (result ≡ 2) ↔ (AreLimits (bounds_of limits.now) → ⊥) }
     ensures formatted { result ≢ 2 → result ≢ 5
-        → FormatsText (bounds_of limits.now) options.now.first input.now output.new told.new result }
+        → FormatsText (bounds_of limits.now) options.now input.now output.new told.new result }
     ensures bad { result ≡ 2 → (output.new ≡ output.old) × (told.new ≡ nothing_told) }
     ensures no_memory { result ≡ 5 → (output.new ≡ output.old) × (told.new ≡ nothing_told) }
     ensures rest { drop told.new.written output.new ≡ drop told.new.written output.old }
@@ -169,7 +179,7 @@ pub extern "C" fn nulbiko_format_lent(
     ) else {
         return OUT_OF_RANGE;
     };
-    match format_text(alloc, bounds, options.first, input, output, told) {
+    match format_text(alloc, bounds, *options, input, output, told) {
         Ok(code) => code,
         Err(_) => OUT_OF_MEMORY,
     }

@@ -8,7 +8,7 @@ use Rattle.nr_reading.specs.Many.InText.{is_in_text}
 use Rattle.nr_reading.specs.Many.Rereading.{is_rereading}
 use Rattle.nr_reading.specs.declared.event.Event.{Event}
 use Rattle.nr_reading.specs.declared.event.Event.TheVariants as events
-use Rattle.nr_settings.specs.Fonts.{is_under}
+use Rattle.nr_settings.specs.Fonts.{present_look}
 use Rattle.nr_formatter.specs.Access.{collected, with_collected, margins, is_filling}
 use Rattle.nr_formatter.specs.Lines.{fits_line, reads_a_field}
 use Rattle.nr_formatter.specs.declared.formatter.Formatter.{Formatter}
@@ -42,7 +42,7 @@ pub record IsInLine (f : Formatter) : Type 0 where
 
 -- the bytes one after another, each a cell of the word
 abbrev pub run_put : List ℕ → Formatter → Formatter
-run_put bs f = with_collected (add_run (margins f) (is_under f.settings.fonts) bs (collected f)) f
+run_put bs f = with_collected (add_run (margins f) (present_look f.settings.fonts) bs (collected f)) f
 
 -- ---- a blank after a word
 
@@ -87,7 +87,7 @@ BehindWord f gaps.Reads g = (fits_line (collected f) ≡ true) × (g ≡ f)
 -- how they are read: a blank ends a word where lines are filled, no break was asked for, and there is no hyphenation word
 abbrev pub manner_of : Formatter → Manner
 manner_of f = record {
-  under = is_under f.settings.fonts;
+  look = present_look f.settings.fonts;
   ends = is_filling f && (not f.breaks && not (nat_lt 0 (length f.store.words)));
 }
 

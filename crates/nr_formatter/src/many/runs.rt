@@ -11,6 +11,7 @@ ghost use Rattle.nr_formatter.specs.Many.Runs.{reads_next, is_in_line, run_put, 
 use crate::formatter::Formatter;
 use crate::tasks::{After, Task};
 use nr_input::Event;
+use nr_vectors::cell::Look;
 
 /// What became of a blank or a newline after a word.
 #[derive(Clone, Copy)]
@@ -26,8 +27,8 @@ pub enum Gap {
 /// How words and the blanks after them are read.
 #[derive(Clone, Copy)]
 pub struct Manner {
-    /// Cells are underlined.
-    pub under: bool,
+    /// How cells look.
+    pub look: Look,
     /// A blank does nothing but end a word and widen the gap, unless text for a stop is being read.
     pub ends: bool,
 }
@@ -150,7 +151,7 @@ impl Formatter {
         ensures { result ≡ manner_of self.now }
     {
         Manner {
-            under: self.settings.fonts.is_under(),
+            look: self.settings.fonts.look(),
             ends: self.settings.filling.is_filling() && (!self.breaks && !self.store.has_words()),
         }
     }
@@ -163,9 +164,7 @@ impl Formatter {
         ensures { PutsWord bytes.now self.old result self.new }
     {
         let indents = &self.settings.indents;
-        let run = self
-            .line
-            .put_word(indents, manner.under, manner.ends, bytes);
+        let run = self.line.put_word(indents, manner.look, manner.ends, bytes);
         let count = run.count;
         if run.ended {
             return WordPut {

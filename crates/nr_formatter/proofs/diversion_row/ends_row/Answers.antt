@@ -13,4 +13,4 @@ returns c =
     λ is.
     let cells = c.args.cells.now in
     let some : 0 < length cells = omega (arith, eqb-false (length cells) 0 (sym c.if-is_empty.ensures)) in
-    ends_row cells _ some (sym c.has_under_blank.ensures ∙ not_of c.has_under_blank.result is) c.if-cells-eq32.false
+    ends_row cells _ some (sym c.has_faced_blank.ensures ∙ not_of c.has_faced_blank.result is) c.if-cells-eq32.false

@@ -1,23 +1,39 @@
+use Prim.Native.Char.{code}
 use Rattle.std.proofs.lemmas.Grind.{common_steps}
-use Rattle.std.proofs.Common.{◌≡◌, false, suc, List, [], ◌∷◌, ◌++◌, All, map, refl, ap, sym, ◌∙◌, arith}
+use Rattle.std.proofs.Common.{◌≡◌, ℕ, ◌==◌, Bool, true, false, if◌then◌else◌, suc, List, [], ◌∷◌, ◌++◌, All as Each, map, refl, ap, sym, ◌∙◌, arith}
+use Rattle.std.proofs.lemmas.Bool.{false≢true}
 use Rattle.std.specs.List.{flat_map}
 use Rattle.nr_vectors.specs.declared.cell.Cell.{Cell}
-use Rattle.nr_page.specs.PageBytes.{cell_bytes}
+use Rattle.nr_vectors.specs.declared.cell.Look.{Look}
+use Rattle.nr_vectors.specs.declared.cell.Look.TheVariants.{Plain, Under, Bold}
+use Rattle.nr_page.specs.Faces.{cell_bytes, may_show, struck}
+use Rattle.nr_page.specs.declared.faces.Faces.{Faces}
+use Rattle.nr_page.specs.declared.faces.Faces.TheVariants.{Letters, All}
 use Rattle.nr_page.proofs.gathering.gather_cells.Goals as goal
 
-one_byte : (cell : Cell) → cell.under ≡ false → cell_bytes cell ≡ cell.byte ∷ []
-one_byte cell plain = rw plain refl
+-- one that looks plain, blank or not
+plain_if : (blank : Bool) → (if blank then Plain else Plain) ≡ Plain
+plain_if true = refl
+plain_if false = refl
 
--- where none is underlined, each cell is its byte
-plain_bytes : (cells : List Cell) → All (λ (cell : Cell). cell.under ≡ false) cells → flat_map cell_bytes cells ≡ map (λ (cell : Cell). cell.byte) cells
-plain_bytes [] plain = refl
-plain_bytes (cell ∷ cells) plain =
-    let first = one_byte cell (plain 0 cell (omega arith)) in
-    rw first (ap (λ bs. cell.byte ∷ bs) (plain_bytes cells (λ k d i. plain (suc k) d (omega (arith, i)))))
+one_byte : (faces : Faces) (byte : ℕ) (look : Look) → may_show faces look ≡ false → cell_bytes faces (record { byte = byte; look = look }) ≡ byte ∷ []
+one_byte Letters byte Plain none = refl
+one_byte All byte Plain none = ap (λ (look : Look). struck look byte) (plain_if (byte == code " "))
+one_byte faces byte Under none = absurd (false≢true (sym none))
+one_byte Letters byte Bold none = refl
+one_byte All byte Bold none = absurd (false≢true (sym none))
 
-pub returns-then-not-any_under-clause-items : goal.returns-then-not-any_under-clause-items
-returns-then-not-any_under-clause-items c =
-    c.extend_bytes.ensures.items ∙ ap (λ bs. c.args.pending.now.items ++ bs) (sym (plain_bytes c.args.cells.now (c.any_under.ensures c.if-not-any_under.true)))
+-- where none shows as more, each cell is its byte
+plain_bytes : (faces : Faces) (cells : List Cell) → Each (λ (cell : Cell). may_show faces cell.look ≡ false) cells → flat_map (cell_bytes faces) cells ≡ map (λ (cell : Cell). cell.byte) cells
+plain_bytes faces [] none = refl
+plain_bytes faces (cell ∷ cells) none =
+    let first = one_byte faces cell.byte cell.look (none 0 cell (omega arith)) in
+    ap (λ (bs : List ℕ). bs ++ flat_map (cell_bytes faces) cells) first
+    ∙ ap (λ (bs : List ℕ). cell.byte ∷ bs) (plain_bytes faces cells (λ k d i. none (suc k) d (omega (arith, i))))
+
+pub returns-then-not-any_shown-clause-items : goal.returns-then-not-any_shown-clause-items
+returns-then-not-any_shown-clause-items c =
+    c.extend_bytes.ensures.items ∙ ap (λ bs. c.args.pending.now.items ++ bs) (sym (plain_bytes c.args.faces c.args.cells.now (c.any_shown.ensures c.if-not-any_shown.true)))
 
 pub loop-cell-preserved : goal.loop-cell-preserved
 loop-cell-preserved c = grind (arith, common_steps)

@@ -8,12 +8,12 @@ use Rattle.nr_page.proofs.gathering.write_cells.Goals as goal
 pub returns-in_err-make_room-clause-gathers : goal.returns-in_err-make_room-clause-gathers
 returns-in_err-make_room-clause-gathers g c =
     let z = err_from_is_err_and c.from_residual.result c.from_residual.ensures.1 in
-    rw z.1 (Gathers-front _ _ _ _ _ _ [] _ _ c.loop-at.invariant.gathers c.in_err-make_room.ensures.gathers (flat_map-take-front cell_bytes c.args.cells.now c.loop-at.at))
+    rw z.1 (Gathers-front _ _ _ _ _ _ [] _ _ c.loop-at.invariant.gathers c.in_err-make_room.ensures.gathers (flat_map-take-front (cell_bytes c.args.faces) c.args.cells.now c.loop-at.at))
 
 pub loop-at-preserved : goal.loop-at-preserved
 loop-at-preserved g c = record {
   within = omega arith;
-  gathers = Gathers-both _ _ _ c.loop-at.invariant.gathers c.in_ok-make_room.ensures.gathers c.gather_cells.ensures.items (flat_map-take-add cell_bytes c.args.cells.now c.loop-at.at c.min.result);
+  gathers = Gathers-both _ _ _ c.loop-at.invariant.gathers c.in_ok-make_room.ensures.gathers c.gather_cells.ensures.items (flat_map-take-add (cell_bytes c.args.faces) c.args.cells.now c.loop-at.at c.min.result);
   failures = c.in_ok-make_room.ensures.failures ∙ c.loop-at.invariant.failures;
   room = c.gather_cells.ensures.room ∙ c.in_ok-make_room.ensures.room ∙ c.loop-at.invariant.room;
 }

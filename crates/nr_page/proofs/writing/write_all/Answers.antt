@@ -1,7 +1,13 @@
 use Rattle.std.proofs.Common.{arith}
 use Rattle.std.proofs.lemmas.Grind.{common_steps}
+use Rattle.std.proofs.lemmas.Result.{err_from_is_err_and}
 use Rattle.nr_page.proofs.Fronts.{OnErr-GathersOrFails}
 use Rattle.nr_page.proofs.writing.write_all.Goals as goal
+
+pub returns-in_err-write_rows-clause-err : goal.returns-in_err-write_rows-clause-err
+returns-in_err-write_rows-clause-err g c =
+    let z = err_from_is_err_and c.from_residual.result c.from_residual.ensures.1 in
+    rw z.1 (rw c.over-pending.ensures.empty at c.in_err-write_rows.ensures.gathers)
 
 pub returns-clause-err : goal.returns-clause-err
 returns-clause-err g c =

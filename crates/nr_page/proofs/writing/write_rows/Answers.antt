@@ -15,9 +15,9 @@ returns-in_err-write_row-clause-gathers g c =
     let row = c.get-row.result in
     let found = number_at rows c.loop-place.place row c.get-row.ensures in
     let reached : row.number + 1 ≤ c.args.count = omega (arith, found.1, c.requires.above c.loop-place.place found.0) in
-    let kept = rows_bytes-kept texts rows c.loop-place.place c.loop-place.done row c.requires.kept.order c.get-row.ensures c.loop-place.invariant.above c.loop-place.invariant.below in
+    let kept = rows_bytes-kept c.args.faces texts rows c.loop-place.place c.loop-place.done row c.requires.kept.order c.get-row.ensures c.loop-place.invariant.above c.loop-place.invariant.below in
     rw z.1 (Gathers-front _ _ _ _ _ _ _ _ _ c.loop-place.invariant.gathers (rw c.text.ensures at c.in_err-write_row.ensures.gathers)
-    (rows_bytes-front (rows_of texts rows) (row.number + 1) c.args.count reached ∙ ap (λ front. front ++ rows_bytes (rows_of texts rows) (row.number + 1) (c.args.count - (row.number + 1))) kept))
+    (rows_bytes-front c.args.faces (rows_of texts rows) (row.number + 1) c.args.count reached ∙ ap (λ front. front ++ rows_bytes c.args.faces (rows_of texts rows) (row.number + 1) (c.args.count - (row.number + 1))) kept))
 
 pub loop-place-preserved : goal.loop-place-preserved
 loop-place-preserved g c =
@@ -25,7 +25,7 @@ loop-place-preserved g c =
     let rows = c.args.rows.now.items in
     let row = c.get-row.result in
     let found = number_at rows c.loop-place.place row c.get-row.ensures in
-    let kept = rows_bytes-kept texts rows c.loop-place.place c.loop-place.done row c.requires.kept.order c.get-row.ensures c.loop-place.invariant.above c.loop-place.invariant.below in
+    let kept = rows_bytes-kept c.args.faces texts rows c.loop-place.place c.loop-place.done row c.requires.kept.order c.get-row.ensures c.loop-place.invariant.above c.loop-place.invariant.below in
     record {
       above = λ k before within. before_number rows c.loop-place.place k (row.number + 1) c.requires.kept.order found.0 (omega arith) (omega (arith, found.1));
       below = λ k behind within. omega (arith, found.1, c.requires.kept.order c.loop-place.place k (omega arith) within);
@@ -38,4 +38,4 @@ loop-place-preserved g c =
 pub returns-clause-gathers : goal.returns-clause-gathers
 returns-clause-gathers g c =
     GathersOrFails-last _ _ _ _ _ _ _ _ _ c.write_newlines.result c.loop-place.invariant.gathers c.write_newlines.ensures.gathers
-    (rows_bytes-rest c.args.texts.now c.args.rows.now.items c.loop-place.place c.loop-place.done c.args.count (omega arith) c.loop-place.invariant.within c.loop-place.invariant.above)
+    (rows_bytes-rest c.args.faces c.args.texts.now c.args.rows.now.items c.loop-place.place c.loop-place.done c.args.count (omega arith) c.loop-place.invariant.within c.loop-place.invariant.above)

@@ -2,6 +2,7 @@ use Prim.Native.Char.{code}
 use Rattle.std.proofs.Common.{◌≡◌, ℕ, ◌+◌, ◌-◌, ◌<◌, [], ◌∷◌, ◌++◌, false, length, take, get_or, ap, sym, ◌∙◌, arith}
 use Rattle.std.proofs.lemmas.List.{get_or-map, length-map, length-take-le, take_all, take_more, take-map}
 use Rattle.nr_vectors.specs.declared.cell.Cell.{Cell}
+use Rattle.nr_vectors.specs.declared.cell.Look.TheVariants.{Plain}
 use Rattle.nr_symbol_tables.specs.Word.{bytes_of}
 use Rattle.nr_symbol_tables.specs.Hyphenation.{words_in}
 use Rattle.nr_symbol_tables.proofs.Chaining.{latest_whole, latest_of_both}
@@ -10,7 +11,7 @@ use Rattle.nr_symbol_tables.proofs.hyphenation.latest_given.Goals as goal
 
 -- no cell
 abbrev nothing : Cell
-nothing = record { byte = 0; under = false }
+nothing = record { byte = 0; look = Plain }
 
 abbrev byte : Cell → ℕ
 byte x = x.byte

@@ -25,12 +25,12 @@ invariant_of-self-in-Some c =
     let w = c.in-Some.word in
     let count = c.push_plain-count.result in
     let front = take count c.args.bytes.now in
-    let run = map (run_cell c.args.under) front in
+    let run = map (run_cell c.args.look) front in
     let text = text_cells-collected_of s.barred s.sentence s.margins s.turn c.self.invariant in
     let same = ap (λ (v : Lined). text_cells v.collected) c.self.view_is in
     let limit = ap (λ (v : Lined). v.limit) c.self.view_is in
     let title = no_title_cells c.self.invariant (ap (λ (v : Lined). v.collected.title) c.self.view_is ∙ c.requires.no_title) in
-    let many : length run ≡ count = length-map front (run_cell c.args.under) ∙ length-take-le count c.args.bytes.now c.push_plain-count.ensures.front in
+    let many : length run ≡ count = length-map front (run_cell c.args.look) ∙ length-take-le count c.args.bytes.now c.push_plain-count.ensures.front in
     let longer = length-append s.row.last run in
     let v : WordState = record w { pending = c.drop_point.new.self; blanks = 0 } in
     let needed = needed_without_point w.pending 0 w.parted (length s.row.last) (needed_none w.pending w.blanks w.parted (length s.row.last) iw.needed) in

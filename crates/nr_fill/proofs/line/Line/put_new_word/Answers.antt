@@ -61,7 +61,7 @@ invariant_of-self-2 c =
     let same = ap (λ (v : Lined). text_cells v.collected) c.self.view_is in
     let limit = ap (λ (v : Lined). v.limit) c.self.view_is in
     let room : s.pieces + read_cells s.row + c.min.result ≤ s.limit = omega (arith, c.text_measure.ensures.value, c.text_measure.ensures.within) in
-    rw (c.close.ensures, c.push_plain-count.ensures.cells, c.from.ensures) (run_worded c.push_plain-count.result c.min.result c.args.bytes.now c.push_plain-count.ensures.front c.args.under c.self.invariant
+    rw (c.close.ensures, c.push_plain-count.ensures.cells, c.from.ensures) (run_worded c.push_plain-count.result c.min.result c.args.bytes.now c.push_plain-count.ensures.front c.args.look c.self.invariant
     (none_from_word_of s.word (drop s.pieces s.row.pieces) s.row.last (ap (λ (v : Lined). v.collected.word) c.self.view_is ∙ c.requires.word))
     (no_title_of s.title s.row.title (ap (λ (v : Lined). v.collected.title) c.self.view_is ∙ c.requires.title)) room (omega (arith, length-take c.min.result c.args.bytes.now)))
 
@@ -76,9 +76,9 @@ returns-clause-word c = λ some.
     let count = c.push_plain-count.result in
     let m = c.min.result in
     let front_is = taken_front count m bytes c.push_plain-count.ensures.front in
-    let run = map (run_cell c.args.under) (take count bytes) in
+    let run = map (run_cell c.args.look) (take count bytes) in
     let long = length_front count m bytes c.push_plain-count.ensures.front in
-    let many : length run ≡ count = length-map (take count bytes) (run_cell c.args.under) ∙ long in
+    let many : length run ≡ count = length-map (take count bytes) (run_cell c.args.look) ∙ long in
     let whole : take count run ≡ run = take_all count run (omega arith) in
     let p : Piece = record { join = Gap s.gap; cells = run } in
     let behind : take (s.pieces + 1) (s.row.pieces ++ p ∷ []) ≡ s.row.pieces ++ p ∷ [] = take_all (s.pieces + 1) (s.row.pieces ++ p ∷ []) (omega (arith, length-append s.row.pieces (p ∷ []))) in
@@ -91,10 +91,10 @@ returns-clause-word c = λ some.
       | then-self-eq0 w ↦ rw (nil_from_length s.row.pieces (omega arith)) (w.self-is ∙ w.margins-self-inside.ensures)
       | else-self-eq0 w ↦ rw (some_pieces s.row.pieces (omega arith)) (w.self-is ∙ ap (λ (v : Lined). v.collected.margins) c.self.view_is)
     ]) in
-    let sentence : c.ends_sentence-self-inside.result ≡ ends_sentence (run_cell c.args.under (get_or (take count bytes) (length (take count bytes) - 1) 0)) =
-    c.ends_sentence-self-inside.ensures ∙ ap (λ b. ends_sentence (run_cell c.args.under b)) last_at in
+    let sentence : c.ends_sentence-self-inside.result ≡ ends_sentence (run_cell c.args.look (get_or (take count bytes) (length (take count bytes) - 1) 0)) =
+    c.ends_sentence-self-inside.ensures ∙ ap (λ b. ends_sentence (run_cell c.args.look b)) last_at in
     rw (c.close.ensures, c.push_plain-count.ensures.cells, last, front_is, whole, behind, none, untitled, margins, sentence, ← c.self.view_is) (rw before refl)
-    ∙ ap (λ (k : Collected). record c.args.self.now { collected = k }) (sym (add_word-none (margins_of c.args.indents.now) c.args.under (take count bytes) now word (omega (arith, long))))
+    ∙ ap (λ (k : Collected). record c.args.self.now { collected = k }) (sym (add_word-none (margins_of c.args.indents.now) c.args.look (take count bytes) now word (omega (arith, long))))
 
 pub returns-then-count-near-clause-plain : goal.returns-then-count-near-clause-plain
 returns-then-count-near-clause-plain c =
@@ -107,7 +107,7 @@ invariant_of-self-then-count-near c =
     let same = ap (λ (v : Lined). text_cells v.collected) c.self.view_is in
     let limit = ap (λ (v : Lined). v.limit) c.self.view_is in
     let room : s.pieces + read_cells s.row + c.min.result ≤ s.limit = omega (arith, c.text_measure.ensures.value, c.text_measure.ensures.within) in
-    rw c.push_plain-count.ensures.cells (run_begun c.push_plain-count.result c.min.result c.args.bytes.now c.push_plain-count.ensures.front c.args.under c.self.invariant
+    rw c.push_plain-count.ensures.cells (run_begun c.push_plain-count.result c.min.result c.args.bytes.now c.push_plain-count.ensures.front c.args.look c.self.invariant
     (none_from_word_of s.word (drop s.pieces s.row.pieces) s.row.last (ap (λ (v : Lined). v.collected.word) c.self.view_is ∙ c.requires.word))
     (no_title_of s.title s.row.title (ap (λ (v : Lined). v.collected.title) c.self.view_is ∙ c.requires.title)) room c.new.result c.new.ensures)
 
@@ -133,10 +133,10 @@ returns-then-count-near-clause-run c = λ goes_on.
       | then-self-eq0 w ↦ rw (nil_from_length s.row.pieces (omega arith)) (w.self-is ∙ w.margins-self-inside.ensures)
       | else-self-eq0 w ↦ rw (some_pieces s.row.pieces (omega arith)) (w.self-is ∙ ap (λ (v : Lined). v.collected.margins) c.self.view_is)
     ]) in
-    let sentence : c.ends_sentence-self-inside.result ≡ ends_sentence (run_cell c.args.under (get_or (take count bytes) (length (take count bytes) - 1) 0)) =
-    c.ends_sentence-self-inside.ensures ∙ ap (λ b. ends_sentence (run_cell c.args.under b)) last_at in
+    let sentence : c.ends_sentence-self-inside.result ≡ ends_sentence (run_cell c.args.look (get_or (take count bytes) (length (take count bytes) - 1) 0)) =
+    c.ends_sentence-self-inside.ensures ∙ ap (λ b. ends_sentence (run_cell c.args.look b)) last_at in
     rw (c.new.ensures, c.push_plain-count.ensures.cells, last, front_is, behind, untitled, margins, sentence, ← c.self.view_is) (rw before refl)
-    ∙ ap (λ (k : Collected). record c.args.self.now { collected = k }) (sym (add_run-none (margins_of c.args.indents.now) c.args.under (take count bytes) now c.requires.word (omega (arith, long, some))))
+    ∙ ap (λ (k : Collected). record c.args.self.now { collected = k }) (sym (add_run-none (margins_of c.args.indents.now) c.args.look (take count bytes) now c.requires.word (omega (arith, long, some))))
 
 pub push_plain-count-requires-clause-no_title : goal.push_plain-count-requires-clause-no_title
 push_plain-count-requires-clause-no_title c =
@@ -156,9 +156,9 @@ pub close-requires-clause-within : goal.close-requires-clause-within
 close-requires-clause-within c =
     let near = take c.min.result c.args.bytes.now in
     let count = c.push_plain-count.result in
-    let run = map (run_cell c.args.under) (take count near) in
+    let run = map (run_cell c.args.look) (take count near) in
     let long = length-take-le count near c.push_plain-count.ensures.front in
-    rw c.push_plain-count.ensures.cells (omega (arith, length-append c.self.inside.row.last run, length-map (take count near) (run_cell c.args.under)))
+    rw c.push_plain-count.ensures.cells (omega (arith, length-append c.self.inside.row.last run, length-map (take count near) (run_cell c.args.look)))
 
 pub returns-clause-ends : goal.returns-clause-ends
 returns-clause-ends c = grind (arith, common_steps)

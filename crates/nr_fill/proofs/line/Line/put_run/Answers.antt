@@ -13,7 +13,7 @@ use Rattle.nr_fill.proofs.line.Line.put_run.Goals as goal
 pub returns-clause-cells : goal.returns-clause-cells
 returns-clause-cells c =
     let bytes = c.args.bytes.now in
-    let under = c.args.under in
+    let look = c.args.look in
     let margins = c.args.margins in
     let now = c.args.self.now in
     let m = c.min.result in
@@ -28,10 +28,10 @@ returns-clause-cells c =
     let last_is : get_or (take m bytes) (count - 1) 0 ≡ get_or run (length run - 1) 0 =
     get_or-take m bytes (count - 1) 0 (omega arith) ∙ sym (get_or-take count bytes (count - 1) 0 (omega arith)) ∙ ap (λ k. get_or run k 0) size in
     c.push_plain.ensures.cells
-    ∙ ap (λ (v : Lined). record v { collected = record (in_word (run_behind under (take count (take m bytes))) v.collected) { sentence = ends_sentence (run_cell under (get_or (take m bytes) (count - 1) 0)) } })
+    ∙ ap (λ (v : Lined). record v { collected = record (in_word (run_behind look (take count (take m bytes))) v.collected) { sentence = ends_sentence (run_cell look (get_or (take m bytes) (count - 1) 0)) } })
     (c.end_piece.ensures ∙ ap (λ (v : Lined). record v { collected = in_word ended v.collected }) c.open_word.ensures.opened)
-    ∙ ap₂ (λ (zs : List ℕ) (b : ℕ). record now { collected = record (in_word (run_behind under zs) (in_word ended (with_word margins now.collected))) { sentence = ends_sentence (run_cell under b) } }) run_is last_is
-    ∙ ap (λ (k : Collected). record now { collected = k }) (sym (add_run-run margins under run now.collected (omega arith)))
+    ∙ ap₂ (λ (zs : List ℕ) (b : ℕ). record now { collected = record (in_word (run_behind look zs) (in_word ended (with_word margins now.collected))) { sentence = ends_sentence (run_cell look b) } }) run_is last_is
+    ∙ ap (λ (k : Collected). record now { collected = k }) (sym (add_run-run margins look run now.collected (omega arith)))
 
 pub returns-clause-within : goal.returns-clause-within
 returns-clause-within c =
@@ -39,7 +39,7 @@ returns-clause-within c =
     let count = c.push_plain.result in
     let front = c.push_plain.ensures.front in
     let long : length (take count bytes) ≡ count = length-take-le count bytes (omega (arith, front, length-take c.min.result bytes)) in
-    let measured = measured_run c.args.margins c.args.under (take count bytes) c.args.self.now.collected (omega (arith, c.push_plain.ensures.some)) in
+    let measured = measured_run c.args.margins c.args.look (take count bytes) c.args.self.now.collected (omega (arith, c.push_plain.ensures.some)) in
     let cells = ap (λ (v : Lined). line_cells v.collected) (returns-clause-cells c) in
     let limit = ap (λ (v : Lined). v.limit) (returns-clause-cells c) in
     let own = ap (λ (v : Lined). v.limit) c.self.view_is in
@@ -53,7 +53,7 @@ returns-clause-stops c =
     let front = c.push_plain.ensures.front in
     let taken = length-take m bytes in
     let long : length (take count bytes) ≡ count = length-take-le count bytes (omega (arith, front, taken)) in
-    let measured = measured_run c.args.margins c.args.under (take count bytes) c.args.self.now.collected (omega (arith, c.push_plain.ensures.some)) in
+    let measured = measured_run c.args.margins c.args.look (take count bytes) c.args.self.now.collected (omega (arith, c.push_plain.ensures.some)) in
     let cells = ap (λ (v : Lined). text_cells v.collected) (returns-clause-cells c) in
     let limit = ap (λ (v : Lined). v.limit) (returns-clause-cells c) in
     let own = ap (λ (v : Lined). v.limit) c.self.view_is in

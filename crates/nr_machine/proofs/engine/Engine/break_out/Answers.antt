@@ -54,6 +54,7 @@ works-continues_none g e f old new r w = record {
     page = h.page;
     page_limit = h.page_limit;
     select = h.select;
+    faces = h.faces;
     within = record {
       formatter = record { stored = h.within.formatter.stored; depth = h.within.formatter.depth; line = h.within.formatter.line; burst = h.within.formatter.burst };
       page = h.within.page;

@@ -15,7 +15,7 @@ returns-in-Err-clause-comes g c = λ supply s h.
     let within : IsWithin (end_page t) =
     record { formatter = record { stored = h.within.formatter.stored; depth = h.within.formatter.depth; line = h.within.formatter.line; burst = h.within.formatter.burst }; page = omega arith }
     in
-    (within, record { page = page_of t; ends = refl; front = c.in-Err.ensures.err t h.page (sym h.select) refl })
+    (within, record { page = page_of t; ends = refl; front = c.in-Err.ensures.err t h.page (sym h.select) (sym h.faces) refl })
 
 pub returns-in-Ok-clause-comes : goal.returns-in-Ok-clause-comes
 returns-in-Ok-clause-comes g c = λ supply s h.
@@ -23,9 +23,9 @@ returns-in-Ok-clause-comes g c = λ supply s h.
     let within : IsWithin (end_page t) =
     record { formatter = record { stored = h.within.formatter.stored; depth = h.within.formatter.depth; line = h.within.formatter.line; burst = h.within.formatter.burst }; page = omega arith }
     in
-    let all = c.in-Ok.ensures.ok t h.page (sym h.select) refl in (
+    let all = c.in-Ok.ensures.ok t h.page (sym h.select) (sym h.faces) refl in (
       holds_of supply (end_page t) (record (shape c.args.self.now) { formatter = c.page_ended.new.self; page = c.clear.new.self }) c.page_ended.ensures.is h.chosen_is h.coming h.row
-          c.clear.ensures.empty (c.clear.ensures.limit ∙ h.page_limit) h.select within,
+          c.clear.ensures.empty (c.clear.ensures.limit ∙ h.page_limit) h.select h.faces within,
       record { wrote = (bytes_of (page_of t), record { grows = text-push s.pages (page_of t) }, all) },
     )
 

@@ -22,7 +22,7 @@ returns-in-Ok-clause-places c = λ cells is.
     let clear : c.clear.new.self ≡ row_of c.clear.new.self.capacity [] = c.clear.ensures ∙ ap (λ r. row_of r []) (sym (ap (λ r. r.capacity) c.clear.ensures)) in (
       c.line_placed.ensures.is,
       refl,
-      refl,
+      (refl, refl),
       clear,
       c.place.ensures.limit,
       λ lines page.

@@ -6,7 +6,7 @@ use Rattle.nr_machine.proofs.Selected.{not_selected}
 use Rattle.nr_machine.proofs.engine.Engine.print.Goals as goal
 
 pub returns-then-not-has-clause-ok : goal.returns-then-not-has-clause-ok
-returns-then-not-has-clause-ok g c = λ s page select formatter.
+returns-then-not-has-clause-ok g c = λ s page select faces formatter.
     let fits : FitsSigned w32 c.args.self.now.formatter.paper.number = search rules in
     let wide : to_z w64 (of_z w64 c.from.result) ≡ c.from.result = to_z-of_z w64 c.from.result (record { sfits = c.from.type_inv }) in
     let number : to_z w64 (of_z w64 c.from.result) ≡ s.formatter.paper.number =

@@ -68,7 +68,7 @@ returns-in-Ok-clause-moves g c = λ held. record {
       in
       let holds : Holds [] _ (read now) after = holds_of _ (read now) after formatter_is h.chosen_is
       (rw (ap (λ e. e.place) c.tell.ensures.is) m.1.coming) (rw (ap (λ e. e.row) c.tell.ensures.is) h.row) (rw (ap (λ e. e.page) c.tell.ensures.is) h.page)
-      (ap (λ e. e.page.limit) c.tell.ensures.is ∙ h.page_limit) (ap (λ e. e.select) c.tell.ensures.is ∙ h.select) within
+      (ap (λ e. e.page.limit) c.tell.ensures.is ∙ h.page_limit) (ap (λ e. e.select) c.tell.ensures.is ∙ h.select) (ap (λ e. e.faces) c.tell.ensures.is ∙ h.faces) within
       in
       record {
         goes = subst (λ k. GoesBy k now) (sym kinds) m.2;

@@ -17,7 +17,7 @@ pub returns : goal.returns
 returns c =
     let e = shape c.args.self.now in
     let rest = c.push.ensures.rest in
-    let e' = record e { formatter = done c.push.new.self.formatter; place = c.push.new.self.place; row = c.push.new.self.row; page = c.push.new.self.page; select = c.push.new.self.select } in
+    let e' = record e { formatter = done c.push.new.self.formatter; place = c.push.new.self.place; row = c.push.new.self.row; page = c.push.new.self.page; select = c.push.new.self.select; faces = c.push.new.self.faces } in
     let comes : ComesQuietly (cell_to outlets.Room c.args.cell) e e' (Ok tt) = λ supply s h.
     let t = cell_to outlets.Room c.args.cell (at e s) in
     let margin : c.margin-blanks.result ≡ margin_in (offset e.formatter + indent e.formatter) s.row =
@@ -31,7 +31,7 @@ returns c =
     record { formatter = record { stored = h.within.formatter.stored; depth = h.within.formatter.depth; line = h.within.formatter.line; burst = h.within.formatter.burst }; page = h.within.page }
     in (
       holds_of supply t e' (ap (λ x. done x.formatter) rest) h.chosen_is (rw (ap (λ x. x.place) rest) h.coming) row (rw (ap (λ x. x.page) rest) h.page)
-          (ap (λ x. x.page.limit) rest ∙ h.page_limit) (ap (λ x. x.select) rest ∙ h.select) within,
+          (ap (λ x. x.page.limit) rest ∙ h.page_limit) (ap (λ x. x.select) rest ∙ h.select) (ap (λ x. x.faces) rest ∙ h.faces) within,
       refl,
     )
     in

@@ -1,7 +1,0 @@
-use Rattle.std.proofs.Common.{◌≡◌, false, take}
-use Rattle.std.specs.List.{list_any}
-use Rattle.nr_formatter.specs.DiversionRow.{is_under_blank}
-use Rattle.nr_formatter.proofs.diversion_row.has_under_blank.Given as goal
-
-abbrev pub invariant-loop-cell : goal.invariant-loop-cell
-invariant-loop-cell l = list_any is_under_blank (take l.cell-index l.cells) ≡ false
