@@ -1,7 +1,7 @@
 -- A word and the blank after it, put at once.
 use Rattle.std.proofs.Common.{◌≡◌, ℕ, ◌≤◌, Bool, true, false, ◌&&◌, List, length, take, All, sym, ap, ◌∙◌, arith, length-take-le}
 use Rattle.std.specs.Prelude.{is_none, nat_lt, not}
-use Rattle.nr_settings.specs.Fonts.{is_under}
+use Rattle.nr_settings.specs.Fonts.{present_look}
 use Rattle.nr_fill.specs.Piece.{Collected, line_cells, reads_field}
 use Rattle.nr_fill.specs.Plain.{IsPlain}
 use Rattle.nr_fill.specs.Runs.{add_run, add_word}
@@ -22,7 +22,7 @@ and_trues true b is = is
 and_trues false b is = is
 
 module _ (n : ℕ) (bs : List ℕ) (f : Formatter) (front : n ≤ length bs) (plain : All IsPlain (take n bs)) (ends : runs.EndsWord (manner_of f).ends n bs (collected f))
-    (fits : line_cells (add_word (margins f) (is_under f.settings.fonts) (take n bs) (collected f)) ≤ f.line.limit) where
+    (fits : line_cells (add_word (margins f) (present_look f.settings.fonts) (take n bs) (collected f)) ≤ f.line.limit) where
   -- the run, before the blank
   abbrev put : Formatter
   put = run_put (take n bs) f
@@ -30,7 +30,7 @@ module _ (n : ℕ) (bs : List ℕ) (f : Formatter) (front : n ≤ length bs) (pl
   -- a blank does nothing but end it
   word_gaps : gaps_plainly put ≡ true
   word_gaps =
-      let run_is = add_run-none (margins f) (is_under f.settings.fonts) (take n bs) (collected f) ends.word (omega (arith, ends.some, length-take-le n bs front)) in
+      let run_is = add_run-none (margins f) (present_look f.settings.fonts) (take n bs) (collected f) ends.word (omega (arith, ends.some, length-take-le n bs front)) in
       let some : is_none (collected put).word ≡ false = ap (λ (c : Collected). is_none c.word) run_is in
       let field : reads_field (collected put).word ≡ false = ap (λ (c : Collected). reads_field c.word) run_is in
       rw (some, field) (and_trues (is_filling f) (not f.breaks && not (nat_lt 0 (length f.store.words))) ends.ends_is)
@@ -39,7 +39,7 @@ module _ (n : ℕ) (bs : List ℕ) (f : Formatter) (front : n ≤ length bs) (pl
   word_gap = record { plain = word_gaps; within = fits }
 
   -- the word is put, and the blank read
-  pub puts_word : (g h : Formatter) (gap : Gap) → g ≡ with_collected (add_word (margins f) (is_under f.settings.fonts) (take n bs) (collected f)) f → BehindWord g gap h
+  pub puts_word : (g h : Formatter) (gap : Gap) → g ≡ with_collected (add_word (margins f) (present_look f.settings.fonts) (take n bs) (collected f)) f → BehindWord g gap h
       → PutsWord bs f (record { count = n; gap = gap }) h
   puts_word g h gaps.Left is behind = absurd behind
   puts_word g h gaps.Flows is behind = record {
