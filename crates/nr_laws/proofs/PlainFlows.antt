@@ -6,6 +6,7 @@ use Rattle.std.proofs.Common.{◌≡◌, ℕ, ◌+◌, ◌-◌, ◌<◌, ◌≤�
 use Rattle.nr_vectors.specs.Cell.{trimmed}
 use Rattle.nr_vectors.specs.declared.cell.Cell.{Cell}
 use Rattle.nr_fill.specs.Piece.{Piece, Collected, begins_line, is_nil}
+use Rattle.nr_page.specs.declared.faces.Faces.{Faces}
 use Rattle.nr_page.specs.Grid.{Placed}
 use Rattle.nr_page.specs.PageBytes.{page_bytes}
 use Rattle.nr_settings.specs.Indents.{margins_of, first_indents}

@@ -5,6 +5,7 @@ use Rattle.std.specs.Prelude.{◌==◌, is_none, not, slice_index}
 use Rattle.std.specs.Option.{option_map}
 use Rattle.std.proofs.Math.Seq.{drop-nil}
 use Rattle.std.proofs.lemmas.List.{drop-take, get_or-drop, get_or-take, take_rest}
+use Rattle.nr_vectors.specs.declared.cell.Look.{Look}
 use Rattle.nr_units.specs.Source.{Faults, Never, After, Anytime, Supply, MayGiveAll, later, skipped}
 use Rattle.nr_settings.specs.declared.indents.Margins.{Margins}
 use Rattle.nr_settings.specs.Fonts.{present_look}
@@ -139,9 +140,9 @@ next_behind t bs e supply g less levels has = record {
 -- ---- a line that has begun
 
 -- it has begun after a run
-begun-run : (m : Margins) (under : Bool) (bs : List ℕ) (c : Collected) → begins_line c ≡ false → begins_line (add_run m under bs c) ≡ false
-begun-run m under [] c begun = begun
-begun-run m under (b ∷ bs) c begun = begun-run m under bs _ (begun-cell m (run_cell under b) c)
+begun-run : (m : Margins) (look : Look) (bs : List ℕ) (c : Collected) → begins_line c ≡ false → begins_line (add_run m look bs c) ≡ false
+begun-run m look [] c begun = begun
+begun-run m look (b ∷ bs) c begun = begun-run m look bs _ (begun-cell m (run_cell look b) c)
 
 -- the input is read next in it still
 line_run : (bs : List ℕ) (f : Formatter) → is_in_line f ≡ true → is_in_line (run_put bs f) ≡ true
