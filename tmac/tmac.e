@@ -19,7 +19,7 @@
 .\" There are no environments: what one keeps stands in registers while another is used,
 .\" and a line under way is kept aside. Private names begin with "@". Registers:
 .\"   @depth, with @in1 @ll1 .. the settings before a display   @environments depth of .ev
-.\"   @italics, @before-italics of the font   @centred 1 while lines are centred
+.\"   @font of the text, 1 roman, 2 italics, 3 bold, and @before-font   @centred 1 while lines are centred
 .\"   @mode 1 C, 2 L, 3 I, 4 M of a display, @filled 1 for F
 .\"   @titling 1 while a title is printed   @own-top 1 if the paper has a $H
 .\"   @begun 1 from the first page on, @late 1 on that one, @first 1 while nothing stands there
@@ -47,13 +47,15 @@
 .rn ft @ft
 .de ft
 .@ft \\$1
-.nr @o \\n[@before-italics]
-.nr @before-italics \\n[@italics]
-.nr @italics 0
-.if '\\$1'I' .nr @italics 1
-.if '\\$1'2' .nr @italics 1
-.if '\\$1'P' .nr @italics \\n(@o
-.if '\\$1'' .nr @italics \\n(@o
+.nr @o \\n[@before-font]
+.nr @before-font \\n[@font]
+.nr @font 1
+.if '\\$1'I' .nr @font 2
+.if '\\$1'2' .nr @font 2
+.if '\\$1'B' .nr @font 3
+.if '\\$1'3' .nr @font 3
+.if '\\$1'P' .nr @font \\n(@o
+.if '\\$1'' .nr @font \\n(@o
 ..
 .de @push
 .nr @depth +1
@@ -62,7 +64,7 @@
 .nr @fill\\n[@depth] \\n(.u
 .nr @vs\\n[@depth] \\n(.v
 .nr @centred\\n[@depth] \\n[@centred]
-.nr @italics\\n[@depth] \\n[@italics]
+.nr @font\\n[@depth] \\n[@font]
 ..
 .de @pop
 .if \\n[@depth] \{\
@@ -74,8 +76,7 @@
 .nr @centred \\n[@centred\\n[@depth]]
 .ie \\n[@centred] 'ce 10000
 .el 'ce 0
-.ie \\n[@italics\\n[@depth]] .ft I
-.el .ft R
+.ft \\n[@font\\n[@depth]]
 .nr @depth -1
 .\}
 ..
@@ -180,18 +181,19 @@
 .de @print-title
 .if !\\n[@plain] \{\
 .lt \\n[@full]u
-.nr @title-italics \\n[@italics]
+.nr @title-font \\n[@font]
 .nr @title-in \\n(.i
 .nr @title-fill \\n(.u
 'in 0
 'nf
-.ft R
+.ft \\n(tf
 .nr @titling 1
 .\\$1
 .nr @titling 0
 .if \\n[@title-fill] 'fi
 'in \\n[@title-in]u
-.if \\n[@title-italics] .ft I
+.ft R
+.ft \\n[@title-font]
 .\}
 ..
 .\" what is in force when a page begins. A break begins the first one: what comes before
@@ -698,10 +700,11 @@
 .ne 3v+\\n(psu
 .ie 0\\$3 .ti -(\\n(siu-\\n(sou)
 .el .ti +\\n(sou
-.ft R
+.ft \\n(sf
 .if 0\\$3 .$\\$3
 .if \w\a\\$2\a>0 \\$2.
 .if \w\a\\$1\a>0 \\$1\fR\ \ \&
+.ft R
 .\}
 ..
 .de $0
@@ -1254,7 +1257,7 @@
 ..
 .de $c
 .br
-.ft R
+.ft B
 .ce 1000
 .if \\n(_M<3 .nr ch +1
 .ie \\n(_M=1 CHAPTER\ \ \\n(ch
@@ -1265,6 +1268,7 @@
 .\}
 .if \\n(_M<3:\w\a\\$1\a .sp 3
 .ce 0
+.ft R
 .ie \\n(_M=1 .$C Chapter \\n(ch "\\\\*[@heading]"
 .el .if \\n(_M=2 .$C Appendix \\n(ch "\\\\*[@heading]"
 ..
@@ -1635,6 +1639,8 @@
 .@last
 ..
 .\" ---- the beginning
+.nr @font 1
+.nr @before-font 1
 .nr @note-marks 0 1
 .nr @text-marks 0 1
 .nr $f 1 1

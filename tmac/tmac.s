@@ -15,7 +15,7 @@
 .\" Columns     .2C   .MC width gap   .1C
 .\" Registers   LL LT FL PO HM FM PI QI DI FI PD DD FPD in u, PS VS FF PORPHANS
 .\"             HORPHANS, H1 to H8, PN
-.\" Options     -rLN lines of N cells (60)
+.\" Options     -rLN lines of N cells (60), -rB1 title and headings in bold
 .\"
 .\" Long names are on (.cp 0). A width without a scale letter counts cells.
 .\"
@@ -35,7 +35,7 @@
 .\"   heights of )keep1 .., )floating 1 while they are printed
 .\"   )marks numbers of notes in the text, )mark in notes   )raw notes not set yet, with
 .\"   )room kept for them, )noted height of the set ones of this page, )later of the next
-.\"   )italics 1 while text is in italics, )centred 1 while lines are centred
+.\"   )font 1 while text is roman, 2 in italics, 3 in bold, )centred 1 while lines are centred
 .\"   )row 1 while a line is kept aside, )rows its height, )set-apart1 1 if the footer
 .\"   does so, with )footers depth of footers
 .\"   )in-table 1 in a table, )flat 1 where a paragraph of it is in no block, )head height
@@ -383,8 +383,7 @@
 .)ad \\*[)adjust]
 .if \\n[)ragged] .)na
 .fi
-.ft R
-.nr )italics 0
+.)set-font 1
 .in 0
 .ll \\n(LLu
 ..
@@ -394,7 +393,7 @@
 .ie \\n[)cover]=2 \{\
 .sp
 .)centre
-.I
+.)strong
 .\}
 .el \{\
 .in \\n(LLu/12u
@@ -405,6 +404,7 @@
 .rn )title-nf nf
 .rn fi )fi
 .rn )title-fi fi
+.if \\nB .)set-font 3
 .\}
 ..
 .\" lines of the title as they are stand in the middle too
@@ -423,6 +423,7 @@
 .nr )names 1
 .nr )institution 0
 .)centre
+.if \\nB .)set-font 2
 ..
 .de AI
 .)part
@@ -504,7 +505,7 @@
 .de )reset
 .br
 .ft R
-.nr )italics 0
+.nr )font 1
 .ie \\n[)in-table] .)reset-block
 .el .)reset-lines
 ..
@@ -646,7 +647,12 @@
 .ne 3v+\\n[HORPHANS]v+\\n(PDu
 .sp
 .ti \\n(.iu
-.I
+.)strong
+..
+.\" the font of headings: bold where that is asked for, else italics
+.de )strong
+.ie \\nB .)set-font 3
+.el .)set-font 2
 ..
 .de SH
 .if \\n[)kind] .DE
@@ -665,9 +671,9 @@
 .ie \\n[)style] .ds SN-STYLE \\*[SN-NO-DOT]
 .el .ds SN-STYLE \\*[SN-DOT]
 .)heading
-.ft R
+.if !\\nB .ft R
 \&\\*[SN-STYLE]
-.I
+.)strong
 ..
 .de )set-numbers
 .nr )level \\n(.$
@@ -777,38 +783,33 @@ Piscataway, New Jersey 08854
 .)finish
 .sp
 .)centre
-.I
+.)strong
 ..
 .\" ---- fonts: a word, what stands behind it, before it; of more words all
+.de )set-font
+.nr )font \\$1
+.ft \\$1
+..
 .de B
 .if \\n(.$>3 \{\
 \*[)join].\}
 .ie \\n(.$>3 \&\fB\\*[)joined]\fP
 .el .ie \\n(.$ \&\\$3\fB\\$1\fP\\$2
-.el \{\
-.ft B
-.nr )italics 0
-.\}
+.el .)set-font 3
 ..
 .de I
 .if \\n(.$>3 \{\
 \*[)join].\}
 .ie \\n(.$>3 \&\fI\\*[)joined]\fP
 .el .ie \\n(.$ \&\\$3\fI\\$1\fP\\$2
-.el \{\
-.ft I
-.nr )italics 1
-.\}
+.el .)set-font 2
 ..
 .de R
 .if \\n(.$>3 \{\
 \*[)join].\}
 .ie \\n(.$>3 \&\fR\\*[)joined]\fP
 .el .ie \\n(.$ \&\\$3\fR\\$1\fP\\$2
-.el \{\
-.ft R
-.nr )italics 0
-.\}
+.el .)set-font 1
 ..
 .de CW
 .if \\n(.$>3 \{\
@@ -985,7 +986,7 @@ Piscataway, New Jersey 08854
 .nr )f-fill \\n(.u
 .nr )f-in \\n(.i
 .nr )f-ll \\n(.l
-.nr )f-italics \\n[)italics]
+.nr )f-font \\n[)font]
 .)keep-margins
 .nr )left 0
 .nr )right 0
@@ -1048,9 +1049,7 @@ Piscataway, New Jersey 08854
 .el .nf
 .in \\n[)f-in]u
 .ll \\n[)f-ll]u
-.nr )italics \\n[)f-italics]
-.ie \\n[)italics] .ft I
-.el .ft R
+.)set-font \\n[)f-font]
 .nr )w \\n(.t-\\n[)rows]
 .if !\\n(nl .nr )w -\\n(HM
 .nr )here \\n()w-\\n[)height]+1
@@ -1167,7 +1166,7 @@ Piscataway, New Jersey 08854
 .nr )n-ll \\n(.l
 .nr )n-vs \\n(.v
 .nr )n-centred \\n[)centred]
-.nr )n-italics \\n[)italics]
+.nr )n-font \\n[)font]
 .nr )n-kind \\n[)kind]
 .nr )n-keep-in \\n[)keep-in]
 .nr )n-keep \\n[)keep]
@@ -1210,9 +1209,7 @@ Piscataway, New Jersey 08854
 .)margins-before
 .ll \\n[)n-ll]u
 'in \\n[)n-in]u
-.nr )italics \\n[)n-italics]
-.ie \\n[)italics] .ft I
-.el .ft R
+.)set-font \\n[)n-font]
 .if !\\n[)n-fill] 'nf
 .nr )centred \\n[)n-centred]
 .if \\n[)centred] 'ce 10000
@@ -1556,7 +1553,9 @@ Piscataway, New Jersey 08854
 .ne 5v
 .if !'\\$1'no' \{\
 .ce
-\&\fI\\*[TOC]\fR
+.)strong
+\&\\*[TOC]
+.)set-font 1
 .\}
 .sp 2
 .)contents

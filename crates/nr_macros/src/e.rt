@@ -23,7 +23,7 @@ pub(crate) static TEXT: &[u8] = b"\
 .\\\" There are no environments: what one keeps stands in registers while another is used,\n\
 .\\\" and a line under way is kept aside. Private names begin with \"@\". Registers:\n\
 .\\\"   @depth, with @in1 @ll1 .. the settings before a display   @environments depth of .ev\n\
-.\\\"   @italics, @before-italics of the font   @centred 1 while lines are centred\n\
+.\\\"   @font of the text, 1 roman, 2 italics, 3 bold, and @before-font   @centred 1 while lines are centred\n\
 .\\\"   @mode 1 C, 2 L, 3 I, 4 M of a display, @filled 1 for F\n\
 .\\\"   @titling 1 while a title is printed   @own-top 1 if the paper has a $H\n\
 .\\\"   @begun 1 from the first page on, @late 1 on that one, @first 1 while nothing stands there\n\
@@ -51,13 +51,15 @@ pub(crate) static TEXT: &[u8] = b"\
 .rn ft @ft\n\
 .de ft\n\
 .@ft \\\\$1\n\
-.nr @o \\\\n[@before-italics]\n\
-.nr @before-italics \\\\n[@italics]\n\
-.nr @italics 0\n\
-.if '\\\\$1'I' .nr @italics 1\n\
-.if '\\\\$1'2' .nr @italics 1\n\
-.if '\\\\$1'P' .nr @italics \\\\n(@o\n\
-.if '\\\\$1'' .nr @italics \\\\n(@o\n\
+.nr @o \\\\n[@before-font]\n\
+.nr @before-font \\\\n[@font]\n\
+.nr @font 1\n\
+.if '\\\\$1'I' .nr @font 2\n\
+.if '\\\\$1'2' .nr @font 2\n\
+.if '\\\\$1'B' .nr @font 3\n\
+.if '\\\\$1'3' .nr @font 3\n\
+.if '\\\\$1'P' .nr @font \\\\n(@o\n\
+.if '\\\\$1'' .nr @font \\\\n(@o\n\
 ..\n\
 .de @push\n\
 .nr @depth +1\n\
@@ -66,7 +68,7 @@ pub(crate) static TEXT: &[u8] = b"\
 .nr @fill\\\\n[@depth] \\\\n(.u\n\
 .nr @vs\\\\n[@depth] \\\\n(.v\n\
 .nr @centred\\\\n[@depth] \\\\n[@centred]\n\
-.nr @italics\\\\n[@depth] \\\\n[@italics]\n\
+.nr @font\\\\n[@depth] \\\\n[@font]\n\
 ..\n\
 .de @pop\n\
 .if \\\\n[@depth] \\{\\\n\
@@ -78,8 +80,7 @@ pub(crate) static TEXT: &[u8] = b"\
 .nr @centred \\\\n[@centred\\\\n[@depth]]\n\
 .ie \\\\n[@centred] 'ce 10000\n\
 .el 'ce 0\n\
-.ie \\\\n[@italics\\\\n[@depth]] .ft I\n\
-.el .ft R\n\
+.ft \\\\n[@font\\\\n[@depth]]\n\
 .nr @depth -1\n\
 .\\}\n\
 ..\n\
@@ -184,18 +185,19 @@ pub(crate) static TEXT: &[u8] = b"\
 .de @print-title\n\
 .if !\\\\n[@plain] \\{\\\n\
 .lt \\\\n[@full]u\n\
-.nr @title-italics \\\\n[@italics]\n\
+.nr @title-font \\\\n[@font]\n\
 .nr @title-in \\\\n(.i\n\
 .nr @title-fill \\\\n(.u\n\
 'in 0\n\
 'nf\n\
-.ft R\n\
+.ft \\\\n(tf\n\
 .nr @titling 1\n\
 .\\\\$1\n\
 .nr @titling 0\n\
 .if \\\\n[@title-fill] 'fi\n\
 'in \\\\n[@title-in]u\n\
-.if \\\\n[@title-italics] .ft I\n\
+.ft R\n\
+.ft \\\\n[@title-font]\n\
 .\\}\n\
 ..\n\
 .\\\" what is in force when a page begins. A break begins the first one: what comes before\n\
@@ -702,10 +704,11 @@ pub(crate) static TEXT: &[u8] = b"\
 .ne 3v+\\\\n(psu\n\
 .ie 0\\\\$3 .ti -(\\\\n(siu-\\\\n(sou)\n\
 .el .ti +\\\\n(sou\n\
-.ft R\n\
+.ft \\\\n(sf\n\
 .if 0\\\\$3 .$\\\\$3\n\
 .if \\w\\a\\\\$2\\a>0 \\\\$2.\n\
 .if \\w\\a\\\\$1\\a>0 \\\\$1\\fR\\ \\ \\&\n\
+.ft R\n\
 .\\}\n\
 ..\n\
 .de $0\n\
@@ -1258,7 +1261,7 @@ pub(crate) static TEXT: &[u8] = b"\
 ..\n\
 .de $c\n\
 .br\n\
-.ft R\n\
+.ft B\n\
 .ce 1000\n\
 .if \\\\n(_M<3 .nr ch +1\n\
 .ie \\\\n(_M=1 CHAPTER\\ \\ \\\\n(ch\n\
@@ -1269,6 +1272,7 @@ pub(crate) static TEXT: &[u8] = b"\
 .\\}\n\
 .if \\\\n(_M<3:\\w\\a\\\\$1\\a .sp 3\n\
 .ce 0\n\
+.ft R\n\
 .ie \\\\n(_M=1 .$C Chapter \\\\n(ch \"\\\\\\\\*[@heading]\"\n\
 .el .if \\\\n(_M=2 .$C Appendix \\\\n(ch \"\\\\\\\\*[@heading]\"\n\
 ..\n\
@@ -1639,6 +1643,8 @@ pub(crate) static TEXT: &[u8] = b"\
 .@last\n\
 ..\n\
 .\\\" ---- the beginning\n\
+.nr @font 1\n\
+.nr @before-font 1\n\
 .nr @note-marks 0 1\n\
 .nr @text-marks 0 1\n\
 .nr $f 1 1\n\

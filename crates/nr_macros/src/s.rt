@@ -19,7 +19,7 @@ pub(crate) static TEXT: &[u8] = b"\
 .\\\" Columns     .2C   .MC width gap   .1C\n\
 .\\\" Registers   LL LT FL PO HM FM PI QI DI FI PD DD FPD in u, PS VS FF PORPHANS\n\
 .\\\"             HORPHANS, H1 to H8, PN\n\
-.\\\" Options     -rLN lines of N cells (60)\n\
+.\\\" Options     -rLN lines of N cells (60), -rB1 title and headings in bold\n\
 .\\\"\n\
 .\\\" Long names are on (.cp 0). A width without a scale letter counts cells.\n\
 .\\\"\n\
@@ -39,7 +39,7 @@ pub(crate) static TEXT: &[u8] = b"\
 .\\\"   heights of )keep1 .., )floating 1 while they are printed\n\
 .\\\"   )marks numbers of notes in the text, )mark in notes   )raw notes not set yet, with\n\
 .\\\"   )room kept for them, )noted height of the set ones of this page, )later of the next\n\
-.\\\"   )italics 1 while text is in italics, )centred 1 while lines are centred\n\
+.\\\"   )font 1 while text is roman, 2 in italics, 3 in bold, )centred 1 while lines are centred\n\
 .\\\"   )row 1 while a line is kept aside, )rows its height, )set-apart1 1 if the footer\n\
 .\\\"   does so, with )footers depth of footers\n\
 .\\\"   )in-table 1 in a table, )flat 1 where a paragraph of it is in no block, )head height\n\
@@ -387,8 +387,7 @@ pub(crate) static TEXT: &[u8] = b"\
 .)ad \\\\*[)adjust]\n\
 .if \\\\n[)ragged] .)na\n\
 .fi\n\
-.ft R\n\
-.nr )italics 0\n\
+.)set-font 1\n\
 .in 0\n\
 .ll \\\\n(LLu\n\
 ..\n\
@@ -398,7 +397,7 @@ pub(crate) static TEXT: &[u8] = b"\
 .ie \\\\n[)cover]=2 \\{\\\n\
 .sp\n\
 .)centre\n\
-.I\n\
+.)strong\n\
 .\\}\n\
 .el \\{\\\n\
 .in \\\\n(LLu/12u\n\
@@ -409,6 +408,7 @@ pub(crate) static TEXT: &[u8] = b"\
 .rn )title-nf nf\n\
 .rn fi )fi\n\
 .rn )title-fi fi\n\
+.if \\\\nB .)set-font 3\n\
 .\\}\n\
 ..\n\
 .\\\" lines of the title as they are stand in the middle too\n\
@@ -427,6 +427,7 @@ pub(crate) static TEXT: &[u8] = b"\
 .nr )names 1\n\
 .nr )institution 0\n\
 .)centre\n\
+.if \\\\nB .)set-font 2\n\
 ..\n\
 .de AI\n\
 .)part\n\
@@ -508,7 +509,7 @@ pub(crate) static TEXT: &[u8] = b"\
 .de )reset\n\
 .br\n\
 .ft R\n\
-.nr )italics 0\n\
+.nr )font 1\n\
 .ie \\\\n[)in-table] .)reset-block\n\
 .el .)reset-lines\n\
 ..\n\
@@ -650,7 +651,12 @@ pub(crate) static TEXT: &[u8] = b"\
 .ne 3v+\\\\n[HORPHANS]v+\\\\n(PDu\n\
 .sp\n\
 .ti \\\\n(.iu\n\
-.I\n\
+.)strong\n\
+..\n\
+.\\\" the font of headings: bold where that is asked for, else italics\n\
+.de )strong\n\
+.ie \\\\nB .)set-font 3\n\
+.el .)set-font 2\n\
 ..\n\
 .de SH\n\
 .if \\\\n[)kind] .DE\n\
@@ -669,9 +675,9 @@ pub(crate) static TEXT: &[u8] = b"\
 .ie \\\\n[)style] .ds SN-STYLE \\\\*[SN-NO-DOT]\n\
 .el .ds SN-STYLE \\\\*[SN-DOT]\n\
 .)heading\n\
-.ft R\n\
+.if !\\\\nB .ft R\n\
 \\&\\\\*[SN-STYLE]\n\
-.I\n\
+.)strong\n\
 ..\n\
 .de )set-numbers\n\
 .nr )level \\\\n(.$\n\
@@ -781,38 +787,33 @@ Piscataway, New Jersey 08854\n\
 .)finish\n\
 .sp\n\
 .)centre\n\
-.I\n\
+.)strong\n\
 ..\n\
 .\\\" ---- fonts: a word, what stands behind it, before it; of more words all\n\
+.de )set-font\n\
+.nr )font \\\\$1\n\
+.ft \\\\$1\n\
+..\n\
 .de B\n\
 .if \\\\n(.$>3 \\{\\\n\
 \\*[)join].\\}\n\
 .ie \\\\n(.$>3 \\&\\fB\\\\*[)joined]\\fP\n\
 .el .ie \\\\n(.$ \\&\\\\$3\\fB\\\\$1\\fP\\\\$2\n\
-.el \\{\\\n\
-.ft B\n\
-.nr )italics 0\n\
-.\\}\n\
+.el .)set-font 3\n\
 ..\n\
 .de I\n\
 .if \\\\n(.$>3 \\{\\\n\
 \\*[)join].\\}\n\
 .ie \\\\n(.$>3 \\&\\fI\\\\*[)joined]\\fP\n\
 .el .ie \\\\n(.$ \\&\\\\$3\\fI\\\\$1\\fP\\\\$2\n\
-.el \\{\\\n\
-.ft I\n\
-.nr )italics 1\n\
-.\\}\n\
+.el .)set-font 2\n\
 ..\n\
 .de R\n\
 .if \\\\n(.$>3 \\{\\\n\
 \\*[)join].\\}\n\
 .ie \\\\n(.$>3 \\&\\fR\\\\*[)joined]\\fP\n\
 .el .ie \\\\n(.$ \\&\\\\$3\\fR\\\\$1\\fP\\\\$2\n\
-.el \\{\\\n\
-.ft R\n\
-.nr )italics 0\n\
-.\\}\n\
+.el .)set-font 1\n\
 ..\n\
 .de CW\n\
 .if \\\\n(.$>3 \\{\\\n\
@@ -989,7 +990,7 @@ Piscataway, New Jersey 08854\n\
 .nr )f-fill \\\\n(.u\n\
 .nr )f-in \\\\n(.i\n\
 .nr )f-ll \\\\n(.l\n\
-.nr )f-italics \\\\n[)italics]\n\
+.nr )f-font \\\\n[)font]\n\
 .)keep-margins\n\
 .nr )left 0\n\
 .nr )right 0\n\
@@ -1052,9 +1053,7 @@ Piscataway, New Jersey 08854\n\
 .el .nf\n\
 .in \\\\n[)f-in]u\n\
 .ll \\\\n[)f-ll]u\n\
-.nr )italics \\\\n[)f-italics]\n\
-.ie \\\\n[)italics] .ft I\n\
-.el .ft R\n\
+.)set-font \\\\n[)f-font]\n\
 .nr )w \\\\n(.t-\\\\n[)rows]\n\
 .if !\\\\n(nl .nr )w -\\\\n(HM\n\
 .nr )here \\\\n()w-\\\\n[)height]+1\n\
@@ -1171,7 +1170,7 @@ Piscataway, New Jersey 08854\n\
 .nr )n-ll \\\\n(.l\n\
 .nr )n-vs \\\\n(.v\n\
 .nr )n-centred \\\\n[)centred]\n\
-.nr )n-italics \\\\n[)italics]\n\
+.nr )n-font \\\\n[)font]\n\
 .nr )n-kind \\\\n[)kind]\n\
 .nr )n-keep-in \\\\n[)keep-in]\n\
 .nr )n-keep \\\\n[)keep]\n\
@@ -1214,9 +1213,7 @@ Piscataway, New Jersey 08854\n\
 .)margins-before\n\
 .ll \\\\n[)n-ll]u\n\
 'in \\\\n[)n-in]u\n\
-.nr )italics \\\\n[)n-italics]\n\
-.ie \\\\n[)italics] .ft I\n\
-.el .ft R\n\
+.)set-font \\\\n[)n-font]\n\
 .if !\\\\n[)n-fill] 'nf\n\
 .nr )centred \\\\n[)n-centred]\n\
 .if \\\\n[)centred] 'ce 10000\n\
@@ -1560,7 +1557,9 @@ Piscataway, New Jersey 08854\n\
 .ne 5v\n\
 .if !'\\\\$1'no' \\{\\\n\
 .ce\n\
-\\&\\fI\\\\*[TOC]\\fR\n\
+.)strong\n\
+\\&\\\\*[TOC]\n\
+.)set-font 1\n\
 .\\}\n\
 .sp 2\n\
 .)contents\n\
