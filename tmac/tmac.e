@@ -1,4 +1,4 @@
-.\" tmac.e: papers of Berkeley (nroff -me). docs/PAPERS.md says of each name what it does.
+.\" tmac.e: papers of Berkeley (nroff -me). nroff_me(7) says what each name does.
 .\"
 .\" Paragraphs  .pp .lp .np .bu   .ip tag width
 .\" Headings    .sh depth title numbers ..   .sx depth   .uh title   hooks $p $0 $1 .. $6

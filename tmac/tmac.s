@@ -1,4 +1,4 @@
-.\" tmac.s: papers (nroff -ms). docs/PAPERS.md says of each name what it does.
+.\" tmac.s: papers (nroff -ms). nroff_ms(7) says what each name does.
 .\"
 .\" Cover       .RP no   .TL   .AU   .AI   .AB no .AE   .DA date   .ND date   .P1
 .\" Headings    .NH level   .NH S number ..   .SH     (texts on the lines below)

@@ -2,7 +2,7 @@
 
 /// Its text.
 pub(crate) static TEXT: &[u8] = b"\
-.\\\" Macros of manual pages: docs/MANUAL_PAGES.md\n\
+.\\\" Macros of manual pages: nroff_man(7)\n\
 .cp 0\n\
 .rn sp )V\n\
 .rn di )D\n\

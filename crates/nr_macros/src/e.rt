@@ -2,7 +2,7 @@
 
 /// Its text.
 pub(crate) static TEXT: &[u8] = b"\
-.\\\" tmac.e: papers of Berkeley (nroff -me). docs/PAPERS.md says of each name what it does.\n\
+.\\\" tmac.e: papers of Berkeley (nroff -me). nroff_me(7) says what each name does.\n\
 .\\\"\n\
 .\\\" Paragraphs  .pp .lp .np .bu   .ip tag width\n\
 .\\\" Headings    .sh depth title numbers ..   .sx depth   .uh title   hooks $p $0 $1 .. $6\n\

@@ -2,7 +2,7 @@
 
 /// Its text.
 pub(crate) static TEXT: &[u8] = b"\
-.\\\" tmac.l: letters (nroff -ml). docs/PAPERS.md says of each name what it does.\n\
+.\\\" tmac.l: letters (nroff -ml). nroff_ml(7) says what each name does.\n\
 .\\\"\n\
 .\\\" In this order, each as wanted, with lines below it as they are up to the next macro:\n\
 .\\\"   .SE words      sender: name and address\n\

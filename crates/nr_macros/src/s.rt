@@ -2,7 +2,7 @@
 
 /// Its text.
 pub(crate) static TEXT: &[u8] = b"\
-.\\\" tmac.s: papers (nroff -ms). docs/PAPERS.md says of each name what it does.\n\
+.\\\" tmac.s: papers (nroff -ms). nroff_ms(7) says what each name does.\n\
 .\\\"\n\
 .\\\" Cover       .RP no   .TL   .AU   .AI   .AB no .AE   .DA date   .ND date   .P1\n\
 .\\\" Headings    .NH level   .NH S number ..   .SH     (texts on the lines below)\n\
