@@ -64,7 +64,7 @@ static TEXTS: [(&str, Page<'static>); 28] = [
     (
         "faces",
         Page::Bytes(
-            b".TH x\n\\fBa\\fCb\\f(CWc\\fPd\\fR\\fXe\n\\fIf\\fP\n.ft C\ng\n.ft P\n.B a \\f(CWb\\fP\n.BR a \\fXb\n.ft CB\n\\fXh\n.PP\n\\fX\\f[BI]\\f5i\n.ft\n.ft \\*x\n",
+            b".TH x\n\\fBa\\fCb\\f(CWc\\fPd\\fR\\fXe\n\\fIf\\fP\n.ft C\ng\n.ft P\n.B a \\f(CWb\\fP\n.BR a \\fXb\n.ft CB\n\\fXh\n.PP\n\\fX\\f[BI]\\f5i\\f[V]\\f[VI]\\f[VB]j\n.ft\n.ft \\*x\n",
         ),
     ),
     // UTF-16, either byte of a unit first: a pair, a half of one, half a unit.
@@ -237,7 +237,7 @@ static ROWS: [Row; 36] = [
     // A name that is no font keeps the font, and counts as a change.
     Row {
         words: &[b"preconv", b"faces"],
-        output: b".TH x\n\\fBa\\fBb\\fBc\\fPd\\fR\\fRe\n\\fIf\\fP\n.ft R\ng\n.ft P\n.B a \\fBb\\fP\n.BR a \\fRb\n.ft B\n\\fBh\n.PP\n\\fR\\fI\\fRi\n.ft\n.ft \\*x\n",
+        output: b".TH x\n\\fBa\\fBb\\fBc\\fPd\\fR\\fRe\n\\fIf\\fP\n.ft R\ng\n.ft P\n.B a \\fBb\\fP\n.BR a \\fRb\n.ft B\n\\fBh\n.PP\n\\fR\\fI\\fRi\\fB\\fI\\fBj\n.ft\n.ft \\*x\n",
         status: 0,
         line: b"",
     },

@@ -92,20 +92,21 @@ string_code name =
 
 -- ---- fonts
 
--- a font with a name of one byte, if it is one: a terminal has no others
+-- a font with a name of one byte, if it is one: a terminal has no others. V is that of code in pages of pandoc, which say
+-- `.ftr V B` for terminals
 abbrev pub letter_of : ℕ → Option ℕ
 letter_of b =
     if (b == code "R") || (b == code "1") || (b == code "5") then Some (code "R") else
     if (b == code "I") || (b == code "2") || (b == code "4") then Some (code "I") else
-    if (b == code "B") || (b == code "3") then Some (code "B") else
+    if (b == code "B") || (b == code "3") || (b == code "V") then Some (code "B") else
     if b == code "P" then Some (code "P") else None
 
 -- bold italic is italic, and typewriter fonts are those that they look like
 abbrev pub pair_font : ℕ → ℕ → Option ℕ
 pair_font a b =
     if (a == code "C") && (b == code "R") then Some (code "R") else
-    if ((a == code "C") || (a == code "B")) && (b == code "I") then Some (code "I") else
-    if (a == code "C") && (b == code "B") then Some (code "B") else None
+    if ((a == code "C") || (a == code "B") || (a == code "V")) && (b == code "I") then Some (code "I") else
+    if ((a == code "C") || (a == code "V")) && (b == code "B") then Some (code "B") else None
 
 abbrev pub font_of : List ℕ → Option ℕ
 font_of [] = Some (code "P")

@@ -177,7 +177,7 @@ fn letter_of(name: u8) -> Option<u8>
     match name {
         b'R' | b'1' | b'5' => Some(b'R'),
         b'I' | b'2' | b'4' => Some(b'I'),
-        b'B' | b'3' => Some(b'B'),
+        b'B' | b'3' | b'V' => Some(b'B'),
         b'P' => Some(b'P'),
         _ => None,
     }
@@ -192,8 +192,8 @@ pub(crate) fn font_of(name: &[u8]) -> Option<u8>
         [letter] => letter_of(*letter),
         [first, second] => match (*first, *second) {
             (b'C', b'R') => Some(b'R'),
-            (b'C' | b'B', b'I') => Some(b'I'),
-            (b'C', b'B') => Some(b'B'),
+            (b'C' | b'B' | b'V', b'I') => Some(b'I'),
+            (b'C' | b'V', b'B') => Some(b'B'),
             _ => None,
         },
         _ => None,
