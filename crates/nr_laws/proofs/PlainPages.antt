@@ -1,5 +1,6 @@
 -- What the pages show, less blanks: the lines that were placed, where each has a row of its own.
-use Rattle.std.specs.Prelude.{◌==◌, not, max, map, replicate, unwrap_or, slice_index_or}
+use Prim.Native.Char.{code}
+use Rattle.std.specs.Prelude.{◌==◌, nat_lt, not, max, map, replicate, unwrap_or, slice_index_or}
 use Rattle.std.specs.List.{flat_map, range_with_len, suffix_len, prefix_len, last_or, fold}
 use Rattle.std.proofs.lemmas.Bool.{eqb-true, cases_lt, eq-eqb, ne_eqb}
 use Rattle.std.proofs.lemmas.Grind.{flat_map-append}
@@ -59,7 +60,7 @@ blank_bytes faces x is = subst (λ b. cell_bytes faces (record { byte = b; look 
 -- a plain cell prints its byte
 pub plain_bytes : (faces : Faces) (b : ℕ) → cell_bytes faces (record { byte = b; look = Plain }) ≡ b ∷ []
 plain_bytes Letters b = refl
-plain_bytes All b = ap (λ (look : Look). struck look b) (same_if (b == 32) Plain)
+plain_bytes All b = ap (λ (look : Look). struck look b) (same_if (nat_lt (code " ") b) Plain)
 
 pub ink-blank : (faces : Faces) (x : Cell) → is_blank x ≡ true → squeezed (cell_bytes faces x) ≡ []
 ink-blank faces x is = ap squeezed (blank_bytes faces x is)

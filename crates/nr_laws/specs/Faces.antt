@@ -25,26 +25,25 @@ abbrev pub FacesOnlyShow : Type 0
 FacesOnlyShow = (f : Faces) (options : Options) (supply : Supply) (n : ℕ)
     → unlimited (with_faces f options) supply n ≡ facing f (unlimited options supply n)
 
--- none of the cells is a backspace, nor any that shows on pages: nothing that is read puts one
-abbrev pub NoBackspace : List Cell → Type 0
-NoBackspace [] = Unit {0}
-NoBackspace (x ∷ xs) = ((x.byte == 8) ≡ false) × NoBackspace xs
-
-abbrev pub NoneShows : List Ended → Type 0
-NoneShows [] = Unit {0}
-NoneShows (p ∷ pages) = ((row : ℕ) → NoBackspace (row_cells p.lines row)) × NoneShows pages
-
 -- Without what is struck over, the output is the same with any faces.
 abbrev pub StruckOutIsSame : Type 0
 StruckOutIsSame =
     (f g : Faces) (options : Options) (supply : Supply) (n : ℕ)
-    → NoneShows (unlimited options supply n).pages
     → struck_out (unlimited_text (with_faces f options) supply n)
     ≡ struck_out (unlimited_text (with_faces g options) supply n)
+
+-- no cell that shows on these pages is a backspace
+abbrev pub NoBackspace : List Cell → Type 0
+NoBackspace [] = Unit {0}
+NoBackspace (x ∷ xs) = ((x.byte == 8) ≡ false) × NoBackspace xs
+
+abbrev pub ShowNoBackspace : List Ended → Type 0
+ShowNoBackspace [] = Unit {0}
+ShowNoBackspace (p ∷ pages) = ((row : ℕ) → NoBackspace (row_cells p.lines row)) × ShowNoBackspace pages
 
 -- With letters and digits alone underlined, and nothing bold, it is that without faces.
 abbrev pub LettersAreLeft : Type 0
 LettersAreLeft =
-    (options : Options) (supply : Supply) (n : ℕ) → NoneShows (unlimited options supply n).pages
+    (options : Options) (supply : Supply) (n : ℕ) → ShowNoBackspace (unlimited options supply n).pages
     → letters_underlined (unlimited_text (with_faces All options) supply n)
     ≡ unlimited_text (with_faces Letters options) supply n

@@ -74,8 +74,7 @@ pub fn filled_text_is_rows()
 {}
 
 /// With other faces a run makes the same moves and places the same lines. Without what is struck over, the output is the same with
-/// any faces; and with letters and digits alone underlined, and nothing bold, it is that without: where no backspace shows on a page,
-/// and nothing that is read puts one there.
+/// any faces. Where no cell of a page is a backspace, it is with letters and digits alone underlined, and nothing bold, that without.
 pub fn faces_only_show()
     ensures states { FacesOnlyShow }
     ensures struck { StruckOutIsSame }

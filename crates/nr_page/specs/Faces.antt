@@ -1,31 +1,23 @@
 -- How a cell is shown, and what is left where that is taken out. (CSTR 54, section 2.2; groff manual, grotty.)
 use Prim.Native.Char.{code}
-use Rattle.std.specs.Prelude.{ℕ, List, [], ◌∷◌, ◌==◌, ◌&&◌, ◌||◌, Bool, true, false, if◌then◌else◌}
+use Rattle.std.specs.Prelude.{ℕ, List, [], ◌∷◌, ◌==◌, nat_lt, ◌&&◌, not, Bool, if◌then◌else◌}
 use Rattle.std.specs.Char.{is_ascii_alphanumeric}
-use Rattle.nr_vectors.specs.Cell.{is_blank, is_under}
+use Rattle.nr_vectors.specs.Cell.{is_plain, is_under}
 use Rattle.nr_vectors.specs.declared.cell.Cell.{Cell}
 use Rattle.nr_vectors.specs.declared.cell.Look.{Look}
 use Rattle.nr_vectors.specs.declared.cell.Look.TheVariants.{Plain, Under, Bold}
 use Rattle.nr_page.specs.declared.faces.Faces.{Faces}
 use Rattle.nr_page.specs.declared.faces.Faces.TheVariants.{Letters, All}
 
--- the look that shows of a cell: letters and digits underlined, or each cell but a blank as it looks
+-- the look that shows of a cell: letters and digits are underlined, or each printing cell looks as it is
 abbrev pub shown_look : Faces → Cell → Look
 shown_look Letters cell = if is_under cell.look && is_ascii_alphanumeric cell.byte then Under else Plain
-shown_look All cell = if is_blank cell then Plain else cell.look
-
-abbrev pub is_bold : Look → Bool
-is_bold Plain = false
-is_bold Under = false
-is_bold Bold = true
-
-abbrev pub shows_all : Faces → Bool
-shows_all Letters = false
-shows_all All = true
+shown_look All cell = if nat_lt (code " ") cell.byte then cell.look else Plain
 
 -- whether a cell of this look may show as more than its byte
 abbrev pub may_show : Faces → Look → Bool
-may_show faces look = is_under look || (is_bold look && shows_all faces)
+may_show Letters look = is_under look
+may_show All look = not (is_plain look)
 
 -- a byte that is underlined is struck over `_`, and one that is bold over itself
 abbrev pub struck : Look → ℕ → List ℕ

@@ -1,12 +1,11 @@
 // Bytes are gathered and go out to a sink many at a time.
 ghost use Rattle.std.specs.Prelude.{◌≡◌, ℕ, ◌+◌, ◌*◌, ◌<◌, ◌≤◌, List, [], ◌∷◌, ◌++◌, length, replicate, false, All, OnOk, OnErr};
 ghost use Rattle.nr_units.specs.Character.{code};
-ghost use Rattle.nr_vectors.specs.Cell.{is_under};
 ghost use Rattle.nr_vectors.specs.declared.cell.Cell.{Cell as CellValue};
 ghost use Rattle.std.specs.List.{flat_map};
 ghost use Rattle.nr_units.specs.Failures.{put_counted};
 ghost use Rattle.nr_page.specs.Gathering.{GathersOrFails};
-ghost use Rattle.nr_page.specs.Faces.{cell_bytes, is_bold, may_show, shown_look, shows_all};
+ghost use Rattle.nr_page.specs.Faces.{cell_bytes, may_show, shown_look};
 
 use crate::faces::Faces;
 use nr_units::sink::Sink;
@@ -47,13 +46,13 @@ fn shown_look(faces: Faces, cell: Cell) -> Look
 {
     match faces {
         Faces::Letters => {
-            if is_under(cell.look) && cell.byte.is_ascii_alphanumeric() {
+            if matches!(cell.look, Look::Under) && cell.byte.is_ascii_alphanumeric() {
                 return Look::Under;
             }
             Look::Plain
         }
         Faces::All => {
-            if cell.byte == b' ' {
+            if cell.byte <= b' ' {
                 return Look::Plain;
             }
             cell.look
@@ -61,6 +60,7 @@ fn shown_look(faces: Faces, cell: Cell) -> Look
     }
 }
 
+/// The bytes of a cell, three at most.
 fn gather_cell(pending: &mut SliceVec<'_, u8>, faces: Faces, cell: Cell)
     requires { length pending.old.items + 3 ≤ pending.old.capacity }
     ensures items { pending.new.items ≡ pending.old.items ++ cell_bytes faces cell }
@@ -74,41 +74,14 @@ fn gather_cell(pending: &mut SliceVec<'_, u8>, faces: Faces, cell: Cell)
     }
 }
 
-/// Whether a look is that of underlined cells.
-fn is_under(look: Look) -> bool
-    ensures { result ≡ is_under look }
-{
-    match look {
-        Look::Plain | Look::Bold => false,
-        Look::Under => true,
-    }
-}
-
-/// Whether it is that of bold ones.
-fn is_bold(look: Look) -> bool
-    ensures { result ≡ is_bold look }
-{
-    match look {
-        Look::Plain | Look::Under => false,
-        Look::Bold => true,
-    }
-}
-
-/// Whether each cell but a blank shows as it looks.
-fn shows_all(faces: Faces) -> bool
-    ensures { result ≡ shows_all faces }
-{
-    match faces {
-        Faces::Letters => false,
-        Faces::All => true,
-    }
-}
-
 /// Whether a cell of this look may show as more than its byte.
 fn may_show(faces: Faces, look: Look) -> bool
     ensures { result ≡ may_show faces look }
 {
-    is_under(look) | (is_bold(look) & shows_all(faces))
+    match faces {
+        Faces::Letters => matches!(look, Look::Under),
+        Faces::All => !matches!(look, Look::Plain),
+    }
 }
 
 /// Whether one of the cells may show as more than its byte.

@@ -1,6 +1,6 @@
 use Prim.Native.Char.{code}
 use Rattle.std.proofs.lemmas.Grind.{common_steps}
-use Rattle.std.proofs.Common.{◌≡◌, ℕ, ◌==◌, Bool, true, false, if◌then◌else◌, suc, List, [], ◌∷◌, ◌++◌, All as Each, map, refl, ap, sym, ◌∙◌, arith}
+use Rattle.std.proofs.Common.{◌≡◌, ℕ, nat_lt, Bool, true, false, if◌then◌else◌, suc, List, [], ◌∷◌, ◌++◌, All as Each, map, refl, ap, sym, ◌∙◌, arith}
 use Rattle.std.proofs.lemmas.Bool.{false≢true}
 use Rattle.std.specs.List.{flat_map}
 use Rattle.nr_vectors.specs.declared.cell.Cell.{Cell}
@@ -11,16 +11,17 @@ use Rattle.nr_page.specs.declared.faces.Faces.{Faces}
 use Rattle.nr_page.specs.declared.faces.Faces.TheVariants.{Letters, All}
 use Rattle.nr_page.proofs.gathering.gather_cells.Goals as goal
 
--- one that looks plain, blank or not
-plain_if : (blank : Bool) → (if blank then Plain else Plain) ≡ Plain
+-- one that looks plain, whether it prints or not
+plain_if : (prints : Bool) → (if prints then Plain else Plain) ≡ Plain
 plain_if true = refl
 plain_if false = refl
 
 one_byte : (faces : Faces) (byte : ℕ) (look : Look) → may_show faces look ≡ false → cell_bytes faces (record { byte = byte; look = look }) ≡ byte ∷ []
 one_byte Letters byte Plain none = refl
-one_byte All byte Plain none = ap (λ (look : Look). struck look byte) (plain_if (byte == code " "))
-one_byte faces byte Under none = absurd (false≢true (sym none))
+one_byte Letters byte Under none = absurd (false≢true (sym none))
 one_byte Letters byte Bold none = refl
+one_byte All byte Plain none = ap (λ (look : Look). struck look byte) (plain_if (nat_lt (code " ") byte))
+one_byte All byte Under none = absurd (false≢true (sym none))
 one_byte All byte Bold none = absurd (false≢true (sym none))
 
 -- where none shows as more, each cell is its byte
