@@ -1,12 +1,16 @@
 /* Formatting for programs in C: texts in buffers become pages in buffers, under limits.
  *
- * Link with libnulbiko.a (`rt lib` in crates/nulbiko makes crates/nulbiko/out/libnulbiko.a) and with the kit's
- * c/liblibc_c.a, which calls malloc, realloc and free; or with target/release/libnulbiko.a of what tools/plain
- * writes, which needs no other. tools/try-embed shows both.
+ *     cc page.c $(pkg-config --cflags --libs nulbiko)
+ *
+ * The library comes with the package, and from the workspace that tools/plain writes: target/release/libnulbiko.so and
+ * libnulbiko.a. Over the library that is proved (`rt lib` in crates/nulbiko) include/nulbiko.c has these calls.
  *
  * Shapes. A text is a pointer and a count of bytes; it may be 0 and 0. Nothing ends with a byte 0. No text may
  * overlap another or a struct. An output is written from its front; what lies behind the bytes that are
  * reported is left as it was.
+ *
+ * Structs begin with their `size`, which the caller sets to sizeof: the macros below do. A library that is newer takes what an
+ * older struct has not as it was before; one that is older refuses a struct that it doesn't know, with NULBIKO_OUT_OF_RANGE.
  *
  * Units. Lengths, and places in a text, are bytes. Cells are columns of the terminal.
  *
@@ -14,7 +18,7 @@
  * signal handlers, since a call allocates.
  *
  * Memory. A call takes what its limits say and room for the output, and gives all of it back. It writes no file,
- * reads none, and prints nothing.
+ * reads none, prints nothing, ends no process and keeps nothing.
  *
  * Time. Every call ends. `moves` is how many moves or steps it made; nulbiko_tbl counts none. nulbiko_format makes at most
  * as many as the limit `moves` says, and at most 256 * (expansions + 1) * (stored + cells + depth + 4) for each byte of the
@@ -28,6 +32,10 @@
 #include <stddef.h>
 #include <stdint.h>
 
+/* The version of this header: 10000 times the first number, 100 times the second, and the third. */
+#define NULBIKO_VERSION "0.2.0"
+#define NULBIKO_VERSION_NUMBER 200
+
 #ifdef __cplusplus
 extern "C" {
 #endif
@@ -37,7 +45,7 @@ enum nulbiko_outcome {
     NULBIKO_DONE = 0,          /* All went into the output. */
     NULBIKO_LIMIT = 1,         /* The next move would pass the limit `limit`, behind `at` bytes of the text; the
                                 * output has the pages that had ended. */
-    NULBIKO_OUT_OF_RANGE = 2,  /* A limit is outside its range, or no table has the number. */
+    NULBIKO_OUT_OF_RANGE = 2,  /* A limit or a size is outside its range, or no table has the number. */
     NULBIKO_NULL = 3,          /* A pointer is null: of a text that has bytes, or of a struct. */
     NULBIKO_FULL = 4,          /* The output is too small: it has what fits. Call again with a larger one; there is
                                 * no call that goes on where this one stopped. */
@@ -79,8 +87,9 @@ enum nulbiko_table {
     NULBIKO_LATIN1 = 5 /* Latin-1 at its own bytes: for a program that prints it as it is. */
 };
 
-/* What a text may cost. nroff's own: 262144, 256, 65536, 1000000, UINT64_MAX. */
+/* What a text may cost. */
 struct nulbiko_limits {
+    size_t size;
     uint64_t stored;     /* Bytes stored: texts under names, registers, traps, open levels. 64 to 2^24. */
     uint64_t depth;      /* Open levels of the input. 1 to 4096. */
     uint64_t cells;      /* Cells of a line, and of a page. 1 to 2^24. */
@@ -88,15 +97,23 @@ struct nulbiko_limits {
     uint64_t moves;      /* All moves: a byte of text is two. 64 to 2^64 - 1, which takes thousands of years. */
 };
 
+/* nroff's own limits, and those for a stranger's page, which ends after seconds. */
+#define NULBIKO_LIMITS {sizeof(struct nulbiko_limits), 262144, 256, 65536, 1000000, UINT64_MAX}
+#define NULBIKO_LIMITS_OF_STRANGERS {sizeof(struct nulbiko_limits), 262144, 64, 65536, 10000, 100000000}
+
 struct nulbiko_options {
+    size_t size;
     int64_t first; /* The number of the first page, 1 where it is nothing else. One outside -2147483647 to
                     * 2147483647 sets nothing. */
     bool bold;     /* Each cell but a blank is shown as it looks: underlined as `_`, a backspace and itself, bold as
                     * itself, a backspace and itself. Else letters and digits of ASCII are underlined alone. */
 };
 
+#define NULBIKO_OPTIONS {sizeof(struct nulbiko_options), 1}
+
 /* What a call tells beside its outcome. */
 struct nulbiko_report {
+    size_t size;
     size_t written; /* Bytes at the front of the output. */
     uint64_t at;    /* The place in the text of what `limit` tells: of nulbiko_format how many bytes had been
                      * taken, of nulbiko_tbl the line, counted from 1. */
@@ -105,103 +122,47 @@ struct nulbiko_report {
     uint64_t dropped; /* Of nulbiko_utf8: bytes that are no character, which became nothing. Else 0. */
 };
 
-/* The calls of the library. No pointer may be null: call those below, which see to that. */
-uint32_t nulbiko_format_lent(const struct nulbiko_limits *limits, const struct nulbiko_options *options,
-                             const uint8_t *input, size_t length, uint8_t *output, size_t capacity,
-                             struct nulbiko_report *report);
-uint32_t nulbiko_preconv_lent(uint32_t table, const uint8_t *input, size_t length, uint8_t *output,
-                              size_t capacity, struct nulbiko_report *report);
-uint32_t nulbiko_mdoc_lent(const uint8_t *input, size_t length, uint8_t *output, size_t capacity,
-                           struct nulbiko_report *report);
-uint32_t nulbiko_tbl_lent(uint32_t table, size_t line, const uint8_t *input, size_t length, uint8_t *output,
-                          size_t capacity, struct nulbiko_report *report);
-uint32_t nulbiko_utf8_lent(uint32_t table, bool escapes, const uint8_t *input, size_t length, uint8_t *output,
-                           size_t capacity, struct nulbiko_report *report);
-uint32_t nulbiko_choose_lent(const uint8_t *input, size_t length);
+#define NULBIKO_REPORT {sizeof(struct nulbiko_report), 0, 0, 0, 0, 0}
 
-/* Nothing is told. */
-static inline enum nulbiko_outcome nulbiko_null(struct nulbiko_report *report)
-{
-    const struct nulbiko_report nothing = {0, 0, 0, 0, 0};
-    if (report)
-        *report = nothing;
-    return NULBIKO_NULL;
-}
-
-/* Formats a text, as nroff does. Macro files stand at its front: it opens no file. */
-static inline enum nulbiko_outcome nulbiko_format(const struct nulbiko_limits *limits,
-                                                  const struct nulbiko_options *options, const void *input,
-                                                  size_t length, void *output, size_t capacity,
-                                                  struct nulbiko_report *report)
-{
-    uint8_t none = 0;
-    if (!limits || !options || !report || (!input && length) || (!output && capacity))
-        return nulbiko_null(report);
-    return (enum nulbiko_outcome)nulbiko_format_lent(limits, options, input ? (const uint8_t *)input : &none,
-                                                     length, output ? (uint8_t *)output : &none, capacity, report);
-}
-
-/* Turns what manual pages use into the language of nulbiko_format, as preconv does. Characters of the table become its
- * bytes, which nulbiko_utf8 turns back with the same table. */
-static inline enum nulbiko_outcome nulbiko_preconv(enum nulbiko_table table, const void *input, size_t length,
-                                                   void *output, size_t capacity, struct nulbiko_report *report)
-{
-    uint8_t none = 0;
-    if (!report || (!input && length) || (!output && capacity))
-        return nulbiko_null(report);
-    return (enum nulbiko_outcome)nulbiko_preconv_lent((uint32_t)table, input ? (const uint8_t *)input : &none, length,
-                                                      output ? (uint8_t *)output : &none, capacity, report);
-}
+/* The table that a page takes, by its first 65,536 bytes: never NULBIKO_LATIN1. NULBIKO_NO_TABLE where malloc gave no
+ * memory, or the pointer of a text that has bytes is null. */
+enum nulbiko_table nulbiko_choose(const void *input, size_t length);
 
 /* Turns a page of mdoc(7) into one of man(7), as mdoc does, and leaves any other text as it is. It stands before
  * preconv. */
-static inline enum nulbiko_outcome nulbiko_mdoc(const void *input, size_t length, void *output, size_t capacity,
-                                                struct nulbiko_report *report)
-{
-    uint8_t none = 0;
-    if (!report || (!input && length) || (!output && capacity))
-        return nulbiko_null(report);
-    return (enum nulbiko_outcome)nulbiko_mdoc_lent(input ? (const uint8_t *)input : &none, length,
-                                                   output ? (uint8_t *)output : &none, capacity, report);
-}
+enum nulbiko_outcome nulbiko_mdoc(const void *input, size_t length, void *output, size_t capacity,
+                                  struct nulbiko_report *report);
+
+/* Turns what manual pages use into the language of nulbiko_format, as preconv does. Characters of the table become its
+ * bytes, which nulbiko_utf8 turns back with the same table. */
+enum nulbiko_outcome nulbiko_preconv(enum nulbiko_table table, const void *input, size_t length, void *output,
+                                     size_t capacity, struct nulbiko_report *report);
 
 /* Turns tables into the language of nulbiko_format, as tbl does, for a line of so many cells. Boxes are drawn with the
  * characters of the table, where it has them: give it that of nulbiko_preconv. What is wrong with one is told, and
  * changes no outcome. */
-static inline enum nulbiko_outcome nulbiko_tbl(enum nulbiko_table table, size_t line, const void *input,
-                                               size_t length, void *output, size_t capacity,
-                                               struct nulbiko_report *report)
-{
-    uint8_t none = 0;
-    if (!report || (!input && length) || (!output && capacity))
-        return nulbiko_null(report);
-    return (enum nulbiko_outcome)nulbiko_tbl_lent((uint32_t)table, line, input ? (const uint8_t *)input : &none,
-                                                  length, output ? (uint8_t *)output : &none, capacity, report);
-}
+enum nulbiko_outcome nulbiko_tbl(enum nulbiko_table table, size_t line, const void *input, size_t length, void *output,
+                                 size_t capacity, struct nulbiko_report *report);
+
+/* Formats a text, as nroff does. Macro files stand at its front: it opens no file. */
+enum nulbiko_outcome nulbiko_format(const struct nulbiko_limits *limits, const struct nulbiko_options *options,
+                                    const void *input, size_t length, void *output, size_t capacity,
+                                    struct nulbiko_report *report);
 
 /* Turns bytes of a table into its characters, in UTF-8, behind nulbiko_format, as utf8 does. With `escapes` underlined
  * text stands between the terminal's escape sequences, and else behind `_` and a backspace. Whatever comes, no other
  * control character goes out but newline. NULBIKO_NO_TABLE is out of range. */
-static inline enum nulbiko_outcome nulbiko_utf8(enum nulbiko_table table, bool escapes, const void *input,
-                                                size_t length, void *output, size_t capacity,
-                                                struct nulbiko_report *report)
-{
-    uint8_t none = 0;
-    if (!report || (!input && length) || (!output && capacity))
-        return nulbiko_null(report);
-    return (enum nulbiko_outcome)nulbiko_utf8_lent((uint32_t)table, escapes, input ? (const uint8_t *)input : &none,
-                                                   length, output ? (uint8_t *)output : &none, capacity, report);
-}
+enum nulbiko_outcome nulbiko_utf8(enum nulbiko_table table, bool escapes, const void *input, size_t length, void *output,
+                                  size_t capacity, struct nulbiko_report *report);
 
-/* The table that a page takes, by its first 65,536 bytes: never NULBIKO_LATIN1. NULBIKO_NO_TABLE where malloc gave no
- * memory, or the pointer of a text that has bytes is null. */
-static inline enum nulbiko_table nulbiko_choose(const void *input, size_t length)
-{
-    uint8_t none = 0;
-    if (!input && length)
-        return NULBIKO_NO_TABLE;
-    return (enum nulbiko_table)nulbiko_choose_lent(input ? (const uint8_t *)input : &none, length);
-}
+/* The version of the library, as NULBIKO_VERSION is that of the header. */
+const char *nulbiko_version(void);
+
+/* The name of an outcome, of a limit and of what is wrong with a table, for a line that somebody reads. Never null: of a
+ * number that is none `unknown`. */
+const char *nulbiko_outcome_name(uint32_t outcome);
+const char *nulbiko_limit_name(uint32_t limit);
+const char *nulbiko_wrong_name(uint32_t wrong);
 
 #ifdef __cplusplus
 }

@@ -1,8 +1,9 @@
 /* Formats a stranger's manual page under limits, to standard output in UTF-8, and tells how it went.
  *
- *   page TMAC PAGE
+ *   cc -o page page.c $(pkg-config --cflags --libs nulbiko)
+ *   ./page TMAC PAGE
  *
- * TMAC is the macro file, tmac/tmac.an. The status is that of the first call that didn't do all.
+ * TMAC is the macro file, tmac/tmac.an, which is installed as share/nroff/tmac/tmac.an. The status is that of the first call that didn't do all.
  */
 #include "nulbiko.h"
 #include <stdio.h>
@@ -10,12 +11,6 @@
 
 /* The most bytes of a file, and of what a call puts out. */
 enum { MOST = 1 << 23 };
-
-static const char *const outcomes[] = {
-    "done", "a limit would be passed", "a limit is out of range", "a pointer is null",
-    "the output is too small", "out of memory", "the text is too long",
-};
-static const char *const limits_told[] = {"", "stored bytes", "input depth", "line cells", "page cells", "expansions", "moves"};
 
 struct text {
     char *bytes;
@@ -47,9 +42,9 @@ static void judge(const char *call, enum nulbiko_outcome outcome, const struct n
 {
     if (outcome == NULBIKO_DONE)
         return;
-    fprintf(stderr, "%s: %s", call, outcomes[outcome]);
+    fprintf(stderr, "%s: %s", call, nulbiko_outcome_name(outcome));
     if (outcome == NULBIKO_LIMIT)
-        fprintf(stderr, ": %s, at byte %llu", limits_told[report->limit], (unsigned long long)report->at);
+        fprintf(stderr, ": %s, at byte %llu", nulbiko_limit_name(report->limit), (unsigned long long)report->at);
     fprintf(stderr, " (%zu bytes out, %llu moves)\n", report->written, (unsigned long long)report->moves);
     exit((int)outcome);
 }
@@ -58,9 +53,9 @@ int main(int count, char **words)
 {
     if (count != 3)
         return 2;
-    const struct nulbiko_limits limits = {262144, 64, 65536, 1000000, 100000000};
-    const struct nulbiko_options options = {1, false};
-    struct nulbiko_report report = {0}, shown = {0};
+    const struct nulbiko_limits limits = NULBIKO_LIMITS_OF_STRANGERS;
+    const struct nulbiko_options options = NULBIKO_OPTIONS;
+    struct nulbiko_report report = NULBIKO_REPORT, shown = NULBIKO_REPORT;
     struct text page = empty(), man = empty(), turned = empty(), whole = empty(), pages = empty(), out = empty();
 
     add_file(&page, words[2]);
@@ -69,6 +64,7 @@ int main(int count, char **words)
     judge("preconv", nulbiko_preconv(table, man.bytes, report.written, turned.bytes, MOST, &report), &report);
     whole.length = (size_t)sprintf(whole.bytes, ".nr C 1\n.nr L 78\n"); /* one long page, 78 cells wide */
     add_file(&whole, words[1]);
+    const size_t before = whole.length;
     char *behind = whole.bytes + whole.length;
     judge("tbl", nulbiko_tbl(table, 78, turned.bytes, report.written, behind, MOST - whole.length, &report), &report);
     whole.length += report.written;
@@ -76,5 +72,6 @@ int main(int count, char **words)
         nulbiko_format(&limits, &options, whole.bytes, whole.length, pages.bytes, MOST, &report);
     judge("utf8", nulbiko_utf8(table, false, pages.bytes, report.written, out.bytes, MOST, &shown), &shown);
     fwrite(out.bytes, 1, shown.written, stdout);
+    report.at -= report.at < before ? report.at : before; /* the place in the page, as tbl made it */
     judge("nroff", outcome, &report);
 }

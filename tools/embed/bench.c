@@ -14,8 +14,8 @@
 
 enum { MOST = 1 << 23 };
 
-static const struct nulbiko_limits limits = {262144, 64, 65536, 1000000, 100000000};
-static const struct nulbiko_options options = {1, false};
+static const struct nulbiko_limits limits = NULBIKO_LIMITS_OF_STRANGERS;
+static const struct nulbiko_options options = NULBIKO_OPTIONS;
 static char head[1 << 20];
 static size_t head_length;
 static char **pages;
@@ -48,7 +48,7 @@ static size_t read_file(const char *name, char *bytes, size_t most)
 
 static enum nulbiko_outcome format_page(const char *name, struct buffers *b)
 {
-    struct nulbiko_report report;
+    struct nulbiko_report report = NULBIKO_REPORT;
     size_t length = read_file(name, b->page, MOST);
     enum nulbiko_outcome outcome = nulbiko_preconv(NULBIKO_NO_TABLE, b->page, length, b->turned, MOST, &report);
     if (outcome != NULBIKO_DONE)

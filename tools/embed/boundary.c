@@ -4,6 +4,8 @@
 #include <string.h>
 #include <sys/resource.h>
 
+enum { SIZE = sizeof(struct nulbiko_limits) };
+
 static int passed, failed;
 
 static void judge(const char *what, bool good)
@@ -16,8 +18,8 @@ static void judge(const char *what, bool good)
     }
 }
 
-static const struct nulbiko_limits plain = {262144, 256, 65536, 1000000, UINT64_MAX};
-static const struct nulbiko_options options = {1, false};
+static const struct nulbiko_limits plain = NULBIKO_LIMITS;
+static const struct nulbiko_options options = NULBIKO_OPTIONS;
 static const char text[] = ".pl 1\na\n.br\nb\n.br\n";
 static struct nulbiko_report report;
 static char out[1 << 16];
@@ -28,13 +30,24 @@ static bool nothing_done(void)
     for (size_t i = 0; i < sizeof out; i++)
         if (out[i] != '#')
             return false;
-    return !report.written && !report.at && !report.moves && !report.limit && !report.dropped;
+    return report.size == sizeof report && !report.written && !report.at && !report.moves && !report.limit && !report.dropped;
+}
+
+/* The report is as it was prepared, behind its size. */
+static bool report_untouched(void)
+{
+    const unsigned char *bytes = (const unsigned char *)&report;
+    for (size_t i = sizeof report.size; i < sizeof report; i++)
+        if (bytes[i] != 0x5a)
+            return false;
+    return true;
 }
 
 static void prepare(void)
 {
     memset(out, '#', sizeof out);
     memset(&report, 0x5a, sizeof report);
+    report.size = sizeof report;
 }
 
 /* What went out is this and nothing behind it. */
@@ -98,10 +111,10 @@ static void null_pointers(void)
 static void ranges(void)
 {
     const struct nulbiko_limits bad[] = {
-        {63, 256, 65536, 1, 64},    {64, 0, 65536, 1, 64}, {64, 256, 0, 1, 64}, {64, 256, 65536, 0, 64},
-        {16777217, 256, 65536, 1, 64}, {64, 4097, 65536, 1, 64}, {64, 256, 16777217, 1, 64},
-        {64, 256, 65536, 4294967297, 64}, {64, 256, 65536, 1, 63}, {64, 256, 65536, 1, 0},
-        {UINT64_MAX, UINT64_MAX, UINT64_MAX, UINT64_MAX, UINT64_MAX},
+        {SIZE, 63, 256, 65536, 1, 64},    {SIZE, 64, 0, 65536, 1, 64}, {SIZE, 64, 256, 0, 1, 64}, {SIZE, 64, 256, 65536, 0, 64},
+        {SIZE, 16777217, 256, 65536, 1, 64}, {SIZE, 64, 4097, 65536, 1, 64}, {SIZE, 64, 256, 16777217, 1, 64},
+        {SIZE, 64, 256, 65536, 4294967297, 64}, {SIZE, 64, 256, 65536, 1, 63}, {SIZE, 64, 256, 65536, 1, 0},
+        {SIZE, UINT64_MAX, UINT64_MAX, UINT64_MAX, UINT64_MAX, UINT64_MAX},
     };
     for (size_t i = 0; i < sizeof bad / sizeof *bad; i++)
         judge("format: a limit out of range", format(&bad[i], text, sizeof out) == NULBIKO_OUT_OF_RANGE && nothing_done());
@@ -117,8 +130,47 @@ static void ranges(void)
     prepare();
     judge("tbl: no such table", nulbiko_tbl((enum nulbiko_table)6, 78, text, sizeof text, out, sizeof out, &report) ==
                                     NULBIKO_OUT_OF_RANGE && nothing_done());
-    const struct nulbiko_limits least = {64, 1, 1, 1, 64};
+    const struct nulbiko_limits least = {SIZE, 64, 1, 1, 1, 64};
     judge("format: the least limits", format(&least, text, sizeof out) != NULBIKO_OUT_OF_RANGE);
+}
+
+/* A struct of another size is refused. */
+static void sizes(void)
+{
+    struct nulbiko_limits limits = plain;
+    const size_t others[] = {0, SIZE - 8, SIZE + 8, SIZE_MAX};
+    for (size_t i = 0; i < sizeof others / sizeof *others; i++) {
+        limits.size = others[i];
+        judge("format: limits of another size", format(&limits, text, sizeof out) == NULBIKO_OUT_OF_RANGE && nothing_done());
+        const struct nulbiko_options other = {others[i], 1};
+        prepare();
+        judge("format: options of another size",
+              nulbiko_format(&plain, &other, text, strlen(text), out, sizeof out, &report) == NULBIKO_OUT_OF_RANGE && nothing_done());
+        prepare();
+        report.size = others[i];
+        bool refused = nulbiko_mdoc(text, strlen(text), out, sizeof out, &report) == NULBIKO_OUT_OF_RANGE && report_untouched();
+        report.size = others[i] == sizeof report ? 0 : sizeof report;
+        judge("mdoc: a report of another size", others[i] == sizeof report || refused);
+    }
+}
+
+static bool are_names(const char *(*name)(uint32_t), uint32_t count, const char *last)
+{
+    for (uint32_t i = 0; i < count; i++)
+        if (!strcmp(name(i), "unknown") || (i && !strcmp(name(i), name(i - 1))))
+            return false;
+    return !strcmp(name(count - 1), last) && !strcmp(name(count), "unknown") && !strcmp(name(UINT32_MAX), "unknown");
+}
+
+static void names(void)
+{
+    int major, minor, patch;
+    judge("version: that of the header", !strcmp(nulbiko_version(), NULBIKO_VERSION));
+    judge("version: its number", sscanf(NULBIKO_VERSION, "%d.%d.%d", &major, &minor, &patch) == 3 &&
+                                     10000 * major + 100 * minor + patch == NULBIKO_VERSION_NUMBER);
+    judge("names of outcomes", are_names(nulbiko_outcome_name, NULBIKO_TOO_LONG + 1, "text too long"));
+    judge("names of limits", are_names(nulbiko_limit_name, NULBIKO_MOVES + 1, "moves"));
+    judge("names of what is wrong", are_names(nulbiko_wrong_name, NULBIKO_TOO_WIDE + 1, "table wider than the line"));
 }
 
 static void outcomes(void)
@@ -127,20 +179,16 @@ static void outcomes(void)
     judge("format: just enough room", format(&plain, text, 4) == NULBIKO_DONE && put_out("a\nb\n"));
     judge("format: full", format(&plain, text, 3) == NULBIKO_FULL && put_out("a\nb"));
     judge("format: full at once", format(&plain, text, 0) == NULBIKO_FULL && put_out(""));
-    const struct nulbiko_limits narrow = {64, 1, 6, 1, UINT64_MAX};
+    const struct nulbiko_limits narrow = {SIZE, 64, 1, 6, 1, UINT64_MAX};
     judge("format: a limit", format(&narrow, "longword\n", sizeof out) == NULBIKO_LIMIT && put_out("") &&
                                  report.limit == NULBIKO_LINE_CELLS && report.at == 7);
-    const struct nulbiko_limits few = {262144, 256, 65536, 1000000, 64};
+    const struct nulbiko_limits few = {SIZE, 262144, 256, 65536, 1000000, 64};
     judge("format: a limit of all moves", format(&few, ".ds a bbbbbbbbbbbbbbbbbbbbbbbbbbbbbbbbbbbbbbbb\n", sizeof out) == NULBIKO_LIMIT &&
                                               put_out("") && report.limit == NULBIKO_MOVES && report.moves == 64 && report.at == 32);
-    const struct nulbiko_options fifth = {5};
+    const struct nulbiko_options fifth = {sizeof fifth, 5};
     prepare();
     judge("format: the first page's number",
           nulbiko_format(&plain, &fifth, "\\n%\n", 4, out, 1, &report) == NULBIKO_FULL && put_out("5"));
-    const struct nulbiko_options bold = {1, true};
-    prepare();
-    judge("format: bold",
-          nulbiko_format(&plain, &bold, ".pl 1\n\\fBa\n", 11, out, sizeof out, &report) == NULBIKO_DONE && put_out("a\ba\n"));
     prepare();
     judge("preconv: a character", nulbiko_preconv(NULBIKO_NO_TABLE, "\xe2\x80\x94\n", 4, out, sizeof out, &report) == NULBIKO_DONE &&
                                       put_out("\\(em\n"));
@@ -190,7 +238,7 @@ static void outcomes(void)
 /* Last, since it takes the program's memory away. */
 static void no_memory(void)
 {
-    const struct nulbiko_limits large = {16777216, 4096, 16777216, 1, UINT64_MAX};
+    const struct nulbiko_limits large = {SIZE, 16777216, 4096, 16777216, 1, UINT64_MAX};
     struct rlimit most = {1 << 25, 1 << 25};
     setrlimit(RLIMIT_AS, &most);
     judge("format: out of memory", format(&large, text, sizeof out) == NULBIKO_OUT_OF_MEMORY && nothing_done());
@@ -201,6 +249,8 @@ int main(void)
 {
     null_pointers();
     ranges();
+    sizes();
+    names();
     outcomes();
     no_memory();
     printf("boundary: %d passed, %d failed\n", passed, failed);

@@ -29,6 +29,11 @@ pub mod prelude {
     pub use crate::vec::Vec;
 }
 
+/// A bound, or the greatest that the machine's words leave room for one more.
+pub const fn most(bound: u64) -> usize {
+    if bound < usize::MAX as u64 { bound as usize } else { usize::MAX - 1 }
+}
+
 /// A vector of as many copies of a value, or `AllocError`.
 #[macro_export]
 macro_rules! vec {

@@ -7,6 +7,7 @@ use crate::io::{Read, Result, Write};
 use std::ffi::{CStr, c_char};
 use std::fs::File;
 use std::mem::ManuallyDrop;
+#[cfg(unix)]
 use std::os::fd::FromRawFd;
 
 /// Where words come from.
@@ -87,9 +88,16 @@ impl Files for HostRuntime {
 pub struct Stream(i32);
 
 impl Stream {
+    #[cfg(unix)]
     fn file(self) -> ManuallyDrop<File> {
         // Sound: the descriptor is never closed.
         ManuallyDrop::new(unsafe { File::from_raw_fd(self.0) })
+    }
+
+    /// Only programs have streams, and libraries alone are built for other systems.
+    #[cfg(not(unix))]
+    fn file(self) -> ManuallyDrop<File> {
+        unreachable!()
     }
 }
 

@@ -1,0 +1,176 @@
+/* The calls of nulbiko.h over the library that is proved: what C passes is looked at here, since those calls may not get a
+ * null pointer. Compile it and link it before libnulbiko.a of crates/nulbiko. The workspace that tools/plain writes has the
+ * same in crates/nulbiko_c. */
+#include "nulbiko.h"
+
+/* The structs of the calls that are proved. */
+struct limits {
+    uint64_t stored, depth, cells, expansions, moves;
+};
+
+struct options {
+    int64_t first;
+};
+
+struct told {
+    size_t written;
+    uint64_t at, moves;
+    uint32_t limit;
+    uint64_t dropped;
+};
+
+uint32_t nulbiko_format_lent(const struct limits *limits, const struct options *options, const uint8_t *input,
+                             size_t length, uint8_t *output, size_t capacity, struct told *told);
+uint32_t nulbiko_preconv_lent(uint32_t table, const uint8_t *input, size_t length, uint8_t *output, size_t capacity,
+                              struct told *told);
+uint32_t nulbiko_mdoc_lent(const uint8_t *input, size_t length, uint8_t *output, size_t capacity, struct told *told);
+uint32_t nulbiko_tbl_lent(uint32_t table, size_t line, const uint8_t *input, size_t length, uint8_t *output,
+                          size_t capacity, struct told *told);
+uint32_t nulbiko_utf8_lent(uint32_t table, bool escapes, const uint8_t *input, size_t length, uint8_t *output,
+                           size_t capacity, struct told *told);
+uint32_t nulbiko_choose_lent(const uint8_t *input, size_t length);
+
+/* What a call passes, after it was looked at: no pointer is null. */
+struct passed {
+    const uint8_t *input;
+    uint8_t *output;
+    uint8_t none;
+};
+
+/* Looks at what a call passes; NULBIKO_DONE where it may be made. */
+static enum nulbiko_outcome look(struct passed *passed, const void *input, size_t length, void *output, size_t capacity,
+                                 struct nulbiko_report *report)
+{
+    const struct nulbiko_report nothing = NULBIKO_REPORT;
+    if (!report)
+        return NULBIKO_NULL;
+    if (report->size != sizeof *report)
+        return NULBIKO_OUT_OF_RANGE;
+    *report = nothing;
+    if ((!input && length) || (!output && capacity))
+        return NULBIKO_NULL;
+    passed->none = 0;
+    passed->input = input ? (const uint8_t *)input : &passed->none;
+    passed->output = output ? (uint8_t *)output : &passed->none;
+    return NULBIKO_DONE;
+}
+
+/* Reports what a call told. */
+static enum nulbiko_outcome ended(uint32_t outcome, const struct told *told, struct nulbiko_report *report)
+{
+    report->written = told->written;
+    report->at = told->at;
+    report->moves = told->moves;
+    report->limit = told->limit;
+    report->dropped = told->dropped;
+    return (enum nulbiko_outcome)outcome;
+}
+
+enum nulbiko_outcome nulbiko_format(const struct nulbiko_limits *limits, const struct nulbiko_options *options,
+                                    const void *input, size_t length, void *output, size_t capacity,
+                                    struct nulbiko_report *report)
+{
+    struct passed passed;
+    struct told told;
+    enum nulbiko_outcome looked = look(&passed, input, length, output, capacity, report);
+    if (looked != NULBIKO_DONE)
+        return looked;
+    if (!limits || !options)
+        return NULBIKO_NULL;
+    if (limits->size != sizeof *limits || options->size != sizeof *options)
+        return NULBIKO_OUT_OF_RANGE;
+    const struct limits most = {limits->stored, limits->depth, limits->cells, limits->expansions, limits->moves};
+    const struct options asked = {options->first};
+    uint32_t outcome = nulbiko_format_lent(&most, &asked, passed.input, length, passed.output, capacity, &told);
+    return ended(outcome, &told, report);
+}
+
+enum nulbiko_outcome nulbiko_preconv(enum nulbiko_table table, const void *input, size_t length, void *output,
+                                     size_t capacity, struct nulbiko_report *report)
+{
+    struct passed passed;
+    struct told told;
+    enum nulbiko_outcome looked = look(&passed, input, length, output, capacity, report);
+    if (looked != NULBIKO_DONE)
+        return looked;
+    uint32_t outcome = nulbiko_preconv_lent((uint32_t)table, passed.input, length, passed.output, capacity, &told);
+    return ended(outcome, &told, report);
+}
+
+enum nulbiko_outcome nulbiko_mdoc(const void *input, size_t length, void *output, size_t capacity,
+                                  struct nulbiko_report *report)
+{
+    struct passed passed;
+    struct told told;
+    enum nulbiko_outcome looked = look(&passed, input, length, output, capacity, report);
+    if (looked != NULBIKO_DONE)
+        return looked;
+    return ended(nulbiko_mdoc_lent(passed.input, length, passed.output, capacity, &told), &told, report);
+}
+
+enum nulbiko_outcome nulbiko_tbl(enum nulbiko_table table, size_t line, const void *input, size_t length, void *output,
+                                 size_t capacity, struct nulbiko_report *report)
+{
+    struct passed passed;
+    struct told told;
+    enum nulbiko_outcome looked = look(&passed, input, length, output, capacity, report);
+    if (looked != NULBIKO_DONE)
+        return looked;
+    uint32_t outcome = nulbiko_tbl_lent((uint32_t)table, line, passed.input, length, passed.output, capacity, &told);
+    return ended(outcome, &told, report);
+}
+
+enum nulbiko_outcome nulbiko_utf8(enum nulbiko_table table, bool escapes, const void *input, size_t length, void *output,
+                                  size_t capacity, struct nulbiko_report *report)
+{
+    struct passed passed;
+    struct told told;
+    enum nulbiko_outcome looked = look(&passed, input, length, output, capacity, report);
+    if (looked != NULBIKO_DONE)
+        return looked;
+    uint32_t outcome = nulbiko_utf8_lent((uint32_t)table, escapes, passed.input, length, passed.output, capacity, &told);
+    return ended(outcome, &told, report);
+}
+
+enum nulbiko_table nulbiko_choose(const void *input, size_t length)
+{
+    const uint8_t none = 0;
+    if (!input && length)
+        return NULBIKO_NO_TABLE;
+    return (enum nulbiko_table)nulbiko_choose_lent(input ? (const uint8_t *)input : &none, length);
+}
+
+const char *nulbiko_version(void)
+{
+    return NULBIKO_VERSION;
+}
+
+const char *nulbiko_outcome_name(uint32_t outcome)
+{
+    static const char *const names[] = {"done",        "limit passed",  "out of range", "null pointer",
+                                        "output full", "out of memory", "text too long"};
+    return outcome < sizeof names / sizeof *names ? names[outcome] : "unknown";
+}
+
+const char *nulbiko_limit_name(uint32_t limit)
+{
+    static const char *const names[] = {"none",       "stored bytes", "input depth", "line cells",
+                                        "page cells", "expansions",   "moves"};
+    return limit < sizeof names / sizeof *names ? names[limit] : "unknown";
+}
+
+const char *nulbiko_wrong_name(uint32_t wrong)
+{
+    static const char *const names[] = {"none",
+                                        "table without a format",
+                                        "bad format",
+                                        "unknown option",
+                                        "more fields than columns",
+                                        "text block without an end",
+                                        "table without an end",
+                                        "more than 64 columns",
+                                        "table formats limit passed",
+                                        "table row limit passed",
+                                        "table wider than the line"};
+    return wrong < sizeof names / sizeof *names ? names[wrong] : "unknown";
+}

@@ -1,0 +1,131 @@
+//! Calls over texts that are given and made.
+
+use crate::words::{Limit, Limits, Stopped, Table, Why, Wrong};
+use kit::alloc::Global;
+use nulbiko_lent::formatting::nulbiko_format_lent;
+use nulbiko_lent::mdoc::nulbiko_mdoc_lent;
+use nulbiko_lent::preconv::nulbiko_preconv_lent;
+use nulbiko_lent::tbl::nulbiko_tbl_lent;
+use nulbiko_lent::utf8::{nulbiko_choose_lent, nulbiko_utf8_lent};
+use nulbiko_lent::{Report, TextLimits, TextOptions};
+
+/// The most bytes that a call makes: 64 MiB.
+const MOST: usize = 1 << 26;
+
+const NOTHING: Report = Report { written: 0, at: 0, moves: 0, limit: 0, dropped: 0 };
+const FULL: u32 = 4;
+
+/// What a call made.
+#[derive(Clone, Debug, PartialEq, Eq)]
+#[non_exhaustive]
+pub struct Made {
+    /// The text that came out.
+    pub bytes: Vec<u8>,
+    /// Moves or steps that were made; [`tbl`] counts none.
+    pub moves: u64,
+    /// Of [`tbl`]: what was wrong first, and on which line, counted from 1.
+    pub wrong: Option<(Wrong, u64)>,
+    /// Of [`utf8`]: bytes that are no character, which became nothing.
+    pub dropped: u64,
+}
+
+/// Calls with an output that is doubled as long as it is too small.
+fn made(
+    call: &'static str,
+    text: &[u8],
+    mut run: impl FnMut(&mut [u8], &mut Report) -> u32,
+) -> Result<(Vec<u8>, Report), Stopped> {
+    let mut capacity = text.len().saturating_mul(2).saturating_add(8192).min(MOST);
+    loop {
+        let mut bytes = Vec::new();
+        if bytes.try_reserve_exact(capacity).is_err() {
+            return Err(Stopped { call, why: Why::OutOfMemory, bytes });
+        }
+        bytes.resize(capacity, 0);
+        let mut report = NOTHING;
+        let outcome = run(&mut bytes, &mut report);
+        if outcome == FULL && capacity < MOST {
+            capacity = (2 * capacity).min(MOST);
+            continue;
+        }
+        bytes.truncate(report.written);
+        return match outcome {
+            0 => Ok((bytes, report)),
+            1 => Err(Stopped { call, why: Why::Limit(Limit::numbered(report.limit), report.at), bytes }),
+            FULL => Err(Stopped { call, why: Why::Full, bytes }),
+            5 => Err(Stopped { call, why: Why::OutOfMemory, bytes }),
+            6 => Err(Stopped { call, why: Why::TooLong, bytes }),
+            _ => Err(Stopped { call, why: Why::OutOfRange, bytes }),
+        };
+    }
+}
+
+/// What was made, where nothing of tables is told.
+fn plain((bytes, report): (Vec<u8>, Report)) -> Made {
+    Made { bytes, moves: report.moves, wrong: None, dropped: report.dropped }
+}
+
+/// The table that a page takes, by its first 65,536 bytes: never [`Table::Latin1`]. None where there was no memory.
+#[must_use]
+pub fn choose(text: &[u8]) -> Option<Table> {
+    Table::numbered(nulbiko_choose_lent(Global, text))
+}
+
+/// Turns a page of mdoc(7) into one of man(7), and leaves any other text as it is. It stands before [`preconv`].
+///
+/// # Errors
+///
+/// Where there isn't enough memory, or more than 64 MiB come out; so for all calls.
+pub fn mdoc(text: &[u8]) -> Result<Made, Stopped> {
+    made("mdoc", text, |output, report| nulbiko_mdoc_lent(Global, text, output, report)).map(plain)
+}
+
+/// Turns what manual pages use into the language of [`format()`]. Characters of the table become its bytes, which [`utf8`] turns
+/// back with the same table; without one all is spelled in ASCII.
+///
+/// # Errors
+///
+/// As [`mdoc()`].
+pub fn preconv(table: Option<Table>, text: &[u8]) -> Result<Made, Stopped> {
+    let number = table.map_or(0, |table| table as u32);
+    made("preconv", text, |output, report| nulbiko_preconv_lent(Global, number, text, output, report)).map(plain)
+}
+
+/// Turns tables into the language of [`format()`], for a line of so many cells. Boxes are drawn with the characters of the table,
+/// where it has them: give it that of [`preconv`]. What is wrong with a table is no error: [`Made::wrong`] tells it.
+///
+/// # Errors
+///
+/// As [`mdoc()`].
+pub fn tbl(table: Option<Table>, line: usize, text: &[u8]) -> Result<Made, Stopped> {
+    let number = table.map_or(0, |table| table as u32);
+    let (bytes, told) =
+        made("tbl", text, |output, report| nulbiko_tbl_lent(Global, number, line, text, output, report))?;
+    Ok(Made { bytes, moves: 0, wrong: Wrong::numbered(told.limit).map(|wrong| (wrong, told.at)), dropped: 0 })
+}
+
+/// Formats a text, as nroff does. Macro files, as [`MAN`](crate::MAN), stand at its front: it opens no file. The first page has
+/// this number.
+///
+/// # Errors
+///
+/// Where a limit would be passed, or is out of range, and as [`mdoc()`].
+pub fn format(limits: &Limits, first: i64, text: &[u8]) -> Result<Made, Stopped> {
+    let Limits { stored, depth, cells, expansions, moves } = *limits;
+    let limits = TextLimits { stored, depth, cells, expansions, moves };
+    let options = TextOptions { first };
+    made("format", text, |output, report| nulbiko_format_lent(Global, &limits, &options, text, output, report))
+        .map(plain)
+}
+
+/// Turns bytes of a table into its characters, in UTF-8, behind [`format()`]. With `escapes` underlined text stands between the
+/// terminal's escape sequences, and else behind `_` and a backspace. Whatever comes, no other control character goes out but
+/// newline.
+///
+/// # Errors
+///
+/// As [`mdoc()`].
+pub fn utf8(table: Table, escapes: bool, text: &[u8]) -> Result<Made, Stopped> {
+    made("utf8", text, |output, report| nulbiko_utf8_lent(Global, table as u32, escapes, text, output, report))
+        .map(plain)
+}

@@ -1,0 +1,35 @@
+//! Manual pages, papers and tables as text for a terminal, under limits: what a text can cost is bounded, and where a limit
+//! would be passed the run ends with what was whole before, and says where.
+//!
+//! ```
+//! let page = nulbiko::page(b".TH HELLO 1\n.SH NAME\nhello \\- a page\n", 78)?;
+//! assert!(String::from_utf8(page).unwrap().contains("hello - a page"));
+//! # Ok::<(), nulbiko::Stopped>(())
+//! ```
+//!
+//! A stranger's text that never ends is stopped:
+//!
+//! ```
+//! use nulbiko::{Limit, Why};
+//!
+//! let stopped = nulbiko::page(b".de XX\n.XX\n..\n.XX\n", 78).unwrap_err();
+//! assert!(matches!(stopped.why, Why::Limit(Limit::Expansions, _)));
+//! ```
+//!
+//! [`page`] calls one after another what stands here by itself, as the programs of the same names do: [`choose`], [`mdoc()`],
+//! [`preconv`], [`tbl`], [`format()`] and [`utf8`]. All of them take a text and give another. They share nothing and keep
+//! nothing, open no file, print nothing, and never panic: any number may run at once.
+//!
+//! The code is that of Nulbiko's programs, without the contracts by which it is proved; `lent` is the library below, over
+//! buffers of a caller's.
+
+mod calls;
+mod page;
+mod words;
+
+pub use calls::{Made, choose, format, mdoc, preconv, tbl, utf8};
+pub use page::{MAN, WIDTHS, page, page_within};
+pub use words::{Limit, Limits, Stopped, Table, Why, Wrong};
+
+/// The version.
+pub const VERSION: &str = env!("CARGO_PKG_VERSION");

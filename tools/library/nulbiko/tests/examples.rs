@@ -1,0 +1,49 @@
+//! The examples of nroff, through the library: each input gives the pages that it must give.
+
+use nulbiko::{Limits, Stopped, Why};
+use std::fs;
+use std::path::{Path, PathBuf};
+
+fn folder() -> PathBuf {
+    Path::new(env!("CARGO_MANIFEST_DIR")).join("../../examples")
+}
+
+#[test]
+fn examples_give_their_pages() {
+    let names = fs::read_to_string(folder().join("examples")).expect("the list of examples");
+    let mut failed = Vec::new();
+    for name in names.split_whitespace() {
+        let text = fs::read(folder().join(format!("{name}.roff"))).expect("an input");
+        let pages = fs::read(folder().join(format!("{name}.out"))).expect("its pages");
+        match nulbiko::format(&Limits::PLAIN, 1, &text) {
+            Ok(made) if made.bytes == pages => {}
+            _ => failed.push(name),
+        }
+    }
+    assert!(failed.is_empty(), "other pages: {failed:?}");
+}
+
+#[test]
+fn a_page_is_stopped_at_its_limits() {
+    let page = b".TH A 1\n.SH NAME\na \\- b\n.de XX\n.XX\n..\n.XX\n";
+    let Err(Stopped { call: "format", why: Why::Limit(_, at), .. }) = nulbiko::page(page, 78) else {
+        panic!("it went on");
+    };
+    assert!(at > 0 && at <= page.len() as u64, "the place is {at}");
+}
+
+#[test]
+fn widths_are_looked_at() {
+    for width in [0, 9, 1001, usize::MAX] {
+        assert_eq!(nulbiko::page(b"a\n", width).unwrap_err().why, Why::OutOfRange);
+    }
+}
+
+#[test]
+fn any_bytes_give_a_page_or_stop() {
+    let all: Vec<u8> = (0..=255).collect();
+    for text in [&all[..], &[0xff; 300], b"", b".", b".TS\n", b"\\"] {
+        let page = nulbiko::page(text, 78).unwrap_or_else(|stopped| stopped.bytes);
+        assert!(String::from_utf8(page).is_ok());
+    }
+}

@@ -1,0 +1,79 @@
+//! The structs of include/nulbiko.h, each with its size in front.
+
+use nulbiko_lent::{Report as Told, TextLimits, TextOptions};
+
+/// Nothing is told.
+pub(crate) const NOTHING: Told = Told { written: 0, at: 0, moves: 0, limit: 0, dropped: 0 };
+
+/// What a text may cost.
+#[repr(C)]
+pub struct Limits {
+    size: usize,
+    stored: u64,
+    depth: u64,
+    cells: u64,
+    expansions: u64,
+    moves: u64,
+}
+
+impl Limits {
+    /// The limits that C passes, or none where their size isn't known.
+    ///
+    /// # Safety
+    ///
+    /// The pointer leads to as many bytes as stand there as size.
+    pub(crate) unsafe fn read(passed: *const Limits) -> Option<TextLimits> {
+        if unsafe { (&raw const (*passed).size).read() } != size_of::<Limits>() {
+            return None;
+        }
+        let Limits { stored, depth, cells, expansions, moves, .. } = unsafe { passed.read() };
+        Some(TextLimits { stored, depth, cells, expansions, moves })
+    }
+}
+
+/// What a run is given beside its text and its limits.
+#[repr(C)]
+pub struct Options {
+    size: usize,
+    first: i64,
+}
+
+impl Options {
+    /// The options that C passes, or none where their size isn't known.
+    ///
+    /// # Safety
+    ///
+    /// The pointer leads to as many bytes as stand there as size.
+    pub(crate) unsafe fn read(passed: *const Options) -> Option<TextOptions> {
+        if unsafe { (&raw const (*passed).size).read() } != size_of::<Options>() {
+            return None;
+        }
+        let Options { first, .. } = unsafe { passed.read() };
+        Some(TextOptions { first })
+    }
+}
+
+/// What a call tells.
+#[repr(C)]
+pub struct Report {
+    pub(crate) size: usize,
+    written: usize,
+    at: u64,
+    moves: u64,
+    limit: u32,
+    dropped: u64,
+}
+
+impl Report {
+    /// A report of what was told.
+    pub(crate) fn of(told: &Told) -> Report {
+        Report {
+            size: size_of::<Report>(),
+            written: told.written,
+            at: told.at,
+            moves: told.moves,
+            limit: told.limit,
+            dropped: told.dropped,
+        }
+    }
+}
