@@ -75,7 +75,8 @@ _LIBRARY = _library()
 
 
 def _macros():
-    for path in os.path.join(HERE, 'tmac.an'), '/usr/share/nroff/tmac/tmac.an', '/usr/local/share/nroff/tmac/tmac.an':
+    prefixes = os.environ.get('NULBIKO', '/usr/local'), '/usr'
+    for path in os.path.join(HERE, 'tmac.an'), *(os.path.join(prefix, 'share/nroff/tmac/tmac.an') for prefix in prefixes):
         if os.path.exists(path):
             with open(path, 'rb') as f:
                 return f.read()
@@ -88,7 +89,7 @@ MAN = _macros()
 
 def _made(name, first, text):
     """What a call makes of a text. An output that is too small is taken anew, twice as large."""
-    text = bytes(text)
+    text = bytes(memoryview(text))
     capacity = min(2 * len(text) + 8192, MOST)
     while True:
         output, report = ctypes.create_string_buffer(capacity), _Report(ctypes.sizeof(_Report))
@@ -110,7 +111,8 @@ def version():
 
 def choose(text):
     """The name of the table that a page takes, by its first 65,536 bytes; None where there is no memory."""
-    number = _LIBRARY.nulbiko_choose(bytes(text), len(text))
+    text = bytes(memoryview(text))
+    number = _LIBRARY.nulbiko_choose(text, len(text))
     return next(name for name in TABLES if TABLES[name] == number)
 
 
@@ -126,11 +128,21 @@ def preconv(text, table=None):
 
 def tbl(text, width=78, table=None):
     """Turns tables into the language of `format`, for a line of so many cells, as well as it can."""
+    if width < 0:
+        raise ValueError(f'width {width} is below 0')
     return _made('tbl', [TABLES[table], width], text)
 
 
 def format(text, limits=LIMITS, first=1):
-    """Formats a text, as nroff does. Macro files stand at its front; the first page has this number."""
+    """Formats a text, as nroff does. Macro files stand at its front; the first page has this number.
+
+    The limits are those of `LIMITS`, each with a number: {**nulbiko.LIMITS, 'moves': 10**8}.
+    """
+    if limits.keys() != LIMITS.keys():
+        raise TypeError(f'the limits are {", ".join(LIMITS)}, not {", ".join(limits)}')
+    for name, number, most in [*((name, limits[name], 2**64) for name in LIMITS), ('first', abs(first), 2**31)]:
+        if not 0 <= number < most:
+            raise ValueError(f'{name} {number} is out of range')
     lent, options = _Limits(ctypes.sizeof(_Limits), **limits), _Options(ctypes.sizeof(_Options), first)
     return _made('format', [byref(lent), byref(options)], text)
 
@@ -149,7 +161,7 @@ def page(text, width=78, limits=LIMITS_OF_STRANGERS):
     """
     if width not in WIDTHS:
         raise ValueError(f'width {width} is outside {WIDTHS.start} to {WIDTHS[-1]}')
-    text = text.encode('utf-8', 'surrogateescape') if isinstance(text, str) else bytes(text)
+    text = text.encode('utf-8', 'surrogateescape') if isinstance(text, str) else bytes(memoryview(text))
     table = choose(text)
     if table is None:
         raise MemoryError

@@ -1,0 +1,85 @@
+"""Tries the package nulbiko for Python: what it gives, and what it refuses. Prints what isn't as it must be."""
+import pickle
+import sys
+import threading
+
+import nulbiko
+
+PAGE = '.TH A 1\n.SH NAME\na \\- ünï – codé\n.TS\nl l.\na\tb\n.TE\n'
+ENDLESS = '.TH A 1\n.SH NAME\na \\- b\n.de XX\n.XX\n..\n.XX\n'
+PASSED, FAILED = [], []
+
+
+def judge(what, good):
+    (PASSED if good else FAILED).append(what)
+
+
+def refused(what, kind, function, *words, **named):
+    try:
+        function(*words, **named)
+        judge(what, False)
+    except kind as error:
+        judge(what, bool(str(error)))
+
+
+def stopped(function, *words, **named):
+    try:
+        function(*words, **named)
+    except nulbiko.Stopped as error:
+        return error
+    return None
+
+
+def pages():
+    page = nulbiko.page(PAGE, width=60)
+    judge('page: its words', 'a - ünï – codé' in page and 'a   b' in page)
+    judge('page: its width', max(map(len, page.split('\n'))) == 60)
+    judge('page: bytes', nulbiko.page(PAGE.encode(), width=60) == page)
+    judge('page: a view', nulbiko.page(memoryview(PAGE.encode()), 60) == page)
+    judge('page: a byte that is no UTF-8', nulbiko.page('a \udc80\n').strip() != '')
+    made = []
+    threads = [threading.Thread(target=lambda: made.append(nulbiko.page(PAGE, 60))) for _ in range(8)]
+    for thread in threads:
+        thread.start()
+    for thread in threads:
+        thread.join()
+    judge('page: threads', made == [page] * 8)
+    judge('utf8: escapes', nulbiko.utf8(b'_\ba', 'latin', True) == b'\033[4ma\033[24m')
+    judge('format: a number', nulbiko.format(b'\\n%\n', first=5).startswith(b'5'))
+
+
+def limits():
+    error = stopped(nulbiko.page, ENDLESS)
+    judge('page: an endless one', error and (error.call, error.limit) == ('format', 'input depth') and 0 < error.at <= len(ENDLESS))
+    judge('page: what it made', error and isinstance(error.made, str))
+    judge('page: what it tells', str(error) == f'format: input depth limit passed at byte {error.at}')
+    judge('stopped: it can be sent', vars(pickle.loads(pickle.dumps(error))) == vars(error))
+    few = {**nulbiko.LIMITS, 'moves': 64}
+    error = stopped(nulbiko.format, b'word\n' * 100, limits=few)
+    judge('format: moves', error and error.limit == 'moves' and 0 < error.at < 64)
+    error = stopped(nulbiko.format, b'a', limits={**nulbiko.LIMITS, 'moves': 1})
+    judge('format: a limit below its range', error and error.outcome == 'out of range' and error.limit is None)
+    error = stopped(nulbiko.utf8, b'a', None)
+    judge('utf8: no table', error and error.outcome == 'out of range')
+
+
+def refusals():
+    for width in 0, 9, 1001, -1:
+        refused(f'page: width {width}', ValueError, nulbiko.page, PAGE, width)
+    for text in None, 5, [1, 2], object():
+        refused(f'page: {text}', TypeError, nulbiko.page, text)
+    refused('tbl: width below 0', ValueError, nulbiko.tbl, b'', -1)
+    refused('utf8: no such table', KeyError, nulbiko.utf8, b'', 'nonesuch')
+    for name, number in ('moves', 2**64), ('depth', -1), ('cells', 2**70):
+        refused(f'format: {name} {number}', ValueError, nulbiko.format, b'', {**nulbiko.LIMITS, name: number})
+    refused('format: no such limit', TypeError, nulbiko.format, b'', {**nulbiko.LIMITS, 'mvs': 1})
+    refused('format: a limit is missing', TypeError, nulbiko.format, b'', {'moves': 1000})
+    refused('format: a number', ValueError, nulbiko.format, b'', first=2**40)
+
+
+pages()
+limits()
+refusals()
+print(*(f'not so: {what}' for what in FAILED), sep='\n', end='\n' if FAILED else '')
+print(f'boundary of Python: {len(PASSED)} passed, {len(FAILED)} failed')
+sys.exit(bool(FAILED))
