@@ -9,7 +9,7 @@ mod l;
 mod s;
 
 /// What the program says of its version.
-pub const VERSION: &[u8] = b"nulbiko 0.1.0\n";
+pub const VERSION: &[u8] = b"nulbiko 0.2.0\n";
 
 /// The text of the file `tmac.name`, if there is one of that name.
 pub fn macro_file(name: &[u8]) -> Option<&'static [u8]> {
