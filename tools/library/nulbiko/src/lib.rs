@@ -13,7 +13,7 @@
 //! use nulbiko::{Limit, Why};
 //!
 //! let stopped = nulbiko::page(b".de XX\n.XX\n..\n.XX\n", 78).unwrap_err();
-//! assert!(matches!(stopped.why, Why::Limit(Limit::Expansions, _)));
+//! assert!(matches!(stopped.why, Why::Limit(Limit::Depth, _)));
 //! ```
 //!
 //! [`page`] calls one after another what stands here by itself, as the programs of the same names do: [`choose`], [`mdoc()`],
