@@ -9,8 +9,8 @@
  * overlap another or a struct. An output is written from its front; what lies behind the bytes that are
  * reported is left as it was.
  *
- * Structs begin with their `size`, which the caller sets to sizeof: the macros below do. A library that is newer takes what an
- * older struct has not as it was before; one that is older refuses a struct that it doesn't know, with NULBIKO_OUT_OF_RANGE.
+ * Structs begin with their `size`, which the caller sets to sizeof: the macros below do. Those that grow take another size,
+ * and a library that doesn't know a struct's size refuses it, with NULBIKO_OUT_OF_RANGE.
  *
  * Units. Lengths, and places in a text, are bytes. Cells are columns of the terminal.
  *
@@ -158,8 +158,8 @@ enum nulbiko_outcome nulbiko_utf8(enum nulbiko_table table, bool escapes, const 
 /* The version of the library, as NULBIKO_VERSION is that of the header. */
 const char *nulbiko_version(void);
 
-/* The name of an outcome, of a limit and of what is wrong with a table, for a line that somebody reads. Never null: of a
- * number that is none `unknown`. */
+/* The name of an outcome, of a limit and of what is wrong with a table, for a line that somebody reads. Never null: of
+ * a number that is none `unknown`. */
 const char *nulbiko_outcome_name(uint32_t outcome);
 const char *nulbiko_limit_name(uint32_t limit);
 const char *nulbiko_wrong_name(uint32_t wrong);
