@@ -190,7 +190,7 @@ static ROWS: [Row; 28] = [
     },
     Row {
         words: &[b"utf8", b"--version"],
-        output: b"utf8 0.1.0\n",
+        output: b"utf8 0.2.0\n",
         status: 0,
         line: b"",
     },

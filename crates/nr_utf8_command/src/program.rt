@@ -13,7 +13,7 @@ use std::io::Read;
 use std::rt::Files;
 
 /// What `--version` prints: that of the file VERSION.
-const VERSION: &str = "0.1.0";
+const VERSION: &str = "0.2.0";
 
 /// The program.
 pub struct Utf8;
