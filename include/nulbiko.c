@@ -10,6 +10,7 @@ struct limits {
 
 struct options {
     int64_t first;
+    bool bold;
 };
 
 struct told {
@@ -80,7 +81,7 @@ enum nulbiko_outcome nulbiko_format(const struct nulbiko_limits *limits, const s
     if (limits->size != sizeof *limits || options->size != sizeof *options)
         return NULBIKO_OUT_OF_RANGE;
     const struct limits most = {limits->stored, limits->depth, limits->cells, limits->expansions, limits->moves};
-    const struct options asked = {options->first};
+    const struct options asked = {options->first, options->bold};
     uint32_t outcome = nulbiko_format_lent(&most, &asked, passed.input, length, passed.output, capacity, &told);
     return ended(outcome, &told, report);
 }

@@ -9,7 +9,7 @@ const MOST = 1 << 26; // the most bytes that a call makes
 // Sizes and places in the structs, where a pointer has four bytes.
 const REPORT = { size: 40, written: 4, at: 8, moves: 16, limit: 24, dropped: 32 };
 const LIMITS = { size: 48, stored: 8, depth: 16, cells: 24, expansions: 32, moves: 40 };
-const OPTIONS = { size: 16, first: 8 };
+const OPTIONS = { size: 24, first: 8, bold: 16 };
 
 export const LIMITS_OF_STRANGERS = { stored: 262144, depth: 64, cells: 65536, expansions: 10000, moves: 100000000 };
 
@@ -95,6 +95,7 @@ export class Nulbiko {
             const options = place + LIMITS.size;
             view.setUint32(options, OPTIONS.size, true);
             view.setBigInt64(options + OPTIONS.first, BigInt(number), true);
+            view.setUint8(options + OPTIONS.bold, 0);
             return [place, options];
         });
     }

@@ -30,7 +30,7 @@ class _Limits(ctypes.Structure):
 
 
 class _Options(ctypes.Structure):
-    _fields_ = [('size', c_size_t), ('first', c_int64)]
+    _fields_ = [('size', c_size_t), ('first', c_int64), ('bold', c_bool)]
 
 
 class _Report(ctypes.Structure):
@@ -133,9 +133,10 @@ def tbl(text, width=78, table=None):
     return _made('tbl', [TABLES[table], width], text)
 
 
-def format(text, limits=LIMITS, first=1):
+def format(text, limits=LIMITS, first=1, bold=False):
     """Formats a text, as nroff does. Macro files stand at its front; the first page has this number.
 
+    With `bold` each cell but a blank is shown as it looks, by backspaces; else letters and digits of ASCII are underlined.
     The limits are those of `LIMITS`, each with a number: {**nulbiko.LIMITS, 'moves': 10**8}.
     """
     if limits.keys() != LIMITS.keys():
@@ -143,7 +144,7 @@ def format(text, limits=LIMITS, first=1):
     for name, number, most in [*((name, limits[name], 2**64) for name in LIMITS), ('first', abs(first), 2**31)]:
         if not 0 <= number < most:
             raise ValueError(f'{name} {number} is out of range')
-    lent, options = _Limits(ctypes.sizeof(_Limits), **limits), _Options(ctypes.sizeof(_Options), first)
+    lent, options = _Limits(ctypes.sizeof(_Limits), **limits), _Options(ctypes.sizeof(_Options), first, bold)
     return _made('format', [byref(lent), byref(options)], text)
 
 
@@ -153,7 +154,7 @@ def utf8(text, table, escapes=False):
     return _made('utf8', [TABLES[table], escapes], text)
 
 
-def page(text, width=78, limits=LIMITS_OF_STRANGERS):
+def page(text, width=78, limits=LIMITS_OF_STRANGERS, bold=False):
     """Formats a manual page, of man(7) or mdoc(7), as one long page of this width. The text is str, or bytes of UTF-8.
 
     Where a limit would be passed it raises `Stopped`: the place is counted in the text that `tbl` made, and 0 where it is in
@@ -168,7 +169,7 @@ def page(text, width=78, limits=LIMITS_OF_STRANGERS):
     before = b'.nr C 1\n.nr L %d\n' % width + MAN
     turned = tbl(preconv(mdoc(text), table), width, table)
     try:
-        made = format(before + turned, limits)
+        made = format(before + turned, limits, bold=bold)
     except Stopped as stopped:
         stopped.made = utf8(stopped.made, table).decode()
         at = max(stopped.at - len(before), 0)

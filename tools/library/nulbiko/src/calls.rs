@@ -105,15 +105,16 @@ pub fn tbl(table: Option<Table>, line: usize, text: &[u8]) -> Result<Made, Stopp
 }
 
 /// Formats a text, as nroff does. Macro files, as [`MAN`](crate::MAN), stand at its front: it opens no file. The first page has
-/// this number.
+/// this number. With `bold` each cell but a blank is shown as it looks: underlined as `_`, a backspace and itself, bold as
+/// itself, a backspace and itself; else letters and digits of ASCII are underlined alone.
 ///
 /// # Errors
 ///
 /// Where a limit would be passed, or is out of range, and as [`mdoc()`].
-pub fn format(limits: &Limits, first: i64, text: &[u8]) -> Result<Made, Stopped> {
+pub fn format(limits: &Limits, first: i64, bold: bool, text: &[u8]) -> Result<Made, Stopped> {
     let Limits { stored, depth, cells, expansions, moves } = *limits;
     let limits = TextLimits { stored, depth, cells, expansions, moves };
-    let options = TextOptions { first };
+    let options = TextOptions { first, bold };
     made("format", text, |output, report| nulbiko_format_lent(Global, &limits, &options, text, output, report))
         .map(plain)
 }

@@ -17,16 +17,16 @@ pub const WIDTHS: RangeInclusive<usize> = 10..=1000;
 ///
 /// As [`page_within`].
 pub fn page(text: &[u8], width: usize) -> Result<Vec<u8>, Stopped> {
-    page_within(text, width, &Limits::OF_STRANGERS)
+    page_within(text, width, false, &Limits::OF_STRANGERS)
 }
 
-/// Formats a manual page as [`page`] does, under these limits.
+/// Formats a manual page as [`page`] does, under these limits, with `bold` as [`format()`] has it.
 ///
 /// # Errors
 ///
 /// Where a width isn't one of [`WIDTHS`], and where one of the calls stops. The place of a limit is counted in the text that
 /// [`tbl`] made, and 0 where it is in the macros before it; what was formatted before is in [`Stopped::bytes`], in UTF-8.
-pub fn page_within(text: &[u8], width: usize, limits: &Limits) -> Result<Vec<u8>, Stopped> {
+pub fn page_within(text: &[u8], width: usize, bold: bool, limits: &Limits) -> Result<Vec<u8>, Stopped> {
     if !WIDTHS.contains(&width) {
         return Err(Stopped { call: "page", why: Why::OutOfRange, bytes: Vec::new() });
     }
@@ -38,7 +38,7 @@ pub fn page_within(text: &[u8], width: usize, limits: &Limits) -> Result<Vec<u8>
     whole.extend_from_slice(MAN);
     let before = whole.len() as u64;
     whole.extend_from_slice(&tbl(Some(table), width, &turned)?.bytes);
-    match format(limits, 1, &whole) {
+    match format(limits, 1, bold, &whole) {
         Ok(made) => Ok(utf8(table, false, &made.bytes)?.bytes),
         Err(mut stopped) => {
             if let Why::Limit(_, at) = &mut stopped.why {

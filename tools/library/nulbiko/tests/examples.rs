@@ -15,7 +15,7 @@ fn examples_give_their_pages() {
     for name in names.split_whitespace() {
         let text = fs::read(folder().join(format!("{name}.roff"))).expect("an input");
         let pages = fs::read(folder().join(format!("{name}.out"))).expect("its pages");
-        match nulbiko::format(&Limits::PLAIN, 1, &text) {
+        match nulbiko::format(&Limits::PLAIN, 1, false, &text) {
             Ok(made) if made.bytes == pages => {}
             _ => failed.push(name),
         }

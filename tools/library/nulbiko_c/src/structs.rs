@@ -36,6 +36,7 @@ impl Limits {
 pub struct Options {
     size: usize,
     first: i64,
+    bold: bool,
 }
 
 impl Options {
@@ -48,8 +49,8 @@ impl Options {
         if unsafe { (&raw const (*passed).size).read() } != size_of::<Options>() {
             return None;
         }
-        let Options { first, .. } = unsafe { passed.read() };
-        Some(TextOptions { first })
+        let Options { first, bold, .. } = unsafe { passed.read() };
+        Some(TextOptions { first, bold })
     }
 }
 
