@@ -8,7 +8,7 @@ struct Asked {
     device: Option<Device>,
     width: Option<u64>,
     faces: Faces,
-    /// What is paged, warns, is only checked, and reads standard input, by the letters `p`, `w`, `z` and `i`.
+    /// What is paged, warns, is only checked, reads standard input, and shows bold, by the letters `p`, `w`, `z`, `i` and `b`.
     flags: &'static [u8],
     /// Registers and strings, each as it would stand after `-r` or `-d`.
     settings: &'static [&'static [u8]],
@@ -50,8 +50,9 @@ static OWN: [Asked; 5] = [
         ..PLAIN
     },
     Asked {
-        words: &["-c", "--", "-x", "--"],
-        faces: Faces::Struck,
+        words: &["-b", "-c", "--", "-x", "--"],
+        faces: Faces::Off,
+        flags: b"b",
         files: &["-x", "--"],
         ..PLAIN
     },
@@ -97,7 +98,7 @@ static OTHERS: [Asked; 6] = [
         macros: &["andoc"],
         device: Some(Device::Ascii),
         width: Some(40),
-        faces: Faces::Struck,
+        faces: Faces::Off,
         settings: &[b"dAD=l", b"rHY=0"],
         ..PLAIN
     },
@@ -135,7 +136,7 @@ static OTHERS: [Asked; 6] = [
             "-h", "-i", "-t", "-U", "-W", "font", "-P-c", "-e", "-R", "-G", "-S", "-q", "-C", "-f",
             "R", "-rC1", "-dxtext",
         ],
-        faces: Faces::Struck,
+        faces: Faces::Off,
         flags: b"i",
         settings: &[b"rC=1", b"dx=text"],
         ..PLAIN
@@ -200,6 +201,7 @@ fn has_flags(job: &Job<'_>, flags: &[u8]) -> bool {
         && job.plain.warns == flags.contains(&b'w')
         && job.plain.checks == flags.contains(&b'z')
         && job.plain.reads_input == flags.contains(&b'i')
+        && job.plain.shows_bold == flags.contains(&b'b')
 }
 
 /// Whether that is what a job asks for.

@@ -26,7 +26,8 @@ taken c =
     if c == code "w" then Asks valued.Width else
     if c == code "L" then Asks valued.Limit else
     if c == code "P" then Asks valued.Output else
-    if c == code "c" then Sets (changes.Faces faces.Struck) else
+    if c == code "b" then Sets changes.Bold else
+    if c == code "c" then Sets (changes.Faces faces.Off) else
     if c == code "v" then Sets (changes.Says says.Version) else
     if c == code "p" then Sets changes.Paged else
     if c == code "z" || c == code "Z" then Sets changes.Checks else
@@ -36,7 +37,7 @@ taken c =
 -- what a letter stands for: those first that change nothing on a terminal, and those that are not here
 abbrev pub letter_of : ℕ → Letter
 letter_of c =
-    if is_among (codes "CEGJNRSUbeghjkqstu") c then Passed else
+    if is_among (codes "CEGJNRSUeghjkqstu") c then Passed else
     if is_among (codes "DFIWf") c then Asks valued.Passed else
     if is_among (codes "VXal") c then LeftOut else
     taken c

@@ -11,6 +11,7 @@ nothing_set = record {
   device = None;
   width = None;
   faces = Auto;
+  shows_bold = false;
   says = None;
   first = 1;
   formats = 262144;
@@ -26,6 +27,7 @@ abbrev pub changed : Change → Plain → Plain
 changed (changes.Device device) plain = record plain { device = Some device }
 changed (changes.Width cells) plain = record plain { width = Some cells }
 changed (changes.Faces faces) plain = record plain { faces = faces }
+changed changes.Bold plain = record plain { shows_bold = true }
 changed (changes.Says says) plain = record plain { says = Some says }
 changed (changes.First n) plain = record plain { first = n }
 changed (changes.Formats bytes) plain = record plain { formats = bytes }

@@ -10,7 +10,7 @@ use Rattle.nr_options.specs.declared.limits.Limit.TheVariants.{Stored, Depth, Ce
 use Rattle.nr_page_options.specs.declared.plain.Device.{Device}
 use Rattle.nr_page_options.specs.declared.plain.Device.TheVariants.{Utf8, Latin1, Ascii}
 use Rattle.nr_page_options.specs.declared.plain.Faces.{Faces}
-use Rattle.nr_page_options.specs.declared.plain.Faces.TheVariants.{Auto, On, Off, Struck}
+use Rattle.nr_page_options.specs.declared.plain.Faces.TheVariants.{Auto, On, Off}
 use Rattle.nr_page_options.specs.declared.plain.Kind.{Kind}
 use Rattle.nr_page_options.specs.declared.plain.Kind.TheVariants as kinds
 use Rattle.nr_page_options.specs.declared.plain.Change.{Change}
@@ -70,11 +70,10 @@ width_meaning (byte ∷ bytes) =
 abbrev pub has : ℕ → List ℕ → Bool
 has byte bytes = list_any (λ b. b == byte) bytes
 
--- `-P`: `b` and `u` leave bold and underlining away, `c` strikes over
+-- `-P`: `c` strikes over
 abbrev pub output_meaning : List ℕ → Meaning
 output_meaning value =
-    if has (code "b") value && has (code "u") value then Changes (changes.Faces Off) else
-    if has (code "c") value then Changes (changes.Faces Struck) else IsNothing
+    if has (code "c") value then Changes (changes.Faces Off) else IsNothing
 
 -- `-LsN`, by the letter and the number
 abbrev pub limit_of : ℕ → ℕ → Option Meaning

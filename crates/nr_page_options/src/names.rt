@@ -5,7 +5,7 @@ ghost use Rattle.nr_page_options.specs.Names.{letter_of};
 use crate::plain::{Change, Faces, Says};
 
 /// The letters of options that change nothing on a terminal.
-const PASSED_LETTERS: &[u8] = b"CEGJNRSUbeghjkqstu";
+const PASSED_LETTERS: &[u8] = b"CEGJNRSUeghjkqstu";
 
 /// The letters of such options that ask for a value.
 const PASSED_VALUES: &[u8] = b"DFIWf";
@@ -88,7 +88,8 @@ pub(crate) fn letter_of(letter: u8) -> Letter
         b'w' => Letter::Asks(Valued::Width),
         b'L' => Letter::Asks(Valued::Limit),
         b'P' => Letter::Asks(Valued::Output),
-        b'c' => Letter::Sets(Change::Faces(Faces::Struck)),
+        b'b' => Letter::Sets(Change::Bold),
+        b'c' => Letter::Sets(Change::Faces(Faces::Off)),
         b'v' => Letter::Sets(Change::Says(Says::Version)),
         b'p' => Letter::Sets(Change::Paged),
         b'z' | b'Z' => Letter::Sets(Change::Checks),

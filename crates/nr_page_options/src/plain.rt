@@ -16,14 +16,12 @@ pub enum Device {
 /// How bold and underlined text goes out.
 #[derive(Clone, Copy, PartialEq, Eq, Debug)]
 pub enum Faces {
-    /// With escape sequences where the output is a terminal, and else as plain text.
+    /// Between escape sequences where the output is a terminal, and else struck over.
     Auto,
-    /// With escape sequences.
+    /// Between escape sequences.
     On,
-    /// As plain text.
-    Off,
     /// Struck over, by backspaces.
-    Struck,
+    Off,
 }
 
 /// What is printed in place of pages.
@@ -53,6 +51,8 @@ pub struct Plain {
     pub width: Option<u64>,
     /// How bold and underlined text goes out.
     pub faces: Faces,
+    /// Bold shows, and underlining on all that isn't blank.
+    pub shows_bold: bool,
     /// What is printed in place of pages, if anything.
     pub says: Option<Says>,
     /// The first page's number, at most 2147483647.
@@ -77,6 +77,7 @@ pub(crate) enum Change {
     Device(Device),
     Width(u64),
     Faces(Faces),
+    Bold,
     Says(Says),
     First(u64),
     Formats(u64),
@@ -96,6 +97,7 @@ impl Plain {
             device: None,
             width: None,
             faces: Faces::Auto,
+            shows_bold: false,
             says: None,
             first: 1,
             formats: 262_144,
@@ -116,6 +118,7 @@ impl Plain {
             Change::Device(device) => plain.device = Some(device),
             Change::Width(cells) => plain.width = Some(cells),
             Change::Faces(faces) => plain.faces = faces,
+            Change::Bold => plain.shows_bold = true,
             Change::Says(says) => plain.says = Some(says),
             Change::First(number) => plain.first = number,
             Change::Formats(bytes) => plain.formats = bytes,

@@ -140,15 +140,12 @@ fn read_width(value: &[u8]) -> Option<Change>
     }
 }
 
-/// `-P`: what groff gives the program that prints. `b` and `u` leave bold and underlining away, `c` strikes
-/// over.
+/// `-P`: what groff gives the program that prints. `c` strikes over.
 fn read_output(value: &[u8]) -> Ask<'_>
     ensures { meaning_of result ≡ output_meaning value.now }
 {
-    if value.contains(&b'b') && value.contains(&b'u') {
+    if value.contains(&b'c') {
         Ask::Change(Change::Faces(Faces::Off))
-    } else if value.contains(&b'c') {
-        Ask::Change(Change::Faces(Faces::Struck))
     } else {
         Ask::Nothing
     }

@@ -57,3 +57,9 @@ impl<W: Write> Write for BufWriter<W> {
         self.writer.flush()
     }
 }
+
+/// What may be a terminal.
+pub trait IsTerminal {
+    /// Whether it is one.
+    fn is_terminal(&self) -> bool;
+}

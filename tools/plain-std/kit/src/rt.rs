@@ -3,17 +3,21 @@
 
 use crate::alloc::Global;
 use crate::env::FillError;
-use crate::io::{Read, Result, Write};
+use crate::io::{IsTerminal, Read, Result, Write};
 use std::ffi::{CStr, c_char};
 use std::fs::File;
 use std::mem::ManuallyDrop;
 #[cfg(unix)]
 use std::os::fd::FromRawFd;
+use std::os::unix::ffi::OsStrExt;
 
 /// Where words come from.
 pub trait Env {
     /// Copies the word at a place to the front of a buffer, and gives its length. The program's name is at 0.
     fn arg(&self, place: usize, buffer: &mut [u8]) -> std::result::Result<usize, FillError>;
+
+    /// Copies the value of a variable of the environment to the front of a buffer, and gives its length.
+    fn var(&self, name: &str, buffer: &mut [u8]) -> std::result::Result<usize, FillError>;
 }
 
 /// Where files come from.
@@ -73,6 +77,14 @@ impl Env for HostRuntime {
         front.copy_from_slice(bytes);
         Ok(bytes.len())
     }
+
+    fn var(&self, name: &str, buffer: &mut [u8]) -> std::result::Result<usize, FillError> {
+        let value = std::env::var_os(name).ok_or(FillError::NotPresent)?;
+        let bytes = value.as_bytes();
+        let front = buffer.get_mut(..bytes.len()).ok_or(FillError::TooLong)?;
+        front.copy_from_slice(bytes);
+        Ok(bytes.len())
+    }
 }
 
 impl Files for HostRuntime {
@@ -98,6 +110,12 @@ impl Stream {
     #[cfg(not(unix))]
     fn file(self) -> ManuallyDrop<File> {
         unreachable!()
+    }
+}
+
+impl IsTerminal for Stream {
+    fn is_terminal(&self) -> bool {
+        std::io::IsTerminal::is_terminal(&*self.file())
     }
 }
 

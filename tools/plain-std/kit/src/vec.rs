@@ -35,6 +35,16 @@ impl<T> Vec<T> {
         Ok(items)
     }
 
+    /// Adds copies of these items.
+    pub fn extend_from_slice(&mut self, items: &[T]) -> Result<(), AllocError>
+    where
+        T: Clone,
+    {
+        self.0.try_reserve(items.len())?;
+        self.0.extend_from_slice(items);
+        Ok(())
+    }
+
     /// Adds an item.
     pub fn push(&mut self, item: T) -> Result<(), AllocError> {
         self.0.try_reserve(1)?;
