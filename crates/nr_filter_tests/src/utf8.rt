@@ -12,8 +12,14 @@ struct Row {
     line: &'static [u8],
 }
 
-static TEXTS: [(&str, Page<'static>); 13] = [
+static TEXTS: [(&str, Page<'static>); 16] = [
     ("underlined", Page::Bytes(b"_\x08a_\x08b c__\x08_\n_")),
+    (
+        "bold",
+        Page::Bytes(b"_\x08_e\x08e\xe9\x08\xe9(_\x08\xe9_\x08_\n-\x08--\x08-"),
+    ),
+    ("apart", Page::Bytes(b"a\x08b \x08 _\x08 x\x08x\x08x\n")),
+    ("struck", Page::Cut(b"_\x08_a\x08")),
     ("hostile", Page::Bytes(b"\x1b[1m\x08\x7f_\x08-\x00\r\n\xff")),
     ("half", Page::Bytes(b"a_\x08")),
     ("cut", Page::Cut(b"ab_\x08")),
@@ -31,7 +37,7 @@ static TEXTS: [(&str, Page<'static>); 13] = [
     ("arrow", Page::Bytes(b"a \xe2\x86\x92 b")),
 ];
 
-static ROWS: [Row; 28] = [
+static ROWS: [Row; 33] = [
     Row {
         words: &[b"utf8", b"latin"],
         output: b"caf\xc3\xa9_",
@@ -46,22 +52,48 @@ static ROWS: [Row; 28] = [
     },
     Row {
         words: &[b"utf8", b"latin", b"underlined"],
-        output: b"_\x08a_\x08b c___\n_",
+        output: b"_\x08a_\x08b c__\x08_\n_",
         status: 0,
-        line: b"utf8: 1 bytes dropped that show nothing\n",
+        line: b"",
     },
     Row {
         words: &[b"utf8", b"-c", b"latin", b"underlined"],
-        output: b"\x1b[4mab\x1b[24m c___\n_",
+        output: b"\x1b[4mab\x1b[24m c_\x1b[1m_\x1b[22m\n_",
         status: 0,
-        line: b"utf8: 1 bytes dropped that show nothing\n",
+        line: b"",
+    },
+    // `_` over itself goes on what is underlined, and else is bold.
+    Row {
+        words: &[b"utf8", b"latin", b"bold"],
+        output: b"_\x08_e\x08e\xc3\xa9\x08\xc3\xa9(_\x08\xc3\xa9_\x08_\n-\x08--\x08-",
+        status: 0,
+        line: b"",
+    },
+    Row {
+        words: &[b"utf8", b"-c", b"latin", b"bold"],
+        output: b"\x1b[1m_e\xc3\xa9\x1b[22m(\x1b[4m\xc3\xa9_\x1b[24m\n\x1b[1m--\x1b[22m",
+        status: 0,
+        line: b"",
+    },
+    // A backspace strikes no other byte, and no blank; a third byte is a cell of its own.
+    Row {
+        words: &[b"utf8", b"latin", b"apart"],
+        output: b"ab  _ x\x08xx\n",
+        status: 0,
+        line: b"utf8: 4 bytes dropped that show nothing\n",
+    },
+    Row {
+        words: &[b"utf8", b"-c", b"latin", b"apart"],
+        output: b"ab  _ \x1b[1mx\x1b[22mx\n",
+        status: 0,
+        line: b"utf8: 4 bytes dropped that show nothing\n",
     },
     // No control character goes out but newline.
     Row {
         words: &[b"utf8", b"latin", b"hostile"],
-        output: b"[1m_-\n\xe2\x80\x9c",
+        output: b"[1m_\x08-\n\xe2\x80\x9c",
         status: 0,
-        line: b"utf8: 6 bytes dropped that show nothing\n",
+        line: b"utf8: 5 bytes dropped that show nothing\n",
     },
     // What is half read at the end of a file is no part of the next.
     Row {
@@ -206,6 +238,12 @@ static ROWS: [Row; 28] = [
         output: b"ab",
         status: 3,
         line: b"utf8: cut: read fault at byte 4\n",
+    },
+    Row {
+        words: &[b"utf8", b"-c", b"latin", b"struck"],
+        output: b"\x1b[1m_",
+        status: 3,
+        line: b"utf8: struck: read fault at byte 5\n",
     },
 ];
 

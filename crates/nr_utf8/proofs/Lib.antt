@@ -1,10 +1,13 @@
-pub mod CellsAlone
 pub mod Choices
+pub mod Goes
+pub mod Held
 pub mod HighBits
+pub mod Kept
+pub mod Makes
 pub mod Pieces
-pub mod Plain
 pub mod Reading
 pub mod Shaped
+pub mod Spelled
 pub mod Text
 pub mod Turning
 pub mod Undone

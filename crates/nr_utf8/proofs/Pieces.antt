@@ -1,19 +1,35 @@
 -- Cells of pieces, one after another.
-use Rattle.std.proofs.Common.{◌≡◌, ℕ, ◌+◌, ◌-◌, ◌<◌, ◌≤◌, List, [], ◌∷◌, ◌++◌, length, take, drop, get_or, Bool, true, false, ◌==◌, ◌||◌, nat_lt, if◌then◌else◌, None, slice_get, refl, sym, subst, ap, ◌∙◌, append_assoc, length-drop, arith}
+use Rattle.std.proofs.Common.{◌≡◌, ℕ, ◌+◌, ◌-◌, ◌<◌, ◌≤◌, List, [], ◌++◌, length, take, drop, get_or, Bool, true, false, ◌==◌, ◌||◌, nat_lt, if◌then◌else◌, None, Some, slice_get, refl, sym, subst, ap, ◌∙◌, append_assoc, length-drop, arith}
 use Rattle.std.proofs.lemmas.List.{get_or-drop, get_or-take, length-take-le, take_all}
 use Rattle.std.proofs.Math.Seq.{take-add}
 use borrow.Rule.Slice.PartMut.{put_mid}
 use Rattle.nr_vectors.proofs.Copying.{front_put}
 use Rattle.nr_characters.specs.declared.table.Table.{Table}
 use Rattle.nr_characters.specs.Tables.{character_of, characters, if_any}
-use Rattle.nr_utf8.specs.Reading.{is_shown}
-use Rattle.nr_utf8.specs.Spelling.{AllSpelled, AreLow, Puts, Spells, bytes_of, count_of, if_spelled}
-use Rattle.nr_utf8.proofs.CellsAlone.{bytes-as-are, bytes_append}
+use Rattle.nr_utf8.specs.Cells.{if_spelled, is_shown, text}
+use Rattle.nr_utf8.specs.Spelling.{AllSpelled, AreLow, Puts, Spells, bytes_of, byte_of, count_of}
+use Rattle.nr_utf8.proofs.Spelled.{byte-text, bytes-as-are, bytes_append}
 
 -- a byte of ASCII of which something goes out goes out as it is
-low_by : (t : Table) (b : ℕ) (p : Bool) → (is_shown b || (b == 8)) ≡ p → nat_lt b 128 ≡ true → 0 < length (if p then b ∷ [] else if_spelled (character_of t b)) → (is_shown b || (b == 8)) ≡ true
-low_by t b true e low some = e
-low_by t b false e low some = absurd (let none : length (if_spelled (character_of t b)) ≡ 0 = ap (λ (x : Bool). length (if_spelled (if x then None else if_any (slice_get (characters t) (b - 128))))) low in omega (arith, none, some))
+low_text : (t : Table) (b : ℕ) (x : Bool) → is_shown b ≡ x → nat_lt b 128 ≡ true → 0 < length (text t b) → is_shown b ≡ true
+low_text t b true e low some = e
+low_text t b false e low some = absurd (let none : length (text t b) ≡ 0 =
+    ap (λ (y : Bool). length (if_spelled (if y then Some b else character_of t b))) e
+    ∙ ap (λ (x : Bool). length (if_spelled (if x then None else if_any (slice_get (characters t) (b - 128))))) low in omega (arith, none, some))
+
+or_right : (x y : Bool) → y ≡ true → (x || y) ≡ true
+or_right true y p = refl
+or_right false y p = p
+
+or_left : (x y : Bool) → x ≡ true → (x || y) ≡ true
+or_left true y p = refl
+or_left false y p = absurd (let never : false ≡ true = p in cc)
+
+low_by : (t : Table) (b : ℕ) (x : Bool) → (b == 8) ≡ x → nat_lt b 128 ≡ true → 0 < length (byte_of t b) → (is_shown b || (b == 8)) ≡ true
+low_by t b true e low some = or_right (is_shown b) (b == 8) e
+low_by t b false e low some =
+    let P : List ℕ → Type 0 = λ xs. 0 < length xs in
+    or_left (is_shown b) (b == 8) (low_text t b (is_shown b) refl low (subst P (byte-text t b e) some))
 
 -- a piece of ASCII goes out as it is
 pub Puts-low : (t : Table) (all : List (List ℕ)) (whole : Bool) (bs room ys : List ℕ) (end k n : ℕ) → Spells t 256 all whole → ((j : ℕ) → j < length bs → get_or bs j 0 < 256)
@@ -24,7 +40,7 @@ Puts-low t all whole bs room ys end k n s small some low long copied h =
     (let b = get_or bs j 0 in
     let here = some j below in
     let count = (s.each b (small j below)).count in
-    low_by t b (is_shown b || (b == 8)) refl (low j (omega (arith, below, long))) (omega (arith, here, count))) in
+    low_by t b (b == 8) refl (low j (omega (arith, below, long))) (omega (arith, here, count))) in
     front_put end k n room ys h (omega (arith, same))
     ∙ ap (λ (xs : List ℕ). take end room ++ xs) (take_all n ys (omega (arith, same)) ∙ copied ∙ sym (bytes-as-are t bs shown))
 

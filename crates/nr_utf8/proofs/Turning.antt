@@ -1,5 +1,5 @@
 -- How a run goes on and ends.
-use Rattle.std.proofs.Common.{◌≡◌, ℕ, ◌+◌, ◌*◌, ◌≤◌, List, [], ◌∷◌, ◌++◌, length, Bool, Option, None, Some, Result, Ok, Err, OnOk, refl, sym, ◌∙◌, ap, subst, append_assoc, append-nil, arith, length-append}
+use Rattle.std.proofs.Common.{◌≡◌, ℕ, ◌+◌, List, [], ◌∷◌, ◌++◌, length, Bool, Option, None, Some, Result, Ok, Err, OnErr, OnOk, refl, sym, ◌∙◌, ap, subst, append_assoc, append-nil, length-append, arith}
 use Rattle.std.specs.Io.KnownBytes.{Appends}
 use Rattle.std.proofs.KnownBytes.{Appends-trans, Appends-nil}
 use Rattle.nr_units.specs.Sink.{AppendsFront}
@@ -12,11 +12,13 @@ use Rattle.nr_utf8.specs.declared.running.Outcome.{Outcome}
 use Rattle.nr_utf8.specs.declared.running.Outcome.TheVariants.{Done, ReadFault, TooLong, WriteFault}
 use Rattle.nr_utf8.specs.declared.running.Turn.{Turn}
 use Rattle.nr_utf8.specs.declared.running.Turn.TheVariants as turns
-use Rattle.nr_utf8.specs.Reading.{Told, first_reader, read, fed, finished, left_over, converted, strays_of}
+use Rattle.nr_utf8.specs.Cells.{converted, strays_of}
+use Rattle.nr_utf8.specs.Reading.{Told, ended, fed, first_reader, read}
 use Rattle.nr_utf8.specs.Spelling.{Spells}
-use Rattle.nr_utf8.specs.Running.{Comes, Ends, Flushes, Took, Turns, Stands, IsCut, IsBroken, Ran, EndsAs}
-use Rattle.nr_utf8.proofs.Text.{fed-text, converted-text, converted-lines}
-use Rattle.nr_utf8.proofs.CellsAlone.{fed-table}
+use Rattle.nr_utf8.specs.Running.{Comes, Ends, Flushes, FrontAtErr, Took, Turns, Stands, IsCut, IsBroken, Ran, EndsAs}
+use Rattle.nr_utf8.proofs.Held.{fed-table}
+use Rattle.nr_utf8.proofs.Kept.{converted-fed, strays-fed}
+use Rattle.nr_utf8.proofs.Text.{converted-few, converted-lines, converted-text, fed-text}
 use Rattle.nr_utf8.proofs.Reading.{fed-append_reader, fed-append_bytes, fed-append_strays}
 
 -- ---- what comes of a source
@@ -79,15 +81,17 @@ turns_from a b c r s p left (turns.End i) came g = (Comes-trans a b c [] [] came
 turns_from a b c r s p left turns.ReadFault came g = (Comes-trans a b c [] [] came g.0, g.1)
 
 -- a turn in which nothing was taken before
-pub Turns-behind : (a b c : Option Supply) (r s : Reader) (p q left : List ℕ) (n : ℕ) (turn : Turn) → n ≡ 0 → Took a b r r p q n 0 → Turns b c r s q left turn
+pub Turns-behind : (a b c : Option Supply) (r u s : Reader) (p q left : List ℕ) (n : ℕ) (turn : Turn) → n ≡ 0 → Took a b r u p q n 0 → Turns b c u s q left turn
     → Turns a c r s p left turn
-Turns-behind a b c r s p q left n turn zero f g =
+Turns-behind a b c r u s p q left n turn zero f g =
     let none = nil_where_none f.bytes (f.count ∙ zero) in
     let P : List ℕ → Type 0 = λ xs. Comes a xs b in
     let came : Comes a [] b = subst P none f.came in
     let same : q ≡ p = f.out ∙ ap (λ (xs : List ℕ). p ++ (fed r xs).bytes) none ∙ append-nil p in
-    let Q : List ℕ → Type 0 = λ xs. Turns b c r s xs left turn in
-    turns_from a b c r s p left turn came (subst Q same g)
+    let reader : u ≡ r = f.reader ∙ ap (λ (xs : List ℕ). (fed r xs).reader) none in
+    let Q : List ℕ → Type 0 = λ xs. Turns b c u s xs left turn in
+    let R : Reader → Type 0 = λ x. Turns b c x s p left turn in
+    turns_from a b c r s p left turn came (subst R reader (subst Q same g))
 
 -- ---- a run goes on
 
@@ -101,7 +105,6 @@ Stands-first d e a h p r is none = record {
   sent = [];
   went_out = Appends-nil h;
   all = none;
-  few = omega arith;
   made = refl;
 }
 
@@ -113,18 +116,13 @@ Stands-spells d e a b h k p r t i all whole st spells =
     let P : Table → Type 0 = λ x. Spells x 256 all whole in
     subst P (sym same) spells
 
-grown : (xs ys zs : List ℕ) (n : ℕ) → zs ≡ xs ++ ys → length zs ≤ length xs + 18 * n → length ys ≤ 18 * n
-grown xs ys zs n e l =
-    let lengths : length zs ≡ length xs + length ys = ap length e ∙ length-append xs ys in omega arith
-
 pub Stands-took : (d : Table) (e : Bool) (a b c : Option Supply) (h k : Option (List ℕ)) (p left : List ℕ) (r s : Reader) (t n i j : ℕ)
-    → Stands d e a b h k p r t i → Took b c r s p left n j → length left ≤ length p + 18 * n → Stands d e a c h k left s (t + n) (i + j)
-Stands-took d e a b c h k p left r s t n i j st w l =
+    → Stands d e a b h k p r t i → Took b c r s p left n j → Stands d e a c h k left s (t + n) (i + j)
+Stands-took d e a b c h k p left r s t n i j st w =
     let before = fed (first_reader d e) st.bytes in
     let here : fed before.reader w.bytes ≡ fed r w.bytes = ap (λ (x : Reader). fed x w.bytes) (sym st.reader) in
     let more : (fed (first_reader d e) (st.bytes ++ w.bytes)).bytes ≡ before.bytes ++ (fed r w.bytes).bytes =
     fed-append_bytes (first_reader d e) st.bytes w.bytes ∙ ap (λ (x : Told). before.bytes ++ x.bytes) here in
-    let few : length (fed r w.bytes).bytes ≤ 18 * n = grown p (fed r w.bytes).bytes left n w.out l in
     record {
       bytes = st.bytes ++ w.bytes;
       came = Comes-trans a b c st.bytes w.bytes st.came w.came;
@@ -136,9 +134,6 @@ Stands-took d e a b c h k p left r s t n i j st w l =
       all =
           ap (λ (xs : List ℕ). st.sent ++ xs) w.out ∙ sym (append_assoc st.sent p (fed r w.bytes).bytes)
           ∙ ap (λ (xs : List ℕ). xs ++ (fed r w.bytes).bytes) st.all ∙ sym more;
-      few = (let lengths : length (fed (first_reader d e) (st.bytes ++ w.bytes)).bytes ≡ length before.bytes + length (fed r w.bytes).bytes =
-          ap length more ∙ length-append before.bytes (fed r w.bytes).bytes in
-          let first : length before.bytes ≤ 18 * t = st.few in omega arith);
       made = both_made st.made (w.made ∙ ap (λ (x : Told). x.strays) (sym here)) ∙ sym (fed-append_strays (first_reader d e) st.bytes w.bytes);
     }
 
@@ -152,7 +147,6 @@ Stands-flushed d e a b h k m p left r t i st f = record {
   sent = st.sent ++ f.out;
   went_out = Appends-trans h k m st.sent f.out st.went_out f.went_out;
   all = append_assoc st.sent f.out left ∙ ap (λ (xs : List ℕ). st.sent ++ xs) (sym f.all) ∙ st.all;
-  few = st.few;
   made = st.made;
 }
 
@@ -166,6 +160,15 @@ Flushes-all k m p left went none =
 pub Flushes-on : (x : Result (Unit {0}) Fault) (k m : Option (List ℕ)) (p left : List ℕ) → OnOk x (Appends k m p) → OnOk x (left ≡ []) → OnOk x (Flushes k m p left)
 Flushes-on (Ok x) k m p left went none = Flushes-all k m p left went none
 Flushes-on (Err e) k m p left went none = tt
+
+-- what waits goes out, and then these
+pub Emits-ok : (x : Result (Unit {0}) Fault) (a b c : Option (List ℕ)) (p q left : List ℕ) → Appends a b p → OnOk x (Appends b c q) → left ≡ [] → OnOk x (Flushes a c (p ++ q) left)
+Emits-ok (Ok x) a b c p q left first last none = Flushes-all a c (p ++ q) left (Appends-trans a b c p q first last) none
+Emits-ok (Err e) a b c p q left first last none = tt
+
+pub Emits-err : (x : Result (Unit {0}) Fault) (a b c : Option (List ℕ)) (p q : List ℕ) → Appends a b p → OnErr x (AppendsFront b c q) → FrontAtErr x a c (p ++ q)
+Emits-err (Ok x) a b c p q first last = tt
+Emits-err (Err e) a b c p q first last = AppendsFront-after a b c p q first last
 
 none_added : (n : ℕ) → n + 0 ≡ n
 none_added n = omega arith
@@ -185,31 +188,21 @@ Took-byte a b byte r s pending left strays gives reader out made = record {
 -- ---- a run ends
 
 ended-all : (d : Table) (e : Bool) (sent p left bytes : List ℕ) (r : Reader) → sent ++ p ≡ (fed (first_reader d e) bytes).bytes
-    → r ≡ (fed (first_reader d e) bytes).reader → left ≡ p ++ finished r → sent ++ left ≡ converted d e bytes
+    → r ≡ (fed (first_reader d e) bytes).reader → left ≡ p ++ (ended r).bytes → sent ++ left ≡ converted d e bytes
 ended-all d e sent p left bytes r all reader out =
-    ap (λ (xs : List ℕ). sent ++ xs) out ∙ sym (append_assoc sent p (finished r))
-    ∙ ap (λ (xs : List ℕ). xs ++ finished r) all
-    ∙ ap (λ (x : Reader). (fed (first_reader d e) bytes).bytes ++ finished x) reader
-
-converted-few : (d : Table) (e : Bool) (bytes p left rest : List ℕ) (r : Reader) (t : ℕ) → length bytes ≡ t
-    → length (fed (first_reader d e) bytes).bytes ≤ 18 * t → r ≡ (fed (first_reader d e) bytes).reader
-    → left ≡ p ++ finished r → length left ≤ length p + 18 → length (converted d e bytes) ≤ 18 * (length bytes + 1)
-converted-few d e bytes p left rest r t count few reader out l =
-    let after = fed (first_reader d e) bytes in
-    let lengths : length (converted d e bytes) ≡ length after.bytes + length (finished after.reader) =
-    length-append after.bytes (finished after.reader) in
-    let same : length (finished after.reader) ≡ length (finished r) = ap (λ (x : Reader). length (finished x)) (sym reader) in
-    let split : length left ≡ length p + length (finished r) = ap length out ∙ length-append p (finished r) in omega arith
+    ap (λ (xs : List ℕ). sent ++ xs) out ∙ sym (append_assoc sent p (ended r).bytes)
+    ∙ ap (λ (xs : List ℕ). xs ++ (ended r).bytes) all
+    ∙ ap (λ (x : Reader). (fed (first_reader d e) bytes).bytes ++ (ended x).bytes) reader ∙ sym (converted-fed d e bytes)
 
 ended-made : (d : Table) (e : Bool) (bytes : List ℕ) (r : Reader) (i j : ℕ) → i ≡ (fed (first_reader d e) bytes).strays
-    → r ≡ (fed (first_reader d e) bytes).reader → j ≡ left_over r → i + j ≡ strays_of d e bytes
+    → r ≡ (fed (first_reader d e) bytes).reader → j ≡ (ended r).strays → i + j ≡ strays_of d bytes
 ended-made d e bytes r i j made reader last =
-    both_made made (last ∙ ap (λ (x : Reader). left_over x) reader)
+    both_made made (last ∙ ap (λ (x : Reader). (ended x).strays) reader) ∙ sym (strays-fed d e bytes)
 
 pub Ran-done : (d : Table) (e : Bool) (a b c : Option Supply) (h k m : Option (List ℕ)) (p left : List ℕ) (r : Reader) (t i j : ℕ)
-    → Stands d e a b h k p r t i → Comes b [] c × Ends b c × (left ≡ p ++ finished r) × (j ≡ left_over r)
-    → length left ≤ length p + 18 → (outcome : Outcome) → EndsAs Done outcome k m left → Ran d e a c h m (i + j) outcome
-Ran-done d e a b c h k m p left r t i j st turn l Done ends =
+    → Stands d e a b h k p r t i → Comes b [] c × Ends b c × (left ≡ p ++ (ended r).bytes) × (j ≡ (ended r).strays)
+    → (outcome : Outcome) → EndsAs Done outcome k m left → Ran d e a c h m (i + j) outcome
+Ran-done d e a b c h k m p left r t i j st turn Done ends =
     let all = ended-all d e st.sent p left st.bytes r st.all st.reader turn.2 in
     let made = ended-made d e st.bytes r i j st.made st.reader turn.3 in
     let P : List ℕ → Type 0 = λ xs. Appends h m xs in
@@ -218,13 +211,13 @@ Ran-done d e a b c h k m p left r t i j st turn l Done ends =
       came = Comes-then_nothing a b c st.bytes st.came turn.0;
       ends = Ends-after a b c st.bytes st.came turn.1;
       went_out = subst P all (Appends-trans h k m st.sent left st.went_out ends.1);
-      few = converted-few d e st.bytes p left [] r t st.count st.few st.reader turn.2 l;
+      few = converted-few d e st.bytes;
       made = made;
       text = converted-lines d e st.bytes;
     }
-Ran-done d e a b c h k m p left r t i j st turn l (ReadFault at) ends = absurd (let no : Done ≡ ReadFault at = ends.0 in cc)
-Ran-done d e a b c h k m p left r t i j st turn l TooLong ends = absurd (let no : Done ≡ TooLong = ends.0 in cc)
-Ran-done d e a b c h k m p left r t i j st turn l WriteFault ends =
+Ran-done d e a b c h k m p left r t i j st turn (ReadFault at) ends = absurd (let no : Done ≡ ReadFault at = ends.0 in cc)
+Ran-done d e a b c h k m p left r t i j st turn TooLong ends = absurd (let no : Done ≡ TooLong = ends.0 in cc)
+Ran-done d e a b c h k m p left r t i j st turn WriteFault ends =
     let all = ended-all d e st.sent p left st.bytes r st.all st.reader turn.2 in
     let made = ended-made d e st.bytes r i j st.made st.reader turn.3 in
     let P : List ℕ → Type 0 = λ xs. AppendsFront h m xs in
@@ -244,8 +237,8 @@ Stands-broken d e a b c h k m p r t i st came front =
     record {
       bytes = st.bytes;
       came = Comes-then_nothing a b c st.bytes st.came came;
-      went_out = AppendsFront-append h m after.bytes (finished after.reader)
-          (subst P st.all (AppendsFront-after h k m st.sent p st.went_out front));
+      went_out = subst P (sym (converted-fed d e st.bytes)) (AppendsFront-append h m after.bytes (ended after.reader).bytes
+          (subst P st.all (AppendsFront-after h k m st.sent p st.went_out front)));
       text = converted-text d e st.bytes;
     }
 

@@ -5,9 +5,9 @@ use Rattle.std.specs.List.{sum_by}
 use Rattle.nr_units.specs.Source.{Supply}
 use Rattle.nr_characters.specs.declared.table.Table.{Table}
 use Rattle.nr_characters.specs.declared.table.Table.TheVariants.{English, Latin, Cyrillic, Greek, Latin1}
+use Rattle.nr_characters.specs.OneCell.{is_within}
 use Rattle.nr_characters.specs.Tables.{characters}
 use Rattle.nr_utf8.specs.declared.names.TheConstants.{NAMES}
-use Rattle.nr_utf8.specs.Reading.{is_within}
 use Rattle.nr_utf8.specs.Running.{Comes, Ends}
 
 -- ---- the characters of a page (RFC 3629): those of tables have two bytes or three

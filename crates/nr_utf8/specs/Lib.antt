@@ -1,5 +1,5 @@
+pub mod Cells
 pub mod Choosing
-pub mod Idle
 pub mod Lines
 pub mod Reading
 pub mod Running

@@ -1,10 +1,11 @@
 -- A run over a source and a sink.
-use Rattle.std.specs.Prelude.{◌≡◌, ℕ, ◌+◌, ◌*◌, ◌<◌, ◌≤◌, List, [], ◌++◌, length, Bool, true, false, Option, None, Some, Result, Ok, Err, ⊤, ◌⊎◌}
+use Rattle.std.specs.Prelude.{◌≡◌, ℕ, ◌*◌, ◌<◌, ◌≤◌, List, [], ◌++◌, length, Bool, true, false, Option, None, Some, Result, Ok, Err, ⊤, ◌⊎◌}
 use Rattle.std.specs.Io.KnownBytes.{Appends}
 use Rattle.nr_units.specs.Failures.{next_count}
 use Rattle.nr_units.specs.Sink.{AppendsFront}
 use Rattle.nr_units.specs.Source.{Supply}
 use Rattle.nr_characters.specs.declared.table.Table.{Table}
+use Rattle.nr_utf8.specs.Cells.{converted, strays_of}
 use Rattle.nr_utf8.specs.Lines.{KeepsLines}
 use Rattle.nr_utf8.specs.Text.{IsText}
 use Rattle.nr_utf8.specs.declared.reader.Reader.{Reader}
@@ -12,7 +13,7 @@ use Rattle.nr_utf8.specs.declared.running.Outcome.{Outcome}
 use Rattle.nr_utf8.specs.declared.running.Outcome.TheVariants.{Done, ReadFault, TooLong, WriteFault}
 use Rattle.nr_utf8.specs.declared.running.Turn.{Turn}
 use Rattle.nr_utf8.specs.declared.running.Turn.TheVariants as turns
-use Rattle.nr_utf8.specs.Reading.{first_reader, fed, finished, left_over, converted, strays_of}
+use Rattle.nr_utf8.specs.Reading.{ended, fed, first_reader}
 
 -- these bytes came
 abbrev pub Comes : Option Supply → List ℕ → Option Supply → Type 0
@@ -51,16 +52,14 @@ pub record Took (old new : Option Supply) (r s : Reader) (pending left : List �
 abbrev pub Turns : Option Supply → Option Supply → Reader → Reader → List ℕ → List ℕ → Turn → Type 0
 Turns old new r s pending left (turns.Took n strays) = Took old new r s pending left n strays
 Turns old new r s pending left (turns.End strays) =
-    Comes old [] new × Ends old new × (left ≡ pending ++ finished r) × (strays ≡ left_over r)
+    Comes old [] new × Ends old new × (left ≡ pending ++ (ended r).bytes) × (strays ≡ (ended r).strays)
 Turns old new r s pending left turns.ReadFault = Comes old [] new × (left ≡ pending)
 
--- At least one byte and not too many were taken. At most 18 went out for each, and as many at the end; at most
--- two were dropped for each.
-abbrev pub IsMeasured : ℕ → ℕ → ℕ → Turn → Type 0
-IsMeasured most before after (turns.Took n strays) =
-    (0 < n) × (n ≤ most) × (after ≤ before + 18 * n) × (strays ≤ 2 * n)
-IsMeasured most before after (turns.End strays) = (after ≤ before + 18) × (strays ≤ 2)
-IsMeasured most before after turns.ReadFault = after ≤ before
+-- At least one byte and not too many were taken; at most three were dropped for each.
+abbrev pub IsMeasured : ℕ → Turn → Type 0
+IsMeasured most (turns.Took n strays) = (0 < n) × (n ≤ most) × (strays ≤ 3 * n)
+IsMeasured most (turns.End strays) = strays ≤ 2
+IsMeasured most turns.ReadFault = Unit {0}
 
 abbrev pub is_fault : Turn → Bool
 is_fault turns.ReadFault = true
@@ -78,20 +77,19 @@ pub record Stands (table : Table) (escapes : Bool) (first supply : Option Supply
   pub sent : List ℕ
   pub went_out : Appends held new sent
   pub all : sent ++ pending ≡ (fed (first_reader table escapes) bytes).bytes
-  pub few : length (fed (first_reader table escapes) bytes).bytes ≤ 18 * taken
   pub made : strays ≡ (fed (first_reader table escapes) bytes).strays
 
--- All bytes came, and what they come to went out, at most 18 bytes for each and as many more: a text for a
--- terminal, in lines of as many cells. So many were dropped.
+-- All bytes came, and what they come to went out, at most four bytes for each: a text for a terminal, in lines of as many
+-- cells with the same characters. So many were dropped.
 pub record IsDone (table : Table) (escapes : Bool) (first last : Option Supply) (held new : Option (List ℕ))
     (strays : ℕ) : Type 0 where
   pub bytes : List ℕ
   pub came : Comes first bytes last
   pub ends : Ends first last
   pub went_out : Appends held new (converted table escapes bytes)
-  pub few : length (converted table escapes bytes) ≤ 18 * (length bytes + 1)
+  pub few : length (converted table escapes bytes) ≤ 4 * length bytes
   pub text : KeepsLines table escapes bytes (converted table escapes bytes)
-  pub made : strays ≡ strays_of table escapes bytes
+  pub made : strays ≡ strays_of table bytes
 
 -- so many bytes came, and what they come to went out but for what is half read; so many were dropped
 pub record IsCut (table : Table) (escapes : Bool) (first last : Option Supply) (held new : Option (List ℕ))

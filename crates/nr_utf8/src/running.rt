@@ -3,7 +3,7 @@ ghost use Rattle.std.specs.Prelude.{◌≡◌, ◌+◌, ◌*◌, ◌<◌, ◌≤
 ghost use Rattle.std.specs.Io.KnownBytes.{Appends};
 ghost use Rattle.nr_units.specs.Failures.{counted_if, put_counted, put_counted_if};
 ghost use Rattle.nr_utf8.specs.Running as specs;
-ghost use Rattle.nr_utf8.specs.Spelling.{Spells};
+ghost use Rattle.nr_utf8.specs.Spelling.{Serves};
 
 use super::reader::Reader;
 use super::spelling::{ROOM, Spelling};
@@ -46,7 +46,7 @@ enum Turn {
 }
 
 /// All that is pending goes out.
-fn put_pending<W: Sink>(out: &mut SliceVec<'_, u8>, output: &mut W) -> Result<(), Fault>
+pub(crate) fn put_pending<W: Sink>(out: &mut SliceVec<'_, u8>, output: &mut W) -> Result<(), Fault>
     ensures ok { OnOk result (Appends (W.held output.old) (W.held output.new) out.old.items) }
     ensures err { specs.FrontAtErr result (W.held output.old) (W.held output.new) out.old.items }
     ensures empty { OnOk result (out.new.items ≡ []) }
@@ -77,28 +77,24 @@ fn make_room<W: Sink>(out: &mut SliceVec<'_, u8>, output: &mut W) -> Result<(), 
 /// Bytes at hand that are cells are taken, and tells how many. What they come to is put into the room first.
 fn take_cells<R: Source>(
     spelling: &Spelling,
-    reader: &Reader,
+    reader: &mut Reader,
     room: &mut [u8],
     input: &mut R,
     out: &mut SliceVec<'_, u8>,
     most: u64,
 ) -> u64
     requires room { length out.old.items + 1536 ≤ out.old.capacity }
-    requires spells { Spells reader.now.table 256 spelling.now.all spelling.now.whole }
+    requires serves { Serves spelling.now reader.old }
     requires long { length room.old ≡ 2176 }
-    ensures took { specs.Took (R.supply input.old) (R.supply input.new) reader.now reader.now out.old.items
+    ensures took { specs.Took (R.supply input.old) (R.supply input.new) reader.old reader.new out.old.items
         out.new.items result 0 }
     ensures few { result ≤ most }
-    ensures grown { length out.new.items ≤ length out.old.items + 4 * result }
     ensures failures { R.failures input.new ≡ R.failures input.old }
     ensures room { out.new.capacity ≡ out.old.capacity }
 {
-    if !reader.is_idle() {
-        return 0;
-    }
     let window = input.window();
     let len = window.len().min(most as usize);
-    let reached = spelling.put_all(reader, &window[..len], room);
+    let reached = spelling.read_cells(reader, &window[..len], room);
     out.extend(&room[..reached.end]);
     input.skip(reached.taken);
     reached.taken as u64
@@ -106,27 +102,38 @@ fn take_cells<R: Source>(
 
 /// One turn: the next byte is read.
 fn take_next<R: Source>(
+    spelling: &Spelling,
     reader: &mut Reader,
+    room: &mut [u8],
     input: &mut R,
     out: &mut SliceVec<'_, u8>,
     most: u64,
 ) -> Turn
     requires room { length out.old.items + 1536 ≤ out.old.capacity }
     requires some { 0 < most }
+    requires serves { Serves spelling.now reader.old }
+    requires long { length room.old ≡ 2176 }
     ensures turns { specs.Turns (R.supply input.old) (R.supply input.new) reader.old reader.new out.old.items
         out.new.items result }
-    ensures measured { specs.IsMeasured most (length out.old.items) (length out.new.items) result }
+    ensures measured { specs.IsMeasured most result }
     ensures failures { R.failures input.new ≡ counted_if (specs.is_fault result) (R.failures input.old) }
     ensures room { out.new.capacity ≡ out.old.capacity }
 {
     match input.next() {
         Ok(Some(byte)) => {
-            let strays = reader.read(byte, out);
-            Turn::Took { bytes: 1, strays }
+            let filled = spelling.read(reader, byte, room);
+            out.extend(&room[..filled.end]);
+            Turn::Took {
+                bytes: 1,
+                strays: filled.strays,
+            }
         }
         Ok(None) => {
-            let strays = reader.finish(out);
-            Turn::End { strays }
+            let filled = spelling.finish(reader, room);
+            out.extend(&room[..filled.end]);
+            Turn::End {
+                strays: filled.strays,
+            }
         }
         Err(Fault) => Turn::ReadFault,
     }
@@ -143,11 +150,11 @@ fn make_turn<R: Source>(
 ) -> Turn
     requires room { length out.old.items + 1536 ≤ out.old.capacity }
     requires some { 0 < most }
-    requires spells { Spells reader.old.table 256 spelling.now.all spelling.now.whole }
+    requires serves { Serves spelling.now reader.old }
     requires long { length room.old ≡ 2176 }
     ensures turns { specs.Turns (R.supply input.old) (R.supply input.new) reader.old reader.new out.old.items
         out.new.items result }
-    ensures measured { specs.IsMeasured most (length out.old.items) (length out.new.items) result }
+    ensures measured { specs.IsMeasured most result }
     ensures failures { R.failures input.new ≡ counted_if (specs.is_fault result) (R.failures input.old) }
     ensures room { out.new.capacity ≡ out.old.capacity }
 {
@@ -158,7 +165,7 @@ fn make_turn<R: Source>(
             strays: 0,
         };
     }
-    take_next(reader, input, out, most)
+    take_next(spelling, reader, room, input, out, most)
 }
 
 /// The rest goes out, and the run has ended so.
@@ -226,14 +233,14 @@ fn run<R: Source, W: Sink>(
 }
 
 /// Turns what the input gives into UTF-8, and puts it to the output, which is not flushed. Bytes from 128 on are
-/// characters of the table; with `escapes` underlined text stands between escape sequences. The buffer, of 1536 bytes
+/// characters of the table; with `escapes` looks stand between escape sequences. The buffer, of 1536 bytes
 /// at least, holds what goes out; what it held is of no account. Nothing is allocated.
 ///
 /// What goes out is one function of the bytes that came, however they came. At a read fault, and where the input is
 /// too long, it is that of the bytes before, but for a cell that is half read; at a write fault a front of it.
 ///
-/// `strays` is set to the number of bytes that were dropped: control characters but newline, backspaces that underline
-/// nothing, and bytes that the table lacks.
+/// `strays` is set to the number of bytes that were dropped: control characters but newline, backspaces that strike no byte
+/// over another, and bytes that the table lacks.
 pub fn convert<R: Source, W: Sink>(
     input: &mut R,
     output: &mut W,

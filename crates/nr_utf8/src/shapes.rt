@@ -3,8 +3,6 @@ ghost use Rattle.std.specs.Prelude.{◌≡◌, ◌+◌, ◌<◌, ◌≤◌, leng
 ghost use Rattle.nr_utf8.specs.Shapes as specs;
 ghost use Rattle.nr_utf8.specs.Spelling.{AllLow, AreLow};
 
-use super::reader::is_underlined;
-
 /// How many bytes are looked at together.
 pub(crate) const CHUNK: usize = 32;
 
@@ -60,11 +58,13 @@ pub(crate) fn are_low(piece: &[u8; 8]) -> bool
     u64::from_le_bytes(*piece) & HIGH == 0
 }
 
-/// Whether a byte may stand between these two: a backspace only in a cell that is underlined.
+/// Whether a byte may stand between these two: a backspace only in a struck cell, and none two places behind another.
 fn is_shaped(before: u8, byte: u8, behind: u8) -> bool
     ensures { result ≡ specs.is_shaped before byte behind }
 {
-    may_stand(byte) | ((byte == b'\x08') & (before == b'_') & is_underlined(behind))
+    let same = before == behind;
+    let struck = (byte == b'\x08') & (same | (before == b'_')) & (behind > b' ');
+    (may_stand(byte) | struck) & !(same & (behind == b'\x08'))
 }
 
 /// Whether each of these bytes but the last may stand where it does.
@@ -77,23 +77,4 @@ pub(crate) fn are_shaped(bytes: &[u8; 34]) -> bool
         all &= is_shaped(bytes[place], bytes[place + 1], bytes[place + 2]);
     }
     all
-}
-
-/// Whether a cell may go on behind a byte.
-pub(crate) fn is_begun(byte: u8) -> bool
-    ensures { result ≡ specs.is_begun byte }
-{
-    byte == b'_' || byte == b'\x08'
-}
-
-/// How many of these bytes stand before a cell that may go on behind them.
-#[inline(always)]
-pub(crate) fn whole_front(bytes: &[u8]) -> usize
-    ensures { specs.IsWhole result bytes.now }
-{
-    let mut len = bytes.len();
-    while len > 0 && is_begun(bytes[len - 1]) {
-        len -= 1;
-    }
-    len
 }

@@ -30,12 +30,12 @@ loop-taken-preserved g c =
     c.loop-taken.reader c.loop-taken.taken c.loop-taken.strays c.loop-taken.invariant.stands c.in-Ok.ensures.ok in
     record {
       stands = Stands-took d e a b (g.R.Source.supply c.make_turn.new.input) h m c.make_room.new.out.items c.make_turn.new.out.items
-          c.loop-taken.reader c.make_turn.new.reader c.loop-taken.taken c.in-Took.bytes c.loop-taken.strays c.in-Took.more flushed c.in-Took.ensures.turns c.in-Took.ensures.measured.2;
+          c.loop-taken.reader c.make_turn.new.reader c.loop-taken.taken c.in-Took.bytes c.loop-taken.strays c.in-Took.more flushed c.in-Took.ensures.turns;
       source = c.in-Took.ensures.failures ∙ c.loop-taken.invariant.source;
       sink = c.in-Ok.ensures.failures ∙ c.loop-taken.invariant.sink;
       room = c.make_turn.ensures.room ∙ c.make_room.ensures.room ∙ c.loop-taken.invariant.room;
       taken = (let few = c.in-Took.ensures.measured.1 in omega (arith, few));
-      strays = (let quick = c.in-Took.ensures.measured.3 in let before = c.loop-taken.invariant.strays in omega (arith, quick, before));
+      strays = (let quick = c.in-Took.ensures.measured.2 in let before = c.loop-taken.invariant.strays in omega (arith, quick, before));
     }
 
 pub returns-in-End-clause-ran : goal.returns-in-End-clause-ran
@@ -49,7 +49,7 @@ returns-in-End-clause-ran g c =
     let flushed = Stands-flushed d e a b h (g.W.Sink.held c.loop-taken.output) m c.loop-taken.out.items c.make_room.new.out.items
     c.loop-taken.reader c.loop-taken.taken c.loop-taken.strays c.loop-taken.invariant.stands c.in-Ok.ensures.ok in
     Ran-done d e a b (g.R.Source.supply c.make_turn.new.input) h m (g.W.Sink.held c.ended.new.output) c.make_room.new.out.items c.make_turn.new.out.items
-    c.loop-taken.reader c.loop-taken.taken c.loop-taken.strays c.in-End.more flushed c.in-End.ensures.turns c.in-End.ensures.measured.0 c.ended.result c.ended.ensures.ends
+    c.loop-taken.reader c.loop-taken.taken c.loop-taken.strays c.in-End.more flushed c.in-End.ensures.turns c.ended.result c.ended.ensures.ends
 
 pub returns-in-ReadFault-clause-ran : goal.returns-in-ReadFault-clause-ran
 returns-in-ReadFault-clause-ran g c =
@@ -72,8 +72,8 @@ returns-clause-ran g c =
     (g.W.Sink.held c.args.output.now) (g.W.Sink.held c.loop-taken.output) (g.W.Sink.held c.ended-2.new.output)
     c.loop-taken.out.items c.loop-taken.reader c.loop-taken.taken c.loop-taken.strays all c.loop-taken.invariant.stands c.ended-2.result c.ended-2.ensures.ends
 
-pub make_turn-requires-clause-spells : goal.make_turn-requires-clause-spells
-make_turn-requires-clause-spells g c =
+pub make_turn-requires-clause-serves : goal.make_turn-requires-clause-serves
+make_turn-requires-clause-serves g c =
     Stands-spells c.args.table c.args.escapes (g.R.Source.supply c.args.input.now) (g.R.Source.supply c.loop-taken.input)
     (g.W.Sink.held c.args.output.now) (g.W.Sink.held c.loop-taken.output) c.loop-taken.out.items c.loop-taken.reader c.loop-taken.taken c.loop-taken.strays
     c.new-spelling.result.all c.new-spelling.result.whole c.loop-taken.invariant.stands c.new-spelling.ensures

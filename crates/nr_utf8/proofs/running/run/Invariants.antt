@@ -9,7 +9,7 @@ invariant-loop-taken g l = record {
   sink : g.W.Sink.failures l.output ≡ g.W.Sink.failures l.fn.output;
   room : l.out.capacity ≡ l.fn.out.capacity;
   taken : l.taken ≤ 1099511627776;
-  strays : l.strays ≤ 2 * l.taken;
+  strays : l.strays ≤ 3 * l.taken;
 }
 
 abbrev pub decreases-loop-taken : goal.decreases-loop-taken

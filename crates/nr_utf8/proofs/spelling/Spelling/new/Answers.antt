@@ -1,5 +1,5 @@
 use Rattle.std.proofs.Common.{◌∙◌, length-set, arith}
-use Rattle.nr_utf8.proofs.CellsAlone.{Spells-next}
+use Rattle.nr_utf8.proofs.Spelled.{Spells-next}
 use Rattle.nr_utf8.proofs.spelling.Spelling.new.Goals as goal
 
 pub loop-place-preserved : goal.loop-place-preserved

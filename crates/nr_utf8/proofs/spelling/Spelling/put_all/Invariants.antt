@@ -1,11 +1,12 @@
--- Those before are out, and the room isn't filled.
-use Rattle.std.proofs.Common.{◌-◌, ◌≤◌, length}
-use Rattle.nr_utf8.specs.Spelling.{Goes}
+-- Those before are out, no look is open, and the room isn't filled.
+use Rattle.std.proofs.Common.{◌≡◌, ◌-◌, ◌≤◌, length, true}
+use Rattle.nr_utf8.specs.Spelling.{Goes, is_shut}
 use Rattle.nr_utf8.proofs.spelling.Spelling.put_all.Given as goal
 
 abbrev pub invariant-loop-taken : goal.invariant-loop-taken
 invariant-loop-taken l = record {
-  goes : Goes l.reader l.bytes l.taken l.fn.room 0 l.room l.end;
+  goes : Goes l.fn.reader l.reader l.bytes l.taken l.fn.room l.begin l.room l.end;
+  shut : is_shut l.reader.way ≡ true;
   few : l.end ≤ 1536;
 }
 

@@ -1,25 +1,33 @@
-use Rattle.std.proofs.Common.{◌≡◌, ◌<◌, ◌∙◌, get_or, length, false, sym, arith}
-use Rattle.nr_utf8.specs.Shapes.{is_begun}
-use Rattle.nr_utf8.specs.Spelling.{byte_of}
-use Rattle.nr_utf8.proofs.CellsAlone.{Goes-byte, Goes-underlined, Puts-front, may-spelled, some-spelled}
-use Rattle.nr_utf8.proofs.Plain.{idle-from}
+use Rattle.std.proofs.Common.{◌≡◌, ◌⊎◌, false, get_or, inl, inr, sym, true, ◌∙◌, arith}
+use Rattle.nr_utf8.specs.Cells.{shows}
+use Rattle.nr_utf8.specs.Spelling.{is_shut}
+use Rattle.nr_utf8.proofs.Goes.{Goes-alone, Goes-none, Goes-over, Puts-alone, low-hidden}
 use Rattle.nr_utf8.proofs.spelling.Spelling.put_cell.Goals as goal
+use Rattle.nr_utf8.proofs.spelling.Spelling.put_cell.Goals.{then-byte-le32, else-byte-le32}
 
-pub returns-then-count_of-gt0 : goal.returns-then-count_of-gt0
-returns-then-count_of-gt0 c =
-    let table = c.args.reader.now.table in
+pub returns-then-strikes-clause-goes : goal.returns-then-strikes-clause-goes
+returns-then-strikes-clause-goes c =
+    let room = c.requires.room in
+    let few = c.put_struck-end.ensures.few in
+    let long = c.put_struck-end.auto.room in
+    Goes-over c.args.reader.now c.put_struck-end.new.reader c.args.bytes.now c.args.room.now c.put_struck-end.new.room c.args.end c.put_struck-end.result c.requires.fresh
+    c.if-bytes-ge3.true c.if-bytes-eq8.true (sym c.strikes.ensures ∙ c.if-strikes.true) (omega (arith, room)) (omega (arith, room, few, long)) c.put_struck-end.ensures.fills
+
+pub returns-then-is_shut-clause-goes : goal.returns-then-is_shut-clause-goes
+returns-then-is_shut-clause-goes c =
+    let r = c.args.reader.now in
     let byte = get_or c.args.bytes.now 0 0 in
-    let small : c.from.result < 256 = (let fits = c.type_inv.bytes 0 in omega (arith, fits)) in
-    let alone : is_begun byte ≡ false = sym c.is_begun.ensures ∙ c.if-not-is_begun.true in
-    let count = c.count_of.ensures in
-    let more = c.if-count_of-gt0.true in
-    let some : 0 < length (byte_of table byte) = some-spelled table c.from.result _ _ (c.requires.serves.spells.each c.from.result small) c.from.ensures (omega (arith, count, more)) in
-    Goes-byte c.args.reader.now c.args.bytes.now c.args.room.now c.put-end.new.room c.args.end c.put-end.result
-    (idle-from c.args.reader.now c.requires.serves.idle) c.requires.some (may-spelled table byte alone some) alone some c.put-end.ensures.put c.put-end.ensures.few
+    let room = c.requires.room in
+    let turned = c.turn-to.ensures.few in
+    let few = c.put-end.ensures.few in
+    let long = c.turn-to.auto.room in
+    let same = c.put-end.auto.room in
+    let goes = sym c.goes_out.ensures ∙ c.if-goes_out.true in
+    let apart : (shows r.table byte ≡ false) ⊎ (is_shut r.way ≡ true) =
+    elim c.if-byte-le32.branch [ then-byte-le32 w ↦ inl (low-hidden r.table byte w.if-byte-le32.true) | else-byte-le32 w ↦ inr (sym w.is_shut.ensures ∙ sym w.value-is ∙ c.if-is_shut.true) ] in
+    Goes-alone r c.turn-to.new.self c.args.bytes.now c.args.room.now c.put-end.new.room c.args.end c.put-end.result c.requires.fresh c.requires.some goes apart c.turn-to.ensures.reader
+    (omega (arith, room)) (omega (arith, room, turned, few, long, same))
+    (Puts-alone byte r c.turn-to.new.self c.args.room.now c.turn-to.new.room c.put-end.new.room c.args.end c.turn-to.result c.put-end.result goes c.turn-to.ensures.reader c.turn-to.ensures.put c.put-end.ensures.put)
 
-pub returns-then-underlines : goal.returns-then-underlines
-returns-then-underlines c =
-    let cell = c.underlines.ensures c.if-underlines.true in
-    let within = cell.within in
-    Goes-underlined c.args.reader.now c.args.bytes.now c.args.room.now _ c.args.end (idle-from c.args.reader.now c.requires.serves.idle) cell
-    (Puts-front c.args.bytes.now c.args.room.now c.copy_from_slice.new.self c.args.end _ 3 c.copy_from_slice.ensures.after within (omega arith))
+pub returns-clause-goes : goal.returns-clause-goes
+returns-clause-goes c = Goes-none c.args.reader.now c.args.bytes.now c.args.room.now c.args.end c.requires.fresh

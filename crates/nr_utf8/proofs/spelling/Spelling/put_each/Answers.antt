@@ -1,5 +1,5 @@
 use Rattle.std.proofs.Common.{◌≡◌, ℕ, ◌%◌, take, ap, sym, ◌∙◌, append-nil, arith}
-use Rattle.nr_utf8.proofs.CellsAlone.{Puts-next}
+use Rattle.nr_utf8.proofs.Spelled.{Puts-next}
 use Rattle.nr_utf8.proofs.spelling.Spelling.put_each.Goals as goal
 
 pub loop-byte-init : goal.loop-byte-init

@@ -10,4 +10,4 @@ returns-then-are_low-clause-put c =
     let begins = c.requires.begins in
     let room = c.requires.room in
     Puts-low c.args.reader.now.table c.args.self.now.all c.args.self.now.whole c.args.bytes.now c.args.room.now c.copy_from_slice-then-are_low.new.self c.args.end _ 8
-    c.requires.serves.spells (λ k below. (let fits = c.type_inv.bytes k in omega (arith, fits))) c.requires.some low c.requires.eight (c.copy_from_slice-then-are_low.ensures.after ∙ c.copy_from_slice.ensures.after ∙ c.requires.same) (omega (arith, begins, room))
+    c.requires.serves (λ k below. (let fits = c.type_inv.bytes k in omega (arith, fits))) c.requires.some low c.requires.eight (c.copy_from_slice-then-are_low.ensures.after ∙ c.copy_from_slice.ensures.after ∙ c.requires.same) (omega (arith, begins, room))
