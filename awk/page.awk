@@ -9,8 +9,10 @@
 #
 # A character that could not be shown is named on standard error, as `lost <U+540D>`: the first one. It ends with 9 where
 # no option was found.
-# A row without what is struck over: each character before a backspace, of one byte or of several.
+# A row without what is struck over, each character before a backspace, of one byte or of several, and without escape sequences.
 function text_of(row) {
+    if (index(row, "\033["))
+        gsub(/\033\[[0-9]+m/, "", row)
     if (index(row, "\010"))
         gsub(/([\001-\177]|[\300-\337].|[\340-\357]..|[\360-\367]...)\010/, "", row)
     return row
@@ -54,11 +56,20 @@ function put_tags(row, next_row,   deep, words, n, i, text) {
     fflush(tags)
 }
 
+# What of a row matches is a link to its text.
+function linked_by(row, pattern, scheme,   before, found) {
+    while (match(row, pattern)) {
+        found = substr(row, RSTART, RLENGTH)
+        before = before substr(row, 1, RSTART - 1) "\033]8;;" scheme text_of(found) "\007" found "\033]8;;\007"
+        row = substr(row, RSTART + RLENGTH)
+    }
+    return before row
+}
+
 # A row whose addresses and pages are links.
 function linked(row) {
-    gsub(/https?:\/\/[^][ <>"()\010\033]*[^][ <>"()\010\033.,;:]/, "\033]8;;&\007&\033]8;;\007", row)
-    if (below == "SEE ALSO") gsub(/[A-Za-z0-9_.:+-]+\([1-9][a-z]*\)/, "\033]8;;man:&\007&\033]8;;\007", row)
-    return row
+    row = linked_by(row, address, "")
+    return below == "SEE ALSO" ? linked_by(row, reference, "man:") : row
 }
 
 function is_option(at) { return text[at] ~ /^ *[-+]/ }
@@ -91,7 +102,14 @@ function put_paragraph(at,   deep, last) {
     return last
 }
 
-BEGIN { keeps = option != "" || list }
+BEGIN {
+    keeps = option != "" || list
+    # before a character that is bold or underlined
+    look = "(.\010|\033\\[[0-9]+m)?"
+    letter = look "[^][ <>\"()\010\033]"
+    address = look "h" look "t" look "t" look "p(" look "s)?" look ":" look "/" look "/(" letter ")*" look "[^][ <>\"()\010\033.,;:]"
+    reference = "(" look "[A-Za-z0-9_.:+-])+" look "\\(" look "[1-9](" look "[a-z])*" look "\\)"
+}
 
 /<U\+[0-9A-F]+>/ && !lost {
     lost = text_of($0)
