@@ -109,7 +109,7 @@ struct nulbiko_options {
                     * itself, a backspace and itself. Else letters and digits of ASCII are underlined alone. */
 };
 
-#define NULBIKO_OPTIONS {sizeof(struct nulbiko_options), 1}
+#define NULBIKO_OPTIONS {sizeof(struct nulbiko_options), 1, false}
 
 /* What a call tells beside its outcome. */
 struct nulbiko_report {

@@ -142,7 +142,7 @@ static void sizes(void)
     for (size_t i = 0; i < sizeof others / sizeof *others; i++) {
         limits.size = others[i];
         judge("format: limits of another size", format(&limits, text, sizeof out) == NULBIKO_OUT_OF_RANGE && nothing_done());
-        const struct nulbiko_options other = {others[i], 1};
+        const struct nulbiko_options other = {others[i], 1, false};
         prepare();
         judge("format: options of another size",
               nulbiko_format(&plain, &other, text, strlen(text), out, sizeof out, &report) == NULBIKO_OUT_OF_RANGE && nothing_done());
@@ -185,7 +185,7 @@ static void outcomes(void)
     const struct nulbiko_limits few = {SIZE, 262144, 256, 65536, 1000000, 64};
     judge("format: a limit of all moves", format(&few, ".ds a bbbbbbbbbbbbbbbbbbbbbbbbbbbbbbbbbbbbbbbb\n", sizeof out) == NULBIKO_LIMIT &&
                                               put_out("") && report.limit == NULBIKO_MOVES && report.moves == 64 && report.at == 32);
-    const struct nulbiko_options fifth = {sizeof fifth, 5};
+    const struct nulbiko_options fifth = {sizeof fifth, 5, false};
     prepare();
     judge("format: the first page's number",
           nulbiko_format(&plain, &fifth, "\\n%\n", 4, out, 1, &report) == NULBIKO_FULL && put_out("5"));
