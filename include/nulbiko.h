@@ -74,7 +74,8 @@ enum nulbiko_wrong {
     NULBIKO_TOO_MANY_COLUMNS = 7, /* More than 64 columns or 256 format lines. */
     NULBIKO_FORMATS_LIMIT = 8,    /* More than 8,192 bytes of options and formats. */
     NULBIKO_ROW_LIMIT = 9,        /* More than 16,384 bytes of a row. */
-    NULBIKO_TOO_WIDE = 10         /* The table is wider than the line. */
+    NULBIKO_TOO_WIDE = 10,        /* The table is wider than the line. */
+    NULBIKO_BAD_ARGUMENT = 11     /* What follows tab or decimalpoint is not one character. */
 };
 
 /* Tables of characters: bytes from 128 on stand for characters beyond ASCII from nulbiko_preconv to nulbiko_utf8. */

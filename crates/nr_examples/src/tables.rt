@@ -3,7 +3,8 @@
 use super::formatted;
 use nr_characters::Table;
 use nr_engine::{Buffered, Desk, Outcome, Sink, Source};
-use nr_tables::{Complaint, Report, Rooms, convert};
+use nr_tables::{Complaint, Kind, Report, Rooms, convert};
+use nr_units::Name;
 use nr_units::fakes::{Script, Slate};
 use nr_vectors::slice_vec::SliceVec;
 use std::alloc::{AllocError, Global};
@@ -195,6 +196,28 @@ fn turned<R: Source, W: Sink>(
     convert(input, output, rooms, complaints)
 }
 
+/// What is wrong, as lines of examples have it.
+fn kind_told(alloc: Global, kind: Kind) -> anyhow::Result<String> {
+    Ok(match kind {
+        Kind::NoFormat => format!(in alloc; "NoFormat")?,
+        Kind::BadFormat(byte) => format!(in alloc; "BadFormat {}", char::from(byte))?,
+        Kind::UnknownOption(word) => format!(in alloc; "UnknownOption {}", text_of(&word))?,
+        Kind::BadArgument(word) => format!(in alloc; "BadArgument {}", text_of(&word))?,
+        Kind::TooManyFields => format!(in alloc; "TooManyFields")?,
+        Kind::OpenBlock(line) => format!(in alloc; "OpenBlock from {line}")?,
+        Kind::OpenTable(line) => format!(in alloc; "OpenTable from {line}")?,
+        Kind::TooManyColumns => format!(in alloc; "TooManyColumns")?,
+        Kind::FormatsLimit => format!(in alloc; "FormatsLimit")?,
+        Kind::RowLimit => format!(in alloc; "RowLimit")?,
+        Kind::TooWide => format!(in alloc; "TooWide")?,
+    })
+}
+
+/// A word of letters.
+fn text_of(word: &Name) -> &str {
+    str::from_utf8(word.as_bytes()).unwrap_or("")
+}
+
 /// How a run ended, as the list says it: `Done`, or its complaints, as `BadFormat on line 3, OpenTable on line 4`.
 fn end_of(alloc: Global, ran: Ran, complaints: &[Complaint]) -> anyhow::Result<String> {
     let Ran {
@@ -213,8 +236,16 @@ fn end_of(alloc: Global, ran: Ran, complaints: &[Complaint]) -> anyhow::Result<S
         if !ended.is_empty() {
             ended.push_str(", ")?;
         }
-        let told = format!(in alloc; "{:?} on line {}", complaint.kind, complaint.line)?;
-        ended.push_str(&told)?;
+        ended.push_str(&kind_told(alloc, complaint.kind)?)?;
+        ended.push_str(&format!(in alloc; " on line {}", complaint.line)?)?;
+    }
+    let uneven = if ended.is_empty() {
+        "Uneven"
+    } else {
+        ", Uneven"
+    };
+    if report.uneven {
+        ended.push_str(uneven)?;
     }
     if ended.is_empty() {
         ended.push_str("Done")?;

@@ -6,7 +6,7 @@ use Rattle.nr_layout.specs.declared.places.Mark.{Mark}
 use Rattle.nr_layout.specs.declared.places.Mark.TheVariants as marks
 use Rattle.nr_layout.specs.declared.places.Place.{Place}
 use Rattle.nr_layout.specs.declared.table.Table.{Table}
-use Rattle.nr_layout.specs.Drawing.{crossing_byte, dash, ends_covered, go, row_bar, row_cells, row_strokes, rule_cells, rule_end, some_bars}
+use Rattle.nr_layout.specs.Drawing.{bar_byte, bars_as, crossing_byte, dash, ends_covered, go, row_bar, row_cells, row_strokes, rule_cells, rule_end}
 use Rattle.nr_layout.specs.Ends.{EdgesEndTogether, RowsEndTogether, RowsEndWithin, RulesEndTogether, end_of}
 use Rattle.nr_layout.specs.Frames.{bar_place, last_place, meeting, right_edge, shares_edge, table_end, was_ruled, width_end}
 use Rattle.nr_layout.specs.Held.{column, columns}
@@ -74,12 +74,12 @@ pub rows_end_together : RowsEndTogether
 rows_end_together t r line one w =
     let was : Bool = was_ruled t r (columns t) in
     let cells : List Stroke = row_cells (columns t) t r line in
-    let is : row_bar t r (columns t) was false ≡ go t was (table_end t) ++ bars (joint t.signs true true was false) 1 =
-    ap (λ (n : ℕ). if n == 0 then [] else some_bars t (columns t) was false n) one
-    ∙ ap (λ (place : Place). go t was place ++ bars (joint t.signs true true was false) 1) (end-place t) in
+    let is : row_bar t r (columns t) was false ≡ go t was (table_end t) ++ bars (bar_byte t r was false) 1 =
+    ap (λ (n : ℕ). if n == 0 then [] else bars_as t (columns t) (bar_byte t r was false) was n) one
+    ∙ ap (λ (place : Place). go t was place ++ bars (bar_byte t r was false) 1) (end-place t) in
     ap (λ (ss : List Stroke). end_of (cells ++ ss)) is
-    ∙ ap (λ (q : Pen). q.at) (after_all-append (Start ∷ cells) (go t was (table_end t) ++ bars (joint t.signs true true was false) 1) first)
-    ∙ last-at t was (joint t.signs true true was false) 1 (table_end t) (after_all (Start ∷ cells) first) w.place w.ends w.alike w.within
+    ∙ ap (λ (q : Pen). q.at) (after_all-append (Start ∷ cells) (go t was (table_end t) ++ bars (bar_byte t r was false) 1) first)
+    ∙ last-at t was (bar_byte t r was false) 1 (table_end t) (after_all (Start ∷ cells) first) w.place w.ends w.alike w.within
 
 -- no bar is drawn
 pub rows_end_within : RowsEndWithin
@@ -87,7 +87,7 @@ rows_end_within t r line none w =
     let was : Bool = was_ruled t r (columns t) in
     let cells : List Stroke = row_cells (columns t) t r line in
     let is : row_strokes t r line ≡ cells =
-    ap (λ (n : ℕ). cells ++ (if n == 0 then [] else some_bars t (columns t) was false n)) none ∙ append-nil cells in
+    ap (λ (n : ℕ). cells ++ (if n == 0 then [] else bars_as t (columns t) (bar_byte t r was false) was n)) none ∙ append-nil cells in
     record {
       place = w.place;
       ends = ap (λ (ss : List Stroke). end_of ss) is ∙ w.ends;

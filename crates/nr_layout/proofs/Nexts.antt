@@ -1,13 +1,13 @@
 -- What is read of the next one, where some are left.
-use Rattle.std.proofs.Common.{◌≡◌, ℕ, suc, ◌+◌, ◌-◌, ◌<◌, ◌≤◌, ◌==◌, ◌||◌, nat_lt, ap, arith, ◌∙◌, if◌then◌else◌}
+use Rattle.std.proofs.Common.{◌≡◌, ℕ, suc, ◌+◌, ◌-◌, ◌<◌, ◌≤◌, ◌==◌, ◌&&◌, ◌||◌, Option, nat_lt, ap, arith, ◌∙◌, if◌then◌else◌}
 use Prim.Native.Char.{code}
 use Rattle.nr_layout.specs.declared.table.Line.{Line}
 use Rattle.nr_layout.specs.declared.table.Table.{Table}
-use Rattle.nr_layout.specs.Cells.{goes_over}
+use Rattle.nr_layout.specs.Cells.{goes_over, stands_over}
 use Rattle.nr_layout.specs.Columns.{together, with_column}
-use Rattle.nr_layout.specs.Frames.{bars_of, some_bars}
-use Rattle.nr_layout.specs.Held.{column, field, key, prints, some_print, step}
-use Rattle.nr_layout.specs.Steps.{line_among, or_line, standing_line}
+use Rattle.nr_layout.specs.Frames.{bars_of, is_covered, some_bars}
+use Rattle.nr_layout.specs.Held.{cell_number, column, field, key, prints, some_print, step}
+use Rattle.nr_layout.specs.Steps.{line_among, line_beside, some_covered}
 
 next_left : (n end : ℕ) → n < end → end - n ≡ suc (end - (n + 1))
 next_left n end h = omega (arith, h)
@@ -19,11 +19,19 @@ bars_next t r c end h = ap (λ (m : ℕ). some_bars m t r c) (next_left c end h)
 pub prints_next : (t : Table) (n end : ℕ) → n < end → some_print (end - n) t n ≡ (prints (field t n) || some_print (end - (n + 1)) t (n + 1))
 prints_next t n end h = ap (λ (m : ℕ). some_print m t n) (next_left n end h)
 
-pub line_next : (t : Table) (n end wanted line : ℕ) → n < end
-    → line_among (end - n) t n wanted line
+pub covered_next : (t : Table) (above below : Option ℕ) (c end : ℕ) → c < end
+    → some_covered (end - c) t above below c ≡ (is_covered t above below c || some_covered (end - (c + 1)) t above below (c + 1))
+covered_next t above below c end h = ap (λ (m : ℕ). some_covered m t above below c) (next_left c end h)
+
+pub whole_next : (t : Table) (r f c end : ℕ) → c < end
+    → stands_over (end - c) t r f c ≡ ((cell_number t r c == f) && stands_over (end - (c + 1)) t r f (c + 1))
+whole_next t r f c end h = ap (λ (m : ℕ). stands_over m t r f c) (next_left c end h)
+
+pub line_next : (t : Table) (n end f c wanted line : ℕ) → n < end
+    → line_among (end - n) t n f c wanted line
     ≡ (if nat_lt wanted (step t n).line then line
-    else line_among (end - (n + 1)) t (n + 1) wanted (or_line (standing_line (step t n) wanted) line))
-line_next t n end wanted line h = ap (λ (m : ℕ). line_among m t n wanted line) (next_left n end h)
+    else line_among (end - (n + 1)) t (n + 1) f c wanted (line_beside t (step t n) f c wanted line))
+line_next t n end f c wanted line h = ap (λ (m : ℕ). line_among m t n f c wanted line) (next_left n end h)
 
 -- a field that stands over the column before goes on over this one
 pub over_next : (t : Table) (l : Line) (last c end : ℕ) → c < end → last + 1 ≡ c

@@ -15,7 +15,7 @@ use Rattle.nr_layout.specs.declared.table.Table.{Table}
 use Rattle.nr_layout.specs.Held.{is_boxed, is_double, item, no_row, row}
 use Rattle.nr_layout.specs.Lists.{added, in_turn}
 use Rattle.nr_layout.specs.Ordering.{RowsGoOut, own_row, own_rows, row_of, rows_of}
-use Rattle.nr_layout.specs.Steps.{Walking, asked, closed_box, closed_rule, closes_rule, has_beyond, on_step, released, row_asked, row_on_step, row_stepped, ruled, space_in, step_at, stepped, walk_begun, walk_ended, walked_at, walked_item, walked_own_row, walking_on, without_steps}
+use Rattle.nr_layout.specs.Steps.{Walking, asked, closed_box, closed_rule, closes_rule, beyond_stepped, has_beyond, on_step, released, released_beside, row_asked, row_beside, row_on_step, ruled, space_in, step_at, stepped, walk_begun, walk_ended, walked_at, walked_item, walked_line, walked_own_row, walked_row_in, walking_on, without_steps}
 use Rattle.nr_layout.proofs.Turns.{set_same}
 
 -- ---- rows of lists one after the other
@@ -86,6 +86,10 @@ released_met t lines rows below w h m =
 
 -- ---- an item
 
+released_some_met : (t : Table) (lines : ℕ) (rows : List ℕ) (w : Walking) → lines < t.steps.capacity → Met t lines rows w.table
+    → Met t (suc lines) rows (released_beside w).table
+released_some_met t lines rows w h m = released_met t lines rows (row_beside w.table w.walk) w h m
+
 request_met : (t : Table) (lines : ℕ) (rows : List ℕ) (space last : Option ℕ) (s : Span) (w : Walking) → suc lines < t.steps.capacity
     → Met t lines rows w.table → Met t (suc (suc lines)) rows (asked space last s w).table
 request_met t lines rows None last s w h m =
@@ -93,8 +97,8 @@ request_met t lines rows None last s w h m =
 request_met t lines rows (Some n) None s w h m =
     more_lines (suc (suc lines)) (omega arith) (other_met t lines rows (steps.Request s) 1 w refl (omega (arith, h)) m)
 request_met t lines rows (Some n) (Some r) s w h m =
-    other_met t (suc lines) rows (steps.Bars r n) n (ruled false (released w.walk.last w)) refl h
-    (released_met t lines rows w.walk.last w (omega (arith, h)) m)
+    other_met t (suc lines) rows (steps.Bars r n) n (ruled false (released_beside w)) refl h
+    (released_some_met t lines rows w (omega (arith, h)) m)
 
 row_step_met : (t : Table) (lines : ℕ) (rows : List ℕ) (n : ℕ) (r : Row) (u : Table) → r.own ≡ (row t n).own → Met t lines rows u
     → Met t lines rows (row_on_step n r u)
@@ -108,41 +112,49 @@ row_step_met t lines rows n r u e m = record {
 }
 
 own_row_met : (t : Table) (lines : ℕ) (rows : List ℕ) (n : ℕ) (r : Row) (w : Walking) → lines + 4 ≤ t.steps.capacity → r.own ≡ (row t n).own
-    → Met t lines rows w.table → Met t (suc (suc (suc (suc lines)))) (rows ++ n ∷ []) (walked_own_row n r w).table
+    → Met t lines rows w.table → Met t (suc (suc (suc lines))) (rows ++ n ∷ []) (walked_own_row n r w).table
 own_row_met t lines rows n r w h e m =
     let before : Walking = stepped (steps.Before n w.walk.ruled) 0 w in
     let under : Walking = released (Some n) before in
     let placed : Walking = on_step n r under in
-    let line : Walking = row_stepped n placed in
     let m1 : Met t (suc lines) rows before.table = other_met t lines rows (steps.Before n w.walk.ruled) 0 w refl (omega (arith, h)) m in
     let m2 : Met t (suc (suc lines)) rows under.table = released_met t (suc lines) rows (Some n) before (omega (arith, h)) m1 in
     let m3 : Met t (suc (suc lines)) rows placed.table = row_step_met t (suc (suc lines)) rows n r under.table e m2 in
-    let m4 : Met t (suc (suc (suc lines))) (rows ++ n ∷ []) line.table =
-    step_met t (suc (suc lines)) rows (steps.Row n) 1 placed (omega (arith, h)) m3 in
-    if_met t (suc (suc (suc (suc lines)))) (rows ++ n ∷ []) (has_beyond line.table r) (stepped (steps.Beyond n) 1 line) line
-    (other_met t (suc (suc (suc lines))) (rows ++ n ∷ []) (steps.Beyond n) 1 line refl (omega (arith, h)) m4)
-    (more_lines (suc (suc (suc (suc lines)))) (omega arith) m4)
+    step_met t (suc (suc lines)) rows (steps.Row n) 1 placed (omega (arith, h)) m3
+
+line_met : (t : Table) (lines : ℕ) (rows : List ℕ) (n : ℕ) (r : Row) (w : Walking) → lines + 4 ≤ t.steps.capacity → r.own ≡ (row t n).own
+    → Met t lines rows w.table → (b : Bool) → r.own ≡ b
+    → Met t (suc (suc (suc lines))) (rows ++ (if b then n ∷ [] else [])) (if b then walked_own_row n r w else stepped (steps.Before n false) 0 w).table
+line_met t lines rows n r w h e m true is = own_row_met t lines rows n r w h e m
+line_met t lines rows n r w h e m false is =
+    with_rows (rows ++ []) (sym (append-nil rows))
+    (more_lines (suc (suc (suc lines))) (omega arith) (other_met t lines rows (steps.Before n false) 0 w refl (omega (arith, h)) m))
+
+beyond_met : (t : Table) (lines : ℕ) (rows : List ℕ) (n : ℕ) (r : Row) (w : Walking) → lines < t.steps.capacity → Met t lines rows w.table
+    → Met t (suc lines) rows (beyond_stepped n r w).table
+beyond_met t lines rows n r w h m =
+    if_met t (suc lines) rows (has_beyond w.table r) (stepped (steps.Beyond n) 1 w) w
+    (other_met t lines rows (steps.Beyond n) 1 w refl h m) (more_lines (suc lines) (omega arith) m)
 
 row_met : (t : Table) (lines : ℕ) (rows : List ℕ) (n : ℕ) (r : Row) (w : Walking) → lines + 4 ≤ t.steps.capacity → r.own ≡ (row t n).own
-    → Met t lines rows w.table → (b : Bool) → r.own ≡ b
-    → Met t (suc (suc (suc (suc lines)))) (rows ++ (if b then n ∷ [] else [])) (if b then walked_own_row n r w else stepped (steps.Before n false) 0 w).table
-row_met t lines rows n r w h e m true is = own_row_met t lines rows n r w h e m
-row_met t lines rows n r w h e m false is =
-    with_rows (rows ++ []) (sym (append-nil rows))
-    (more_lines (suc (suc (suc (suc lines)))) (omega arith) (other_met t lines rows (steps.Before n false) 0 w refl (omega (arith, h)) m))
+    → Met t lines rows w.table
+    → Met t (suc (suc (suc (suc lines)))) (rows ++ (if r.own then n ∷ [] else [])) (walked_row_in r n w).table
+row_met t lines rows n r w h e m =
+    beyond_met t (suc (suc (suc lines))) (rows ++ (if r.own then n ∷ [] else [])) n r (walked_line r n w) (omega (arith, h))
+    (line_met t lines rows n r w h e m r.own refl)
 
 item_met : (t : Table) (lines : ℕ) (rows : List ℕ) (i : Item) (w : Walking) → lines + 4 ≤ t.steps.capacity → Met t lines rows w.table
     → Met t (suc (suc (suc (suc lines)))) (rows ++ own_row t i) (walked_item i w).table
 item_met t lines rows items.Rule w h m =
     with_rows (rows ++ []) (sym (append-nil rows))
-    (more_lines (suc (suc (suc (suc lines)))) (omega arith) (released_met t lines rows w.walk.last w (omega (arith, h)) m))
+    (more_lines (suc (suc (suc (suc lines)))) (omega arith) (released_some_met t lines rows w (omega (arith, h)) m))
 item_met t lines rows (items.Request s) w h m =
     with_rows (rows ++ []) (sym (append-nil rows))
     (more_lines (suc (suc (suc (suc lines)))) (omega arith)
-    (request_met t lines rows (space_in w.table s) (row_asked w.table (space_in w.table s) w.walk) s w (omega (arith, h)) m))
+    (request_met t lines rows (space_in w.table w.walk s) (row_asked w.table (space_in w.table w.walk s) w.walk) s w (omega (arith, h)) m))
 item_met t lines rows (items.Row n) w h m =
     with_rows (rows ++ own_row t (items.Row n)) (ap (λ (b : Bool). rows ++ (if b then n ∷ [] else [])) (m.own n))
-    (row_met t lines rows n (row w.table n) w h (m.own n) m (row w.table n).own refl)
+    (row_met t lines rows n (row w.table n) w h (m.own n) m)
 
 -- ---- all items
 

@@ -8,7 +8,7 @@ use Rattle.nr_layout.specs.declared.table.Cell.{Cell}
 use Rattle.nr_layout.specs.declared.table.Form.{Form}
 use Rattle.nr_layout.specs.declared.table.Form.TheVariants as forms
 use Rattle.nr_layout.specs.declared.table.Table.{Table}
-use Rattle.nr_layout.specs.Drawing.{bar, bars_cell, bars_cells, bars_strokes, begin_at, begin_of, column_rule, column_rule_end, content, crossing, crossing_begin, crossing_byte, dash, edge_strokes, ends_covered, falling, field_in, field_strokes, field_text, first_of, go, goes_on, going_on, row_bar, row_cell, row_cells, row_strokes, rule_begin, rule_cell, rule_cells, rule_end, rule_stop, rule_strokes, shown_width, some_bars, some_crossing, stands_on, text_strokes, turned, turning, was_covered, whole}
+use Rattle.nr_layout.specs.Drawing.{bar, bar_byte, bars_as, bars_cell, bars_cells, bars_strokes, begin_at, begin_of, column_rule, column_rule_end, content, crossing, crossing_begin, crossing_byte, dash, edge_strokes, ends_covered, falling, field_in, field_strokes, field_text, first_of, go, goes_on, going_on, row_bar, row_cell, row_cells, row_strokes, rule_begin, rule_cell, rule_cells, rule_end, rule_stop, rule_strokes, shown_width, some_crossing, stands_on, text_strokes, turned, turning, was_covered, whole}
 use Rattle.nr_layout.specs.Frames.{bar_place, bars_of, bars_seen, is_covered, is_ruled, meeting, table_end, was_ruled, width_end}
 use Rattle.nr_layout.specs.Held.{cell, column, columns, has_text, is_rule, is_text}
 use Rattle.nr_layout.specs.Pens as pens
@@ -42,14 +42,14 @@ go-none : (t : Table) (ruled : Bool) (place : Place) → texts (go t ruled place
 go-none t true place = refl
 go-none t false place = refl
 
-some_bars-none : (t : Table) (c : ℕ) (was now : Bool) (n : ℕ) → texts (some_bars t c was now n) ≡ []
-some_bars-none t c was now n = after_none (go t was (bar_place t c)) (pens.bars (joint t.signs true true was now) n) (go-none t was (bar_place t c))
+bars_as-none : (t : Table) (c byte : ℕ) (was : Bool) (n : ℕ) → texts (bars_as t c byte was n) ≡ []
+bars_as-none t c byte was n = after_none (go t was (bar_place t c)) (pens.bars byte n) (go-none t was (bar_place t c))
 
 bar-none : (t : Table) (r c : ℕ) (was now : Bool) → texts (bar t r c was now) ≡ []
-bar-none t r c was now = either_none (bars_of t r c == 0) [] (some_bars t c was now (bars_of t r c)) refl (some_bars-none t c was now (bars_of t r c))
+bar-none t r c was now = either_none (bars_of t r c == 0) [] (bars_as t c (joint t.signs true true was now) was (bars_of t r c)) refl (bars_as-none t c (joint t.signs true true was now) was (bars_of t r c))
 
 row_bar-none : (t : Table) (r c : ℕ) (was now : Bool) → texts (row_bar t r c was now) ≡ []
-row_bar-none t r c was now = either_none (bars_seen t r c == 0) [] (some_bars t c was now (bars_seen t r c)) refl (some_bars-none t c was now (bars_seen t r c))
+row_bar-none t r c was now = either_none (bars_seen t r c == 0) [] (bars_as t c (bar_byte t r was now) was (bars_seen t r c)) refl (bars_as-none t c (bar_byte t r was now) was (bars_seen t r c))
 
 column_rule_end-none : (t : Table) (r c : ℕ) → texts (column_rule_end t r c) ≡ []
 column_rule_end-none t r c = either_none (goes_on t r c) [] (dash t (rule_stop t c)) refl refl

@@ -1,6 +1,6 @@
 -- Which field stands in which columns and rows (Lesk, "Format", s and ^; tbl(1), "Column classifiers"). Each column of each row is
 -- covered by one field: that which begins there, the one to its left over which s goes on, or the one above that goes on downward.
-use Rattle.std.specs.Prelude.{ℕ, zero, suc, ◌+◌, ◌-◌, min, Bool, true, false, ◌==◌, ◌&&◌, ◌||◌, not, nat_lt, length, Option, Some, if◌then◌else◌}
+use Rattle.std.specs.Prelude.{ℕ, zero, suc, ◌+◌, ◌-◌, ◌*◌, min, Bool, true, false, ◌==◌, ◌&&◌, ◌||◌, not, nat_lt, length, Option, Some, if◌then◌else◌}
 use Prim.Native.Char.{code}
 use Rattle.nr_layout.specs.declared.block_lines.Lines.{Lines}
 use Rattle.nr_layout.specs.declared.table.Cell.{Cell}
@@ -46,14 +46,8 @@ last_column t l first = goes_over (columns t - (first + 1)) t l first
 
 -- ---- the field above goes on downward
 
-abbrev pub gone_down : ℕ → Cell → Cell
-gone_down r f = record f { bottom = r }
-
-abbrev pub gone_on_in : ℕ → ℕ → Table → Table
-gone_on_in r n t = record t { cells = put n (gone_down r (cell_of t n)) t.cells; grid = added n t.grid }
-
 abbrev pub gone_on_at : ℕ → ℕ → Table → Table
-gone_on_at r c t = gone_on_in r (cell_number t (r - 1) c) t
+gone_on_at r c t = record t { grid = added (cell_number t (r - 1) c) t.grid }
 
 abbrev pub gone_on : ℕ → ℕ → ℕ → Table → Table
 gone_on r first last t = over first last (gone_on_at r) t
@@ -126,20 +120,56 @@ first_placing r t = record { table = t; given = r.first; next = 0 }
 abbrev pub placing : ℕ → ℕ → Row → Table → Placing
 placing c n r t = in_turn c (placed_at n r) (first_placing r t)
 
--- a row in which no field is its own takes no room
-abbrev pub row_with : ℕ → Row → Placing → Row
-row_with cells r p = record r {
-  beyond = p.given;
-  cells = cells;
-  cells_end = length p.table.cells.items;
-  own = nat_lt cells (length p.table.cells.items);
+-- ---- a field goes on over a row below in all of its columns: where it would in some of them alone it ends above, and an empty field
+-- stands there
+
+-- in so many columns from one on
+abbrev pub stands_over : ℕ → Table → ℕ → ℕ → ℕ → Bool
+stands_over zero t r f c = true
+stands_over (suc n) t r f c = (cell_number t r c == f) && stands_over n t r f (c + 1)
+
+abbrev pub is_whole : Table → ℕ → ℕ → Bool
+is_whole t r f = stands_over (columns_over (cell_of t f).first (cell_of t f).last) t r f (cell_of t f).first
+
+abbrev pub gone_down : ℕ → ℕ → Table → Table
+gone_down r f t = record t { cells = put f (record (cell_of t f) { bottom = r }) t.cells }
+
+abbrev pub grid_place : ℕ → ℕ → Table → ℕ
+grid_place r c t = sum (min (r * columns t) 18446744073709551615) c
+
+abbrev pub ended_above : ℕ → ℕ → Table → Table
+ended_above r c t = record t {
+  cells = added (new_cell t r (key t (line t (row t r).line) c) no_field c c) t.cells;
+  grid = put (grid_place r c t) (length t.cells.items) t.grid;
 }
 
-abbrev pub row_placed : ℕ → ℕ → Row → Placing → Table
-row_placed n cells r p = record p.table { rows = put n (row_with cells r p) p.table.rows }
+abbrev pub went_on_in : ℕ → ℕ → ℕ → Table → Table
+went_on_in r c f t = if is_whole t r f then gone_down r f t else ended_above r c t
+
+-- fields from above have numbers below those of the row's own, of which this is the first
+abbrev pub went_on_at : ℕ → ℕ → ℕ → Table → Table
+went_on_at r cells c t = if nat_lt (cell_number t r c) cells then went_on_in r c (cell_number t r c) t else t
+
+abbrev pub went_on : ℕ → ℕ → Table → Table
+went_on r cells t = in_turn (columns t) (went_on_at r cells) t
+
+-- a row in which no field is its own takes no room
+abbrev pub row_with : ℕ → Row → ℕ → Table → Row
+row_with cells r beyond t = record r {
+  beyond = beyond;
+  cells = cells;
+  cells_end = length t.cells.items;
+  own = nat_lt cells (length t.cells.items);
+}
+
+abbrev pub row_placed : ℕ → ℕ → Row → ℕ → Table → Table
+row_placed n cells r beyond t = record t { rows = put n (row_with cells r beyond t) t.rows }
+
+abbrev pub row_settled : ℕ → ℕ → Row → Placing → Table
+row_settled n cells r p = row_placed n cells r p.given (went_on n cells p.table)
 
 abbrev pub placed_row : ℕ → Table → Table
-placed_row n t = row_placed n (length t.cells.items) (row t n) (placing (columns t) n (row t n) t)
+placed_row n t = row_settled n (length t.cells.items) (row t n) (placing (columns t) n (row t n) t)
 
 -- ---- the last row that takes room, from each row upward
 

@@ -1,6 +1,6 @@
 -- The lines of a table, as strokes of a pen from the left to the right (Lesk, "Format"; tbl(1), "Column classifiers" and "Table data").
 -- In a row stand bars, rules of columns, and fields; in a rule between two rows bars meet it, and fields go on over it from above.
-use Rattle.std.specs.Prelude.{ℕ, zero, suc, ◌-◌, ◌/◌, min, Bool, true, false, ◌==◌, ◌&&◌, ◌||◌, not, nat_lt, List, [], ◌∷◌, ◌++◌, Option, None, Some, codes, decimal, if◌then◌else◌}
+use Rattle.std.specs.Prelude.{ℕ, zero, suc, ◌-◌, ◌/◌, min, Bool, true, false, ◌==◌, ◌&&◌, ◌||◌, not, nat_lt, length, List, [], ◌∷◌, ◌++◌, Option, None, Some, codes, decimal, if◌then◌else◌}
 use Prim.Native.Char.{code}
 use Rattle.nr_layout.specs.declared.pen.Begin.{Begin}
 use Rattle.nr_layout.specs.declared.pen.Begin.TheVariants as begins
@@ -13,7 +13,7 @@ use Rattle.nr_layout.specs.declared.table.Span.{Span}
 use Rattle.nr_layout.specs.declared.table.Table.{Table}
 use Rattle.nr_layout.specs.Extent.{cells_of}
 use Rattle.nr_layout.specs.Frames.{bar_place, bars_of, bars_seen, begins_with_rule, count, framing_at, is_covered, is_ruled, meeting, table_end, was_ruled, width_end}
-use Rattle.nr_layout.specs.Held.{cell, column, columns, has_text, is_block, is_double, is_rule, is_text, text_of}
+use Rattle.nr_layout.specs.Held.{cell, column, columns, has_text, is_block, is_boxed, is_double, is_rule, is_text, row, text_of}
 use Rattle.nr_layout.specs.Pens as pens
 use Rattle.nr_layout.specs.Pens.{Stroke, Start, To, Leave, Bytes, Text, Pass}
 use Rattle.nr_layout.specs.Places.{on, place_text, steps_between, sum}
@@ -219,16 +219,25 @@ falling t r c line =
 abbrev pub go : Table → Bool → Place → List Stroke
 go t ruled place = if ruled then dash t place else To place ∷ []
 
-abbrev pub some_bars : Table → ℕ → Bool → Bool → ℕ → List Stroke
-some_bars t c was now n = go t was (bar_place t c) ++ pens.bars (joint t.signs true true was now) n
+abbrev pub bars_as : Table → ℕ → ℕ → Bool → ℕ → List Stroke
+bars_as t c byte was n = go t was (bar_place t c) ++ pens.bars byte n
 
 -- bars before a column, after a rule of a field or before one
 abbrev pub bar : Table → ℕ → ℕ → Bool → Bool → List Stroke
-bar t r c was now = if bars_of t r c == 0 then [] else some_bars t c was now (bars_of t r c)
+bar t r c was now =
+    if bars_of t r c == 0 then [] else bars_as t c (joint t.signs true true was now) was (bars_of t r c)
+
+-- bars go down from a row, but from the last one of a table without a box
+abbrev pub goes_below : Table → ℕ → Bool
+goes_below t r = is_boxed t || t.measured || not (sum (row t r).item 1 == length t.items.items)
+
+abbrev pub bar_byte : Table → ℕ → Bool → Bool → ℕ
+bar_byte t r was now = joint t.signs true (goes_below t r) was now
 
 -- the bars that are seen before a column of a row, after a rule of a field or before one
 abbrev pub row_bar : Table → ℕ → ℕ → Bool → Bool → List Stroke
-row_bar t r c was now = if bars_seen t r c == 0 then [] else some_bars t c was now (bars_seen t r c)
+row_bar t r c was now =
+    if bars_seen t r c == 0 then [] else bars_as t c (bar_byte t r was now) was (bars_seen t r c)
 
 -- a rule of a field: where none stands before it, and no bar is seen, it begins where bars would stand
 abbrev pub rule_begin : Table → ℕ → ℕ → List Stroke

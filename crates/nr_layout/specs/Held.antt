@@ -225,6 +225,7 @@ emptied t = record {
   measured = false;
   bars_known = false;
   waits_known = false;
+  uneven = false;
   most_text = t.most_text;
 }
 

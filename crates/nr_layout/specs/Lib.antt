@@ -19,6 +19,7 @@ pub mod Lines
 pub mod Lists
 pub mod Measured
 pub mod Names
+pub mod Once
 pub mod Ordering
 pub mod Pens
 pub mod Places

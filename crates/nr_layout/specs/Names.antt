@@ -49,9 +49,18 @@ is_told_text f = is_text f.field.form && is_hidden f.width
 abbrev pub needs_name : Cell → Bool
 needs_name f = is_told_text f || is_block f.field.form
 
--- a string is kept where requests define something, or its text does
-abbrev pub keeps : Table → Bool → Cell → Bool
-keeps t stored f = is_told_text f && (stored || steps_a_register (text_of t f.field.span))
+abbrev pub steps_in : Table → Cell → Bool
+steps_in t f = is_told_text f && steps_a_register (text_of t f.field.span)
+
+abbrev pub steps_at : Table → ℕ → Bool
+steps_at t n = steps_in t (cell_of t n)
+
+-- strings are kept where a request between rows defines something, or a field steps a register: each field is read once
+abbrev pub keeps_strings : Table → Bool
+keeps_strings t = has_definitions t || some_below (length t.cells.items) (steps_at t)
+
+abbrev pub keeps : Bool → Cell → Bool
+keeps stored f = is_told_text f && stored
 
 -- ---- a table, and what is kept while it goes out
 
@@ -73,7 +82,7 @@ with_cell n f t = record t { cells = put n f t.cells }
 
 abbrev pub named : ℕ → Cell → Bool → Naming → Naming
 named n f stored m = record {
-  table = with_cell n (with_name (next_name m.told) (keeps m.table stored f) f) m.table;
+  table = with_cell n (with_name (next_name m.told) (keeps stored f) f) m.table;
   told = record m.told { names = next_name m.told };
 }
 
@@ -89,7 +98,7 @@ abbrev pub string_if : Bool → ℕ → Table → Cell → List ℕ
 string_if kept name t f = if kept then string_as name (text_of t f.field.span) else []
 
 abbrev pub named_text : Cell → Bool → Naming → List ℕ
-named_text f stored m = string_if (keeps m.table stored f) (next_name m.told) m.table f
+named_text f stored m = string_if (keeps stored f) (next_name m.told) m.table f
 
 abbrev pub cell_text : ℕ → Bool → Naming → List ℕ
 cell_text n stored m =
@@ -147,13 +156,13 @@ abbrev pub items_text : Bool → Naming → List ℕ
 items_text stored m = joined (length m.table.items.items) (item_text_at stored m)
 
 abbrev pub cells_named_in : Table → Told → Table
-cells_named_in t told = (all_named (has_definitions t) (naming t told)).table
+cells_named_in t told = (all_named (keeps_strings t) (naming t told)).table
 
 abbrev pub told_named : Table → Told → Told
-told_named t told = (all_named (has_definitions t) (naming t told)).told
+told_named t told = (all_named (keeps_strings t) (naming t told)).told
 
 abbrev pub naming_text : Table → Told → List ℕ
-naming_text t told = items_text (has_definitions t) (naming t told)
+naming_text t told = items_text (keeps_strings t) (naming t told)
 
 -- ---- what fields kept is removed, the last first: behind it lie the texts that were made after it
 

@@ -144,17 +144,36 @@ begins_text (b ∷ bs) = not (is_control b || (b == code "\\"))
 abbrev pub prints : List ℕ → Bool
 prints line = sets line || (begins_text line && not (is_empty (after_blanks line)))
 
--- ---- .sp with a number of lines, or without one
+-- ---- .sp with a number of lines, or without one: `v` may stand behind it, and a fraction, of which half a line and more is one
 
 abbrev pub is_digit : ℕ → Bool
 is_digit b = nat_le (code "0") b && nat_le b (code "9")
 
--- 10,000 at most; only blanks stand behind the digits
+abbrev pub if_blank : ℕ → List ℕ → Option ℕ
+if_blank lines text = if is_empty (after_blanks text) then Some lines else None
+
+abbrev pub behind_v : List ℕ → List ℕ
+behind_v [] = []
+behind_v (b ∷ bs) = if b == code "v" then bs else b ∷ bs
+
+abbrev pub after_digits : List ℕ → List ℕ
+after_digits [] = []
+after_digits (b ∷ bs) = if is_digit b then after_digits bs else b ∷ bs
+
+abbrev pub is_half : List ℕ → Bool
+is_half [] = false
+is_half (b ∷ bs) = is_digit b && nat_le (code "5") b
+
+abbrev pub rounded : ℕ → List ℕ → Option ℕ
+rounded lines text =
+    if_blank (if is_half text then min (lines + 1) 10000 else lines) (behind_v (after_digits text))
+
+-- 10,000 at most
 abbrev pub lines_from : ℕ → List ℕ → Option ℕ
 lines_from lines [] = Some lines
 lines_from lines (b ∷ bs) =
     if is_digit b then lines_from (min (lines * 10 + (b - code "0")) 10000) bs else
-    if is_empty (after_blanks (b ∷ bs)) then Some lines else None
+    if b == code "." then rounded lines bs else if_blank lines (behind_v (b ∷ bs))
 
 abbrev pub lines_in : List ℕ → Option ℕ
 lines_in text = lines_from 0 text
@@ -187,3 +206,27 @@ line_asked line =
 -- how many lines a request of space asks for
 abbrev pub space_of : List ℕ → Option ℕ
 space_of line = if is_asked line then space_asked (line_asked line) else None
+
+-- ---- a condition over several lines: a request opens one by `\{`, and one by `\}` ends it
+
+abbrev pub begins_with : ℕ → List ℕ → Bool
+begins_with byte [] = false
+begins_with byte (b ∷ bs) = b == byte
+
+-- a backslash and this byte stand there
+abbrev pub has_brace : ℕ → List ℕ → Bool
+has_brace brace [] = false
+has_brace brace (b ∷ bs) = ((b == code "\\") && begins_with brace bs) || has_brace brace bs
+
+abbrev pub always_holds : List ℕ → Bool
+always_holds line = not (is_empty (behind_if (after_blanks (behind line))))
+
+-- one that always holds, and stands in no other, is none
+abbrev pub one_opened : List ℕ → ℕ → ℕ
+one_opened line before = if (before == 0) && always_holds line then 0 else min (before + 1) 10000
+
+-- how many are open behind a request
+abbrev pub open_behind : List ℕ → ℕ → ℕ
+open_behind line before =
+    if has_brace (code "{") line then (if has_brace (code "}") line then before else one_opened line before) else
+    if has_brace (code "}") line then before - 1 else before

@@ -1,7 +1,7 @@
 -- The lines of a table, from its top to its bottom (Lesk, "Data" and "Global options"; tbl(1), "Region options"): rows in their order, with
 -- the rules among them. A box has a rule above and below, allbox one between rows too, a double box two of each; a rule that stands first or
 -- last in a box is one of its own. A request stands where it is; after a row with bars one of space gives lines of these bars.
-use Rattle.std.specs.Prelude.{ℕ, zero, suc, ◌+◌, ◌-◌, ◌/◌, min, Bool, true, false, ◌&&◌, ◌||◌, not, nat_lt, length, Option, None, Some, if◌then◌else◌}
+use Rattle.std.specs.Prelude.{ℕ, zero, suc, ◌+◌, ◌-◌, ◌/◌, min, Bool, true, false, ◌==◌, ◌&&◌, ◌||◌, not, nat_lt, length, Option, None, Some, if◌then◌else◌}
 use Rattle.nr_layout.specs.declared.steps.Walk.{Walk}
 use Rattle.nr_layout.specs.declared.table.Cell.{Cell}
 use Rattle.nr_layout.specs.declared.table.Item.{Item}
@@ -14,13 +14,14 @@ use Rattle.nr_layout.specs.declared.table.Step.{Step}
 use Rattle.nr_layout.specs.declared.table.StepKind.{StepKind}
 use Rattle.nr_layout.specs.declared.table.StepKind.TheVariants as steps
 use Rattle.nr_layout.specs.declared.table.Table.{Table}
-use Rattle.nr_layout.specs.Frames.{has_bars, is_rule_item}
-use Rattle.nr_layout.specs.Held.{cell_of, is_all, is_boxed, is_double, item, none_of, row, some_print, step, text_of}
+use Rattle.nr_layout.specs.Frames.{has_bars, is_covered, is_rule_item}
+use Rattle.nr_layout.specs.Held.{cell_number, cell_of, columns, is_all, is_boxed, is_double, item, none_of, row, some_print, step, text_of}
 use Rattle.nr_layout.specs.Lists.{added, in_turn, put}
 use Rattle.nr_layout.specs.Places.{sum}
-use Rattle.nr_layout.specs.Requests.{space_of}
+use Rattle.nr_layout.specs.Requests.{open_behind, space_of}
 
--- ---- a walk over what stands below one another: its table, the last row, whether a rule waits for the row below, and the lines so far
+-- ---- a walk over what stands below one another: its table, the last row that takes room, which row is the next, whether a rule waits for
+-- the row below, how many conditions over several lines are open, and the lines so far
 
 pub record Walking : Type 0 where
   pub table : Table
@@ -38,6 +39,12 @@ with_rule ruled w = record w { ruled = ruled }
 
 abbrev pub with_row : Option ℕ → Bool → Walk → Walk
 with_row last ruled w = record w { last = last; ruled = ruled }
+
+abbrev pub with_next : ℕ → Walk → Walk
+with_next row w = record w { next = row }
+
+abbrev pub with_open : ℕ → Walk → Walk
+with_open conditions w = record w { opened = conditions }
 
 abbrev pub ruled : Bool → Walking → Walking
 ruled waits w = record w { walk = with_rule waits w.walk }
@@ -58,9 +65,23 @@ stepped kind lines w = record {
 abbrev pub released : Option ℕ → Walking → Walking
 released below w = if w.walk.ruled then stepped (steps.Rule w.walk.last below) 1 w else w
 
+-- so many columns from one on, over one of which a field goes on between two rows
+abbrev pub some_covered : ℕ → Table → Option ℕ → Option ℕ → ℕ → Bool
+some_covered zero t above below c = false
+some_covered (suc n) t above below c = is_covered t above below c || some_covered n t above below (c + 1)
+
+-- before another rule, or before space, it stands above the next row where a field goes on over it, and else above the row before
+abbrev pub row_beside : Table → Walk → Option ℕ
+row_beside t walk =
+    if nat_lt walk.next (length t.rows.items) && some_covered (columns t) t walk.last (Some walk.next) 0
+    then Some walk.next else walk.last
+
+abbrev pub released_beside : Walking → Walking
+released_beside w = released (row_beside w.table w.walk) w
+
 -- lines of a row's bars
 abbrev pub barred : ℕ → ℕ → Walking → Walking
-barred r lines w = stepped (steps.Bars r lines) lines (ruled false (released w.walk.last w))
+barred r lines w = stepped (steps.Bars r lines) lines (ruled false (released_beside w))
 
 -- after a row with bars a request of space gives lines of these
 abbrev pub row_in : Table → Option ℕ → Option ℕ → Option ℕ
@@ -74,11 +95,18 @@ abbrev pub asked : Option ℕ → Option ℕ → Span → Walking → Walking
 asked (Some lines) (Some r) s w = barred r lines w
 asked space row s w = stepped (steps.Request s) 1 w
 
-abbrev pub space_in : Table → Span → Option ℕ
-space_in t s = space_of (text_of t s)
+-- not in a condition that is open: the formatter may pass over it
+abbrev pub space_in : Table → Walk → Span → Option ℕ
+space_in t walk s = if walk.opened == 0 then space_of (text_of t s) else None
+
+abbrev pub asked_in : Option ℕ → Span → Walking → Walking
+asked_in space s w = asked space (row_asked w.table space w.walk) s w
+
+abbrev pub opened_in : Span → Walking → Walking
+opened_in s w = record w { walk = with_open (open_behind (text_of w.table s) w.walk.opened) w.walk }
 
 abbrev pub walked_request : Span → Walking → Walking
-walked_request s w = asked (space_in w.table s) (row_asked w.table (space_in w.table s) w.walk) s w
+walked_request s w = opened_in s (asked_in (space_in w.table w.walk s) s w)
 
 -- ---- a row
 
@@ -101,11 +129,18 @@ beyond_stepped n r w = if has_beyond w.table r then stepped (steps.Beyond n) 1 w
 -- a row that takes room, below a rule if one waits
 abbrev pub walked_own_row : ℕ → Row → Walking → Walking
 walked_own_row n r w =
-    beyond_stepped n r
-    (row_stepped n (on_step n r (released (Some n) (stepped (steps.Before n w.walk.ruled) 0 w))))
+    row_stepped n (on_step n r (released (Some n) (stepped (steps.Before n w.walk.ruled) 0 w)))
 
+abbrev pub on_next : ℕ → Walking → Walking
+on_next n w = record w { walk = with_next (sum n 1) w.walk }
+
+abbrev pub walked_line : Row → ℕ → Walking → Walking
+walked_line r n w = if r.own then walked_own_row n r w else stepped (steps.Before n false) 0 w
+
+-- what stands in no column goes out below it in any case
 abbrev pub walked_row_in : Row → ℕ → Walking → Walking
-walked_row_in r n w = if r.own then walked_own_row n r w else stepped (steps.Before n false) 0 w
+walked_row_in r n w =
+    on_next n (beyond_stepped n r (walked_line r n w))
 
 abbrev pub walked_row : ℕ → Walking → Walking
 walked_row n w = walked_row_in (row w.table n) n w
@@ -113,7 +148,7 @@ walked_row n w = walked_row_in (row w.table n) n w
 -- ---- an item
 
 abbrev pub walked_rule : Walking → Walking
-walked_rule w = ruled true (released w.walk.last w)
+walked_rule w = ruled true (released_beside w)
 
 abbrev pub walked_item : Item → Walking → Walking
 walked_item items.Rule w = walked_rule w
@@ -130,7 +165,13 @@ walked_items w = in_turn (length w.table.items.items) walked_at w
 
 -- a table of which a part went out goes on
 abbrev pub first_walk : Table → Walk
-first_walk t = record { last = None; ruled = if t.begun then is_all t.looks.frame else is_boxed t; line = 0 }
+first_walk t = record {
+  last = None;
+  next = 0;
+  ruled = if t.begun then is_all t.looks.frame else is_boxed t;
+  opened = 0;
+  line = 0;
+}
 
 abbrev pub walking_on : Table → Walking
 walking_on t = walking t (first_walk t)
@@ -180,39 +221,44 @@ lines_taken ends t = (walked ends t).walk.line
 abbrev pub row_line : Table → ℕ → ℕ
 row_line t r = (step t (row t r).step).line
 
--- the last line of a step up to another, if it has one on which a field may stand
-abbrev pub standing_on : StepKind → ℕ → ℕ → Option ℕ
-standing_on (steps.Edge above) line wanted = Some line
-standing_on (steps.Rule above below) line wanted = Some line
-standing_on (steps.Row r) line wanted = Some line
-standing_on (steps.Bars r lines) line wanted = Some (min (sum line (lines - 1)) wanted)
-standing_on kind line wanted = None
+-- whether the field of a number, which begins in a column, stands beside a step: in a row, beside its bars, or over a rule between two rows
+-- where it goes on
+abbrev pub goes_over_rule : Table → Option ℕ → Option ℕ → ℕ → ℕ → Bool
+goes_over_rule t above None f c = false
+goes_over_rule t above (Some below) f c = is_covered t above (Some below) c && (cell_number t below c == f)
 
-abbrev pub standing_line : Step → ℕ → Option ℕ
-standing_line s wanted = standing_on s.kind s.line wanted
+abbrev pub stands_beside : Table → StepKind → ℕ → ℕ → Bool
+stands_beside t (steps.Rule above below) f c = goes_over_rule t above below f c
+stands_beside t (steps.Row r) f c = cell_number t r c == f
+stands_beside t (steps.Bars r lines) f c = nat_lt 0 lines && (cell_number t r c == f)
+stands_beside t kind f c = false
 
-abbrev pub or_line : Option ℕ → ℕ → ℕ
-or_line None line = line
-or_line (Some found) line = found
+-- the last line of a step up to another
+abbrev pub line_in : StepKind → ℕ → ℕ → ℕ
+line_in (steps.Bars r lines) line wanted = min (sum line (lines - 1)) wanted
+line_in kind line wanted = line
 
--- of the next steps, while they begin no further
-abbrev pub line_among : ℕ → Table → ℕ → ℕ → ℕ → ℕ
-line_among zero t n wanted line = line
-line_among (suc k) t n wanted line =
+-- of the next steps, while they begin no further, the last line beside which it stands
+abbrev pub line_beside : Table → Step → ℕ → ℕ → ℕ → ℕ → ℕ
+line_beside t s f c wanted line = if stands_beside t s.kind f c then line_in s.kind s.line wanted else line
+
+abbrev pub line_among : ℕ → Table → ℕ → ℕ → ℕ → ℕ → ℕ → ℕ
+line_among zero t n f c wanted line = line
+line_among (suc k) t n f c wanted line =
     if nat_lt wanted (step t n).line then line
-    else line_among k t (n + 1) wanted (or_line (standing_line (step t n) wanted) line)
+    else line_among k t (n + 1) f c wanted (line_beside t (step t n) f c wanted line)
 
-abbrev pub line_up_to : Table → ℕ → ℕ → ℕ
-line_up_to t r wanted =
-    line_among (length t.steps.items - (row t r).step) t (row t r).step wanted (row_line t r)
+abbrev pub line_up_to : Table → ℕ → Cell → ℕ → ℕ
+line_up_to t n f wanted =
+    line_among (length t.steps.items - (row t f.top).step) t (row t f.top).step n f.first wanted (row_line t f.top)
 
 abbrev pub line_wanted : Stand → ℕ → ℕ → ℕ
 line_wanted stands.Top top bottom = top
 line_wanted stands.Middle top bottom = sum top ((bottom - top) / 2)
 line_wanted stands.Low top bottom = bottom
 
-abbrev pub line_of : Table → Cell → ℕ
-line_of t f = line_up_to t f.top (line_wanted f.key.stand (row_line t f.top) (row_line t f.bottom))
+abbrev pub line_of : Table → ℕ → Cell → ℕ
+line_of t n f = line_up_to t n f (line_wanted f.key.stand (row_line t f.top) (row_line t f.bottom))
 
 abbrev pub on_line : ℕ → Cell → Cell
 on_line line f = record f { line = line }
@@ -220,7 +266,7 @@ on_line line f = record f { line = line }
 abbrev pub settled_line : ℕ → Table → Table
 settled_line n t =
     let f = cell_of t n in
-    if f.falls then record t { cells = put n (on_line (line_of t f) f) t.cells } else t
+    if f.falls then record t { cells = put n (on_line (line_of t n f) f) t.cells } else t
 
 abbrev pub lines_settled : Table → Table
 lines_settled t = in_turn (length t.cells.items) settled_line t

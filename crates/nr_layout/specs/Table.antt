@@ -52,6 +52,7 @@ first_table signs most row = record {
   measured = false;
   bars_known = false;
   waits_known = false;
+  uneven = false;
   most_text = most;
 }
 

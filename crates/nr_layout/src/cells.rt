@@ -65,12 +65,6 @@ impl Table {
         ensures room { held.emptied self.new ≡ held.emptied self.old }
     {
         let number = self.cell_number(row.saturating_sub(1), column);
-        let cell = self.cell_of(number);
-        let longer = Cell {
-            bottom: row,
-            ..cell
-        };
-        set_item(&mut self.cells, number, longer);
         add_item(&mut self.grid, number);
     }
 
@@ -200,6 +194,82 @@ impl Table {
         given
     }
 
+    /// Whether a cell stands in all of its columns of a row.
+    #[tactic(auto, using(crate::proofs::Nexts::whole_next))]
+    fn is_whole(&self, row: usize, number: usize) -> bool
+        ensures { result ≡ specs.is_whole self.now row number }
+    {
+        let cell = self.cell_of(number);
+        for column in cell.first..cell.last.saturating_add(1) {
+            if self.cell_number(row, column) != number {
+                return false;
+            }
+        }
+        true
+    }
+
+    /// A field goes on over a row below.
+    fn go_down(&mut self, row: usize, number: usize)
+        ensures value { self.new ≡ specs.gone_down row number self.old }
+        ensures room { held.emptied self.new ≡ held.emptied self.old }
+    {
+        let cell = self.cell_of(number);
+        set_item(
+            &mut self.cells,
+            number,
+            Cell {
+                bottom: row,
+                ..cell
+            },
+        );
+    }
+
+    /// An empty field stands in a column of a row, and the field above ends above.
+    fn end_above(&mut self, row: usize, column: usize)
+        ensures value { self.new ≡ specs.ended_above row column self.old }
+        ensures room { held.emptied self.new ≡ held.emptied self.old }
+    {
+        let number = self.cells.len();
+        let key = self.key(self.line(self.row(row).line), column);
+        let cell = self.new_cell(row, key, Field::empty(), column, column);
+        let place = row.saturating_mul(self.columns.len());
+        add_item(&mut self.cells, cell);
+        set_item(&mut self.grid, place.saturating_add(column), number);
+    }
+
+    /// A field from above goes on in a column of a row, or ends above: it goes on in all of its columns, or in none.
+    fn go_down_or_end(&mut self, row: usize, column: usize, number: usize)
+        ensures value { self.new ≡ specs.went_on_in row column number self.old }
+        ensures room { held.emptied self.new ≡ held.emptied self.old }
+    {
+        if self.is_whole(row, number) {
+            return self.go_down(row, number);
+        }
+        self.end_above(row, column);
+    }
+
+    /// So it is in a column of a row, if a field from above stands there: the row's own have numbers from this one on.
+    fn judge_column(&mut self, row: usize, cells: usize, column: usize)
+        ensures value { self.new ≡ specs.went_on_at row cells column self.old }
+        ensures room { held.emptied self.new ≡ held.emptied self.old }
+    {
+        let number = self.cell_number(row, column);
+        if number < cells {
+            self.go_down_or_end(row, column, number);
+        }
+    }
+
+    /// Fields from above go on over a row.
+    #[tactic(auto, using(crate::proofs::Turns::one_more))]
+    fn judge_columns(&mut self, row: usize, cells: usize)
+        ensures value { self.new ≡ specs.went_on row cells self.old }
+        ensures room { held.emptied self.new ≡ held.emptied self.old }
+    {
+        for column in 0..self.columns.len() {
+            self.judge_column(row, cells, column);
+        }
+    }
+
     /// The fields of a row become cells; `s` goes on to the right, `^` and `\\^` downward.
     fn place_row(&mut self, number: usize)
         ensures value { self.new ≡ specs.placed_row number self.old }
@@ -208,6 +278,7 @@ impl Table {
         let row = self.row(number);
         let cells = self.cells.len();
         let beyond = self.place_fields(number, row);
+        self.judge_columns(number, cells);
         let cells_end = self.cells.len();
         let placed = Row {
             beyond,

@@ -382,7 +382,7 @@ impl Table {
 
     /// The width of columns with the spaces between them.
     #[tactic(auto, using(crate::proofs::Nexts::together_next))]
-    fn span_width(&self, first: usize, last: usize) -> usize
+    pub(crate) fn span_width(&self, first: usize, last: usize) -> usize
         ensures { result ≡ specs.span_width self.now first last }
     {
         let mut width: usize = 0;

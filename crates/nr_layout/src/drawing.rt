@@ -133,22 +133,46 @@ impl Table {
         if bars == 0 {
             return;
         }
-        self.draw_some_bars(column, was, now, bars, out);
+        self.draw_some_bars(
+            column,
+            self.signs.joint(true, true, was, now),
+            was,
+            bars,
+            out,
+        );
     }
 
-    /// So many bars before a column.
+    /// So many bars before a column, each this byte, after a rule of a field or not.
     fn draw_some_bars<W: Sink>(
         &self,
         column: usize,
+        byte: u8,
         was: bool,
-        now: bool,
         bars: usize,
         out: &mut Out<'_, W>,
     )
-        ensures { Draws out.old out.new (specs.some_bars self.now column was now bars) }
+        ensures { Draws out.old out.new (specs.bars_as self.now column byte was bars) }
     {
         self.go(was, self.bar_place(column), out);
-        out.bars(self.signs.joint(true, true, was, now), bars);
+        out.bars(byte, bars);
+    }
+
+    /// Whether bars go down from a row.
+    fn goes_below(&self, row: usize) -> bool
+        ensures { result ≡ specs.goes_below self.now row }
+    {
+        self.is_boxed() || self.measured || self.row(row).item.saturating_add(1) != self.items.len()
+    }
+
+    /// What stands for a bar of a row after a rule of a field, or before one.
+    #[inline(always)]
+    fn bar_byte(&self, row: usize, was: bool, now: bool) -> u8
+        ensures { result ≡ specs.bar_byte self.now row was now }
+    {
+        if !was && !now {
+            return self.signs.bar;
+        }
+        self.signs.joint(true, self.goes_below(row), was, now)
     }
 
     /// Whether a field of a row is a rule in a column.
@@ -288,7 +312,7 @@ impl Table {
         }
         let was = self.was_ruled(row, column);
         let now = self.is_ruled(row, column);
-        self.draw_some_bars(column, was, now, bars, out);
+        self.draw_some_bars(column, self.bar_byte(row, was, now), was, bars, out);
     }
 
     /// A column of a row, with the bars before it.
@@ -329,7 +353,8 @@ impl Table {
         if bars == 0 {
             return;
         }
-        self.draw_some_bars(columns, self.was_ruled(row, columns), false, bars, out);
+        let was = self.was_ruled(row, columns);
+        self.draw_some_bars(columns, self.bar_byte(row, was, false), was, bars, out);
     }
 
     /// A row: bars, rules of fields, fields.

@@ -1,6 +1,7 @@
 //! Laws of the lines of a table, each the contract of a function that does nothing: they speak of the definitions alone.
 ghost use Rattle.nr_layout.specs.Ends.{EdgesEndTogether, RowsEndTogether, RowsEndWithin, RulesEndTogether};
 ghost use Rattle.nr_layout.specs.Fitting.{EqualColumns, FieldsFit, LeastFits, SpansFit};
+ghost use Rattle.nr_layout.specs.Once.{FieldsStandOnce, PartsGoOut, RequestsAdded, RowsAdded, RulesAdded, TablesBegin};
 ghost use Rattle.nr_layout.specs.Ordering.{RowsGoOut};
 ghost use Rattle.nr_layout.specs.Texts.{BarsHaveTheirTexts, EdgesHaveNone, RowsHaveTheirTexts, RulesHaveTheirTexts, TextsGoOut};
 
@@ -42,4 +43,21 @@ pub fn columns_keep_formats()
 /// Among the lines of a table stands each row that takes room, once and in its order, and no other row; so it is in a part of one, too.
 pub fn rows_go_out_once()
     ensures { RowsGoOut }
+{}
+
+/// Each field stands on one line of those that go out, and on no other: in its row; one that goes on over rows below in one of these,
+/// beside its bars, or over a rule between two of them. So it is in each table, or part of one, that goes out as lines, where rows
+/// stand below one another in their order and there is room.
+pub fn fields_stand_once()
+    ensures { FieldsStandOnce }
+{}
+
+/// So rows are read: in their order among what stands below one another, whatever is read, from where a table begins, or a part of it
+/// went out.
+pub fn rows_stand_in_order()
+    ensures row { RowsAdded }
+    ensures rule { RulesAdded }
+    ensures request { RequestsAdded }
+    ensures begun { TablesBegin }
+    ensures part { PartsGoOut }
 {}

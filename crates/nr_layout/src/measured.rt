@@ -13,17 +13,38 @@ use nr_units::sink::Sink;
 use nr_units::source::Fault;
 
 impl Table {
-    /// Columns are measured, if no line of the table went out.
+    /// The width of all columns, with the spaces between them.
+    fn whole_width(&self) -> usize
+        ensures { result ≡ specs.whole_width self.now }
+    {
+        self.span_width(0, self.columns.len().saturating_sub(1))
+    }
+
+    /// Columns are measured and have their places.
+    fn lay_measured(&mut self)
+        ensures value { self.new ≡ specs.laid_measured self.old }
+        ensures room { held.emptied self.new ≡ held.emptied self.old }
+    {
+        self.measure_all();
+        self.know_all();
+        self.lay_out();
+    }
+
+    /// Whether parts of tables may have other columns, where those of the part before were so wide together.
+    fn has_grown(&self, before: usize) -> bool
+        ensures { result ≡ specs.has_grown before self.now }
+    {
+        self.uneven || (self.measured && before < self.whole_width())
+    }
+
+    /// Columns are measured: in a part that goes on they stay as wide as before at least.
     fn open_measured(&mut self)
         ensures value { self.new ≡ specs.opened self.old }
         ensures room { held.emptied self.new ≡ held.emptied self.old }
     {
-        if self.measured {
-            return;
-        }
-        self.measure_all();
-        self.know_all();
-        self.lay_out();
+        let before = self.whole_width();
+        self.lay_measured();
+        self.uneven = self.has_grown(before);
     }
 
     /// The table, or the part of it that was read: the text of each field once, in the order of lines and columns.
@@ -64,13 +85,30 @@ impl Table {
         self.read_columns();
     }
 
+    /// Whether parts of tables may have other columns, where only the formatter knows them: of each part anew.
+    fn is_parted(&self) -> bool
+        ensures { result ≡ specs.is_parted self.now }
+    {
+        self.uneven || self.begun
+    }
+
+    /// So they are before a part of which only the formatter knows the widths.
+    fn end_for_told<W: Sink>(&mut self, out: &mut Out<'_, W>)
+        ensures draws { Draws out.old out.new (specs.ended_strokes self.old) }
+        ensures value { self.new ≡ specs.told_on self.old }
+        ensures room { held.emptied self.new ≡ held.emptied self.old }
+    {
+        self.end_measured(out);
+        self.uneven = self.is_parted();
+    }
+
     /// The part that was read, as requests: only the formatter knows all widths.
     fn put_told_part<W: Sink>(&mut self, ends: bool, out: &mut Out<'_, W>)
         ensures draws { Draws out.old out.new (specs.told_part_strokes ends self.old) }
         ensures value { self.new ≡ specs.told_part ends self.old }
         ensures room { held.emptied self.new ≡ held.emptied self.old }
     {
-        self.end_measured(out);
+        self.end_for_told(out);
         self.put_told(ends, out);
     }
 

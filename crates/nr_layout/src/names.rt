@@ -1,9 +1,10 @@
 //! Fields of which only the formatter knows the widths, and blocks, have numbers: their strings and diversions are named by them.
 
-ghost use Rattle.std.specs.Prelude.{◌≡◌, ◌∷◌, []};
+ghost use Rattle.std.specs.Prelude.{◌≡◌, ◌∷◌, [], length};
 ghost use Rattle.nr_layout.specs.Held as held;
 ghost use Rattle.nr_layout.specs.Names as specs;
 ghost use Rattle.nr_layout.specs.Pens.{Bytes};
+ghost use Rattle.nr_layout.specs.Sequences.{some_below};
 ghost use Rattle.nr_layout.specs.Tapes.{Draws};
 
 use super::lists::set_item;
@@ -104,11 +105,31 @@ impl Table {
         false
     }
 
-    /// Whether a field is read as a string: where requests define something, or its text does.
-    fn keeps(&self, stored: bool, cell: Cell) -> bool
-        ensures { result ≡ specs.keeps self.now stored cell }
+    /// Whether a field steps a register.
+    fn steps_at(&self, number: usize) -> bool
+        ensures { result ≡ specs.steps_at self.now number }
     {
-        cell.is_told_text() && (stored || steps_a_register(self.bytes(cell.field.span)))
+        let cell = self.cell_of(number);
+        cell.is_told_text() && steps_a_register(self.bytes(cell.field.span))
+    }
+
+    /// Whether one does.
+    fn has_steps(&self) -> bool
+        ensures { result ≡ some_below (length self.now.cells.items) (specs.steps_at self.now) }
+    {
+        for number in 0..self.cells.len() {
+            if self.steps_at(number) {
+                return true;
+            }
+        }
+        false
+    }
+
+    /// Whether fields are read as strings, since a request between rows defines something, or a field steps a register.
+    fn keeps_strings(&self) -> bool
+        ensures { result ≡ specs.keeps_strings self.now }
+    {
+        self.has_definitions() || self.has_steps()
     }
 
     /// The string of a field that is read as one.
@@ -136,7 +157,7 @@ impl Table {
             (specs.naming self.old told.old) }
         ensures room { held.emptied self.new ≡ held.emptied self.old }
     {
-        let kept = self.keeps(stored, cell);
+        let kept = cell.is_told_text() && stored;
         told.names = told.names.saturating_add(1);
         self.put_string_of(kept, told.names, cell, out);
         set_item(&mut self.cells, number, cell.with_name(told.names, kept));
@@ -231,7 +252,7 @@ impl Table {
         ensures told { told.new ≡ specs.told_named self.old told.old }
         ensures room { held.emptied self.new ≡ held.emptied self.old }
     {
-        let stored = self.has_definitions();
+        let stored = self.keeps_strings();
         self.name_items(stored, told, out)
     }
 

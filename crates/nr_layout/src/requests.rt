@@ -1,6 +1,6 @@
 //! What requests between rows and lines of blocks change.
 
-ghost use Rattle.std.specs.Prelude.{◌≡◌};
+ghost use Rattle.std.specs.Prelude.{◌≡◌, ◌≤◌};
 ghost use Rattle.nr_layout.specs.Requests as specs;
 
 /// The most lines that `.sp` gives.
@@ -247,22 +247,75 @@ pub(crate) fn prints(line: &[u8]) -> bool
     sets(line) || (begins_text(line) && !after_blanks(line).is_empty())
 }
 
-/// The lines that digits ask for, after which only blanks may stand.
+/// So many lines, if only blanks stand there.
+fn if_blank(lines: usize, text: &[u8]) -> Option<usize>
+    ensures { result ≡ specs.if_blank lines text.now }
+{
+    if after_blanks(text).is_empty() {
+        Some(lines)
+    } else {
+        None
+    }
+}
+
+/// What stands behind `v`, if it begins with that.
+fn behind_v(text: &[u8]) -> &[u8]
+    ensures { result.now ≡ specs.behind_v text.now }
+{
+    if text.is_empty() || text[0] != b'v' {
+        return text;
+    }
+    &text[1..]
+}
+
+/// What stands behind digits.
+fn after_digits(text: &[u8]) -> &[u8]
+    ensures { result.now ≡ specs.after_digits text.now }
+{
+    for (at, byte) in text.iter().enumerate() {
+        if !matches!(*byte, b'0'..=b'9') {
+            return &text[at..];
+        }
+    }
+    b""
+}
+
+/// Whether a fraction is half at least.
+fn is_half(text: &[u8]) -> bool
+    ensures { result ≡ specs.is_half text.now }
+{
+    !text.is_empty() && matches!(text[0], b'5'..=b'9')
+}
+
+/// So many lines, and a fraction of one.
+fn rounded(lines: usize, text: &[u8]) -> Option<usize>
+    requires { lines ≤ 10000 }
+    ensures { result ≡ specs.rounded lines text.now }
+{
+    let whole = if is_half(text) {
+        (lines + 1).min(MOST_SPACE)
+    } else {
+        lines
+    };
+    if_blank(whole, behind_v(after_digits(text)))
+}
+
+/// The lines that a number asks for, after which only blanks may stand.
 fn lines_in(text: &[u8]) -> Option<usize>
     ensures { result ≡ specs.lines_in text.now }
 {
     let mut lines: usize = 0;
     for (at, byte) in text.iter().enumerate() {
-        if matches!(*byte, b'0'..=b'9') {
-            let digit = usize::from(byte.saturating_sub(b'0'));
-            lines = lines
-                .saturating_mul(10)
-                .saturating_add(digit)
-                .min(MOST_SPACE);
-        } else if after_blanks(&text[at..]).is_empty() {
-            return Some(lines);
-        } else {
-            return None;
+        match *byte {
+            b'0'..=b'9' => {
+                let digit = usize::from(byte.saturating_sub(b'0'));
+                lines = lines
+                    .saturating_mul(10)
+                    .saturating_add(digit)
+                    .min(MOST_SPACE);
+            }
+            b'.' => return rounded(lines, &text[at + 1..]),
+            _ => return if_blank(lines, behind_v(&text[at..])),
         }
     }
     Some(lines)
@@ -336,5 +389,37 @@ pub(crate) fn space_of(line: &[u8]) -> Option<usize>
         space_asked(line_asked(line))
     } else {
         None
+    }
+}
+
+/// Whether a backslash and this byte stand there.
+fn has_brace(text: &[u8], brace: u8) -> bool
+    ensures { result ≡ specs.has_brace brace text.now }
+{
+    for (at, byte) in text.iter().enumerate() {
+        let rest = &text[at + 1..];
+        if *byte == b'\\' && !rest.is_empty() && rest[0] == brace {
+            return true;
+        }
+    }
+    false
+}
+
+/// Whether a condition always holds.
+fn always_holds(line: &[u8]) -> bool
+    ensures { result ≡ specs.always_holds line.now }
+{
+    !behind_if(after_blanks(behind(line))).is_empty()
+}
+
+/// How many conditions over several lines are open behind a request, of which so many were before it.
+pub(crate) fn open_behind(line: &[u8], before: usize) -> usize
+    ensures { result ≡ specs.open_behind line.now before }
+{
+    match (has_brace(line, b'{'), has_brace(line, b'}')) {
+        (true, true) | (false, false) => before,
+        (false, true) => before.saturating_sub(1),
+        (true, false) if before == 0 && always_holds(line) => 0,
+        (true, false) => before.saturating_add(1).min(MOST_SPACE),
     }
 }

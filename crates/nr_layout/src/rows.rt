@@ -192,6 +192,13 @@ impl Table {
         self.begun || self.items.len() > 0
     }
 
+    /// Whether a table of the page went out in parts whose columns may differ.
+    pub fn is_uneven(&self) -> bool
+        ensures { result ≡ self.now.uneven }
+    {
+        self.uneven
+    }
+
     /// Whether the rows that were read should go out before another comes.
     pub fn is_tight(&self) -> bool
         ensures { result ≡ specs.is_tight self.now }

@@ -5,16 +5,20 @@ ghost use Rattle.nr_layout.specs.Held as held;
 ghost use Rattle.nr_layout.specs.Steps as specs;
 
 use super::lists::{add_item, set_item};
-use super::requests::space_of;
+use super::requests::{open_behind, space_of};
 use super::table::{Cell, Item, Row, Span, Stand, Step, StepKind, Table};
 
 /// What a walk over the items of a table has met.
 #[derive(Clone, Copy)]
 struct Walk {
-    /// The last row.
+    /// The last row that takes room.
     last: Option<usize>,
+    /// The next row.
+    next: usize,
     /// A rule waits for the row below.
     ruled: bool,
+    /// How many conditions over several lines are open.
+    opened: usize,
     /// The lines so far.
     line: usize,
 }
@@ -35,6 +39,16 @@ impl Walk {
             line: self.line.saturating_add(lines),
             ..self
         }
+    }
+}
+
+/// The last line of a step up to another.
+fn line_in(kind: StepKind, line: usize, wanted: usize) -> usize
+    ensures { result ≡ specs.line_in kind line wanted }
+{
+    match kind {
+        StepKind::Bars(_, lines) => line.saturating_add(lines.saturating_sub(1)).min(wanted),
+        _ => line,
     }
 }
 
@@ -62,13 +76,49 @@ impl Table {
         self.add_step(StepKind::Rule(walk.last, below), 1, walk)
     }
 
+    /// Whether a field goes on over a rule between two rows.
+    #[tactic(auto, using(crate::proofs::Nexts::covered_next))]
+    fn some_covered(&self, above: Option<usize>, below: Option<usize>) -> bool
+        ensures { result ≡ specs.some_covered (held.columns self.now) self.now above below 0 }
+    {
+        for column in 0..self.columns.len() {
+            if self.is_covered(above, below, column) {
+                return true;
+            }
+        }
+        false
+    }
+
+    /// The row beside a rule that stands before another, or before space.
+    fn row_beside(&self, walk: Walk) -> Option<usize>
+        ensures { result ≡ specs.row_beside self.now walk }
+    {
+        if walk.next < self.rows.len() && self.some_covered(walk.last, Some(walk.next)) {
+            Some(walk.next)
+        } else {
+            walk.last
+        }
+    }
+
+    /// A rule before another one, or before space, if one waits.
+    fn release_beside(&mut self, walk: Walk) -> Walk
+        ensures value { self.new ≡ (specs.released_beside (specs.walking self.old walk)).table }
+        ensures walk { result ≡ (specs.released_beside (specs.walking self.old walk)).walk }
+        ensures room { held.emptied self.new ≡ held.emptied self.old }
+    {
+        if !walk.ruled {
+            return walk;
+        }
+        self.release_rule(self.row_beside(walk), walk)
+    }
+
     /// Lines of a row's bars.
     fn add_bars(&mut self, row: usize, lines: usize, walk: Walk) -> Walk
         ensures value { self.new ≡ (specs.barred row lines (specs.walking self.old walk)).table }
         ensures walk { result ≡ (specs.barred row lines (specs.walking self.old walk)).walk }
         ensures room { held.emptied self.new ≡ held.emptied self.old }
     {
-        let walk = self.release_rule(walk.last, walk);
+        let walk = self.release_beside(walk);
         self.add_step(StepKind::Bars(row, lines), lines, walk.with_rule(false))
     }
 
@@ -82,17 +132,39 @@ impl Table {
         }
     }
 
-    /// A request. One of space gives lines of bars after a row that has them.
+    /// A request that asks for space or not. One of space gives lines of bars after a row that has them.
+    fn walk_asked(&mut self, space: Option<usize>, span: Span, walk: Walk) -> Walk
+        ensures value { self.new ≡ (specs.asked_in space span (specs.walking self.old walk)).table }
+        ensures walk { result ≡ (specs.asked_in space span (specs.walking self.old walk)).walk }
+        ensures room { held.emptied self.new ≡ held.emptied self.old }
+    {
+        match (space, self.row_asked(space, walk)) {
+            (Some(lines), Some(row)) => self.add_bars(row, lines, walk),
+            _ => self.add_step(StepKind::Request(span), 1, walk),
+        }
+    }
+
+    /// How many lines of space a request asks for.
+    fn space_in(&self, walk: Walk, span: Span) -> Option<usize>
+        ensures { result ≡ specs.space_in self.now walk span }
+    {
+        if walk.opened == 0 {
+            space_of(self.bytes(span))
+        } else {
+            None
+        }
+    }
+
+    /// A request.
     fn walk_request(&mut self, span: Span, walk: Walk) -> Walk
         ensures value { self.new ≡ (specs.walked_request span (specs.walking self.old walk)).table }
         ensures walk { result ≡ (specs.walked_request span (specs.walking self.old walk)).walk }
         ensures room { held.emptied self.new ≡ held.emptied self.old }
     {
-        let space = space_of(self.bytes(span));
-        match (space, self.row_asked(space, walk)) {
-            (Some(lines), Some(row)) => self.add_bars(row, lines, walk),
-            _ => self.add_step(StepKind::Request(span), 1, walk),
-        }
+        let space = self.space_in(walk, span);
+        let walk = self.walk_asked(space, span, walk);
+        let opened = open_behind(self.bytes(span), walk.opened);
+        Walk { opened, ..walk }
     }
 
     /// Whether fields of a row stand in no column.
@@ -146,8 +218,19 @@ impl Table {
         let walk = self.add_step(StepKind::Before(number, walk.ruled), 0, walk);
         let walk = self.release_rule(Some(number), walk);
         self.set_step(number, row);
-        let walk = self.add_row(number, walk);
-        self.add_beyond(number, row, walk)
+        self.add_row(number, walk)
+    }
+
+    /// The line of a row, if it takes room.
+    fn walk_line(&mut self, number: usize, row: Row, walk: Walk) -> Walk
+        ensures value { self.new ≡ (specs.walked_line row number (specs.walking self.old walk)).table }
+        ensures walk { result ≡ (specs.walked_line row number (specs.walking self.old walk)).walk }
+        ensures room { held.emptied self.new ≡ held.emptied self.old }
+    {
+        if row.own {
+            return self.walk_own_row(number, row, walk);
+        }
+        self.add_step(StepKind::Before(number, false), 0, walk)
     }
 
     /// A row.
@@ -157,10 +240,12 @@ impl Table {
         ensures room { held.emptied self.new ≡ held.emptied self.old }
     {
         let row = self.row(number);
-        if row.own {
-            return self.walk_own_row(number, row, walk);
+        let walk = self.walk_line(number, row, walk);
+        let walk = self.add_beyond(number, row, walk);
+        Walk {
+            next: number.saturating_add(1),
+            ..walk
         }
-        self.add_step(StepKind::Before(number, false), 0, walk)
     }
 
     /// A rule waits.
@@ -169,7 +254,7 @@ impl Table {
         ensures walk { result ≡ (specs.walked_rule (specs.walking self.old walk)).walk }
         ensures room { held.emptied self.new ≡ held.emptied self.old }
     {
-        self.release_rule(walk.last, walk).with_rule(true)
+        self.release_beside(walk).with_rule(true)
     }
 
     /// An item.
@@ -196,7 +281,9 @@ impl Table {
         };
         Walk {
             last: None,
+            next: 0,
             ruled,
+            opened: 0,
             line: 0,
         }
     }
@@ -317,45 +404,65 @@ impl Table {
         self.step(self.row(row).step).line
     }
 
-    /// The last line of a step up to another, if it has one on which a field may stand.
-    fn standing_line(&self, step: Step, wanted: usize) -> Option<usize>
-        ensures { result ≡ specs.standing_line step wanted }
+    /// Whether a field goes on over a rule between two rows.
+    fn goes_over_rule(
+        &self,
+        above: Option<usize>,
+        below: Option<usize>,
+        number: usize,
+        column: usize,
+    ) -> bool
+        ensures { result ≡ specs.goes_over_rule self.now above below number column }
     {
-        match step.kind {
-            StepKind::Edge(_) | StepKind::Rule(_, _) | StepKind::Row(_) => Some(step.line),
-            StepKind::Bars(_, lines) => {
-                Some(
-                    step.line
-                        .saturating_add(lines.saturating_sub(1))
-                        .min(wanted),
-                )
-            }
-            _ => None,
+        match below {
+            Some(row) => self.is_covered(above, Some(row), column)
+                && self.cell_number(row, column) == number,
+            None => false,
         }
     }
 
-    /// A line that was found, or another.
-    fn or_line(&self, found: Option<usize>, line: usize) -> usize
-        ensures { result ≡ specs.or_line found line }
+    /// Whether a field that begins in a column stands beside a step.
+    fn stands_beside(&self, kind: StepKind, number: usize, column: usize) -> bool
+        ensures { result ≡ specs.stands_beside self.now kind number column }
     {
-        match found {
-            Some(found) => found,
-            None => line,
+        match kind {
+            StepKind::Rule(above, below) => self.goes_over_rule(above, below, number, column),
+            StepKind::Row(row) => self.cell_number(row, column) == number,
+            StepKind::Bars(row, lines) => lines > 0 && self.cell_number(row, column) == number,
+            _ => false,
         }
     }
 
-    /// The last line up to another on which a field may stand, from a row on.
+    /// The last line of a step up to another beside which a field stands that begins in a column, or this one.
+    fn line_beside(
+        &self,
+        step: Step,
+        number: usize,
+        column: usize,
+        wanted: usize,
+        line: usize,
+    ) -> usize
+        ensures { result ≡ specs.line_beside self.now step number column wanted line }
+    {
+        if self.stands_beside(step.kind, number, column) {
+            line_in(step.kind, step.line, wanted)
+        } else {
+            line
+        }
+    }
+
+    /// The last line up to another beside which a field stands, from its first row on.
     #[tactic(auto, using(crate::proofs::Nexts::line_next))]
-    fn line_up_to(&self, row: usize, wanted: usize) -> usize
-        ensures { result ≡ specs.line_up_to self.now row wanted }
+    fn line_up_to(&self, number: usize, cell: Cell, wanted: usize) -> usize
+        ensures { result ≡ specs.line_up_to self.now number cell wanted }
     {
-        let mut line = self.row_line(row);
-        for number in self.row(row).step..self.steps.len() {
-            let step = self.step(number);
+        let mut line = self.row_line(cell.top);
+        for place in self.row(cell.top).step..self.steps.len() {
+            let step = self.step(place);
             if step.line > wanted {
                 return line;
             }
-            line = self.or_line(self.standing_line(step, wanted), line);
+            line = self.line_beside(step, number, cell.first, wanted, line);
         }
         line
     }
@@ -372,12 +479,12 @@ impl Table {
     }
 
     /// The line on which a field stands that goes on over rows below.
-    fn line_of(&self, cell: Cell) -> usize
-        ensures { result ≡ specs.line_of self.now cell }
+    fn line_of(&self, number: usize, cell: Cell) -> usize
+        ensures { result ≡ specs.line_of self.now number cell }
     {
         let top = self.row_line(cell.top);
         let bottom = self.row_line(cell.bottom);
-        self.line_up_to(cell.top, self.line_wanted(cell.key.stand, top, bottom))
+        self.line_up_to(number, cell, self.line_wanted(cell.key.stand, top, bottom))
     }
 
     /// A field that goes on over rows below stands on a line of these.
@@ -387,7 +494,7 @@ impl Table {
     {
         let cell = self.cell_of(number);
         if cell.falls {
-            let line = self.line_of(cell);
+            let line = self.line_of(number, cell);
             set_item(&mut self.cells, number, Cell { line, ..cell });
         }
     }

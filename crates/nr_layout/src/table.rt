@@ -281,6 +281,8 @@ pub struct Table {
     pub(crate) bars_known: bool,
     /// Those for diversions did.
     pub(crate) waits_known: bool,
+    /// A table of the page went out in parts whose columns may differ.
+    pub(crate) uneven: bool,
     pub(crate) most_text: usize,
 }
 
@@ -376,6 +378,7 @@ impl Table {
             measured: false,
             bars_known: false,
             waits_known: false,
+            uneven: false,
             most_text: most,
         })
     }
@@ -413,6 +416,7 @@ impl Table {
         self.begin();
         self.bars_known = false;
         self.waits_known = false;
+        self.uneven = false;
     }
 
     /// Its rows are forgotten.

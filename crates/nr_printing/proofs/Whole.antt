@@ -29,21 +29,21 @@ use Rattle.nr_printing.specs.Document.{Prints, Setting, source_of, tables_of, to
 all_came : (page bytes rest : List ℕ) → page ≡ bytes ++ rest → rest ≡ [] → bytes ≡ page
 all_came page bytes rest came ends = search rules
 
-tables_done : (g : Signs) (l : Limits) (cells : ℕ) (page : Supply) (bytes : List ℕ) (left : Option Supply) (kept : Items Complaint) (missed : Bool)
-    → tables.IsDone g l cells (Some page) left (Some []) (Some bytes) kept missed → bytes ≡ tables.set_page g l cells page.bytes
-tables_done g l cells page bytes None kept missed d = absurd d.came
-tables_done g l cells page bytes (Some t) kept missed d =
+tables_done : (g : Signs) (l : Limits) (cells : ℕ) (page : Supply) (bytes : List ℕ) (left : Option Supply) (kept : Items Complaint) (missed uneven : Bool)
+    → tables.IsDone g l cells (Some page) left (Some []) (Some bytes) kept missed uneven → bytes ≡ tables.set_page g l cells page.bytes
+tables_done g l cells page bytes None kept missed uneven d = absurd d.came
+tables_done g l cells page bytes (Some t) kept missed uneven d =
     d.puts.went_out ∙ ap (λ x. tables.set_page g l cells x) (all_came page.bytes d.bytes t.bytes d.came d.ends)
 
-pub tables_turned : (g : Signs) (l : Limits) (cells : ℕ) (page : Supply) (bytes : List ℕ) (q left : Option Supply) (held new : Option (List ℕ)) (kept : Items Complaint) (missed : Bool) (o : tbl.Outcome)
-    → tables.Ran g l cells q left held new kept missed o → o ≡ tbls.Done → q ≡ Some page → held ≡ Some [] → new ≡ Some bytes
+pub tables_turned : (g : Signs) (l : Limits) (cells : ℕ) (page : Supply) (bytes : List ℕ) (q left : Option Supply) (held new : Option (List ℕ)) (kept : Items Complaint) (missed uneven : Bool) (o : tbl.Outcome)
+    → tables.Ran g l cells q left held new kept missed uneven o → o ≡ tbls.Done → q ≡ Some page → held ≡ Some [] → new ≡ Some bytes
     → bytes ≡ tables.set_page g l cells page.bytes
-tables_turned g l cells page bytes q left held new kept missed o ran done same before after =
-    tables_done g l cells page bytes left kept missed
-    (subst (λ w. tables.Ran g l cells (Some page) left (Some []) (Some bytes) kept missed w) done
-    (subst (λ z. tables.Ran g l cells (Some page) left (Some []) z kept missed o) after
-    (subst (λ y. tables.Ran g l cells (Some page) left y new kept missed o) before
-    (subst (λ x. tables.Ran g l cells x left held new kept missed o) same ran))))
+tables_turned g l cells page bytes q left held new kept missed uneven o ran done same before after =
+    tables_done g l cells page bytes left kept missed uneven
+    (subst (λ w. tables.Ran g l cells (Some page) left (Some []) (Some bytes) kept missed uneven w) done
+    (subst (λ z. tables.Ran g l cells (Some page) left (Some []) z kept missed uneven o) after
+    (subst (λ y. tables.Ran g l cells (Some page) left y new kept missed uneven o) before
+    (subst (λ x. tables.Ran g l cells x left held new kept missed uneven o) same ran))))
 
 -- ---- what went out
 

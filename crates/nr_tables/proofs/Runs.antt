@@ -21,7 +21,7 @@ use Rattle.nr_layout.specs.Pens.{Bytes}
 use Rattle.nr_layout.specs.Tapes.{Tape, Sends, SendsIn, Draws, failed_since}
 use Rattle.nr_layout.proofs.Tapes.{draws_nothing, sends_then}
 use Rattle.nr_tables.specs.Running.{Puts, PutsFront, IsBroken, Ran, said_so_far}
-use Rattle.nr_tables.specs.Setting.{EndsAs, IsSame, Shown, Shows, first_tape, hears, page_table, set_bytes, strokes}
+use Rattle.nr_tables.specs.Setting.{EndsAs, IsSame, Shown, Shows, first_tape, hears, page_table, set, set_bytes, strokes}
 use Rattle.nr_tables.proofs.Setting.{heard-said}
 
 went_out : (f : Bool) (h now : Option (List ℕ)) (left out : List ℕ) → SendsIn false f h [] now left out → f ≡ false → left ≡ [] → Appends h now out
@@ -64,38 +64,41 @@ module _ {A : Type 0} (shows : A → Shown → Type 0) (old new : A) (g : Signs)
     (start : Starts shows old g l s)
     (is : (s : Shown) → shows new s → Shows a table kept missed s)
     (flushed : Draws a b (Bytes [] ∷ [])) where
-  whole : (ps : List Piece) → Tells shows hears ps old new → b.failed ≡ false → b.pending ≡ [] → Puts (set_bytes g l ps) ps s.held b.held kept.now missed
+  parted : (ps : List Piece) → Shows a table kept missed (said_to ps s) → table.now.uneven ≡ (set ps (page_table g l)).uneven
+  parted ps h = ap (λ (t : Table). t.uneven) (h.table_now ∙ ap (set ps) start.table)
+
+  whole : (ps : List Piece) → Tells shows hears ps old new → b.failed ≡ false → b.pending ≡ [] → Puts (set_bytes g l ps) ps (page_table g l) s.held b.held kept.now missed table.now.uneven
   whole ps told live empty =
       let h = shown shows old new g l ps s a table kept missed start is told in
-      record { went_out = went_out b.failed s.held b.held b.pending (set_bytes g l ps) (sent g l ps s a b table kept missed start.table h flushed).sends live empty; keeps = h.keeps }
+      record { went_out = went_out b.failed s.held b.held b.pending (set_bytes g l ps) (sent g l ps s a b table kept missed start.table h flushed).sends live empty; keeps = h.keeps; parts = parted ps h }
 
-  part : (ps : List Piece) → Tells shows hears ps old new → PutsFront (set_bytes g l ps) ps s.held b.held kept.now missed
+  part : (ps : List Piece) → Tells shows hears ps old new → PutsFront (set_bytes g l ps) ps (page_table g l) s.held b.held kept.now missed table.now.uneven
   part ps told =
       let h = shown shows old new g l ps s a table kept missed start is told in
-      record { went_out = front_out b.failed s.held b.held b.pending (set_bytes g l ps) (sent g l ps s a b table kept missed start.table h flushed).sends; keeps = h.keeps }
+      record { went_out = front_out b.failed s.held b.held b.pending (set_bytes g l ps) (sent g l ps s a b table kept missed start.table h flushed).sends; keeps = h.keeps; parts = parted ps h }
 
-  parts : {ps qs : List Piece} → Tells shows hears ps old new ⊎ Tells shows hears qs old new
-      → PutsFront (set_bytes g l ps) ps s.held b.held kept.now missed ⊎ PutsFront (set_bytes g l qs) qs s.held b.held kept.now missed
-  parts (inl told) = inl (part _ told)
-  parts (inr told) = inr (part _ told)
+  either : {ps qs : List Piece} → Tells shows hears ps old new ⊎ Tells shows hears qs old new
+      → PutsFront (set_bytes g l ps) ps (page_table g l) s.held b.held kept.now missed table.now.uneven ⊎ PutsFront (set_bytes g l qs) qs (page_table g l) s.held b.held kept.now missed table.now.uneven
+  either (inl told) = inl (part _ told)
+  either (inr told) = inr (part _ told)
 
-  ran-whole : (o : Outcome) → reading.Ran shows hears l cells first last old new o → b.failed ≡ false → b.pending ≡ [] → Ran g l cells first last s.held b.held kept.now missed o
+  ran-whole : (o : Outcome) → reading.Ran shows hears l cells first last old new o → b.failed ≡ false → b.pending ≡ [] → Ran g l cells first last s.held b.held kept.now missed table.now.uneven o
   ran-whole Done r live empty = record { bytes = r.bytes; came = r.came; ends = r.ends; puts = whole _ r.told live empty }
   ran-whole (ReadFault at) r live empty = record { bytes = r.bytes; came = r.came; count = r.count; puts = whole _ r.told live empty }
   ran-whole TooLong r live empty = record { bytes = r.bytes; came = r.came; count = r.count; puts = whole _ r.told live empty }
-  ran-whole WriteFault r live empty = record { bytes = r.bytes; came = r.came; puts = parts r.told }
+  ran-whole WriteFault r live empty = record { bytes = r.bytes; came = r.came; puts = either r.told }
 
-  broken : (o : Outcome) → reading.Ran shows hears l cells first last old new o → IsBroken g l cells first last s.held b.held kept.now missed
+  broken : (o : Outcome) → reading.Ran shows hears l cells first last old new o → IsBroken g l cells first last s.held b.held kept.now missed table.now.uneven
   broken Done r = record { bytes = r.bytes; came = r.came; puts = inr (part _ r.told) }
   broken (ReadFault at) r = record { bytes = r.bytes; came = r.came; puts = inl (part _ r.told) }
   broken TooLong r = record { bytes = r.bytes; came = r.came; puts = inl (part _ r.told) }
-  broken WriteFault r = record { bytes = r.bytes; came = r.came; puts = parts r.told }
+  broken WriteFault r = record { bytes = r.bytes; came = r.came; puts = either r.told }
 
-  ran-ends : (wanted o : Outcome) → reading.Ran shows hears l cells first last old new wanted → EndsAs wanted o b → Ran g l cells first last s.held b.held kept.now missed o
+  ran-ends : (wanted o : Outcome) → reading.Ran shows hears l cells first last old new wanted → EndsAs wanted o b → Ran g l cells first last s.held b.held kept.now missed table.now.uneven o
   ran-ends wanted o r (inl (same, live, empty)) =
-      subst (λ x. Ran g l cells first last s.held b.held kept.now missed x) (sym same) (ran-whole wanted r live empty)
+      subst (λ x. Ran g l cells first last s.held b.held kept.now missed table.now.uneven x) (sym same) (ran-whole wanted r live empty)
   ran-ends wanted o r (inr (same, fails)) =
-      subst (λ x. Ran g l cells first last s.held b.held kept.now missed x) (sym same) (broken wanted r)
+      subst (λ x. Ran g l cells first last s.held b.held kept.now missed table.now.uneven x) (sym same) (broken wanted r)
 
   -- what was lent stays what it is
   heard-it : (ps : List Piece) → Tells shows hears ps old new → (all : List Piece) × Shows a table kept missed (said_to all s)
@@ -129,7 +132,7 @@ faults-counted b c d false counted is = counted ∙ ap (λ (x : Bool). put_count
 
 -- what a run comes to, and what stays of what was lent
 pub record RunsTo (g : Signs) (l : Limits) (cells : ℕ) (first last : Option Supply) (s : Shown) (b : Tape) (table : MutBor Table) (kept : MutBor (Items Complaint)) (missed : Bool) (o : Outcome) : Type 0 where
-  pub ran : Ran g l cells first last s.held b.held kept.now missed o
+  pub ran : Ran g l cells first last s.held b.held kept.now missed table.now.uneven o
   pub failures : b.failures ≡ put_counted_if (reading.is_write_fault o) s.failures
   pub table_same : table.ghost_name ≡ s.table_name
   pub table_room : emptied table.now ≡ emptied s.table

@@ -13,7 +13,7 @@ use Rattle.nr_layout.proofs.Tapes.{draws_as, draws_same, draws_then}
 use Rattle.nr_layout.specs.Pens.{Stroke, after_all, bytes_of}
 use Rattle.nr_layout.specs.Tapes.{Tape, Draws}
 use Rattle.nr_tables.specs.Hearing.{line_heard}
-use Rattle.nr_tables.specs.Setting.{Becomes, Keeps, Notes, Shown, Shows, block_added, block_byte, block_strokes, hears, relief, relieved, room_strokes, set, set_in, strokes, strokes_in, wrong_in, wrongs}
+use Rattle.nr_tables.specs.Setting.{Becomes, IsSame, Keeps, Notes, Shown, Shows, block_added, block_byte, block_strokes, hears, relief, relieved, room_strokes, set, set_in, strokes, strokes_in, wrong_in, wrongs}
 
 -- ---- what is known once pieces were heard
 
@@ -162,6 +162,22 @@ pub line_set : (old new : MutBor Table) (tell is : Tell) (text : List ℕ) (t : 
 line_set old new tell is text t same comes become =
     subst (λ (k : Tell). Becomes old new (set_in k text t)) (sym same)
     (subst (Becomes old new) (sym comes) (subst (λ (k : Tell). Becomes old new (relieved (line_heard k text t))) same become))
+
+-- where nothing is wrong nothing is told
+nothing_told : {old new : MutBor (Items Complaint)} {before missed : Bool} → IsSame old before new missed → Notes old new before missed []
+nothing_told {old} {new} {before} {missed} (stays, none) = record {
+  same = ap (λ (b : MutBor (Items Complaint)). b.ghost_name) stays;
+  room = ap (λ (b : MutBor (Items Complaint)). b.now.capacity) stays;
+  keeps = λ all kept. subst (λ (l : List Complaint). Keeps l new.now missed) (sym (append-nil all))
+      (subst (λ (m : Bool). Keeps all new.now m) (sym none)
+      (subst (λ (b : MutBor (Items Complaint)). Keeps all b.now before) (sym stays) kept));
+}
+
+pub line_told : {old new : MutBor (Items Complaint)} {before missed : Bool} (tell is : Tell) → tell ≡ is → wrong_in is ≡ []
+    → IsSame old before new missed → Notes old new before missed (wrong_in tell)
+line_told {old} {new} {before} {missed} tell is same none stays =
+    subst (λ (k : Tell). Notes old new before missed (wrong_in k)) (sym same)
+    (subst (λ (l : List Complaint). Notes old new before missed l) (sym none) (nothing_told stays))
 
 -- ---- one byte more of a block
 

@@ -32,6 +32,8 @@ pub struct Report {
     pub outcome: Outcome,
     /// There were more complaints than there was room for.
     pub missed: bool,
+    /// A table that was longer than what is held went out in parts, whose columns may differ.
+    pub uneven: bool,
 }
 
 /// The memory that texts are turned in, taken once.
@@ -108,7 +110,7 @@ fn run<R: Source, W: Sink>(
     requires missed { press.old.missed ≡ false }
     ensures ran { specs.Ran press.old.table.now.signs reader.old.limits reader.old.state.measure.line
         (R.supply input.old) (R.supply input.new) press.old.out.held press.new.out.held
-        press.new.complaints.now press.new.missed result }
+        press.new.complaints.now press.new.missed press.new.table.now.uneven result }
     ensures table_same { press.new.table.ghost_name ≡ press.old.table.ghost_name }
     ensures table_room { emptied press.new.table.now ≡ emptied press.old.table.now }
     ensures same { press.new.complaints.ghost_name ≡ press.old.complaints.ghost_name }
@@ -123,24 +125,31 @@ fn run<R: Source, W: Sink>(
     press.ends(outcome)
 }
 
-/// The same with parts that are lent: how it ended, and the sink.
+/// How a page was turned with parts that are lent, and its output.
+struct Turned<W> {
+    outcome: Outcome,
+    missed: bool,
+    output: W,
+}
+
+/// The same with parts that are lent.
 fn turn<R: Source, W: Sink>(
     reader: &mut Reader,
     input: &mut R,
     table: &mut Table,
     out: Out<'_, W>,
     complaints: &mut SliceVec<'_, Complaint>,
-) -> (Report, W)
+) -> Turned<W>
     requires table { table.old ≡ page_table table.old.signs reader.old.limits }
     requires tape { out ≡ first_tape out.held out.failures }
     requires empty { complaints.old.items ≡ [] }
     ensures ran { specs.Ran table.old.signs reader.old.limits reader.old.state.measure.line
-        (R.supply input.old) (R.supply input.new) out.entry.held (W.held result.1) complaints.new
-        result.0.missed result.0.outcome }
+        (R.supply input.old) (R.supply input.new) out.entry.held (W.held result.output) complaints.new
+        result.missed table.new.uneven result.outcome }
     ensures table_room { emptied table.new ≡ emptied table.old }
     ensures room { complaints.new.capacity ≡ complaints.old.capacity }
-    ensures read_faults { TellsReads result.0.outcome (R.failures input.old) (R.failures input.new) }
-    ensures write_faults { W.failures result.1 ≡ put_counted_if (is_write_fault result.0.outcome)
+    ensures read_faults { TellsReads result.outcome (R.failures input.old) (R.failures input.new) }
+    ensures write_faults { W.failures result.output ≡ put_counted_if (is_write_fault result.outcome)
         out.entry.failures }
     ensures limits { reader.new.limits ≡ reader.old.limits }
     ensures line { reader.new.state.measure.line ≡ reader.old.state.measure.line }
@@ -152,17 +161,18 @@ fn turn<R: Source, W: Sink>(
         missed: false,
     };
     let outcome = run(reader, input, &mut press);
-    let report = Report {
-        outcome,
-        missed: press.missed,
-    };
+    let missed = press.missed;
     let Press {
         table: _table,
         out,
         complaints: _complaints,
         missed: _,
     } = press;
-    (report, out.into_sink())
+    Turned {
+        outcome,
+        missed,
+        output: out.into_sink(),
+    }
 }
 
 /// Turns the tables of what the input gives into lines of text, or into requests where only the formatter knows a width,
@@ -175,7 +185,7 @@ pub fn convert<R: Source, W: Sink>(
 ) -> (Report, W)
     ensures ran { specs.Ran rooms.old.signs rooms.old.limits rooms.old.cells (R.supply input.old)
         (R.supply input.new) (W.held output) (W.held result.1) complaints.new result.0.missed
-        result.0.outcome }
+        result.0.uneven result.0.outcome }
     // A read fault is reported only where the source failed once, and then always, but where the output fails too.
     ensures read_faults { TellsReads result.0.outcome (R.failures input.old) (R.failures input.new) }
     // A write fault is reported where a call of the sink failed, and else none did.
@@ -189,5 +199,15 @@ pub fn convert<R: Source, W: Sink>(
     rooms.table.begin_page();
     complaints.clear();
     let out = Out::over(&mut rooms.pending, output);
-    turn(&mut rooms.reader, input, &mut rooms.table, out, complaints)
+    let Turned {
+        outcome,
+        missed,
+        output,
+    } = turn(&mut rooms.reader, input, &mut rooms.table, out, complaints);
+    let report = Report {
+        outcome,
+        missed,
+        uneven: rooms.table.is_uneven(),
+    };
+    (report, output)
 }

@@ -148,7 +148,7 @@ last_light p =
 rest_light : (shape : Shape) (p : Page) → Light 4 (rest_said shape p)
 rest_light shapes.Empty p = last_light p
 rest_light shapes.Block p =
-    record { few = choose (λ (ps : List Piece). length ps + weight (forgotten (at_mode modes.Block p)) ≤ 4) (states.is_beyond p.state) _ _ (omega arith) (omega arith) }
+    record { few = choose (λ (ps : List Piece). length ps + weight (forgotten (with_state (states.block_opened p.state) p)) ≤ 4) (states.is_beyond p.state) _ _ (omega arith) (omega arith) }
 rest_light shapes.Text p = last_light p
 rest_light (shapes.Mark marks.Nothing) p = last_light p
 rest_light (shapes.Mark marks.Rule) p = choose (Light 4) (p.state.fields == 0) _ _ (record { few = omega arith }) (last_light p)
@@ -240,11 +240,12 @@ judged_light : (kind : Option Kind) (p : Page) → Light (length p.kept + 3) (he
 judged_light None p = record { few = omega arith }
 judged_light (Some kinds.NoFormat) p = given_up_line_light kinds.NoFormat p
 judged_light (Some kinds.TooManyColumns) p = given_up_line_light kinds.TooManyColumns p
-judged_light (Some kinds.BadFormat) p = record { few = omega arith }
-judged_light (Some kinds.UnknownOption) p = record { few = omega arith }
+judged_light (Some (kinds.BadFormat byte)) p = record { few = omega arith }
+judged_light (Some (kinds.UnknownOption word)) p = record { few = omega arith }
+judged_light (Some (kinds.BadArgument word)) p = record { few = omega arith }
 judged_light (Some kinds.TooManyFields) p = record { few = omega arith }
-judged_light (Some kinds.OpenBlock) p = record { few = omega arith }
-judged_light (Some kinds.OpenTable) p = record { few = omega arith }
+judged_light (Some (kinds.OpenBlock line)) p = record { few = omega arith }
+judged_light (Some (kinds.OpenTable line)) p = record { few = omega arith }
 judged_light (Some kinds.FormatsLimit) p = record { few = omega arith }
 judged_light (Some kinds.RowLimit) p = record { few = omega arith }
 judged_light (Some kinds.TooWide) p = record { few = omega arith }
@@ -283,8 +284,12 @@ line_light p m =
     (more (length p.kept + 3) (4 * length p.kept + 5) (heads.given_up_line kinds.FormatsLimit p) (omega arith) (given_up_line_light kinds.FormatsLimit p))
     (line_more_light p m))
 
+kind_few : (kind : Option Kind) (s : State) → length (heads.wrong_if kind s) ≤ 1
+kind_few None s = omega arith
+kind_few (Some kind) s = omega arith
+
 options_few : (o : Options) (s : State) → length (heads.options_wrong o s) ≤ 1
-options_few o s = choose (λ (ps : List Piece). length ps ≤ 1) o.unknown _ _ (omega arith) (omega arith)
+options_few o s = kind_few o.wrong s
 
 -- the same is kept, and few pieces are said
 record Split (p : Page) (e : Effect) : Type 0 where

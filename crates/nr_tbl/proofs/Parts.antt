@@ -46,7 +46,7 @@ head_comes shows hears p q r a b c e h t k u =
     (comes_then shows hears (options_line p) formats_line q r a b c h t k u)
 
 end_goes_on : (p : Page) → is_begin p.state.mode ≡ false → finished p ≡ and_then (line_closed p) closed
-end_goes_on p e = ap (λ (t : Bool). if t then effect p (wrong_at_end OpenTable false p.state ∷ []) else and_then (line_closed p) closed) e
+end_goes_on p e = ap (λ (t : Bool). if t then effect p (wrong_at_end (OpenTable p.state.line) false p.state ∷ []) else and_then (line_closed p) closed) e
 
 pub end_comes : {A S : Type 0} (shows : A → S → Type 0) (hears : Piece → S → S) (p q r : Page) (a b c : A) → is_begin p.state.mode ≡ false
     → q ≡ (line_closed p).page → Tells shows hears (line_closed p).pieces a b → r ≡ (closed q).page → Tells shows hears (closed q).pieces b c

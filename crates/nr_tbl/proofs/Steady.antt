@@ -125,7 +125,7 @@ fitting_last p = let h = same_last p.state (rest_of p) in record { limits = refl
 
 fitting_shape : (shape : Shape) (p : Page) → Fitting p (rest_said shape p).page
 fitting_shape shapes.Empty p = fitting_last p
-fitting_shape shapes.Block p = forgets p (at_mode modes.Block p) refl (record { line = refl; cells = refl })
+fitting_shape shapes.Block p = forgets p (with_state (states.block_opened p.state) p) refl (record { line = refl; cells = refl })
 fitting_shape shapes.Text p = fitting_last p
 fitting_shape (shapes.Mark marks.Nothing) p = fitting_last p
 fitting_shape (shapes.Mark marks.Rule) p =
@@ -207,11 +207,12 @@ fitting_judged : (kind : Option Kind) (p : Page) → Fitting p (heads.formats_ju
 fitting_judged None p = forgets p (with_state (states.row_begun p.state) p) refl (record { line = refl; cells = refl })
 fitting_judged (Some kinds.NoFormat) p = record { limits = refl; same = record { line = refl; cells = refl }; fits = omega arith }
 fitting_judged (Some kinds.TooManyColumns) p = record { limits = refl; same = record { line = refl; cells = refl }; fits = omega arith }
-fitting_judged (Some kinds.BadFormat) p = forgets p (with_state (states.row_begun p.state) p) refl (record { line = refl; cells = refl })
-fitting_judged (Some kinds.UnknownOption) p = forgets p (with_state (states.row_begun p.state) p) refl (record { line = refl; cells = refl })
+fitting_judged (Some (kinds.BadFormat byte)) p = forgets p (with_state (states.row_begun p.state) p) refl (record { line = refl; cells = refl })
+fitting_judged (Some (kinds.UnknownOption word)) p = forgets p (with_state (states.row_begun p.state) p) refl (record { line = refl; cells = refl })
+fitting_judged (Some (kinds.BadArgument word)) p = forgets p (with_state (states.row_begun p.state) p) refl (record { line = refl; cells = refl })
 fitting_judged (Some kinds.TooManyFields) p = forgets p (with_state (states.row_begun p.state) p) refl (record { line = refl; cells = refl })
-fitting_judged (Some kinds.OpenBlock) p = forgets p (with_state (states.row_begun p.state) p) refl (record { line = refl; cells = refl })
-fitting_judged (Some kinds.OpenTable) p = forgets p (with_state (states.row_begun p.state) p) refl (record { line = refl; cells = refl })
+fitting_judged (Some (kinds.OpenBlock line)) p = forgets p (with_state (states.row_begun p.state) p) refl (record { line = refl; cells = refl })
+fitting_judged (Some (kinds.OpenTable line)) p = forgets p (with_state (states.row_begun p.state) p) refl (record { line = refl; cells = refl })
 fitting_judged (Some kinds.FormatsLimit) p = forgets p (with_state (states.row_begun p.state) p) refl (record { line = refl; cells = refl })
 fitting_judged (Some kinds.RowLimit) p = forgets p (with_state (states.row_begun p.state) p) refl (record { line = refl; cells = refl })
 fitting_judged (Some kinds.TooWide) p = forgets p (with_state (states.row_begun p.state) p) refl (record { line = refl; cells = refl })

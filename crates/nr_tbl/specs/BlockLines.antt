@@ -46,7 +46,7 @@ block_ended p = and_then (block_left p) (if goes_on p then row_line else row_end
 
 -- a text block has no end: it ends with its row
 abbrev pub block_closed : Page → Effect
-block_closed p = effect p (wrong OpenBlock p.state ∷ piece tells.BlockEnd [] ∷ piece tells.Row [] ∷ [])
+block_closed p = effect p (wrong (OpenBlock p.state.block) p.state ∷ piece tells.BlockEnd [] ∷ piece tells.Row [] ∷ [])
 
 -- a line of it is said
 abbrev pub block_said : Page → Effect

@@ -37,7 +37,7 @@ is_open_in mode p = nat_lt p.start (length p.kept)
 
 abbrev pub block_at_end : Page → Effect
 block_at_end p =
-    effect p (wrong_at_end OpenBlock true p.state ∷ piece tells.BlockEnd [] ∷ piece tells.Row []
+    effect p (wrong_at_end (OpenBlock p.state.block) true p.state ∷ piece tells.BlockEnd [] ∷ piece tells.Row []
     ∷ piece tells.TableEnd [] ∷ [])
 
 abbrev pub head_at_end : Page → Effect
@@ -49,16 +49,16 @@ head_at_end p =
 abbrev pub row_at_end : Page → Effect
 row_at_end p =
     let e = last_field p in
-    effect e.page (wrong_at_end OpenTable true p.state ∷ e.pieces ++ piece tells.Row []
+    effect e.page (wrong_at_end (OpenTable p.state.begun) true p.state ∷ e.pieces ++ piece tells.Row []
     ∷ piece tells.TableEnd [] ∷ [])
 
 -- a table ends that has no end of its own
 abbrev pub closed_in : Mode → Page → Effect
 closed_in (modes.Passing start) p = effect p []
 closed_in (modes.Plain start) p =
-    effect p (wrong_at_end OpenTable true p.state ∷ piece tells.PlainEnd [] ∷ [])
+    effect p (wrong_at_end (OpenTable p.state.begun) true p.state ∷ piece tells.PlainEnd [] ∷ [])
 closed_in modes.Head p = head_at_end p
-closed_in modes.Rows p = effect p (wrong_at_end OpenTable true p.state ∷ piece tells.TableEnd [] ∷ [])
+closed_in modes.Rows p = effect p (wrong_at_end (OpenTable p.state.begun) true p.state ∷ piece tells.TableEnd [] ∷ [])
 closed_in modes.Row p = row_at_end p
 closed_in modes.Block p = block_at_end p
 closed_in modes.BlockLine p = block_at_end p
@@ -77,7 +77,7 @@ line_closed p = if is_open_in p.state.mode p then read (code "\n") p else effect
 
 abbrev pub finished : Page → Effect
 finished p =
-    if is_begin p.state.mode then effect p (wrong_at_end OpenTable false p.state ∷ [])
+    if is_begin p.state.mode then effect p (wrong_at_end (OpenTable p.state.line) false p.state ∷ [])
     else and_then (line_closed p) closed
 
 -- ---- the definition: what is said of all bytes of an input, where so many bytes are kept and the line has so many cells

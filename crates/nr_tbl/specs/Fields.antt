@@ -17,13 +17,19 @@ shape_of_two a b =
     if (a == code "\\") && (b == code "^") then Mark marks.Above else
     if (a == code "T") && (b == code "{") then Block else Text
 
+-- an escape of a sign: `\-` or `\.`
+abbrev pub is_sign : ℕ → ℕ → Bool
+is_sign a b = (a == code "\\") && ((b == code "-") || (b == code "."))
+
 -- what a field is
 abbrev pub shape_of : List ℕ → Shape
 shape_of [] = Empty
 shape_of (a ∷ []) = if is_rule a then Mark marks.Rule else Text
 shape_of (a ∷ b ∷ []) = shape_of_two a b
 shape_of (a ∷ b ∷ c ∷ []) = if (a == code "\\") && (b == code "R") then Mark (marks.Repeat c) else Text
-shape_of (a ∷ b ∷ c ∷ d ∷ rest) = Text
+shape_of (a ∷ b ∷ c ∷ d ∷ []) =
+    if (a == code "\\") && (b == code "R") && is_sign c d then Mark (marks.Repeat d) else Text
+shape_of (a ∷ b ∷ c ∷ d ∷ e ∷ rest) = Text
 
 abbrev pub without_blanks_before : List ℕ → List ℕ
 without_blanks_before [] = []

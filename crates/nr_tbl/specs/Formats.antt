@@ -32,7 +32,7 @@ first_formats columns lines numeric = record {
   columns = columns;
   lines = lines;
   numeric = numeric;
-  bad = false;
+  bad = None;
   many = false;
 }
 
@@ -48,6 +48,14 @@ kind_of b =
 -- a line begins
 abbrev pub line_begun : Formats → Formats
 line_begun f = record f { cells = 0; many = f.many || nat_le 256 f.lines; lines = one_more f.lines 256 }
+
+-- the first byte that is no part of a format, or lacks what it needs
+abbrev pub blamed_in : Option ℕ → ℕ → Formats → Formats
+blamed_in (Some first) b f = f
+blamed_in None b f = record f { bad = Some b }
+
+abbrev pub blaming : ℕ → Formats → Formats
+blaming b f = blamed_in f.bad b f
 
 -- nothing stands before the next column, or above it, that could go on over it
 abbrev pub is_bad : ℕ → Formats → Bool
@@ -72,7 +80,7 @@ cell_added kind begins f =
 
 -- one of l where it can't be of its kind
 abbrev pub kind_added : ℕ → Bool → Formats → Told
-kind_added kind begins f = if is_bad kind f then cell_added (code "l") begins (record f { bad = true })
+kind_added kind begins f = if is_bad kind f then cell_added (code "l") begins (blaming kind f)
     else cell_added kind begins f
 
 abbrev pub cell : ℕ → Formats → Told
@@ -86,8 +94,8 @@ line_ends f =
 abbrev pub bar : Formats → Told
 bar f = told (record f { bars = one_more f.bars 2 }) (only Nothing)
 
-abbrev pub bad_byte : Formats → Told
-bad_byte f = told (record f { bad = true }) (only Nothing)
+abbrev pub bad_byte : ℕ → Formats → Told
+bad_byte b f = told (blaming b f) (only Nothing)
 
 -- ---- what modifies a column
 
@@ -107,12 +115,12 @@ modifier b f =
     if b == code "u" then told f (only Nothing) else
     if b == code "f" then going_on parts.Font Nothing f else
     if b == code "w" then going_on parts.Width Width f else
-    if (b == code "p") || (b == code "v") || (b == code "m") then going_on parts.Size Nothing f else
-    if is_digit b then going_on parts.Digits (Gap b) f else bad_byte f
+    if (b == code "p") || (b == code "v") || (b == code "m") then going_on (parts.Size b) Nothing f else
+    if is_digit b then going_on parts.Digits (Gap b) f else bad_byte b f
 
 abbrev pub column : ℕ → Option ℕ → Formats → Told
 column b (Some kind) f = cell kind f
-column b None f = if f.begun then modifier b f else bad_byte f
+column b None f = if f.begun then modifier b f else bad_byte b f
 
 abbrev pub small_key : ℕ → Formats → Told
 small_key b f =
@@ -130,9 +138,9 @@ ended ends b f =
     let t = key b (record f { part = parts.Keys }) in
     told t.formats (record t.called { ends = ends })
 
--- its line has ended before what the part needs
-abbrev pub cut_short : Bool → ℕ → Formats → Told
-cut_short ends b f = ended ends b (record f { bad = true })
+-- the part of a letter has ended before what it needs
+abbrev pub cut_short : ℕ → Bool → ℕ → Formats → Told
+cut_short letter ends b f = ended ends b (blaming letter f)
 
 -- ---- fonts
 
@@ -148,7 +156,7 @@ abbrev pub in_font : ℕ → Formats → Told
 in_font b f =
     if b == code "(" then going_on (parts.FontName (code "R")) Nothing f else
     if (b == code " ") || (b == code "\t") then told f (only Nothing) else
-    if b == code "\n" then cut_short false b f else going_on parts.FontMore (Font (font_of b)) f
+    if b == code "\n" then cut_short (code "f") false b f else going_on parts.FontMore (Font (font_of b)) f
 
 -- a capital letter or a digit
 abbrev pub is_name_byte : ℕ → Bool
@@ -160,38 +168,44 @@ in_font_more b f = if is_name_byte b then font b f else ended false b f
 abbrev pub in_font_name : ℕ → ℕ → Formats → Told
 in_font_name last b f =
     if b == code ")" then font last f else
-    if b == code "\n" then cut_short false b f else going_on (parts.FontName b) Nothing f
+    if b == code "\n" then cut_short (code "f") false b f else going_on (parts.FontName b) Nothing f
 
 -- ---- numbers
 
 abbrev pub in_width : ℕ → Formats → Told
 in_width b f =
-    if b == code "(" then going_on parts.WidthIn Nothing f else
+    if b == code "(" then going_on (parts.WidthIn false) Nothing f else
     if is_digit b then going_on parts.Digits (Byte b) f else
-    if (b == code " ") || (b == code "\t") then told f (only Nothing) else ended true b f
+    if (b == code " ") || (b == code "\t") then told f (only Nothing) else cut_short (code "w") true b f
 
-abbrev pub in_width_in : ℕ → Formats → Told
-in_width_in b f =
-    if b == code ")" then going_on parts.Keys (Byte (code "\n")) f else
-    if b == code "\n" then cut_short true b f else told f (only (Byte b))
+-- in parentheses a digit stands, or an escape
+abbrev pub width_ended : Bool → Formats → Told
+width_ended said f = going_on parts.Keys (Byte (code "\n")) (if said then f else blaming (code "w") f)
+
+abbrev pub in_width_in : Bool → ℕ → Formats → Told
+in_width_in said b f =
+    if b == code ")" then width_ended said f else
+    if b == code "\n" then cut_short (code "w") true b f else
+    if is_digit b || (b == code "\\") then going_on (parts.WidthIn true) (Byte b) f
+    else told f (only (Byte b))
 
 abbrev pub in_digits : ℕ → Formats → Told
 in_digits b f = if is_digit b then told f (only (Byte b)) else ended true b f
 
 -- type sizes and the like have no effect
-abbrev pub in_size : ℕ → Formats → Told
-in_size b f =
-    if b == code "(" then going_on parts.SizeIn Nothing f else
+abbrev pub in_size : ℕ → ℕ → Formats → Told
+in_size letter b f =
+    if b == code "(" then going_on (parts.SizeIn letter) Nothing f else
     if (b == code "+") || (b == code "-") || is_digit b then going_on parts.SizeDigits Nothing f
-    else ended false b f
+    else cut_short letter false b f
 
 abbrev pub in_size_digits : ℕ → Formats → Told
 in_size_digits b f = if is_digit b then told f (only Nothing) else ended false b f
 
-abbrev pub in_size_in : ℕ → Formats → Told
-in_size_in b f =
+abbrev pub in_size_in : ℕ → ℕ → Formats → Told
+in_size_in letter b f =
     if b == code ")" then going_on parts.Keys Nothing f else
-    if b == code "\n" then cut_short false b f else told f (only Nothing)
+    if b == code "\n" then cut_short letter false b f else told f (only Nothing)
 
 -- ---- a byte, by the part that is half read
 
@@ -201,11 +215,11 @@ read_in parts.Font b f = in_font b f
 read_in parts.FontMore b f = in_font_more b f
 read_in (parts.FontName last) b f = in_font_name last b f
 read_in parts.Width b f = in_width b f
-read_in parts.WidthIn b f = in_width_in b f
+read_in (parts.WidthIn said) b f = in_width_in said b f
 read_in parts.Digits b f = in_digits b f
-read_in parts.Size b f = in_size b f
+read_in (parts.Size letter) b f = in_size letter b f
 read_in parts.SizeDigits b f = in_size_digits b f
-read_in parts.SizeIn b f = in_size_in b f
+read_in (parts.SizeIn letter) b f = in_size_in letter b f
 
 abbrev pub read : ℕ → Formats → Told
 read b f = read_in f.part b f

@@ -4,7 +4,7 @@ use Rattle.std.specs.Prelude.{ℕ, ◌+◌, List, [], ◌∷◌, ◌++◌, lengt
 use Prim.Native.Char.{code}
 use Rattle.nr_tbl.specs.declared.command.Start.TheVariants.{Nothing}
 use Rattle.nr_tbl.specs.declared.complaint.Kind.{Kind}
-use Rattle.nr_tbl.specs.declared.complaint.Kind.TheVariants.{NoFormat, TooManyColumns, FormatsLimit, UnknownOption}
+use Rattle.nr_tbl.specs.declared.complaint.Kind.TheVariants.{NoFormat, TooManyColumns, FormatsLimit}
 use Rattle.nr_tbl.specs.declared.formats.Formats.{Formats}
 use Rattle.nr_tbl.specs.declared.options.Options.{Options}
 use Rattle.nr_tbl.specs.declared.state.Mode.TheVariants as modes
@@ -37,8 +37,12 @@ head_ended p =
 
 -- ---- options
 
+abbrev pub wrong_if : Option Kind → State → List Piece
+wrong_if None s = []
+wrong_if (Some kind) s = wrong kind s ∷ []
+
 abbrev pub options_wrong : Options → State → List Piece
-options_wrong o s = if o.unknown then wrong UnknownOption s ∷ [] else []
+options_wrong o s = wrong_if o.wrong s
 
 abbrev pub options_split : Option ℕ → Page → Effect
 options_split None p = effect p []

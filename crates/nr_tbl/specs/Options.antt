@@ -3,6 +3,8 @@ use Rattle.std.specs.Prelude.{ℕ, ◌+◌, List, [], ◌∷◌, ◌++◌, lengt
 use Rattle.std.specs.Cmp.Lexicographic.{pointwise}
 use Prim.Native.Char.{code}
 use Rattle.nr_units.specs.Name.{is_full}
+use Rattle.nr_tbl.specs.declared.complaint.Kind.{Kind}
+use Rattle.nr_tbl.specs.declared.complaint.Kind.TheVariants.{BadArgument, UnknownOption}
 use Rattle.nr_tbl.specs.declared.options.Options.{Options}
 use Rattle.nr_tbl.specs.declared.options.OptionsRead.{OptionsRead}
 use Rattle.nr_tbl.specs.declared.options.Choice.{Choice}
@@ -52,19 +54,24 @@ no_options =
       point = code ".";
       nospaces = false;
       nokeep = false;
-      unknown = false;
+      wrong = None;
     }
 
-abbrev pub unknown : Options → Options
-unknown o = record o { unknown = true }
+-- what is wrong first stays
+abbrev pub blamed_in : Option Kind → Kind → Options → Options
+blamed_in (Some first) kind o = o
+blamed_in None kind o = record o { wrong = Some kind }
 
-abbrev pub tab_with : Option ℕ → Options → Options
-tab_with (Some b) o = record o { tab = b }
-tab_with None o = unknown o
+abbrev pub blaming : Kind → Options → Options
+blaming kind o = blamed_in o.wrong kind o
 
-abbrev pub point_with : Option ℕ → Options → Options
-point_with (Some b) o = record o { point = b }
-point_with None o = unknown o
+abbrev pub tab_with : List ℕ → Option ℕ → Options → Options
+tab_with word (Some b) o = record o { tab = b }
+tab_with word None o = blaming (BadArgument word) o
+
+abbrev pub point_with : List ℕ → Option ℕ → Options → Options
+point_with word (Some b) o = record o { point = b }
+point_with word None o = blaming (BadArgument word) o
 
 -- a box is in each of the others
 abbrev pub framed : Frame → Frame → Frame
@@ -72,27 +79,37 @@ framed All Single = All
 framed Double Single = Double
 framed frame other = other
 
--- with an option and the first byte of its argument
-abbrev pub options_with : Choice → Option ℕ → Options → Options
-options_with choices.Center argument o = record o { center = true }
-options_with choices.Expand argument o = record o { expand = true }
-options_with (choices.Frame frame) argument o = record o { frame = framed o.frame frame }
-options_with choices.Tab argument o = tab_with argument o
-options_with choices.Point argument o = point_with argument o
-options_with choices.NoSpaces argument o = record o { nospaces = true }
-options_with choices.NoKeep argument o = record o { nokeep = true }
-options_with choices.Passed argument o = o
-options_with choices.Unknown argument o = unknown o
+-- with an option of this name and its argument, if that is one byte
+abbrev pub options_with : Choice → List ℕ → Option ℕ → Options → Options
+options_with choices.Center word argument o = record o { center = true }
+options_with choices.Expand word argument o = record o { expand = true }
+options_with (choices.Frame frame) word argument o = record o { frame = framed o.frame frame }
+options_with choices.Tab word argument o = tab_with word argument o
+options_with choices.Point word argument o = point_with word argument o
+options_with choices.NoSpaces word argument o = record o { nospaces = true }
+options_with choices.NoKeep word argument o = record o { nokeep = true }
+options_with choices.Passed word argument o = o
+options_with choices.Unknown word argument o = blaming (UnknownOption word) o
 
 abbrev pub first_options : OptionsRead
-first_options = record { options = no_options; word = []; spaced = false; inside = false; argument = None }
+first_options = record {
+  options = no_options;
+  word = [];
+  spaced = false;
+  inside = false;
+  argument = None;
+  more = false;
+}
+
+abbrev pub only_argument : OptionsRead → Option ℕ
+only_argument r = if r.more then None else r.argument
 
 -- the word has ended, if there is one
 abbrev pub word_ended : OptionsRead → OptionsRead
 word_ended r =
     record first_options {
       options = if length r.word == 0 then r.options
-          else options_with (choice_of r.word) r.argument r.options;
+          else options_with (choice_of r.word) r.word (only_argument r) r.options;
     }
 
 abbrev pub with_letter : ℕ → OptionsRead → OptionsRead
@@ -102,12 +119,12 @@ with_letter b r = if is_full r.word then r else record r { word = r.word ++ smal
 abbrev pub letter : ℕ → OptionsRead → OptionsRead
 letter b r = with_letter b (if r.spaced then word_ended r else r)
 
-abbrev pub first_of : Option ℕ → ℕ → Option ℕ
-first_of None b = Some b
-first_of (Some a) b = Some a
+abbrev pub argument_with : Option ℕ → ℕ → OptionsRead → OptionsRead
+argument_with None b r = record r { argument = Some b }
+argument_with (Some a) b r = record r { more = true }
 
 abbrev pub in_argument : ℕ → OptionsRead → OptionsRead
-in_argument b r = if b == code ")" then word_ended r else record r { argument = first_of r.argument b }
+in_argument b r = if b == code ")" then word_ended r else argument_with r.argument b r
 
 -- with one byte more
 abbrev pub options_read : ℕ → OptionsRead → OptionsRead

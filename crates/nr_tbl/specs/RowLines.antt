@@ -15,7 +15,7 @@ use Rattle.nr_tbl.specs.Fields.{shape_of, without_blanks_before, marks_of, is_re
 use Rattle.nr_tbl.specs.Measure.{cells_of}
 use Rattle.nr_tbl.specs.Numbers.{front}
 use Rattle.nr_tbl.specs.Pages.{Page, Effect, effect, and_then, with_state, at_mode, forgotten, rest_of, line_of, wrong}
-use Rattle.nr_tbl.specs.States.{formats_begun, row_begun, field_counted, is_beyond, passes_line, cells_taken}
+use Rattle.nr_tbl.specs.States.{block_opened, formats_begun, row_begun, field_counted, is_beyond, passes_line, cells_taken}
 use Rattle.nr_tbl.specs.Telling.{Piece, piece, each}
 
 -- ---- fields
@@ -122,7 +122,7 @@ block_begun s =
 
 -- a rule alone goes across the table, a block begins, or the row ends
 abbrev pub rest_said : Shape → Page → Effect
-rest_said shapes.Block p = effect (forgotten (at_mode modes.Block p)) (block_begun p.state)
+rest_said shapes.Block p = effect (forgotten (with_state (block_opened p.state) p)) (block_begun p.state)
 rest_said (shapes.Mark marks.Rule) p =
     if p.state.fields == 0 then effect (rows_begun p) (piece tells.Rule [] ∷ []) else last_ended p
 rest_said shape p = last_ended p

@@ -1,5 +1,6 @@
 -- What is known of a page between two bytes.
-use Rattle.std.specs.Prelude.{ℕ, Bool, true, false, ◌==◌, ◌||◌, nat_le, if◌then◌else◌, Option, None, Some}
+use Rattle.std.specs.Prelude.{ℕ, ◌-◌, Bool, true, false, ◌==◌, nat_le, if◌then◌else◌, Option, None, Some}
+use Prim.Native.Char.{code}
 use Rattle.nr_tbl.specs.declared.command.Start.TheVariants.{Nothing}
 use Rattle.nr_tbl.specs.declared.complaint.Kind.{Kind}
 use Rattle.nr_tbl.specs.declared.complaint.Kind.TheVariants.{NoFormat, BadFormat, TooManyColumns, TooWide}
@@ -22,6 +23,8 @@ first_state cells = record {
   formats = first_formats 0 0 false;
   measure = begun cells;
   fields = 0;
+  begun = 0;
+  block = 0;
 }
 
 -- a table begins with the next line
@@ -33,6 +36,7 @@ table_begun s = record s {
   formats = first_formats 0 0 false;
   measure = begun s.measure.line;
   fields = 0;
+  begun = s.line - 1;
 }
 
 -- new formats do
@@ -46,6 +50,10 @@ formats_begun s = record s {
 -- a row does
 abbrev pub row_begun : State → State
 row_begun s = record s { mode = modes.Rows; fields = 0; measure = with_row s.measure }
+
+-- a text block begins on this line
+abbrev pub block_opened : State → State
+block_opened s = record s { mode = modes.Block; block = s.line }
 
 -- one field more has ended
 abbrev pub field_counted : State → State
@@ -68,13 +76,19 @@ cells_taken cells s =
 
 -- ---- formats that were read
 
+-- a byte that is wrong, or no letter before the point
+abbrev pub wrong_kind : Option ℕ → Bool → Bool → Option Kind
+wrong_kind (Some b) none wide = Some (BadFormat b)
+wrong_kind None none wide =
+    if none then Some (BadFormat (code ".")) else if wide then Some TooWide else None
+
 -- what is wrong with them, where this is the last line of theirs with widths
 abbrev pub wrong_with : Formats → Line → State → Option Kind
 wrong_with f line s =
     if f.columns == 0 then Some NoFormat else
-    if f.many then Some TooManyColumns else
-    if f.bad || (f.lines == s.formats.lines) then Some BadFormat else
-    if is_wider s.measure.sure s.options.frame line s.measure then Some TooWide else None
+    if f.many then Some TooManyColumns
+    else wrong_kind f.bad (f.lines == s.formats.lines)
+    (is_wider s.measure.sure s.options.frame line s.measure)
 
 abbrev pub is_too_wide : Option Kind → Bool
 is_too_wide (Some TooWide) = true

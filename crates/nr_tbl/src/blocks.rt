@@ -87,7 +87,8 @@ impl Reader {
         ensures page { self.new ≡ (specs.block_closed self.old).page }
         ensures told { Tells S.shows S.hears (specs.block_closed self.old).pieces setter.old setter.new }
     {
-        self.state.complains(Kind::OpenBlock, setter);
+        self.state
+            .complains(Kind::OpenBlock(self.state.block), setter);
         setter.tell(Tell::BlockEnd, b"");
         setter.tell(Tell::Row, b"");
     }

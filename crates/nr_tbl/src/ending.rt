@@ -32,12 +32,12 @@ impl Reader {
         match self.state.mode {
             Mode::Passing(_) => {}
             Mode::Plain(_) => {
-                self.complains_at_end(Kind::OpenTable, true, setter);
+                self.complains_at_end(Kind::OpenTable(self.state.begun), true, setter);
                 setter.tell(Tell::PlainEnd, b"");
             }
             Mode::Head => self.ends_in_head(setter),
             Mode::Rows => {
-                self.complains_at_end(Kind::OpenTable, true, setter);
+                self.complains_at_end(Kind::OpenTable(self.state.begun), true, setter);
                 setter.tell(Tell::TableEnd, b"");
             }
             Mode::Row => self.ends_in_row(setter),
@@ -61,7 +61,7 @@ impl Reader {
         ensures page { self.new ≡ (specs.row_at_end self.old).page }
         ensures told { Tells S.shows S.hears (specs.row_at_end self.old).pieces setter.old setter.new }
     {
-        self.complains_at_end(Kind::OpenTable, true, setter);
+        self.complains_at_end(Kind::OpenTable(self.state.begun), true, setter);
         self.tell_last_field(setter);
         setter.tell(Tell::Row, b"");
         setter.tell(Tell::TableEnd, b"");
@@ -72,7 +72,7 @@ impl Reader {
         ensures page { self.new ≡ (specs.block_at_end self.old).page }
         ensures told { Tells S.shows S.hears (specs.block_at_end self.old).pieces setter.old setter.new }
     {
-        self.complains_at_end(Kind::OpenBlock, true, setter);
+        self.complains_at_end(Kind::OpenBlock(self.state.block), true, setter);
         setter.tell(Tell::BlockEnd, b"");
         setter.tell(Tell::Row, b"");
         setter.tell(Tell::TableEnd, b"");
@@ -120,7 +120,7 @@ impl Reader {
         ensures told { Tells S.shows S.hears (specs.finished self.old).pieces setter.old setter.new }
     {
         if self.is_begin() {
-            self.complains_at_end(Kind::OpenTable, false, setter);
+            self.complains_at_end(Kind::OpenTable(self.state.line), false, setter);
             return;
         }
         self.ends_line(setter);

@@ -32,10 +32,10 @@ pub(crate) enum Shape {
     Text,
 }
 
-/// What a field is of two bytes, or three that begin with `\\R`.
+/// What a field is of two bytes, or three or four that begin with `\\R`.
 fn shape_of_more(text: &[u8]) -> Shape
     requires some { 2 ≤ length text.now }
-    requires few { length text.now ≤ 3 }
+    requires few { length text.now ≤ 4 }
     ensures { result ≡ specs.shape_of text.now }
 {
     match (text[0], text[1], text.len()) {
@@ -43,8 +43,16 @@ fn shape_of_more(text: &[u8]) -> Shape
         (b'\\', b'^', 2) => Shape::Mark(Mark::Above),
         (b'T', b'{', 2) => Shape::Block,
         (b'\\', b'R', 3) => Shape::Mark(Mark::Repeat(text[2])),
+        (b'\\', b'R', 4) if is_sign(text[2], text[3]) => Shape::Mark(Mark::Repeat(text[3])),
         _ => Shape::Text,
     }
+}
+
+/// Whether two bytes are an escape of a sign: `\\-` or `\\.`.
+fn is_sign(first: u8, second: u8) -> bool
+    ensures { result ≡ specs.is_sign first second }
+{
+    first == b'\\' && matches!(second, b'-' | b'.')
 }
 
 /// What a field is.
@@ -54,7 +62,7 @@ pub(crate) fn shape_of(text: &[u8]) -> Shape
     match text.len() {
         0 => Shape::Empty,
         1 if is_rule(text[0]) => Shape::Mark(Mark::Rule),
-        2 | 3 => shape_of_more(text),
+        2..=4 => shape_of_more(text),
         _ => Shape::Text,
     }
 }

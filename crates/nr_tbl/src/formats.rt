@@ -24,16 +24,16 @@ pub(crate) enum Part {
     FontName(u8),
     /// `w`
     Width,
-    /// `w(` and a part of a width.
-    WidthIn,
+    /// `w(` and a part of a width, in which a digit or an escape stands or not.
+    WidthIn(bool),
     /// Digits of a width or of the space after a column.
     Digits,
-    /// `p` or `v`, whose number has no effect.
-    Size,
+    /// `p`, `v` or `m`, what follows which has no effect.
+    Size(u8),
     /// Digits of that number.
     SizeDigits,
-    /// It stands in parentheses.
-    SizeIn,
+    /// It stands in parentheses behind this letter.
+    SizeIn(u8),
 }
 
 /// What is half read of formats.
@@ -53,8 +53,8 @@ pub(crate) struct Formats {
     pub lines: usize,
     /// A column has numbers.
     pub numeric: bool,
-    /// A byte was no part of a format, or nothing can go on over a column.
-    pub bad: bool,
+    /// The first byte that was no part of a format, or lacks what it needs.
+    pub bad: Option<u8>,
     /// There are too many columns or lines.
     pub many: bool,
 }
@@ -147,7 +147,7 @@ impl Formats {
             columns,
             lines,
             numeric,
-            bad: false,
+            bad: None,
             many: false,
         }
     }
@@ -160,6 +160,15 @@ impl Formats {
             b's' => self.cells == 0,
             b'^' => self.lines == 1,
             _ => false,
+        }
+    }
+
+    /// A byte is no part of a format, or lacks what it needs: the first one is told.
+    fn blames(&mut self, byte: u8)
+        ensures { self.new ≡ specs.blaming byte self.old }
+    {
+        if self.bad.is_none() {
+            self.bad = Some(byte);
         }
     }
 
@@ -197,7 +206,7 @@ impl Formats {
         ensures { specs.told self.new result ≡ specs.kind_added kind begins self.old }
     {
         if self.is_bad(kind) {
-            self.bad = true;
+            self.blames(kind);
             return self.add_cell(b'l', begins);
         }
         self.add_cell(kind, begins)
@@ -244,10 +253,10 @@ impl Formats {
     }
 
     /// A byte that is no part of a format.
-    fn bad_byte(&mut self) -> Called
-        ensures { specs.told self.new result ≡ specs.bad_byte self.old }
+    fn bad_byte(&mut self, byte: u8) -> Called
+        ensures { specs.told self.new result ≡ specs.bad_byte byte self.old }
     {
-        self.bad = true;
+        self.blames(byte);
         Called::only(Call::Nothing)
     }
 
@@ -266,9 +275,9 @@ impl Formats {
             b'u' => Called::only(Call::Nothing),
             b'f' => self.goes_on(Part::Font, Call::Nothing),
             b'w' => self.goes_on(Part::Width, Call::Width),
-            b'p' | b'v' | b'm' => self.goes_on(Part::Size, Call::Nothing),
+            b'p' | b'v' | b'm' => self.goes_on(Part::Size(key), Call::Nothing),
             b'0'..=b'9' => self.goes_on(Part::Digits, Call::Gap(key)),
-            _ => self.bad_byte(),
+            _ => self.bad_byte(key),
         }
     }
 
@@ -283,7 +292,7 @@ impl Formats {
             key => match kind_of(key) {
                 Some(kind) => self.cell(kind),
                 None if self.begun => self.modifier(key),
-                None => self.bad_byte(),
+                None => self.bad_byte(key),
             },
         }
     }
@@ -298,11 +307,11 @@ impl Formats {
         called
     }
 
-    /// A part has ended with its line, before what it needs.
-    fn cut_short(&mut self, ends: bool, byte: u8) -> Called
-        ensures { specs.told self.new result ≡ specs.cut_short ends byte self.old }
+    /// The part of a letter has ended before what it needs.
+    fn cut_short(&mut self, letter: u8, ends: bool, byte: u8) -> Called
+        ensures { specs.told self.new result ≡ specs.cut_short letter ends byte self.old }
     {
-        self.bad = true;
+        self.blames(letter);
         self.ended(ends, byte)
     }
 
@@ -320,7 +329,7 @@ impl Formats {
         match byte {
             b'(' => self.goes_on(Part::FontName(b'R'), Call::Nothing),
             b' ' | b'\t' => Called::only(Call::Nothing),
-            b'\n' => self.cut_short(false, byte),
+            b'\n' => self.cut_short(b'f', false, byte),
             _ => self.goes_on(Part::FontMore, Call::Font(font_of(byte))),
         }
     }
@@ -341,7 +350,7 @@ impl Formats {
     {
         match byte {
             b')' => self.font(last),
-            b'\n' => self.cut_short(false, byte),
+            b'\n' => self.cut_short(b'f', false, byte),
             _ => self.goes_on(Part::FontName(byte), Call::Nothing),
         }
     }
@@ -351,20 +360,31 @@ impl Formats {
         ensures { specs.told self.new result ≡ specs.in_width byte self.old }
     {
         match byte {
-            b'(' => self.goes_on(Part::WidthIn, Call::Nothing),
+            b'(' => self.goes_on(Part::WidthIn(false), Call::Nothing),
             b'0'..=b'9' => self.goes_on(Part::Digits, Call::Byte(byte)),
             b' ' | b'\t' => Called::only(Call::Nothing),
-            _ => self.ended(true, byte),
+            _ => self.cut_short(b'w', true, byte),
         }
     }
 
-    /// A byte of a width in parentheses.
-    fn in_width_in(&mut self, byte: u8) -> Called
-        ensures { specs.told self.new result ≡ specs.in_width_in byte self.old }
+    /// A width in parentheses ends, in which a digit or an escape stands or not.
+    fn width_ends(&mut self, said: bool) -> Called
+        ensures { specs.told self.new result ≡ specs.width_ended said self.old }
+    {
+        if !said {
+            self.blames(b'w');
+        }
+        self.goes_on(Part::Keys, Call::Byte(b'\n'))
+    }
+
+    /// A byte of it.
+    fn in_width_in(&mut self, said: bool, byte: u8) -> Called
+        ensures { specs.told self.new result ≡ specs.in_width_in said byte self.old }
     {
         match byte {
-            b')' => self.goes_on(Part::Keys, Call::Byte(b'\n')),
-            b'\n' => self.cut_short(true, byte),
+            b')' => self.width_ends(said),
+            b'\n' => self.cut_short(b'w', true, byte),
+            b'0'..=b'9' | b'\\' => self.goes_on(Part::WidthIn(true), Call::Byte(byte)),
             _ => Called::only(Call::Byte(byte)),
         }
     }
@@ -379,14 +399,14 @@ impl Formats {
         }
     }
 
-    /// A byte after `p` or `v`.
-    fn in_size(&mut self, byte: u8) -> Called
-        ensures { specs.told self.new result ≡ specs.in_size byte self.old }
+    /// A byte after `p`, `v` or `m`.
+    fn in_size(&mut self, letter: u8, byte: u8) -> Called
+        ensures { specs.told self.new result ≡ specs.in_size letter byte self.old }
     {
         match byte {
-            b'(' => self.goes_on(Part::SizeIn, Call::Nothing),
+            b'(' => self.goes_on(Part::SizeIn(letter), Call::Nothing),
             b'+' | b'-' | b'0'..=b'9' => self.goes_on(Part::SizeDigits, Call::Nothing),
-            _ => self.ended(false, byte),
+            _ => self.cut_short(letter, false, byte),
         }
     }
 
@@ -400,13 +420,13 @@ impl Formats {
         }
     }
 
-    /// A byte in parentheses after `p` or `v`.
-    fn in_size_in(&mut self, byte: u8) -> Called
-        ensures { specs.told self.new result ≡ specs.in_size_in byte self.old }
+    /// A byte in parentheses after one of these.
+    fn in_size_in(&mut self, letter: u8, byte: u8) -> Called
+        ensures { specs.told self.new result ≡ specs.in_size_in letter byte self.old }
     {
         match byte {
             b')' => self.goes_on(Part::Keys, Call::Nothing),
-            b'\n' => self.cut_short(false, byte),
+            b'\n' => self.cut_short(letter, false, byte),
             _ => Called::only(Call::Nothing),
         }
     }
@@ -421,11 +441,11 @@ impl Formats {
             Part::FontMore => self.in_font_more(byte),
             Part::FontName(last) => self.in_font_name(last, byte),
             Part::Width => self.in_width(byte),
-            Part::WidthIn => self.in_width_in(byte),
+            Part::WidthIn(said) => self.in_width_in(said, byte),
             Part::Digits => self.in_digits(byte),
-            Part::Size => self.in_size(byte),
+            Part::Size(letter) => self.in_size(letter, byte),
             Part::SizeDigits => self.in_size_digits(byte),
-            Part::SizeIn => self.in_size_in(byte),
+            Part::SizeIn(letter) => self.in_size_in(letter, byte),
         }
     }
 }

@@ -93,13 +93,10 @@ impl Reader {
             setter.new }
     {
         let options = options_of(&self.kept.as_slice()[..end]);
+        self.state.tell_options(&options, setter);
         self.state.options = options;
         self.from = end + 1;
         self.start = end + 1;
-        setter.tell(Tell::Options(options), b"");
-        if options.unknown {
-            self.state.complains(Kind::UnknownOption, setter);
-        }
     }
 
     /// A line of formats ends, and perhaps all of them.

@@ -2,6 +2,7 @@
 ghost use Rattle.std.specs.Prelude.{◌≡◌};
 ghost use Rattle.nr_tbl.specs.Options as specs;
 
+use super::complaint::Kind;
 use nr_units::Name;
 
 /// The frame of a table.
@@ -34,8 +35,8 @@ pub struct Options {
     pub nospaces: bool,
     /// A table in a box may be cut by the end of a page.
     pub nokeep: bool,
-    /// A word was no option.
-    pub unknown: bool,
+    /// What is wrong with the first word that is no option, or has another argument than one character.
+    pub wrong: Option<Kind>,
 }
 
 /// An option.
@@ -74,6 +75,8 @@ pub(crate) struct OptionsRead {
     pub inside: bool,
     /// The first byte of its argument.
     pub argument: Option<u8>,
+    /// It has more.
+    pub more: bool,
 }
 
 /// Whether a word is this one.
@@ -176,13 +179,26 @@ impl Options {
             point: b'.',
             nospaces: false,
             nokeep: false,
-            unknown: false,
+            wrong: None,
         }
     }
 
-    /// With an option and the first byte of its argument.
-    fn with(self, choice: Choice, argument: Option<u8>) -> Options
-        ensures { result ≡ specs.options_with choice argument self }
+    /// Something is wrong, if nothing was before.
+    fn blaming(self, kind: Kind) -> Options
+        ensures { result ≡ specs.blaming kind self }
+    {
+        match self.wrong {
+            Some(_) => self,
+            None => Options {
+                wrong: Some(kind),
+                ..self
+            },
+        }
+    }
+
+    /// With an option of this name and its argument, if that is one byte.
+    fn with(self, choice: Choice, word: Name, argument: Option<u8>) -> Options
+        ensures { result ≡ specs.options_with choice word argument self }
     {
         let mut options = self;
         match (choice, argument) {
@@ -194,7 +210,8 @@ impl Options {
             (Choice::NoSpaces, _) => options.nospaces = true,
             (Choice::NoKeep, _) => options.nokeep = true,
             (Choice::Passed, _) => {}
-            (Choice::Tab | Choice::Point | Choice::Unknown, _) => options.unknown = true,
+            (Choice::Tab | Choice::Point, None) => return self.blaming(Kind::BadArgument(word)),
+            (Choice::Unknown, _) => return self.blaming(Kind::UnknownOption(word)),
         }
         options
     }
@@ -211,7 +228,15 @@ impl OptionsRead {
             spaced: false,
             inside: false,
             argument: None,
+            more: false,
         }
+    }
+
+    /// Its argument, if it is one byte.
+    fn only_argument(self) -> Option<u8>
+        ensures { result ≡ specs.only_argument self }
+    {
+        if self.more { None } else { self.argument }
     }
 
     /// The word has ended, if there is one.
@@ -222,7 +247,8 @@ impl OptionsRead {
         read.options = if self.word.is_empty() {
             self.options
         } else {
-            self.options.with(choice_of(self.word), self.argument)
+            self.options
+                .with(choice_of(self.word), self.word, self.only_argument())
         };
         read
     }
@@ -246,10 +272,10 @@ impl OptionsRead {
             return self.ended();
         }
         let mut read = self;
-        read.argument = match self.argument {
-            None => Some(byte),
-            argument => argument,
-        };
+        match self.argument {
+            None => read.argument = Some(byte),
+            Some(_) => read.more = true,
+        }
         read
     }
 

@@ -321,7 +321,7 @@ impl Reader {
         match shape_of(self.state.trimmed(self.rest())) {
             Shape::Block => {
                 self.state.tell_block(setter);
-                self.state.mode = Mode::Block;
+                self.state.begins_block();
                 self.forgets();
             }
             Shape::Mark(Mark::Rule) if self.state.fields == 0 => {

@@ -1,8 +1,10 @@
 //! What is known of a page between two bytes.
 ghost use Rattle.std.specs.Prelude.{◌≡◌, [], ◌∷◌};
+ghost use Rattle.nr_tbl.specs.HeadLines.{options_wrong};
 ghost use Rattle.nr_tbl.specs.Pages.{wrong};
 ghost use Rattle.nr_tbl.specs.States as specs;
-ghost use Rattle.nr_tbl.specs.Telling.{Tells};
+ghost use Rattle.nr_tbl.specs.Telling.{Tells, piece};
+ghost use Rattle.nr_tbl.specs.declared.telling.Tell.TheVariants as tells;
 
 use super::command::Start;
 use super::complaint::{Complaint, Kind};
@@ -52,6 +54,10 @@ pub(crate) struct State {
     pub measure: Measure,
     /// How many fields of the row have ended.
     pub fields: usize,
+    /// The line of `.TS`.
+    pub begun: u64,
+    /// The line on which the text block begins.
+    pub block: u64,
 }
 
 impl State {
@@ -67,6 +73,8 @@ impl State {
             formats: Formats::new(0, 0, false),
             measure: Measure::new(cells),
             fields: 0,
+            begun: 0,
+            block: 0,
         }
     }
 
@@ -80,6 +88,7 @@ impl State {
         self.formats = Formats::new(0, 0, false);
         self.measure = Measure::new(self.measure.line);
         self.fields = 0;
+        self.begun = self.line.saturating_sub(1);
     }
 
     /// New formats begin with the next line.
@@ -102,6 +111,14 @@ impl State {
         self.mode = Mode::Rows;
         self.fields = 0;
         self.measure = self.measure.with_row();
+    }
+
+    /// A text block begins.
+    pub(crate) fn begins_block(&mut self)
+        ensures { self.new ≡ specs.block_opened self.old }
+    {
+        self.mode = Mode::Block;
+        self.block = self.line;
     }
 
     /// One field more has ended.
@@ -145,14 +162,28 @@ impl State {
         if formats.many {
             return Some(Kind::TooManyColumns);
         }
-        if formats.bad || formats.lines == before {
-            return Some(Kind::BadFormat);
+        if let Some(byte) = formats.bad {
+            return Some(Kind::BadFormat(byte));
+        }
+        if formats.lines == before {
+            return Some(Kind::BadFormat(b'.'));
         }
         if self.measure.is_wider(self.options.frame, line) {
             self.measure = self.measure.told();
             return Some(Kind::TooWide);
         }
         None
+    }
+
+    /// Tells the options of a table, and what is wrong with them.
+    pub(crate) fn tell_options<S: Setter>(&self, options: &Options, setter: &mut S)
+        ensures { Tells S.shows S.hears (piece (tells.Options options.now) [] ∷ options_wrong options.now self.now)
+            setter.old setter.new }
+    {
+        setter.tell(Tell::Options(*options), b"");
+        if let Some(kind) = options.wrong {
+            self.complains(kind, setter);
+        }
     }
 
     /// Tells that something is wrong on this line.

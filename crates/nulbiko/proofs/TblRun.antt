@@ -11,15 +11,15 @@ use Rattle.nr_tbl.specs.declared.running.Outcome.{Outcome}
 use Rattle.nr_tbl.specs.declared.running.Outcome.TheVariants.{Done, ReadFault, TooLong, WriteFault}
 
 -- drawn with the same, under the same limits, with the same bytes before and after
-pub carried : (g g' : _) (l l' : Limits) (cells cells' : ℕ) (q q' left : Option Supply) (old old' new new' : Option (List ℕ)) (kept : Items Complaint) (missed : Bool) (o : Outcome)
-    → Ran g l cells q left old new kept missed o → g ≡ g' → l ≡ l' → cells ≡ cells' → q ≡ q' → old ≡ old' → new ≡ new' → Ran g' l' cells' q' left old' new' kept missed o
-carried g g' l l' cells cells' q q' left old old' new new' kept missed o ran signs limits line same before after =
-    subst (λ z. Ran g' l' cells' q' left old' z kept missed o) after
-    (subst (λ y. Ran g' l' cells' q' left y new kept missed o) before
-    (subst (λ x. Ran g' l' cells' x left old new kept missed o) same
-    (subst (λ c. Ran g' l' c q left old new kept missed o) line
-    (subst (λ m. Ran g' m cells q left old new kept missed o) limits
-    (subst (λ s. Ran s l cells q left old new kept missed o) signs ran)))))
+pub carried : (g g' : _) (l l' : Limits) (cells cells' : ℕ) (q q' left : Option Supply) (old old' new new' : Option (List ℕ)) (kept : Items Complaint) (missed uneven : Bool) (o : Outcome)
+    → Ran g l cells q left old new kept missed uneven o → g ≡ g' → l ≡ l' → cells ≡ cells' → q ≡ q' → old ≡ old' → new ≡ new' → Ran g' l' cells' q' left old' new' kept missed uneven o
+carried g g' l l' cells cells' q q' left old old' new new' kept missed uneven o ran signs limits line same before after =
+    subst (λ z. Ran g' l' cells' q' left old' z kept missed uneven o) after
+    (subst (λ y. Ran g' l' cells' q' left y new kept missed uneven o) before
+    (subst (λ x. Ran g' l' cells' x left old new kept missed uneven o) same
+    (subst (λ c. Ran g' l' c q left old new kept missed uneven o) line
+    (subst (λ m. Ran g' m cells q left old new kept missed uneven o) limits
+    (subst (λ s. Ran s l cells q left old new kept missed uneven o) signs ran)))))
 
 -- where no call of the source failed, none is reported
 pub unread : (o : Outcome) → TellsReads o 0 0 → is_read_fault o ≡ false

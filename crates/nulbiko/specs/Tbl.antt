@@ -24,15 +24,16 @@ code_of (ReadFault at) = 9
 
 abbrev pub kind_number : Kind → ℕ
 kind_number kinds.NoFormat = 1
-kind_number kinds.BadFormat = 2
-kind_number kinds.UnknownOption = 3
+kind_number (kinds.BadFormat byte) = 2
+kind_number (kinds.UnknownOption word) = 3
 kind_number kinds.TooManyFields = 4
-kind_number kinds.OpenBlock = 5
-kind_number kinds.OpenTable = 6
+kind_number (kinds.OpenBlock line) = 5
+kind_number (kinds.OpenTable line) = 6
 kind_number kinds.TooManyColumns = 7
 kind_number kinds.FormatsLimit = 8
 kind_number kinds.RowLimit = 9
 kind_number kinds.TooWide = 10
+kind_number (kinds.BadArgument word) = 11
 
 -- what is wrong by the first of these complaints, and 0 where there is none
 abbrev pub first_kind : List Complaint → ℕ
@@ -55,8 +56,9 @@ pub record SetsTables (table : Option Table) (line : ℕ) (text output : List �
   pub bytes : List ℕ
   pub kept : Items Complaint
   pub missed : Bool
+  pub uneven : Bool
   pub ran : Ran (signs_of table) limits line (Some (whole_text text)) left (Some []) (Some bytes) kept
-      missed outcome
+      missed uneven outcome
   pub room : kept.capacity ≡ 1
   pub handed : IsHanded bytes output report.written
   pub code_is : code ≡ code_within (code_of outcome) (length bytes) (length output)

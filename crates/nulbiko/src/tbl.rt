@@ -41,15 +41,16 @@ fn kind_number(kind: Kind) -> u32
 {
     match kind {
         Kind::NoFormat => 1,
-        Kind::BadFormat => 2,
-        Kind::UnknownOption => 3,
+        Kind::BadFormat(_) => 2,
+        Kind::UnknownOption(_) => 3,
         Kind::TooManyFields => 4,
-        Kind::OpenBlock => 5,
-        Kind::OpenTable => 6,
+        Kind::OpenBlock(_) => 5,
+        Kind::OpenTable(_) => 6,
         Kind::TooManyColumns => 7,
         Kind::FormatsLimit => 8,
         Kind::RowLimit => 9,
         Kind::TooWide => 10,
+        Kind::BadArgument(_) => 11,
     }
 }
 

@@ -1,5 +1,5 @@
 use Rattle.std.proofs.Common.{Bool, false, ℕ, ◌<◌, ◌==◌, ap, sym, arith, eq-eqb, ◌∙◌}
-use Rattle.nr_layout.specs.Drawing.{some_bars}
+use Rattle.nr_layout.specs.Drawing.{bar_byte, bars_as}
 use Rattle.nr_layout.specs.Frames.{bars_seen, was_ruled}
 use Rattle.nr_layout.proofs.Choices.{some_of}
 use Rattle.nr_layout.proofs.Chosen.{strokes_chosen}
@@ -10,7 +10,8 @@ pub returns-then-bars-eq0 : goal.returns-then-bars-eq0
 returns-then-bars-eq0 g c =
     let t = c.args.self.now in
     let bars = bars_seen t c.args.row c.args.columns in
-    strokes_chosen (bars == 0) (some_bars t c.args.columns (was_ruled t c.args.row c.args.columns) false bars) (draws_nothing _)
+    let before = was_ruled t c.args.row c.args.columns in
+    strokes_chosen (bars == 0) (bars_as t c.args.columns (bar_byte t c.args.row before false) before bars) (draws_nothing _)
     (ap (λ (n : ℕ). n == 0) (sym c.bars_seen-bars.ensures) ∙ eq-eqb c.bars_seen-bars.result 0 c.if-bars-eq0.true)
 
 pub returns : goal.returns
@@ -20,6 +21,7 @@ returns g c =
     let bars = bars_seen t c.args.row c.args.columns in
     let some : 0 < bars = omega (arith, c.bars_seen-bars.ensures) in
     draws_same c.draw_some_bars.ensures
-    (some_of bars (some_bars t c.args.columns before false bars) some
-    ∙ ap (λ (n : ℕ). some_bars t c.args.columns before false n) (sym c.bars_seen-bars.ensures)
-    ∙ ap (λ (b : Bool). some_bars t c.args.columns b false c.bars_seen-bars.result) (sym c.was_ruled.ensures))
+    (some_of bars (bars_as t c.args.columns (bar_byte t c.args.row before false) before bars) some
+    ∙ ap (λ (n : ℕ). bars_as t c.args.columns (bar_byte t c.args.row before false) before n) (sym c.bars_seen-bars.ensures)
+    ∙ ap (λ (b : Bool). bars_as t c.args.columns (bar_byte t c.args.row b false) b c.bars_seen-bars.result) (sym c.was_ruled-was.ensures)
+    ∙ ap (λ (b : ℕ). bars_as t c.args.columns b c.was_ruled-was.result c.bars_seen-bars.result) (sym c.bar_byte.ensures))

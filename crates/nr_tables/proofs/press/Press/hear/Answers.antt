@@ -1,5 +1,5 @@
 use Rattle.std.proofs.Common.{refl}
-use Rattle.nr_tables.proofs.Setting.{drawn_for, line_drawn, line_set}
+use Rattle.nr_tables.proofs.Setting.{drawn_for, line_drawn, line_set, line_told}
 use Rattle.nr_tables.proofs.press.Press.hear.Goals as goal
 
 pub returns-in-PlainEnd-clause-draws : goal.returns-in-PlainEnd-clause-draws
@@ -22,3 +22,9 @@ returns-in-Request-clause-draws g c = line_drawn _ _ _ _ c.in-Request.is refl c.
 
 pub returns-in-Request-clause-table : goal.returns-in-Request-clause-table
 returns-in-Request-clause-table g c = line_set _ _ _ _ _ _ c.in-Request.is refl c.ends_line-in-Request.ensures.table
+
+pub returns-in-Row-clause-notes : goal.returns-in-Row-clause-notes
+returns-in-Row-clause-notes g c = line_told _ _ c.in-Row.is refl c.ends_line.ensures.complaints
+
+pub returns-in-Request-clause-notes : goal.returns-in-Request-clause-notes
+returns-in-Request-clause-notes g c = line_told _ _ c.in-Request.is refl c.ends_line-in-Request.ensures.complaints
