@@ -1,9 +1,11 @@
 pub mod Choices
+pub mod Finishing
 pub mod Goes
 pub mod Held
 pub mod HighBits
 pub mod Kept
 pub mod Makes
+pub mod Passing
 pub mod Pieces
 pub mod Reading
 pub mod Shaped
@@ -11,3 +13,4 @@ pub mod Spelled
 pub mod Text
 pub mod Turning
 pub mod Undone
+pub mod Walks

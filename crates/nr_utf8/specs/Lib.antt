@@ -4,6 +4,7 @@ pub mod Lines
 pub mod Reading
 pub mod Running
 pub mod Shapes
+pub mod Showing
 pub mod Spelling
 pub mod Text
 pub mod Undoing

@@ -1,8 +1,9 @@
 //! The bytes of a table of characters, turned into UTF-8 for a terminal.
 //!
-//! It stands on nr_units, nr_vectors and nr_characters. To read: `reader`, `spelling`, `cells`, `shapes`, `rows`, `running`, `turner`, `showing`, `undoing`, `names`, `choosing`.
+//! It stands on nr_units, nr_vectors and nr_characters. To read: `reader`, `spelling`, `cells`, `shapes`, `rows`, `running`, `turner`, `came`, `showing`, `undoing`, `names`, `choosing`.
 #![tactic(auto)]
 
+mod came;
 mod cells;
 mod choosing;
 mod names;

@@ -1,8 +1,11 @@
 //! Bytes are turned as they come, and what goes out waits.
-ghost use Rattle.std.specs.Prelude.{◌≡◌, ◌+◌, ◌<◌, ◌≤◌, ◌++◌, length, IfOk, OnOk};
+ghost use Rattle.std.specs.Prelude.{◌≡◌, ◌+◌, ◌^◌, ◌<◌, ◌≤◌, [], ◌++◌, length, IfOk, OnOk};
+ghost use Rattle.std.specs.Io.KnownBytes.{Appends};
 ghost use Rattle.std.proofs.Props.{props};
 ghost use Rattle.nr_units.specs.Failures.{put_counted};
+ghost use Rattle.nr_utf8.specs.Reading.{ended, first_reader};
 ghost use Rattle.nr_utf8.specs.Running.{Flushes, FrontAtErr};
+ghost use Rattle.nr_utf8.specs.Showing as specs;
 ghost use Rattle.nr_utf8.specs.Spelling.{Serves};
 
 use super::reader::Reader;
@@ -22,6 +25,7 @@ pub(crate) struct Turner<'a> {
     out: SliceVec<'a, u8>,
     strays: u64,
     ghost serves: { Serves spelling reader } by { Prim.hlevel props },
+    ghost counts: { strays < 2 ^ 64 },
 }
 
 /// These bytes go out behind those that wait, or wait with them.
@@ -45,7 +49,11 @@ fn emit<W: Sink>(bytes: &[u8], out: &mut SliceVec<'_, u8>, output: &mut W) -> Re
 
 impl<'a> Turner<'a> {
     /// Nothing came yet.
-    pub(crate) fn new(table: Table, escapes: bool, out: &'a mut [u8]) -> Turner<'a> {
+    pub(crate) fn new(table: Table, escapes: bool, out: &'a mut [u8]) -> Turner<'a>
+        ensures reader { result.reader ≡ first_reader table escapes }
+        ensures out { result.out.items ≡ [] }
+        ensures strays { result.strays ≡ 0 }
+    {
         Turner {
             reader: Reader::new(table, escapes),
             spelling: Spelling::new(table),
@@ -58,7 +66,9 @@ impl<'a> Turner<'a> {
     /// Some of these bytes are read, and what they come to goes out or waits. Tells how many were.
     fn take_some<W: Sink>(&mut self, bytes: &[u8], output: &mut W) -> Result<usize, Fault>
         requires some { 0 < length bytes.now }
-        ensures { IfOk result (λ n. (0 < n) × (n ≤ length bytes.now)) }
+        ensures takes { specs.TakesSome (W.held output.old) (W.held output.new) self.old.reader self.new.reader
+            self.old.out.items self.new.out.items self.old.strays self.new.strays bytes.now result }
+        ensures failures { W.failures output.new ≡ put_counted (W.failures output.old) result }
     {
         let cells = self
             .spelling
@@ -76,7 +86,11 @@ impl<'a> Turner<'a> {
     }
 
     /// All of these bytes are read.
-    pub(crate) fn take_all<W: Sink>(&mut self, bytes: &[u8], output: &mut W) -> Result<(), Fault> {
+    pub(crate) fn take_all<W: Sink>(&mut self, bytes: &[u8], output: &mut W) -> Result<(), Fault>
+        ensures takes { specs.TakesAll (W.held output.old) (W.held output.new) self.old.reader self.new.reader
+            self.old.out.items self.new.out.items self.old.strays self.new.strays bytes.now result }
+        ensures failures { W.failures output.new ≡ put_counted (W.failures output.old) result }
+    {
         let mut at = 0;
         while at < bytes.len() {
             at += self.take_some(&bytes[at..], output)?;
@@ -85,12 +99,23 @@ impl<'a> Turner<'a> {
     }
 
     /// What waits goes out.
-    pub(crate) fn pass_on<W: Sink>(&mut self, output: &mut W) -> Result<(), Fault> {
+    pub(crate) fn pass_on<W: Sink>(&mut self, output: &mut W) -> Result<(), Fault>
+        ensures takes { specs.TakesAll (W.held output.old) (W.held output.new) self.old.reader self.new.reader
+            self.old.out.items self.new.out.items self.old.strays self.new.strays [] result }
+        ensures failures { W.failures output.new ≡ put_counted (W.failures output.old) result }
+    {
         put_pending(&mut self.out, output)
     }
 
     /// The end comes, and all goes out. Tells how many bytes were dropped.
-    pub(crate) fn close<W: Sink>(&mut self, output: &mut W) -> Result<u64, Fault> {
+    pub(crate) fn close<W: Sink>(&mut self, output: &mut W) -> Result<u64, Fault>
+        ensures ok { OnOk result (Appends (W.held output.old) (W.held output.new)
+            (self.old.out.items ++ (ended self.old.reader).bytes)) }
+        ensures err { FrontAtErr result (W.held output.old) (W.held output.new)
+            (self.old.out.items ++ (ended self.old.reader).bytes) }
+        ensures strays { IfOk result (λ n. n ≡ specs.at_most (self.old.strays + (ended self.old.reader).strays)) }
+        ensures failures { W.failures output.new ≡ put_counted (W.failures output.old) result }
+    {
         let filled = self.spelling.finish(&mut self.reader, &mut self.room);
         self.strays = self.strays.saturating_add(filled.strays);
         emit(&self.room[..filled.end], &mut self.out, output)?;

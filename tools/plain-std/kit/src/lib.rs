@@ -12,6 +12,7 @@ pub mod fs;
 pub mod io;
 pub mod process;
 pub mod rt;
+pub mod snapshot;
 mod string;
 mod vec;
 
