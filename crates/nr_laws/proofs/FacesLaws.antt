@@ -15,11 +15,12 @@ use Rattle.nr_page.specs.Grid.{Placed}
 use Rattle.nr_page.specs.PageBytes.{page_bytes, row_bytes, row_cells, row_count}
 use Rattle.nr_page.specs.declared.faces.Faces.{Faces}
 use Rattle.nr_page.specs.declared.faces.Faces.TheVariants.{Letters, All}
+use Rattle.nr_units.specs.Source.{Supply}
 use Rattle.nr_options.specs.declared.options.Options.{Options}
 use Rattle.nr_machine.specs.State.{Ended, State, start}
-use Rattle.nr_machine.specs.Printing.{bytes_of, text}
-use Rattle.nr_laws.specs.Faces.{FacesOnlyShow, LettersAreLeft, NoBackspace, ShowNoBackspace, StruckOutIsSame, pages_with, with_faces}
-use Rattle.nr_laws.specs.Laws.{nothing_allowed, unlimited}
+use Rattle.nr_machine.specs.Printing.{text}
+use Rattle.nr_laws.specs.Faces.{FacesOnlyShow, StruckOutIsSame, pages_with, with_faces}
+use Rattle.nr_laws.specs.Laws.{nothing_allowed, unlimited, unlimited_text}
 use Rattle.nr_laws.proofs.FacesStates.{state_after-facing}
 use Rattle.nr_laws.proofs.PlainPages.{if-false}
 
@@ -124,6 +125,15 @@ module _ (f g : Faces) where
   pages_out (p ∷ pages) = page_out p.printed p (text (pages_with f pages)) (text (pages_with g pages)) (pages_out pages)
 
 -- ---- but letters and digits that are underlined
+
+-- no cell that shows on these pages is a backspace
+abbrev pub NoBackspace : List Cell → Type 0
+NoBackspace [] = Unit {0}
+NoBackspace (x ∷ xs) = ((x.byte == 8) ≡ false) × NoBackspace xs
+
+abbrev pub ShowNoBackspace : List Ended → Type 0
+ShowNoBackspace [] = Unit {0}
+ShowNoBackspace (p ∷ pages) = ((row : ℕ) → NoBackspace (row_cells p.lines row)) × ShowNoBackspace pages
 
 -- these bytes don't begin with a backspace
 abbrev Begins : List ℕ → Type 0
@@ -242,8 +252,9 @@ struck_out_is_same f g options supply n =
     ap (λ (t : State). struck_out (text t.pages)) (faces_only_show f options supply n) ∙ pages_out f g pages
     ∙ sym (ap (λ (t : State). struck_out (text t.pages)) (faces_only_show g options supply n))
 
-pub letters_are_left : LettersAreLeft
-letters_are_left options supply n none =
+pub letters-left : (options : Options) (supply : Supply) (n : ℕ) → ShowNoBackspace (unlimited options supply n).pages
+    → letters_underlined (unlimited_text (with_faces All options) supply n) ≡ unlimited_text (with_faces Letters options) supply n
+letters-left options supply n none =
     let pages = (unlimited options supply n).pages in
     ap (λ (t : State). letters_underlined (text t.pages)) (faces_only_show All options supply n) ∙ pages_left pages none
     ∙ sym (ap (λ (t : State). text t.pages) (faces_only_show Letters options supply n))

@@ -1,7 +1,7 @@
 -- The states of a run with other faces.
 use Rattle.std.specs.Prelude.{is_none, not}
 use Rattle.std.proofs.lemmas.List.{map-append}
-use Rattle.std.proofs.Common.{◌≡◌, ℕ, zero, suc, Bool, true, false, if◌then◌else◌, List, [], ◌∷◌, ◌++◌, Option, None, Some, ℤ, refl, ap, sym, ◌∙◌}
+use Rattle.std.proofs.Common.{◌≡◌, ℕ, zero, suc, Bool, true, false, if◌then◌else◌, List, [], ◌∷◌, Option, None, Some, refl, ap, sym, ◌∙◌}
 use Rattle.nr_vectors.specs.declared.cell.Cell.{Cell}
 use Rattle.nr_symbol_tables.specs.declared.trap.Trap.{Trap}
 use Rattle.nr_page.specs.declared.faces.Faces.{Faces}
@@ -20,12 +20,11 @@ use Rattle.nr_formatter.specs.declared.tasks.Task.TheVariants as tasks
 use Rattle.nr_formatter.specs.declared.tasks.Then.{Then}
 use Rattle.nr_formatter.specs.Access.{collected}
 use Rattle.nr_formatter.specs.Lines.{flow_line, break_line, flow_done, break_word_end, break_done}
-use Rattle.nr_formatter.specs.Moves.{read_in}
 use Rattle.nr_formatter.specs.Pages.{begins_first_page, is_ejecting, next_springing, task_ejected}
 use Rattle.nr_formatter.specs.Places.{outlet, to_read}
 use Rattle.nr_formatter.specs.Spacing.{is_spaceless}
 use Rattle.nr_machine.specs.State.{State, Ended, Choice, plainly}
-use Rattle.nr_machine.specs.Machine.{begin_page, end_page, page_of, turn_page, put_line_to, put_line, put_or, break_part, continues_none, break_out, room_in, title_to, cell_to, line_to, space_to, put_space, eject_to, eject, act, work, hear, spring_or, choose_or, step, state_after}
+use Rattle.nr_machine.specs.Machine.{begin_page, end_page, page_of, turn_page, put_line_to, put_or, break_part, continues_none, room_in, title_to, cell_to, line_to, space_to, put_space, eject_to, eject, act, work, hear, spring_or, choose_or, step, state_after}
 use Rattle.nr_laws.specs.Faces.{facing}
 
 -- No move looks at them.

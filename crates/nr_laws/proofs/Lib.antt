@@ -24,6 +24,13 @@ pub mod PlainPages
 pub mod PlainReads
 pub mod PlainStates
 pub mod PlainWorks
+pub mod PrintedLaw
+pub mod PrintedLines
+pub mod PrintedReads
+pub mod PrintedRests
+pub mod PrintedStates
+pub mod PrintedStores
+pub mod PrintedWorks
 pub mod ReadMoves
 pub mod ReadsPaid
 pub mod RefusedMoves

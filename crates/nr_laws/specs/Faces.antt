@@ -1,9 +1,7 @@
 -- What faces do to the output: one byte is struck over another, and nothing else.
-use Rattle.std.specs.Prelude.{◌≡◌, ℕ, Bool, false, ◌==◌, List, [], ◌∷◌, map}
+use Rattle.std.specs.Prelude.{◌≡◌, ℕ, List, map}
 use Rattle.nr_units.specs.Source.{Supply}
-use Rattle.nr_vectors.specs.declared.cell.Cell.{Cell}
 use Rattle.nr_page.specs.Faces.{struck_out, letters_underlined}
-use Rattle.nr_page.specs.PageBytes.{row_cells}
 use Rattle.nr_page.specs.declared.faces.Faces.{Faces}
 use Rattle.nr_page.specs.declared.faces.Faces.TheVariants.{Letters, All}
 use Rattle.nr_options.specs.declared.options.Options.{Options}
@@ -32,18 +30,9 @@ StruckOutIsSame =
     → struck_out (unlimited_text (with_faces f options) supply n)
     ≡ struck_out (unlimited_text (with_faces g options) supply n)
 
--- no cell that shows on these pages is a backspace
-abbrev pub NoBackspace : List Cell → Type 0
-NoBackspace [] = Unit {0}
-NoBackspace (x ∷ xs) = ((x.byte == 8) ≡ false) × NoBackspace xs
-
-abbrev pub ShowNoBackspace : List Ended → Type 0
-ShowNoBackspace [] = Unit {0}
-ShowNoBackspace (p ∷ pages) = ((row : ℕ) → NoBackspace (row_cells p.lines row)) × ShowNoBackspace pages
-
 -- With letters and digits alone underlined, and nothing bold, it is that without faces.
 abbrev pub LettersAreLeft : Type 0
 LettersAreLeft =
-    (options : Options) (supply : Supply) (n : ℕ) → ShowNoBackspace (unlimited options supply n).pages
+    (options : Options) (supply : Supply) (n : ℕ)
     → letters_underlined (unlimited_text (with_faces All options) supply n)
     ≡ unlimited_text (with_faces Letters options) supply n

@@ -4,3 +4,4 @@ pub mod Laws
 pub mod Limited
 pub mod Moves
 pub mod PlainText
+pub mod Printed

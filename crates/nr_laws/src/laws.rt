@@ -2,6 +2,7 @@
 ghost use Rattle.nr_laws.specs.Laws.{LimitsOnlyStop, NoLimitAsked, LimitsCut, LimitsCutOutput, DoneIsWhole, OneWhole, WiderLimits, LimitsUnmet, OneAnswer};
 ghost use Rattle.nr_laws.specs.Moves.{RefusedIsAbove, AboveIsRefused, MovesAreFew, MovesBeforeByte, MovesBetween};
 ghost use Rattle.nr_laws.specs.PlainText.{PlainTextStays};
+ghost use Rattle.nr_laws.specs.Printed.{NoControlGoesOut, BackspaceStrikes};
 ghost use Rattle.nr_laws.specs.Faces.{FacesOnlyShow, StruckOutIsSame, LettersAreLeft};
 ghost use Rattle.nr_laws.specs.FilledText.{FilledTextIsRows, CutIsLongest, CutFits};
 
@@ -74,9 +75,16 @@ pub fn filled_text_is_rows()
 {}
 
 /// With other faces a run makes the same moves and places the same lines. Without what is struck over, the output is the same with
-/// any faces. Where no cell of a page is a backspace, it is with letters and digits alone underlined, and nothing bold, that without.
+/// any faces, and with letters and digits alone underlined, and nothing bold, it is that without faces.
 pub fn faces_only_show()
     ensures states { FacesOnlyShow }
     ensures struck { StruckOutIsSame }
     ensures letters { LettersAreLeft }
+{}
+
+/// Whatever the input, of the control bytes of ASCII only newline and backspace go out, and backspaces only where one byte is struck
+/// over another.
+pub fn no_control_goes_out()
+    ensures bytes { NoControlGoesOut }
+    ensures struck { BackspaceStrikes }
 {}

@@ -1,5 +1,6 @@
 use Rattle.nr_laws.proofs.laws.faces_only_show.Goals as goal
-use Rattle.nr_laws.proofs.FacesLaws.{faces_only_show, letters_are_left, struck_out_is_same}
+use Rattle.nr_laws.proofs.FacesLaws.{faces_only_show, struck_out_is_same}
+use Rattle.nr_laws.proofs.PrintedLaw.{letters_are_left}
 
 pub returns-clause-states : goal.returns-clause-states
 returns-clause-states c = faces_only_show

@@ -1,0 +1,315 @@
+-- What is collected has no control byte: pieces, the word that is being read, and the title.
+use Rattle.std.specs.Prelude.{take, drop, replicate, map, nat_lt, slice_index_or}
+use Rattle.std.specs.Option.{option_map}
+use Rattle.std.specs.List.{All, flat_map, range_with_len, suffix_len}
+use Rattle.std.proofs.lemmas.List.Elements.{All-nil, All-cons, All-head, All-tail, All-append, All-push, All-take, All-drop, All-replicate}
+use Rattle.std.proofs.Common.{◌≡◌, ℕ, zero, suc, ◌+◌, ◌-◌, ◌==◌, Bool, true, false, if◌then◌else◌, List, [], ◌∷◌, ◌++◌, length, Option, None, Some, refl}
+use Rattle.nr_vectors.specs.Cell.{blank, is_blank, trimmed}
+use Rattle.nr_vectors.specs.declared.cell.Cell.{Cell}
+use Rattle.nr_settings.specs.declared.indents.Margins.{Margins}
+use Rattle.nr_settings.specs.declared.stops.Stop.{Stop}
+use Rattle.nr_settings.specs.declared.stops.StopKind.{StopKind}
+use Rattle.nr_fill.specs.declared.setting.Setting.{Setting}
+use Rattle.nr_fill.specs.declared.setting.Extra.{Extra}
+use Rattle.nr_fill.specs.declared.piece.Behind.{Behind}
+use Rattle.nr_fill.specs.declared.piece.Behind.TheVariants.{Letter, Hyphen, Dash}
+use Rattle.nr_fill.specs.declared.piece.Join.TheVariants as joins
+use Rattle.nr_fill.specs.declared.piece.Point.TheVariants as points
+use Rattle.nr_fill.specs.declared.stops.Pending.{Pending}
+use Rattle.nr_fill.specs.declared.stops.Pending.TheVariants as pendings
+use Rattle.nr_fill.specs.declared.title.TitlePart.{TitlePart}
+use Rattle.nr_fill.specs.declared.title.TitlePart.TheVariants as parts
+use Rattle.nr_fill.specs.Piece.{Piece, Word, Collected, word_or_new, with_word, in_word, ended_at, ended, pending_behind, pending_soft, with_soft_point, pending_without_point, barred_here, is_inside, point_at, hyphenated, append, add_cell_behind, add_cell, ends_sentence, add_blank_to, add_blank, with_blanks_kept, add_cells, marked, joined_at, joined, shortened, without_blanks, word_pieces, end_word, word_length, with_title, with_title_cell, with_part_ended, cells_in}
+use Rattle.nr_fill.specs.Cutting.{hyphen_before}
+use Rattle.nr_fill.specs.Setting.{hyphens, hyphen, text_of, extra_of, left_over, shift, line_row}
+use Rattle.nr_fill.specs.Spreading.{blanks_before, next_gap, cells_behind, cells_in_line}
+use Rattle.nr_fill.specs.Tabs.{with_field, to_stop, tabbed, filled_by, fill_count, with_field_filled, is_aligned, column, first_beyond}
+use Rattle.nr_fill.specs.Title.{Title, next_part, with_cell_in, with_cell, cell_at, centre_at, right_at, title_row, title_or_empty, titled_row, is_within, reach}
+use Rattle.nr_settings.specs.Characters.{prints}
+
+-- ---- cells
+
+abbrev pub IsPrinted : Cell → Type 0
+IsPrinted x = prints x.byte ≡ true
+
+abbrev pub ArePrinted : List Cell → Type 0
+ArePrinted xs = All IsPrinted xs
+
+pub either : {A : Type 0} (P : A → Type 0) (c : Bool) (x y : A) → P x → P y → P (if c then x else y)
+either P true x y first second = first
+either P false x y first second = second
+
+pub join : (xs ys : List Cell) → ArePrinted xs → ArePrinted ys → ArePrinted (xs ++ ys)
+join xs ys = All-append IsPrinted xs ys
+
+pub blanks : (n : ℕ) → ArePrinted (replicate n blank)
+blanks n = All-replicate IsPrinted n blank refl
+
+pub trim : (xs : List Cell) → ArePrinted xs → ArePrinted (trimmed xs)
+trim xs h = All-take IsPrinted (length xs - suffix_len is_blank xs) xs h
+
+pub at : (xs : List Cell) (i : ℕ) → ArePrinted xs → IsPrinted (slice_index_or xs i blank)
+at [] i h = refl
+at (x ∷ xs) zero h = All-head IsPrinted x xs h
+at (x ∷ xs) (suc i) h = at xs i (All-tail IsPrinted x xs h)
+
+pub each : (f : ℕ → Cell) (ns : List ℕ) → ((n : ℕ) → IsPrinted (f n)) → ArePrinted (map f ns)
+each f [] h = All-nil IsPrinted
+each f (n ∷ ns) h = All-cons IsPrinted (f n) (map f ns) (h n) (each f ns h)
+
+-- ---- pieces
+
+abbrev pub IsSet : Piece → Type 0
+IsSet p = ArePrinted p.cells
+
+abbrev pub AreSet : List Piece → Type 0
+AreSet ps = All IsSet ps
+
+abbrev pub IsFilled : Pending → Type 0
+IsFilled (pendings.ForStop f) = IsPrinted f.fill
+IsFilled p = Unit {0}
+
+pub record IsWord (w : Word) : Type 0 where
+  pub parts : AreSet w.parts
+  pub last : ArePrinted w.last.cells
+  pub pending : IsFilled w.pending
+
+abbrev pub IsRead : Option Word → Type 0
+IsRead None = Unit {0}
+IsRead (Some w) = IsWord w
+
+pub record IsThree (t : Title) : Type 0 where
+  pub left : ArePrinted t.left
+  pub centre : ArePrinted t.centre
+  pub right : ArePrinted t.right
+
+abbrev pub IsTitled : Option Title → Type 0
+IsTitled None = Unit {0}
+IsTitled (Some t) = IsThree t
+
+pub record Lined (ps : List Piece) (w : Option Word) (t : Option Title) : Type 0 where
+  pub pieces : AreSet ps
+  pub word : IsRead w
+  pub title : IsTitled t
+
+abbrev pub IsLined : Collected → Type 0
+IsLined c = Lined c.pieces c.word c.title
+
+-- ---- words
+
+mapped : (g : Word → Word) → ((w : Word) → IsWord w → IsWord (g w)) → (o : Option Word) → IsRead o → IsRead (option_map g o)
+mapped g each None h = tt
+mapped g each (Some w) h = each w h
+
+pub changed : (g : Word → Word) (c : Collected) → ((w : Word) → IsWord w → IsWord (g w)) → IsLined c → IsLined (in_word g c)
+changed g c each h = record { pieces = h.pieces; word = mapped g each c.word h.word; title = tt }
+
+opened : (gap : ℕ) (o : Option Word) → IsRead o → IsWord (word_or_new gap o)
+opened gap None h = record { parts = All-nil IsSet; last = All-nil IsPrinted; pending = tt }
+opened gap (Some w) h = h
+
+pub worded : (m : Margins) (c : Collected) → IsLined c → IsLined (with_word m c)
+worded m c h = record { pieces = h.pieces; word = opened c.gap c.word h.word; title = tt }
+
+ended-at : (p : Pending) (w : Word) → IsWord w → IsWord (ended_at p w)
+ended-at (pendings.AtPoint p) w h = record { parts = All-push IsSet w.parts w.last h.parts h.last; last = All-nil IsPrinted; pending = tt }
+ended-at pendings.Nothing w h = h
+ended-at (pendings.ForStop f) w h = h
+
+ended-word : (m : Margins) (c : Collected) → IsLined c → IsLined (in_word ended (with_word m c))
+ended-word m c h = changed ended (with_word m c) (λ w k. ended-at w.pending w k) (worded m c h)
+
+pended : (m : Behind) (n : ℕ) (p : Pending) → IsFilled p → IsFilled (pending_behind m n p)
+pended m n (pendings.ForStop f) h = h
+pended Letter n pendings.Nothing h = tt
+pended Letter n (pendings.AtPoint p) h = tt
+pended Hyphen n pendings.Nothing h = either IsFilled (nat_lt 1 n) (pendings.AtPoint points.Hard) pendings.Nothing tt tt
+pended Hyphen n (pendings.AtPoint p) h = either IsFilled (nat_lt 1 n) (pendings.AtPoint points.Hard) pendings.Nothing tt tt
+pended Dash n pendings.Nothing h = either IsFilled (nat_lt 2 n) (pendings.AtPoint points.Hard) pendings.Nothing tt tt
+pended Dash n (pendings.AtPoint p) h = either IsFilled (nat_lt 2 n) (pendings.AtPoint points.Hard) pendings.Nothing tt tt
+
+appended : (xs : List Cell) (w : Word) → ArePrinted xs → IsWord w → IsWord (append xs w)
+appended xs w more h = record { parts = h.parts; last = join w.last.cells xs h.last more; pending = h.pending }
+
+one : (x : Cell) → IsPrinted x → ArePrinted (x ∷ [])
+one x h = All-cons IsPrinted x [] h (All-nil IsPrinted)
+
+celled : (b : Behind) (x : Cell) (w : Word) → IsPrinted x → IsWord w → IsWord (add_cell_behind b x w)
+celled b x w is h =
+    let longer = appended (x ∷ []) w (one x is) h in
+    record { parts = longer.parts; last = longer.last; pending = pended b (word_length (append (x ∷ []) w)) w.pending h.pending }
+
+pub add_cell-lined : (m : Margins) (b : Behind) (x : Cell) (c : Collected) → IsPrinted x → IsLined c → IsLined (add_cell m b x c)
+add_cell-lined m b x c is h = changed (add_cell_behind b x) (in_word ended (with_word m c)) (λ w k. celled b x w is k) (ended-word m c h)
+
+blanked : (w : Word) → IsWord w → IsWord (add_blank_to w)
+blanked w h = record { parts = h.parts; last = join w.last.cells (blank ∷ []) h.last (one blank refl); pending = h.pending }
+
+pub add_blank-lined : (m : Margins) (c : Collected) → IsLined c → IsLined (add_blank m c)
+add_blank-lined m c h = changed add_blank_to (in_word ended (with_word m c)) blanked (ended-word m c h)
+
+kept : (w : Word) → IsWord w → IsWord (with_blanks_kept w)
+kept w h = record { parts = h.parts; last = h.last; pending = h.pending }
+
+pub add_cells-lined : (m : Margins) (x : Cell) (n : ℕ) (c : Collected) → IsPrinted x → IsLined c → IsLined (add_cells m x n c)
+add_cells-lined m x n c is h =
+    either IsLined (n == 0) (in_word with_blanks_kept (with_word m c)) (record (in_word (append (replicate n x)) (in_word ended (with_word m c))) { sentence = ends_sentence x })
+    (changed with_blanks_kept (with_word m c) kept (worded m c h))
+    (changed (append (replicate n x)) (in_word ended (with_word m c)) (λ w k. appended (replicate n x) w (All-replicate IsPrinted n x is) k) (ended-word m c h))
+
+pub marked-lined : (m : Margins) (c : Collected) → IsLined c → IsLined (marked m c)
+marked-lined m c h = changed with_blanks_kept (with_word m c) kept (worded m c h)
+
+softened : (n : ℕ) (p : Pending) → IsFilled p → IsFilled (pending_soft n p)
+softened n pendings.Nothing h = either IsFilled (nat_lt 0 n) (pendings.AtPoint points.Soft) pendings.Nothing tt tt
+softened n (pendings.AtPoint p) h = tt
+softened n (pendings.ForStop f) h = h
+
+soft : (w : Word) → IsWord w → IsWord (with_soft_point w)
+soft w h = record { parts = h.parts; last = h.last; pending = softened (length w.last.cells) w.pending h.pending }
+
+pub barred-lined : (c : Collected) → IsLined c → IsLined (barred_here c)
+barred-lined c h = record { pieces = h.pieces; word = mapped with_soft_point soft c.word h.word; title = h.title }
+
+-- ---- a word's end
+
+pointed-at : (place : ℕ) (w : Word) → IsWord w → IsWord (point_at place w)
+pointed-at place w h =
+    let n = place - cells_in w.parts in
+    either IsWord (is_inside n w.blanks (length w.last.cells) w.pending)
+    (record w {
+      parts = w.parts ++ record { join = w.last.join; cells = take n w.last.cells } ∷ [];
+      last = record { join = joins.Soft; cells = drop n w.last.cells };
+    })
+    w
+    (record {
+      parts = All-push IsSet w.parts (record { join = w.last.join; cells = take n w.last.cells }) h.parts (All-take IsPrinted n w.last.cells h.last);
+      last = All-drop IsPrinted n w.last.cells h.last;
+      pending = h.pending;
+    })
+    h
+
+pub hyphenated-lined : (place : ℕ) (c : Collected) → IsLined c → IsLined (hyphenated place c)
+hyphenated-lined place c h = changed (point_at place) c (pointed-at place) h
+
+cells-of : (ps : List Piece) → AreSet ps → ArePrinted (flat_map (λ (p : Piece). p.cells) ps)
+cells-of [] h = All-nil IsPrinted
+cells-of (p ∷ ps) h = join p.cells (flat_map (λ (q : Piece). q.cells) ps) (All-head IsSet p ps h) (cells-of ps (All-tail IsSet p ps h))
+
+joined-at : (p : Pending) (w : Word) → IsWord w → IsWord (joined_at p w)
+joined-at (pendings.ForStop f) w h = h
+joined-at pendings.Nothing w h = record { parts = All-nil IsSet; last = join (flat_map (λ (p : Piece). p.cells) w.parts) w.last.cells (cells-of w.parts h.parts) h.last; pending = tt }
+joined-at (pendings.AtPoint p) w h = record { parts = All-nil IsSet; last = join (flat_map (λ (p : Piece). p.cells) w.parts) w.last.cells (cells-of w.parts h.parts) h.last; pending = tt }
+
+pub joined-lined : (c : Collected) → IsLined c → IsLined (joined c)
+joined-lined c h = changed (λ w. joined_at w.pending w) c (λ w k. joined-at w.pending w k) h
+
+without-point : (p : Pending) → IsFilled p → IsFilled (pending_without_point p)
+without-point (pendings.ForStop f) h = h
+without-point pendings.Nothing h = tt
+without-point (pendings.AtPoint p) h = tt
+
+short : (w : Word) → IsWord w → IsWord (shortened w)
+short w h = record { parts = h.parts; last = All-take IsPrinted (length w.last.cells - w.blanks) w.last.cells h.last; pending = without-point w.pending h.pending }
+
+pub without_blanks-lined : (c : Collected) → IsLined c → IsLined (without_blanks c)
+without_blanks-lined c h = changed shortened (joined c) short (joined-lined c h)
+
+pieces-of : (o : Option Word) → IsRead o → AreSet (word_pieces o)
+pieces-of None h = All-nil IsSet
+pieces-of (Some w) h = All-push IsSet w.parts w.last h.parts h.last
+
+pub end_word-lined : (c : Collected) → IsLined c → IsLined (end_word c)
+end_word-lined c h = record { pieces = All-append IsSet c.pieces (word_pieces c.word) h.pieces (pieces-of c.word h.word); word = tt; title = h.title }
+
+-- ---- stops
+
+fielded : (width : ℕ) (kind : StopKind) (fill : Cell) (w : Word) → IsPrinted fill → IsWord w → IsWord (with_field width kind fill w)
+fielded width kind fill w is h = record { parts = h.parts; last = h.last; pending = is }
+
+to-stop : (m : Margins) (aligned : Bool) (fill : Cell) (c : Collected) (s : Option Stop) → IsPrinted fill → IsLined c → IsLined (to_stop m aligned fill c s)
+to-stop m aligned fill c None is h = worded m c h
+to-stop m aligned fill c (Some s) is h =
+    either IsLined (is_aligned aligned s.kind) (in_word (with_field (s.column - column c) s.kind fill) (in_word ended (with_word m c))) (add_cells m fill (s.column - column c) c)
+    (changed (with_field (s.column - column c) s.kind fill) (in_word ended (with_word m c)) (λ w k. fielded (s.column - column c) s.kind fill w is k) (ended-word m c h))
+    (add_cells-lined m fill (s.column - column c) c is h)
+
+pub tabbed-lined : (m : Margins) (stops : List Stop) (aligned : Bool) (fill : Cell) (c : Collected) → IsPrinted fill → IsLined c → IsLined (tabbed m stops aligned fill c)
+tabbed-lined m stops aligned fill c is h = to-stop m aligned fill c (first_beyond (column c) stops) is h
+
+filled-by : (p : Pending) (w : Word) → IsFilled p → IsWord w → IsWord (filled_by p w)
+filled-by (pendings.ForStop f) w is h =
+    let n = fill_count f (length w.last.cells - f.before) in
+    record {
+      parts = h.parts;
+      last = join (take f.before w.last.cells ++ replicate n f.fill) (drop f.before w.last.cells)
+          (join (take f.before w.last.cells) (replicate n f.fill) (All-take IsPrinted f.before w.last.cells h.last) (All-replicate IsPrinted n f.fill is))
+          (All-drop IsPrinted f.before w.last.cells h.last);
+      pending = tt;
+    }
+filled-by pendings.Nothing w is h = h
+filled-by (pendings.AtPoint p) w is h = h
+
+pub filled-lined : (c : Collected) → IsLined c → IsLined (with_field_filled c)
+filled-lined c h = changed (λ (w : Word). filled_by w.pending w) c (λ w k. filled-by w.pending w k.pending k) h
+
+-- ---- rows
+
+behind-cells : (x : Extra) (i : ℕ) (ps : List Piece) → AreSet ps → ArePrinted (cells_behind x i ps)
+behind-cells x i [] h = All-nil IsPrinted
+behind-cells x i (p ∷ ps) h =
+    join (replicate (blanks_before x i p.join) blank ++ p.cells) (cells_behind x (next_gap i p.join) ps)
+    (join (replicate (blanks_before x i p.join) blank) p.cells (blanks (blanks_before x i p.join)) (All-head IsSet p ps h))
+    (behind-cells x (next_gap i p.join) ps (All-tail IsSet p ps h))
+
+in-line : (x : Extra) (ps : List Piece) → AreSet ps → ArePrinted (cells_in_line x ps)
+in-line x [] h = All-nil IsPrinted
+in-line x (p ∷ ps) h = join p.cells (cells_behind x 1 ps) (All-head IsSet p ps h) (behind-cells x 1 ps (All-tail IsSet p ps h))
+
+pub line_row-printed : (s : Setting) (c : Collected) (n : ℕ) → IsLined c → ArePrinted (line_row s c n)
+line_row-printed s c n h =
+    let front = s.offset + c.margins.indent + shift s.align (left_over c n) in
+    let cut = hyphen_before (drop n c.pieces) in
+    join (replicate front blank) (text_of s.align c n) (blanks front)
+    (join (cells_in_line (extra_of s.align c n) (take n c.pieces)) (hyphens cut) (in-line (extra_of s.align c n) (take n c.pieces) (All-take IsSet n c.pieces h.pieces)) (All-replicate IsPrinted cut hyphen refl))
+
+-- ---- titles
+
+in-part : (p : TitlePart) (x : Cell) (t : Title) → IsPrinted x → IsThree t → IsThree (with_cell_in p x t)
+in-part parts.Left x t is h = record { left = All-push IsPrinted t.left x h.left is; centre = h.centre; right = h.right }
+in-part parts.Centre x t is h = record { left = h.left; centre = All-push IsPrinted t.centre x h.centre is; right = h.right }
+in-part parts.Right x t is h = record { left = h.left; centre = h.centre; right = All-push IsPrinted t.right x h.right is }
+
+titled-cell : (x : Cell) (o : Option Title) → IsPrinted x → IsTitled o → IsTitled (option_map (with_cell x) o)
+titled-cell x None is h = tt
+titled-cell x (Some t) is h = in-part t.part x t is h
+
+pub with_title_cell-lined : (x : Cell) (c : Collected) → IsPrinted x → IsLined c → IsLined (with_title_cell x c)
+with_title_cell-lined x c is h = record { pieces = h.pieces; word = h.word; title = titled-cell x c.title is h.title }
+
+pub with_title-lined : (c : Collected) → IsLined c → IsLined (with_title c)
+with_title-lined c h = record { pieces = h.pieces; word = h.word; title = record { left = All-nil IsPrinted; centre = All-nil IsPrinted; right = All-nil IsPrinted } }
+
+parted : (o : Option Title) → IsTitled o → IsTitled (option_map (λ (t : Title). record t { part = next_part t.part }) o)
+parted None h = tt
+parted (Some t) h = record { left = h.left; centre = h.centre; right = h.right }
+
+pub with_part_ended-lined : (c : Collected) → IsLined c → IsLined (with_part_ended c)
+with_part_ended-lined c h = record { pieces = h.pieces; word = h.word; title = parted c.title h.title }
+
+three-of : (o : Option Title) → IsTitled o → IsThree (title_or_empty o)
+three-of None h = record { left = All-nil IsPrinted; centre = All-nil IsPrinted; right = All-nil IsPrinted }
+three-of (Some t) h = h
+
+shown-at : (line : ℕ) (t : Title) (column : ℕ) → IsThree t → IsPrinted (cell_at line t column)
+shown-at line t column h =
+    let right = right_at line (length t.right) in
+    let centre = centre_at line (length t.centre) in
+    either IsPrinted (is_within right (length t.right) column) (slice_index_or t.right (column - right) blank)
+    (if is_within centre (length t.centre) column then slice_index_or t.centre (column - centre) blank else slice_index_or t.left column blank) (at t.right (column - right) h.right)
+    (either IsPrinted (is_within centre (length t.centre) column) (slice_index_or t.centre (column - centre) blank) (slice_index_or t.left column blank) (at t.centre (column - centre) h.centre) (at t.left column h.left))
+
+pub titled_row-printed : (offset line : ℕ) (o : Option Title) → IsTitled o → ArePrinted (titled_row offset line o)
+titled_row-printed offset line o h =
+    let t = title_or_empty o in
+    join (replicate offset blank) (title_row line t) (blanks offset) (each (cell_at line t) (range_with_len 0 (reach line t)) (λ column. shown-at line t column (three-of o h)))

@@ -1,0 +1,613 @@
+-- A cell that is read was stored, and another byte that is told as a cell prints, or stands in a title.
+use Prim.Native.Char.{code}
+use Rattle.std.specs.Prelude.{nat_le, nat_lt, not, slice_index, length, ◌||◌, ◌&&◌}
+use Rattle.std.proofs.lemmas.Bool.{eqb-true}
+use Rattle.std.proofs.Common.{◌≡◌, ℕ, ◌==◌, Bool, true, false, if◌then◌else◌, List, [], ◌∷◌, Option, None, Some, refl, ap}
+use Rattle.nr_reading.specs.declared.ask.Ask.{Ask}
+use Rattle.nr_reading.specs.declared.ask.Kind.{Kind}
+use Rattle.nr_reading.specs.declared.ask.Kind.TheVariants as kinds
+use Rattle.nr_reading.specs.declared.ask.Stage.{Stage}
+use Rattle.nr_reading.specs.declared.ask.Stage.TheVariants as stages
+use Rattle.nr_reading.specs.declared.notes.Defining.{Defining}
+use Rattle.nr_reading.specs.declared.event.Event.{Event}
+use Rattle.nr_reading.specs.declared.event.Event.TheVariants as events
+use Rattle.nr_reading.specs.declared.event.Question.TheVariants as questions
+use Rattle.nr_reading.specs.declared.front.Front.{Front}
+use Rattle.nr_reading.specs.declared.front.Front.TheVariants as fronts
+use Rattle.nr_reading.specs.declared.half.Half.{Half}
+use Rattle.nr_reading.specs.declared.mode.Due.TheVariants as dues
+use Rattle.nr_reading.specs.declared.mode.Escape.{Escape}
+use Rattle.nr_reading.specs.declared.mode.Escape.TheVariants as escapes
+use Rattle.nr_reading.specs.declared.mode.Mode.{Mode}
+use Rattle.nr_reading.specs.declared.mode.Mode.TheVariants as modes
+use Rattle.nr_reading.specs.declared.mode.Reading.{Reading}
+use Rattle.nr_reading.specs.declared.mode.Signs.{Signs}
+use Rattle.nr_reading.specs.declared.spelled.Spelled.{Spelled}
+use Rattle.nr_reading.specs.Ask.{answer, answer_byte, argument_asked, answer_first, answer_two, answer_bracket, answer_digit, cut, is_argument, is_digit, is_given, is_unsigned, reads_argument}
+use Rattle.nr_reading.specs.Conditions.{begins_number, read_condition_byte, read_condition, parentheses}
+use Rattle.nr_reading.specs.Control.{completes, read_name, read_macro_gap}
+use Rattle.nr_reading.specs.Definitions.{last_line, kept_byte, released, in_body, not_last, nearer_last, read_body_start, over_body_start}
+use Rattle.nr_reading.specs.Ended.{event_of}
+use Rattle.nr_reading.specs.Half.{Met, meet, met_directly, met_copied, answered, offered, hear_by, over_by, offer_to, meet_by}
+use Rattle.nr_reading.specs.Mode.{is_direct, reads_arguments}
+use Rattle.nr_reading.specs.Escape.{offer, offer_byte, raw_offer, escaped as copied_escape}
+use Rattle.nr_reading.specs.Notes.{Note}
+use Rattle.nr_reading.specs.Notes as notes
+use Rattle.nr_reading.specs.declared.notes.Notes.{Notes}
+use Rattle.nr_reading.specs.Noting.{are_equal}
+use Rattle.nr_reading.specs.Reader.{read_by, read, read_over_by, read_over, unescaped, behind_backslash, ends_comment, direct_by, direct}
+use Rattle.nr_reading.specs.Skipping.{accepted, accepted_escape, behind_newline, skip, skip_escape, diverted, diverting}
+use Rattle.nr_reading.specs.Spelled.{is_blank, is_empty, ends_name, name_of, spelled}
+use Rattle.nr_reading.specs.Step.{Step, to, escaping, due, go, leave, tell, noting, leave_telling, leave_noting}
+use Rattle.nr_reading.specs.Strings.{behind_string_name, read_string_name}
+use Rattle.nr_reading.specs.Text.{continuing, begin_escape, in_text, start_blank, start_newline, start_control, start_byte, start, one_blank_more, text_behind_blanks, leading, end_continued, continued, is_interrupted, ended, end_event, text}
+use Rattle.nr_reading.specs.TextEscape.{plain, interpolated, asked_in_text, is_nothing, is_plain, other_byte, event_behind, is_titled, behind_escape, escape_in_text, escape_at_start, escape_by, spliced_or, lone_escape, escaped}
+use Rattle.nr_reading.specs.Titles.{ended_title, before_title, next_part, title}
+use Rattle.nr_settings.specs.Characters.{prints}
+use Rattle.nr_laws.proofs.PrintedLines.{IsPrinted}
+use Rattle.nr_laws.proofs.PrintedStores.{IsFront}
+
+-- a byte that a title leaves out where it does not print
+abbrev pub IsByte : Bool → ℕ → Type 0
+IsByte true b = Unit {0}
+IsByte false b = prints b ≡ true
+
+-- what is told, in this mode
+abbrev pub IsHeard : Event → Mode → Type 0
+IsHeard (events.Cell x) m = IsPrinted x
+IsHeard (events.DivertedCell x) m = IsPrinted x
+IsHeard (events.Plain b) m = IsByte (is_titled m) b
+IsHeard e m = Unit {0}
+
+record Tells (s : Step) : Type 0 where
+  heard : IsHeard s.event s.reading.mode
+
+choose : (c : Bool) (x y : Step) → Tells x → Tells y → Tells (if c then x else y)
+choose true x y first second = first
+choose false x y first second = second
+
+-- ---- a `\` and the byte after it
+
+any : (titled : Bool) (b : ℕ) → prints b ≡ true → IsByte titled b
+any true b is = tt
+any false b is = is
+
+in-title : (titled : Bool) (b : ℕ) → titled ≡ true → IsByte titled b
+in-title true b is = tt
+in-title false b is = absurd (let wrong : false ≡ true = is in cc)
+
+four : (p q r s : Bool) (b : ℕ) → (b == code "-") ≡ p → (b == code ".") ≡ q → (b == code "'") ≡ r → (b == code "`") ≡ s → (p || q || r || s) ≡ true → prints b ≡ true
+four true q r s b p-is q-is r-is s-is is = ap prints (eqb-true b (code "-") p-is)
+four false true r s b p-is q-is r-is s-is is = ap prints (eqb-true b (code ".") q-is)
+four false false true s b p-is q-is r-is s-is is = ap prints (eqb-true b (code "'") r-is)
+four false false false true b p-is q-is r-is s-is is = ap prints (eqb-true b (code "`") s-is)
+four false false false false b p-is q-is r-is s-is is = absurd (let wrong : false ≡ true = is in cc)
+
+plain-printed : (b : ℕ) → is_plain b ≡ true → prints b ≡ true
+plain-printed b is = four (b == code "-") (b == code ".") (b == code "'") (b == code "`") b refl refl refl refl is
+
+module _ (m : Mode) where
+  hears : (c : Bool) (x y : Event) → IsHeard x m → IsHeard y m → IsHeard (if c then x else y) m
+  hears true x y first second = first
+  hears false x y first second = second
+
+  hears-plain : (c : Bool) (b : ℕ) (y : Event) → (c ≡ true → prints b ≡ true) → IsHeard y m → IsHeard (if c then events.Plain b else y) m
+  hears-plain true b y is second = any (is_titled m) b (is refl)
+  hears-plain false b y is second = second
+
+  other-heard : (titled : Bool) (b : ℕ) → is_titled m ≡ titled → IsHeard (if titled then events.Plain b else events.Byte b) m
+  other-heard true b is = in-title (is_titled m) b is
+  other-heard false b is = tt
+
+  behind-heard : (titled : Bool) (b : ℕ) → is_titled m ≡ titled → IsHeard (event_behind b titled) m
+  behind-heard titled b is =
+      let a9 : Event = other_byte titled b in
+      let a8 : Event = if b == code "t" then events.Tab else a9 in
+      let a7 : Event = if b == code "a" then events.Leader else a8 in
+      let a6 : Event = if b == code "p" then events.BreakWord else a7 in
+      let a5 : Event = if b == code "%" then events.Percent else a6 in
+      let a4 : Event = if is_plain b then events.Plain b else a5 in
+      let a3 : Event = if is_nothing b then events.Nothing else a4 in
+      let a2 : Event = if (b == code " ") || (b == code "0") then events.Fixed else a3 in
+      let a1 : Event = if b == code "&" then events.Zero else a2 in
+      let h9 : IsHeard a9 m =
+      hears (b == code "\t") events.Tab (if b == 1 then events.Leader else (if titled then events.Plain b else events.Byte b)) tt
+      (hears (b == 1) events.Leader (if titled then events.Plain b else events.Byte b) tt (other-heard titled b is)) in
+      let h5 : IsHeard a5 m = hears (b == code "%") events.Percent a6 tt (hears (b == code "p") events.BreakWord a7 tt (hears (b == code "a") events.Leader a8 tt (hears (b == code "t") events.Tab a9 tt h9))) in
+      let h4 : IsHeard a4 m = hears-plain (is_plain b) b a5 (plain-printed b) h5 in
+      hears-plain ((b == code "\\") || (b == code "e")) (code "\\") a1 (λ yes. refl)
+      (hears (b == code "&") events.Zero a2 tt (hears ((b == code " ") || (b == code "0")) events.Fixed a3 tt (hears (is_nothing b) events.Nothing a4 tt h4)))
+
+text-behind : (c : Bool) → is_titled (if c then modes.Interrupted else modes.Text) ≡ false
+text-behind true = refl
+text-behind false = refl
+
+behind-titled : (b : ℕ) (m : Mode) → is_titled (behind_escape b m) ≡ is_titled m
+behind-titled b modes.Text = text-behind (b == code "c")
+behind-titled b m = refl
+
+in-text : (b : ℕ) (a : Option Ask) (r : Reading) → Tells (escape_in_text b a r)
+in-text b (Some a) r = record { heard = tt }
+in-text b None r = record { heard = behind-heard (behind_escape b r.mode) (is_titled r.mode) b (behind-titled b r.mode) }
+
+at-start : (b : ℕ) (r : Reading) → Tells (escape_at_start b r)
+at-start b r = choose (b == code "!") (go (plain (to modes.Transparent r))) (leave (continuing false (to modes.Text r))) (record { heard = tt }) (record { heard = tt })
+
+by-mode : (b : ℕ) (long : Bool) (m : Mode) (r : Reading) → Tells (escape_by b long m r)
+by-mode b long modes.Start r = at-start b r
+by-mode b long modes.Diverting r = at-start b r
+by-mode b long (modes.Leading n) r = record { heard = tt }
+by-mode b long modes.Continued r = record { heard = tt }
+by-mode b long modes.Interrupted r = record { heard = tt }
+by-mode b long m r = in-text b (asked_in_text b long) r
+
+spliced-or : (b : ℕ) (k : Option Kind) (long : Bool) (r : Reading) → Tells (spliced_or b k long r)
+spliced-or b (Some k) long r = record { heard = tt }
+spliced-or b None long r =
+    choose (b == code "\n") (go (plain r)) (if b == code "\"" then go (escaping escapes.Comment r) else escape_by b long r.mode r) (record { heard = tt })
+    (choose (b == code "\"") (go (escaping escapes.Comment r)) (escape_by b long r.mode r) (record { heard = tt }) (by-mode b long r.mode r))
+
+lone : (m : Mode) (r : Reading) → Tells (lone_escape m r)
+lone modes.Start r = record { heard = tt }
+lone modes.Diverting r = record { heard = tt }
+lone (modes.Leading n) r = record { heard = tt }
+lone modes.Continued r = record { heard = tt }
+lone modes.Interrupted r = record { heard = tt }
+lone m r = record { heard = tt }
+
+escaped-tells : (f : Front) (long : Bool) (r : Reading) → Tells (escaped f long r)
+escaped-tells fronts.Mark long r = record { heard = tt }
+escaped-tells (fronts.Byte b) long r = spliced-or b (interpolated b) long r
+escaped-tells f long r = lone r.mode r
+
+-- ---- items as they are
+
+start_byte-tells : (b : ℕ) (s : Signs) (r : Reading) → Tells (start_byte b s r)
+start_byte-tells b s r =
+    let c5 : Step = if b == code " " then start_blank r else in_text (events.Byte b) r in
+    let c4 : Step = if b == code "\\" then begin_escape r else c5 in
+    let c3 : Step = if b == code "\n" then start_newline r else c4 in
+    let c2 : Step = if b == s.no_break then start_control true r else c3 in
+    choose (b == s.control) (start_control false r) c2 (record { heard = tt })
+    (choose (b == s.no_break) (start_control true r) c3 (record { heard = tt })
+    (choose (b == code "\n") (start_newline r) c4 (choose r.continued (tell events.EndContinued (continuing false r)) (tell events.Empty r) (record { heard = tt }) (record { heard = tt }))
+    (choose (b == code "\\") (begin_escape r) c5 (record { heard = tt })
+    (choose (b == code " ") (start_blank r) (in_text (events.Byte b) r)
+    (choose r.continued (tell (events.Byte (code " ")) (continuing false (to modes.Continued r))) (tell events.Leading (to (modes.Leading 1) r)) (record { heard = tt }) (record { heard = tt }))
+    (record { heard = tt })))))
+
+start-tells : (f : Front) (s : Signs) (r : Reading) → Tells (start f s r)
+start-tells fronts.Mark s r = record { heard = tt }
+start-tells (fronts.Byte b) s r = start_byte-tells b s r
+start-tells (fronts.Cell x) s r = record { heard = tt }
+start-tells (fronts.LineEnd n) s r = record { heard = tt }
+start-tells fronts.Resume s r = record { heard = tt }
+start-tells fronts.Over s r = record { heard = tt }
+
+leading-tells : (f : Front) (n : ℕ) (r : Reading) → Tells (leading f n r)
+leading-tells fronts.Mark n r = record { heard = tt }
+leading-tells (fronts.Byte b) n r =
+    let c3 : Step = if b == code "\\" then begin_escape r else text_behind_blanks n r in
+    let c2 : Step = if b == code " " then go (to (modes.Leading (one_blank_more n)) r) else c3 in
+    choose (b == code "\n") (tell events.Empty (to modes.Start r)) c2 (record { heard = tt })
+    (choose (b == code " ") (go (to (modes.Leading (one_blank_more n)) r)) c3 (record { heard = tt })
+    (choose (b == code "\\") (begin_escape r) (text_behind_blanks n r) (record { heard = tt }) (record { heard = tt })))
+leading-tells (fronts.Cell x) n r = record { heard = tt }
+leading-tells (fronts.LineEnd k) n r = record { heard = tt }
+leading-tells fronts.Resume n r = record { heard = tt }
+leading-tells fronts.Over n r = record { heard = tt }
+
+continued-tells : (f : Front) (r : Reading) → IsFront f → Tells (continued f r)
+continued-tells fronts.Mark r is = record { heard = tt }
+continued-tells (fronts.Byte b) r is =
+    let c3 : Step = if b == code "\\" then begin_escape r else in_text (events.Byte b) r in
+    let c2 : Step = if b == code " " then tell (events.Byte (code " ")) r else c3 in
+    choose (b == code "\n") (tell events.EndContinued (end_continued r)) c2 (record { heard = tt })
+    (choose (b == code " ") (tell (events.Byte (code " ")) r) c3 (record { heard = tt })
+    (choose (b == code "\\") (begin_escape r) (in_text (events.Byte b) r) (record { heard = tt }) (record { heard = tt })))
+continued-tells (fronts.Cell x) r is = record { heard = is }
+continued-tells (fronts.LineEnd k) r is = record { heard = tt }
+continued-tells fronts.Resume r is = record { heard = tt }
+continued-tells fronts.Over r is = record { heard = tt }
+
+-- an end of a text line
+end-heard : (c : Bool) (m : Mode) → IsHeard (if c then events.EndInterrupted else events.EndLine) m
+end-heard true m = tt
+end-heard false m = tt
+
+text-tells : (f : Front) (r : Reading) → IsFront f → Tells (text f r)
+text-tells fronts.Mark r is = record { heard = tt }
+text-tells (fronts.Byte b) r is =
+    choose (b == code "\n") (tell (end_event r) (ended r)) (if b == code "\\" then begin_escape r else tell (events.Byte b) (to modes.Text r)) (record { heard = end-heard (is_interrupted r.mode) modes.Start })
+    (choose (b == code "\\") (begin_escape r) (tell (events.Byte b) (to modes.Text r)) (record { heard = tt }) (record { heard = tt }))
+text-tells (fronts.Cell x) r is = record { heard = is }
+text-tells (fronts.LineEnd k) r is = record { heard = end-heard (is_interrupted r.mode) modes.Start }
+text-tells fronts.Resume r is = record { heard = end-heard (is_interrupted r.mode) modes.Start }
+text-tells fronts.Over r is = record { heard = end-heard (is_interrupted r.mode) modes.Start }
+
+before_title-tells : (f : Front) (r : Reading) → Tells (before_title f r)
+before_title-tells fronts.Mark r = record { heard = tt }
+before_title-tells (fronts.Byte b) r =
+    let c3 : Step = if is_blank b then go r else tell events.TitlePart (to (modes.Title b 0) r) in
+    let c2 : Step = if b == code "\\" then begin_escape r else c3 in
+    choose (b == code "\n") (tell events.TitleEnd (ended_title r)) c2 (record { heard = tt })
+    (choose (b == code "\\") (begin_escape r) c3 (record { heard = tt })
+    (choose (is_blank b) (go r) (tell events.TitlePart (to (modes.Title b 0) r)) (record { heard = tt }) (record { heard = tt })))
+before_title-tells (fronts.Cell x) r = record { heard = tt }
+before_title-tells (fronts.LineEnd k) r = record { heard = tt }
+before_title-tells fronts.Resume r = record { heard = tt }
+before_title-tells fronts.Over r = record { heard = tt }
+
+title-tells : (f : Front) (d n : ℕ) (r : Reading) → IsFront f → Tells (title f d n r)
+title-tells fronts.Mark d n r is = record { heard = tt }
+title-tells (fronts.Byte b) d n r is =
+    let c3 : Step = if b == d then tell events.TitlePart (next_part d n r) else tell (events.Byte b) r in
+    let c2 : Step = if b == code "\\" then begin_escape r else c3 in
+    choose (b == code "\n") (tell events.TitleEnd (ended_title r)) c2 (record { heard = tt })
+    (choose (b == code "\\") (begin_escape r) c3 (record { heard = tt })
+    (choose (b == d) (tell events.TitlePart (next_part d n r)) (tell (events.Byte b) r) (record { heard = tt }) (record { heard = tt })))
+title-tells (fronts.Cell x) d n r is = record { heard = is }
+title-tells (fronts.LineEnd k) d n r is = record { heard = tt }
+title-tells fronts.Resume d n r is = record { heard = tt }
+title-tells fronts.Over d n r is = record { heard = tt }
+
+diverted-tells : (f : Front) (r : Reading) → IsFront f → Tells (diverted f r)
+diverted-tells fronts.Mark r is = record { heard = tt }
+diverted-tells (fronts.Cell x) r is = record { heard = is }
+diverted-tells (fronts.LineEnd k) r is = record { heard = tt }
+diverted-tells f r is = record { heard = tt }
+
+diverting-tells : (f : Front) (s : Signs) (r : Reading) → IsFront f → Tells (diverting f s r)
+diverting-tells (fronts.Cell x) s r is = record { heard = is }
+diverting-tells (fronts.LineEnd k) s r is = record { heard = tt }
+diverting-tells f s r is = start-tells f s r
+
+accepted-tells : (f : Front) (r : Reading) → Tells (accepted f r)
+accepted-tells fronts.Mark r = record { heard = tt }
+accepted-tells (fronts.Byte b) r =
+    let c3 : Step = if b == code "\\" then begin_escape r else leave (to modes.Start r) in
+    let c2 : Step = if b == code "\n" then go (to modes.Start r) else c3 in
+    choose (is_blank b) (go r) c2 (record { heard = tt })
+    (choose (b == code "\n") (go (to modes.Start r)) c3 (record { heard = tt })
+    (choose (b == code "\\") (begin_escape r) (leave (to modes.Start r)) (record { heard = tt }) (record { heard = tt })))
+accepted-tells f r = record { heard = tt }
+
+accepted_escape-tells : (f : Front) (r : Reading) → Tells (accepted_escape f r)
+accepted_escape-tells fronts.Mark r = record { heard = tt }
+accepted_escape-tells (fronts.Byte b) r = choose (b == code "{") (go (plain r)) (leave (to modes.Start r)) (record { heard = tt }) (record { heard = tt })
+accepted_escape-tells f r = record { heard = tt }
+
+newline-tells : (n : ℕ) (r : Reading) → Tells (behind_newline n r)
+newline-tells n r = choose (n == 0) (go (to modes.Start r)) (go r) (record { heard = tt }) (record { heard = tt })
+
+skip-tells : (f : Front) (n : ℕ) (r : Reading) → Tells (skip f n r)
+skip-tells (fronts.Byte b) n r =
+    choose (b == code "\n") (behind_newline n r) (if b == code "\\" then begin_escape r else go r) (newline-tells n r)
+    (choose (b == code "\\") (begin_escape r) (go r) (record { heard = tt }) (record { heard = tt }))
+skip-tells (fronts.LineEnd k) n r = newline-tells n r
+skip-tells fronts.Resume n r = record { heard = tt }
+skip-tells fronts.Over n r = record { heard = tt }
+skip-tells f n r = record { heard = tt }
+
+skip_escape-tells : (f : Front) (n : ℕ) (r : Reading) → Tells (skip_escape f n r)
+skip_escape-tells fronts.Mark n r = record { heard = tt }
+skip_escape-tells (fronts.Byte b) n r = record { heard = tt }
+skip_escape-tells fronts.Resume n r = record { heard = tt }
+skip_escape-tells fronts.Over n r = record { heard = tt }
+skip_escape-tells f n r = record { heard = tt }
+
+unescaped-tells : (m : Mode) (f : Front) (s : Signs) (r : Reading) → IsFront f → Tells (unescaped m f s r)
+unescaped-tells modes.Diverting f s r is = diverting-tells f s r is
+unescaped-tells (modes.Leading n) f s r is = leading-tells f n r
+unescaped-tells modes.Continued f s r is = continued-tells f r is
+unescaped-tells modes.Text f s r is = text-tells f r is
+unescaped-tells modes.Interrupted f s r is = text-tells f r is
+unescaped-tells modes.TitleBefore f s r is = before_title-tells f r
+unescaped-tells (modes.Title d n) f s r is = title-tells f d n r is
+unescaped-tells modes.Diverted f s r is = diverted-tells f r is
+unescaped-tells modes.Accepted f s r is = accepted-tells f r
+unescaped-tells (modes.Skip n) f s r is = skip-tells f n r
+unescaped-tells m f s r is = start-tells f s r
+
+backslash-tells : (m : Mode) (f : Front) (s : Signs) (r : Reading) → Tells (behind_backslash m f s r)
+backslash-tells modes.Accepted f s r = accepted_escape-tells f r
+backslash-tells (modes.Skip n) f s r = skip_escape-tells f n r
+backslash-tells m f s r = escaped-tells f s.long r
+
+direct-tells : (e : Escape) (f : Front) (s : Signs) (r : Reading) → IsFront f → Tells (direct_by e f s r)
+direct-tells escapes.Plain f s r is = unescaped-tells r.mode f s r is
+direct-tells escapes.Begun f s r is = backslash-tells r.mode f s r
+direct-tells escapes.Comment f s r is =
+    choose (ends_comment f) (unescaped r.mode f s (plain r)) (go r) (unescaped-tells r.mode f s (plain r) is) (record { heard = tt })
+
+-- ---- copied elements
+
+condition_byte-tells : (b : ℕ) (r : Reading) → Tells (read_condition_byte b r)
+condition_byte-tells b r =
+    let c5 : Step = if begins_number b then leave_noting notes.NewLine (to (modes.Number 0) r) else noting notes.Strings (to (modes.First b) r) in
+    let c4 : Step = if b == code "n" then go (due (dues.Judge true) r) else c5 in
+    let c3 : Step = if b == code "t" then go (due (dues.Judge false) r) else c4 in
+    let c2 : Step = if b == code "e" then tell (events.Judge questions.Even) (to (modes.Skip 0) r) else c3 in
+    choose (b == code "o") (tell (events.Judge questions.Odd) (to (modes.Skip 0) r)) c2 (record { heard = tt })
+    (choose (b == code "e") (tell (events.Judge questions.Even) (to (modes.Skip 0) r)) c3 (record { heard = tt })
+    (choose (b == code "t") (go (due (dues.Judge false) r)) c4 (record { heard = tt })
+    (choose (b == code "n") (go (due (dues.Judge true) r)) c5 (record { heard = tt })
+    (choose (begins_number b) (leave_noting notes.NewLine (to (modes.Number 0) r)) (noting notes.Strings (to (modes.First b) r)) (record { heard = tt }) (record { heard = tt })))))
+
+condition-tells : (b : ℕ) (negated : Bool) (r : Reading) → Tells (read_condition b negated r)
+condition-tells b negated r =
+    let blank : Step = if negated then leave (due (dues.Judge false) r) else go r in
+    let c3 : Step = if (b == code "!") && not negated then noting notes.Negated r else read_condition_byte b r in
+    let c2 : Step = if is_blank b then blank else c3 in
+    choose (b == code "\n") (leave (due (dues.Judge false) r)) c2 (record { heard = tt })
+    (choose (is_blank b) blank c3 (choose negated (leave (due (dues.Judge false) r)) (go r) (record { heard = tt }) (record { heard = tt }))
+    (choose ((b == code "!") && not negated) (noting notes.Negated r) (read_condition_byte b r) (record { heard = tt }) (condition_byte-tells b r)))
+
+not_last-tells : (b : ℕ) (d : Defining) (held : ℕ) (r : Reading) → Tells (not_last b d held r)
+not_last-tells b d held r =
+    choose (held == 0) (go (due (kept_byte d b) (to (in_body b) r))) (go (due (released d held (Some b)) (to (in_body b) r))) (record { heard = tt }) (record { heard = tt })
+
+body_start-tells : (b : ℕ) (d : Defining) (held : ℕ) (r : Reading) → Tells (read_body_start b d held r)
+body_start-tells b d held r =
+    choose (nat_lt held (length (last_line d)))
+    (if b == slice_index (last_line d) held then go (to (nearer_last d held) r) else not_last b d held r)
+    (if (b == code "\n") || is_blank b then leave (to modes.BodyEnd r) else not_last b d held r)
+    (choose (b == slice_index (last_line d) held) (go (to (nearer_last d held) r)) (not_last b d held r) (record { heard = tt }) (not_last-tells b d held r))
+    (choose ((b == code "\n") || is_blank b) (leave (to modes.BodyEnd r)) (not_last b d held r) (record { heard = tt }) (not_last-tells b d held r))
+
+body_over-tells : (d : Defining) (held : ℕ) (r : Reading) → Tells (over_body_start d held r)
+body_over-tells d held r =
+    choose (held == 0) (leave (due dues.Define (to modes.Start r)))
+    (if nat_lt held (length (last_line d)) then leave (due (released d held None) (to modes.Body r)) else leave (to modes.BodyEnd r)) (record { heard = tt })
+    (choose (nat_lt held (length (last_line d))) (leave (due (released d held None) (to modes.Body r))) (leave (to modes.BodyEnd r)) (record { heard = tt }) (record { heard = tt }))
+
+name-tells : (b : ℕ) (long : Bool) (name : Spelled) (r : Reading) → Tells (read_name b long name r)
+name-tells b long name r =
+    choose (ends_name b) (leave (due dues.Seek r)) (if completes long name then noting (notes.Name b) (due dues.Seek r) else noting (notes.Name b) r) (record { heard = tt })
+    (choose (completes long name) (noting (notes.Name b) (due dues.Seek r)) (noting (notes.Name b) r) (record { heard = tt }) (record { heard = tt }))
+
+gap-tells : (b : ℕ) (r : Reading) → Tells (read_macro_gap b r)
+gap-tells b r =
+    let c3 : Step = if b == code "\"" then go (to modes.Quoted r) else go (due (dues.Put b) (to modes.Word r)) in
+    choose (b == code "\n") (go (due dues.Call (to modes.Start r))) (if b == code " " then go r else c3) (record { heard = tt })
+    (choose (b == code " ") (go r) c3 (record { heard = tt })
+    (choose (b == code "\"") (go (to modes.Quoted r)) (go (due (dues.Put b) (to modes.Word r))) (record { heard = tt }) (record { heard = tt })))
+
+string_name-tells : (b : ℕ) (long : Bool) (name : Spelled) (r : Reading) → Tells (read_string_name b long name r)
+string_name-tells b long name r =
+    choose (ends_name b) (leave (behind_string_name name r)) (if completes long name then noting (notes.Name b) (to modes.StringBlanks r) else noting (notes.Name b) r) (record { heard = tt })
+    (choose (completes long name) (noting (notes.Name b) (to modes.StringBlanks r)) (noting (notes.Name b) r) (record { heard = tt }) (record { heard = tt }))
+
+two-tell : (c d : Bool) (x y z : Step) → Tells x → Tells y → Tells z → Tells (if c then x else (if d then y else z))
+two-tell c d x y z a b e = choose c x (if d then y else z) a (choose d y z b e)
+
+read-tells : (m : Mode) (b : ℕ) (s : Signs) (n : Notes) (r : Reading) → Tells (read_by m b s n r)
+read-tells modes.Control b s n r = choose (is_blank b) (go r) (leave (to modes.Name r)) (record { heard = tt }) (record { heard = tt })
+read-tells modes.Name b s n r = name-tells b s.long n.name r
+read-tells modes.Drop b s n r = choose (b == code "\n") (go (to modes.Start r)) (go r) (record { heard = tt }) (record { heard = tt })
+read-tells modes.TitleRest b s n r = choose (b == code "\n") (tell events.TitleEnd (ended_title r)) (go r) (record { heard = tt }) (record { heard = tt })
+read-tells modes.RequestBlanks b s n r = choose (is_blank b) (go r) (leave_noting notes.NewLine (to modes.RequestLine r)) (record { heard = tt }) (record { heard = tt })
+read-tells modes.RequestLine b s n r = choose (b == code "\n") (tell events.Request (to modes.Start r)) (noting (notes.Line b) r) (record { heard = tt }) (record { heard = tt })
+read-tells modes.MacroBlanks b s n r = choose (is_blank b) (go r) (leave (to modes.MacroGap r)) (record { heard = tt }) (record { heard = tt })
+read-tells modes.MacroGap b s n r = gap-tells b r
+read-tells modes.Word b s n r =
+    two-tell (b == code "\n") (b == code " ") (leave (due dues.EndArgument (to modes.MacroGap r))) (go (due dues.EndArgument (to modes.MacroGap r))) (go (due (dues.Put b) r)) (record { heard = tt }) (record { heard = tt }) (record { heard = tt })
+read-tells modes.Quoted b s n r =
+    two-tell (b == code "\n") (b == code "\"") (leave (due dues.EndArgument (to modes.MacroGap r))) (go (to modes.Quote r)) (go (due (dues.Put b) r)) (record { heard = tt }) (record { heard = tt }) (record { heard = tt })
+read-tells modes.Quote b s n r =
+    choose (b == code "\"") (go (due (dues.Put (code "\"")) (to modes.Quoted r))) (leave (due dues.EndArgument (to modes.MacroGap r))) (record { heard = tt }) (record { heard = tt })
+read-tells modes.StringBefore b s n r = choose (is_blank b) (go r) (leave_noting notes.NewName (to modes.StringName r)) (record { heard = tt }) (record { heard = tt })
+read-tells modes.StringName b s n r = string_name-tells b s.long n.name r
+read-tells modes.StringBlanks b s n r =
+    two-tell (is_blank b) (b == code "\"") (go r) (go (due dues.Begin (to modes.StringText r))) (leave (due dues.Begin (to modes.StringText r))) (record { heard = tt }) (record { heard = tt }) (record { heard = tt })
+read-tells modes.StringText b s n r = choose (b == code "\n") (go (due dues.Define (to modes.Start r))) (go (due (dues.Add b) r)) (record { heard = tt }) (record { heard = tt })
+read-tells (modes.BodyStart held) b s n r = body_start-tells b n.defining held r
+read-tells modes.Body b s n r = record { heard = tt }
+read-tells modes.BodyEnd b s n r = choose (b == code "\n") (go (due dues.DefineAndCall (to modes.Start r))) (go r) (record { heard = tt }) (record { heard = tt })
+read-tells modes.Condition b s n r = condition-tells b n.condition.negated r
+read-tells (modes.Number depth) b s n r =
+    choose ((b == code "\n") || ((depth == 0) && (is_blank b || (b == code "\\")))) (leave_telling (events.Judge questions.Number) (to (modes.Skip 0) r))
+    (noting (notes.Line b) (to (modes.Number (parentheses b depth)) r)) (record { heard = tt }) (record { heard = tt })
+read-tells (modes.First d) b s n r =
+    two-tell (b == code "\n") (b == d) (leave (due (dues.Judge (are_equal n.condition)) r)) (go (to (modes.Second d) r)) (noting (notes.First b) r) (record { heard = tt }) (record { heard = tt }) (record { heard = tt })
+read-tells (modes.Second d) b s n r =
+    two-tell (b == code "\n") (b == d) (leave (due (dues.Judge (are_equal n.condition)) r)) (go (due (dues.Judge (are_equal n.condition)) r)) (noting (notes.Second b) r) (record { heard = tt }) (record { heard = tt }) (record { heard = tt })
+read-tells modes.Transparent b s n r =
+    choose (b == code "\n") (go (due (dues.Add (code "\n")) (to modes.Start r))) (go (due (dues.Add b) r)) (record { heard = tt }) (record { heard = tt })
+read-tells m b s n r = record { heard = tt }
+
+over-tells : (m : Mode) (s : Signs) (n : Notes) (r : Reading) → Tells (read_over_by m s n r)
+over-tells (modes.BodyStart held) s n r = body_over-tells n.defining held r
+over-tells m s n r = read-tells m (code "\n") s n r
+
+-- ---- the item in front
+
+pub record Meets (m : Met) : Type 0 where
+  pub heard : IsHeard m.event m.half.reading.mode
+
+directly-by : (n : Note) (s : Step) (h : Half) → Tells s → Meets (met_directly (record s { note = n }) h)
+directly-by (notes.Begin a) s h told = record { heard = told.heard }
+directly-by n s h told = record { heard = told.heard }
+
+directly : (s : Step) (h : Half) → Tells s → Meets (met_directly s h)
+directly s h told = directly-by s.note s h told
+
+copied-by : (n : Note) (front : Bool) (s : Step) (h : Half) → Tells s → Meets (met_copied front (record s { note = n }) h)
+copied-by (notes.Begin a) front s h told = record { heard = told.heard }
+copied-by n front s h told = record { heard = told.heard }
+
+copied : (front : Bool) (s : Step) (h : Half) → Tells s → Meets (met_copied front s h)
+copied front s h told = copied-by s.note front s h told
+
+given : (c : Bool) (m : Mode) → IsHeard (if c then events.Given else events.Nothing) m
+given true m = tt
+given false m = tt
+
+ended-heard : (k : Kind) (name : List ℕ) (m : Mode) → IsHeard (event_of k name) m
+ended-heard (kinds.Register s) name m = given (is_given name) m
+ended-heard kinds.Width name m = tt
+ended-heard kinds.Font name m = tt
+ended-heard kinds.Special name m = tt
+ended-heard kinds.Horizontal name m = tt
+ended-heard kinds.Rule name m = tt
+ended-heard k name m = tt
+
+-- an escape whose name or argument was read
+ends : (k : Kind) (name : List ℕ) (m : Mode) → IsHeard (event_of k name) m
+ends k name m = ended-heard k name m
+
+argument-meets : (front : Bool) (b : ℕ) (a : Ask) (h : Half) → Meets (answered front (argument_asked b a) h)
+argument-meets front b a h = by (nat_le (code "1") b && nat_le b (code "9")) refl
+  where
+    by : (c : Bool) → (nat_le (code "1") b && nat_le b (code "9")) ≡ c → Meets (answered front (argument_asked b a) h)
+    by true e = rw e (record { heard = tt })
+    by false e = rw e (record { heard = ends a.kind (name_of a.name) h.reading.mode })
+
+first-meets : (front : Bool) (b : ℕ) (long : Bool) (a : Ask) (h : Half) → Meets (answered front (answer_first b long a) h)
+first-meets front b long a h = by (b == code "(") ((b == code "[") && long) ((b == code "+") && is_unsigned a.kind) ((b == code "-") && is_unsigned a.kind) refl refl refl refl
+  where
+    by : (c d e f : Bool) → (b == code "(") ≡ c → ((b == code "[") && long) ≡ d → ((b == code "+") && is_unsigned a.kind) ≡ e → ((b == code "-") && is_unsigned a.kind) ≡ f
+        → Meets (answered front (answer_first b long a) h)
+    by true d e f c-is d-is e-is f-is = rw c-is (record { heard = tt })
+    by false true e f c-is d-is e-is f-is = rw (c-is, d-is) (record { heard = tt })
+    by false false true f c-is d-is e-is f-is = rw (c-is, d-is, e-is) (record { heard = tt })
+    by false false false true c-is d-is e-is f-is = rw (c-is, d-is, e-is, f-is) (record { heard = tt })
+    by false false false false c-is d-is e-is f-is = rw (c-is, d-is, e-is, f-is) (record { heard = ends a.kind (name_of (spelled b a.name)) h.reading.mode })
+
+two-meets : (front : Bool) (b : ℕ) (a : Ask) (h : Half) → Meets (answered front (answer_two b a) h)
+two-meets front b a h = by (is_empty a.name.bytes) refl
+  where
+    by : (c : Bool) → is_empty a.name.bytes ≡ c → Meets (answered front (answer_two b a) h)
+    by true e = rw e (record { heard = tt })
+    by false e = rw e (record { heard = ends a.kind (name_of (spelled b a.name)) h.reading.mode })
+
+bracket-meets : (front : Bool) (b : ℕ) (a : Ask) (h : Half) → Meets (answered front (answer_bracket b a) h)
+bracket-meets front b a h = by (b == code "]") (is_blank b) refl refl
+  where
+    by : (c d : Bool) → (b == code "]") ≡ c → is_blank b ≡ d → Meets (answered front (answer_bracket b a) h)
+    by true d c-is d-is = rw c-is (record { heard = ends a.kind (name_of a.name) h.reading.mode })
+    by false true c-is d-is = rw (c-is, d-is) (record { heard = tt })
+    by false false c-is d-is = rw (c-is, d-is) (record { heard = tt })
+
+digit-meets : (front : Bool) (b : ℕ) (signed : Bool) (a : Ask) (h : Half) → Meets (answered front (answer_digit b signed a) h)
+digit-meets front b signed a h = by (is_digit b) (not signed && nat_le (code "1") b && nat_le b (code "3")) refl refl
+  where
+    by : (c d : Bool) → is_digit b ≡ c → (not signed && nat_le (code "1") b && nat_le b (code "3")) ≡ d → Meets (answered front (answer_digit b signed a) h)
+    by false d c-is d-is = rw c-is (record { heard = ends a.kind (name_of a.name) h.reading.mode })
+    by true true c-is d-is = rw (c-is, d-is) (record { heard = tt })
+    by true false c-is d-is = rw (c-is, d-is) (record { heard = ends a.kind (name_of a.name) h.reading.mode })
+
+of-kind : (front : Bool) (b : ℕ) (long : Bool) (a : Ask) (h : Half) → Meets (answered front (answer_byte b long stages.First a) h)
+of-kind front b long a h = by (is_argument a.kind) refl
+  where
+    by : (c : Bool) → is_argument a.kind ≡ c → Meets (answered front (answer_byte b long stages.First a) h)
+    by true e = rw e (argument-meets front b a h)
+    by false e = rw e (first-meets front b long a h)
+
+stage-meets : (front : Bool) (b : ℕ) (long : Bool) (s : Stage) (a : Ask) (h : Half) → Meets (answered front (answer_byte b long s a) h)
+stage-meets front b long stages.First a h = of-kind front b long a h
+stage-meets front b long stages.Two a h = two-meets front b a h
+stage-meets front b long stages.Bracket a h = bracket-meets front b a h
+stage-meets front b long stages.Delimiter a h = record { heard = tt }
+stage-meets front b long (stages.Inside d) a h = by (b == d) refl
+  where
+    by : (c : Bool) → (b == d) ≡ c → Meets (answered front (answer_byte b long (stages.Inside d) a) h)
+    by true e = rw e (record { heard = ends a.kind (name_of a.name) h.reading.mode })
+    by false e = rw e (record { heard = tt })
+stage-meets front b long stages.Sign a h = by ((b == code "+") || (b == code "-")) refl
+  where
+    by : (c : Bool) → ((b == code "+") || (b == code "-")) ≡ c → Meets (answered front (answer_byte b long stages.Sign a) h)
+    by true e = rw e (record { heard = tt })
+    by false e = rw e (record { heard = tt })
+stage-meets front b long (stages.Digit signed) a h = digit-meets front b signed a h
+stage-meets front b long stages.Second a h = by (is_digit b) refl
+  where
+    by : (c : Bool) → is_digit b ≡ c → Meets (answered front (answer_byte b long stages.Second a) h)
+    by true e = rw e (record { heard = ends a.kind (name_of a.name) h.reading.mode })
+    by false e = rw e (record { heard = ends a.kind (name_of a.name) h.reading.mode })
+
+answered-meets : (front : Bool) (b : ℕ) (long : Bool) (a : Ask) (h : Half) → Meets (answered front (answer b long a) h)
+answered-meets front b long a h = by (b == code "\n") refl
+  where
+    by : (c : Bool) → (b == code "\n") ≡ c → Meets (answered front (answer b long a) h)
+    by true e = rw e (record { heard = ends (cut a.stage a).kind (name_of (cut a.stage a).name) h.reading.mode })
+    by false e = rw e (stage-meets front b long a.stage a h)
+
+hear-meets : (asks : List Ask) (front : Bool) (b : ℕ) (h : Half) → Meets (hear_by asks front b h)
+hear-meets [] front b h = copied front (read b h.signs h.notes h.reading) h (read-tells h.reading.mode b h.signs h.notes h.reading)
+hear-meets (a ∷ asks) front b h = answered-meets front b h.signs.long a h
+
+over-meets : (asks : List Ask) (h : Half) → Meets (over_by asks h)
+over-meets [] h = copied false (read_over h.signs h.notes h.reading) h (over-tells h.reading.mode h.signs h.notes h.reading)
+over-meets (a ∷ asks) h = answered-meets false (code "\n") h.signs.long a h
+
+-- a byte after `\`
+begun-meets : (b : ℕ) (argument : Bool) (h : Half) → Meets (offered (copied_escape b argument) h)
+begun-meets b argument h =
+    by (b == code "\\") (b == code ".") (b == code "t") (b == code "a") (b == code "\n") (b == code "\"") (b == code "*") (b == code "$") (b == code "n") ((b == code "w") && argument)
+    refl refl refl refl refl refl refl refl refl refl
+  where
+    by : (c1 c2 c3 c4 c5 c6 c7 c8 c9 c10 : Bool) → (b == code "\\") ≡ c1 → (b == code ".") ≡ c2 → (b == code "t") ≡ c3 → (b == code "a") ≡ c4 → (b == code "\n") ≡ c5 → (b == code "\"") ≡ c6
+        → (b == code "*") ≡ c7 → (b == code "$") ≡ c8 → (b == code "n") ≡ c9 → ((b == code "w") && argument) ≡ c10 → Meets (offered (copied_escape b argument) h)
+    by true c2 c3 c4 c5 c6 c7 c8 c9 c10 e1 e2 e3 e4 e5 e6 e7 e8 e9 e10 = rw e1 (hear-meets h.asks true (code "\\") h)
+    by false true c3 c4 c5 c6 c7 c8 c9 c10 e1 e2 e3 e4 e5 e6 e7 e8 e9 e10 = rw (e1, e2) (hear-meets h.asks true (code ".") h)
+    by false false true c4 c5 c6 c7 c8 c9 c10 e1 e2 e3 e4 e5 e6 e7 e8 e9 e10 = rw (e1, e2, e3) (hear-meets h.asks true (code "\t") h)
+    by false false false true c5 c6 c7 c8 c9 c10 e1 e2 e3 e4 e5 e6 e7 e8 e9 e10 = rw (e1, e2, e3, e4) (hear-meets h.asks true 1 h)
+    by false false false false true c6 c7 c8 c9 c10 e1 e2 e3 e4 e5 e6 e7 e8 e9 e10 = rw (e1, e2, e3, e4, e5) (record { heard = tt })
+    by false false false false false true c7 c8 c9 c10 e1 e2 e3 e4 e5 e6 e7 e8 e9 e10 = rw (e1, e2, e3, e4, e5, e6) (record { heard = tt })
+    by false false false false false false true c8 c9 c10 e1 e2 e3 e4 e5 e6 e7 e8 e9 e10 = rw (e1, e2, e3, e4, e5, e6, e7) (record { heard = tt })
+    by false false false false false false false true c9 c10 e1 e2 e3 e4 e5 e6 e7 e8 e9 e10 = rw (e1, e2, e3, e4, e5, e6, e7, e8) (record { heard = tt })
+    by false false false false false false false false true c10 e1 e2 e3 e4 e5 e6 e7 e8 e9 e10 = rw (e1, e2, e3, e4, e5, e6, e7, e8, e9) (record { heard = tt })
+    by false false false false false false false false false true e1 e2 e3 e4 e5 e6 e7 e8 e9 e10 = rw (e1, e2, e3, e4, e5, e6, e7, e8, e9, e10) (record { heard = tt })
+    by false false false false false false false false false false e1 e2 e3 e4 e5 e6 e7 e8 e9 e10 = rw (e1, e2, e3, e4, e5, e6, e7, e8, e9, e10) (hear-meets h.asks false (code "\\") h)
+
+byte-meets : (b : ℕ) (e : Escape) (argument : Bool) (h : Half) → Meets (offered (offer_byte b e argument) h)
+byte-meets b escapes.Plain argument h = by (b == code "\\") refl
+  where
+    by : (c : Bool) → (b == code "\\") ≡ c → Meets (offered (offer_byte b escapes.Plain argument) h)
+    by true e = rw e (record { heard = tt })
+    by false e = rw e (hear-meets h.asks true b h)
+byte-meets b escapes.Begun argument h = begun-meets b argument h
+byte-meets b escapes.Comment argument h = by (b == code "\n") refl
+  where
+    by : (c : Bool) → (b == code "\n") ≡ c → Meets (offered (offer_byte b escapes.Comment argument) h)
+    by true e = rw e (hear-meets h.asks true (code "\n") h)
+    by false e = rw e (record { heard = tt })
+
+offered-meets : (f : Front) (e : Escape) (argument : Bool) (h : Half) → Meets (offered (offer f e argument) h)
+offered-meets fronts.Mark e argument h = record { heard = tt }
+offered-meets (fronts.Byte b) e argument h = byte-meets b e argument h
+offered-meets (fronts.Cell x) escapes.Plain argument h = hear-meets h.asks true x.byte h
+offered-meets (fronts.Cell x) escapes.Begun argument h = hear-meets h.asks false (code "\\") h
+offered-meets (fronts.Cell x) escapes.Comment argument h = record { heard = tt }
+offered-meets (fronts.LineEnd n) escapes.Begun argument h = hear-meets h.asks false (code "\\") h
+offered-meets (fronts.LineEnd n) escapes.Plain argument h = hear-meets h.asks true (code "\n") h
+offered-meets (fronts.LineEnd n) escapes.Comment argument h = hear-meets h.asks true (code "\n") h
+offered-meets fronts.Resume escapes.Begun argument h = hear-meets h.asks false (code "\\") h
+offered-meets fronts.Resume escapes.Plain argument h = over-meets h.asks h
+offered-meets fronts.Resume escapes.Comment argument h = over-meets h.asks h
+offered-meets fronts.Over escapes.Begun argument h = hear-meets h.asks false (code "\\") h
+offered-meets fronts.Over escapes.Plain argument h = over-meets h.asks h
+offered-meets fronts.Over escapes.Comment argument h = over-meets h.asks h
+
+raw-meets : (f : Front) (e : Escape) (h : Half) → Meets (offered (raw_offer f e) h)
+raw-meets fronts.Mark e h = record { heard = tt }
+raw-meets (fronts.Byte b) e h = hear-meets h.asks true b h
+raw-meets f e h = over-meets h.asks h
+
+to-meets : (k : Kind) (f : Front) (e : Escape) (h : Half) → Meets (offered (offer_to k f e) h)
+to-meets kinds.Size f e h = raw-meets f e h
+to-meets k f e h = offered-meets f e (reads_argument k) h
+
+meets : (c : Bool) (x y : Met) → Meets x → Meets y → Meets (if c then x else y)
+meets true x y first second = first
+meets false x y first second = second
+
+by-asks : (asks : List Ask) (f : Front) (h : Half) → IsFront f → Meets (meet_by asks f h)
+by-asks [] f h is =
+    meets (is_direct h.reading.mode) (met_directly (direct f h.signs h.reading) h) (offered (offer f h.reading.escape (reads_arguments h.reading.mode)) h)
+    (directly (direct f h.signs h.reading) h (direct-tells h.reading.escape f h.signs h.reading is)) (offered-meets f h.reading.escape (reads_arguments h.reading.mode) h)
+by-asks (a ∷ asks) f h is = to-meets a.kind f h.reading.escape h
+
+pub meet-heard : (f : Front) (h : Half) → IsFront f → IsHeard (meet f h).event (meet f h).half.reading.mode
+meet-heard f h is = (by-asks h.asks f h is).heard
