@@ -18,6 +18,7 @@ pub(crate) static TEXT: &[u8] = b"\
 .ds >0 ]\\\\\n\
 .ds .1 \"  \\\\c\n\
 .ds Tm (Tm)\n\
+.ds )O Debian\n\
 .ds lq \\\\(dq\n\
 .ds rq \\\\(dq\n\
 .de )0\n\
@@ -83,7 +84,7 @@ pub(crate) static TEXT: &[u8] = b"\
 .if \\\\n# \\\\{.br\n\
 .rs\n\
 .)V\n\
-.tl \x01\\\\fR\\\\*()4\x01\\\\*()8\\\\*()3\x01\\\\*()1\\\\fP\x01\n\
+.tl \x01\\\\fR\\\\*()4\x01\\\\*()8\\\\*()3\x01\\\\*()9\\\\fP\x01\n\
 .pl \\\\n(nlu\\\\}\n\
 ..\n\
 .em )e\n\
@@ -130,6 +131,7 @@ pub(crate) static TEXT: &[u8] = b"\
 .ds )1 \"\\\\$1(\\\\$2)\n\
 .ds )3 \"\\\\$3\n\
 .ds )4 \"\\\\$4\n\
+.ds )9 \"\\\\*()1\n\
 .ie \\\\n(.$>4 .ds )5 \"\\\\$5\n\
 .el \\\\{.ds )5 \\\\$2\n\
 .)6 \"General Commands\" \"System Calls\" \"Library Functions\" \"Kernel Interfaces\" \"File Formats\" Games \"Miscellaneous Information\" \"System Manager's\" \"Kernel Developer's\"\n\

@@ -1,5 +1,5 @@
 -- A word that is read for what it asks is not said.
-use Rattle.std.proofs.Common.{◌≡◌, ℕ, ◌+◌, List, [], ◌∷◌, ◌++◌, length, Bool, true, false, not, ◌&&◌, ◌||◌, ◌==◌, nat_lt, if◌then◌else◌, Option, None, Some, refl, ◌∙◌, ap}
+use Rattle.std.proofs.Common.{◌≡◌, ℕ, ◌+◌, List, [], ◌∷◌, ◌++◌, length, Bool, true, false, not, ◌&&◌, ◌||◌, ◌==◌, nat_lt, if◌then◌else◌, Option, None, Some, is_some, refl, ◌∙◌, ap}
 use Prim.Native.Char.{code}
 use Rattle.nr_mdoc.specs.declared.acts.Act.{Act}
 use Rattle.nr_mdoc.specs.declared.acts.Act.TheVariants as acts
@@ -14,7 +14,7 @@ use Rattle.nr_mdoc.specs.declared.page.Scan.{Scan}
 use Rattle.nr_mdoc.specs.declared.page.Scan.TheVariants as scans
 use Rattle.nr_mdoc.specs.declared.page.Wanted.{Wanted}
 use Rattle.nr_mdoc.specs.declared.page.Wanted.TheVariants as wanteds
-use Rattle.nr_mdoc.specs.Calls.{is_none, with_scan}
+use Rattle.nr_mdoc.specs.Calls.{called_by, is_none, with_scan}
 use Rattle.nr_mdoc.specs.Keeping.{ends_in_hyphen, has_dashes, keep, keep_byte, keep_escape, keeping, looks_up, whole_for, widens, wider, within, within_escape}
 use Rattle.nr_mdoc.specs.Laying.{with_lay}
 use Rattle.nr_mdoc.specs.LayingOut.{lay_out}
@@ -23,7 +23,7 @@ use Rattle.nr_mdoc.specs.Reading.{State, said}
 use Rattle.nr_mdoc.specs.Saying.{part_of, parts_seen, words_of}
 use Rattle.nr_mdoc.specs.Scanning.{meet, meet_at, meet_whole, meet_whole_at}
 use Rattle.nr_mdoc.specs.Seeing.{Met, met, left, taken, three, two, and_taken}
-use Rattle.nr_mdoc.specs.Words.{ends_long, parsed}
+use Rattle.nr_mdoc.specs.Words.{ends_long, heading_calls, parsed}
 use Rattle.nr_mdoc.specs.WrittenLines.{asks}
 use Rattle.nr_mdoc.proofs.Meeting.{with_page, Leads, Takes, leads_by, takes_by}
 use Rattle.nr_mdoc.proofs.Outcomes.{is_quiet, never, Lays, quiet-page}
@@ -240,14 +240,14 @@ asked_by macros.FontBegins q m h at = font_asked (font_named q.word) q m at
 asked_by macros.Spacing q m h at = asked_none m _ (asking_as m scans.Between q _ at.scan_is refl refl refl refl refl refl at)
 asked_by k q m h at = never h
 
-asks_reads : (m : Macro) → asks m ≡ true → reads_for m ≡ true
-asks_reads macros.Date h = refl
-asks_reads macros.Title h = refl
-asks_reads macros.List h = refl
-asks_reads macros.Display h = refl
-asks_reads macros.FontBegins h = refl
-asks_reads macros.Spacing h = refl
-asks_reads m h = never h
+asks_alone : (m : Macro) (calls : Bool) → asks m ≡ true → (reads_for m && not (is_heading m && calls)) ≡ true
+asks_alone macros.Date calls h = refl
+asks_alone macros.Title calls h = refl
+asks_alone macros.List calls h = refl
+asks_alone macros.Display calls h = refl
+asks_alone macros.FontBegins calls h = refl
+asks_alone macros.Spacing calls h = refl
+asks_alone m calls h = never h
 
 optioned : Met → Met
 optioned o = met (record o.page { call = record o.page.call { some = true } }) o.seen
@@ -262,9 +262,9 @@ unfolding meet meet_whole
 given_met m quoted b s h at =
     let p = s.page in
     ap (λ (sc : Scan). meet_at sc b p) at.scan_is ∙ ap (λ (sc : Scan). meet_whole_at sc b p) at.scan_is
-    ∙ ap (λ (t : Bool). if t then ends_long p else if reads_for p.call.taker then option p else parsed quoted p) at.going
-    ∙ ap (λ (k : Macro). if reads_for k then option p else parsed quoted p) at.taker
-    ∙ ap (λ (t : Bool). if t then option p else parsed quoted p) (asks_reads m h)
+    ∙ ap (λ (t : Bool). if t then ends_long p else if reads_for p.call.taker && not (heading_calls quoted p) then option p else parsed quoted p) at.going
+    ∙ ap (λ (k : Macro). if reads_for k && not (is_heading k && is_some (called_by quoted p.word)) then option p else parsed quoted p) at.taker
+    ∙ ap (λ (t : Bool). if t then option p else parsed quoted p) (asks_alone m (is_some (called_by quoted p.word)) h)
     ∙ option_is p ∙ ap (λ (k : Macro). optioned (option_for k (with_scan scans.Between p))) at.taker
 
 pub given_step : (m : Macro) (quoted : Bool) (b : ℕ) (s : State) → asks m ≡ true → Asking m s.page (scans.Given quoted) → Leading m b s 1 scans.Between

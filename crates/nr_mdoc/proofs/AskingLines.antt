@@ -4,6 +4,7 @@ use Rattle.std.specs.Prelude.{codes}
 use Prim.Native.Char.{code}
 use Rattle.nr_mdoc.specs.declared.acts.Act.{Act}
 use Rattle.nr_mdoc.specs.declared.acts.Act.TheVariants as acts
+use Rattle.nr_mdoc.specs.declared.acts.Request.{Request}
 use Rattle.nr_mdoc.specs.declared.acts.Request.TheVariants as requests
 use Rattle.nr_mdoc.specs.declared.acts.Sized.TheVariants as sizes
 use Rattle.nr_mdoc.specs.declared.acts.Stack.TheVariants.{Opens}
@@ -15,7 +16,7 @@ use Rattle.nr_mdoc.specs.declared.page.Kind.TheVariants as kinds
 use Rattle.nr_mdoc.specs.declared.page.Page.{Page}
 use Rattle.nr_mdoc.specs.declared.page.Scan.{Scan}
 use Rattle.nr_mdoc.specs.declared.page.Scan.TheVariants as scans
-use Rattle.nr_mdoc.specs.Blocks.{block_opens, fresh_block, indent, inner, is_literal, space, stops, with_literal}
+use Rattle.nr_mdoc.specs.Blocks.{block_opens, display_begins_of, fresh_block, indent, inner, literal, space, stops, with_literal}
 use Rattle.nr_mdoc.specs.Calls.{is_due, is_due_from, is_none, leaves, with_scan}
 use Rattle.nr_mdoc.specs.Columns.{gap, hang_of}
 use Rattle.nr_mdoc.specs.Keeping.{ends_word}
@@ -159,14 +160,13 @@ unfolding is_laid is_quiet
 list_over true p none = columns_over (p.block.columns == 0) p none
 list_over false p none = over_two p (indent p) acts.Nothing none refl refl (λ q. refl) (λ q. refl)
 
-display_over : (t : Bool) (p : Page) → p.marks ≡ []
-    → Over (if t then met (with_literal true p) (three (space p.block.compact) (indent p) (acts.Request requests.Literal)) else met p (two (space p.block.compact) (indent p)))
+literal_over : (request : Request) (p : Page) → p.marks ≡ [] → Over (literal (space p.block.compact) (indent p) request p)
 unfolding line_over is_laid is_quiet
-display_over true p none = record {
+literal_over request p none = record {
   page = with_literal true p;
   x = space p.block.compact;
   y = indent p;
-  z = acts.Request requests.Literal;
+  z = acts.Request request;
   is = refl;
   marks = none;
   laid_x = space_laid p.block.compact;
@@ -176,7 +176,13 @@ display_over true p none = record {
   no_y = λ q. refl;
   no_z = λ q. refl;
 }
-display_over false p none = over_two p (space p.block.compact) (indent p) none (space_laid p.block.compact) refl (space_word p.block.compact) (λ q. refl)
+
+display_over : (kind : Kind) (p : Page) → p.marks ≡ [] → Over (display_begins_of kind p)
+unfolding is_laid is_quiet
+display_over kinds.Literal p none = literal_over requests.Literal p none
+display_over kinds.Unfilled p none = literal_over requests.Unfilled p none
+display_over kinds.Centered p none = literal_over requests.Centered p none
+display_over kind p none = over_two p (space p.block.compact) (indent p) none (space_laid p.block.compact) refl (space_word p.block.compact) (λ q. refl)
 
 none_over : (p : Page) → p.marks ≡ [] → Over (none p)
 unfolding is_laid is_quiet
@@ -191,7 +197,7 @@ unfolding end_of
 end_over macros.Date p h none = none_over p none
 end_over macros.Title p h none = none_over p none
 end_over macros.List p h none = list_over (is_column p.block.kind) p none
-end_over macros.Display p h none = display_over (is_literal p.block.kind) p none
+end_over macros.Display p h none = display_over p.block.kind p none
 end_over macros.FontBegins p h none = none_over p none
 end_over macros.Spacing p h none =
     none_over (record (turned p) { lay = record (turned p).lay { joined = (turned p).lay.joined && not (turned p).lay.spaced } }) (turned_marks (not p.call.some) p none)

@@ -13,12 +13,12 @@ use Rattle.nr_mdoc.specs.declared.page.Kind.TheVariants as kinds
 use Rattle.nr_mdoc.specs.declared.page.Last.{Last}
 use Rattle.nr_mdoc.specs.declared.page.Last.TheVariants as lasts
 use Rattle.nr_mdoc.specs.declared.page.Page.{Page}
-use Rattle.nr_mdoc.specs.Blocks.{before_item, counted_item, counts, inner, is_diagnosis, is_list, item, item_head, item_head_of, line_opens, new_item, space, stands_close, taking}
+use Rattle.nr_mdoc.specs.Blocks.{before_item, counted_item, counts, inner, is_bare, is_diagnosis, is_list, item, item_head, item_head_of, line_opens, new_item, plainly, space, stands_close, taking}
 use Rattle.nr_mdoc.specs.Calls.{is_synopsis}
 use Rattle.nr_mdoc.specs.Lines.{after, begins, book, function_line, is_see_also, include_line, line_before, stands_behind, synopsis_line}
 use Rattle.nr_mdoc.specs.Options.{none}
 use Rattle.nr_mdoc.specs.WrittenLines.{heads_words, Usual, way_of}
-use Rattle.nr_mdoc.proofs.Outcomes.{is_quiet, of_word, never, takes_plain, Keeps, keeps_if, Out, out, out_if, out_act_if, same_page}
+use Rattle.nr_mdoc.proofs.Outcomes.{is_quiet, of_word, never, Lined, lined_as, takes_plain, Keeps, Out, out, out_if, out_when, out_act_if, same_page}
 use Rattle.nr_mdoc.proofs.Taken.{called_out}
 
 quiet_by : (t : Bool) → is_quiet (if t then acts.Request requests.Break else acts.Space) ≡ true
@@ -98,9 +98,40 @@ kept_counts p q i = record {
   way = i.way;
 }
 
-kept_counted : (p q : Page) → way_of q.call.taker ≡ Usual → Keeps q p → Keeps q (counted_item p)
-kept_counted p q u i =
-    keeps_if (is_diagnosis p.block.kind) q (taking Bold (counts p)) (counts p) (kept_taking (counts p) q Bold u (kept_counts p q i)) (kept_counts p q i)
+-- a page whose line's words call no macro, or may
+abbrev pub muted : Bool → Page → Page
+muted t p = record p { call = record p.call { plain = t } }
+
+kept_muted : (t : Bool) (p q : Page) → Keeps q p → Keeps (muted t q) (muted t p)
+kept_muted t p q i = record {
+  scan = i.scan;
+  word = i.word;
+  marks = i.marks;
+  few = i.few;
+  going = i.going;
+  comment = i.comment;
+  line = ap (λ (l : Lined). lined_as l.macro t) i.line;
+  fits = i.fits;
+  way = i.way;
+}
+
+kept_loud : (t : Bool) (p q : Page) → t ≡ false → q.call.plain ≡ false → Keeps q p → Keeps (muted t q) p
+kept_loud t p q e f i = record {
+  scan = i.scan;
+  word = i.word;
+  marks = i.marks;
+  few = i.few;
+  going = i.going;
+  comment = i.comment;
+  line = i.line ∙ ap (lined_as q.call.line) (f ∙ sym e);
+  fits = i.fits;
+  way = i.way;
+}
+
+kept_counted : (t : Bool) (p q : Page) → q.call.plain ≡ false → way_of q.call.taker ≡ Usual → Keeps q p
+    → Keeps (muted t q) (if t then plainly (taking Bold (counts p)) else counts p)
+kept_counted true p q f u i = kept_muted true (taking Bold (counts p)) q (kept_taking (counts p) q Bold u (kept_counts p q i))
+kept_counted false p q f u i = kept_loud false (counts p) q refl f (kept_counts p q i)
 
 quiet_space : (t : Bool) → is_quiet (space t) ≡ true
 unfolding is_quiet
@@ -112,15 +143,17 @@ unfolding of_word
 space_word true w = refl
 space_word false w = refl
 
-quiet_item_by : (t c : Bool) → is_quiet (if t then space c else acts.Request requests.Space) ≡ true
+quiet_item_by : (t u c : Bool) → is_quiet (if t then space c else if u then acts.Fresh else acts.Request requests.Space) ≡ true
 unfolding is_quiet
-quiet_item_by true c = quiet_space c
-quiet_item_by false c = refl
+quiet_item_by true u c = quiet_space c
+quiet_item_by false true c = refl
+quiet_item_by false false c = refl
 
-item_word_by : (t c : Bool) (w : List ℕ) → of_word (if t then space c else acts.Request requests.Space) w ≡ []
+item_word_by : (t u c : Bool) (w : List ℕ) → of_word (if t then space c else if u then acts.Fresh else acts.Request requests.Space) w ≡ []
 unfolding of_word
-item_word_by true c w = space_word c w
-item_word_by false c w = refl
+item_word_by true u c w = space_word c w
+item_word_by false true c w = refl
+item_word_by false false c w = refl
 
 quiet_head : (kind : Kind) (p : Page) → is_quiet (item_head_of kind p) ≡ true
 unfolding is_quiet
@@ -145,17 +178,26 @@ head_word kind p w = refl
 no_words : (xs ys : List ℕ) → xs ≡ [] → ys ≡ [] → xs ++ (ys ++ ([] ++ [])) ≡ []
 no_words xs ys e f = ap (λ (zs : List ℕ). zs ++ (ys ++ [])) e ∙ ap (λ (zs : List ℕ). zs ++ []) f
 
-item_out : (q : Page) → takes_plain q.call.taker ≡ true → way_of q.call.taker ≡ Usual → Out (item q) q []
+outside_list : (kind : Kind) → not (is_list kind) ≡ true → is_diagnosis kind ≡ false
+outside_list kinds.Diagnosis h = never h
+outside_list kind h = refl
+
+-- a list of `-diag` has heads whose words call no macro
+pub item_out : (q : Page) → q.call.plain ≡ false → takes_plain q.call.taker ≡ true → way_of q.call.taker ≡ Usual
+    → Out (item q) (muted (is_diagnosis q.block.kind) q) []
 unfolding is_quiet of_word
-item_out q f u =
+item_out q quiet f u =
     let p = counted_item (new_item q) in
+    let t = is_diagnosis q.block.kind in
     let close = stands_close q.block || not q.block.begun in
-    out_if (not (is_list q.block.kind)) _ _ q []
-    (out (new_item q) q acts.Nothing acts.Nothing acts.Nothing [] refl refl refl refl (kept_new q f u))
-    (out p q (before_item q) (item_head p) acts.Nothing []
-    (quiet_item_by close (stands_close q.block)) (quiet_head p.block.kind p) refl
-    (no_words (of_word (before_item q) q.word) (of_word (item_head p) q.word) (item_word_by close (stands_close q.block) q.word) (head_word p.block.kind p q.word))
-    (kept_counted (new_item q) q u (kept_new q f u)))
+    out_when (not (is_list q.block.kind)) _ _ (muted t q) []
+    (λ h.
+    out (new_item q) (muted t q) acts.Nothing acts.Nothing acts.Nothing [] refl refl refl refl
+    (kept_loud t (new_item q) q (outside_list q.block.kind h) quiet (kept_new q f u)))
+    (out p (muted t q) (before_item q) (item_head p) acts.Nothing []
+    (quiet_item_by close (is_bare q) (stands_close q.block)) (quiet_head p.block.kind p) refl
+    (no_words (of_word (before_item q) q.word) (of_word (item_head p) q.word) (item_word_by close (is_bare q) (stands_close q.block) q.word) (head_word p.block.kind p q.word))
+    (kept_counted t (new_item q) q quiet u (kept_new q f u)))
 
 indented_out : (q : Page) → takes_plain q.call.taker ≡ true → way_of q.call.taker ≡ Usual → Out (line_opens q) q []
 unfolding is_quiet of_word
@@ -177,6 +219,8 @@ abbrev pub begins_apart : Macro → Bool
 begins_apart macros.ListEnds = true
 begins_apart macros.DisplayEnds = true
 begins_apart macros.BookEnds = true
+begins_apart macros.Subsection = true
+begins_apart macros.Item = true
 begins_apart (macros.Part letter) = true
 begins_apart m = false
 
@@ -185,8 +229,7 @@ unfolding begins is_quiet of_word
 begins_out macros.Title q h c f u = never h
 begins_out macros.System q h c f u = never h
 begins_out macros.Section q h c f u = never h
-begins_out macros.Subsection q h c f u =
-    out _ q acts.Subsection acts.Nothing acts.Nothing [] refl refl refl refl (kept_after lasts.Heading q f)
+begins_out macros.Subsection q h c f u = never (sym c)
 begins_out macros.Paragraph q h c f u = out _ q acts.Space acts.Nothing acts.Nothing [] refl refl refl refl (kept_after lasts.Heading q f)
 begins_out macros.Describes q h c f u = out q q (acts.Text texts.Description) acts.Nothing acts.Nothing [] refl refl refl refl (same_page q f)
 begins_out macros.Silent q h c f u = never h
@@ -204,7 +247,7 @@ begins_out macros.Exits q h c f u = never h
 begins_out macros.Returns q h c f u = never h
 begins_out macros.List q h c f u = never h
 begins_out macros.Display q h c f u = never h
-begins_out macros.Item q h c f u = item_out q f u
+begins_out macros.Item q h c f u = never (sym c)
 begins_out macros.ListEnds q h c f u = never (sym c)
 begins_out macros.DisplayEnds q h c f u = never (sym c)
 begins_out macros.Line q h c f u = indented_out q f u

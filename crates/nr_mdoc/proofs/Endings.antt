@@ -29,7 +29,7 @@ use Rattle.nr_mdoc.specs.Seeing.{Met, met, left, three, two, and_taken}
 use Rattle.nr_mdoc.specs.WrittenLines.{heads_words}
 use Rattle.nr_mdoc.proofs.After.{Fresh}
 use Rattle.nr_mdoc.proofs.Meeting.{with_page, Leads, Takes, then_takes, takes_by}
-use Rattle.nr_mdoc.proofs.Outcomes.{is_quiet, of_word, never, Lays, quiet-page, takes_plain, Keeps, Out, out, out_seen_if}
+use Rattle.nr_mdoc.proofs.Outcomes.{is_quiet, of_word, never, Lined, Lays, quiet-page, takes_plain, Keeps, Out, out, out_seen_if}
 use Rattle.nr_mdoc.proofs.Stepping.{At, Head, Stepped, leaves_step, marks_step, out_step, out_next, step_at}
 use Rattle.nr_mdoc.proofs.Ways.{due_usual}
 use Rattle.nr_mdoc.proofs.WholeWords.{is_none-nil}
@@ -97,6 +97,8 @@ unfoldable pub is_laid : Act → Bool
 is_laid acts.Quiet = true
 is_laid acts.Ends = true
 is_laid (acts.TagEnds n) = true
+is_laid (acts.HangEnds n) = true
+is_laid acts.HeadEnds = true
 is_laid act = is_quiet act
 
 end_laid : (t : Bool) (l : _) (p : Page) → Lays p (if t then with_lay l p else p)
@@ -108,6 +110,8 @@ unfolding is_laid lay_out
 laid_page acts.Quiet p h = (_, refl)
 laid_page acts.Ends p h = end_laid (is_middle p.lay.at) _ p
 laid_page (acts.TagEnds n) p h = (_, refl)
+laid_page (acts.HangEnds n) p h = (_, refl)
+laid_page acts.HeadEnds p h = (_, refl)
 laid_page act p h = quiet-page act p h
 
 pub three_laid : (x y z : Act) (p : Page) → is_laid x ≡ true → is_laid y ≡ true → is_laid z ≡ true → Lays p (said (three x y z) p).page
@@ -137,7 +141,7 @@ silent_none p = record { x = acts.Nothing; y = acts.Nothing; met_is = refl; no_x
 silent_item : (kind : Kind) (p : Page) → Silent (met p (item_ends_of kind)) p
 unfolding is_laid is_quiet
 silent_item kinds.Overhang p = record { x = acts.Request requests.Break; y = acts.Nothing; met_is = refl; no_x = λ q. refl; no_y = λ q. refl; laid_x = refl; laid_y = refl }
-silent_item kinds.Diagnosis p = record { x = acts.Close texts.FixedSpace; y = acts.Nothing; met_is = refl; no_x = λ q. refl; no_y = λ q. refl; laid_x = refl; laid_y = refl }
+silent_item kinds.Diagnosis p = record { x = acts.HeadEnds; y = acts.Nothing; met_is = refl; no_x = λ q. refl; no_y = λ q. refl; laid_x = refl; laid_y = refl }
 silent_item kind p = record { x = acts.Nothing; y = acts.Nothing; met_is = refl; no_x = λ q. refl; no_y = λ q. refl; laid_x = refl; laid_y = refl }
 
 silent_outer : (t : Bool) (n : ℕ) (p : Page)
@@ -148,10 +152,10 @@ silent_outer true n p =
 silent_outer false n p =
     record { x = acts.Request requests.IndentEnds; y = acts.Nothing; met_is = refl; no_x = λ q. refl; no_y = λ q. refl; laid_x = refl; laid_y = refl }
 
-silent_part : (t : Bool) (p : Page) → Silent (met p (left (if t then acts.Fresh else acts.Nothing))) p
+silent_part : (t : Bool) (p : Page) → Silent (met p (left (if t then acts.Fresh else acts.Close texts.Empty))) p
 unfolding is_laid is_quiet
 silent_part true p = record { x = acts.Fresh; y = acts.Nothing; met_is = refl; no_x = λ q. refl; no_y = λ q. refl; laid_x = refl; laid_y = refl }
-silent_part false p = silent_none p
+silent_part false p = record { x = acts.Close texts.Empty; y = acts.Nothing; met_is = refl; no_x = λ q. refl; no_y = λ q. refl; laid_x = refl; laid_y = refl }
 
 silent_by : (t : Bool) (n : ℕ) (x : Act) (p : Page) → ((q : Page) → (part_of x q).word ≡ []) → is_laid x ≡ true
     → Silent (met p (if t then two x (acts.Sized sizes.Inner n) else left x)) p
@@ -183,6 +187,8 @@ silent_end macros.Returns p h = never h
 silent_end macros.Spacing p h = never h
 silent_end macros.Subsection p h = record { x = acts.Quiet; y = acts.Nothing; met_is = refl; no_x = λ q. refl; no_y = λ q. refl; laid_x = refl; laid_y = refl }
 silent_end macros.Item p h = silent_item p.block.kind p
+silent_end macros.Declaration p h =
+    record { x = acts.Request requests.Break; y = acts.Nothing; met_is = refl; no_x = λ q. refl; no_y = λ q. refl; laid_x = refl; laid_y = refl }
 silent_end macros.Line p h = silent_outer (is_tagged p.block) (tag_width p.block) p
 silent_end macros.LiteralLine p h = silent_outer (is_tagged p.block) (tag_width p.block) p
 silent_end m p h = silent_none p
@@ -194,6 +200,7 @@ line_over_silent p x y = refl
 
 tag_word : (kind : Kind) (k : Block) (q : Page) → (part_of (tag_ends_of kind k) q).word ≡ []
 tag_word kinds.Tag k q = refl
+tag_word kinds.Hang k q = refl
 tag_word kind k q = refl
 
 last_word_by : (t : Bool) (p q : Page) → (part_of (if t then tag_ends p else acts.Ends) q).word ++ [] ≡ []
@@ -209,6 +216,7 @@ no_words xs ys zs e f g = ap (λ (us : List ℕ). us ++ (ys ++ (zs ++ []))) e �
 tag_laid : (kind : Kind) (k : Block) → is_laid (tag_ends_of kind k) ≡ true
 unfolding is_laid is_quiet
 tag_laid kinds.Tag k = refl
+tag_laid kinds.Hang k = refl
 tag_laid kind k = refl
 
 last_laid_by : (t : Bool) (p : Page) → is_laid (if t then tag_ends p else acts.Ends) ≡ true
@@ -225,12 +233,12 @@ over_fresh x y s p i j none =
     let l = three_laid x y (last_act p) (with_scan scans.Start p) i j (last_laid p) in
     record { scan_is = ap (λ (r : Page). r.scan) l.1; marks_are = ap (λ (r : Page). r.marks) l.1 ∙ none }
 
-over_ended : (head : Head) (b : ℕ) (s : State) (word marks : List ℕ) → At head s scans.Ends word marks → ends_quiet head.line ≡ true
+over_ended : (head : Head) (b : ℕ) (s : State) (word marks : List ℕ) → At head s scans.Ends word marks → ends_quiet head.line.macro ≡ true
     → s.page.marks ≡ [] → meet b s.page ≡ line_ends s.page → Ended b s 1 []
 over_ended head b s word marks at h none e =
     let p = s.page in
     let q = with_scan scans.Start p in
-    let end = silent_end head.line p h in
+    let end = silent_end head.line.macro p h in
     let seen = three end.x end.y (last_act p) in
     record {
       next = with_page (said seen q).page s;
@@ -238,14 +246,14 @@ over_ended head b s word marks at h none e =
       few = omega arith;
       takes =
           takes_by b s q (said seen q).page end.x end.y (last_act p) []
-          (e ∙ line_ends_is p ∙ ap (λ (m : Macro). line_over (end_of m p)) at.line ∙ ap line_over end.met_is ∙ line_over_silent p end.x end.y)
+          (e ∙ line_ends_is p ∙ ap (λ (l : Lined). line_over (end_of l.macro p)) at.line ∙ ap line_over end.met_is ∙ line_over_silent p end.x end.y)
           refl (no_words (part_of end.x q).word _ _ (end.no_x q) (end.no_y _) (last_word p _));
       fresh = over_fresh end.x end.y s p end.laid_x end.laid_y none;
     }
 
 -- ---- marks
 
-marked_ended : (t : Bool) (head : Head) (b : ℕ) (s : State) (word marks : List ℕ) → At head s scans.Ends word marks → ends_quiet head.line ≡ true
+marked_ended : (t : Bool) (head : Head) (b : ℕ) (s : State) (word marks : List ℕ) → At head s scans.Ends word marks → ends_quiet head.line.macro ≡ true
     → is_due s.page ≡ false → is_none s.page.closers ≡ true → is_none s.page.marks ≡ t → Ended b s 2 marks
 unfolding ends_by marks_step
 marked_ended true head b s word marks at h due closers none =
@@ -294,7 +302,7 @@ closed_step head b s n word marks at e due l =
       fewer_then = one_fewer p.closers n l;
     }
 
-closed_ended : (n : ℕ) (t : Bool) (head : Head) (b : ℕ) (s : State) (word marks : List ℕ) → At head s scans.Ends word marks → ends_quiet head.line ≡ true
+closed_ended : (n : ℕ) (t : Bool) (head : Head) (b : ℕ) (s : State) (word marks : List ℕ) → At head s scans.Ends word marks → ends_quiet head.line.macro ≡ true
     → is_due s.page ≡ false → length s.page.closers ≤ n → is_none s.page.closers ≡ t → Ended b s (n + 2) marks
 unfolding ends_by
 closed_ended n true head b s word marks at h due l none =
@@ -310,7 +318,7 @@ closed_ended (suc n) false head b s word marks at h due l none =
 
 -- ---- what is due comes first
 
-due_ended : (t : Bool) (head : Head) (b : ℕ) (s : State) (word marks : List ℕ) → At head s scans.Ends word marks → ends_quiet head.line ≡ true
+due_ended : (t : Bool) (head : Head) (b : ℕ) (s : State) (word marks : List ℕ) → At head s scans.Ends word marks → ends_quiet head.line.macro ≡ true
     → is_due s.page ≡ t → Ended b s 11 marks
 unfolding ends_by
 due_ended true head b s word marks at h due =
@@ -324,5 +332,5 @@ due_ended false head b s word marks at h due =
     ended_within b s 10 11 marks marks (omega arith) refl
     (closed_ended 8 (is_none s.page.closers) head b s word marks at h due at.few refl)
 
-pub line_ended : (head : Head) (b : ℕ) (s : State) (word marks : List ℕ) → At head s scans.Ends word marks → ends_quiet head.line ≡ true → Ended b s 11 marks
+pub line_ended : (head : Head) (b : ℕ) (s : State) (word marks : List ℕ) → At head s scans.Ends word marks → ends_quiet head.line.macro ≡ true → Ended b s 11 marks
 line_ended head b s word marks at h = due_ended (is_due s.page) head b s word marks at h refl

@@ -1,5 +1,5 @@
 -- A word is given: in so many meetings all of it was said, or is held back.
-use Rattle.std.proofs.Common.{◌≡◌, ℕ, ◌≤◌, ◌+◌, List, ◌++◌, Bool, true, false, not, if◌then◌else◌, ◌∙◌, ap, append_assoc, arith}
+use Rattle.std.proofs.Common.{◌≡◌, ℕ, ◌≤◌, ◌+◌, List, ◌++◌, Bool, true, false, not, ◌&&◌, if◌then◌else◌, ◌∙◌, ap, append_assoc, arith}
 use Rattle.nr_mdoc.specs.declared.macros.Macro.{Macro}
 use Rattle.nr_mdoc.specs.declared.page.Scan.{Scan}
 use Rattle.nr_mdoc.specs.declared.page.Scan.TheVariants as scans
@@ -7,7 +7,7 @@ use Rattle.nr_mdoc.specs.Options.{option, reads_for}
 use Rattle.nr_mdoc.specs.Reading.{State}
 use Rattle.nr_mdoc.specs.Scanning.{meet, meet_at, meet_whole, meet_whole_at}
 use Rattle.nr_mdoc.specs.WrittenLines.{prints_otherwise}
-use Rattle.nr_mdoc.specs.Words.{ends_long, parsed}
+use Rattle.nr_mdoc.specs.Words.{ends_long, heading_calls, parsed}
 use Rattle.nr_mdoc.proofs.Escapes.{and_right, is_not}
 use Rattle.nr_mdoc.proofs.Meeting.{Leads, then_leads}
 use Rattle.nr_mdoc.proofs.Outcomes.{takes_plain}
@@ -66,5 +66,5 @@ unfolding meet meet_whole
 given_met head b s word marks at =
     let p = s.page in
     ap (λ (sc : Scan). meet_at sc b p) at.scan_is ∙ ap (λ (sc : Scan). meet_whole_at sc b p) at.scan_is
-    ∙ ap (λ (t : Bool). if t then ends_long p else if reads_for p.call.taker then option p else parsed false p) at.going
-    ∙ ap (λ (t : Bool). if t then option p else parsed false p) (plain_reads p.call.taker at.fits)
+    ∙ ap (λ (t : Bool). if t then ends_long p else if reads_for p.call.taker && not (heading_calls false p) then option p else parsed false p) at.going
+    ∙ ap (λ (t : Bool). if t && not (heading_calls false p) then option p else parsed false p) (plain_reads p.call.taker at.fits)

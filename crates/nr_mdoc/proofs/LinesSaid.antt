@@ -8,18 +8,20 @@ use Rattle.nr_mdoc.specs.declared.page.Scan.TheVariants as scans
 use Rattle.nr_mdoc.specs.declared.pending.Pending.{Pending}
 use Rattle.nr_mdoc.specs.declared.pending.Pending.TheVariants.{Nothing}
 use Rattle.nr_mdoc.specs.Calls.{with_scan}
+use Rattle.nr_mdoc.specs.Blocks.{is_diagnosis}
+use Rattle.nr_mdoc.specs.Lines.{calls_none}
 use Rattle.nr_mdoc.specs.Macros.{macro_of}
 use Rattle.nr_mdoc.specs.Reading.{State, fed}
 use Rattle.nr_mdoc.specs.Saying.{parts_of, text_of, words_of}
-use Rattle.nr_mdoc.specs.WordLaws.{begins_block, has_room, opens_some, reads_at, LinesAreSaid}
-use Rattle.nr_mdoc.specs.WrittenLines.{Usual, is_first, way_named, printed_as, begins_star, begins_text, each, is_plain, is_text, names_no_string, Word, are_written, behind_each, Line, EmptyLine, CommentLine, TextLine, HeadingLine, MacroLine, AskingLine, asks_some, are_asking, begins_blank, written, Letter, heads_some, is_line, are_lines, written_line, written_lines, printed_line, printed_lines}
+use Rattle.nr_mdoc.specs.WordLaws.{begins_block, has_room, opens_some, printed_lines, reads_at, LinesAreSaid}
+use Rattle.nr_mdoc.specs.WrittenLines.{Way, is_first, is_item, mute_named, none_named, way_headed, way_named, way_of, printed_as, begins_star, begins_text, each, is_plain, is_text, names_no_string, Word, are_written, behind_each, Line, EmptyLine, CommentLine, TextLine, HeadingLine, MacroLine, AskingLine, asks_some, are_asking, begins_blank, written, Letter, heads_some, is_line, are_lines, written_line, written_lines, printed_line}
 use Rattle.nr_mdoc.proofs.After.{after, after-pending, words-append, Fresh}
 use Rattle.nr_mdoc.proofs.AskingLines.{asking_said, line_names}
 use Rattle.nr_mdoc.proofs.Escapes.{and_left, and_right, both, line-text}
 use Rattle.nr_mdoc.proofs.HeadingLines.{heading_line, heading_names}
 use Rattle.nr_mdoc.proofs.MacroLines.{plain_names}
 use Rattle.nr_mdoc.proofs.OtherLines.{Said, comment_said, empty_said}
-use Rattle.nr_mdoc.proofs.QuotedLines.{each_names, quoted_line}
+use Rattle.nr_mdoc.proofs.QuotedLines.{each_names, mute_written, quoted_line}
 use Rattle.nr_mdoc.proofs.TextSaid.{text_fresh, text_is_said}
 
 -- ---- one line
@@ -27,17 +29,24 @@ use Rattle.nr_mdoc.proofs.TextSaid.{text_fresh, text_is_said}
 -- so does a line of a macro, where the blanks of some words between quotes stay together
 record SaidAs (s : State) (l : Line) : Type 0 where
   wholes : List Bool
-  said : Said s (written_line l) (printed_line wholes l)
+  said : Said s (written_line l) (printed_line wholes s.page.block l)
+
+-- words that are written for a macro are so where its words call none
+in_block : (t mute : Bool) (way : Way) (ws : List Word) → are_written mute way ws ≡ true → are_written (mute || t) way ws ≡ true
+in_block t true way ws all = all
+in_block true false way ws all = mute_written false way way ws all
+in_block false false way ws all = all
 
 heads_some_said : (o : Option Macro) (name : List ℕ) (ws : List Word) (s : State) → s.page.marks ≡ [] → macro_of name ≡ o
-    → heads_some o ≡ true → each is_plain name ≡ true → are_written (way_named o) ws ≡ true → SaidAs s (MacroLine name ws)
+    → heads_some o ≡ true → each is_plain name ≡ true → are_written (none_named o) (way_named o) ws ≡ true → SaidAs s (MacroLine name ws)
 heads_some_said None name ws s none e h plain all = absurd (let no : false ≡ true = h in cc)
 heads_some_said (Some m) name ws s none e h plain all =
-    let line = quoted_line name ws m s none e h plain all in
+    let block = s.page.block in
+    let line = quoted_line name ws m s none e h plain (in_block (is_item m && is_diagnosis block.kind) (calls_none m) (way_of m) ws all) in
     record {
       wholes = line.wholes;
       said = record {
-        words = line.words ∙ ap (λ (p : Option Macro). printed_as (way_named p) line.wholes ws) (sym e);
+        words = line.words ∙ ap (λ (p : Option Macro). printed_as (mute_named block p) (way_named p) line.wholes ws) (sym e);
         fresh = line.fresh;
       };
     }
@@ -86,10 +95,11 @@ line_said (TextLine b bs) s none h room =
       };
     }
 line_said (HeadingLine w ws) s none h room =
-    let line = heading_line w ws s none (and_left (is_first w) (are_written Usual ws) h) (and_right (is_first w) (are_written Usual ws) h) in
+    let written = are_written false (way_headed w) ws in
+    let line = heading_line w ws s none (and_left (is_first w) written h) (and_right (is_first w) written h) in
     record { wholes = line.wholes; said = record { words = line.words; fresh = line.fresh } }
 line_said (MacroLine name ws) s none h room =
-    let written = are_written (way_named (macro_of name)) ws in
+    let written = are_written (none_named (macro_of name)) (way_named (macro_of name)) ws in
     let front = and_left (heads_some (macro_of name) && each is_plain name) written h in
     heads_some_said (macro_of name) name ws s none refl (and_left (heads_some (macro_of name)) (each is_plain name) front)
     (and_right (heads_some (macro_of name)) (each is_plain name) front)
@@ -107,7 +117,7 @@ begins_again s t f none =
 
 record AllSaid (s : State) (ls : List Line) : Type 0 where
   wholes : List (List Bool)
-  words : words_of (parts_of (reads_at scans.Start s) (written_lines ls)) ≡ printed_lines wholes ls
+  words : words_of (parts_of (reads_at scans.Start s) (written_lines ls)) ≡ printed_lines wholes (reads_at scans.Start s) ls
 
 lines_said : (ls : List Line) (s : State) → s.page.marks ≡ [] → are_lines ls ≡ true → has_room (reads_at scans.Start s) ls ≡ true → AllSaid s ls
 unfolding room_for
@@ -124,8 +134,9 @@ lines_said (l ∷ ls) s none h room =
       words =
           words-append start (written_line l) (written_lines ls)
           ∙ ap (λ (zs : List ℕ). zs ++ words_of (parts_of t (written_lines ls))) one.said.words
-          ∙ ap (λ (u : State). printed_line one.wholes l ++ words_of (parts_of u (written_lines ls))) again
-          ∙ ap (λ (zs : List ℕ). printed_line one.wholes l ++ zs) rest.words;
+          ∙ ap (λ (u : State). printed_line one.wholes s.page.block l ++ words_of (parts_of u (written_lines ls))) again
+          ∙ ap (λ (zs : List ℕ). printed_line one.wholes s.page.block l ++ zs)
+          (rest.words ∙ ap (λ (u : State). printed_lines rest.wholes u ls) (sym again));
     }
 
 -- ---- no string is named in them
@@ -151,13 +162,16 @@ body_names : (l : Line) → is_line l ≡ true → names_no_string (body l) ≡ 
 body_names EmptyLine h = refl
 body_names (CommentLine bs) h = and_right (each is_text bs) (names_no_string bs) h
 body_names (TextLine b bs) h = and_right (begins_text b && each is_text bs) (names_no_string (b ∷ bs)) h
-body_names (HeadingLine w ws) h = heading_names w ws (and_left (is_first w) (are_written Usual ws) h) (and_right (is_first w) (are_written Usual ws) h)
+body_names (HeadingLine w ws) h =
+    let written = are_written false (way_headed w) ws in
+    heading_names w ws (and_left (is_first w) written h) (and_right (is_first w) written h)
 body_names (MacroLine name ws) h =
     let way = way_named (macro_of name) in
+    let mute = none_named (macro_of name) in
     plain_names name (behind_each ws)
     (and_right (heads_some (macro_of name)) (each is_plain name)
-    (and_left (heads_some (macro_of name) && each is_plain name) (are_written way ws) h))
-    (each_names ws way (and_right (heads_some (macro_of name) && each is_plain name) (are_written way ws) h))
+    (and_left (heads_some (macro_of name) && each is_plain name) (are_written mute way ws) h))
+    (each_names ws mute way (and_right (heads_some (macro_of name) && each is_plain name) (are_written mute way ws) h))
 body_names (AskingLine name rest) h = let is = is_asking_line name rest h in line_names name rest is.plain is.good
 
 joined_names : (bs rest : List ℕ) → names_no_string bs ≡ true → names_no_string rest ≡ true → names_no_string (bs ++ code "\n" ∷ rest) ≡ true

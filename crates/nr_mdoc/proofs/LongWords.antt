@@ -24,7 +24,7 @@ use Rattle.nr_mdoc.specs.Words.{fronted, goes_on, goes_to, long_begins}
 use Rattle.nr_mdoc.specs.WrittenLines.{Way, Usual, Titled, Authors, Headed, said_of, way_of}
 use Rattle.nr_mdoc.proofs.Escapes.{and_left}
 use Rattle.nr_mdoc.proofs.Meeting.{with_page, Leads, then_leads, leads_by}
-use Rattle.nr_mdoc.proofs.Outcomes.{never, takes_plain, Out, leaves_out}
+use Rattle.nr_mdoc.proofs.Outcomes.{never, Lined, takes_plain, Out, leaves_out}
 use Rattle.nr_mdoc.proofs.Stepping.{At, In, Head, Manner, plainly, in_as, out_in, out_leads, out_next, out_lays, no_more_enclosed}
 use Rattle.nr_mdoc.proofs.Taken.{taken_out}
 use Rattle.nr_mdoc.proofs.Together.{same_whole, taken_whole}
@@ -303,7 +303,7 @@ clear_plain true inside head b s word at l due =
 clear_plain false inside head b s word at l due =
     flushed_within (plainly head) b s inside 2 3 word (omega arith) (begun inside head b s word at l (clear_met inside (plainly head) b s word false at due) due)
 
-clear_by : (plain : Bool) (line : Macro) (way : Way) (inside : Inside) (b : ℕ) (s : State) (word : List ℕ)
+clear_by : (plain : Bool) (line : Lined) (way : Way) (inside : Inside) (b : ℕ) (s : State) (word : List ℕ)
     → In false (record { line = line; way = way; plain = plain }) s (scans.Long inside) word [] → 30 ≤ length word
     → Flushed (record { line = line; way = way; plain = plain }) b s inside 3 word
 clear_by true line way inside b s word at l = clear_plain (is_enclosure_due s.page) inside (record { line = line; way = way }) b s word at l refl

@@ -7,6 +7,7 @@ use Rattle.nr_units.specs.Name.{capacity, is_full}
 use Rattle.nr_mdoc.specs.declared.acts.Act.TheVariants as acts
 use Rattle.nr_mdoc.specs.declared.macros.Macro.{Macro}
 use Rattle.nr_mdoc.specs.declared.macros.Macro.TheVariants as macros
+use Rattle.nr_mdoc.specs.declared.page.Block.{Block}
 use Rattle.nr_mdoc.specs.declared.page.Page.{Page}
 use Rattle.nr_mdoc.specs.declared.page.Scan.{Scan}
 use Rattle.nr_mdoc.specs.declared.page.Scan.TheVariants as scans
@@ -14,26 +15,27 @@ use Rattle.nr_mdoc.specs.declared.pending.Pending.TheVariants.{Nothing}
 use Rattle.nr_mdoc.specs.Calls.{called_by, with_scan}
 use Rattle.nr_mdoc.specs.Keeping.{ends_word, keep_byte}
 use Rattle.nr_mdoc.specs.LayingOut.{lay_out}
-use Rattle.nr_mdoc.specs.Lines.{begins, begins_or_other, call_of, named_line}
+use Rattle.nr_mdoc.specs.Blocks.{is_diagnosis, item}
+use Rattle.nr_mdoc.specs.Lines.{begins, begins_or_other, call_of, calls_none, named_line}
 use Rattle.nr_mdoc.specs.Macros.{macro_of}
 use Rattle.nr_mdoc.specs.Reading.{State, said}
 use Rattle.nr_mdoc.specs.Saying.{parts_of, words_of}
 use Rattle.nr_mdoc.specs.Scanning.{meet, meet_at, name_begins}
 use Rattle.nr_mdoc.specs.Seeing.{Met, met, left, taken}
 use Rattle.nr_mdoc.specs.WordLaws.{reads_at}
-use Rattle.nr_mdoc.specs.WrittenLines.{Way, way_of, begins_star, each, names_no_string, Letter, Plain, Escape, are_letters, bytes_of, is_escaped, is_letter, is_plain, written, heads_words, kept, prints_words, none_or, is_word, unless_called}
+use Rattle.nr_mdoc.specs.WrittenLines.{Way, way_of, begins_star, each, names_no_string, Letter, Plain, Escape, are_letters, bytes_of, is_escaped, is_letter, is_plain, written, heads_words, is_item, is_mute, kept, prints_words, none_or, is_word, unless_called}
 use Rattle.nr_mdoc.proofs.After.{after, next-state}
-use Rattle.nr_mdoc.proofs.Begins.{begins_apart, begins_out}
-use Rattle.nr_mdoc.proofs.BlockEnds.{Begun, display_step, list_step}
+use Rattle.nr_mdoc.proofs.Begins.{begins_apart, begins_out, item_out, muted}
+use Rattle.nr_mdoc.proofs.BlockEnds.{Begun, display_step, heads_step, list_step}
 use Rattle.nr_mdoc.proofs.PartLines.{book_step, part_step}
 use Rattle.nr_mdoc.proofs.Endings.{ends_quiet, Ended, line_ended}
 use Rattle.nr_mdoc.proofs.Escapes.{and_left, and_right, both, is_not}
 use Rattle.nr_mdoc.proofs.KeptWords.{not_ending, no_escape, quotable_slash}
 use Rattle.nr_mdoc.proofs.Meeting.{with_page, Leads, Takes, then_takes, leads_by, takes_by}
-use Rattle.nr_mdoc.proofs.Outcomes.{never}
+use Rattle.nr_mdoc.proofs.Outcomes.{Lined, lined_as, never}
 use Rattle.nr_mdoc.proofs.ReadWords.{not_of, between_by, between_met}
 use Rattle.nr_mdoc.proofs.TextSaid.{next-words, or_left, or_right}
-use Rattle.nr_mdoc.proofs.Stepping.{At, In, Head, Manner, plainly, Stepped, in_as, out_step}
+use Rattle.nr_mdoc.proofs.Stepping.{At, In, Head, Manner, plainly, Stepped, in_as, out_step, step_at}
 use Rattle.nr_mdoc.proofs.WholeWords.{heads_plain}
 
 -- ---- between words
@@ -77,7 +79,7 @@ ends_at head s scan word marks at = record {
 }
 
 -- the line ends between words
-pub over : (head : Head) (s : State) (word marks : List ℕ) → At head s scans.Between word marks → ends_quiet head.line ≡ true → Ended (code "\n") s 12 marks
+pub over : (head : Head) (s : State) (word marks : List ℕ) → At head s scans.Between word marks → ends_quiet head.line.macro ≡ true → Ended (code "\n") s 12 marks
 over head s word marks at h =
     let e = line_ended head (code "\n") (at_end s) word marks (ends_at head s scans.Between word marks at) h in
     record {
@@ -135,16 +137,16 @@ sixteen j k l m = omega arith
 
 -- ---- the words of a line
 
-pub word_letters : (way : Way) (l : Letter) (ls : List Letter) → is_word way (l ∷ ls) ≡ true → are_letters false (l ∷ ls) ≡ true
-word_letters way l ls h = and_left (are_letters false (l ∷ ls)) (none_or prints_words (called_by false (kept way false (l ∷ ls)))) h
+pub word_letters : (mute : Bool) (way : Way) (l : Letter) (ls : List Letter) → is_word mute way (l ∷ ls) ≡ true → are_letters false (l ∷ ls) ≡ true
+word_letters mute way l ls h = and_left (are_letters false (l ∷ ls)) (none_or prints_words (called_by mute (kept way false (l ∷ ls)))) h
 
-pub word_prints : (way : Way) (l : Letter) (ls : List Letter) → is_word way (l ∷ ls) ≡ true
-    → none_or prints_words (called_by false (kept way false (l ∷ ls))) ≡ true
-word_prints way l ls h = and_right (are_letters false (l ∷ ls)) (none_or prints_words (called_by false (kept way false (l ∷ ls)))) h
+pub word_prints : (mute : Bool) (way : Way) (l : Letter) (ls : List Letter) → is_word mute way (l ∷ ls) ≡ true
+    → none_or prints_words (called_by mute (kept way false (l ∷ ls))) ≡ true
+word_prints mute way l ls h = and_right (are_letters false (l ∷ ls)) (none_or prints_words (called_by mute (kept way false (l ∷ ls)))) h
 
 -- what is printed of a word that is kept so
-unfoldable pub of_kept : Way → List ℕ → List ℕ
-of_kept way word = unless_called way (called_by false word) word
+unfoldable pub of_kept : Bool → Way → List ℕ → List ℕ
+of_kept mute way word = unless_called way (called_by mute word) word
 
 pub regrouped : (xs marks all us vs : List ℕ) → xs ++ marks ≡ all → xs ++ (marks ++ us ++ vs) ≡ all ++ (us ++ vs)
 regrouped xs marks all us vs e =
@@ -253,10 +255,10 @@ macro_met b m name s e f =
     ∙ ap (λ (o : Option Macro). begins_or_other o (record p { scan = scans.Between; closers = [] })) f
 
 -- its words are taken as the macro takes them
-abbrev pub head_of : Macro → Head
-head_of m = record { line = m; way = way_of m }
+abbrev pub head_of : Macro → Bool → Head
+head_of m mute = record { line = record { macro = m; mute = mute }; way = way_of m }
 
-begun_on : (m : Macro) (name : List ℕ) (s : State) → s.page.marks ≡ [] → heads_words m ≡ true → Begun (head_of m) (beginning m name s) name
+begun_on : (m : Macro) (name : List ℕ) (s : State) → s.page.marks ≡ [] → heads_words m ≡ true → Begun (head_of m (calls_none m)) (beginning m name s) name
 unfolding beginning
 begun_on m name s marks h = record {
   scan_is = refl;
@@ -270,36 +272,68 @@ begun_on m name s marks h = record {
   way = refl;
 }
 
+-- the words of an item's line may call macros, or call none
+item_step : (b : ℕ) (s : State) (q : Page) (word : List ℕ) → Begun (head_of macros.Item false) q word
+    → meet b s.page ≡ item q → Stepped (head_of macros.Item (is_diagnosis q.block.kind)) b s 1 [] scans.Between word []
+item_step b s q word begun e =
+    let mute = is_diagnosis q.block.kind in
+    let head = head_of macros.Item mute in
+    step_at head b s 1 [] q.scan scans.Between q.word word [] begun.scan_is begun.word_is
+    (out_step head b s (item q) (muted mute q) [] [] e
+    (item_out q (ap (λ (l : Lined). l.mute) begun.line) begun.fits begun.way)
+    begun.marks_are begun.few begun.going begun.comment
+    (ap (λ (l : Lined). lined_as l.macro mute) begun.line) begun.way (λ n. refl))
+
 apart_step : (b : ℕ) (m : Macro) (name : List ℕ) (s : State) → s.page.marks ≡ [] → ends_word b ≡ true → macro_of name ≡ Some m → heads_words m ≡ true
-    → begins_apart m ≡ true → Stepped (head_of m) b (reads_name name s) 1 [] scans.Between name []
-unfolding begins
+    → begins_apart m ≡ true → Stepped (head_of m (is_mute s.page.block m)) b (reads_name name s) 1 [] scans.Between name []
+unfolding begins beginning
 apart_step b macros.ListEnds name s marks e f h c =
     let q = beginning macros.ListEnds name s in
-    list_step (head_of macros.ListEnds) b (reads_name name s) q name (begun_on macros.ListEnds name s marks h) (macro_met b macros.ListEnds name s e f)
+    list_step (head_of macros.ListEnds false) b (reads_name name s) q name (begun_on macros.ListEnds name s marks h) (macro_met b macros.ListEnds name s e f)
 apart_step b macros.DisplayEnds name s marks e f h c =
     let q = beginning macros.DisplayEnds name s in
-    display_step q.block.kind (head_of macros.DisplayEnds) b (reads_name name s) q name (begun_on macros.DisplayEnds name s marks h)
+    display_step q.block.kind (head_of macros.DisplayEnds false) b (reads_name name s) q name (begun_on macros.DisplayEnds name s marks h)
     (macro_met b macros.DisplayEnds name s e f)
 apart_step b macros.BookEnds name s marks e f h c =
     let q = beginning macros.BookEnds name s in
-    book_step (head_of macros.BookEnds) b (reads_name name s) q name (begun_on macros.BookEnds name s marks h) (macro_met b macros.BookEnds name s e f)
+    book_step (head_of macros.BookEnds false) b (reads_name name s) q name (begun_on macros.BookEnds name s marks h) (macro_met b macros.BookEnds name s e f)
 apart_step b (macros.Part letter) name s marks e f h c =
     let q = beginning (macros.Part letter) name s in
-    part_step letter (head_of (macros.Part letter)) b (reads_name name s) q name (begun_on (macros.Part letter) name s marks h)
+    part_step letter (head_of (macros.Part letter) true) b (reads_name name s) q name (begun_on (macros.Part letter) name s marks h)
     (macro_met b (macros.Part letter) name s e f)
+apart_step b macros.Subsection name s marks e f h c =
+    let q = beginning macros.Subsection name s in
+    heads_step (head_of macros.Subsection false) b (reads_name name s) q name (begun_on macros.Subsection name s marks h)
+    (macro_met b macros.Subsection name s e f)
+apart_step b macros.Item name s marks e f h c =
+    let q = beginning macros.Item name s in
+    item_step b (reads_name name s) q name (begun_on macros.Item name s marks h) (macro_met b macros.Item name s e f)
 apart_step b m name s marks e f h c = never c
 
+not_item : (m : Macro) → begins_apart m ≡ false → is_item m ≡ false
+not_item macros.Item c = never (sym c)
+not_item m c = refl
+
+or_none : (t : Bool) → (t || false) ≡ t
+or_none true = refl
+or_none false = refl
+
+-- of other macros only itself says whether words call
+mute_by : (m : Macro) (block : Block) → begins_apart m ≡ false → is_mute block m ≡ calls_none m
+mute_by m block c = ap (λ (u : Bool). calls_none m || (u && is_diagnosis block.kind)) (not_item m c) ∙ or_none (calls_none m)
+
 macro_step_by : (t : Bool) (b : ℕ) (m : Macro) (name : List ℕ) (s : State) → s.page.marks ≡ [] → ends_word b ≡ true → macro_of name ≡ Some m
-    → heads_words m ≡ true → begins_apart m ≡ t → Stepped (head_of m) b (reads_name name s) 1 [] scans.Between name []
+    → heads_words m ≡ true → begins_apart m ≡ t → Stepped (head_of m (is_mute s.page.block m)) b (reads_name name s) 1 [] scans.Between name []
 unfolding beginning
 macro_step_by true b m name s marks e f h c = apart_step b m name s marks e f h c
 macro_step_by false b m name s marks e f h c =
     let q = beginning m name s in
-    out_step (head_of m) b (reads_name name s) (begins m q) q [] [] (macro_met b m name s e f)
-    (begins_out m q h c (heads_plain m h) refl) marks (omega arith) refl refl refl refl (λ k. refl)
+    out_step (head_of m (is_mute s.page.block m)) b (reads_name name s) (begins m q) q [] [] (macro_met b m name s e f)
+    (begins_out m q h c (heads_plain m h) refl) marks (omega arith) refl refl
+    (ap (lined_as m) (sym (mute_by m s.page.block c))) refl (λ k. refl)
 
 pub macro_step : (b : ℕ) (m : Macro) (name : List ℕ) (s : State) → s.page.marks ≡ [] → ends_word b ≡ true → macro_of name ≡ Some m → heads_words m ≡ true
-    → Stepped (head_of m) b (reads_name name s) 1 [] scans.Between name []
+    → Stepped (head_of m (is_mute s.page.block m)) b (reads_name name s) 1 [] scans.Between name []
 macro_step b m name s marks e f h = macro_step_by (begins_apart m) b m name s marks e f h refl
 
 pub thirteen : (k : ℕ) → k ≤ 12 → 1 + k ≤ 16

@@ -162,6 +162,7 @@ anew_due : (m : Macro) (named : Bool) → begins_anew m ≡ true → is_due_from
 anew_due macros.Flag named h = refl
 anew_due macros.Argument named h = refl
 anew_due macros.Path named h = refl
+anew_due macros.Mail named h = refl
 anew_due macros.Name named h = refl
 anew_due m named h = never h
 
@@ -169,6 +170,7 @@ anew_opened : (m : Macro) → begins_anew m ≡ true → is_opened_by m ≡ fals
 anew_opened macros.Flag h = refl
 anew_opened macros.Argument h = refl
 anew_opened macros.Path h = refl
+anew_opened macros.Mail h = refl
 anew_opened macros.Name h = refl
 anew_opened m h = never h
 

@@ -11,6 +11,7 @@ use Rattle.nr_mdoc.specs.declared.macros.Font.{Font}
 use Rattle.nr_mdoc.specs.declared.macros.Font.TheVariants.{Roman, Bold}
 use Rattle.nr_mdoc.specs.declared.macros.Macro.{Macro}
 use Rattle.nr_mdoc.specs.declared.macros.Macro.TheVariants as macros
+use Rattle.nr_mdoc.specs.declared.page.Call.{Call}
 use Rattle.nr_mdoc.specs.declared.page.Lay.{Lay}
 use Rattle.nr_mdoc.specs.declared.page.Page.{Page}
 use Rattle.nr_mdoc.specs.declared.seen.Seen.{Seen}
@@ -75,7 +76,6 @@ ended_by false font l m p bytes = refl
 sized_page : (sized : Sized) (p : Page) → Lays p (was_sized sized (fresh p))
 sized_page sizes.Indent p = (_, refl)
 sized_page sizes.Inner p = (_, refl)
-sized_page sizes.Tagged p = (_, refl)
 sized_page sizes.Tag p = (_, refl)
 sized_page sizes.Hanging p = (_, refl)
 sized_page sized p = (_, refl)
@@ -170,6 +170,20 @@ abbrev pub takes_as : Bool → Macro → Bool
 takes_as true m = takes_plain m
 takes_as false m = is_heading m
 
+-- the macro that a line begins with, and whether its words call none
+pub record Lined : Type 0 where
+  pub macro : Macro
+  pub mute : Bool
+
+abbrev pub lined_as : Macro → Bool → Lined
+lined_as m mute = record { macro = m; mute = mute }
+
+abbrev pub lined : Call → Lined
+lined c = record { macro = c.line; mute = c.plain }
+
+abbrev pub line_in : Page → Lined
+line_in p = lined p.call
+
 pub record Keeps (q p : Page) : Type 0 where
   pub scan : p.scan ≡ q.scan
   pub word : p.word ≡ q.word
@@ -177,7 +191,7 @@ pub record Keeps (q p : Page) : Type 0 where
   pub few : length q.closers ≤ 8 → length p.closers ≤ 8
   pub going : p.call.going ≡ q.call.going
   pub comment : p.call.comment ≡ q.call.comment
-  pub line : p.call.line ≡ q.call.line
+  pub line : line_in p ≡ line_in q
   pub fits : takes_plain p.call.taker ≡ true
   pub way : way_of p.call.taker ≡ way_of q.call.taker
 
@@ -222,6 +236,10 @@ pub out_if : (t : Bool) (m n : Met) (q : Page) (xs : List ℕ) → Out m q xs �
 out_if true m n q xs i j = i
 out_if false m n q xs i j = j
 
+pub out_when : (t : Bool) (m n : Met) (q : Page) (xs : List ℕ) → (t ≡ true → Out m q xs) → Out n q xs → Out (if t then m else n) q xs
+out_when true m n q xs i j = i refl
+out_when false m n q xs i j = j
+
 pub out_seen_if : (t : Bool) (a b : Seen) (p q : Page) (xs : List ℕ) → Out (met p a) q xs → Out (met p b) q xs → Out (met p (if t then a else b)) q xs
 out_seen_if true a b p q xs i j = i
 out_seen_if false a b p q xs i j = j
@@ -250,6 +268,7 @@ unfolding is_quiet of_word
 due_out macros.Flag p f = out p p (acts.Text texts.Dash) acts.Nothing acts.Nothing [] refl refl refl refl (same_page p f)
 due_out macros.Argument p f = out p p (acts.Text texts.File) (acts.Text texts.Dots) acts.Nothing [] refl refl refl refl (same_page p f)
 due_out macros.Path p f = out p p (acts.Text texts.Home) acts.Nothing acts.Nothing [] refl refl refl refl (same_page p f)
+due_out macros.Mail p f = out p p (acts.Text texts.Home) acts.Nothing acts.Nothing [] refl refl refl refl (same_page p f)
 due_out macros.Att p f = out p p (acts.Text texts.Att) acts.Nothing acts.Nothing [] refl refl refl refl (same_page p f)
 due_out macros.Bsd p f = out p p (acts.Text texts.Bsd) acts.Nothing acts.Nothing [] refl refl refl refl (same_page p f)
 due_out macros.Name p f =

@@ -19,7 +19,7 @@ use Rattle.nr_mdoc.specs.Seeing.{met, left, two}
 use Rattle.nr_mdoc.specs.WrittenLines.{way_of}
 use Rattle.nr_mdoc.proofs.BlockEnds.{Begun, none_step}
 use Rattle.nr_mdoc.proofs.Meeting.{with_page, leads_by}
-use Rattle.nr_mdoc.proofs.Outcomes.{takes_plain}
+use Rattle.nr_mdoc.proofs.Outcomes.{lined, takes_plain}
 use Rattle.nr_mdoc.proofs.Stepping.{Head, Stepped}
 
 -- ---- how a line is read is left as it was
@@ -61,7 +61,7 @@ begun_as head q p word same begun = record {
   few = subst (λ (cs : List ℕ). length cs ≤ 8) (sym same.closers) begun.few;
   going = ap (λ (c : Call). c.going) same.call ∙ begun.going;
   comment = ap (λ (c : Call). c.comment) same.call ∙ begun.comment;
-  line = ap (λ (c : Call). c.line) same.call ∙ begun.line;
+  line = ap lined same.call ∙ begun.line;
   fits = subst (λ (c : Call). takes_plain c.taker ≡ true) (sym same.call) begun.fits;
   way = ap (λ (c : Call). way_of c.taker) same.call ∙ begun.way;
 }

@@ -22,10 +22,10 @@ use Rattle.nr_mdoc.specs.Scanning.{meet, meet_at, meet_whole, meet_whole_at}
 use Rattle.nr_mdoc.specs.Seeing.{Met, met, left}
 use Rattle.nr_mdoc.specs.Taking.{argument, taken_word}
 use Rattle.nr_mdoc.specs.WordLaws.{reads_at, WordsAreSaid}
-use Rattle.nr_mdoc.specs.Words.{behind_long, closing_mark, ends_long, marked_or, parsed, read_or_called, taken_behind, unmarked}
-use Rattle.nr_mdoc.specs.WrittenLines.{Way, said_of, unless_called, way_of, way_then, each, names_no_string, are_letters, is_plain, is_word, kept, written, heads_words, Word, Bare, Quoted, are_written, behind_each, line_of, printed_as, none_or, prints_words}
+use Rattle.nr_mdoc.specs.Words.{behind_long, closing_mark, ends_long, heading_calls, marked_or, parsed, read_or_called, taken_behind, unmarked}
+use Rattle.nr_mdoc.specs.WrittenLines.{Way, is_mute, said_of, unless_called, way_of, way_then, each, names_no_string, are_letters, is_plain, is_word, kept, written, heads_words, Word, Bare, Quoted, are_written, behind_each, line_of, printed_as, none_or, prints_words}
 use Rattle.nr_mdoc.proofs.Endings.{ends_quiet, heads_end}
-use Rattle.nr_mdoc.proofs.Escapes.{and_left, and_right, line-text}
+use Rattle.nr_mdoc.proofs.Escapes.{and_left, and_right, both, line-text}
 use Rattle.nr_mdoc.proofs.Given.{Whole, whole_of, whole_behind, whole_within, plain_reads}
 use Rattle.nr_mdoc.proofs.After.{after, after-append, next-state, Fresh}
 use Rattle.nr_mdoc.proofs.LongWords.{argument_by, argument_is, said_long}
@@ -51,7 +51,7 @@ callable_none : (o : Option Macro) → callable true o ≡ None
 callable_none None = refl
 callable_none (Some m) = refl
 
-called_none : (w : List ℕ) → called_by true w ≡ None
+pub called_none : (w : List ℕ) → called_by true w ≡ None
 called_none w = callable_none (macro_of w)
 
 unmarked_by : Bool → Page → Met
@@ -66,8 +66,8 @@ unfolding meet meet_whole parsed
 given_met head b s word marks at =
     let p = s.page in
     ap (λ (sc : Scan). meet_at sc b p) at.scan_is ∙ ap (λ (sc : Scan). meet_whole_at sc b p) at.scan_is
-    ∙ ap (λ (t : Bool). if t then ends_long p else if reads_for p.call.taker then option p else parsed true p) at.going
-    ∙ ap (λ (t : Bool). if t then option p else parsed true p) (plain_reads p.call.taker at.fits)
+    ∙ ap (λ (t : Bool). if t then ends_long p else if reads_for p.call.taker && not (heading_calls true p) then option p else parsed true p) at.going
+    ∙ ap (λ (t : Bool). if t && not (heading_calls true p) then option p else parsed true p) (plain_reads p.call.taker at.fits)
     ∙ ap (λ (o : Option ℕ). marked_or o true p) (marked_none p.word) ∙ unmarked_is p
 
 taken_said : (p : Page) → takes_plain p.call.taker ≡ true → Out (argument_by false p) (with_scan scans.Between p) (said_of (way_of p.call.taker) p.word)
@@ -170,7 +170,7 @@ unfolding meet meet_whole
 long_met quoted head b s word at =
     let p = s.page in
     ap (λ (sc : Scan). meet_at sc b p) at.scan_is ∙ ap (λ (sc : Scan). meet_whole_at sc b p) at.scan_is
-    ∙ ap (λ (t : Bool). if t then ends_long p else if reads_for p.call.taker then option p else parsed quoted p) at.going
+    ∙ ap (λ (t : Bool). if t then ends_long p else if reads_for p.call.taker && not (heading_calls quoted p) then option p else parsed quoted p) at.going
 
 behind_out : (k : _) (p q : Page) → Keeps q p → Out (met p (behind_long k)) q q.word
 unfolding is_quiet of_word
@@ -210,12 +210,12 @@ plain_whole quoted head b s word at =
     long_whole quoted (plainly head) head b s word at refl (behind_plain m at.fits) (behind_way m at.fits ∙ at.way)
 
 -- no macro has so long a name
-long_calls : (word : List ℕ) → 30 ≤ length word → called_by false word ≡ None
-long_calls [] l = absurd (omega arith)
-long_calls (a ∷ []) l = absurd (omega arith)
-long_calls (a ∷ b ∷ []) l = absurd (omega arith)
-long_calls (a ∷ b ∷ c ∷ []) l = absurd (omega arith)
-long_calls (a ∷ b ∷ c ∷ d ∷ rest) l = refl
+pub long_calls : (mute : Bool) (word : List ℕ) → 30 ≤ length word → called_by mute word ≡ None
+long_calls mute [] l = absurd (omega arith)
+long_calls mute (a ∷ []) l = absurd (omega arith)
+long_calls mute (a ∷ b ∷ []) l = absurd (omega arith)
+long_calls mute (a ∷ b ∷ c ∷ []) l = absurd (omega arith)
+long_calls mute (a ∷ b ∷ c ∷ d ∷ rest) l = refl
 
 -- ---- what ends a word
 
@@ -226,7 +226,7 @@ pub record Behind (head : Head) (s : State) (all : List ℕ) : Type 0 where
   fresh : Fresh (after s (codes "\n"))
 
 pub behind_of : (head : Head) (s g : State) (all : List ℕ) → Leads (code " ") s g 1 [] → Leads (code "\n") s g 1 []
-    → Whole head (code " ") g 3 all → Whole head (code "\n") g 3 all → ends_quiet head.line ≡ true → Behind head s all
+    → Whole head (code " ") g 3 all → Whole head (code "\n") g 3 all → ends_quiet head.line.macro ≡ true → Behind head s all
 behind_of head s g all blank newline w v h =
     let t = w.step.next in
     let u = v.step.next in
@@ -257,16 +257,16 @@ behind_of head s g all blank newline w v h =
     }
 
 behind_bare : (head : Head) (s : State) (word marks : List ℕ) → At head s scans.Word word marks
-    → ends_quiet head.line ≡ true → none_or prints_words (called_by false word) ≡ true
-    → Behind (behind_head head (called_by false word)) s (marks ++ of_kept head.way word)
+    → ends_quiet head.line.macro ≡ true → none_or prints_words (called_by head.line.mute word) ≡ true
+    → Behind (behind_head head (called_by head.line.mute word)) s (marks ++ of_kept head.line.mute head.way word)
 unfolding of_kept
 behind_bare head s word marks at h f =
     let inside = given_at false (plainly head) s word marks at in
-    behind_of (behind_head head (called_by false word)) s (given s) (marks ++ of_kept head.way word)
+    behind_of (behind_head head (called_by head.line.mute word)) s (given s) (marks ++ of_kept head.line.mute head.way word)
     (given_leads false (plainly head) (code " ") s word marks at refl) (given_leads false (plainly head) (code "\n") s word marks at refl)
     (given_whole head (code " ") (given s) word marks inside f) (given_whole head (code "\n") (given s) word marks inside f) h
 
-behind_bare_long : (head : Head) (s : State) (word : List ℕ) → In true (plainly head) s scans.Word word [] → ends_quiet head.line ≡ true
+behind_bare_long : (head : Head) (s : State) (word : List ℕ) → In true (plainly head) s scans.Word word [] → ends_quiet head.line.macro ≡ true
     → Behind (behind_head head None) s word
 behind_bare_long head s word at h =
     let inside = given_at true (plainly head) s word [] at in
@@ -275,7 +275,7 @@ behind_bare_long head s word at h =
     (called_nothing head (code " ") (given s) 3 word (plain_whole false head (code " ") (given s) word inside))
     (called_nothing head (code "\n") (given s) 3 word (plain_whole false head (code "\n") (given s) word inside)) h
 
-behind_quoted : (head : Head) (s : State) (word marks : List ℕ) → At head s scans.Closing word marks → ends_quiet head.line ≡ true
+behind_quoted : (head : Head) (s : State) (word marks : List ℕ) → At head s scans.Closing word marks → ends_quiet head.line.macro ≡ true
     → Behind head s (marks ++ said_of head.way word)
 behind_quoted head s word marks at h =
     let inside = quoted_at false (plainly head) s word marks at in
@@ -284,7 +284,7 @@ behind_quoted head s word marks at h =
     (quoted_whole head (code " ") (given_quoted s) word marks inside)
     (quoted_whole head (code "\n") (given_quoted s) word marks inside) h
 
-behind_quoted_long : (head : Head) (s : State) (word : List ℕ) → In true (plainly head) s scans.Closing word [] → ends_quiet head.line ≡ true → Behind head s word
+behind_quoted_long : (head : Head) (s : State) (word : List ℕ) → In true (plainly head) s scans.Closing word [] → ends_quiet head.line.macro ≡ true → Behind head s word
 behind_quoted_long head s word at h =
     let inside = quoted_at true (plainly head) s word [] at in
     behind_of head s (given_quoted s) word
@@ -311,9 +311,9 @@ going_at : (t : Bool) (going : Bool) (head : Manner) (s : State) (scan : Scan) (
 going_at t going head s scan word marks e at = subst (λ (g : Bool). In g head s scan word marks) e at
 
 bare_by : (t : Bool) (head : Head) (s : State) (bs marks word : List ℕ) (first hyphen : Bool)
-    (r : Read (plainly head) false false s scans.Word bs marks word first hyphen) → r.going ≡ t → ends_quiet head.line ≡ true
-    → none_or prints_words (called_by false word) ≡ true
-    → Ends (behind_head head (called_by false word)) r.next r.xs marks (of_kept head.way word)
+    (r : Read (plainly head) false false s scans.Word bs marks word first hyphen) → r.going ≡ t → ends_quiet head.line.macro ≡ true
+    → none_or prints_words (called_by head.line.mute word) ≡ true
+    → Ends (behind_head head (called_by head.line.mute word)) r.next r.xs marks (of_kept head.line.mute head.way word)
 unfolding of_kept
 bare_by true head s bs marks word first hyphen r e h f =
     let long = r.long e in
@@ -321,21 +321,21 @@ bare_by true head s bs marks word first hyphen r e h f =
     let at = subst (λ (hs : List ℕ). In true (plainly head) r.next scans.Word r.word hs) none (going_at true r.going (plainly head) r.next scans.Word r.word r.held e r.at) in
     record {
       ys = r.word;
-      behind = subst (λ (o : _). Behind (behind_head head o) r.next r.word) (sym (long_calls word long)) (behind_bare_long head r.next r.word at h);
+      behind = subst (λ (o : _). Behind (behind_head head o) r.next r.word) (sym (long_calls head.line.mute word long)) (behind_bare_long head r.next r.word at h);
       total =
-          all_said r.xs r.held r.word marks word (of_kept head.way word) r.total none
-          (sym (said_long head.way word long) ∙ ap (λ (o : _). unless_called head.way o word) (sym (long_calls word long)));
+          all_said r.xs r.held r.word marks word (of_kept head.line.mute head.way word) r.total none
+          (sym (said_long head.way word long) ∙ ap (λ (o : _). unless_called head.way o word) (sym (long_calls head.line.mute word long)));
     }
 bare_by false head s bs marks word first hyphen r e h f =
     let at = subst (λ (w : List ℕ). In false (plainly head) r.next scans.Word w r.held) (r.same e) (going_at false r.going (plainly head) r.next scans.Word r.word r.held e r.at) in
     record {
-      ys = r.held ++ of_kept head.way word;
+      ys = r.held ++ of_kept head.line.mute head.way word;
       behind = behind_bare head r.next word r.held at h f;
-      total = none_said r.xs r.held (of_kept head.way word) marks (r.silent e) (r.same_marks e);
+      total = none_said r.xs r.held (of_kept head.line.mute head.way word) marks (r.silent e) (r.same_marks e);
     }
 
 quoted_end : (t : Bool) (head : Head) (whole : Bool) (s : State) (bs marks word : List ℕ) (first hyphen : Bool)
-    (r : Read (plainly head) true whole s scans.Closing bs marks word first hyphen) → r.going ≡ t → ends_quiet head.line ≡ true
+    (r : Read (plainly head) true whole s scans.Closing bs marks word first hyphen) → r.going ≡ t → ends_quiet head.line.macro ≡ true
     → Ends head r.next r.xs marks (said_of head.way word)
 quoted_end true head whole s bs marks word first hyphen r e h =
     let none = r.clear e in
@@ -355,9 +355,9 @@ quoted_end false head whole s bs marks word first hyphen r e h =
 
 -- ---- the words of a line
 
-pub record Line (s : State) (bs all : List ℕ) (way : Way) (ws : List Word) : Type 0 where
+pub record Line (s : State) (bs all : List ℕ) (mute : Bool) (way : Way) (ws : List Word) : Type 0 where
   pub wholes : List Bool
-  pub words : words_of (parts_of s bs) ≡ all ++ printed_as way wholes ws
+  pub words : words_of (parts_of s bs) ≡ all ++ printed_as mute way wholes ws
   pub fresh : Fresh (after s bs)
 
 regroup : (us xs ys vs : List ℕ) → us ++ (xs ++ (ys ++ vs)) ≡ us ++ ((xs ++ ys) ++ vs)
@@ -385,50 +385,52 @@ then_fresh head s all bs ws one next state rest =
     ∙ after-append one.next bs behind ∙ ap (λ (t : State). after t behind) state))
     rest
 
-pub in_words : (ws : List Word) (head : Head) (s : State) (all : List ℕ) → Behind head s all → ends_quiet head.line ≡ true → are_written head.way ws ≡ true
-    → Line s (behind_each ws ++ codes "\n") all head.way ws
+pub in_words : (ws : List Word) (head : Head) (s : State) (all : List ℕ) → Behind head s all → ends_quiet head.line.macro ≡ true → are_written head.line.mute head.way ws ≡ true
+    → Line s (behind_each ws ++ codes "\n") all head.line.mute head.way ws
 unfolding of_kept
 in_words [] head s all behind h good = record { wholes = []; words = behind.newline ∙ sym (append-nil all); fresh = behind.fresh }
-in_words (Bare [] ∷ ws) head s all behind h good = absurd (let no : false ≡ true = and_left false (are_written (way_then head.way (Bare [])) ws) good in cc)
+in_words (Bare [] ∷ ws) head s all behind h good = absurd (let no : false ≡ true = and_left false (are_written head.line.mute (way_then head.line.mute head.way (Bare [])) ws) good in cc)
 in_words (Bare (l ∷ ls) ∷ ws) head s all behind h good =
     let way = head.way in
     let word = kept way false (l ∷ ls) in
-    let then_way = way_then way (Bare (l ∷ ls)) in
+    let mute = head.line.mute in
+    let then_way = way_then mute way (Bare (l ∷ ls)) in
     let one = behind.blank in
-    let here = and_left (is_word way (l ∷ ls)) (are_written then_way ws) good in
-    let r = (read_bare l ls (plainly head) one.next one.word one.marks one.at (word_letters way l ls here)).read in
-    let e = bare_by r.going head one.next (written false (l ∷ ls)) one.marks word _ _ r refl h (word_prints way l ls here) in
-    let rest = in_words ws (behind_head head (called_by false word)) r.next e.ys e.behind h
-    (and_right (is_word way (l ∷ ls)) (are_written then_way ws) good) in
+    let here = and_left (is_word mute way (l ∷ ls)) (are_written mute then_way ws) good in
+    let r = (read_bare l ls (plainly head) one.next one.word one.marks one.at (word_letters mute way l ls here)).read in
+    let e = bare_by r.going head one.next (written false (l ∷ ls)) one.marks word _ _ r refl h (word_prints mute way l ls here) in
+    let rest = in_words ws (behind_head head (called_by mute word)) r.next e.ys e.behind h
+    (and_right (is_word mute way (l ∷ ls)) (are_written mute then_way ws) good) in
     record {
       wholes = rest.wholes;
       words =
-          then_word head s all (written false (l ∷ ls)) r.xs e.ys (of_kept way word) (printed_as then_way rest.wholes ws) ws one r.next r.said rest.words e.total;
+          then_word head s all (written false (l ∷ ls)) r.xs e.ys (of_kept mute way word) (printed_as mute then_way rest.wholes ws) ws one r.next r.said rest.words e.total;
       fresh = then_fresh head s all (written false (l ∷ ls)) ws one r.next r.state rest.fresh;
     }
 in_words (Quoted ls ∷ ws) head s all behind h good =
     let way = head.way in
     let one = behind.blank in
-    let q = read_quoted ls (plainly head) one.next one.word one.marks one.at (and_left (are_letters true ls) (are_written way ws) good) in
+    let q = read_quoted ls (plainly head) one.next one.word one.marks one.at (and_left (are_letters true ls) (are_written head.line.mute way ws) good) in
     let r = q.spelled.read in
     let word = kept way q.whole ls in
     let bytes = code "\"" ∷ written true ls ++ codes "\"" in
     let e = quoted_end r.going head q.whole one.next bytes one.marks word _ _ r refl h in
-    let rest = in_words ws head r.next e.ys e.behind h (and_right (are_letters true ls) (are_written way ws) good) in
+    let rest = in_words ws head r.next e.ys e.behind h (and_right (are_letters true ls) (are_written head.line.mute way ws) good) in
     record {
       wholes = q.whole ∷ rest.wholes;
-      words = then_word head s all bytes r.xs e.ys (said_of way word) (printed_as way rest.wholes ws) ws one r.next r.said rest.words e.total;
+      words = then_word head s all bytes r.xs e.ys (said_of way word) (printed_as head.line.mute way rest.wholes ws) ws one r.next r.said rest.words e.total;
       fresh = then_fresh head s all bytes ws one r.next r.state rest.fresh;
     }
 
 -- ---- the whole line
 
-name_behind : (m : Macro) (name : List ℕ) (s : State) → s.page.marks ≡ [] → macro_of name ≡ Some m → heads_words m ≡ true → Behind (head_of m) (reads_name name s) []
+name_behind : (m : Macro) (name : List ℕ) (s : State) → s.page.marks ≡ [] → macro_of name ≡ Some m → heads_words m ≡ true
+    → Behind (head_of m (is_mute s.page.block m)) (reads_name name s) []
 name_behind m name s marks f h =
     let one = macro_step (code " ") m name s marks refl f h in
     let two = macro_step (code "\n") m name s marks refl f h in
-    let e = over (head_of m) two.next name [] two.at (heads_end m h) in
-    let takes = then_takes (code " ") (reads_name name s) one.next one.next 1 1 [] [] one.leads (blank_taken (head_of m) one.next name [] one.at) in
+    let e = over (head_of m (is_mute s.page.block m)) two.next name [] two.at (heads_end m h) in
+    let takes = then_takes (code " ") (reads_name name s) one.next one.next 1 1 [] [] one.leads (blank_taken (head_of m (is_mute s.page.block m)) one.next name [] one.at) in
     record {
       blank = record {
         next = one.next;
@@ -451,12 +453,13 @@ name_behind m name s marks f h =
     }
 
 pub quoted_line : (name : List ℕ) (ws : List Word) (m : Macro) (s : State) → s.page.marks ≡ [] → macro_of name ≡ Some m → heads_words m ≡ true
-    → each is_plain name ≡ true → are_written (way_of m) ws ≡ true → Line (reads_at scans.Start s) (line_of name ws) [] (way_of m) ws
+    → each is_plain name ≡ true → are_written (is_mute s.page.block m) (way_of m) ws ≡ true
+    → Line (reads_at scans.Start s) (line_of name ws) [] (is_mute s.page.block m) (way_of m) ws
 quoted_line [] ws m s marks f h plain all = absurd (let no : None ≡ Some m = f in cc)
 quoted_line (b ∷ bs) ws m s marks f h plain all =
     let rest = behind_each ws ++ codes "\n" in
     let short = short_name (b ∷ bs) m f in
-    let line = in_words ws (head_of m) (reads_name (b ∷ bs) s) [] (name_behind m (b ∷ bs) s marks f h) (heads_end m h) all in
+    let line = in_words ws (head_of m (is_mute s.page.block m)) (reads_name (b ∷ bs) s) [] (name_behind m (b ∷ bs) s marks f h) (heads_end m h) all in
     record {
       wholes = line.wholes;
       words =
@@ -478,24 +481,40 @@ quoted_line (b ∷ bs) ws m s marks f h plain all =
 
 -- ---- no string is named in it
 
-pub each_names : (ws : List Word) (way : Way) → are_written way ws ≡ true → names_no_string (behind_each ws) ≡ true
-each_names [] way all = refl
-each_names (Bare [] ∷ ws) way all = absurd (let no : false ≡ true = and_left false (are_written (way_then way (Bare [])) ws) all in cc)
-each_names (Bare (l ∷ ls) ∷ ws) way all =
-    let then_way = way_then way (Bare (l ∷ ls)) in
-    letters_names false (l ∷ ls) (behind_each ws) (word_letters way l ls (and_left (is_word way (l ∷ ls)) (are_written then_way ws) all))
-    (each_names ws then_way (and_right (is_word way (l ∷ ls)) (are_written then_way ws) all))
-each_names (Quoted ls ∷ ws) way all =
+pub each_names : (ws : List Word) (mute : Bool) (way : Way) → are_written mute way ws ≡ true → names_no_string (behind_each ws) ≡ true
+each_names [] mute way all = refl
+each_names (Bare [] ∷ ws) mute way all = absurd (let no : false ≡ true = and_left false (are_written mute (way_then mute way (Bare [])) ws) all in cc)
+each_names (Bare (l ∷ ls) ∷ ws) mute way all =
+    let then_way = way_then mute way (Bare (l ∷ ls)) in
+    letters_names false (l ∷ ls) (behind_each ws) (word_letters mute way l ls (and_left (is_word mute way (l ∷ ls)) (are_written mute then_way ws) all))
+    (each_names ws mute then_way (and_right (is_word mute way (l ∷ ls)) (are_written mute then_way ws) all))
+each_names (Quoted ls ∷ ws) mute way all =
     subst (λ (xs : List ℕ). names_no_string xs ≡ true) (sym (append_assoc (written true ls) (codes "\"") (behind_each ws)))
-    (letters_names true ls (code "\"" ∷ behind_each ws) (and_left (are_letters true ls) (are_written way ws) all)
-    (each_names ws way (and_right (are_letters true ls) (are_written way ws) all)))
+    (letters_names true ls (code "\"" ∷ behind_each ws) (and_left (are_letters true ls) (are_written mute way ws) all)
+    (each_names ws mute way (and_right (are_letters true ls) (are_written mute way ws) all)))
+
+-- words that may be written where they call macros may be so where they call none
+pub mute_written : (mute : Bool) (way way2 : Way) (ws : List Word) → are_written mute way ws ≡ true → are_written true way2 ws ≡ true
+mute_written mute way way2 [] all = refl
+mute_written mute way way2 (Bare [] ∷ ws) all = absurd (let no : false ≡ true = and_left false (are_written mute (way_then mute way (Bare [])) ws) all in cc)
+mute_written mute way way2 (Bare (l ∷ ls) ∷ ws) all =
+    let then_way = way_then mute way (Bare (l ∷ ls)) in
+    let then_way2 = way_then true way2 (Bare (l ∷ ls)) in
+    let here = and_left (is_word mute way (l ∷ ls)) (are_written mute then_way ws) all in
+    both (is_word true way2 (l ∷ ls)) (are_written true then_way2 ws)
+    (both (are_letters false (l ∷ ls)) (none_or prints_words (called_by true (kept way2 false (l ∷ ls)))) (word_letters mute way l ls here)
+    (ap (none_or prints_words) (called_none (kept way2 false (l ∷ ls)))))
+    (mute_written mute then_way then_way2 ws (and_right (is_word mute way (l ∷ ls)) (are_written mute then_way ws) all))
+mute_written mute way way2 (Quoted ls ∷ ws) all =
+    both (are_letters true ls) (are_written true way2 ws) (and_left (are_letters true ls) (are_written mute way ws) all)
+    (mute_written mute way way2 ws (and_right (are_letters true ls) (are_written mute way ws) all))
 
 pub words_are_said : WordsAreSaid
 words_are_said s m name ws marks f h plain all =
     let line = quoted_line name ws m s marks f h plain all in (
       line.wholes,
       record {
-        text = line-text (code "." ∷ name ++ behind_each ws) (reads_at scans.Start s) refl (plain_names name (behind_each ws) plain (each_names ws (way_of m) all));
+        text = line-text (code "." ∷ name ++ behind_each ws) (reads_at scans.Start s) refl (plain_names name (behind_each ws) plain (each_names ws (is_mute s.page.block m) (way_of m) all));
         words = line.words;
       },
     )

@@ -4,7 +4,8 @@ use Rattle.nr_mdoc.specs.declared.acts.Act.{Act}
 use Rattle.nr_mdoc.specs.declared.acts.Act.TheVariants as acts
 use Rattle.nr_mdoc.specs.declared.page.Page.{Page}
 use Rattle.nr_mdoc.specs.declared.seen.Seen.{Seen}
-use Rattle.nr_mdoc.specs.Laying.{before_hyphen, first_of, gap, word_end}
+use Rattle.nr_mdoc.specs.Columns.{begins_row, put_row}
+use Rattle.nr_mdoc.specs.Laying.{Laid, laid, before_hyphen, first_of, gap, word_end}
 use Rattle.nr_mdoc.specs.LayingOut.{lay_out}
 use Rattle.nr_mdoc.specs.Reading.{State, Told, told, said, once, heard_in, heard}
 use Rattle.nr_mdoc.specs.Scanning.{meet}
@@ -30,17 +31,22 @@ words_of-append (x ∷ xs) ys =
 only_before : (xs : List ℕ) → xs ≡ xs ++ [] ++ []
 only_before xs = sym (append-nil (xs ++ []) ∙ append-nil xs)
 
+begun : Bool → Page → Laid
+begun row p = if row then put_row p else laid p []
+
 pub part-text : (act : Act) (p : Page) → (lay_out act p).bytes ≡ (part_of act p).before ++ (part_of act p).word ++ (part_of act p).behind
-unfolding lay_out
+unfolding lay_out begun
 part-text (acts.Byte b) p = refl
 part-text acts.Hyphen p = refl
-part-text (acts.Begin b) p = sym (append-nil (gap p.lay.joined b p ++ b ∷ []))
+part-text (acts.Begin b) p =
+    let l = begun (begins_row p) p in
+    sym (append-nil ((l.bytes ++ gap l.page.lay.joined b l.page) ++ b ∷ []) ∙ append_assoc l.bytes (gap l.page.lay.joined b l.page) (b ∷ []))
 part-text (acts.Word font) p = refl
 part-text (acts.Joined font) p = refl
 part-text acts.Flag p = refl
 part-text acts.Release p = refl
 part-text acts.More p = sym (append-nil (before_hyphen p.word ++ p.word))
-part-text acts.LastMore p = append_assoc (before_hyphen p.word ++ p.word) (word_end p.lay.font p) (font_end p.lay.font)
+part-text acts.LastMore p = append_assoc (before_hyphen p.word ++ p.word) (word_end p) (font_end p.lay.font)
 part-text acts.Marks p = sym (append-nil (gap true (first_of p.marks) p ++ p.marks))
 part-text act p = only_before (lay_out act p).bytes
 

@@ -1,10 +1,10 @@
 -- One meeting where a line of a macro is read: what is said, and how it is read further.
 use Rattle.std.proofs.Common.{◌≡◌, ℕ, ◌≤◌, List, [], ◌++◌, length, Bool, true, false, refl, sym, ◌∙◌, ap, subst, append-nil}
 use Rattle.nr_mdoc.specs.declared.acts.Act.TheVariants as acts
-use Rattle.nr_mdoc.specs.declared.macros.Macro.{Macro}
+use Rattle.nr_mdoc.specs.declared.page.Lay.{Lay}
 use Rattle.nr_mdoc.specs.declared.page.Page.{Page}
 use Rattle.nr_mdoc.specs.declared.page.Scan.{Scan}
-use Rattle.nr_mdoc.specs.Calls.{is_due, is_enclosure_due, leaves}
+use Rattle.nr_mdoc.specs.Calls.{due, is_due, is_enclosure_due, leaves, takes_no_more}
 use Rattle.nr_mdoc.specs.Laying.{with_lay, was_put, without_marks}
 use Rattle.nr_mdoc.specs.LayingOut.{lay_out}
 use Rattle.nr_mdoc.specs.Reading.{State, said}
@@ -12,18 +12,18 @@ use Rattle.nr_mdoc.specs.Scanning.{meet}
 use Rattle.nr_mdoc.specs.Seeing.{Met, met, left, three}
 use Rattle.nr_mdoc.specs.WrittenLines.{Way, Usual, way_of}
 use Rattle.nr_mdoc.proofs.Meeting.{with_page, Leads, leads_by}
-use Rattle.nr_mdoc.proofs.Outcomes.{of_word, never, Lays, three-page, three-words, takes_as, Out, leaves_out}
+use Rattle.nr_mdoc.proofs.Outcomes.{of_word, never, Lined, line_in, Lays, three-page, three-words, takes_as, Out, leaves_out}
 
 -- ---- where a line of a macro is read
 
 -- the macro that it begins with, and how words are taken
 pub record Head : Type 0 where
-  pub line : Macro
+  pub line : Lined
   pub way : Way
 
 -- the same, and whether its words are read as such, or the first of a heading
 pub record Manner : Type 0 where
-  pub line : Macro
+  pub line : Lined
   pub way : Way
   pub plain : Bool
 
@@ -38,7 +38,7 @@ pub record In (goes : Bool) (m : Manner) (s : State) (scan : Scan) (word marks :
   pub few : length s.page.closers ≤ 8
   pub going : s.page.call.going ≡ goes
   pub comment : s.page.call.comment ≡ false
-  pub line : s.page.call.line ≡ m.line
+  pub line : line_in s.page ≡ m.line
   pub fits : takes_as m.plain s.page.call.taker ≡ true
   pub way : way_of s.page.call.taker ≡ m.way
   pub free : s.page.call.some ≡ false → marks ≡ []
@@ -49,7 +49,7 @@ At m s scan word marks = In false (plainly m) s scan word marks
 -- so it is read where a page is the same in all that counts
 pub in_as : (going : Bool) (head : Manner) (s : State) (p : Page) (scan scan2 : Scan) (word word2 marks : List ℕ) → In going head s scan word marks
     → p.scan ≡ scan2 → p.word ≡ word2 → p.marks ≡ s.page.marks → p.closers ≡ s.page.closers → p.call.going ≡ s.page.call.going
-    → p.call.comment ≡ s.page.call.comment → p.call.line ≡ s.page.call.line → p.call.taker ≡ s.page.call.taker → p.call.some ≡ s.page.call.some
+    → p.call.comment ≡ s.page.call.comment → line_in p ≡ line_in s.page → p.call.taker ≡ s.page.call.taker → p.call.some ≡ s.page.call.some
     → In going head (with_page p s) scan2 word2 marks
 in_as going head s p scan scan2 word word2 marks at a b c d e f g h i = record {
   scan_is = a;
@@ -91,7 +91,7 @@ out_leads b s m q xs o e =
 
 -- where a word is read then, or the line is read between words
 pub out_in : (going : Bool) (head : Head) (s : State) (m : Met) (q : Page) (xs marks : List ℕ) (o : Out m q xs)
-    → q.marks ≡ marks → length q.closers ≤ 8 → q.call.going ≡ going → q.call.comment ≡ false → q.call.line ≡ head.line → way_of q.call.taker ≡ head.way
+    → q.marks ≡ marks → length q.closers ≤ 8 → q.call.going ≡ going → q.call.comment ≡ false → line_in q ≡ head.line → way_of q.call.taker ≡ head.way
     → (m.page.call.some ≡ false → marks ≡ []) → In going (plainly head) (out_next m q xs o s) q.scan q.word marks
 unfolding out_next
 out_in going head s m q xs marks o marks_are few going_is comment line_is way_is free = record {
@@ -109,7 +109,7 @@ out_in going head s m q xs marks o marks_are few going_is comment line_is way_is
 
 -- by what is said, with a page before it
 unfoldable pub out_step : (head : Head) (b : ℕ) (s : State) (m : Met) (q : Page) (xs marks : List ℕ) → meet b s.page ≡ m → Out m q xs
-    → q.marks ≡ marks → length q.closers ≤ 8 → q.call.going ≡ false → q.call.comment ≡ false → q.call.line ≡ head.line → way_of q.call.taker ≡ head.way
+    → q.marks ≡ marks → length q.closers ≤ 8 → q.call.going ≡ false → q.call.comment ≡ false → line_in q ≡ head.line → way_of q.call.taker ≡ head.way
     → (m.page.call.some ≡ false → marks ≡ []) → Stepped head b s 1 xs q.scan q.word marks
 out_step head b s m q xs marks e o marks_are few going comment line_is way_is free = record {
   next = out_next m q xs o s;
@@ -124,17 +124,19 @@ pub record Left (m : Head) (b : ℕ) (s : State) (scan : Scan) (word marks : Lis
   pub no_enclosure : is_enclosure_due step.next.page ≡ false
   pub some : step.next.page.call.some ≡ true
 
-pub no_more_due : (l : _) (p : Page) → is_due (with_lay l (leaves p).page) ≡ false
-unfolding leaves
+no_more_due : (l : Lay) (p : Page) → is_due (with_lay l (takes_no_more p)) ≡ false
 no_more_due l p = refl
 
-pub no_more_enclosed : (l : _) (p : Page) → is_enclosure_due (with_lay l (leaves p).page) ≡ false
+none_enclosed : (l : Lay) (p : Page) → is_enclosure_due (with_lay l (takes_no_more p)) ≡ false
+none_enclosed l p = refl
+
+pub no_more_enclosed : (l : Lay) (p : Page) → is_enclosure_due (with_lay l (leaves p).page) ≡ false
 unfolding leaves
 no_more_enclosed l p = refl
 
-pub some_then : (p : Page) → (leaves p).page.call.some ≡ true
+leaves_page : (p : Page) → (leaves p).page ≡ takes_no_more (due p).page
 unfolding leaves
-some_then p = refl
+leaves_page p = refl
 
 pub true_is_false : {A : Type 0} (t : Bool) → t ≡ true → t ≡ false → A
 true_is_false t p q = never (sym q ∙ p)
@@ -158,21 +160,27 @@ step_at m b s k xs scan scan2 word word2 marks p q step = record {
   };
 }
 
-pub left_step : (head : Head) (b : ℕ) (s : State) (m : Met) (scan : Scan) (word marks : List ℕ) → At head s scan word marks
-    → meet b s.page ≡ m → Out m s.page [] → m.page ≡ (leaves s.page).page → Left head b s scan word marks
+-- no more is taken
+pub no_more_step : (head : Head) (b : ℕ) (s : State) (m : Met) (q : Page) (scan : Scan) (word marks : List ℕ) → At head s scan word marks
+    → meet b s.page ≡ m → Out m s.page [] → m.page ≡ takes_no_more q → Left head b s scan word marks
 unfolding out_next step_at out_step
-left_step head b s m scan word marks at e o same =
+no_more_step head b s m q scan word marks at e o same =
     let l = (out_lays m s.page [] o).0 in
-    let then_some : m.page.call.some ≡ true = ap (λ (p : Page). p.call.some) same ∙ some_then s.page in
+    let then_some : m.page.call.some ≡ true = ap (λ (p : Page). p.call.some) same in
     record {
       step =
           step_at head b s 1 [] s.page.scan scan s.page.word word marks at.scan_is at.word_is
           (out_step head b s m s.page [] marks e o at.marks_are at.few at.going at.comment at.line at.way
           (λ h. true_is_false m.page.call.some then_some h));
-      not_due = ap (λ (p : Page). is_due (with_lay l p)) same ∙ no_more_due l s.page;
-      no_enclosure = ap (λ (p : Page). is_enclosure_due (with_lay l p)) same ∙ no_more_enclosed l s.page;
+      not_due = ap (λ (p : Page). is_due (with_lay l p)) same ∙ no_more_due l q;
+      no_enclosure = ap (λ (p : Page). is_enclosure_due (with_lay l p)) same ∙ none_enclosed l q;
       some = then_some;
     }
+
+pub left_step : (head : Head) (b : ℕ) (s : State) (m : Met) (scan : Scan) (word marks : List ℕ) → At head s scan word marks
+    → meet b s.page ≡ m → Out m s.page [] → m.page ≡ (leaves s.page).page → Left head b s scan word marks
+left_step head b s m scan word marks at e o same =
+    no_more_step head b s m (due s.page).page scan word marks at e o (same ∙ leaves_page s.page)
 
 pub leaves_step : (head : Head) (b : ℕ) (s : State) (scan : Scan) (word marks : List ℕ) → At head s scan word marks
     → way_of s.page.call.taker ≡ Usual → meet b s.page ≡ leaves s.page → Left head b s scan word marks

@@ -57,9 +57,9 @@ called_out (macros.Opens pair) q f =
     out _ q acts.Nothing acts.Nothing acts.Nothing [] refl refl refl refl (keeps_if (nat_lt q.place.depth 255) q (with_place (record q.place { depth = q.place.depth + 1 }) q) q (assumption) (same_page q f))
 called_out (macros.Closes pair) q f =
     let keeps = keeps_if (nat_lt 0 q.place.depth) q (with_place (record q.place { depth = q.place.depth - 1 }) q) q (assumption) (same_page q f) in
-    out_act_if (is_nothing pair) acts.Apart _ _ q []
+    out_seen_if (is_nothing pair) _ _ _ q []
     (out _ q acts.Apart acts.Nothing acts.Nothing [] refl refl refl refl keeps)
-    (out _ q (acts.Close (texts.Closing (closer pair))) acts.Nothing acts.Nothing [] refl refl refl refl keeps)
+    (out _ q (acts.Close (texts.Closing (closer pair))) (acts.Close texts.Empty) acts.Nothing [] refl refl refl refl keeps)
 called_out (macros.Stands system) q f = out q q (acts.Text (texts.System system)) acts.Nothing acts.Nothing [] refl refl refl refl (same_page q f)
 called_out macros.Joins q f =
     out_seen_if q.call.first _ _ q q []
@@ -167,9 +167,9 @@ include_out : (q : Page) → takes_plain q.call.taker ≡ true → way_of q.call
 unfolding is_quiet of_word
 include_out q f u =
     out_if q.lay.front _ _ q q.word
-    (out _ q (acts.Text (texts.Opening pairs.Angles)) (acts.Joined Italic) acts.Nothing q.word refl refl refl (append-nil q.word)
+    (out _ q (acts.Text (texts.Opening pairs.Signs)) (acts.Joined Italic) acts.Nothing q.word refl refl refl (append-nil q.word)
     (behind_kept behinds.Angle q (takes_no_more q) (no_more q f u)))
-    (out (takes_no_more q) q (acts.Text (texts.Opening pairs.Angles)) (acts.Joined Italic) (acts.Close (texts.Closing (code ">"))) q.word
+    (out (takes_no_more q) q (acts.Text (texts.Opening pairs.Signs)) (acts.Joined Italic) (acts.Close (texts.Closing (code ">"))) q.word
     refl refl refl (append-nil q.word) (no_more q f u))
 
 link_out : (q : Page) → takes_plain q.call.taker ≡ true → way_of q.call.taker ≡ Usual → Out (link q) q q.word
@@ -309,6 +309,7 @@ taken_by_out (macros.Part letter) q e h f =
 taken_by_out macros.Flag q e h f = out q q acts.Flag acts.Nothing acts.Nothing q.word refl refl refl (append-nil q.word) (same_page q f)
 taken_by_out macros.Argument q e h f = said_in Italic q q (same_page q f)
 taken_by_out macros.Path q e h f = said_in Italic q q (same_page q f)
+taken_by_out macros.Mail q e h f = said_in Italic q q (same_page q f)
 taken_by_out macros.SectionName q e h f = said_in Italic q q (same_page q f)
 taken_by_out macros.Variable q e h f = said_in Italic q q (same_page q f)
 taken_by_out macros.ResultType q e h f = said_in Italic q q (same_page q f)

@@ -11,7 +11,8 @@ use Rattle.nr_mdoc.specs.declared.page.Page.{Page}
 use Rattle.nr_mdoc.specs.declared.page.Scan.TheVariants as scans
 use Rattle.nr_mdoc.specs.Calls.{with_scan}
 use Rattle.nr_mdoc.specs.Keeping.{ends_word}
-use Rattle.nr_mdoc.specs.Laying.{is_control, is_middle, with_lay}
+use Rattle.nr_mdoc.specs.Columns.{begins_row, put_row}
+use Rattle.nr_mdoc.specs.Laying.{is_control, is_middle, laid, put, then_laid, with_lay}
 use Rattle.nr_mdoc.specs.LayingOut.{lay_out}
 use Rattle.nr_mdoc.specs.Reading.{State, said, heard}
 use Rattle.nr_mdoc.specs.Saying.{part_of, parts_at, parts_of, words_of}
@@ -216,16 +217,31 @@ start_met : (b : ℕ) (s : State) → is_control b ≡ false → (b == code "\n"
 unfolding meet
 start_met b s c e f g = rw (c, e, f, g) refl
 
-begun : ℕ → Page → Page
-begun b p = (lay_out (acts.Begin b) p).page
+-- where a row begins or not, only how text is laid out is another
+begun_by : (t : Bool) (b : ℕ) (p : Page)
+    → Lays p (then_laid (if t then put_row p else laid p []) (λ q. put q.lay.joined (b ∷ []) q)).page
+begun_by true b p = (_, refl)
+begun_by false b p = (_, refl)
+
+begun_lays : (b : ℕ) (p : Page) → Lays p (lay_out (acts.Begin b) p).page
+unfolding lay_out
+begun_lays b p = begun_by (begins_row p) b p
+
+begun : ℕ → State → Page
+begun b s =
+    let p = behind_text s.page in with_lay (begun_lays b (with_scan (scans.Text (first_before b)) p)).0 p
+
+begun_page : (b : ℕ) (p : Page) → (said (taken (acts.Begin b)) p).page ≡ (lay_out (acts.Begin b) p).page
+unfolding said lay_out
+begun_page b p = refl
 
 start_taken : (b : ℕ) (s : State) → is_control b ≡ false → (b == code "\n") ≡ false → (b == code " ") ≡ false → (b == code "\t") ≡ false
-    → Takes b (reads_at scans.Start s) (reads_at (scans.Text (first_before b)) (with_page (begun b (behind_text s.page)) s)) 1 (b ∷ [])
-unfolding said lay_out begun
+    → Takes b (reads_at scans.Start s) (reads_at (scans.Text (first_before b)) (with_page (begun b s) s)) 1 (b ∷ [])
+unfolding begun said
 start_taken b s c e f g =
     let p = with_scan (scans.Text (first_before b)) (behind_text s.page) in
-    takes_by b (reads_at scans.Start s) p (with_scan (scans.Text (first_before b)) (begun b (behind_text s.page)))
-    (acts.Begin b) acts.Nothing acts.Nothing (b ∷ []) (start_met b s c e f g) refl refl
+    takes_by b (reads_at scans.Start s) p (with_scan (scans.Text (first_before b)) (begun b s))
+    (acts.Begin b) acts.Nothing acts.Nothing (b ∷ []) (start_met b s c e f g) (begun_page b p ∙ (begun_lays b p).1) refl
 
 pub or_left : (a b : Bool) → not (a || b) ≡ true → a ≡ false
 or_left true b h = absurd (let no : false ≡ true = h in cc)
@@ -248,12 +264,12 @@ text_is_said s b bs first rest strings =
           next-words b (bs ++ codes "\n") (reads_at scans.Start s) _ 1 (b ∷ []) _ (one_of 0)
           (start_taken b s not_control (or_right blank_or (b == code "\n") no_end)
           (or_left (b == code " ") (b == code "\t") no_blank) (or_right (b == code " ") (b == code "\t") no_blank))
-          (later.text (first_before b) (with_page (begun b (behind_text s.page)) s));
+          (later.text (first_before b) (with_page (begun b s) s));
     }
 
 pub text_fresh : (b : ℕ) (bs : List ℕ) (s : State) → s.page.marks ≡ [] → begins_text b ≡ true → each is_text bs ≡ true
     → Fresh (after (reads_at scans.Start s) (b ∷ bs ++ codes "\n"))
-unfolding begun lay_out
+unfolding begun
 text_fresh b bs s none first rest =
     let not_control = is_not (is_control b) (and_left (not (is_control b)) (not (ends_word b)) first) in
     let no_end = and_right (not (is_control b)) (not (ends_word b)) first in
@@ -264,4 +280,4 @@ text_fresh b bs s none first rest =
     (sym (next-state b (bs ++ codes "\n") (reads_at scans.Start s) _ 1 (b ∷ []) (one_of 0)
     (start_taken b s not_control (or_right blank_or (b == code "\n") no_end)
     (or_left (b == code " ") (b == code "\t") no_blank) (or_right (b == code " ") (b == code "\t") no_blank))))
-    (later.text_fresh (first_before b) (with_page (begun b (behind_text s.page)) s) none)
+    (later.text_fresh (first_before b) (with_page (begun b s) s) none)

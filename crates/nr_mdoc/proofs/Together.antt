@@ -105,6 +105,7 @@ taken_apart (macros.Part letter) q i h = h
 taken_apart macros.Flag q i h = h
 taken_apart macros.Argument q i h = h
 taken_apart macros.Path q i h = h
+taken_apart macros.Mail q i h = h
 taken_apart macros.SectionName q i h = h
 taken_apart macros.Variable q i h = h
 taken_apart macros.ResultType q i h = h

@@ -1,41 +1,45 @@
 -- What becomes of a word that is whole: it calls a macro, or it is said, or held back as a closing mark.
-use Rattle.std.proofs.Common.{◌≡◌, ℕ, List, [], ◌∷◌, ◌++◌, length, Bool, true, false, not, ◌&&◌, ◌==◌, if◌then◌else◌, Option, None, Some, refl, sym, ◌∙◌, ap, subst, append-nil, arith}
+use Rattle.std.proofs.Common.{◌≡◌, ℕ, ◌≤◌, ◌-◌, List, [], ◌∷◌, ◌++◌, length, length-append, take, Bool, true, false, not, ◌&&◌, ◌==◌, if◌then◌else◌, Option, None, Some, refl, sym, ◌∙◌, ap, subst, append-nil, arith}
 use Rattle.std.proofs.lemmas.Bool.Decides.{nat_tests}
+use Rattle.std.proofs.lemmas.List.{length-take}
 use Rattle.nr_mdoc.specs.declared.acts.Act.TheVariants as acts
+use Rattle.nr_mdoc.specs.declared.acts.Text.TheVariants as texts
 use Rattle.nr_mdoc.specs.declared.macros.Font.TheVariants.{Roman}
 use Rattle.nr_mdoc.specs.declared.macros.Macro.{Macro}
 use Rattle.nr_mdoc.specs.declared.macros.Macro.TheVariants as macros
+use Rattle.nr_mdoc.specs.declared.macros.Pair.TheVariants as pairs
 use Rattle.nr_mdoc.specs.declared.page.Page.{Page}
 use Rattle.nr_mdoc.specs.declared.page.Scan.TheVariants as scans
 use Rattle.nr_mdoc.specs.declared.seen.Seen.{Seen}
-use Rattle.nr_mdoc.specs.Calls.{called_by, called, calls, call, is_due, is_enclosure_due, is_flag, is_none, joining, leaves, seen_with, with_scan}
+use Rattle.nr_mdoc.specs.Calls.{called_by, called, calls, call, encloses_address, is_due, is_enclosure_due, is_flag, is_none, joining, leaves, opens_address, seen_with, with_scan}
 use Rattle.nr_mdoc.specs.Macros.{is_callable}
 use Rattle.nr_mdoc.specs.Options.{is_heading, reads_for}
 use Rattle.nr_mdoc.specs.Reading.{State}
 use Rattle.nr_mdoc.specs.Scanning.{meet}
 use Rattle.nr_mdoc.specs.Seeing.{Met, met, left, three}
+use Rattle.nr_mdoc.specs.Texts.{closer}
 use Rattle.nr_mdoc.specs.Taking.{argument, is_bar, is_opening, some_taken, taken_word}
 use Rattle.nr_mdoc.specs.WrittenLines.{asks, heads_words, none_or, prints_otherwise, prints_words, said_of, unless_called, Way, Usual, way_behind, way_of}
 use Rattle.nr_mdoc.specs.Words.{closing_mark, marked_or, parsed, read_or_called, unmarked}
 use Rattle.nr_mdoc.proofs.Escapes.{and_left, and_right, is_not}
 use Rattle.nr_mdoc.proofs.Given.{Whole, whole_of, whole_behind, whole_within, given_met}
 use Rattle.nr_mdoc.proofs.MarksHeld.{the_mark, one_at_most, two_at_most, mark_whole}
-use Rattle.nr_mdoc.proofs.Outcomes.{is_quiet, of_word, never, takes_plain, Keeps, Out, out, same_page, leaves_out}
-use Rattle.nr_mdoc.proofs.Stepping.{At, Head, out_step, left_step, leaves_step, marks_step}
+use Rattle.nr_mdoc.proofs.Outcomes.{is_quiet, of_word, never, Lined, takes_plain, Keeps, Out, out, out_when, same_page, leaves_out}
+use Rattle.nr_mdoc.proofs.Stepping.{At, Head, In, Left, Manner, plainly, out_step, no_more_step, left_step, leaves_step, marks_step}
 use Rattle.nr_mdoc.proofs.Taken.{called_out, taken_out, said_in}
 use Rattle.nr_mdoc.proofs.Ways.{due_usual, opened_usual, said_bar, said_one, said_opening}
 
 -- ---- words that are no marks
 
-unmarked_by : Bool → Option Macro → Page → Met
+unfoldable pub unmarked_by : Bool → Option Macro → Page → Met
 unmarked_by none called p = if not none then met p (left acts.Marks) else read_or_called called false p
 
-unmarked_is : (p : Page) → unmarked false p ≡ unmarked_by (is_none p.marks) (called_by false p.word) p
+pub unmarked_is : (p : Page) → unmarked false p ≡ unmarked_by (is_none p.marks) (called_by p.call.plain p.word) p
 unfolding unmarked unmarked_by
 unmarked_is p = refl
 
 unmarked_met : (head : Head) (b : ℕ) (s : State) (word marks : List ℕ) → At head s (scans.Given false) word marks
-    → closing_mark false word ≡ None → meet b s.page ≡ unmarked_by (is_none s.page.marks) (called_by false s.page.word) s.page
+    → closing_mark false word ≡ None → meet b s.page ≡ unmarked_by (is_none s.page.marks) (called_by s.page.call.plain s.page.word) s.page
 unfolding parsed
 unmarked_met head b s word marks at e =
     given_met head b s word marks at
@@ -43,13 +47,14 @@ unmarked_met head b s word marks at e =
     ∙ ap (λ (o : Option ℕ). marked_or o false s.page) e ∙ unmarked_is s.page
 
 clear_met : (head : Head) (b : ℕ) (s : State) (word : List ℕ) (o : Option Macro) → At head s (scans.Given false) word []
-    → closing_mark false word ≡ None → called_by false word ≡ o → meet b s.page ≡ read_or_called o false s.page
+    → closing_mark false word ≡ None → called_by head.line.mute word ≡ o → meet b s.page ≡ read_or_called o false s.page
 unfolding unmarked_by
 clear_met head b s word o at e f =
     let p = s.page in
     unmarked_met head b s word [] at e
-    ∙ ap (λ (xs : List ℕ). unmarked_by (is_none xs) (called_by false p.word) p) at.marks_are
-    ∙ ap (λ (w : List ℕ). read_or_called (called_by false w) false p) at.word_is
+    ∙ ap (λ (xs : List ℕ). unmarked_by (is_none xs) (called_by p.call.plain p.word) p) at.marks_are
+    ∙ ap (λ (w : List ℕ). read_or_called (called_by p.call.plain w) false p) at.word_is
+    ∙ ap (λ (l : Lined). read_or_called (called_by l.mute word) false p) at.line
     ∙ ap (λ (c : Option Macro). read_or_called c false p) f
 
 -- ---- macros that are called
@@ -127,10 +132,11 @@ joined_page : (t : Bool) (m : Met) → (joining t m).page ≡ m.page
 joined_page true m = refl
 joined_page false m = refl
 
-call_by : Bool → Macro → Page → Met
-call_by due m p = if not due then calls m p else joining (is_flag p.call.taker) (leaves p)
+unfoldable pub call_by : Bool → Bool → Macro → Page → Met
+call_by due address m p =
+    if not due then calls m p else if address then opens_address p else joining (is_flag p.call.taker) (leaves p)
 
-call_is : (m : Macro) (p : Page) → call m p ≡ call_by (is_due p) m p
+pub call_is : (m : Macro) (p : Page) → call m p ≡ call_by (is_due p) (encloses_address m p) m p
 unfolding call call_by
 call_is m p = refl
 
@@ -169,34 +175,65 @@ called_nothing head b s k all w = record {
   total = w.total;
 }
 
-calls_whole : (head : Head) (m : Macro) (b : ℕ) (s : State) (word : List ℕ) → At head s (scans.Given false) word [] → takes_plain m ≡ true
-    → meet b s.page ≡ calls m s.page → Whole (behind_head head (Some m)) b s 1 []
+pub calls_whole : (head : Manner) (behind : Head) (m : Macro) (b : ℕ) (s : State) (word : List ℕ) → In false head s (scans.Given false) word []
+    → head.line ≡ behind.line → way_of m ≡ behind.way → takes_plain m ≡ true → meet b s.page ≡ calls m s.page → Whole behind b s 1 []
 unfolding calling
-calls_whole head m b s word at f e =
-    let behind = behind_head head (Some m) in
+calls_whole head behind m b s word at line way f e =
     whole_of behind b s 1 1 [] s.page.word [] [] one_at_most
     (out_step behind b s (calls m s.page) (calling m s.page) [] [] e (called_out m (calling m s.page) f)
-    at.marks_are at.few at.going at.comment at.line refl (λ h. refl))
+    at.marks_are at.few at.going at.comment (at.line ∙ line) way (λ h. refl))
     refl
 
+-- what opens an address of mail
+address_few : (cs : List ℕ) (c : ℕ) → length cs ≤ 8 → length (take (length cs - 1) cs ++ c ∷ []) ≤ 8
+address_few cs c l = rw (length-append (take (length cs - 1) cs) (c ∷ []), length-take (length cs - 1) cs) (omega arith)
+
+address_out : (p : Page) → way_of p.call.taker ≡ Usual → Out (opens_address p) p []
+unfolding is_quiet of_word takes_plain
+address_out p u =
+    out _ p (acts.Text (texts.Opening pairs.Signs)) acts.Join acts.Nothing [] refl refl refl refl
+    (record {
+      scan = refl;
+      word = refl;
+      marks = refl;
+      few = address_few p.closers (closer pairs.Signs);
+      going = refl;
+      comment = refl;
+      line = refl;
+      fits = refl;
+      way = sym u;
+    })
+
+-- what is due is said first
+due_step : (t : Bool) (head : Head) (m : Macro) (b : ℕ) (s : State) (word : List ℕ) → At head s (scans.Given false) word []
+    → is_due s.page ≡ true → meet b s.page ≡ call_by true t m s.page → Left head b s (scans.Given false) word []
+unfolding call_by
+due_step true head m b s word at due e =
+    let p = s.page in
+    let closers = take (length p.closers - 1) p.closers ++ closer pairs.Signs ∷ [] in
+    no_more_step head b s (opens_address p) (record p { closers = closers }) (scans.Given false) word [] at e (address_out p (due_usual p due)) refl
+due_step false head m b s word at due e =
+    let p = s.page in
+    let flag = is_flag p.call.taker in
+    left_step head b s (joining flag (leaves p)) (scans.Given false) word [] at e
+    (joined_out flag (leaves p) p (leaves_out p at.fits (due_usual p due))) (joined_page flag (leaves p))
+
 called_whole : (t : Bool) (head : Head) (m : Macro) (b : ℕ) (s : State) (word : List ℕ) → At head s (scans.Given false) word [] → takes_plain m ≡ true
-    → closing_mark false word ≡ None → called_by false word ≡ Some m → is_due s.page ≡ t
+    → closing_mark false word ≡ None → called_by head.line.mute word ≡ Some m → is_due s.page ≡ t
     → Whole (behind_head head (Some m)) b s 2 []
 unfolding call_by
 called_whole true head m b s word at f e g due =
     let p = s.page in
-    let flag = is_flag p.call.taker in
-    let first = left_step head b s (joining flag (leaves p)) (scans.Given false) word [] at
-    (clear_met head b s word (Some m) at e g ∙ call_is m p ∙ ap (λ (t : Bool). call_by t m p) due)
-    (joined_out flag (leaves p) p (leaves_out p at.fits (due_usual p due))) (joined_page flag (leaves p)) in
+    let first = due_step (encloses_address m p) head m b s word at due
+    (clear_met head b s word (Some m) at e g ∙ call_is m p ∙ ap (λ (t : Bool). call_by t (encloses_address m p) m p) due) in
     let t = first.step.next in
     whole_behind (behind_head head (Some m)) b s t 1 [] [] [] first.step.leads
-    (calls_whole head m b t word first.step.at f
-    (clear_met head b t word (Some m) first.step.at e g ∙ call_is m t.page ∙ ap (λ (t2 : Bool). call_by t2 m t.page) first.not_due))
+    (calls_whole (plainly head) (behind_head head (Some m)) m b t word first.step.at refl refl f
+    (clear_met head b t word (Some m) first.step.at e g ∙ call_is m t.page ∙ ap (λ (t2 : Bool). call_by t2 (encloses_address m t.page) m t.page) first.not_due))
     refl
 called_whole false head m b s word at f e g due =
     whole_within (behind_head head (Some m)) b s 1 2 [] two_at_most
-    (calls_whole head m b s word at f (clear_met head b s word (Some m) at e g ∙ call_is m s.page ∙ ap (λ (t : Bool). call_by t m s.page) due))
+    (calls_whole (plainly head) (behind_head head (Some m)) m b s word at refl refl f (clear_met head b s word (Some m) at e g ∙ call_is m s.page ∙ ap (λ (t : Bool). call_by t (encloses_address m s.page) m s.page) due))
 
 -- ---- words that a macro takes
 
@@ -225,10 +262,6 @@ some_kept q p i = record {
   fits = i.fits;
   way = i.way;
 }
-
-out_when : (t : Bool) (m n : Met) (q : Page) (xs : List ℕ) → (t ≡ true → Out m q xs) → Out n q xs → Out (if t then m else n) q xs
-out_when true m n q xs i j = i refl
-out_when false m n q xs i j = j
 
 out_same : (m : Met) (q : Page) (xs ys : List ℕ) → xs ≡ ys → Out m q xs → Out m q ys
 out_same m q xs ys e o = subst (λ (zs : List ℕ). Out m q zs) e o
@@ -271,7 +304,7 @@ and_false true b e = e
 and_false false b e = refl
 
 argument_met : (head : Head) (b : ℕ) (s : State) (word : List ℕ) (t u : Bool) → At head s (scans.Given false) word []
-    → closing_mark false word ≡ None → called_by false word ≡ None
+    → closing_mark false word ≡ None → called_by head.line.mute word ≡ None
     → (is_bar s.page.word && is_due s.page) ≡ t → (is_enclosure_due s.page && not (is_opening s.page.word)) ≡ u → meet b s.page ≡ argument_by t u s.page
 argument_met head b s word t u at e f g h =
     let p = s.page in
@@ -280,7 +313,7 @@ argument_met head b s word t u at e f g h =
 
 -- what is due comes first
 due_whole : (head : Head) (b : ℕ) (s : State) (word : List ℕ) → At head s (scans.Given false) word []
-    → closing_mark false word ≡ None → called_by false word ≡ None → way_of s.page.call.taker ≡ Usual → meet b s.page ≡ leaves s.page
+    → closing_mark false word ≡ None → called_by head.line.mute word ≡ None → way_of s.page.call.taker ≡ Usual → meet b s.page ≡ leaves s.page
     → Whole head b s 2 (said_of head.way word)
 due_whole head b s word at e f u g =
     let first = leaves_step head b s (scans.Given false) word [] at u g in
@@ -293,7 +326,7 @@ due_whole head b s word at e f u g =
     refl
 
 argument_whole : (t u : Bool) (head : Head) (b : ℕ) (s : State) (word : List ℕ) → At head s (scans.Given false) word []
-    → closing_mark false word ≡ None → called_by false word ≡ None
+    → closing_mark false word ≡ None → called_by head.line.mute word ≡ None
     → (is_bar s.page.word && is_due s.page) ≡ t → (is_enclosure_due s.page && not (is_opening s.page.word)) ≡ u
     → Whole head b s 2 (said_of head.way word)
 unfolding argument_by
@@ -305,7 +338,7 @@ argument_whole false false head b s word at e f g h =
     whole_within head b s 1 2 (said_of head.way word) two_at_most (said_whole head b s word at (argument_met head b s word false false at e f g h))
 
 clear_whole : (o : Option Macro) (head : Head) (b : ℕ) (s : State) (word : List ℕ) → At head s (scans.Given false) word []
-    → closing_mark false word ≡ None → called_by false word ≡ o → none_or prints_words o ≡ true
+    → closing_mark false word ≡ None → called_by head.line.mute word ≡ o → none_or prints_words o ≡ true
     → Whole (behind_head head o) b s 2 (unless_called head.way o word)
 clear_whole None head b s word at e f g =
     called_nothing head b s 2 (said_of head.way word)
@@ -320,11 +353,11 @@ is_none-nil [] e = refl
 is_none-nil (x ∷ xs) e = absurd (let no : (length (x ∷ xs) == 0) ≡ true = e in grind (arith, nat_tests))
 
 unmarked_whole : (t : Bool) (head : Head) (b : ℕ) (s : State) (word marks : List ℕ) → At head s (scans.Given false) word marks
-    → closing_mark false word ≡ None → none_or prints_words (called_by false word) ≡ true → is_none s.page.marks ≡ t
-    → Whole (behind_head head (called_by false word)) b s 3 (marks ++ unless_called head.way (called_by false word) word)
+    → closing_mark false word ≡ None → none_or prints_words (called_by head.line.mute word) ≡ true → is_none s.page.marks ≡ t
+    → Whole (behind_head head (called_by head.line.mute word)) b s 3 (marks ++ unless_called head.way (called_by head.line.mute word) word)
 unfolding unmarked_by
 unmarked_whole true head b s word marks at e f none =
-    let o = called_by false word in
+    let o = called_by head.line.mute word in
     let all = unless_called head.way o word in
     let behind = behind_head head o in
     let no_marks : marks ≡ [] = sym at.marks_are ∙ is_none-nil s.page.marks none in
@@ -334,29 +367,29 @@ unmarked_whole true head b s word marks at e f none =
 unmarked_whole false head b s word marks at e f none =
     let p = s.page in
     let first = marks_step head b s (scans.Given false) word marks at
-    (unmarked_met head b s word marks at e ∙ ap (λ (t : Bool). unmarked_by t (called_by false p.word) p) none) in
-    let o = called_by false word in
+    (unmarked_met head b s word marks at e ∙ ap (λ (t : Bool). unmarked_by t (called_by p.call.plain p.word) p) none) in
+    let o = called_by head.line.mute word in
     let all = unless_called head.way o word in
     whole_behind (behind_head head o) b s first.next 2 marks all (marks ++ all) first.leads
     (clear_whole o head b first.next word first.at e refl f) refl
 
 -- a mark calls nothing
 mark_whole_as : (head : Head) (b : ℕ) (s : State) (word marks : List ℕ) (c : ℕ) → word ≡ c ∷ [] → Whole head b s 3 (marks ++ word)
-    → Whole (behind_head head (called_by false word)) b s 3 (marks ++ unless_called head.way (called_by false word) word)
+    → Whole (behind_head head (called_by head.line.mute word)) b s 3 (marks ++ unless_called head.way (called_by head.line.mute word) word)
 mark_whole_as head b s word marks c e w =
-    subst (λ (xs : List ℕ). Whole (behind_head head (called_by false xs)) b s 3 (marks ++ unless_called head.way (called_by false xs) xs)) (sym e)
+    subst (λ (xs : List ℕ). Whole (behind_head head (called_by head.line.mute xs)) b s 3 (marks ++ unless_called head.way (called_by head.line.mute xs) xs)) (sym e)
     (called_nothing head b s 3 (marks ++ said_of head.way (c ∷ []))
     (whole_same head b s 3 (marks ++ word) (marks ++ said_of head.way (c ∷ []))
     (ap (λ (xs : List ℕ). marks ++ xs) (e ∙ said_one head.way c)) w))
 
 whole_by : (o : Option ℕ) (head : Head) (b : ℕ) (s : State) (word marks : List ℕ) → At head s (scans.Given false) word marks
-    → none_or prints_words (called_by false word) ≡ true → closing_mark false word ≡ o
-    → Whole (behind_head head (called_by false word)) b s 3 (marks ++ unless_called head.way (called_by false word) word)
+    → none_or prints_words (called_by head.line.mute word) ≡ true → closing_mark false word ≡ o
+    → Whole (behind_head head (called_by head.line.mute word)) b s 3 (marks ++ unless_called head.way (called_by head.line.mute word) word)
 whole_by None head b s word marks at f e = unmarked_whole (is_none s.page.marks) head b s word marks at e f refl
 whole_by (Some c) head b s word marks at f e =
     mark_whole_as head b s word marks c (the_mark word c e) (mark_whole (is_due s.page) head b c s word marks at e refl)
 
 pub given_whole : (head : Head) (b : ℕ) (s : State) (word marks : List ℕ) → At head s (scans.Given false) word marks
-    → none_or prints_words (called_by false word) ≡ true
-    → Whole (behind_head head (called_by false word)) b s 3 (marks ++ unless_called head.way (called_by false word) word)
+    → none_or prints_words (called_by head.line.mute word) ≡ true
+    → Whole (behind_head head (called_by head.line.mute word)) b s 3 (marks ++ unless_called head.way (called_by head.line.mute word) word)
 given_whole head b s word marks at f = whole_by (closing_mark false word) head b s word marks at f refl

@@ -2,10 +2,10 @@
 use Rattle.std.specs.Prelude.{ℕ, ◌+◌, ◌-◌, Bool, true, false, not, ◌==◌, ◌&&◌, ◌||◌, nat_lt, if◌then◌else◌, Option, None, Some}
 use Rattle.nr_mdoc.specs.declared.acts.Act.{Act}
 use Rattle.nr_mdoc.specs.declared.acts.Act.TheVariants as acts
+use Rattle.nr_mdoc.specs.declared.acts.Request.{Request}
 use Rattle.nr_mdoc.specs.declared.acts.Request.TheVariants as requests
 use Rattle.nr_mdoc.specs.declared.acts.Sized.TheVariants as sizes
 use Rattle.nr_mdoc.specs.declared.acts.Stack.TheVariants.{Opens, Closes}
-use Rattle.nr_mdoc.specs.declared.acts.Text.TheVariants as texts
 use Rattle.nr_mdoc.specs.declared.macros.Font.{Font}
 use Rattle.nr_mdoc.specs.declared.macros.Font.TheVariants.{Roman, Bold}
 use Rattle.nr_mdoc.specs.declared.macros.Macro.TheVariants as macros
@@ -42,6 +42,8 @@ abbrev pub is_list : Kind → Bool
 is_list kinds.Page = false
 is_list kinds.Filled = false
 is_list kinds.Literal = false
+is_list kinds.Unfilled = false
+is_list kinds.Centered = false
 is_list kind = true
 
 abbrev pub has_tags : Kind → Bool
@@ -96,18 +98,21 @@ list_begins p =
     met p (if is_column p.block.kind
     then three (space p.block.compact) (indent p) (stops p) else left (indent p))
 
-abbrev pub is_literal : Kind → Bool
-is_literal kinds.Literal = true
-is_literal kind = false
-
 abbrev pub with_literal : Bool → Page → Page
 with_literal literal p = record p { lay = record p.lay { literal = literal } }
 
+-- its lines stay
+abbrev pub literal : Act → Act → Request → Page → Met
+literal space indent request p = met (with_literal true p) (three space indent (acts.Request request))
+
+abbrev pub display_begins_of : Kind → Page → Met
+display_begins_of kinds.Literal p = literal (space p.block.compact) (indent p) requests.Literal p
+display_begins_of kinds.Unfilled p = literal (space p.block.compact) (indent p) requests.Unfilled p
+display_begins_of kinds.Centered p = literal (space p.block.compact) (indent p) requests.Centered p
+display_begins_of kind p = met p (two (space p.block.compact) (indent p))
+
 abbrev pub display_begins : Page → Met
-display_begins p =
-    if is_literal p.block.kind
-    then met (with_literal true p) (three (space p.block.compact) (indent p) (acts.Request requests.Literal))
-    else met p (two (space p.block.compact) (indent p))
+display_begins p = display_begins_of p.block.kind p
 
 -- lines are broken between words again
 abbrev pub breaking : Page → Page
@@ -121,10 +126,15 @@ list_ends p =
     met (breaking p)
     (with_stack Closes (two (acts.Request requests.Tabs) (acts.Request requests.IndentEnds)))
 
-abbrev pub display_ends_of : Kind → Page → Met
-display_ends_of kinds.Literal p =
+abbrev pub literal_ends : Request → Page → Met
+literal_ends request p =
     met (with_literal false p)
-    (with_stack Closes (two (acts.Request requests.LiteralEnds) (acts.Request requests.IndentEnds)))
+    (with_stack Closes (two (acts.Request request) (acts.Request requests.IndentEnds)))
+
+abbrev pub display_ends_of : Kind → Page → Met
+display_ends_of kinds.Literal p = literal_ends requests.LiteralEnds p
+display_ends_of kinds.Unfilled p = literal_ends requests.LiteralEnds p
+display_ends_of kinds.Centered p = literal_ends requests.CenteredEnds p
 display_ends_of kinds.Filled p = met p (with_stack Closes (left (acts.Request requests.IndentEnds)))
 display_ends_of kind p = none p
 
@@ -155,7 +165,7 @@ item_head_of kinds.Bullet p = acts.Sized sizes.Bullet (tag_width p.block)
 item_head_of kinds.Dash p = acts.Sized sizes.Dash (tag_width p.block)
 item_head_of kinds.Number p = acts.Numbered p.block.items (tag_width p.block)
 item_head_of kinds.Tag p = acts.Tag (tag_width p.block)
-item_head_of kinds.Hang p = acts.Sized sizes.Tagged (tag_width p.block)
+item_head_of kinds.Hang p = acts.Tag (tag_width p.block)
 item_head_of kinds.Column p = acts.Row
 item_head_of kind p = acts.Request requests.Break
 
@@ -169,17 +179,25 @@ is_diagnosis kind = false
 abbrev pub new_item : Page → Page
 new_item p = taking Roman (record p { place = record p.place { depth = 0 } })
 
+-- the words of a head of `-diag` call no macro
+abbrev pub plainly : Page → Page
+plainly p = record p { call = record p.call { plain = true } }
+
 abbrev pub counted_item : Page → Page
-counted_item p = if is_diagnosis p.block.kind then taking Bold (counts p) else counts p
+counted_item p = if is_diagnosis p.block.kind then plainly (taking Bold (counts p)) else counts p
 
 abbrev pub stands_close : Block → Bool
 stands_close b = b.compact || is_column b.kind
 
+-- the item before has a head alone, in a list of `-diag`
+abbrev pub is_bare : Page → Bool
+is_bare p = p.lay.bare && is_diagnosis p.block.kind
+
 -- space before an item
 abbrev pub before_item : Page → Act
 before_item p =
-    if stands_close p.block || not p.block.begun then space (stands_close p.block)
-    else acts.Request requests.Space
+    if stands_close p.block || not p.block.begun then space (stands_close p.block) else
+    if is_bare p then acts.Fresh else acts.Request requests.Space
 
 abbrev pub item : Page → Met
 item p =
@@ -187,9 +205,10 @@ item p =
     met (counted_item (new_item p))
     (two (before_item p) (item_head (counted_item (new_item p))))
 
--- two blanks stand between a tag and its text, or the tag stands alone
+-- two blanks stand between a tag and its text, or the tag stands alone; that of `-hang` goes on
 abbrev pub tag_ends_of : Kind → Block → Act
 tag_ends_of kinds.Tag b = acts.TagEnds (tag_width b - 2)
+tag_ends_of kinds.Hang b = acts.HangEnds (tag_width b - 2)
 tag_ends_of kind b = acts.Fresh
 
 abbrev pub tag_ends : Page → Act
@@ -197,7 +216,7 @@ tag_ends p = tag_ends_of p.block.kind p.block
 
 abbrev pub item_ends_of : Kind → Seen
 item_ends_of kinds.Overhang = left (acts.Request requests.Break)
-item_ends_of kinds.Diagnosis = left (acts.Close texts.FixedSpace)
+item_ends_of kinds.Diagnosis = left acts.HeadEnds
 item_ends_of kind = left acts.Nothing
 
 abbrev pub item_ends : Page → Seen

@@ -1,5 +1,5 @@
 -- Macros are called (mdoc(7), MACRO SYNTAX): what is due from the one before, and what they say before their words.
-use Rattle.std.specs.Prelude.{ℕ, ◌+◌, ◌-◌, List, [], ◌∷◌, ◌++◌, length, Bool, true, false, not, ◌==◌, ◌&&◌, nat_lt, if◌then◌else◌, Option, None, Some}
+use Rattle.std.specs.Prelude.{◌≡◌, ℕ, ◌+◌, ◌-◌, List, [], ◌∷◌, ◌++◌, length, take, slice_index, Bool, true, false, not, ◌==◌, ◌&&◌, nat_lt, if◌then◌else◌, Option, None, Some}
 use Prim.Native.Char.{code}
 use Rattle.nr_mdoc.specs.declared.acts.Act.TheVariants as acts
 use Rattle.nr_mdoc.specs.declared.acts.Request.TheVariants as requests
@@ -79,6 +79,7 @@ abbrev pub is_due_from : Macro → Bool → Bool → Bool
 is_due_from macros.Flag some named = not some
 is_due_from macros.Argument some named = not some
 is_due_from macros.Path some named = not some
+is_due_from macros.Mail some named = not some
 is_due_from macros.Att some named = not some
 is_due_from macros.Bsd some named = not some
 is_due_from macros.Name some named = not some && named
@@ -121,6 +122,7 @@ abbrev pub due_from : Macro → Page → Met
 due_from macros.Flag p = met p (left (acts.Text texts.Dash))
 due_from macros.Argument p = met p (two (acts.Text texts.File) (acts.Text texts.Dots))
 due_from macros.Path p = met p (left (acts.Text texts.Home))
+due_from macros.Mail p = met p (left (acts.Text texts.Home))
 due_from macros.Att p = met p (left (acts.Text texts.Att))
 due_from macros.Bsd p = met p (left (acts.Text texts.Bsd))
 due_from macros.Name p = own_name p
@@ -151,14 +153,15 @@ abbrev pub shallower : Page → Page
 shallower p =
     if nat_lt 0 p.place.depth then with_place (record p.place { depth = p.place.depth - 1 }) p else p
 
--- to its partner, on this line or another
+-- to its partner, on this line or another, which ends no sentence
 abbrev pub opens : Page → Met
 opens p = met (deeper p) (left acts.Nothing)
 
 abbrev pub closes : Pair → Page → Met
 closes pair p =
     met (shallower p)
-    (left (if is_nothing pair then acts.Apart else acts.Close (texts.Closing (closer pair))))
+    (if is_nothing pair then left acts.Apart
+    else two (acts.Close (texts.Closing (closer pair))) (acts.Close texts.Empty))
 
 -- ---- macros are called
 
@@ -198,5 +201,33 @@ is_flag m = false
 abbrev pub joining : Bool → Met → Met
 joining joins m = if joins then met m.page (record m.seen { second = acts.Join }) else m
 
+-- ---- an address of mail in angle brackets stands between signs
+
+abbrev pub is_in_angles : Macro → Bool
+is_in_angles (macros.Encloses pairs.Angles) = true
+is_in_angles m = false
+
+abbrev pub is_mail : Macro → Bool
+is_mail macros.Mail = true
+is_mail m = false
+
+abbrev pub ends_in_angle : List ℕ → Bool
+ends_in_angle closers =
+    nat_lt 0 (length closers) && (slice_index closers (length closers - 1) == closer pairs.Angles)
+
+abbrev pub encloses_address : Macro → Page → Bool
+encloses_address m p = is_in_angles p.call.taker && is_mail m && ends_in_angle p.closers
+
+abbrev pub has_closer : Page → Type 0
+has_closer p = ends_in_angle p.closers ≡ true
+
+abbrev pub opens_address : Page → Met
+opens_address p =
+    let closers = take (length p.closers - 1) p.closers ++ closer pairs.Signs ∷ [] in
+    met (takes_no_more (record p { closers = closers }))
+    (two (acts.Text (texts.Opening pairs.Signs)) acts.Join)
+
 unfoldable pub call : Macro → Page → Met
-call m p = if not (is_due p) then calls m p else joining (is_flag p.call.taker) (leaves p)
+call m p =
+    if not (is_due p) then calls m p else
+    if encloses_address m p then opens_address p else joining (is_flag p.call.taker) (leaves p)

@@ -1,11 +1,11 @@
 -- Rows of columns: a tab before each cell but the first, and what is too long for the last cell below it
 -- (mdoc(7), Bl -column and Ta).
-use Rattle.std.specs.Prelude.{ℕ, ◌+◌, ◌-◌, ◌*◌, List, [], ◌++◌, Bool, true, ◌==◌, ◌&&◌, ◌||◌, nat_lt, nat_le, if◌then◌else◌, codes}
+use Rattle.std.specs.Prelude.{ℕ, ◌+◌, ◌-◌, ◌*◌, List, [], ◌++◌, Bool, true, not, ◌==◌, ◌&&◌, ◌||◌, nat_lt, nat_le, if◌then◌else◌, codes}
 use Rattle.nr_mdoc.specs.declared.acts.Sized.TheVariants as sizes
 use Rattle.nr_mdoc.specs.declared.page.Block.{Block}
 use Rattle.nr_mdoc.specs.declared.page.Page.{Page}
 use Rattle.nr_mdoc.specs.Laying.{Laid, laid, with_end, with_lay, was_put}
-use Rattle.nr_mdoc.specs.Options.{at_most}
+use Rattle.nr_mdoc.specs.Options.{at_most, is_column}
 use Rattle.nr_mdoc.specs.OwnLines.{digits, fresh, line_end, put_sized}
 
 -- the width of a column and the space after it, a tab stop after the ones before
@@ -31,6 +31,10 @@ put_stops gap hang p =
 -- no line is broken in a cell before the last of its columns
 abbrev pub stays_whole : ℕ → Block → Bool
 stays_whole cell b = nat_lt (cell + 1) b.columns
+
+-- a text line is a row: the innermost block has columns, and no item
+abbrev pub begins_row : Page → Bool
+begins_row p = is_column p.block.kind && not p.block.begun
 
 -- the row has a cell behind its last column
 abbrev pub is_past : ℕ → Block → Bool

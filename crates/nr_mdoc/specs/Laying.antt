@@ -73,7 +73,8 @@ abbrev pub gap : Bool → ℕ → Page → List ℕ
 gap joined first p = gap_at p.lay p.lay.at joined first
 
 abbrev pub was_put : Page → Page
-was_put p = with_lay (record p.lay { at = Middle; joined = not p.lay.spaced; quiet = false }) p
+was_put p =
+    with_lay (record p.lay { at = Middle; joined = not p.lay.spaced; quiet = false; bare = false }) p
 
 abbrev pub is_middle : At → Bool
 is_middle Middle = true
@@ -103,21 +104,15 @@ ends_sentence word =
     || (nat_lt 1 (length word) && is_transparent (slice_index word (length word - 1))
     && is_stop (slice_index word (length word - 2)))
 
-abbrev pub is_roman : Font → Bool
-is_roman Roman = true
-is_roman font = false
-
--- a word of a macro ends no sentence, but in roman within an enclosure of its line
-abbrev pub word_end : Font → Page → List ℕ
-word_end font p =
-    let within = is_roman font && not (length p.closers == 0) in
-    if ends_sentence p.word && not within then codes "\\&" else []
+-- a word of a macro ends no sentence
+abbrev pub word_end : Page → List ℕ
+word_end p = if ends_sentence p.word then codes "\\&" else []
 
 -- the font of a word ends, unless more of the word comes
 abbrev pub end_word : Font → Page → Laid
 end_word font p =
     if p.lay.front then laid (with_lay (record p.lay { front = false; font = font }) p) []
-    else laid p (word_end font p ++ font_end font)
+    else laid p (word_end p ++ font_end font)
 
 abbrev pub put_word : Bool → Font → Page → Laid
 put_word joined font p =
@@ -130,7 +125,7 @@ put_more p = laid (was_put p) (before_hyphen p.word ++ p.word)
 abbrev pub put_last_more : Page → Laid
 put_last_more p =
     laid (was_put (with_lay (record p.lay { font = Roman }) p)) (before_hyphen p.word ++ p.word
-    ++ word_end p.lay.font p ++ font_end p.lay.font)
+    ++ word_end p ++ font_end p.lay.font)
 
 abbrev pub put_flag : Page → Laid
 put_flag p =
@@ -188,6 +183,12 @@ put_library (Some text) p = put (is_joined p) (before_nul text) p
 abbrev pub put_release : Page → Laid
 put_release p = behind (codes "-") (put_word true Roman p)
 
+-- the head of an item of `-diag`: blanks stand behind it, which what comes next joins
+abbrev pub put_head_end : Page → Laid
+put_head_end p =
+    let l = put true (codes "\\~\\~") p in
+    laid (with_lay (record l.page.lay { joined = true; bare = true }) l.page) l.bytes
+
 -- ---- a line of the input ends: a joint does, too, where lines stay as they are
 
 abbrev pub end_line : Page → Page
@@ -222,4 +223,5 @@ lay_word acts.Standard p = put_standard (standard_named p.word) p
 lay_word acts.Library p = put_library (library_named p.word) p
 lay_word acts.Att p = put_named (version_named p.word) p
 lay_word acts.Release p = put_release p
+lay_word acts.HeadEnds p = put_head_end p
 lay_word act p = laid p []

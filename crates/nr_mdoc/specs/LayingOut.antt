@@ -1,11 +1,11 @@
 -- What is said is laid out.
-use Rattle.std.specs.Prelude.{[], ◌∷◌, true, false, codes}
+use Rattle.std.specs.Prelude.{ℕ, [], ◌∷◌, true, false, if◌then◌else◌, codes}
 use Rattle.nr_mdoc.specs.declared.acts.Act.{Act}
 use Rattle.nr_mdoc.specs.declared.acts.Act.TheVariants as acts
 use Rattle.nr_mdoc.specs.declared.page.Page.{Page}
-use Rattle.nr_mdoc.specs.Columns.{column_text, put_cell, put_row, put_stops}
-use Rattle.nr_mdoc.specs.Laying.{Laid, laid, with_lay, put, is_joined, end_line, lay_word}
-use Rattle.nr_mdoc.specs.OwnLines.{freshen, end_tag, quiet_down, put_space, put_request, put_sized, put_hanging, put_tag, put_numbered, put_title, end_title, put_head, put_control, put_naming}
+use Rattle.nr_mdoc.specs.Columns.{begins_row, column_text, put_cell, put_row, put_stops}
+use Rattle.nr_mdoc.specs.Laying.{Laid, laid, then_laid, with_lay, put, is_joined, end_line, lay_word}
+use Rattle.nr_mdoc.specs.OwnLines.{freshen, end_tag, end_hang, quiet_down, put_space, put_request, put_sized, put_hanging, put_tag, put_numbered, put_title, end_title, put_head, put_control, put_naming}
 use Rattle.nr_mdoc.specs.References.{put_part_begin, put_reference}
 use Rattle.nr_mdoc.specs.Texts.{text_of, front_of}
 
@@ -13,6 +13,7 @@ abbrev pub lay_request : Act → Page → Laid
 lay_request acts.Fresh p = freshen p
 lay_request (acts.Tag width) p = put_tag width p
 lay_request (acts.TagEnds width) p = end_tag width p
+lay_request (acts.HangEnds width) p = end_hang width p
 lay_request acts.Quiet p = quiet_down p
 lay_request acts.Space p = put_space p
 lay_request (acts.Request request) p = put_request request p
@@ -34,12 +35,17 @@ lay_request acts.Control p = put_control p
 lay_request acts.Naming p = put_naming p
 lay_request act p = lay_word act p
 
+-- a text line begins: in a list of columns without items as a row
+abbrev pub put_begin : ℕ → Page → Laid
+put_begin b p =
+    then_laid (if begins_row p then put_row p else laid p []) (λ q. put q.lay.joined (b ∷ []) q)
+
 unfoldable pub lay_out : Act → Page → Laid
 lay_out acts.Nothing p = laid p []
 lay_out (acts.Byte b) p = laid p (b ∷ [])
 lay_out acts.Hyphen p = laid p (codes "\\-")
 lay_out (acts.Front front) p = laid p (front_of front)
-lay_out (acts.Begin b) p = put p.lay.joined (b ∷ []) p
+lay_out (acts.Begin b) p = put_begin b p
 lay_out (acts.Text text) p = put (is_joined p) (text_of text) p
 lay_out (acts.Close text) p = put true (text_of text) p
 lay_out acts.Join p = laid (with_lay (record p.lay { joined = true }) p) []

@@ -12,6 +12,7 @@ use Rattle.nr_mdoc.specs.declared.macros.Macro.{Macro}
 use Rattle.nr_mdoc.specs.declared.macros.Macro.TheVariants as macros
 use Rattle.nr_mdoc.specs.declared.page.Behind.TheVariants as behinds
 use Rattle.nr_mdoc.specs.declared.page.Call.{Call}
+use Rattle.nr_mdoc.specs.declared.page.Kind.{Kind}
 use Rattle.nr_mdoc.specs.declared.page.Kind.TheVariants as kinds
 use Rattle.nr_mdoc.specs.declared.page.Last.{Last}
 use Rattle.nr_mdoc.specs.declared.page.Last.TheVariants as lasts
@@ -35,11 +36,21 @@ abbrev pub is_request : List ℕ → Bool
 is_request [] = false
 is_request (b ∷ bs) = not (nat_le (code "A") b && nat_le b (code "Z")) && not (b == code "%")
 
+-- the words of a line that one of these begins call no macro
+abbrev pub calls_none : Macro → Bool
+calls_none macros.Describes = true
+calls_none macros.Declaration = true
+calls_none macros.Library = true
+calls_none macros.Plain = true
+calls_none (macros.Part letter) = true
+calls_none m = false
+
 abbrev pub call_of : Macro → Call
 call_of m = record {
   line = m;
   taker = m;
   first = true;
+  plain = calls_none m;
   some = false;
   listed = false;
   many = false;
@@ -112,23 +123,35 @@ system p =
     then silent (record p { call = record p.call { line = macros.Silent } })
     else met p (left acts.Title)
 
-abbrev pub in_section : Page → Page
-in_section p =
+abbrev pub heads : Page → Page
+heads p =
     record p {
-      place =
-          record p.place { section = sections.Other; last = lasts.Heading; split = splits.Never; depth = 0 };
+      place = record p.place { last = lasts.Heading; depth = 0 };
       lay = record p.lay { kept = false; literal = false };
     }
 
--- lists and displays that are open end
+abbrev pub is_page : Kind → Bool
+is_page kinds.Page = true
+is_page kind = false
+
+-- lists and displays that are open end at a heading, which has its space then
+abbrev pub heading : Act → Page → Seen
+heading head p =
+    with_stack Empties (if is_page p.block.kind then left head
+    else two (acts.Request requests.Distance) head)
+
+abbrev pub in_section : Page → Page
+in_section p =
+    let q = heads p in
+    record q { place = record q.place { section = sections.Other; split = splits.Never } }
+
 abbrev pub section : Page → Met
 section p =
-    met (in_section p) (with_stack Empties (if p.place.titled then left acts.Section
-    else three acts.Title acts.TitleEnds acts.Section))
+    met (in_section p) (if p.place.titled then heading acts.Section p
+    else with_stack Empties (three acts.Title acts.TitleEnds acts.Section))
 
 abbrev pub subsection : Page → Met
-subsection p =
-    met (after lasts.Heading p) (left acts.Subsection)
+subsection p = met (heads p) (heading acts.Subsection p)
 
 abbrev pub paragraph : Page → Met
 paragraph p = met (after lasts.Heading p) (left acts.Space)
@@ -175,7 +198,7 @@ abbrev pub part_begins : ℕ → Page → Met
 part_begins letter p = if not p.place.reference then none p else met p (two (acts.Part letter) acts.Join)
 
 abbrev pub part_ends : Page → Seen
-part_ends p = left (if p.place.reference then acts.Fresh else acts.Nothing)
+part_ends p = left (if p.place.reference then acts.Fresh else acts.Close texts.Empty)
 
 -- ---- a line begins
 
@@ -279,6 +302,7 @@ end_of macros.DisplayEnds p = met p (outer_goes_on acts.Nothing p)
 end_of macros.Line p = met p (outer_goes_on (acts.Request requests.IndentEnds) p)
 end_of macros.LiteralLine p = met p (outer_goes_on (acts.Request requests.IndentEnds) p)
 end_of macros.Item p = met p (item_ends p)
+end_of macros.Declaration p = met p (left (acts.Request requests.Break))
 end_of (macros.Part letter) p = met p (part_ends p)
 end_of macros.Exits p = met p (exits p)
 end_of macros.Returns p = met p (returns p)

@@ -6,7 +6,8 @@ use Rattle.nr_mdoc.specs.declared.macros.Macro.TheVariants as macros
 use Rattle.nr_mdoc.specs.declared.macros.Font.{Font}
 use Rattle.nr_mdoc.specs.declared.macros.Font.TheVariants.{Roman, Italic}
 use Rattle.nr_mdoc.specs.declared.macros.Pair.TheVariants.{Braces}
-use Rattle.nr_mdoc.specs.declared.macros.System.TheVariants.{BsdOs}
+use Rattle.nr_mdoc.specs.declared.macros.System.{System}
+use Rattle.nr_mdoc.specs.declared.macros.System.TheVariants.{BsdOs, Beta, Developed}
 use Rattle.nr_mdoc.specs.declared.macros.TheConstants.{NAMES}
 
 -- what a table has after a name of two bytes
@@ -45,13 +46,18 @@ macro_of (a ∷ b ∷ []) = short_macro a b
 macro_of (a ∷ b ∷ c ∷ []) = long_macro a b c
 macro_of (a ∷ b ∷ c ∷ d ∷ rest) = None
 
+-- sentences are called by no word
+abbrev pub is_name : System → Bool
+is_name Beta = false
+is_name Developed = false
+is_name system = true
+
 -- macros that stand for text, joints, and those of functions and tables
 abbrev pub is_callable_too : Macro → Bool
-is_callable_too (macros.Stands x) = true
+is_callable_too (macros.Stands system) = is_name system
 is_callable_too macros.Att = true
 is_callable_too macros.Bsd = true
 is_callable_too macros.Standard = true
-is_callable_too macros.Library = true
 is_callable_too macros.Joins = true
 is_callable_too macros.Apostrophe = true
 is_callable_too macros.Prefix = true
@@ -63,7 +69,6 @@ is_callable_too macros.Link = true
 is_callable_too macros.Cell = true
 is_callable_too macros.ResultType = true
 is_callable_too macros.Variable = true
-is_callable_too macros.Declaration = true
 is_callable_too macros.Configuration = true
 is_callable_too m = false
 
@@ -74,6 +79,7 @@ is_callable macros.SectionName = true
 is_callable macros.Flag = true
 is_callable macros.Argument = true
 is_callable macros.Path = true
+is_callable macros.Mail = true
 is_callable macros.Name = true
 is_callable macros.Parameter = true
 is_callable macros.Reference = true

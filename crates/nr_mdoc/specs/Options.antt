@@ -184,6 +184,20 @@ width_or (Some width) other = width
 abbrev pub width_said : Page → ℕ
 width_said p = width_or (width_named p.word) (width_or (number_said p.word) p.call.width)
 
+-- displays have two more names for an indent
+abbrev pub offset_named : List ℕ → Option ℕ
+offset_named word =
+    if bytes_eq word (codes "left") then Some 0 else
+    if bytes_eq word (codes "indent-two") then Some 12 else None
+
+abbrev pub is_display : Macro → Bool
+is_display macros.Display = true
+is_display m = false
+
+abbrev pub offset_said : Page → ℕ
+offset_said p =
+    if is_display p.call.taker then width_or (offset_named p.word) (width_said p) else width_said p
+
 abbrev pub wanting : Wanted → Block → Page → Page
 wanting w b p = record p { call = record p.call { wanted = w }; block = b }
 
@@ -193,7 +207,7 @@ wide p = none (wanting wanteds.Option (record p.block { width = Some (at_most 90
 abbrev pub indented : Page → Met
 indented p =
     none (wanting wanteds.Option
-    (record p.block { offset = at_most 900 p.block.offset + at_most 90 (width_said p) }) p)
+    (record p.block { offset = at_most 900 p.block.offset + at_most 90 (offset_said p) }) p)
 
 abbrev pub wants : Wanted → Page → Met
 wants w p = none (record p { call = record p.call { wanted = w } })

@@ -1,10 +1,13 @@
 -- Lines of their own: requests, the title and headings.
 use Rattle.std.specs.Prelude.{ℕ, ◌+◌, ◌-◌, ◌/◌, ◌%◌, List, [], ◌∷◌, ◌++◌, length, Bool, true, false, not, ◌==◌, ◌&&◌, nat_lt, if◌then◌else◌, slice_index, codes}
+use Rattle.std.specs.Str.{bytes_eq}
 use Prim.Native.Char.{code}
 use Rattle.nr_mdoc.specs.declared.acts.Request.{Request}
 use Rattle.nr_mdoc.specs.declared.acts.Request.TheVariants as requests
 use Rattle.nr_mdoc.specs.declared.acts.Sized.{Sized}
 use Rattle.nr_mdoc.specs.declared.acts.Sized.TheVariants as sizes
+use Rattle.nr_mdoc.specs.declared.macros.Macro.{Macro}
+use Rattle.nr_mdoc.specs.declared.macros.Macro.TheVariants as macros
 use Rattle.nr_mdoc.specs.declared.page.At.{At}
 use Rattle.nr_mdoc.specs.declared.page.At.TheVariants.{Start, Middle, Ended}
 use Rattle.nr_mdoc.specs.declared.page.Page.{Page}
@@ -52,6 +55,14 @@ end_tag width p =
     laid (fresh p) (line_end p ++ codes ".br\n.if \\n(nl-\\n(%tu=1v&(\\n(.nu<=" ++ digits width
     ++ codes "n) \\{\\\n.sp -1\n\\&\\c\n.\\}\n")
 
+-- The same, where text goes on behind it: a tag that is wider than this by more than one, or of several lines, has it a blank behind
+-- its last line.
+abbrev pub end_hang : ℕ → Page → Laid
+end_hang width p =
+    laid (fresh p) (line_end p ++ codes ".br\n.nr %h \\n(.nu-" ++ digits width
+    ++ codes "n-1n\n.if \\n(nl-\\n(%tu>1v .nr %h \\n(.nu+1n\n.sp -1\n"
+    ++ codes ".if \\n(%h>0 .ti +\\n(%hu\n\\&\\c\n")
+
 abbrev pub quiet : Page → Page
 quiet p = with_lay (record p.lay { quiet = true }) p
 
@@ -73,7 +84,6 @@ put_request request p = laid (fresh p) (line_end p ++ request_of request)
 abbrev pub was_sized : Sized → Page → Page
 was_sized sizes.Indent p = p
 was_sized sizes.Inner p = p
-was_sized sizes.Tagged p = with_lay (record p.lay { tag = true }) p
 was_sized sizes.Tag p = with_lay (record p.lay { tag = true }) p
 was_sized sizes.Hanging p = quiet p
 was_sized sized p = loud p
@@ -116,10 +126,23 @@ put_title p =
     (line_end p ++ codes ".TH " ++ p.title ++ codes " " ++ p.chapter ++ codes " \"" ++ (put_date p).bytes
     ++ codes "\" \"")
 
+abbrev pub names_system : Macro → Bool
+names_system macros.System = true
+names_system m = false
+
+-- what stands for a system without a name
+abbrev pub other_system : Page → List ℕ
+other_system p = if names_system p.call.line && not p.call.some then codes "\\*()O" else []
+
+-- the manual, where that of its section has another name in pages of mdoc
+abbrev pub manual : Page → List ℕ
+manual p = if bytes_eq p.chapter (codes "4") then codes " \"Device Drivers Manual\"" else []
+
+-- the system stands on both sides of the footer
 abbrev pub end_title : Page → Laid
 end_title p =
     laid (with_lay (record p.lay { at = Start; joined = false; quiet = true }) p)
-    (codes "\"\n.nr IN 5n\n.ad l\n")
+    (other_system p ++ codes "\"" ++ manual p ++ codes "\n.ds )9 \\*()4\n.nr IN 5n\n.ad l\n")
 
 -- ---- headings, and requests of the page itself
 

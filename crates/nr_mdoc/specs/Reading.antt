@@ -75,6 +75,7 @@ first_lay = record {
   quiet = true;
   font = Roman;
   front = false;
+  bare = false;
 }
 
 abbrev pub first_place : Place

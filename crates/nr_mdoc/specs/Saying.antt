@@ -7,7 +7,8 @@ use Rattle.nr_mdoc.specs.declared.macros.Font.{Font}
 use Rattle.nr_mdoc.specs.declared.macros.Font.TheVariants.{Roman, Bold}
 use Rattle.nr_mdoc.specs.declared.page.Page.{Page}
 use Rattle.nr_mdoc.specs.declared.seen.Seen.{Seen}
-use Rattle.nr_mdoc.specs.Laying.{gap, first_in, first_of, before_hyphen, is_joined, was_put, end_word, word_end}
+use Rattle.nr_mdoc.specs.Columns.{begins_row, put_row}
+use Rattle.nr_mdoc.specs.Laying.{laid, gap, first_in, first_of, before_hyphen, is_joined, was_put, end_word, word_end}
 use Rattle.nr_mdoc.specs.LayingOut.{lay_out}
 use Rattle.nr_mdoc.specs.Reading.{State, once, heard}
 use Rattle.nr_mdoc.specs.Scanning.{meet}
@@ -27,6 +28,11 @@ part_word joined font p =
     part (gap joined (first_in font p.word) p ++ font_begin font ++ before_hyphen p.word) p.word
     (end_word font (was_put p)).bytes
 
+abbrev pub part_begin : ℕ → Page → Part
+part_begin b p =
+    let l = if begins_row p then put_row p else laid p [] in
+    part (l.bytes ++ gap l.page.lay.joined b l.page) (b ∷ []) []
+
 abbrev pub part_flag : Page → Part
 part_flag p =
     part (gap (is_joined p) (code "\\") p ++ codes "\\fB\\-" ++ before_hyphen p.word) p.word
@@ -42,13 +48,13 @@ part_release p =
 abbrev pub part_of : Act → Page → Part
 part_of (acts.Byte b) p = part [] (b ∷ []) []
 part_of acts.Hyphen p = part (codes "\\") (codes "-") []
-part_of (acts.Begin b) p = part (gap p.lay.joined b p) (b ∷ []) []
+part_of (acts.Begin b) p = part_begin b p
 part_of (acts.Word font) p = part_word (is_joined p) font p
 part_of (acts.Joined font) p = part_word true font p
 part_of acts.Flag p = part_flag p
 part_of acts.Release p = part_release p
 part_of acts.More p = part (before_hyphen p.word) p.word []
-part_of acts.LastMore p = part (before_hyphen p.word) p.word (word_end p.lay.font p ++ font_end p.lay.font)
+part_of acts.LastMore p = part (before_hyphen p.word) p.word (word_end p ++ font_end p.lay.font)
 part_of acts.Marks p = part (gap true (first_of p.marks) p) p.marks []
 part_of act p = part (lay_out act p).bytes [] []
 

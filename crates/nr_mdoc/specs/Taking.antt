@@ -158,9 +158,9 @@ abbrev pub include : Page → Met
 include p =
     if p.lay.front then
     met (behind_later behinds.Angle (takes_no_more p))
-    (two (acts.Text (texts.Opening pairs.Angles)) (acts.Joined Italic)) else
+    (two (acts.Text (texts.Opening pairs.Signs)) (acts.Joined Italic)) else
     met (takes_no_more p)
-    (three (acts.Text (texts.Opening pairs.Angles)) (acts.Joined Italic)
+    (three (acts.Text (texts.Opening pairs.Signs)) (acts.Joined Italic)
     (acts.Close (texts.Closing (code ">"))))
 
 -- A link stands behind its name: a string keeps it meanwhile, where its line may be broken off.
@@ -201,6 +201,7 @@ taken_by (macros.Part letter) p = met p (left (acts.Word (part_font letter)))
 taken_by macros.Flag p = met p (left acts.Flag)
 taken_by macros.Argument p = met p (left (acts.Word Italic))
 taken_by macros.Path p = met p (left (acts.Word Italic))
+taken_by macros.Mail p = met p (left (acts.Word Italic))
 taken_by macros.Variable p = met p (left (acts.Word Italic))
 taken_by macros.ResultType p = met p (left (acts.Word Italic))
 taken_by macros.Declaration p = met p (left (acts.Word Bold))

@@ -31,7 +31,8 @@ font_end Italic = codes "\\fR"
 -- what opens an enclosure
 abbrev pub opening : Pair → List ℕ
 opening pairs.Brackets = codes "["
-opening pairs.Angles = codes "<"
+opening pairs.Angles = codes "\\(la"
+opening pairs.Signs = codes "<"
 opening pairs.Braces = codes "{"
 opening pairs.Parentheses = codes "("
 opening pairs.DoubleQuotes = codes "\\(lq"
@@ -42,7 +43,8 @@ opening pairs.Nothing = []
 -- what closes it: the mark itself, or the letter of its escape
 abbrev pub closer : Pair → ℕ
 closer pairs.Brackets = code "]"
-closer pairs.Angles = code ">"
+closer pairs.Angles = code "a"
+closer pairs.Signs = code ">"
 closer pairs.Braces = code "}"
 closer pairs.Parentheses = code ")"
 closer pairs.DoubleQuotes = code "r"
@@ -57,6 +59,7 @@ closing b =
     if b == code ">" then codes ">" else
     if b == code "}" then codes "}" else
     if b == code ")" then codes ")" else
+    if b == code "a" then codes "\\(ra" else
     if b == code "r" then codes "\\(rq" else
     if b == code "c" then codes "\\(cq" else
     codes "\""
@@ -117,7 +120,10 @@ request_of requests.Distance = codes ".PD\n"
 request_of requests.Tabs = codes ".DT\n"
 request_of requests.IndentEnds = codes ".RE\n"
 request_of requests.Literal = codes ".nf\n.ta 8n 16n 24n 32n 40n 48n 56n 64n 72n 80n 88n 96n 104n 112n 120n 128n 136n 144n 152n 160n 168n 176n 184n 192n 200n 208n 216n 224n 232n 240n 248n 256n\n"
+request_of requests.Unfilled = codes ".nf\n.DT\n"
+request_of requests.Centered = codes ".nf\n.ce 9999\n"
 request_of requests.LiteralEnds = codes ".fi\n.DT\n"
+request_of requests.CenteredEnds = codes ".ce 0\n.fi\n"
 request_of requests.Hangs = codes ".in +4n\n.ti -4n\n"
 request_of requests.HangEnds = codes ".br\n.in -4n\n"
 request_of requests.Link = codes ".ds %L \""
@@ -128,9 +134,8 @@ request_of (requests.Font Italic) = codes ".ft I\n"
 -- what stands before the number of a request
 abbrev pub sized_of : Sized → List ℕ
 sized_of sizes.Indent = codes ".RS "
-sized_of sizes.Bullet = codes ".PD 0\n.IP \\(bu "
-sized_of sizes.Dash = codes ".PD 0\n.IP \\- "
+sized_of sizes.Bullet = codes ".PD 0\n.IP \\fB\\(bu\\fP "
+sized_of sizes.Dash = codes ".PD 0\n.IP \\fB\\-\\fP "
 sized_of sizes.Inner = codes ".in +"
-sized_of sizes.Tagged = codes ".PD 0\n.TP "
 sized_of sizes.Tag = codes ".PD 0\n.HP "
 sized_of sizes.Hanging = codes ".PD 0\n.HP "

@@ -14,7 +14,7 @@ use Rattle.nr_mdoc.specs.Lines.{ends_joined}
 use Rattle.nr_mdoc.specs.Macros.{macro_of}
 use Rattle.nr_mdoc.specs.Reading.{State, behind, fed, heard_in}
 use Rattle.nr_mdoc.specs.Saying.{parts_of, state_behind, text_of, words_of}
-use Rattle.nr_mdoc.specs.WrittenLines.{each, names_no_string, is_text, begins_text, is_plain, heads_words, Usual, way_of, Word, are_written, is_first, headed, line_of, printed_as, opens_block, Line, AskingLine, are_lines, written_line, written_lines, printed_lines}
+use Rattle.nr_mdoc.specs.WrittenLines.{each, names_no_string, is_text, begins_text, is_plain, heads_words, is_mute, way_of, Word, are_written, is_first, headed, way_headed, line_of, printed_as, opens_block, Line, AskingLine, are_lines, written_line, written_lines, printed_line}
 
 -- ---- words
 
@@ -35,23 +35,23 @@ TextIsSaid =
     Says (reads_at scans.Start s) (b ∷ bs ++ codes "\n") (b ∷ bs)
 
 -- In any state where no marks are held back, a line of a macro says those of its words that call no macro and are no options,
--- each once and in order, with words between quotes, whose blanks stay together or not.
+-- each once and in order, with words between quotes, whose blanks stay together or not. Where the words call none, it says all.
 abbrev pub WordsAreSaid : Type 0
 WordsAreSaid =
     (s : State) (m : Macro) (name : List ℕ) (words : List Word) → s.page.marks ≡ [] →
     macro_of name ≡ Some m → heads_words m ≡ true → each is_plain name ≡ true
-    → are_written (way_of m) words ≡ true →
+    → are_written (is_mute s.page.block m) (way_of m) words ≡ true →
     (wholes : List Bool) × Says (reads_at scans.Start s) (line_of name words)
-    (printed_as (way_of m) wholes words)
+    (printed_as (is_mute s.page.block m) (way_of m) wholes words)
 
--- and a heading, whose first word calls nothing, and keeps its hyphens
+-- and a heading, whose first word keeps its hyphens, or calls a macro
 abbrev pub HeadingsAreSaid : Type 0
 HeadingsAreSaid =
     (s : State) (first : Word) (words : List Word) → s.page.marks ≡ [] →
-    is_first first ≡ true → are_written Usual words ≡ true →
+    is_first first ≡ true → are_written false (way_headed first) words ≡ true →
     (wholes : List Bool) ×
     Says (reads_at scans.Start s) (line_of (codes "Sh") (first ∷ words))
-    (headed first ++ printed_as Usual wholes words)
+    (headed first ++ printed_as false (way_headed first) wholes words)
 
 -- fewer than sixty-four lists and displays are open around the innermost where one of these lines begins another
 abbrev pub opens_some : Option Macro → Bool
@@ -67,13 +67,21 @@ has_room s [] = true
 has_room s (l ∷ ls) =
     (not (begins_block l) || nat_lt (length s.blocks) 64) && has_room (state_behind s (written_line l)) ls
 
+-- what they say, where the blanks of these words between quotes stay together
+abbrev pub printed_lines : List (List Bool) → State → List Line → List ℕ
+printed_lines wholes s [] = []
+printed_lines [] s (l ∷ ls) =
+    printed_line [] s.page.block l ++ printed_lines [] (state_behind s (written_line l)) ls
+printed_lines (whole ∷ wholes) s (l ∷ ls) =
+    printed_line whole s.page.block l ++ printed_lines wholes (state_behind s (written_line l)) ls
+
 -- in any state where no marks are held back, lines that follow one another say what each of them says, in order
 abbrev pub LinesAreSaid : Type 0
 LinesAreSaid =
     (s : State) (lines : List Line) → s.page.marks ≡ [] → are_lines lines ≡ true
     → has_room (reads_at scans.Start s) lines ≡ true →
     (wholes : List (List Bool)) × Says (reads_at scans.Start s) (written_lines lines)
-    (printed_lines wholes lines)
+    (printed_lines wholes (reads_at scans.Start s) lines)
 
 -- ---- enclosures of a line
 

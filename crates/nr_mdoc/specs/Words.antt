@@ -1,5 +1,5 @@
 -- A word is whole (mdoc(7), MACRO SYNTAX): it is a closing mark, calls a macro, or is read for one.
-use Rattle.std.specs.Prelude.{ℕ, List, [], ◌∷◌, ◌++◌, length, Bool, true, false, not, ◌==◌, ◌&&◌, ◌||◌, if◌then◌else◌, Option, None, Some}
+use Rattle.std.specs.Prelude.{ℕ, List, [], ◌∷◌, ◌++◌, length, Bool, true, false, not, ◌==◌, ◌&&◌, ◌||◌, if◌then◌else◌, Option, None, Some, is_some}
 use Prim.Native.Char.{code}
 use Rattle.nr_mdoc.specs.declared.acts.Act.TheVariants as acts
 use Rattle.nr_mdoc.specs.declared.acts.Text.TheVariants as texts
@@ -16,7 +16,7 @@ use Rattle.nr_mdoc.specs.declared.page.Scan.{Scan}
 use Rattle.nr_mdoc.specs.declared.page.Scan.TheVariants as scans
 use Rattle.nr_mdoc.specs.declared.seen.Seen.{Seen}
 use Rattle.nr_mdoc.specs.Calls.{called_by, with_call, with_scan, seen_with, is_none, is_enclosure_due, is_due, leaves, call}
-use Rattle.nr_mdoc.specs.Options.{option, reads_options}
+use Rattle.nr_mdoc.specs.Options.{is_heading, option, reads_options}
 use Rattle.nr_mdoc.specs.Seeing.{Met, met, left, two, three}
 use Rattle.nr_mdoc.specs.Taking.{prefix, argument}
 
@@ -74,6 +74,7 @@ abbrev pub begins_anew : Macro → Bool
 begins_anew macros.Flag = true
 begins_anew macros.Argument = true
 begins_anew macros.Path = true
+begins_anew macros.Mail = true
 begins_anew macros.Name = true
 begins_anew m = false
 
@@ -99,7 +100,7 @@ read_or_called (Some m) quoted p = call m p
 unfoldable pub unmarked : Bool → Page → Met
 unmarked quoted p =
     if not (is_none p.marks) then met p (left acts.Marks)
-    else read_or_called (called_by quoted p.word) quoted p
+    else read_or_called (called_by (quoted || p.call.plain) p.word) quoted p
 
 abbrev pub marked_or : Option ℕ → Bool → Page → Met
 marked_or None quoted p = unmarked quoted p
@@ -133,9 +134,14 @@ ends_long p =
     })
     (behind_long p.call.behind)
 
+-- the first word of a section's heading calls a macro
+abbrev pub heading_calls : Bool → Page → Bool
+heading_calls quoted p = is_heading p.call.taker && is_some (called_by quoted p.word)
+
 abbrev pub given : Bool → Page → Met
 given quoted p =
-    if p.call.going then ends_long p else if reads_options p then option p else parsed quoted p
+    if p.call.going then ends_long p else
+    if reads_options p && not (heading_calls quoted p) then option p else parsed quoted p
 
 -- ---- words longer than what is kept of one
 

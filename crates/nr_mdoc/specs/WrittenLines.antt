@@ -1,12 +1,15 @@
 -- Lines as they are written: text lines, and lines of macros with their words.
-use Rattle.std.specs.Prelude.{ℕ, List, [], ◌∷◌, ◌++◌, Bool, true, false, not, ◌==◌, ◌&&◌, if◌then◌else◌, codes, Option, None, Some}
+use Rattle.std.specs.Prelude.{ℕ, List, [], ◌∷◌, ◌++◌, Bool, true, false, not, ◌==◌, ◌&&◌, ◌||◌, if◌then◌else◌, codes, Option, None, Some}
 use Rattle.std.specs.Str.{bytes_eq}
 use Prim.Native.Char.{code}
 use Rattle.nr_mdoc.specs.declared.macros.Macro.{Macro}
 use Rattle.nr_mdoc.specs.declared.macros.Macro.TheVariants as macros
+use Rattle.nr_mdoc.specs.declared.page.Block.{Block}
+use Rattle.nr_mdoc.specs.Blocks.{is_diagnosis}
 use Rattle.nr_mdoc.specs.Calls.{called_by}
 use Rattle.nr_mdoc.specs.Keeping.{ends_word, is_title}
 use Rattle.nr_mdoc.specs.Laying.{is_control}
+use Rattle.nr_mdoc.specs.Lines.{calls_none}
 use Rattle.nr_mdoc.specs.Macros.{is_callable, macro_of}
 use Rattle.nr_mdoc.specs.Options.{is_heading}
 
@@ -180,33 +183,41 @@ abbrev pub none_or : (Macro → Bool) → Option Macro → Bool
 none_or test None = true
 none_or test (Some m) = test m
 
--- a word that calls no macro, or one that prints its words as they stand
-abbrev pub is_word : Way → List Letter → Bool
-is_word way [] = false
-is_word way (l ∷ ls) =
-    are_letters false (l ∷ ls) && none_or prints_words (called_by false (kept way false (l ∷ ls)))
+abbrev pub is_item : Macro → Bool
+is_item macros.Item = true
+is_item m = false
 
-abbrev pub is_written : Way → Word → Bool
-is_written way (Bare letters) = is_word way letters
-is_written way (Quoted letters) = are_letters true letters
+-- the words of this macro's line call none: so do those of an item's head in a list of `-diag`
+abbrev pub is_mute : Block → Macro → Bool
+is_mute block m = calls_none m || (is_item m && is_diagnosis block.kind)
+
+-- a word that calls no macro, where words may, or one that prints its words as they stand
+abbrev pub is_word : Bool → Way → List Letter → Bool
+is_word mute way [] = false
+is_word mute way (l ∷ ls) =
+    are_letters false (l ∷ ls) && none_or prints_words (called_by mute (kept way false (l ∷ ls)))
+
+abbrev pub is_written : Bool → Way → Word → Bool
+is_written mute way (Bare letters) = is_word mute way letters
+is_written mute way (Quoted letters) = are_letters true letters
 
 -- words behind one that calls a macro are taken as that takes them
 abbrev pub way_behind : Way → Option Macro → Way
 way_behind way None = way
 way_behind way (Some m) = way_of m
 
-abbrev pub way_then : Way → Word → Way
-way_then way (Bare letters) = way_behind way (called_by false (kept way false letters))
-way_then way (Quoted letters) = way
+abbrev pub way_then : Bool → Way → Word → Way
+way_then mute way (Bare letters) = way_behind way (called_by mute (kept way false letters))
+way_then mute way (Quoted letters) = way
 
 -- a word that calls a macro is not printed
 abbrev pub unless_called : Way → Option Macro → List ℕ → List ℕ
 unless_called way None word = said_of way word
 unless_called way (Some m) word = []
 
-abbrev pub are_written : Way → List Word → Bool
-are_written way [] = true
-are_written way (w ∷ ws) = is_written way w && are_written (way_then way w) ws
+abbrev pub are_written : Bool → Way → List Word → Bool
+are_written mute way [] = true
+are_written mute way (w ∷ ws) = is_written mute way w && are_written mute (way_then mute way w) ws
 
 abbrev pub written_word : Word → List ℕ
 written_word (Bare letters) = written false letters
@@ -219,25 +230,31 @@ behind_each (w ∷ ws) = codes " " ++ written_word w ++ behind_each ws
 abbrev pub line_of : List ℕ → List Word → List ℕ
 line_of name words = codes "." ++ name ++ behind_each words ++ codes "\n"
 
--- a heading, by its words, of which the first calls nothing
+-- the first word of a heading, which is printed as it is, or calls a macro
 abbrev pub is_first : Word → Bool
-is_first (Bare []) = false
-is_first (Bare letters) = are_letters false letters
+is_first (Bare letters) = is_word false Headed letters
 is_first (Quoted letters) = are_letters true letters
 
 abbrev pub headed : Word → List ℕ
-headed (Bare letters) = kept Headed false letters
+headed (Bare letters) =
+    let word = kept Headed false letters in unless_called Headed (called_by false word) word
 headed (Quoted letters) = kept Headed false letters
 
--- what they say, where the blanks of these words between quotes stay together
-abbrev pub printed_as : Way → List Bool → List Word → List ℕ
-printed_as way wholes [] = []
-printed_as way wholes (Bare letters ∷ ws) =
+-- how the others are taken
+abbrev pub way_headed : Word → Way
+way_headed (Bare letters) = way_behind Usual (called_by false (kept Headed false letters))
+way_headed (Quoted letters) = Usual
+
+-- what words say, where the blanks of these words between quotes stay together
+abbrev pub printed_as : Bool → Way → List Bool → List Word → List ℕ
+printed_as mute way wholes [] = []
+printed_as mute way wholes (Bare letters ∷ ws) =
     let word = kept way false letters in
-    unless_called way (called_by false word) word ++ printed_as (way_then way (Bare letters)) wholes ws
-printed_as way [] (Quoted letters ∷ ws) = said_of way (kept way false letters) ++ printed_as way [] ws
-printed_as way (whole ∷ wholes) (Quoted letters ∷ ws) =
-    said_of way (kept way whole letters) ++ printed_as way wholes ws
+    unless_called way (called_by mute word) word ++ printed_as mute (way_then mute way (Bare letters)) wholes ws
+printed_as mute way [] (Quoted letters ∷ ws) =
+    said_of way (kept way false letters) ++ printed_as mute way [] ws
+printed_as mute way (whole ∷ wholes) (Quoted letters ∷ ws) =
+    said_of way (kept way whole letters) ++ printed_as mute way wholes ws
 
 -- ---- lines whose words are read for what they ask
 
@@ -284,6 +301,14 @@ abbrev pub asks_some : Option Macro → Bool
 asks_some None = false
 asks_some (Some m) = asks m
 
+abbrev pub mute_named : Block → Option Macro → Bool
+mute_named block None = false
+mute_named block (Some m) = is_mute block m
+
+abbrev pub none_named : Option Macro → Bool
+none_named None = false
+none_named (Some m) = calls_none m
+
 abbrev pub way_named : Option Macro → Way
 way_named None = Usual
 way_named (Some m) = way_of m
@@ -292,9 +317,10 @@ abbrev pub is_line : Line → Bool
 is_line EmptyLine = true
 is_line (CommentLine bs) = each is_text bs && names_no_string bs
 is_line (TextLine b bs) = begins_text b && each is_text bs && names_no_string (b ∷ bs)
-is_line (HeadingLine first words) = is_first first && are_written Usual words
+is_line (HeadingLine first words) = is_first first && are_written false (way_headed first) words
 is_line (MacroLine name words) =
-    heads_some (macro_of name) && each is_plain name && are_written (way_named (macro_of name)) words
+    heads_some (macro_of name) && each is_plain name
+    && are_written (none_named (macro_of name)) (way_named (macro_of name)) words
 is_line (AskingLine name rest) =
     asks_some (macro_of name) && each is_plain name && begins_blank rest && are_asking rest
 
@@ -314,16 +340,13 @@ abbrev pub written_lines : List Line → List ℕ
 written_lines [] = []
 written_lines (l ∷ ls) = written_line l ++ written_lines ls
 
--- what they say, where the blanks of these words between quotes stay together
-abbrev pub printed_line : List Bool → Line → List ℕ
-printed_line wholes EmptyLine = []
-printed_line wholes (CommentLine bs) = []
-printed_line wholes (TextLine b bs) = b ∷ bs
-printed_line wholes (HeadingLine first words) = headed first ++ printed_as Usual wholes words
-printed_line wholes (MacroLine name words) = printed_as (way_named (macro_of name)) wholes words
-printed_line wholes (AskingLine name rest) = []
-
-abbrev pub printed_lines : List (List Bool) → List Line → List ℕ
-printed_lines wholes [] = []
-printed_lines [] (l ∷ ls) = printed_line [] l ++ printed_lines [] ls
-printed_lines (whole ∷ wholes) (l ∷ ls) = printed_line whole l ++ printed_lines wholes ls
+-- what one says within this block, where the blanks of these words between quotes stay together
+abbrev pub printed_line : List Bool → Block → Line → List ℕ
+printed_line wholes block EmptyLine = []
+printed_line wholes block (CommentLine bs) = []
+printed_line wholes block (TextLine b bs) = b ∷ bs
+printed_line wholes block (HeadingLine first words) =
+    headed first ++ printed_as false (way_headed first) wholes words
+printed_line wholes block (MacroLine name words) =
+    printed_as (mute_named block (macro_of name)) (way_named (macro_of name)) wholes words
+printed_line wholes block (AskingLine name rest) = []

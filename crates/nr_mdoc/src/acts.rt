@@ -77,8 +77,14 @@ pub(crate) enum Request {
     IndentEnds,
     /// Lines stay, with the tab stops of programs.
     Literal,
+    /// Lines stay, with the tab stops of the macro file.
+    Unfilled,
+    /// Lines stay, each in the middle.
+    Centered,
     /// They stay no more.
     LiteralEnds,
+    /// They stand in the middle no more.
+    CenteredEnds,
     /// A line hangs.
     Hangs,
     /// It ends.
@@ -100,8 +106,6 @@ pub(crate) enum Sized {
     Dash,
     /// Text goes on, further to the right.
     Inner,
-    /// A tag is the next line.
-    Tagged,
     /// A tag hangs.
     Tag,
     /// A paragraph hangs.
@@ -165,6 +169,10 @@ pub(crate) enum Act {
     Tag(u16),
     /// A tag is whole: one wider than so many ens, or of several lines, stands alone.
     TagEnds(u16),
+    /// A tag is whole, behind which text goes on: one wider than so many ens has it a blank further to the right.
+    HangEnds(u16),
+    /// The head of an item ends, which stays on one line with the first word behind it.
+    HeadEnds,
     /// The same, and nothing was put since space was made.
     Quiet,
     /// Space as before a paragraph, once.

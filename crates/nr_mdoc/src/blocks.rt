@@ -3,7 +3,7 @@ ghost use Rattle.std.specs.Prelude.{◌≡◌, ◌≤◌};
 ghost use Rattle.nr_mdoc.specs.Seeing.{met};
 ghost use Rattle.nr_mdoc.specs.Blocks as specs;
 
-use super::acts::{Act, Request, Sized, Stack, Text};
+use super::acts::{Act, Request, Sized, Stack};
 use super::columns::{gap, hang_of};
 use super::macros::{Font, Macro};
 use super::options::at_most;
@@ -46,7 +46,10 @@ fn fresh_block(kind: Kind, offset: u16) -> Block
 fn is_list(kind: Kind) -> bool
     ensures { result ≡ specs.is_list kind }
 {
-    !matches!(kind, Kind::Page | Kind::Filled | Kind::Literal)
+    !matches!(
+        kind,
+        Kind::Page | Kind::Filled | Kind::Literal | Kind::Unfilled | Kind::Centered
+    )
 }
 
 /// Its items have tags.
@@ -152,11 +155,20 @@ impl Page {
     {
         let space = space(self.block.compact);
         let indent = self.indent();
-        if matches!(self.block.kind, Kind::Literal) {
-            self.lay.literal = true;
-            return Seen::three(space, indent, Act::Request(Request::Literal));
+        match self.block.kind {
+            Kind::Literal => self.literal(space, indent, Request::Literal),
+            Kind::Unfilled => self.literal(space, indent, Request::Unfilled),
+            Kind::Centered => self.literal(space, indent, Request::Centered),
+            _ => Seen::two(space, indent),
         }
-        Seen::two(space, indent)
+    }
+
+    /// Its lines stay.
+    fn literal(&mut self, space: Act, indent: Act, request: Request) -> Seen
+        ensures { met self.new result ≡ specs.literal space indent request self.old }
+    {
+        self.lay.literal = true;
+        Seen::three(space, indent, Act::Request(request))
     }
 
     /// A list ends.
@@ -180,13 +192,19 @@ impl Page {
     {
         let end = Act::Request(Request::IndentEnds);
         match self.block.kind {
-            Kind::Literal => {
-                self.lay.literal = false;
-                Seen::two(Act::Request(Request::LiteralEnds), end).with(Stack::Closes)
-            }
+            Kind::Literal | Kind::Unfilled => self.literal_ends(Request::LiteralEnds),
+            Kind::Centered => self.literal_ends(Request::CenteredEnds),
             Kind::Filled => Seen::left(end).with(Stack::Closes),
             _ => Seen::left(Act::Nothing),
         }
+    }
+
+    /// Lines stay no more.
+    fn literal_ends(&mut self, request: Request) -> Seen
+        ensures { met self.new result ≡ specs.literal_ends request self.old }
+    {
+        self.lay.literal = false;
+        Seen::two(Act::Request(request), Act::Request(Request::IndentEnds)).with(Stack::Closes)
     }
 
     /// The item around what ended goes on.
@@ -230,17 +248,28 @@ impl Page {
         self.counts();
         if matches!(self.block.kind, Kind::Diagnosis) {
             self.call.taker = Macro::Words(Font::Bold);
+            self.call.plain = true;
         }
         Seen::two(before, self.item_head())
     }
 
-    /// What stands before an item: space, unless the list is compact.
+    /// The item before has a head alone, in a list of `-diag`.
+    fn is_bare(&self) -> bool
+        ensures { result ≡ specs.is_bare self.now }
+    {
+        self.lay.bare && matches!(self.block.kind, Kind::Diagnosis)
+    }
+
+    /// What stands before an item: space, unless the list is compact, or the item before has no text.
     fn before_item(&self) -> Act
         ensures { result ≡ specs.before_item self.now }
     {
         let close = self.block.compact || matches!(self.block.kind, Kind::Column);
         if close || !self.block.begun {
             return space(close);
+        }
+        if self.is_bare() {
+            return Act::Fresh;
         }
         Act::Request(Request::Space)
     }
@@ -255,7 +284,7 @@ impl Page {
             Kind::Dash => Act::Sized(Sized::Dash, width),
             Kind::Number => Act::Numbered(self.block.items, width),
             Kind::Tag => Act::Tag(width),
-            Kind::Hang => Act::Sized(Sized::Tagged, width),
+            Kind::Hang => Act::Tag(width),
             Kind::Column => Act::Row,
             _ => Act::Request(Request::Break),
         }
@@ -267,6 +296,7 @@ impl Page {
     {
         match self.block.kind {
             Kind::Tag => Act::TagEnds(tag_width(self.block) - 2),
+            Kind::Hang => Act::HangEnds(tag_width(self.block) - 2),
             _ => Act::Fresh,
         }
     }
@@ -277,7 +307,7 @@ impl Page {
     {
         match self.block.kind {
             Kind::Overhang => Seen::left(Act::Request(Request::Break)),
-            Kind::Diagnosis => Seen::left(Act::Close(Text::FixedSpace)),
+            Kind::Diagnosis => Seen::left(Act::HeadEnds),
             _ => Seen::left(Act::Nothing),
         }
     }

@@ -8,6 +8,7 @@ use super::macros::{Font, Macro, Pair, macro_of};
 use super::page::{Last, Page, Parameters, Scan, Section};
 use super::seen::Seen;
 use super::texts::closer;
+use nr_units::Name;
 
 /// How many enclosures a line may have open.
 const MOST_CLOSERS: usize = 8;
@@ -30,6 +31,14 @@ pub(crate) fn hanging(width: u16) -> u16
     if width < 900 { width + 1 } else { 900 }
 }
 
+/// Whether the last enclosure is one of angle brackets.
+fn ends_in_angle(closers: &[u8]) -> bool
+    ensures { result ≡ specs.ends_in_angle closers.now }
+{
+    let len = closers.len();
+    len > 0 && closers[len - 1] == b'a'
+}
+
 impl Page {
     /// In the synopsis.
     pub(crate) fn is_synopsis(&self) -> bool
@@ -43,9 +52,8 @@ impl Page {
         ensures { result ≡ specs.is_due self.now }
     {
         match self.call.taker {
-            Macro::Flag | Macro::Argument | Macro::Path | Macro::Att | Macro::Bsd => !self
-                .call
-                .some,
+            Macro::Flag | Macro::Argument | Macro::Path | Macro::Mail | Macro::Att | Macro::Bsd =>
+                !self.call.some,
             Macro::Name => !self.call.some && !self.name.is_empty(),
             Macro::Function | Macro::Link => self.call.some,
             _ => self.is_enclosure_due(),
@@ -98,7 +106,7 @@ impl Page {
         match self.call.taker {
             Macro::Flag => Seen::left(Act::Text(Text::Dash)),
             Macro::Argument => Seen::two(Act::Text(Text::File), Act::Text(Text::Dots)),
-            Macro::Path => Seen::left(Act::Text(Text::Home)),
+            Macro::Path | Macro::Mail => Seen::left(Act::Text(Text::Home)),
             Macro::Att => Seen::left(Act::Text(Text::Att)),
             Macro::Bsd => Seen::left(Act::Text(Text::Bsd)),
             Macro::Name => self.own_name(),
@@ -154,12 +162,37 @@ impl Page {
         if !self.is_due() {
             return self.calls(called);
         }
+        if self.encloses_address(called) {
+            return self.opens_address();
+        }
         let joins = matches!(self.call.taker, Macro::Flag);
         let mut seen = self.leaves();
         if joins {
             seen.second = Act::Join;
         }
         seen
+    }
+
+    /// An address of mail comes first in what angle brackets would enclose.
+    fn encloses_address(&self, called: Macro) -> bool
+        ensures { result ≡ specs.encloses_address called self.now }
+    {
+        matches!(self.call.taker, Macro::Encloses(Pair::Angles))
+            && matches!(called, Macro::Mail)
+            && ends_in_angle(self.closers.as_bytes())
+    }
+
+    /// Signs enclose it.
+    fn opens_address(&mut self) -> Seen
+        requires { specs.has_closer self.old }
+        ensures { met self.new result ≡ specs.opens_address self.old }
+    {
+        let closers = self.closers;
+        let bytes = closers.as_bytes();
+        self.closers = Name::of(&bytes[..bytes.len() - 1]);
+        self.closers.push(closer(Pair::Signs));
+        self.takes_no_more();
+        Seen::two(Act::Text(Text::Opening(Pair::Signs)), Act::Join)
     }
 
     /// A macro takes the words that follow, or stands for text.
@@ -221,7 +254,7 @@ impl Page {
         Seen::left(Act::Nothing)
     }
 
-    /// It ends.
+    /// It ends, and no sentence with it.
     fn closes(&mut self, pair: Pair) -> Seen
         ensures { met self.new result ≡ specs.closes pair self.old }
     {
@@ -231,6 +264,9 @@ impl Page {
         if matches!(pair, Pair::Nothing) {
             return Seen::left(Act::Apart);
         }
-        Seen::left(Act::Close(Text::Closing(closer(pair))))
+        Seen::two(
+            Act::Close(Text::Closing(closer(pair))),
+            Act::Close(Text::Empty),
+        )
     }
 }

@@ -5,7 +5,7 @@ ghost use Rattle.nr_mdoc.specs.Columns as specs;
 use super::acts::Sized;
 use super::options::at_most;
 use super::own_lines::put_number;
-use super::page::{Block, Page};
+use super::page::{Block, Kind, Page};
 use nr_vectors::slice_vec::SliceVec;
 
 /// Whether no line is broken in a cell, since it stands before the last of its columns.
@@ -83,6 +83,13 @@ impl Page {
         out.extend(b".nr %g ");
         put_number(gap, out);
         out.extend(b"n\n.ta \\*(%c\n");
+    }
+
+    /// Whether a text line is a row: the innermost block has columns, and no item.
+    pub(crate) fn begins_row(&self) -> bool
+        ensures { result ≡ specs.begins_row self.now }
+    {
+        matches!(self.block.kind, Kind::Column) && !self.block.begun
     }
 
     /// Whether the row has a cell behind its last column.

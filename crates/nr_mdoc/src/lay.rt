@@ -1,5 +1,5 @@
 //! Parts are laid out as text.
-ghost use Rattle.std.specs.Prelude.{◌≡◌, ◌+◌, ◌≤◌, ◌++◌, length};
+ghost use Rattle.std.specs.Prelude.{◌≡◌, ◌+◌, ◌≤◌, ◌++◌, length, is_some};
 ghost use Rattle.nr_mdoc.specs.Laying as specs;
 
 use super::acts::Act;
@@ -89,6 +89,27 @@ fn first_in(font: Font, word: &[u8]) -> u8
     }
 }
 
+/// Whether `.St` knows a standard by this name.
+pub fn is_standard(word: Name) -> bool
+    ensures { result ≡ is_some (specs.standard_named word) }
+{
+    standard_named(word).is_some()
+}
+
+/// Whether `.Lb` knows a library by this name.
+pub fn is_library(word: Name) -> bool
+    ensures { result ≡ is_some (specs.library_named word) }
+{
+    library_named(word).is_some()
+}
+
+/// Whether `.At` knows a version by this name.
+pub fn is_version(word: Name) -> bool
+    ensures { result ≡ is_some (specs.version_named word) }
+{
+    version_named(word).is_some()
+}
+
 /// The standard that a word names.
 fn standard_named(word: Name) -> Option<[u8; 78]>
     ensures { result ≡ specs.standard_named word }
@@ -144,6 +165,7 @@ impl Page {
         self.lay.at = At::Middle;
         self.lay.joined = !self.lay.spaced;
         self.lay.quiet = false;
+        self.lay.bare = false;
     }
 
     /// Whether what comes next from a macro joins what is before.
@@ -166,13 +188,12 @@ impl Page {
         self.was_put();
     }
 
-    /// What stands behind a word: it ends no sentence, but in roman within an enclosure of its line.
-    fn word_end(&self, font: Font) -> &'static [u8]
-        ensures value { result.now ≡ specs.word_end font self.now }
+    /// What stands behind a word: it ends no sentence.
+    fn word_end(&self) -> &'static [u8]
+        ensures value { result.now ≡ specs.word_end self.now }
         ensures few { length result.now ≤ 2 }
     {
-        let within = matches!(font, Font::Roman) && !self.closers.is_empty();
-        if ends_sentence(self.word.as_bytes()) && !within {
+        if ends_sentence(self.word.as_bytes()) {
             b"\\&"
         } else {
             b""
@@ -192,7 +213,7 @@ impl Page {
             self.lay.font = font;
             return;
         }
-        out.extend(self.word_end(font));
+        out.extend(self.word_end());
         out.extend(font_end(font));
     }
 
@@ -235,7 +256,7 @@ impl Page {
     {
         out.extend(before_hyphen(self.word.as_bytes()));
         out.extend(self.word.as_bytes());
-        out.extend(self.word_end(self.lay.font));
+        out.extend(self.word_end());
         out.extend(font_end(self.lay.font));
         self.lay.font = Font::Roman;
         self.was_put();
@@ -381,6 +402,19 @@ impl Page {
         self.put_word(true, Font::Roman, out);
     }
 
+    /// The head of an item of `-diag`: blanks stand behind it, which what comes next joins.
+    pub(crate) fn put_head_end(&mut self, out: &mut SliceVec<'_, u8>)
+        requires { length out.old.items + 16 ≤ out.old.capacity }
+        ensures page { self.new ≡ (specs.put_head_end self.old).page }
+        ensures items { out.new.items ≡ out.old.items ++ (specs.put_head_end self.old).bytes }
+        ensures few { length out.new.items ≤ length out.old.items + 16 }
+        ensures room { out.new.capacity ≡ out.old.capacity }
+    {
+        self.put(true, b"\\~\\~", out);
+        self.lay.joined = true;
+        self.lay.bare = true;
+    }
+
     /// The line of the input ends: a joint does, too, where lines stay as they are.
     pub(crate) fn end_line(&mut self)
         ensures { self.new ≡ specs.end_line self.old }
@@ -413,6 +447,7 @@ impl Page {
             Act::Library => self.put_library(library_named(self.word), out),
             Act::Att => self.put_named(version_named(self.word), out),
             Act::Release => self.put_release(out),
+            Act::HeadEnds => self.put_head_end(out),
             _ => {}
         }
     }

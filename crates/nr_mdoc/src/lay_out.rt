@@ -20,6 +20,7 @@ impl Page {
             Act::Fresh => self.freshen(out),
             Act::Tag(width) => self.put_tag(width, out),
             Act::TagEnds(width) => self.end_tag(width, out),
+            Act::HangEnds(width) => self.end_hang(width, out),
             Act::Quiet => self.quiet_down(out),
             Act::Space => self.put_space(out),
             Act::Request(request) => self.put_request(request, out),
@@ -43,7 +44,24 @@ impl Page {
         }
     }
 
-    /// What is said is laid out.
+    /// A text line begins: in a list of columns without items as a row.
+    fn put_begin(&mut self, byte: u8, out: &mut SliceVec<'_, u8>)
+        requires { length out.old.items + 256 ≤ out.old.capacity }
+        ensures page { self.new ≡ (specs.put_begin byte self.old).page }
+        ensures items { out.new.items ≡ out.old.items ++ (specs.put_begin byte self.old).bytes }
+        ensures few { length out.new.items ≤ length out.old.items + 256 }
+        ensures room { out.new.capacity ≡ out.old.capacity }
+    {
+        if !self.begins_row() {
+            self.put(self.lay.joined, &[byte], out);
+            return;
+        }
+        self.put_row(out);
+        self.put(self.lay.joined, &[byte], out);
+    }
+
+    /// What is said is laid out: most often nothing, or a byte.
+    #[inline(always)]
     #[tactic(auto, unfolding(crate::specs::LayingOut::lay_out))]
     pub(crate) fn lay_out(&mut self, act: Act, out: &mut SliceVec<'_, u8>)
         requires { length out.old.items + 256 ≤ out.old.capacity }
@@ -55,9 +73,25 @@ impl Page {
         match act {
             Act::Nothing => {}
             Act::Byte(byte) => out.push(byte),
+            _ => self.lay_any(act, out),
+        }
+    }
+
+    /// Whatever is said is laid out.
+    #[tactic(auto, unfolding(crate::specs::LayingOut::lay_out))]
+    fn lay_any(&mut self, act: Act, out: &mut SliceVec<'_, u8>)
+        requires { length out.old.items + 256 ≤ out.old.capacity }
+        ensures page { self.new ≡ (specs.lay_out act self.old).page }
+        ensures items { out.new.items ≡ out.old.items ++ (specs.lay_out act self.old).bytes }
+        ensures few { length out.new.items ≤ length out.old.items + 256 }
+        ensures room { out.new.capacity ≡ out.old.capacity }
+    {
+        match act {
+            Act::Nothing => {}
+            Act::Byte(byte) => out.push(byte),
             Act::Hyphen => out.extend(b"\\-"),
             Act::Front(front) => out.extend(front_of(front)),
-            Act::Begin(byte) => self.put(self.lay.joined, &[byte], out),
+            Act::Begin(byte) => self.put_begin(byte, out),
             Act::Text(text) => self.put(self.is_joined(), text_of(text), out),
             Act::Close(text) => self.put(true, text_of(text), out),
             Act::Join => self.lay.joined = true,

@@ -39,6 +39,7 @@ mod texts;
 mod word_laws;
 mod words;
 
+pub use lay::{is_library, is_standard, is_version};
 pub use macros::is_macro;
 pub use page::Block;
 pub use passing::passes_unchanged;

@@ -26,6 +26,16 @@ fn is_condition(name: &[u8]) -> bool
     matches!(name, b"if" | b"ie" | b"el")
 }
 
+/// Whether the words of a line's macro call none.
+fn calls_none(line: Macro) -> bool
+    ensures { result ≡ specs.calls_none line }
+{
+    matches!(
+        line,
+        Macro::Describes | Macro::Declaration | Macro::Library | Macro::Plain | Macro::Part(_)
+    )
+}
+
 /// The call of a line's macro.
 pub(crate) fn call_of(line: Macro) -> Call
     ensures { result ≡ specs.call_of line }
@@ -34,6 +44,7 @@ pub(crate) fn call_of(line: Macro) -> Call
         line,
         taker: line,
         first: true,
+        plain: calls_none(line),
         some: false,
         listed: false,
         many: false,
@@ -160,18 +171,35 @@ impl Page {
         Seen::left(Act::Title)
     }
 
-    /// A section begins: lists and displays that are open end.
-    fn section(&mut self) -> Seen
-        ensures { met self.new result ≡ specs.section self.old }
+    /// A heading comes: lists and displays that are open end.
+    fn heads(&mut self)
+        ensures { self.new ≡ specs.heads self.old }
     {
-        self.place.section = Section::Other;
         self.place.last = Last::Heading;
-        self.place.split = Split::Never;
         self.place.depth = 0;
         self.lay.kept = false;
         self.lay.literal = false;
+    }
+
+    /// It begins: where lists or displays are open, with the space of headings.
+    fn heading(&self, head: Act) -> Seen
+        ensures { result ≡ specs.heading head self.now }
+    {
+        if matches!(self.block.kind, Kind::Page) {
+            return Seen::left(head).with(Stack::Empties);
+        }
+        Seen::two(Act::Request(Request::Distance), head).with(Stack::Empties)
+    }
+
+    /// A section begins.
+    fn section(&mut self) -> Seen
+        ensures { met self.new result ≡ specs.section self.old }
+    {
+        self.heads();
+        self.place.section = Section::Other;
+        self.place.split = Split::Never;
         if self.place.titled {
-            return Seen::left(Act::Section).with(Stack::Empties);
+            return self.heading(Act::Section);
         }
         Seen::three(Act::Title, Act::TitleEnds, Act::Section).with(Stack::Empties)
     }
@@ -180,8 +208,8 @@ impl Page {
     fn subsection(&mut self) -> Seen
         ensures { met self.new result ≡ specs.subsection self.old }
     {
-        self.place.last = Last::Heading;
-        Seen::left(Act::Subsection)
+        self.heads();
+        self.heading(Act::Subsection)
     }
 
     /// A paragraph begins.
@@ -280,14 +308,14 @@ impl Page {
         Seen::two(Act::Part(letter), Act::Join)
     }
 
-    /// Its line ends.
+    /// Its line ends: outside of a reference it ends no sentence.
     fn part_ends(&self) -> Seen
         ensures { result ≡ specs.part_ends self.now }
     {
         if self.place.reference {
             return Seen::left(Act::Fresh);
         }
-        Seen::left(Act::Nothing)
+        Seen::left(Act::Close(Text::Empty))
     }
 
     /// What stands before a line of the synopsis: a paragraph where another kind came before.
@@ -406,6 +434,7 @@ impl Page {
                 Request::IndentEnds,
             )),
             Macro::Item => self.item_ends(),
+            Macro::Declaration => Seen::left(Act::Request(Request::Break)),
             Macro::Part(_) => self.part_ends(),
             Macro::Exits => self.exits(),
             Macro::Returns => self.returns(),

@@ -18,8 +18,10 @@ pub(crate) enum Font {
 pub(crate) enum Pair {
     /// `[` and `]`.
     Brackets,
-    /// `<` and `>`.
+    /// Angle brackets.
     Angles,
+    /// `<` and `>`.
+    Signs,
     /// `{` and `}`.
     Braces,
     /// `(` and `)`.
@@ -68,6 +70,8 @@ pub(crate) enum Macro {
     Argument,
     /// `.Pa`.
     Path,
+    /// `.Mt`.
+    Mail,
     /// `.Nm`: the page's name where it has no words.
     Name,
     /// `.Fa`.
@@ -128,6 +132,8 @@ pub(crate) enum Macro {
     Describes,
     /// `.Dd`.
     Date,
+    /// Its words are printed, and call no macro.
+    Plain,
     /// `.Dt`.
     Title,
     /// `.Os`.
@@ -236,7 +242,7 @@ static NAMES: [(u8, u8, Macro); 110] = [
     (b'F', b'r', Macro::Words(Font::Italic)),
     (b'F', b't', Macro::ResultType),
     (b'F', b'x', Macro::Stands(System::FreeBsd)),
-    (b'H', b'f', Macro::Silent),
+    (b'H', b'f', Macro::Plain),
     (b'I', b'c', Macro::Words(Font::Bold)),
     (b'I', b'n', Macro::Include),
     (b'I', b't', Macro::Item),
@@ -245,7 +251,7 @@ static NAMES: [(u8, u8, Macro); 110] = [
     (b'L', b'k', Macro::Link),
     (b'L', b'p', Macro::Paragraph),
     (b'M', b's', Macro::Words(Font::Bold)),
-    (b'M', b't', Macro::Path),
+    (b'M', b't', Macro::Mail),
     (b'N', b'd', Macro::Describes),
     (b'N', b'm', Macro::Name),
     (b'N', b'o', Macro::Words(Font::Roman)),
@@ -384,6 +390,7 @@ impl Macro {
             | Macro::Flag
             | Macro::Argument
             | Macro::Path
+            | Macro::Mail
             | Macro::Name
             | Macro::Parameter
             | Macro::Reference
@@ -402,11 +409,11 @@ impl Macro {
         ensures { result ≡ specs.is_callable_too self }
     {
         match self {
+            Macro::Stands(System::Beta | System::Developed) => false,
             Macro::Stands(_)
             | Macro::Att
             | Macro::Bsd
             | Macro::Standard
-            | Macro::Library
             | Macro::Joins
             | Macro::Apostrophe
             | Macro::Prefix
@@ -418,7 +425,6 @@ impl Macro {
             | Macro::Cell
             | Macro::ResultType
             | Macro::Variable
-            | Macro::Declaration
             | Macro::Configuration => true,
             _ => false,
         }

@@ -23,8 +23,8 @@ static ASKED: [([u8; 15], Asks); 19] = [
     (*b"-item\0\0\0\0\0\0\0\0\0\0", Asks::Kind(Kind::Item)),
     (*b"-column\0\0\0\0\0\0\0\0", Asks::Kind(Kind::Column)),
     (*b"-literal\0\0\0\0\0\0\0", Asks::Kind(Kind::Literal)),
-    (*b"-unfilled\0\0\0\0\0\0", Asks::Kind(Kind::Literal)),
-    (*b"-centered\0\0\0\0\0\0", Asks::Kind(Kind::Literal)),
+    (*b"-unfilled\0\0\0\0\0\0", Asks::Kind(Kind::Unfilled)),
+    (*b"-centered\0\0\0\0\0\0", Asks::Kind(Kind::Centered)),
     (*b"-filled\0\0\0\0\0\0\0\0", Asks::Kind(Kind::Filled)),
     (*b"-ragged\0\0\0\0\0\0\0\0", Asks::Kind(Kind::Filled)),
     (*b"-width\0\0\0\0\0\0\0\0\0", Asks::Width),
@@ -33,11 +33,9 @@ static ASKED: [([u8; 15], Asks); 19] = [
 ];
 
 /// Widths that are named, and those that names of macros stand for.
-static WIDTHS: [([u8; 15], u16); 28] = [
+static WIDTHS: [([u8; 15], u16); 26] = [
     (*b"indent\0\0\0\0\0\0\0\0\0", 6),
     (*b"Ds\0\0\0\0\0\0\0\0\0\0\0\0\0", 6),
-    (*b"indent-two\0\0\0\0\0", 12),
-    (*b"left\0\0\0\0\0\0\0\0\0\0\0", 0),
     (*b"Fl\0\0\0\0\0\0\0\0\0\0\0\0\0", 10),
     (*b"Ar\0\0\0\0\0\0\0\0\0\0\0\0\0", 12),
     (*b"Cm\0\0\0\0\0\0\0\0\0\0\0\0\0", 10),
@@ -127,6 +125,19 @@ fn width_named(word: &[u8]) -> Option<u16>
     ensures { result ≡ specs.width_named word.now }
 {
     named_in(&WIDTHS, word)
+}
+
+/// The indent of a display that a name stands for.
+fn offset_named(word: &[u8]) -> Option<u16>
+    ensures { result ≡ specs.offset_named word.now }
+{
+    if word == b"left".as_slice() {
+        return Some(0);
+    }
+    if word == b"indent-two".as_slice() {
+        return Some(12);
+    }
+    None
 }
 
 /// What an option asks.
@@ -356,6 +367,19 @@ impl Page {
         }
     }
 
+    /// The indent that the word says: displays have two more names for one.
+    fn offset_said(&self) -> u16
+        ensures { result ≡ specs.offset_said self.now }
+    {
+        if matches!(self.call.taker, Macro::Display) {
+            return match offset_named(self.word.as_bytes()) {
+                Some(offset) => offset,
+                None => self.width_said(),
+            };
+        }
+        self.width_said()
+    }
+
     /// A word of `.Bl` or `.Bd`.
     fn block_word(&mut self) -> Seen
         ensures { met self.new result ≡ specs.block_word self.old }
@@ -380,7 +404,7 @@ impl Page {
     fn indented(&mut self) -> Seen
         ensures { met self.new result ≡ specs.indented self.old }
     {
-        self.block.offset = at_most(900, self.block.offset) + at_most(90, self.width_said());
+        self.block.offset = at_most(900, self.block.offset) + at_most(90, self.offset_said());
         self.call.wanted = Wanted::Option;
         Seen::left(Act::Nothing)
     }

@@ -3,6 +3,7 @@ ghost use Rattle.std.specs.Prelude.{◌≡◌, ◌+◌, ◌≤◌, ◌++◌, len
 ghost use Rattle.nr_mdoc.specs.OwnLines as specs;
 
 use super::acts::{Request, Sized};
+use super::macros::Macro;
 use super::page::{At, Page};
 use super::texts::{request_of, sized_of};
 use nr_vectors::slice_vec::SliceVec;
@@ -86,6 +87,21 @@ impl Page {
         out.extend(b"n) \\{\\\n.sp -1\n\\&\\c\n.\\}\n");
     }
 
+    /// A tag is whole, and text goes on behind it: where it is wider than this by more than one, a blank behind its last line.
+    pub(crate) fn end_hang(&mut self, width: u16, out: &mut SliceVec<'_, u8>)
+        requires { length out.old.items + 128 ≤ out.old.capacity }
+        ensures page { self.new ≡ (specs.end_hang width self.old).page }
+        ensures items { out.new.items ≡ out.old.items ++ (specs.end_hang width self.old).bytes }
+        ensures few { length out.new.items ≤ length out.old.items + 128 }
+        ensures room { out.new.capacity ≡ out.old.capacity }
+    {
+        self.freshen(out);
+        out.extend(b".br\n.nr %h \\n(.nu-");
+        put_number(width, out);
+        out.extend(b"n-1n\n.if \\n(nl-\\n(%tu>1v .nr %h \\n(.nu+1n\n.sp -1\n");
+        out.extend(b".if \\n(%h>0 .ti +\\n(%hu\n\\&\\c\n");
+    }
+
     /// The same, and nothing was put since space was made.
     pub(crate) fn quiet_down(&mut self, out: &mut SliceVec<'_, u8>)
         requires { length out.old.items + 3 ≤ out.old.capacity }
@@ -131,7 +147,7 @@ impl Page {
     {
         match sized {
             Sized::Indent | Sized::Inner => {}
-            Sized::Tagged | Sized::Tag => self.lay.tag = true,
+            Sized::Tag => self.lay.tag = true,
             Sized::Bullet | Sized::Dash => self.lay.quiet = false,
             Sized::Hanging => self.lay.quiet = true,
         }
@@ -229,15 +245,42 @@ impl Page {
         self.place.titled = true;
     }
 
-    /// The title's line ends.
+    /// What stands in the title's line for a system without a name.
+    fn other_system(&self) -> &'static [u8]
+        ensures value { result.now ≡ specs.other_system self.now }
+        ensures few { length result.now ≤ 5 }
+    {
+        if matches!(self.call.line, Macro::System) && !self.call.some {
+            b"\\*()O"
+        } else {
+            b""
+        }
+    }
+
+    /// The manual, where that of its section has another name in pages of mdoc.
+    fn manual(&self) -> &'static [u8]
+        ensures value { result.now ≡ specs.manual self.now }
+        ensures few { length result.now ≤ 32 }
+    {
+        if self.chapter.as_bytes() == b"4".as_slice() {
+            b" \"Device Drivers Manual\""
+        } else {
+            b""
+        }
+    }
+
+    /// The title's line ends. The system stands on both sides of the footer.
     pub(crate) fn end_title(&mut self, out: &mut SliceVec<'_, u8>)
-        requires { length out.old.items + 18 ≤ out.old.capacity }
+        requires { length out.old.items + 96 ≤ out.old.capacity }
         ensures page { self.new ≡ (specs.end_title self.old).page }
         ensures items { out.new.items ≡ out.old.items ++ (specs.end_title self.old).bytes }
-        ensures few { length out.new.items ≤ length out.old.items + 18 }
+        ensures few { length out.new.items ≤ length out.old.items + 96 }
         ensures room { out.new.capacity ≡ out.old.capacity }
     {
-        out.extend(b"\"\n.nr IN 5n\n.ad l\n");
+        out.extend(self.other_system());
+        out.push(b'"');
+        out.extend(self.manual());
+        out.extend(b"\n.ds )9 \\*()4\n.nr IN 5n\n.ad l\n");
         self.lay.at = At::Start;
         self.lay.joined = false;
         self.lay.quiet = true;

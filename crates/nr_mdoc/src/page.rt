@@ -249,8 +249,12 @@ pub(crate) enum Kind {
     Column,
     /// A display that is filled.
     Filled,
-    /// A display whose lines stay.
+    /// A display whose lines stay, with the tab stops of programs.
     Literal,
+    /// A display whose lines stay, with the tab stops of the macro file.
+    Unfilled,
+    /// A display whose lines stay, each in the middle.
+    Centered,
 }
 
 /// What an option of `.Bl` or `.Bd` asks.
@@ -312,6 +316,8 @@ pub(crate) struct Lay {
     pub font: Font,
     /// The next word is only the front of a longer one.
     pub front: bool,
+    /// The head of an item of `-diag` was put, and nothing behind it.
+    pub bare: bool,
 }
 
 /// What stands behind a long word, all of it.
@@ -336,6 +342,8 @@ pub(crate) struct Call {
     pub taker: Macro,
     /// It is the one that began the line.
     pub first: bool,
+    /// Its words call no macro.
+    pub plain: bool,
     /// It took a word.
     pub some: bool,
     /// A parameter or a name came, and no mark after it.

@@ -8,6 +8,7 @@ use super::lines::call_of;
 use super::macros::{Font, Macro};
 use super::page::{At, Block, Front, Last, Lay, Page, Parameters, Place, Scan, Section, Split};
 use super::pending::Pending;
+use super::scan::before_next;
 use super::seen::Seen;
 use nr_units::Name;
 use nr_vectors::slice_vec::SliceVec;
@@ -33,6 +34,7 @@ fn first_lay() -> Lay
         font: Font::Roman,
         cell: 0,
         front: false,
+        bare: false,
     }
 }
 
@@ -74,8 +76,8 @@ impl Reader {
         }
     }
 
-    /// A byte is met once. Tells whether it was taken.
-    #[tactic(auto, unfolding(crate::specs::Reading::once))]
+    /// A byte is met once. Tells whether it was taken. Most bytes only go on a text line.
+    #[tactic(auto, unfolding(crate::specs::Reading::once, crate::specs::Reading::said, crate::specs::LayingOut::lay_out, crate::specs::Scanning::meet))]
     fn hear_once(
         &mut self,
         byte: u8,
@@ -93,6 +95,13 @@ impl Reader {
         ensures blocks { blocks.new.capacity ≡ blocks.old.capacity }
         ensures takes { result ≡ (specs.once byte (state self.old blocks.old.items)).takes }
     {
+        if let Scan::Text(before) = self.page.scan {
+            if byte != b'\n' && byte != b'-' {
+                self.page.scan = Scan::Text(before_next(before, byte));
+                out.push(byte);
+                return true;
+            }
+        }
         let outer = self.page.block;
         let seen = self.page.meet(byte);
         self.page.say(seen, out);

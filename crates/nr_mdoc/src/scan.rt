@@ -36,7 +36,7 @@ fn first_before(byte: u8) -> Before
 }
 
 /// What a byte is for the one after it.
-fn before_next(before: Before, byte: u8) -> Before
+pub(crate) fn before_next(before: Before, byte: u8) -> Before
     ensures { result ≡ specs.before_next before byte }
 {
     match before {

@@ -26,9 +26,9 @@ pub(crate) enum Next {
 static STRINGS: [(u8, u8, [u8; 4]); 24] = [
     (b'L', b't', *b"<\0\0\0"),
     (b'G', b't', *b">\0\0\0"),
-    (b'L', b'e', *b"<=\0\0"),
-    (b'G', b'e', *b">=\0\0"),
-    (b'N', b'e', *b"!=\0\0"),
+    (b'L', b'e', *b"\\(<="),
+    (b'G', b'e', *b"\\(>="),
+    (b'N', b'e', *b"\\(!="),
     (b'A', b'm', *b"&\0\0\0"),
     (b'B', b'a', *b"|\0\0\0"),
     (b'P', b'm', *b"+-\0\0"),
@@ -46,8 +46,8 @@ static STRINGS: [(u8, u8, [u8; 4]); 24] = [
     (b'u', b'a', *b"\\(ua"),
     (b'v', b'a', *b"\\(va"),
     (b'T', b'm', *b"\\(tm"),
-    (b'<', b'=', *b"<=\0\0"),
-    (b'>', b'=', *b">=\0\0"),
+    (b'<', b'=', *b"\\(<="),
+    (b'>', b'=', *b"\\(>="),
 ];
 
 /// What a string stands for.
@@ -308,8 +308,35 @@ impl Reader {
     }
 
     /// A byte comes. At most 73728 bytes go out, in 96 steps at most.
+    #[inline(always)]
     #[tactic(auto, unfolding(crate::specs::Reading::read))]
     pub(crate) fn read(
+        &mut self,
+        byte: u8,
+        blocks: &mut SliceVec<'_, Block>,
+        out: &mut SliceVec<'_, u8>,
+    ) -> u64
+        requires room { length out.old.items + 73728 ≤ out.old.capacity }
+        requires blocks { 64 ≤ blocks.old.capacity }
+        ensures state { state self.new blocks.new.items
+            ≡ (specs.read byte (state self.old blocks.old.items)).state }
+        ensures items { out.new.items ≡ out.old.items
+            ++ (specs.read byte (state self.old blocks.old.items)).bytes }
+        ensures steps { result ≡ (specs.read byte (state self.old blocks.old.items)).steps }
+        ensures few { length out.new.items ≤ length out.old.items + 73728 }
+        ensures quick { result ≤ 96 }
+        ensures room { out.new.capacity ≡ out.old.capacity }
+        ensures blocks { blocks.new.capacity ≡ blocks.old.capacity }
+    {
+        if byte != b'\\' && matches!(self.pending, Pending::Nothing) {
+            return self.hear(byte, blocks, out);
+        }
+        self.read_any(byte, blocks, out)
+    }
+
+    /// Any byte comes, also where something is pending.
+    #[tactic(auto, unfolding(crate::specs::Reading::read))]
+    fn read_any(
         &mut self,
         byte: u8,
         blocks: &mut SliceVec<'_, Block>,

@@ -65,6 +65,7 @@ impl Page {
             Macro::Flag => Seen::left(Act::Flag),
             Macro::Argument
             | Macro::Path
+            | Macro::Mail
             | Macro::SectionName
             | Macro::Variable
             | Macro::ResultType => Seen::left(Act::Word(Font::Italic)),
@@ -299,12 +300,12 @@ impl Page {
         if self.lay.front {
             self.call.behind = Behind::Angle;
             return Seen::two(
-                Act::Text(Text::Opening(Pair::Angles)),
+                Act::Text(Text::Opening(Pair::Signs)),
                 Act::Joined(Font::Italic),
             );
         }
         Seen::three(
-            Act::Text(Text::Opening(Pair::Angles)),
+            Act::Text(Text::Opening(Pair::Signs)),
             Act::Joined(Font::Italic),
             Act::Close(Text::Closing(b'>')),
         )

@@ -36,7 +36,8 @@ fn opening(pair: Pair) -> &'static [u8]
 {
     match pair {
         Pair::Brackets => b"[",
-        Pair::Angles => b"<",
+        Pair::Angles => b"\\(la",
+        Pair::Signs => b"<",
         Pair::Braces => b"{",
         Pair::Parentheses => b"(",
         Pair::DoubleQuotes => b"\\(lq",
@@ -52,7 +53,8 @@ pub(crate) fn closer(pair: Pair) -> u8
 {
     match pair {
         Pair::Brackets => b']',
-        Pair::Angles => b'>',
+        Pair::Angles => b'a',
+        Pair::Signs => b'>',
         Pair::Braces => b'}',
         Pair::Parentheses => b')',
         Pair::DoubleQuotes => b'r',
@@ -71,6 +73,7 @@ fn closing(closer: u8) -> &'static [u8]
         b'>' => b">",
         b'}' => b"}",
         b')' => b")",
+        b'a' => b"\\(ra",
         b'r' => b"\\(rq",
         b'c' => b"\\(cq",
         _ => b"\"",
@@ -159,7 +162,10 @@ pub(crate) fn request_of(request: Request) -> &'static [u8]
         Request::IndentEnds => b".RE\n",
         Request::Literal =>
             b".nf\n.ta 8n 16n 24n 32n 40n 48n 56n 64n 72n 80n 88n 96n 104n 112n 120n 128n 136n 144n 152n 160n 168n 176n 184n 192n 200n 208n 216n 224n 232n 240n 248n 256n\n",
+        Request::Unfilled => b".nf\n.DT\n",
+        Request::Centered => b".nf\n.ce 9999\n",
         Request::LiteralEnds => b".fi\n.DT\n",
+        Request::CenteredEnds => b".ce 0\n.fi\n",
         Request::Hangs => b".in +4n\n.ti -4n\n",
         Request::HangEnds => b".br\n.in -4n\n",
         Request::Link => b".ds %L \"",
@@ -172,14 +178,13 @@ pub(crate) fn request_of(request: Request) -> &'static [u8]
 /// What stands before the number of a request.
 pub(crate) fn sized_of(sized: Sized) -> &'static [u8]
     ensures value { result.now ≡ specs.sized_of sized }
-    ensures few { length result.now ≤ 20 }
+    ensures few { length result.now ≤ 21 }
 {
     match sized {
         Sized::Indent => b".RS ",
-        Sized::Bullet => b".PD 0\n.IP \\(bu ",
-        Sized::Dash => b".PD 0\n.IP \\- ",
+        Sized::Bullet => b".PD 0\n.IP \\fB\\(bu\\fP ",
+        Sized::Dash => b".PD 0\n.IP \\fB\\-\\fP ",
         Sized::Inner => b".in +",
-        Sized::Tagged => b".PD 0\n.TP ",
         Sized::Tag | Sized::Hanging => b".PD 0\n.HP ",
     }
 }

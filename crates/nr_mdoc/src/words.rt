@@ -37,7 +37,7 @@ fn begins_anew(called: Macro) -> bool
 {
     matches!(
         called,
-        Macro::Flag | Macro::Argument | Macro::Path | Macro::Name
+        Macro::Flag | Macro::Argument | Macro::Path | Macro::Mail | Macro::Name
     )
 }
 
@@ -85,10 +85,18 @@ impl Page {
         if self.call.going {
             return self.ends_long();
         }
-        if self.reads_options() {
+        if self.reads_options() && !self.heading_calls(quoted) {
             return self.option();
         }
         self.parsed(quoted)
+    }
+
+    /// The first word of a section's heading calls a macro.
+    fn heading_calls(&self, quoted: bool) -> bool
+        ensures { result ≡ specs.heading_calls quoted self.now }
+    {
+        matches!(self.call.taker, Macro::Section)
+            && called_by(quoted, self.word.as_bytes()).is_some()
     }
 
     /// A word is a closing mark, calls a macro, or is read for one.
@@ -110,7 +118,7 @@ impl Page {
         if !self.marks.is_empty() {
             return Seen::left(Act::Marks);
         }
-        match called_by(quoted, self.word.as_bytes()) {
+        match called_by(quoted || self.call.plain, self.word.as_bytes()) {
             Some(called) => self.call(called),
             None => self.argument(quoted),
         }

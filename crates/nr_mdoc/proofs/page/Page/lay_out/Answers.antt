@@ -4,9 +4,3 @@ use Rattle.nr_mdoc.proofs.page.Page.lay_out.Goals as goal
 
 pub returns-in-Byte-clause-few : goal.returns-in-Byte-clause-few
 returns-in-Byte-clause-few c = grind (arith, common_steps)
-
-pub returns-in-Hyphen-clause-few : goal.returns-in-Hyphen-clause-few
-returns-in-Hyphen-clause-few c = grind (arith, common_steps)
-
-pub returns-in-Front-clause-few : goal.returns-in-Front-clause-few
-returns-in-Front-clause-few c = grind (arith, common_steps)
