@@ -1,0 +1,9 @@
+pub mod Breaking
+pub mod Choosing
+pub mod Cluster
+pub mod Counting
+pub mod Fixed
+pub mod Joining
+pub mod Laws
+pub mod Reading
+pub mod Table
