@@ -221,7 +221,7 @@ static TOLD: [Told; 7] = [
     Told {
         words: &[b"tbl", b"bad", b"none"],
         status: 1,
-        lines: b"tbl: bad:3: more fields than columns\ntbl: bad:6: table without an end, from line 1\n",
+        lines: b"tbl: bad:3: more fields than columns\ntbl: bad:6: table without an end, from line 5\n",
     },
     // A table wider than the line is reported, and nothing is wrong with it.
     Told {
@@ -242,7 +242,7 @@ static TOLD: [Told; 7] = [
     Told {
         words: &[b"tbl", b"-l1", b"wide", b"bad"],
         status: 1,
-        lines: b"tbl: wide:3: table wider than the line\ntbl: bad:3: more fields than columns\ntbl: bad:6: table without an end, from line 1\n",
+        lines: b"tbl: wide:3: table wider than the line\ntbl: bad:3: more fields than columns\ntbl: bad:6: table without an end, from line 5\n",
     },
     // The line's length is 65 where no word sets it, and the limit on a row is one on its fields together.
     Told {
