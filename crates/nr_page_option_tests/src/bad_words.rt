@@ -24,6 +24,7 @@ fn options() -> &'static [Row] {
             &["--warnings=all"],
             b"nulbiko: unknown option --warnings=all\n",
         ),
+        (&["--alone=1"], b"nulbiko: unknown option --alone=1\n"),
         (&["-tx"], b"nulbiko: bad value in -tx\n"),
     ]
 }

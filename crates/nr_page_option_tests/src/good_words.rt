@@ -8,7 +8,8 @@ struct Asked {
     device: Option<Device>,
     width: Option<u64>,
     faces: Faces,
-    /// What is paged, warns, is only checked, reads standard input, and shows bold, by the letters `p`, `w`, `z`, `i` and `b`.
+    /// What is paged, warns, is only checked, reads standard input, shows bold, and is alone, by the letters `p`, `w`, `z`, `i`,
+    /// `b` and `a`.
     flags: &'static [u8],
     /// Registers and strings, each as it would stand after `-r` or `-d`.
     settings: &'static [&'static [u8]],
@@ -34,7 +35,7 @@ const PLAIN: Asked = Asked {
     files: &[],
 };
 
-static OWN: [Asked; 5] = [
+static OWN: [Asked; 6] = [
     PLAIN,
     Asked {
         words: &["ls.1"],
@@ -50,10 +51,17 @@ static OWN: [Asked; 5] = [
         ..PLAIN
     },
     Asked {
-        words: &["-b", "-c", "--", "-x", "--"],
+        words: &["-b", "-c", "--alone", "--", "-x", "--"],
         faces: Faces::Off,
-        flags: b"b",
+        flags: b"ab",
         files: &["-x", "--"],
+        ..PLAIN
+    },
+    Asked {
+        words: &["--faces", "none", "-mandoc", "-"],
+        macros: &["andoc"],
+        faces: Faces::None,
+        files: &["-"],
         ..PLAIN
     },
     // the last of a kind counts
@@ -202,6 +210,7 @@ fn has_flags(job: &Job<'_>, flags: &[u8]) -> bool {
         && job.plain.checks == flags.contains(&b'z')
         && job.plain.reads_input == flags.contains(&b'i')
         && job.plain.shows_bold == flags.contains(&b'b')
+        && job.plain.is_alone == flags.contains(&b'a')
 }
 
 /// Whether that is what a job asks for.

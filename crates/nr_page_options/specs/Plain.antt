@@ -20,6 +20,7 @@ nothing_set = record {
   warns = false;
   checks = false;
   reads_input = false;
+  is_alone = false;
 }
 
 -- with one thing set
@@ -36,3 +37,4 @@ changed changes.Paged plain = record plain { is_paged = true }
 changed changes.Warns plain = record plain { warns = true }
 changed changes.Checks plain = record plain { checks = true }
 changed changes.Input plain = record plain { reads_input = true }
+changed changes.Alone plain = record plain { is_alone = true }

@@ -10,7 +10,7 @@ use Rattle.nr_options.specs.declared.limits.Limit.TheVariants.{Stored, Depth, Ce
 use Rattle.nr_page_options.specs.declared.plain.Device.{Device}
 use Rattle.nr_page_options.specs.declared.plain.Device.TheVariants.{Utf8, Latin1, Ascii}
 use Rattle.nr_page_options.specs.declared.plain.Faces.{Faces}
-use Rattle.nr_page_options.specs.declared.plain.Faces.TheVariants.{Auto, On, Off}
+use Rattle.nr_page_options.specs.declared.plain.Faces.TheVariants as faces
 use Rattle.nr_page_options.specs.declared.plain.Kind.{Kind}
 use Rattle.nr_page_options.specs.declared.plain.Kind.TheVariants as kinds
 use Rattle.nr_page_options.specs.declared.plain.Change.{Change}
@@ -50,9 +50,10 @@ device_named name =
 
 abbrev pub faces_named : List ℕ → Option Faces
 faces_named name =
-    if bytes_eq name (codes "auto") then Some Auto else
-    if bytes_eq name (codes "on") then Some On else
-    if bytes_eq name (codes "off") then Some Off else None
+    if bytes_eq name (codes "auto") then Some faces.Auto else
+    if bytes_eq name (codes "on") then Some faces.On else
+    if bytes_eq name (codes "off") then Some faces.Off else
+    if bytes_eq name (codes "none") then Some faces.None else None
 
 -- the cells of a line: 1 to 9999
 abbrev pub cells : List ℕ → Option ℕ
@@ -73,7 +74,7 @@ has byte bytes = list_any (λ b. b == byte) bytes
 -- `-P`: `c` strikes over
 abbrev pub output_meaning : List ℕ → Meaning
 output_meaning value =
-    if has (code "c") value then Changes (changes.Faces Off) else IsNothing
+    if has (code "c") value then Changes (changes.Faces faces.Off) else IsNothing
 
 -- `-LsN`, by the letter and the number
 abbrev pub limit_of : ℕ → ℕ → Option Meaning

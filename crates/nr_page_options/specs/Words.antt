@@ -62,6 +62,7 @@ long_named name =
 abbrev pub whole_alone : List ℕ → Form
 whole_alone word =
     if bytes_eq word (codes "--warnings") then IsWhole (Ok (Changes changes.Warns)) else
+    if bytes_eq word (codes "--alone") then IsWhole (Ok (Changes changes.Alone)) else
     if bytes_eq word (codes "--version") then IsWhole (Ok (Changes (changes.Says says.Version))) else
     if bytes_eq word (codes "--help") then IsWhole (Ok (Changes (changes.Says says.Help))) else
     IsWhole (Err Unknown)

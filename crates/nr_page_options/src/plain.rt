@@ -22,6 +22,8 @@ pub enum Faces {
     On,
     /// Struck over, by backspaces.
     Off,
+    /// Not at all.
+    None,
 }
 
 /// What is printed in place of pages.
@@ -69,6 +71,8 @@ pub struct Plain {
     pub checks: bool,
     /// Standard input is read after the files.
     pub reads_input: bool,
+    /// A text that asks for other programs is not formatted.
+    pub is_alone: bool,
 }
 
 /// What one word sets of that.
@@ -86,6 +90,7 @@ pub(crate) enum Change {
     Warns,
     Checks,
     Input,
+    Alone,
 }
 
 impl Plain {
@@ -106,6 +111,7 @@ impl Plain {
             warns: false,
             checks: false,
             reads_input: false,
+            is_alone: false,
         }
     }
 
@@ -127,6 +133,7 @@ impl Plain {
             Change::Warns => plain.warns = true,
             Change::Checks => plain.checks = true,
             Change::Input => plain.reads_input = true,
+            Change::Alone => plain.is_alone = true,
         }
         plain
     }

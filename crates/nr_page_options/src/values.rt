@@ -125,6 +125,8 @@ fn faces_named(name: &[u8]) -> Option<Faces>
         Some(Faces::On)
     } else if name == b"off".as_slice() {
         Some(Faces::Off)
+    } else if name == b"none".as_slice() {
+        Some(Faces::None)
     } else {
         None
     }

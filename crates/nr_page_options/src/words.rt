@@ -131,6 +131,8 @@ fn word_alone<'a>(word: &[u8]) -> Word<'a>
     }
     if word == b"--warnings".as_slice() {
         Word::Whole(Ok(Ask::Change(Change::Warns)))
+    } else if word == b"--alone".as_slice() {
+        Word::Whole(Ok(Ask::Change(Change::Alone)))
     } else if word == b"--version".as_slice() {
         Word::Whole(Ok(Ask::Change(Change::Says(Says::Version))))
     } else if word == b"--help".as_slice() {

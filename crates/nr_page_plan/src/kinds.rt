@@ -56,7 +56,7 @@ fn line_kind(line: &[u8]) -> LineKind
 }
 
 /// What stands after the blanks and tabs that come first.
-fn after_blanks(text: &[u8]) -> &[u8]
+pub(crate) fn after_blanks(text: &[u8]) -> &[u8]
     ensures { result.now ≡ drop (prefix_len is_blank text.now) text.now }
 {
     &text[blanks(text)..]
@@ -94,7 +94,7 @@ fn kind_named(text: &[u8]) -> LineKind
 }
 
 /// Whether a name ends before these bytes.
-fn ends(rest: &[u8]) -> bool
+pub(crate) fn ends(rest: &[u8]) -> bool
     ensures { result ≡ is_end rest.now }
 {
     match rest {
