@@ -3,7 +3,7 @@
 use Rattle.std.specs.Prelude.{ℕ, List, [], ◌∷◌, length, take, drop, not, ◌==◌, ◌||◌, nat_lt, if◌then◌else◌, codes, Option, None, Some, is_some}
 use Rattle.std.specs.List.{insert, remove}
 use Rattle.std.specs.Str.{bytes_eq}
-use Rattle.nr_mdoc.specs.Macros.{macro_of}
+use Rattle.mdoc_converter.specs.Macros.{macro_of}
 use Rattle.nr_vectors.specs.Items.{Items}
 use Rattle.mdoc.specs.Blocks.{last_name, place_of}
 use Rattle.mdoc.specs.declared.lines.Half.{Half}

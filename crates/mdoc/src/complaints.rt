@@ -2,8 +2,8 @@
 
 use super::shown::shown;
 use super::telling::{Complaint, Kind, Told};
+use filters::put_all;
 use itoa::Buffer;
-use nr_filters::put_all;
 use nr_units::Name;
 use nr_units::sink::Sink;
 use nr_units::source::Fault;

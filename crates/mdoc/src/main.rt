@@ -1,6 +1,6 @@
 //! The program mdoc: it turns manual pages of mdoc(7) into pages of man(7), to standard output.
 //!
-//! It stands on nr_filters, nr_mdoc, nr_units and nr_vectors. To read: `names`, `lines`, `blocks`, `telling`, `watching`,
+//! It stands on filters, mdoc_converter, nr_units and nr_vectors. To read: `names`, `lines`, `blocks`, `telling`, `watching`,
 //! `watched`; `shown`, `complaints`, `rooms`, `program`.
 #![tactic(auto)]
 
@@ -15,7 +15,7 @@ mod telling;
 mod watched;
 mod watching;
 
-use nr_filters::run_program;
+use filters::run_program;
 use program::Mdoc;
 use std::process::ExitCode;
 

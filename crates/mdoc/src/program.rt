@@ -1,6 +1,6 @@
 // The program over its words and its texts.
 use super::rooms::Rooms;
-use nr_filters::{Disk, Ending, Filter, is_option, turn_all};
+use filters::{Disk, Ending, Filter, is_option, turn_all};
 use nr_units::sink::Sink;
 use std::io::Read;
 use std::rt::Files;

@@ -6,7 +6,7 @@ use super::blocks::{OpenBlock, place_of};
 use super::lines::{Half, Whole};
 use super::names::{opener_of, opens};
 use super::telling::{Complaint, Kind, Told};
-use nr_mdoc::is_macro;
+use mdoc_converter::is_macro;
 use nr_units::Name;
 use nr_vectors::slice_vec::SliceVec;
 use std::marker::Model;

@@ -1,7 +1,7 @@
 //! The program nroff but for its `main`: the texts that it reads, a run over streams, the lines that
 //! report how it ended, and its status.
 //!
-//! It stands on nr_units, nr_options, nr_machine, nr_engine, nr_command_options and nr_command_line. To read: `faults`, `running`; `memory`,
+//! It stands on nr_units, nr_options, nr_machine, nr_engine, nr_command_options and command_line. To read: `faults`, `running`; `memory`,
 //! `opening`, `disk`; `program`.
 #![tactic(auto)]
 

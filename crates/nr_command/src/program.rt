@@ -14,7 +14,7 @@ use super::disk::{Disk, Tree};
 use super::memory::{Heap, Memory};
 use super::opening::{BUFFER_SIZE, NotRun, Opener, open_texts, text_count, unopened_line};
 use super::running::{out_of_memory, run_desk, tell};
-use nr_command_line::{SystemWords, words_of};
+use command_line::{SystemWords, words_of};
 use nr_command_options::{Job, Usage, chain, read_words, usage_line};
 use nr_engine::{Outcome, Sink, ToWriter};
 use std::alloc::{AllocError, Global};

@@ -19,7 +19,7 @@ use Rattle.nr_machine.specs.Choosing.{IsNew, StaysLight}
 use Rattle.nr_engine.specs.Travelling.{Travelled}
 use Rattle.nr_machine.specs.declared.outcome.Outcome.{Outcome}
 use Rattle.nr_machine.proofs.Standing.{state_after-add, finishes_after, finishes_stopped, none_spent, answers}
-use Rattle.nr_machine_rows.proofs.Running.{worth_same}
+use Rattle.fast_machine.proofs.Running.{worth_same}
 
 no_charge : (b : Bounds) → charge_of (formatter_at_first b).store ≡ 0
 no_charge b = refl

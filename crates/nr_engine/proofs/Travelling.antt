@@ -13,10 +13,10 @@ use Rattle.nr_machine.specs.declared.outcome.Measure.TheVariants as measures
 use Rattle.nr_machine.specs.declared.outcome.Outcome.TheVariants.{Done, Limit}
 use Rattle.nr_machine.specs.Run.{Stops, AreSpent, Kind, Reads, Works, Over, kind, kind_of, kind_of_springs}
 use Rattle.nr_machine.specs.Holding.{Shape, Holds, Moved, Left, Made, Halts, Finishes, Advances, Spends, weight, worth}
-use Rattle.nr_machine_rows.specs.Running.{Makes}
+use Rattle.fast_machine.specs.Running.{Makes}
 use Rattle.nr_machine.specs.declared.outcome.Outcome.{Outcome}
 use Rattle.nr_machine.proofs.Standing.{made_one, made_all, halts_here, halts_after, finishes_stopped, finishes_spent}
-use Rattle.nr_machine_rows.proofs.Running.{same_state, worth_same}
+use Rattle.fast_machine.proofs.Running.{same_state, worth_same}
 use Rattle.nr_engine.specs.Travelling.{outcome_when_spent}
 
 pub made_more : (s : State) (n : ℕ) (e f : Shape) (x y : Option Supply) (old mid new : Option (List ℕ))

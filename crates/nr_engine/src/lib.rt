@@ -1,6 +1,6 @@
 //! A formatter for terminals: marked-up text into pages, under five limits.
 //!
-//! It stands on nr_machine, nr_machine_rows, nr_page, nr_options and the crates below them. To read: `desk`; `run`, with
+//! It stands on nr_machine, fast_machine, nr_page, nr_options and the crates below them. To read: `desk`; `run`, with
 //! `format`.
 #![tactic(auto)]
 

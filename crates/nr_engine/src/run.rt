@@ -9,10 +9,10 @@ ghost use Rattle.nr_machine.specs.Limits.{limits_of, limits_under};
 ghost use Rattle.nr_engine.specs.Travelling.{Travels, outcome_when_spent};
 
 use crate::desk::Work;
+use fast_machine::{put_at_hand, reads_on};
 use nr_formatter::tasks::Task;
 use nr_input::Event;
 use nr_machine::{Engine, Measure, Outcome};
-use nr_machine_rows::{put_at_hand, reads_on};
 use nr_options::{Limits, Options};
 use nr_units::sink::Sink;
 use nr_units::source::Source;

@@ -3,7 +3,7 @@
 //!
 //! It stands on nr_units, nr_vectors, nr_pool, nr_levels, nr_symbol_tables, nr_store and nr_reading. To read:
 //! `reader`, `refusal`, `told`; `place`; `acting`, `moving`; `splicing`, `setting`. Many moves at once are in
-//! nr_input_rows.
+//! fast_input.
 #![tactic(auto)]
 
 mod acting;

@@ -23,7 +23,7 @@ use Rattle.nr_input.specs.Refusal.{called_by, splicing_answer}
 use Rattle.nr_input.specs.Splicing.{sprung_reader, springing_text}
 use Rattle.nr_input.specs.Weights.{Splices}
 use Rattle.nr_input.proofs.Costs.{bytes_splice, springing_springs}
-use Rattle.nr_input_rows.proofs.Interpolated.{splicing-fits}
+use Rattle.fast_input.proofs.Interpolated.{splicing-fits}
 use Rattle.nr_formatter.specs.declared.formatter.Formatter.{Formatter}
 use Rattle.nr_formatter.specs.declared.built_in.BuiltInRegister.{BuiltInRegister}
 use Rattle.nr_formatter.specs.declared.built_in.BuiltInRegister.TheVariants as given

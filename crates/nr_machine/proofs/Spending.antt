@@ -7,7 +7,7 @@ use Rattle.nr_reading.specs.declared.event.Event.TheVariants as events
 use Rattle.nr_reading.specs.Weights.{cost_of_event, blanks_owed, is_lead}
 use Rattle.nr_store.specs.Store.{Stored, Built}
 use Rattle.nr_input.specs.Place.{Reached, ended}
-use Rattle.nr_input_rows.specs.Runs.{PaysMany}
+use Rattle.fast_input.specs.Runs.{PaysMany}
 use Rattle.nr_input.specs.Weights.{byte_worth, weight_before_byte, risen, Pays, IfLead, diversions_in, diversions_of, count_of_diversion}
 use Rattle.nr_input.specs.declared.reader.Reader.{Reader}
 use Rattle.nr_input.specs.declared.told.Told.TheVariants as tells

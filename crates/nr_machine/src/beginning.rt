@@ -7,12 +7,12 @@ ghost use Rattle.nr_machine.specs.Limits.{limits_of, limits_under};
 
 use crate::engine::Engine;
 use crate::lengths::Sizes;
+use fast_input::Gathered;
 use nr_fill::line::Line;
 use nr_fill::out::Out;
 use nr_formatter::formatter::Formatter;
 use nr_formatter::tasks::Resume;
 use nr_input::Place;
-use nr_input_rows::Gathered;
 use nr_options::{Limits, Options};
 use nr_page::page::{Page, room};
 use nr_page::{Faces, Select};

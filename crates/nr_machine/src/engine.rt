@@ -3,11 +3,11 @@ ghost use Rattle.std.specs.Prelude.{◌≡◌, ◌+◌};
 
 use crate::lengths::Sizes;
 use crate::outcome::{Measure, Outcome, Stop};
+use fast_input::Gathered;
 use nr_fill::out::Out;
 use nr_formatter::formatter::Formatter;
 use nr_formatter::tasks::{Resume, Task};
 use nr_input::{Event, Heard, Place, Refusal};
-use nr_input_rows::Gathered;
 use nr_page::page::Page;
 use nr_page::{Faces, Select};
 use nr_store::Request;

@@ -2,10 +2,10 @@
 use Rattle.std.proofs.Common.{◌≡◌, ℕ, List, false, Option, refl, subst, arith}
 use Rattle.nr_units.specs.Failures.{next_count}
 use Rattle.nr_units.specs.Source.{Supply}
-use Rattle.nr_characters.specs.declared.table.Table.{Table}
-use Rattle.nr_preconv.specs.Running.{Ran, TellsReads, is_read_fault}
-use Rattle.nr_preconv.specs.declared.running.Outcome.{Outcome}
-use Rattle.nr_preconv.specs.declared.running.Outcome.TheVariants.{Done, ReadFault, TooLong, WriteFault}
+use Rattle.utf8_characters.specs.declared.table.Table.{Table}
+use Rattle.preconv_converter.specs.Running.{Ran, TellsReads, is_read_fault}
+use Rattle.preconv_converter.specs.declared.running.Outcome.{Outcome}
+use Rattle.preconv_converter.specs.declared.running.Outcome.TheVariants.{Done, ReadFault, TooLong, WriteFault}
 
 -- of the same bytes before and after
 pub carried : (e : Option Table) (q q' left : Option Supply) (old old' new new' : Option (List ℕ)) (steps : ℕ) (o : Outcome)

@@ -3,12 +3,12 @@ use Rattle.std.proofs.Common.{◌≡◌, ℕ, List, Bool, false, Option, refl, s
 use Rattle.nr_units.specs.Failures.{next_count}
 use Rattle.nr_units.specs.Source.{Supply}
 use Rattle.nr_vectors.specs.Items.{Items}
-use Rattle.nr_tables.specs.Running.{Ran, is_read_fault}
-use Rattle.nr_tbl.specs.Running.{TellsReads}
-use Rattle.nr_tbl.specs.declared.complaint.Complaint.{Complaint}
-use Rattle.nr_tbl.specs.declared.reader.Limits.{Limits}
-use Rattle.nr_tbl.specs.declared.running.Outcome.{Outcome}
-use Rattle.nr_tbl.specs.declared.running.Outcome.TheVariants.{Done, ReadFault, TooLong, WriteFault}
+use Rattle.tbl_setting.specs.Running.{Ran, is_read_fault}
+use Rattle.tbl_reader.specs.Running.{TellsReads}
+use Rattle.tbl_reader.specs.declared.complaint.Complaint.{Complaint}
+use Rattle.tbl_reader.specs.declared.reader.Limits.{Limits}
+use Rattle.tbl_reader.specs.declared.running.Outcome.{Outcome}
+use Rattle.tbl_reader.specs.declared.running.Outcome.TheVariants.{Done, ReadFault, TooLong, WriteFault}
 
 -- drawn with the same, under the same limits, with the same bytes before and after
 pub carried : (g g' : _) (l l' : Limits) (cells cells' : ℕ) (q q' left : Option Supply) (old old' new new' : Option (List ℕ)) (kept : Items Complaint) (missed uneven : Bool) (o : Outcome)

@@ -1,10 +1,10 @@
 -- What a call of preconv comes to.
 use Rattle.std.specs.Prelude.{◌≡◌, ℕ, List, [], length, false, Option, Some}
 use Rattle.nr_units.specs.Source.{Supply}
-use Rattle.nr_characters.specs.declared.table.Table.{Table}
-use Rattle.nr_preconv.specs.Running.{Ran, is_read_fault}
-use Rattle.nr_preconv.specs.declared.running.Outcome.{Outcome}
-use Rattle.nr_preconv.specs.declared.running.Outcome.TheVariants.{Done, ReadFault, TooLong, WriteFault}
+use Rattle.utf8_characters.specs.declared.table.Table.{Table}
+use Rattle.preconv_converter.specs.Running.{Ran, is_read_fault}
+use Rattle.preconv_converter.specs.declared.running.Outcome.{Outcome}
+use Rattle.preconv_converter.specs.declared.running.Outcome.TheVariants.{Done, ReadFault, TooLong, WriteFault}
 use Rattle.nulbiko.specs.Told.{IsHanded, code_within, whole_text}
 use Rattle.nulbiko.specs.declared.told.Report.{Report}
 

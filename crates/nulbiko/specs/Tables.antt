@@ -1,7 +1,7 @@
 -- The tables of characters, by the numbers that programs in C give them.
 use Rattle.std.specs.Prelude.{ℕ, ◌==◌, if◌then◌else◌, Option, None, Some}
-use Rattle.nr_characters.specs.declared.table.Table.{Table}
-use Rattle.nr_characters.specs.declared.table.Table.TheVariants.{English, Latin, Cyrillic, Greek, Latin1}
+use Rattle.utf8_characters.specs.declared.table.Table.{Table}
+use Rattle.utf8_characters.specs.declared.table.Table.TheVariants.{English, Latin, Cyrillic, Greek, Latin1}
 
 -- the table of a number; 0 is that of none
 abbrev pub table_numbered : ℕ → Option Table

@@ -2,15 +2,15 @@
 use Rattle.std.specs.Prelude.{◌≡◌, ℕ, List, [], ◌∷◌, length, Bool, false, Option, None, Some}
 use Rattle.nr_vectors.specs.Items.{Items}
 use Rattle.nr_units.specs.Source.{Supply}
-use Rattle.nr_characters.specs.declared.table.Table.{Table}
-use Rattle.nr_tables.specs.Drawing.{signs_of}
-use Rattle.nr_tables.specs.Running.{Ran, is_read_fault}
-use Rattle.nr_tbl.specs.declared.reader.Limits.{Limits}
-use Rattle.nr_tbl.specs.declared.complaint.Complaint.{Complaint}
-use Rattle.nr_tbl.specs.declared.complaint.Kind.{Kind}
-use Rattle.nr_tbl.specs.declared.complaint.Kind.TheVariants as kinds
-use Rattle.nr_tbl.specs.declared.running.Outcome.{Outcome}
-use Rattle.nr_tbl.specs.declared.running.Outcome.TheVariants.{Done, ReadFault, TooLong, WriteFault}
+use Rattle.utf8_characters.specs.declared.table.Table.{Table}
+use Rattle.tbl_setting.specs.Drawing.{signs_of}
+use Rattle.tbl_setting.specs.Running.{Ran, is_read_fault}
+use Rattle.tbl_reader.specs.declared.reader.Limits.{Limits}
+use Rattle.tbl_reader.specs.declared.complaint.Complaint.{Complaint}
+use Rattle.tbl_reader.specs.declared.complaint.Kind.{Kind}
+use Rattle.tbl_reader.specs.declared.complaint.Kind.TheVariants as kinds
+use Rattle.tbl_reader.specs.declared.running.Outcome.{Outcome}
+use Rattle.tbl_reader.specs.declared.running.Outcome.TheVariants.{Done, ReadFault, TooLong, WriteFault}
 use Rattle.nulbiko.specs.Told.{IsHanded, code_within, whole_text}
 use Rattle.nulbiko.specs.declared.told.Report.{Report}
 

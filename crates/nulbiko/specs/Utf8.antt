@@ -1,11 +1,11 @@
 -- What a call of utf8 comes to.
 use Rattle.std.specs.Prelude.{◌≡◌, ℕ, List, [], length, take, Bool, false, Option, Some}
 use Rattle.nr_units.specs.Source.{Supply}
-use Rattle.nr_characters.specs.declared.table.Table.{Table}
-use Rattle.nr_utf8.specs.Choosing.{IsBest, chosen, looked_at}
-use Rattle.nr_utf8.specs.Running.{Ran, is_read_fault}
-use Rattle.nr_utf8.specs.declared.running.Outcome.{Outcome}
-use Rattle.nr_utf8.specs.declared.running.Outcome.TheVariants.{Done, ReadFault, TooLong, WriteFault}
+use Rattle.utf8_characters.specs.declared.table.Table.{Table}
+use Rattle.utf8_converter.specs.Choosing.{IsBest, chosen, looked_at}
+use Rattle.utf8_converter.specs.Running.{Ran, is_read_fault}
+use Rattle.utf8_converter.specs.declared.running.Outcome.{Outcome}
+use Rattle.utf8_converter.specs.declared.running.Outcome.TheVariants.{Done, ReadFault, TooLong, WriteFault}
 use Rattle.nulbiko.specs.Tables.{number_of}
 use Rattle.nulbiko.specs.Told.{IsHanded, code_within, whole_text}
 use Rattle.nulbiko.specs.declared.told.Report.{Report}

@@ -1,7 +1,7 @@
 //! Formatting for programs in C: calls on numbers, structs and slices of bytes, thin over those of nr_engine,
-//! nr_preconv, nr_mdoc, nr_tables and nr_utf8. `include/nulbiko.h` declares them for C.
+//! preconv_converter, mdoc_converter, tbl_setting and utf8_converter. `include/nulbiko.h` declares them for C.
 //!
-//! It stands on these, nr_tbl, nr_characters, nr_options, nr_vectors and nr_units. To read: `text`, `pages`; `told`,
+//! It stands on these, tbl_reader, utf8_characters, nr_options, nr_vectors and nr_units. To read: `text`, `pages`; `told`,
 //! `tables`; `formatting`; `preconv`, `mdoc`, `tbl`, `utf8`.
 #![tactic(auto)]
 

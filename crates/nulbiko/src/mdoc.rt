@@ -6,7 +6,7 @@ ghost use Rattle.nulbiko.specs.Mdoc.{TurnsPage, code_of};
 use super::pages::{Pages, hand_over};
 use super::text::Text;
 use super::told::{DONE, FULL, OUT_OF_MEMORY, Report, TOO_LONG, UNREADABLE, code_within};
-use nr_mdoc::{Block, Outcome, convert};
+use mdoc_converter::{Block, Outcome, convert};
 use std::alloc::{AllocError, Global};
 
 /// The bytes of what is to go out.

@@ -10,9 +10,9 @@ use super::text::Text;
 use super::told::{
     DONE, FULL, OUT_OF_MEMORY, OUT_OF_RANGE, Report, TOO_LONG, UNREADABLE, code_within,
 };
-use nr_characters::Table;
-use nr_preconv::{Outcome, convert};
+use preconv_converter::{Outcome, convert};
 use std::alloc::{AllocError, Global};
+use utf8_characters::Table;
 
 /// The bytes of what is to go out.
 const PENDING_SIZE: usize = 65_536;

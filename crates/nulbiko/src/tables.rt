@@ -2,7 +2,7 @@
 ghost use Rattle.std.specs.Prelude.{◌≡◌};
 ghost use Rattle.nulbiko.specs.Tables.{number_of, table_numbered};
 
-use nr_characters::Table;
+use utf8_characters::Table;
 
 /// The greatest number of a table.
 pub(crate) const MOST_TABLES: u32 = 5;

@@ -10,10 +10,10 @@ use super::text::Text;
 use super::told::{
     DONE, FULL, OUT_OF_MEMORY, OUT_OF_RANGE, Report, TOO_LONG, UNREADABLE, code_within,
 };
-use nr_characters::Table;
-use nr_tables::{Complaint, Kind, Outcome, Rooms, convert};
 use nr_vectors::slice_vec::SliceVec;
 use std::alloc::{AllocError, Global};
+use tbl_setting::{Complaint, Kind, Outcome, Rooms, convert};
+use utf8_characters::Table;
 
 /// The most bytes of a table that are held.
 const TABLE: usize = 262_144;

@@ -1,6 +1,6 @@
 // Bytes that a table has become its characters, as utf8 makes them.
 ghost use Rattle.std.specs.Prelude.{◌≡◌, ◌≢◌, ◌↔◌, drop, IfOk, OnErr};
-ghost use Rattle.nr_characters.specs.declared.table.Table.{Table};
+ghost use Rattle.utf8_characters.specs.declared.table.Table.{Table};
 ghost use Rattle.nulbiko.specs.Tables.{table_numbered};
 ghost use Rattle.nulbiko.specs.Told.{nothing_told};
 ghost use Rattle.nulbiko.specs.Utf8.{ChoosesNumber, TurnsBytes, code_of};
@@ -11,9 +11,9 @@ use super::text::Text;
 use super::told::{
     DONE, FULL, OUT_OF_MEMORY, OUT_OF_RANGE, Report, TOO_LONG, UNREADABLE, code_within,
 };
-use nr_characters::Table;
-use nr_utf8::{CHARACTERS, LOOKED_AT, Outcome, choose, convert};
 use std::alloc::{AllocError, Global};
+use utf8_characters::Table;
+use utf8_converter::{CHARACTERS, LOOKED_AT, Outcome, choose, convert};
 
 /// The bytes of what is to go out.
 const PENDING_SIZE: usize = 65_536;

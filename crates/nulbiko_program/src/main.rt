@@ -1,9 +1,9 @@
 //! The program nulbiko: it shows manual pages and papers on a terminal, from files or standard input.
 //!
-//! It stands on nr_page_command, which has all but `main`. To read: this file, and nr_page_command.
+//! It stands on program_command, which has all but `main`. To read: this file, and program_command.
 #![tactic(auto)]
 
-use nr_page_command::run_program;
+use program_command::run_program;
 use std::io::IsTerminal;
 use std::process::ExitCode;
 

@@ -1,11 +1,11 @@
 //! The program utf8: it turns the bytes of a table of characters into UTF-8, to standard output.
 //!
-//! It stands on nr_utf8_command, which has all but `main`, and on nr_filters. To read: this file, and nr_utf8_command.
+//! It stands on utf8_command, which has all but `main`, and on filters. To read: this file, and utf8_command.
 #![tactic(auto)]
 
-use nr_filters::run_program;
-use nr_utf8_command::Utf8;
+use filters::run_program;
 use std::process::ExitCode;
+use utf8_command::Utf8;
 
 /// Turns the files that its words name, or standard input.
 fn main(rt: HostRuntime) -> ExitCode {

@@ -2,7 +2,7 @@ use Rattle.std.proofs.Common.{◌≡◌, ◌+◌, ◌-◌, ◌≤◌, ◌∙◌,
 use Rattle.nr_machine.specs.Machine.{state_after}
 use Rattle.nr_machine.specs.Holding.{Shape, Finishes, shape, weight, worth}
 use Rattle.nr_machine.proofs.Standing.{none_spent}
-use Rattle.nr_machine_rows.proofs.Running.{made_run}
+use Rattle.fast_machine.proofs.Running.{made_run}
 use Rattle.nr_engine.proofs.Travelling.{made_more, halted, spent_left, spent_one, bound_left, finished_spent}
 use Rattle.nr_engine.proofs.run.run.Goals as goal
 

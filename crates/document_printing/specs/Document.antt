@@ -1,0 +1,102 @@
+-- What a page is to print: the composition of the stages' definitions.
+use Rattle.std.specs.Prelude.{◌≡◌, ℕ, suc, List, ◌++◌, Option, Bool, true, false}
+use Rattle.std.specs.Io.KnownBytes.{Appends}
+use Rattle.nr_units.specs.Sink.{AppendsFront}
+use Rattle.nr_units.specs.Source.{Supply}
+use Rattle.utf8_characters.specs.declared.table.Table.{Table}
+use Rattle.tbl_setting.specs.Running.{Bounds, set_page}
+use Rattle.tbl_reader.specs.declared.running.Outcome as tbl
+use Rattle.tbl_reader.specs.declared.running.Outcome.TheVariants as tbls
+use Rattle.nr_options.specs.Limits as limits
+use Rattle.nr_options.specs.declared.options.Options.{Options}
+use Rattle.nr_machine.specs.Machine.{state_after}
+use Rattle.nr_machine.specs.Printing.{text}
+use Rattle.nr_machine.specs.Run.{Ends}
+use Rattle.nr_machine.specs.State.{State, start}
+use Rattle.nr_machine.specs.declared.outcome.Outcome as machine
+use Rattle.nr_machine.specs.declared.outcome.Outcome.TheVariants as machines
+use Rattle.document_stages.specs.Pulling.{broken_off, whole}
+use Rattle.document_printing.specs.declared.setup.Outcome.{Outcome}
+use Rattle.document_printing.specs.declared.setup.Outcome.TheVariants as outcomes
+use Rattle.document_printing.specs.declared.setup.Setup.{Setup}
+use Rattle.document_reader.specs.declared.page.Stages.{Stages}
+use Rattle.document_reader.specs.Page.{plain_of, plain_so_far}
+
+-- ---- what the formatter reads of a page, behind the macros
+
+abbrev pub tables_of : Bool → Bounds → List ℕ → List ℕ
+tables_of true b page = set_page b.signs b.limits b.cells page
+tables_of false b page = page
+
+-- ---- the pages
+
+-- how a page is set
+pub record Setting : Type 0 where
+  pub macros : List ℕ
+  pub stages : Stages
+  pub sets : Bool
+  pub characters : Option Table
+  pub tables : Bounds
+  pub limits : limits.Bounds
+  pub options : Options
+
+-- what the machine reads of a page
+abbrev pub source_of : Setting → List ℕ → Supply
+source_of s page = whole (s.macros ++ tables_of s.sets s.tables (plain_of s.stages s.characters page))
+
+-- the same of a page that breaks off after these bytes, where no tables are set: but for what is half read
+abbrev pub source_so_far : Setting → List ℕ → Supply
+source_so_far s bytes = broken_off (s.macros ++ plain_so_far s.stages s.characters bytes)
+
+-- the machine over what it reads, after so many moves
+abbrev pub state_of : Setting → Supply → ℕ → State
+state_of s source n = state_after n (start s.limits s.options source)
+
+-- THE PAGES that it printed until then
+abbrev pub pages_of : Setting → Supply → ℕ → List ℕ
+pages_of s source n = text (state_of s source n).pages
+
+-- ---- what goes out
+
+-- the machine ends so after so many moves, and what it printed until then went out
+pub record GoesOut (s : Setting) (source : Supply) (n : ℕ) (ended : machine.Outcome) (held new : Option (List ℕ))
+    : Type 0 where
+  pub ends : Ends s.limits.moves n (state_of s source n) ended
+  pub out : Appends held new (pages_of s source n)
+
+-- HOW A DOCUMENT ENDS. Where the output fails, a front of the pages that stand after one move more went out.
+abbrev pub Prints : Setting → Supply → ℕ → Outcome → Option (List ℕ) → Option (List ℕ) → Type 0
+Prints s source n outcomes.Done held new = GoesOut s source n machines.Done held new
+Prints s source n (outcomes.Limit which at) held new = GoesOut s source n (machines.Limit which at) held new
+Prints s source n outcomes.NoRoom held new = (s.sets ≡ true) × (new ≡ held)
+Prints s source n outcomes.ReadFault held new = Unit {0}
+Prints s source n outcomes.TooLong held new = Unit {0}
+Prints s source n outcomes.WriteFault held new = AppendsFront held new (pages_of s source (suc n))
+
+-- ---- what the program holds of this
+
+abbrev pub setting_of : Setup → Bounds → limits.Bounds → Setting
+setting_of setup tables limits = record {
+  macros = setup.macros.now;
+  stages = setup.stages;
+  sets = setup.tables;
+  characters = setup.characters;
+  tables = tables;
+  limits = limits;
+  options = setup.options.now;
+}
+
+-- how the formatter's end is told of a page that came whole
+abbrev pub told : machine.Outcome → Outcome
+told machines.Done = outcomes.Done
+told (machines.Limit which at) = outcomes.Limit which at
+told (machines.ReadFault at) = outcomes.ReadFault
+told machines.TooLong = outcomes.TooLong
+told machines.WriteFault = outcomes.WriteFault
+
+-- the same of a page whose tables ended so
+abbrev pub told_with : tbl.Outcome → Outcome → Outcome
+told_with tbls.Done outcome = outcome
+told_with (tbls.ReadFault at) outcome = outcomes.ReadFault
+told_with tbls.TooLong outcome = outcomes.TooLong
+told_with tbls.WriteFault outcome = outcomes.NoRoom

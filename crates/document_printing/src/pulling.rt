@@ -1,0 +1,58 @@
+//! A page is formatted as it comes.
+ghost use Rattle.std.specs.Prelude.{◌≡◌, ◌≤◌, ◌++◌, ℕ, Some, length, take};
+ghost use Rattle.nr_units.specs.Source.{After, Never, Supply};
+ghost use Rattle.nr_machine.specs.Run.{Answers};
+ghost use Rattle.nr_machine.specs.State.{start};
+ghost use Rattle.document_stages.specs.Pulling.{broken_off, whole};
+ghost use Rattle.document_reader.specs.Page.{IsShort, man_of, man_so_far, plain_of, plain_so_far};
+
+use super::setup::Setup;
+use document_reader::{Waits, read_page};
+use document_stages::Joined;
+use nr_engine::{Desk, Outcome, format};
+use nr_units::sink::Sink;
+use nr_units::source::Source;
+
+/// How far a page was formatted.
+#[derive(Clone, Copy)]
+pub(crate) struct Pulled {
+    pub outcome: Outcome,
+    pub line: u64,
+    pub moves: u128,
+}
+
+/// A page is formatted behind its macros, without its tables. Nothing is allocated.
+pub(crate) fn pull<R: Source + Drop, W: Sink>(
+    input: R,
+    setup: &Setup<'_>,
+    waits: Waits<'_>,
+    desk: &mut Desk,
+    output: &mut W,
+) -> Pulled
+    requires first { 73984 ≤ length waits.first.now }
+    requires second { 73984 ≤ length waits.second.now }
+    requires blocks { 64 ≤ length waits.blocks.now }
+    // What is formatted is the composition of the stages.
+    ensures whole { (q : Supply) → R.supply input ≡ Some q → q.faults ≡ Never →
+        IsShort q.bytes (man_of setup.now.stages.mdoc q.bytes) →
+        Answers desk.old (start desk.old setup.now.options.now
+        (whole (setup.now.macros.now ++ plain_of setup.now.stages setup.now.characters q.bytes)))
+        result.moves result.outcome (W.held output.old) (W.held output.new) }
+    // Where the source fails after so many bytes, it is that of these, but for what is half read.
+    ensures cut { (q : Supply) → (n : ℕ) → R.supply input ≡ Some q → q.faults ≡ After n → n ≤ length q.bytes →
+        IsShort q.bytes (man_so_far setup.now.stages.mdoc (take n q.bytes)) →
+        Answers desk.old (start desk.old setup.now.options.now
+        (broken_off (setup.now.macros.now ++ plain_so_far setup.now.stages setup.now.characters (take n q.bytes))))
+        result.moves result.outcome (W.held output.old) (W.held output.new) }
+{
+    let page = read_page(input, setup.stages, setup.characters, waits);
+    let mut all = Joined::over(setup.macros, page);
+    let mut moves = 0;
+    let outcome = format(desk.lend(), setup.options, &mut all, output, &mut moves);
+    let line = all.second().input().input().line();
+    Pulled {
+        outcome,
+        line,
+        moves,
+    }
+}

@@ -1,0 +1,70 @@
+//! A page is read through the stages that stand before the formatter.
+ghost use Rattle.std.specs.Prelude.{◌≡◌, ◌≤◌, ℕ, Some, length, take};
+ghost use Rattle.nr_units.specs.Source.{After, Never, Supply};
+ghost use Rattle.document_stages.specs.Pulling.{broken_off, whole};
+ghost use Rattle.document_reader.specs.Page.{IsShort, man_of, man_so_far, plain_of, plain_so_far};
+
+use document_stages::{Counted, Pull, Switch};
+use mdoc_converter::{Block, Turner as Mdoc};
+use nr_units::source::Source;
+use preconv_converter::Turner as Characters;
+use utf8_characters::Table;
+
+/// Which stages a page goes through. Each decides for itself what it turns: mdoc a page of mdoc(7) alone.
+#[derive(Clone, Copy, Debug, PartialEq, Eq)]
+pub struct Stages {
+    /// mdoc becomes man.
+    pub mdoc: bool,
+    /// Characters and escapes become what the formatter reads.
+    pub characters: bool,
+}
+
+/// Where what each stage makes waits, and what is open of mdoc(7). What these hold is of no account.
+#[derive(Drop)]
+pub struct Waits<'a> {
+    /// For mdoc, 73,984 bytes at least.
+    pub first: &'a mut [u8],
+    /// For characters, as many.
+    pub second: &'a mut [u8],
+    /// The lists and displays that are open, 64 at least.
+    pub blocks: &'a mut [Block],
+}
+
+/// A page whose lines are counted, through mdoc and characters.
+pub type PageText<'a, R> = Pull<'a, Pull<'a, Counted<R>, Switch<Mdoc<'a>>>, Switch<Characters>>;
+
+/// A page as the formatter reads it, but for its tables. Nothing is allocated. The line that was read last is
+/// `input().input().line()`.
+pub fn read_page<'a, R: Source + Drop>(
+    input: R,
+    stages: Stages,
+    characters: Option<Table>,
+    waits: Waits<'a>,
+) -> PageText<'a, R>
+    requires first { 73984 ≤ length waits.first.now }
+    requires second { 73984 ≤ length waits.second.now }
+    requires blocks { 64 ≤ length waits.blocks.now }
+    // It gives what the stages make of the page, one after the other.
+    ensures whole { (q : Supply) → R.supply input ≡ Some q → q.faults ≡ Never →
+        IsShort q.bytes (man_of stages.mdoc q.bytes) →
+        ⟦<PageText<'a, R> as Source>⟧.supply result ≡ Some (whole (plain_of stages characters q.bytes)) }
+    // Where the source fails after so many bytes, it gives what they make of these, but for what is half read, and fails.
+    ensures cut { (q : Supply) → (n : ℕ) → R.supply input ≡ Some q → q.faults ≡ After n → n ≤ length q.bytes →
+        IsShort q.bytes (man_so_far stages.mdoc (take n q.bytes)) →
+        ⟦<PageText<'a, R> as Source>⟧.supply result
+        ≡ Some (broken_off (plain_so_far stages characters (take n q.bytes))) }
+    ensures failures { ⟦<PageText<'a, R> as Source>⟧.failures result ≡ 0 }
+{
+    let Waits {
+        first,
+        second,
+        blocks,
+    } = waits;
+    let lines = Counted::over(input);
+    let turner = Mdoc::over(blocks);
+    let mdoc = Switch::over(turner, stages.mdoc);
+    let man = Pull::over(mdoc, lines, first);
+    let converter = Characters::new(characters);
+    let switched = Switch::over(converter, stages.characters);
+    Pull::over(switched, man, second)
+}

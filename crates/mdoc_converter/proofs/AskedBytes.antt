@@ -1,0 +1,286 @@
+-- The bytes of a line whose words are read for what they ask are not said.
+use Rattle.std.proofs.Common.{◌≡◌, ℕ, ◌≤◌, ◌+◌, [], length, Bool, true, false, not, nat_lt, ◌&&◌, ◌||◌, ◌==◌, if◌then◌else◌, refl, ◌∙◌, ap, arith}
+use Prim.Native.Char.{code}
+use Rattle.mdoc_converter.specs.declared.acts.Act.TheVariants as acts
+use Rattle.mdoc_converter.specs.declared.macros.Macro.{Macro}
+use Rattle.mdoc_converter.specs.declared.page.Inside.TheVariants as insides
+use Rattle.mdoc_converter.specs.declared.page.Page.{Page}
+use Rattle.mdoc_converter.specs.declared.page.Scan.{Scan}
+use Rattle.mdoc_converter.specs.declared.page.Scan.TheVariants as scans
+use Rattle.mdoc_converter.specs.Calls.{with_scan}
+use Rattle.mdoc_converter.specs.Keeping.{comment, continued, ends_word, keep, keep_blank, keep_byte, keep_escape, keep_quote, whole_for}
+use Rattle.mdoc_converter.specs.Options.{is_heading, reads_for}
+use Rattle.mdoc_converter.specs.Reading.{State}
+use Rattle.mdoc_converter.specs.Scanning.{meet, meet_at}
+use Rattle.mdoc_converter.specs.Seeing.{Met, met, left, taken}
+use Rattle.mdoc_converter.specs.WrittenLines.{asks}
+use Rattle.mdoc_converter.proofs.AskedWords.{Asking, asking_as, Leading, Taking, left_leads, taken_takes, cell_takes, given_step, kept, kept_byte, asks_shown, asks_whole}
+use Rattle.mdoc_converter.proofs.ReadWords.{between_by}
+use Rattle.mdoc_converter.proofs.Meeting.{Takes, then_takes}
+use Rattle.mdoc_converter.proofs.Outcomes.{never}
+
+-- ---- between bytes
+
+-- where such a line is read between bytes
+unfoldable pub is_inside : Scan → Bool
+is_inside scans.Between = true
+is_inside scans.Word = true
+is_inside scans.Quoted = true
+is_inside scans.Closing = true
+is_inside scan = false
+
+-- a byte is taken in a few meetings, and the line is read further so
+pub record Heard (m : Macro) (b : ℕ) (s : State) (k : ℕ) : Type 0 where
+  pub next : State
+  pub steps : ℕ
+  pub few : steps ≤ k
+  pub takes : Takes b s next steps []
+  pub scan : Scan
+  pub at : Asking m next.page scan
+  pub inside : is_inside scan ≡ true
+
+heard_of : (m : Macro) (b : ℕ) (s : State) (k : ℕ) (scan : Scan) → 1 ≤ k → is_inside scan ≡ true → Taking m b s 1 scan → Heard m b s k
+heard_of m b s k scan l i t = record { next = t.next; steps = 1; few = l; takes = t.takes; scan = scan; at = t.at; inside = i }
+
+pub heard_behind : (m : Macro) (b : ℕ) (s : State) (k : ℕ) (scan : Scan) (one : Leading m b s 1 scan) → Heard m b one.next k → Heard m b s (1 + k)
+heard_behind m b s k scan one h = record {
+  next = h.next;
+  steps = 1 + h.steps;
+  few = (let few = h.few in omega arith);
+  takes = then_takes b s one.next h.next 1 h.steps [] [] one.leads h.takes;
+  scan = h.scan;
+  at = h.at;
+  inside = h.inside;
+}
+
+heard_within : (m : Macro) (b : ℕ) (s : State) (j k : ℕ) → j ≤ k → Heard m b s j → Heard m b s k
+heard_within m b s j k l h =
+    record { next = h.next; steps = h.steps; few = (let few = h.few in omega arith); takes = h.takes; scan = h.scan; at = h.at; inside = h.inside }
+
+-- ---- one byte that is no newline and no backslash
+
+-- in a word
+pub word_met : (b : ℕ) (p : Page) (t : Bool) → p.scan ≡ scans.Word → ends_word b ≡ t → (b == code "\\") ≡ false
+    → meet b p ≡ (if t then met (with_scan (scans.Given false) p) (left acts.Nothing) else keep_byte b false p)
+unfolding meet
+word_met b p t e f g =
+    ap (λ (sc : Scan). meet_at sc b p) e
+    ∙ ap (λ (u : Bool). if u then met (with_scan (scans.Given false) p) (left acts.Nothing) else if b == code "\\" then met (with_scan scans.Escape p) (taken acts.Nothing) else keep_byte b false p) f
+    ∙ ap (λ (u : Bool). if t then met (with_scan (scans.Given false) p) (left acts.Nothing) else if u then met (with_scan scans.Escape p) (taken acts.Nothing) else keep_byte b false p) g
+
+pub between_met : (m : Macro) (b : ℕ) (p : Page) → Asking m p scans.Between
+    → meet b p ≡ between_by false (b == code " ") (b == code "\t") (b == code "\n") (b == code "\"") p
+unfolding meet between_by
+between_met m b p at =
+    ap (λ (sc : Scan). meet_at sc b p) at.scan_is
+    ∙ ap (λ (t : Bool). between_by t (b == code " ") (b == code "\t") (b == code "\n") (b == code "\"") p) at.comment
+
+begun : Scan → Page → Page
+begun scan p = with_scan scan (record p { word = []; call = record p.call { width = 0 } })
+
+begun_asking : (m : Macro) (scan from : Scan) (p : Page) → Asking m p from → Asking m (begun scan p) scan
+unfolding begun
+begun_asking m scan from p at = asking_as m scan p _ refl refl refl refl refl refl refl at
+
+-- a word begins with it
+word_heard : (m : Macro) (b : ℕ) (s : State) → asks m ≡ true → Asking m s.page scans.Word → ends_word b ≡ false → (b == code "\\") ≡ false → Heard m b s 1
+unfolding is_inside
+word_heard m b s h at e f =
+    heard_of m b s 1 scans.Word (omega arith) refl
+    (kept_byte m b false s s.page scans.Word h (word_met b s.page false at.scan_is e f) at)
+
+none_ends : (t u v : Bool) → t ≡ false → u ≡ false → v ≡ false → (t || u || v) ≡ false
+none_ends t u v e f g = cc
+
+pub between_heard : (t u q : Bool) (m : Macro) (b : ℕ) (s : State) → asks m ≡ true → Asking m s.page scans.Between
+    → (b == code " ") ≡ t → (b == code "\t") ≡ u → (b == code "\n") ≡ false → (b == code "\"") ≡ q → (b == code "\\") ≡ false → Heard m b s 2
+unfolding is_inside between_by begun
+between_heard true u q m b s h at e f g i j =
+    let p = s.page in
+    heard_of m b s 2 scans.Between (omega arith) refl
+    (taken_takes m b s p scans.Between
+    (between_met m b p at ∙ ap (λ (t : Bool). between_by false t (b == code "\t") (b == code "\n") (b == code "\"") p) e) at)
+between_heard false true q m b s h at e f g i j =
+    let p = s.page in
+    heard_of m b s 2 scans.Between (omega arith) refl
+    (cell_takes m b s p scans.Between
+    (between_met m b p at ∙ ap (λ (t : Bool). between_by false t (b == code "\t") (b == code "\n") (b == code "\"") p) e
+    ∙ ap (λ (t : Bool). between_by false false t (b == code "\n") (b == code "\"") p) f) at)
+between_heard false false true m b s h at e f g i j =
+    let p = s.page in
+    heard_of m b s 2 scans.Quoted (omega arith) refl
+    (taken_takes m b s (begun scans.Quoted p) scans.Quoted
+    (between_met m b p at ∙ ap (λ (t : Bool). between_by false t (b == code "\t") (b == code "\n") (b == code "\"") p) e
+    ∙ ap (λ (t : Bool). between_by false false t (b == code "\n") (b == code "\"") p) f
+    ∙ ap (λ (t : Bool). between_by false false false t (b == code "\"") p) g
+    ∙ ap (λ (t : Bool). between_by false false false false t p) i)
+    (begun_asking m scans.Quoted scans.Between p at))
+between_heard false false false m b s h at e f g i j =
+    let p = s.page in
+    let one = left_leads m b s (begun scans.Word p) scans.Word
+    (between_met m b p at ∙ ap (λ (t : Bool). between_by false t (b == code "\t") (b == code "\n") (b == code "\"") p) e
+    ∙ ap (λ (t : Bool). between_by false false t (b == code "\n") (b == code "\"") p) f
+    ∙ ap (λ (t : Bool). between_by false false false t (b == code "\"") p) g
+    ∙ ap (λ (t : Bool). between_by false false false false t p) i)
+    (begun_asking m scans.Word scans.Between p at) in
+    heard_behind m b s 1 scans.Word one (word_heard m b one.next h one.at (none_ends (b == code " ") (b == code "\t") (b == code "\n") e f g) j)
+
+-- a word that is whole is read for what it asks, and the byte behind it is met again
+given_heard : (quoted : Bool) (m : Macro) (b : ℕ) (s : State) → asks m ≡ true → Asking m s.page (scans.Given quoted)
+    → (b == code "\n") ≡ false → (b == code "\\") ≡ false → Heard m b s 3
+given_heard quoted m b s h at e f =
+    let one = given_step m quoted b s h at in
+    heard_behind m b s 2 scans.Between one
+    (between_heard (b == code " ") (b == code "\t") (b == code "\"") m b one.next h one.at refl refl e refl f)
+
+pub given_asking : (m : Macro) (quoted : Bool) (from : Scan) (p : Page) → Asking m p from → Asking m (with_scan (scans.Given quoted) p) (scans.Given quoted)
+given_asking m quoted from p at = asking_as m (scans.Given quoted) p _ refl refl refl refl refl refl refl at
+
+word_byte : (t : Bool) (m : Macro) (b : ℕ) (s : State) → asks m ≡ true → Asking m s.page scans.Word → ends_word b ≡ t
+    → (b == code "\n") ≡ false → (b == code "\\") ≡ false → Heard m b s 4
+word_byte true m b s h at e f g =
+    let p = s.page in
+    let one = left_leads m b s (with_scan (scans.Given false) p) (scans.Given false) (word_met b p true at.scan_is e g) (given_asking m false scans.Word p at) in
+    heard_behind m b s 3 (scans.Given false) one (given_heard false m b one.next h one.at f g)
+word_byte false m b s h at e f g = heard_within m b s 1 4 (omega arith) (word_heard m b s h at e g)
+
+unfoldable pub quoted_rest : ℕ → Page → Met
+quoted_rest b p = if (b == code " ") && whole_for p.call.taker p then keep_blank p else keep_byte b true p
+
+and_no : (a b : Bool) → b ≡ false → (a && b) ≡ false
+and_no true b e = e
+and_no false b e = refl
+
+quoted_byte : (t : Bool) (m : Macro) (b : ℕ) (s : State) → asks m ≡ true → Asking m s.page scans.Quoted → (b == code "\"") ≡ t
+    → (b == code "\n") ≡ false → (b == code "\\") ≡ false → Heard m b s 4
+unfolding meet is_inside quoted_rest
+quoted_byte true m b s h at e f g =
+    let p = s.page in
+    heard_of m b s 4 scans.Closing (omega arith) refl
+    (taken_takes m b s (with_scan scans.Closing p) scans.Closing
+    (ap (λ (sc : Scan). meet_at sc b p) at.scan_is
+    ∙ ap (λ (t : Bool). if t then met (with_scan scans.Closing p) (taken acts.Nothing) else if b == code "\n" then met (with_scan (scans.Given true) p) (left acts.Nothing) else if b == code "\\" then met (with_scan scans.QuotedEscape p) (taken acts.Nothing) else quoted_rest b p) e)
+    (asking_as m scans.Closing p _ refl refl refl refl refl refl refl at))
+quoted_byte false m b s h at e f g =
+    let p = s.page in
+    heard_of m b s 4 scans.Quoted (omega arith) refl
+    (kept_byte m b true s p scans.Quoted h
+    (ap (λ (sc : Scan). meet_at sc b p) at.scan_is
+    ∙ ap (λ (t : Bool). if t then met (with_scan scans.Closing p) (taken acts.Nothing) else if b == code "\n" then met (with_scan (scans.Given true) p) (left acts.Nothing) else if b == code "\\" then met (with_scan scans.QuotedEscape p) (taken acts.Nothing) else quoted_rest b p) e
+    ∙ ap (λ (t : Bool). if t then met (with_scan (scans.Given true) p) (left acts.Nothing) else if b == code "\\" then met (with_scan scans.QuotedEscape p) (taken acts.Nothing) else quoted_rest b p) f
+    ∙ ap (λ (t : Bool). if t then met (with_scan scans.QuotedEscape p) (taken acts.Nothing) else quoted_rest b p) g
+    ∙ ap (λ (k : Macro). if (b == code " ") && whole_for k p then keep_blank p else keep_byte b true p) at.taker
+    ∙ ap (λ (t : Bool). if t then keep_blank p else keep_byte b true p)
+    (and_no (b == code " ") (whole_for m p) (asks_whole m p h)))
+    at)
+
+quote_rest : Bool → Page → Met
+quote_rest full p =
+    if full then met (with_scan (scans.Long insides.Closing) p) (left acts.Nothing) else keep (code "\"") true (with_scan scans.Quoted p)
+
+closing_byte : (t : Bool) (m : Macro) (b : ℕ) (s : State) → asks m ≡ true → Asking m s.page scans.Closing → (b == code "\"") ≡ t
+    → (b == code "\n") ≡ false → (b == code "\\") ≡ false → Heard m b s 4
+unfolding meet is_inside quote_rest
+closing_byte true m b s h at e f g =
+    let p = s.page in
+    let q = with_scan scans.Quoted p in
+    heard_of m b s 4 scans.Quoted (omega arith) refl
+    (kept m b (code "\"") true s q scans.Quoted h
+    (ap (λ (sc : Scan). meet_at sc b p) at.scan_is
+    ∙ ap (λ (t : Bool). if t then keep_quote p else met (with_scan (scans.Given true) p) (left acts.Nothing)) e
+    ∙ ap (λ (k : Macro). quote_rest (not (nat_lt (length p.word) 30) && (not (reads_for k) || is_heading k)) p) at.taker
+    ∙ ap (λ (t : Bool). quote_rest t p) (and_no (not (nat_lt (length p.word) 30)) (not (reads_for m) || is_heading m) (asks_shown m h)))
+    (asking_as m scans.Quoted p _ refl refl refl refl refl refl refl at))
+closing_byte false m b s h at e f g =
+    let p = s.page in
+    let one = left_leads m b s (with_scan (scans.Given true) p) (scans.Given true)
+    (ap (λ (sc : Scan). meet_at sc b p) at.scan_is
+    ∙ ap (λ (t : Bool). if t then keep_quote p else met (with_scan (scans.Given true) p) (left acts.Nothing)) e)
+    (given_asking m true scans.Closing p at) in
+    heard_behind m b s 3 (scans.Given true) one (given_heard true m b one.next h one.at f g)
+
+pub byte_heard : (scan : Scan) (m : Macro) (b : ℕ) (s : State) → asks m ≡ true → Asking m s.page scan → is_inside scan ≡ true
+    → (b == code "\n") ≡ false → (b == code "\\") ≡ false → Heard m b s 4
+unfolding is_inside
+byte_heard scans.Between m b s h at i f g =
+    heard_within m b s 2 4 (omega arith) (between_heard (b == code " ") (b == code "\t") (b == code "\"") m b s h at refl refl f refl g)
+byte_heard scans.Word m b s h at i f g = word_byte (ends_word b) m b s h at refl f g
+byte_heard scans.Quoted m b s h at i f g = quoted_byte (b == code "\"") m b s h at refl f g
+byte_heard scans.Closing m b s h at i f g = closing_byte (b == code "\"") m b s h at refl f g
+byte_heard scan m b s h at i f g = never i
+
+-- ---- an escape
+
+unfoldable pub escape_of : Bool → Scan
+escape_of quoted = if quoted then scans.QuotedEscape else scans.Escape
+
+-- its backslash is taken in a few meetings
+pub record Slash (m : Macro) (s : State) (k : ℕ) : Type 0 where
+  pub next : State
+  pub steps : ℕ
+  pub few : steps ≤ k
+  pub takes : Takes (code "\\") s next steps []
+  pub quoted : Bool
+  pub at : Asking m next.page (escape_of quoted)
+
+slash_behind : (m : Macro) (s : State) (k : ℕ) (scan : Scan) (one : Leading m (code "\\") s 1 scan) → Slash m one.next k → Slash m s (1 + k)
+slash_behind m s k scan one h = record {
+  next = h.next;
+  steps = 1 + h.steps;
+  few = (let few = h.few in omega arith);
+  takes = then_takes (code "\\") s one.next h.next 1 h.steps [] [] one.leads h.takes;
+  quoted = h.quoted;
+  at = h.at;
+}
+
+slash_within : (m : Macro) (s : State) (j k : ℕ) → j ≤ k → Slash m s j → Slash m s k
+slash_within m s j k l h =
+    record { next = h.next; steps = h.steps; few = (let few = h.few in omega arith); takes = h.takes; quoted = h.quoted; at = h.at }
+
+word_slash : (m : Macro) (s : State) → Asking m s.page scans.Word → Slash m s 1
+unfolding meet escape_of
+word_slash m s at =
+    let p = s.page in
+    let t = taken_takes m (code "\\") s (with_scan scans.Escape p) scans.Escape (ap (λ (sc : Scan). meet_at sc (code "\\") p) at.scan_is)
+    (asking_as m scans.Escape p _ refl refl refl refl refl refl refl at) in
+    record { next = t.next; steps = 1; few = omega arith; takes = t.takes; quoted = false; at = t.at }
+
+between_slash : (m : Macro) (s : State) → Asking m s.page scans.Between → Slash m s 2
+unfolding between_by begun
+between_slash m s at =
+    let p = s.page in
+    let one = left_leads m (code "\\") s (begun scans.Word p) scans.Word (between_met m (code "\\") p at) (begun_asking m scans.Word scans.Between p at) in
+    slash_behind m s 1 scans.Word one (word_slash m one.next one.at)
+
+pub slash_heard : (scan : Scan) (m : Macro) (s : State) → asks m ≡ true → Asking m s.page scan → is_inside scan ≡ true → Slash m s 4
+unfolding meet is_inside escape_of quoted_rest
+slash_heard scans.Between m s h at i = slash_within m s 2 4 (omega arith) (between_slash m s at)
+slash_heard scans.Word m s h at i = slash_within m s 1 4 (omega arith) (word_slash m s at)
+slash_heard scans.Quoted m s h at i =
+    let p = s.page in
+    let t = taken_takes m (code "\\") s (with_scan scans.QuotedEscape p) scans.QuotedEscape (ap (λ (sc : Scan). meet_at sc (code "\\") p) at.scan_is)
+    (asking_as m scans.QuotedEscape p _ refl refl refl refl refl refl refl at) in
+    record { next = t.next; steps = 1; few = omega arith; takes = t.takes; quoted = true; at = t.at }
+slash_heard scans.Closing m s h at i =
+    let p = s.page in
+    let one = left_leads m (code "\\") s (with_scan (scans.Given true) p) (scans.Given true) (ap (λ (sc : Scan). meet_at sc (code "\\") p) at.scan_is)
+    (given_asking m true scans.Closing p at) in
+    let two = given_step m true (code "\\") one.next h one.at in
+    slash_behind m s 3 (scans.Given true) one (slash_behind m one.next 2 scans.Between two (between_slash m two.next two.at))
+slash_heard scan m s h at i = never i
+
+pub escape_met : (quoted : Bool) (b : ℕ) (p : Page) → p.scan ≡ escape_of quoted → (b == code "\"") ≡ false → (b == code "\n") ≡ false → meet b p ≡ keep_escape b quoted p
+unfolding meet escape_of
+escape_met true b p e f g =
+    ap (λ (sc : Scan). meet_at sc b p) e
+    ∙ ap (λ (t : Bool). if t then comment true p else if b == code "\n" then continued true p else keep_escape b true p) f
+    ∙ ap (λ (t : Bool). if t then continued true p else keep_escape b true p) g
+escape_met false b p e f g =
+    ap (λ (sc : Scan). meet_at sc b p) e
+    ∙ ap (λ (t : Bool). if t then comment false p else if b == code "\n" then continued false p else keep_escape b false p) f
+    ∙ ap (λ (t : Bool). if t then continued false p else keep_escape b false p) g
+
+pub inside_by : (quoted : Bool) → is_inside (if quoted then scans.Quoted else scans.Word) ≡ true
+unfolding is_inside
+inside_by true = refl
+inside_by false = refl

@@ -1,0 +1,18 @@
+use Rattle.std.proofs.Common.{rules, ◌<◌, length, get_or, refl}
+use Rattle.mdoc_converter.specs.Reading.{state}
+use Rattle.mdoc_converter.proofs.SaidParts.{said-byte, said-passing}
+use Rattle.mdoc_converter.proofs.staged.TurnerStage.turn.Goals as goal
+
+pub returns-then-count-gt0-clause-says : goal.returns-then-count-gt0-clause-says
+returns-then-count-gt0-clause-says c =
+    let s = c.args.self.now in
+    said-passing (state s.reader s.blocks.items) (state s.reader s.blocks.items) _ c.args.out.now.items c.extend.new.self.items
+    (c.passing_of-count.ensures.passes s.blocks.items) refl c.requires.empty c.extend.ensures.items
+
+pub returns-clause-says : goal.returns-clause-says
+returns-clause-says c =
+    let s = c.args.self.now in
+    let bytes = c.args.bytes.now in
+    let some : 0 < length bytes = search rules in
+    said-byte (state s.reader s.blocks.items) _ bytes c.args.out.now.items c.read.new.out.items (get_or bytes 0 0) some refl c.requires.empty
+    c.read.ensures.state c.read.ensures.items

@@ -1,0 +1,54 @@
+-- What is said is laid out.
+use Rattle.std.specs.Prelude.{ℕ, [], ◌∷◌, true, false, if◌then◌else◌, codes}
+use Rattle.mdoc_converter.specs.declared.acts.Act.{Act}
+use Rattle.mdoc_converter.specs.declared.acts.Act.TheVariants as acts
+use Rattle.mdoc_converter.specs.declared.page.Page.{Page}
+use Rattle.mdoc_converter.specs.Columns.{begins_row, column_text, put_cell, put_row, put_stops}
+use Rattle.mdoc_converter.specs.Laying.{Laid, laid, then_laid, with_lay, put, is_joined, end_line, lay_word}
+use Rattle.mdoc_converter.specs.OwnLines.{freshen, end_tag, end_hang, quiet_down, put_space, put_request, put_sized, put_hanging, put_tag, put_numbered, put_title, end_title, put_head, put_control, put_naming}
+use Rattle.mdoc_converter.specs.References.{put_part_begin, put_reference}
+use Rattle.mdoc_converter.specs.Texts.{text_of, front_of}
+
+abbrev pub lay_request : Act → Page → Laid
+lay_request acts.Fresh p = freshen p
+lay_request (acts.Tag width) p = put_tag width p
+lay_request (acts.TagEnds width) p = end_tag width p
+lay_request (acts.HangEnds width) p = end_hang width p
+lay_request acts.Quiet p = quiet_down p
+lay_request acts.Space p = put_space p
+lay_request (acts.Request request) p = put_request request p
+lay_request (acts.Sized sized n) p = put_sized sized n p
+lay_request (acts.Hanging n) p = put_hanging n p
+lay_request (acts.Numbered n width) p = put_numbered n width p
+lay_request acts.Title p = put_title p
+lay_request acts.TitleEnds p = end_title p
+lay_request acts.Section p = put_head (codes ".SH") p
+lay_request acts.Subsection p = put_head (codes ".SS") p
+lay_request acts.Columns p = put_head (codes ".ds %c") p
+lay_request (acts.Stops gap hang) p = put_stops gap hang p
+lay_request (acts.Column width) p = laid p (column_text width)
+lay_request acts.Cell p = put_cell p
+lay_request acts.Row p = put_row p
+lay_request (acts.Part letter) p = put_part_begin letter p
+lay_request acts.Reference p = put_reference p
+lay_request acts.Control p = put_control p
+lay_request acts.Naming p = put_naming p
+lay_request act p = lay_word act p
+
+-- a text line begins: in a list of columns without items as a row
+abbrev pub put_begin : ℕ → Page → Laid
+put_begin b p =
+    then_laid (if begins_row p then put_row p else laid p []) (λ q. put q.lay.joined (b ∷ []) q)
+
+unfoldable pub lay_out : Act → Page → Laid
+lay_out acts.Nothing p = laid p []
+lay_out (acts.Byte b) p = laid p (b ∷ [])
+lay_out acts.Hyphen p = laid p (codes "\\-")
+lay_out (acts.Front front) p = laid p (front_of front)
+lay_out (acts.Begin b) p = put_begin b p
+lay_out (acts.Text text) p = put (is_joined p) (text_of text) p
+lay_out (acts.Close text) p = put true (text_of text) p
+lay_out acts.Join p = laid (with_lay (record p.lay { joined = true }) p) []
+lay_out acts.Apart p = laid (with_lay (record p.lay { joined = false }) p) []
+lay_out acts.Ends p = laid (end_line p) []
+lay_out act p = lay_request act p

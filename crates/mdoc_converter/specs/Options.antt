@@ -1,0 +1,287 @@
+-- Words that are read for what they ask: dates, titles, headings (mdoc(7), Dd, Dt, Sh), and options of Bl, Bd, Bf, Sm, Ex, Rv.
+use Rattle.std.specs.Prelude.{ℕ, ◌+◌, ◌-◌, ◌*◌, List, [], ◌∷◌, length, Bool, true, false, not, ◌==◌, ◌&&◌, ◌||◌, nat_lt, nat_le, if◌then◌else◌, codes, Option, None, Some}
+use Rattle.std.specs.Str.{bytes_eq}
+use Prim.Native.Char.{code}
+use Rattle.mdoc_converter.specs.declared.acts.Act.TheVariants as acts
+use Rattle.mdoc_converter.specs.declared.acts.Request.TheVariants as requests
+use Rattle.mdoc_converter.specs.declared.acts.Text.TheVariants as texts
+use Rattle.mdoc_converter.specs.declared.macros.Font.{Font}
+use Rattle.mdoc_converter.specs.declared.macros.Font.TheVariants.{Roman, Bold}
+use Rattle.mdoc_converter.specs.declared.macros.Macro.{Macro}
+use Rattle.mdoc_converter.specs.declared.macros.Macro.TheVariants as macros
+use Rattle.mdoc_converter.specs.declared.options.TheConstants.{ASKED, WIDTHS, FONTS, SECTIONS}
+use Rattle.mdoc_converter.specs.declared.page.Asks.{Asks}
+use Rattle.mdoc_converter.specs.declared.page.Asks.TheVariants as asks
+use Rattle.mdoc_converter.specs.declared.page.Block.{Block}
+use Rattle.mdoc_converter.specs.declared.page.Kind.{Kind}
+use Rattle.mdoc_converter.specs.declared.page.Kind.TheVariants as kinds
+use Rattle.mdoc_converter.specs.declared.page.Page.{Page}
+use Rattle.mdoc_converter.specs.declared.page.Scan.TheVariants as scans
+use Rattle.mdoc_converter.specs.declared.page.Section.{Section}
+use Rattle.mdoc_converter.specs.declared.page.Section.TheVariants as sections
+use Rattle.mdoc_converter.specs.declared.page.Split.{Split}
+use Rattle.mdoc_converter.specs.declared.page.Split.TheVariants as splits
+use Rattle.mdoc_converter.specs.declared.page.Wanted.{Wanted}
+use Rattle.mdoc_converter.specs.declared.page.Wanted.TheVariants as wanteds
+use Rattle.mdoc_converter.specs.Lookup.{named_in}
+use Rattle.mdoc_converter.specs.Seeing.{Met, met, left, two, three}
+
+-- ---- what words say
+
+abbrev pub digit : ℕ → Option ℕ
+digit b = if nat_le (code "0") b && nat_le b (code "9") then Some (b - code "0") else None
+
+abbrev pub tens : Option ℕ → Option ℕ → Option ℕ
+tens None b = None
+tens (Some a) None = None
+tens (Some a) (Some b) = if nat_lt a 10 && nat_lt b 10 then Some (10 * a + b) else None
+
+abbrev pub two_digits : ℕ → ℕ → Option ℕ
+two_digits a b = tens (digit a) (digit b)
+
+abbrev pub is_unit : ℕ → Bool
+is_unit b = (b == code "n") || (b == code "m")
+
+-- a number below a hundred, of characters: digits alone are a text
+abbrev pub number_said : List ℕ → Option ℕ
+number_said [] = None
+number_said (a ∷ []) = None
+number_said (a ∷ b ∷ []) = if is_unit b then digit a else None
+number_said (a ∷ b ∷ c ∷ []) = if is_unit c then two_digits a b else None
+number_said (a ∷ b ∷ c ∷ d ∷ rest) = None
+
+unfoldable pub width_named : List ℕ → Option ℕ
+width_named word = named_in WIDTHS word
+
+unfoldable pub asked : List ℕ → Option Asks
+asked word = named_in ASKED word
+
+unfoldable pub font_named : List ℕ → Option Font
+font_named word = named_in FONTS word
+
+unfoldable pub section_named : List ℕ → Option Section
+section_named word = named_in SECTIONS word
+
+abbrev pub at_most : ℕ → ℕ → ℕ
+at_most most width = if nat_lt width most then width else most
+
+-- a word that begins so is no part of a date
+abbrev pub is_version : List ℕ → Bool
+is_version [] = true
+is_version (b ∷ bs) = b == code "$"
+
+-- ---- which macros read words for what they ask
+
+abbrev pub reads_for : Macro → Bool
+reads_for macros.Date = true
+reads_for macros.Title = true
+reads_for macros.List = true
+reads_for macros.Display = true
+reads_for macros.FontBegins = true
+reads_for macros.Spacing = true
+reads_for macros.Exits = true
+reads_for macros.Returns = true
+reads_for macros.Section = true
+reads_for m = false
+
+abbrev pub reads_options : Page → Bool
+reads_options p = reads_for p.call.taker
+
+abbrev pub is_heading : Macro → Bool
+is_heading macros.Section = true
+is_heading m = false
+
+abbrev pub is_shown : Page → Bool
+is_shown p = not (reads_options p) || is_heading p.call.taker
+
+-- ---- dates, titles and headings
+
+abbrev pub none : Page → Met
+none p = met p (left acts.Nothing)
+
+abbrev pub dated : Page → Page
+dated p =
+    if length p.month == 0 then record p { month = p.word } else
+    if length p.day == 0 then record p { day = p.word } else
+    if length p.year == 0 then record p { year = p.word } else p
+
+abbrev pub date_word : Page → Met
+date_word p = if is_version p.word then none p else none (dated p)
+
+abbrev pub title_word : Page → Met
+title_word p =
+    none (if not p.call.some then record p { title = p.word } else
+    if length p.chapter == 0 then record p { chapter = p.word } else p)
+
+abbrev pub section_or : Option Section → Section
+section_or None = sections.Other
+section_or (Some s) = s
+
+-- all authors but the first begin lines in their own section
+abbrev pub splits_in : Section → Split
+splits_in sections.Authors = splits.Next
+splits_in s = splits.Never
+
+abbrev pub enters : Page → Page
+enters p =
+    let s = section_or (section_named p.word) in
+    record p { place = record p.place { section = s; split = splits_in s } }
+
+-- the words after the first are printed, and may call macros
+abbrev pub heading_word : Page → Met
+heading_word p =
+    let q = enters p in
+    met (record q { call = record q.call { taker = macros.Words Roman } }) (left (acts.Word Roman))
+
+-- ---- fonts, spacing, utilities and functions
+
+abbrev pub font_or : Option Font → Page → Met
+font_or None p = none p
+font_or (Some font) p = met p (left (acts.Request (requests.Font font)))
+
+abbrev pub font_word : Page → Met
+font_word p = font_or (font_named p.word) p
+
+abbrev pub spacing_word : Page → Met
+spacing_word p = none (record p { lay = record p.lay { spaced = not (bytes_eq p.word (codes "off")) } })
+
+abbrev pub is_usual : Page → Bool
+is_usual p = bytes_eq p.word (codes "-std")
+
+abbrev pub listed : Page → Page
+listed p = record p { call = record p.call { listed = true } }
+
+-- a name behind the first is held back, as it may be the last: the one that was held back before it is not
+abbrev pub holds : Page → Met
+holds p =
+    if length p.held == 0 then met (record p { held = p.word }) (left acts.Nothing) else
+    met (record p { call = record p.call { many = true } }) (left acts.Held)
+
+abbrev pub utility : Page → Met
+utility p =
+    if is_usual p then none p else if not p.call.listed then met (listed p) (left (acts.Word Bold))
+    else holds p
+
+-- the name of a function has parentheses
+abbrev pub holds_function : Page → Met
+holds_function p =
+    let m = holds p in
+    if m.page.call.many then met m.page (record m.seen { second = acts.Close texts.Parentheses }) else m
+
+abbrev pub returning : Page → Met
+returning p =
+    if is_usual p then none p else
+    if p.call.listed then holds_function p else
+    met (listed p) (three (acts.Text texts.The) (acts.Word Bold) (acts.Close texts.Parentheses))
+
+-- ---- options of lists and displays
+
+abbrev pub width_or : Option ℕ → ℕ → ℕ
+width_or None other = other
+width_or (Some width) other = width
+
+-- by its name, by a number, or by its length
+abbrev pub width_said : Page → ℕ
+width_said p = width_or (width_named p.word) (width_or (number_said p.word) p.call.width)
+
+-- displays have two more names for an indent
+abbrev pub offset_named : List ℕ → Option ℕ
+offset_named word =
+    if bytes_eq word (codes "left") then Some 0 else
+    if bytes_eq word (codes "indent-two") then Some 12 else None
+
+abbrev pub is_display : Macro → Bool
+is_display macros.Display = true
+is_display m = false
+
+abbrev pub offset_said : Page → ℕ
+offset_said p =
+    if is_display p.call.taker then width_or (offset_named p.word) (width_said p) else width_said p
+
+abbrev pub wanting : Wanted → Block → Page → Page
+wanting w b p = record p { call = record p.call { wanted = w }; block = b }
+
+abbrev pub wide : Page → Met
+wide p = none (wanting wanteds.Option (record p.block { width = Some (at_most 900 (width_said p)) }) p)
+
+abbrev pub indented : Page → Met
+indented p =
+    none (wanting wanteds.Option
+    (record p.block { offset = at_most 900 p.block.offset + at_most 90 (offset_said p) }) p)
+
+abbrev pub wants : Wanted → Page → Met
+wants w p = none (record p { call = record p.call { wanted = w } })
+
+abbrev pub is_column : Kind → Bool
+is_column kinds.Column = true
+is_column kind = false
+
+abbrev pub wants_column : Wanted → Bool
+wants_column wanteds.Column = true
+wants_column w = false
+
+-- one more column: the one before it is not the last
+abbrev pub with_column : ℕ → Block → Block
+with_column width b =
+    record b {
+      hang = at_most 999 b.hang + at_most 999 b.last;
+      last = width;
+      columns = at_most 99 b.columns + 1;
+    }
+
+abbrev pub added_column : ℕ → Page → Page
+added_column width p =
+    record p { block = with_column width p.block; lay = record p.lay { cell = 0 } }
+
+-- widths, one after the other
+abbrev pub tab_stop : ℕ → Page → Met
+tab_stop width p =
+    if wants_column p.call.wanted then met p (left (acts.Column width)) else
+    met (record p { call = record p.call { wanted = wanteds.Column } }) (two acts.Columns (acts.Column width))
+
+abbrev pub column_width : Page → ℕ
+column_width p = at_most 900 p.call.width
+
+abbrev pub column : Page → Met
+column p =
+    if not (is_column p.block.kind) then none p else
+    tab_stop (column_width p) (added_column (column_width p) p)
+
+abbrev pub block_asked : Option Asks → Page → Met
+block_asked None p = column p
+block_asked (Some asks.Width) p = wants wanteds.Width p
+block_asked (Some asks.Offset) p = wants wanteds.Offset p
+block_asked (Some asks.Compact) p = none (record p { block = record p.block { compact = true } })
+block_asked (Some (asks.Kind kind)) p = none (record p { block = record p.block { kind = kind } })
+
+abbrev pub block_option : Page → Met
+block_option p = block_asked (asked p.word) p
+
+abbrev pub block_wanted : Wanted → Page → Met
+block_wanted wanteds.Width p = wide p
+block_wanted wanteds.Offset p = indented p
+block_wanted w p = block_option p
+
+abbrev pub block_word : Page → Met
+block_word p = block_wanted p.call.wanted p
+
+-- ---- by the macro that takes the word
+
+abbrev pub option_for : Macro → Page → Met
+option_for macros.Date p = date_word p
+option_for macros.Title p = title_word p
+option_for macros.List p = block_word p
+option_for macros.Display p = block_word p
+option_for macros.FontBegins p = font_word p
+option_for macros.Spacing p = spacing_word p
+option_for macros.Exits p = utility p
+option_for macros.Returns p = returning p
+option_for m p = heading_word p
+
+unfoldable pub option_word : Page → Met
+option_word p = option_for p.call.taker p
+
+abbrev pub option : Page → Met
+option p =
+    let m = option_word (record p { scan = scans.Between }) in
+    met (record m.page { call = record m.page.call { some = true } }) m.seen

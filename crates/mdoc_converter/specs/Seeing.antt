@@ -1,0 +1,36 @@
+-- What a byte does: what is said, what becomes of the open blocks, and whether it is taken.
+use Rattle.std.specs.Prelude.{true, false}
+use Rattle.mdoc_converter.specs.declared.acts.Act.{Act}
+use Rattle.mdoc_converter.specs.declared.acts.Act.TheVariants.{Nothing}
+use Rattle.mdoc_converter.specs.declared.acts.Stack.{Stack}
+use Rattle.mdoc_converter.specs.declared.acts.Stack.TheVariants.{Stay}
+use Rattle.mdoc_converter.specs.declared.seen.Seen.{Seen}
+use Rattle.mdoc_converter.specs.declared.page.Page.{Page}
+
+-- what is half read then, and what was seen
+pub record Met : Type 0 where
+  pub page : Page
+  pub seen : Seen
+
+abbrev pub met : Page → Seen → Met
+met p seen = record { page = p; seen = seen }
+
+-- a byte that is left is met again
+abbrev pub three : Act → Act → Act → Seen
+three first second third =
+    record { first = first; second = second; third = third; stack = Stay; takes = false }
+
+abbrev pub two : Act → Act → Seen
+two first second = three first second Nothing
+
+abbrev pub left : Act → Seen
+left act = three act Nothing Nothing
+
+abbrev pub and_taken : Seen → Seen
+and_taken seen = record seen { takes = true }
+
+abbrev pub taken : Act → Seen
+taken act = and_taken (left act)
+
+abbrev pub with_stack : Stack → Seen → Seen
+with_stack stack seen = record seen { stack = stack }

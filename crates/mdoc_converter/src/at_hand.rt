@@ -1,0 +1,54 @@
+//! Bytes at hand that pass, many at once, before a page is known to be one of mdoc.
+ghost use Rattle.std.specs.Prelude.{◌≡◌, ◌≤◌, length};
+ghost use Rattle.mdoc_converter.specs.AtHand as specs;
+
+use super::page::{Front, Scan};
+use super::pending::Pending;
+use super::reader::Reader;
+
+/// How many bytes come before the first newline.
+fn before_newline(bytes: &[u8]) -> usize
+    ensures value { result ≡ specs.before_newline bytes.now }
+    ensures few { result ≤ length bytes.now }
+{
+    for i in 0..bytes.len() {
+        if bytes[i] == b'\n' {
+            return i;
+        }
+    }
+    bytes.len()
+}
+
+/// How many of these bytes pass in a line that is read so.
+fn passing_in(scan: Scan, bytes: &[u8]) -> usize
+    ensures value { result ≡ specs.passing_in scan bytes.now }
+    ensures few { result ≤ length bytes.now }
+{
+    match scan {
+        Scan::Passes => bytes.len(),
+        Scan::Asleep(Front::Other, _) => before_newline(bytes),
+        Scan::Asleep(Front::Comment, _) => before_newline(bytes),
+        _ => 0,
+    }
+}
+
+impl Reader {
+    /// The page is not known to be one of mdoc.
+    #[inline]
+    pub(crate) fn is_asleep(&self) -> bool
+        ensures { result ≡ specs.is_asleep self.now.page.scan }
+    {
+        matches!(self.page.scan, Scan::Asleep(_, _) | Scan::Passes)
+    }
+
+    /// How many of these bytes pass: behind the lines that are looked at all of them, and before up to a line's end.
+    pub(crate) fn passing(&self, bytes: &[u8]) -> usize
+        ensures value { result ≡ specs.passing self.now bytes.now }
+        ensures few { result ≤ length bytes.now }
+    {
+        match self.pending {
+            Pending::Nothing => passing_in(self.page.scan, bytes),
+            _ => 0,
+        }
+    }
+}

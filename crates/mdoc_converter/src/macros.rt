@@ -1,0 +1,432 @@
+//! The table of macros.
+ghost use Rattle.std.specs.Prelude.{◌≡◌, is_some};
+ghost use Rattle.mdoc_converter.specs.Macros as specs;
+
+/// A font.
+#[derive(Clone, Copy, PartialEq, Eq)]
+pub(crate) enum Font {
+    /// The font of the text.
+    Roman,
+    /// Bold.
+    Bold,
+    /// Italic.
+    Italic,
+}
+
+/// What words are enclosed in.
+#[derive(Clone, Copy)]
+pub(crate) enum Pair {
+    /// `[` and `]`.
+    Brackets,
+    /// Angle brackets.
+    Angles,
+    /// `<` and `>`.
+    Signs,
+    /// `{` and `}`.
+    Braces,
+    /// `(` and `)`.
+    Parentheses,
+    /// Double quotes of typesetting.
+    DoubleQuotes,
+    /// Single quotes of typesetting.
+    SingleQuotes,
+    /// Double quotes of typewriters.
+    PlainQuotes,
+    /// Nothing: the words stand on one line with those before.
+    Nothing,
+}
+
+/// A system whose name a macro stands for.
+#[derive(Clone, Copy)]
+pub(crate) enum System {
+    /// `.Bsx`.
+    BsdOs,
+    /// `.Fx`.
+    FreeBsd,
+    /// `.Nx`.
+    NetBsd,
+    /// `.Ox`.
+    OpenBsd,
+    /// `.Dx`.
+    DragonFly,
+    /// `.Ux`.
+    Unix,
+    /// `.Bt`.
+    Beta,
+    /// `.Ud`.
+    Developed,
+}
+
+/// What a macro is.
+#[derive(Clone, Copy)]
+pub(crate) enum Macro {
+    /// Its words are in a font, up to the next macro.
+    Words(Font),
+    /// `.Sx`: the heading of a section.
+    SectionName,
+    /// `.Fl`: each word is an option.
+    Flag,
+    /// `.Ar`.
+    Argument,
+    /// `.Pa`.
+    Path,
+    /// `.Mt`.
+    Mail,
+    /// `.Nm`: the page's name where it has no words.
+    Name,
+    /// `.Fa`.
+    Parameter,
+    /// `.Xr`: a page and its section.
+    Reference,
+    /// `.An`.
+    Author,
+    /// `.Lk`: a link and its name.
+    Link,
+    /// Words to the end of the line, enclosed.
+    Encloses(Pair),
+    /// Opens an enclosure.
+    Opens(Pair),
+    /// Closes it.
+    Closes(Pair),
+    /// `.Eo`: opens an enclosure with the word that follows.
+    OwnOpens,
+    /// `.Ec`: closes it with the word that follows.
+    OwnCloses,
+    /// Stands for the name of a system.
+    Stands(System),
+    /// `.At`.
+    Att,
+    /// `.Bx`.
+    Bsd,
+    /// The second word of `.Bx`.
+    BsdRelease,
+    /// `.St`.
+    Standard,
+    /// `.Lb`.
+    Library,
+    /// `.Ns`.
+    Joins,
+    /// `.Ap`.
+    Apostrophe,
+    /// `.Pf`.
+    Prefix,
+    /// `.Fn`.
+    Function,
+    /// `.Fo`.
+    FunctionOpens,
+    /// `.Fc`.
+    FunctionCloses,
+    /// `.In`.
+    Include,
+    /// `.Ta`.
+    Cell,
+    /// `.Ft`.
+    ResultType,
+    /// `.Vt`.
+    Variable,
+    /// `.Fd`.
+    Declaration,
+    /// `.Cd`.
+    Configuration,
+    /// `.Nd`.
+    Describes,
+    /// `.Dd`.
+    Date,
+    /// Its words are printed, and call no macro.
+    Plain,
+    /// `.Dt`.
+    Title,
+    /// `.Os`.
+    System,
+    /// `.Sh`.
+    Section,
+    /// `.Ss`.
+    Subsection,
+    /// `.Pp` and `.Lp`.
+    Paragraph,
+    /// `.Bl`.
+    List,
+    /// `.It`.
+    Item,
+    /// `.El`.
+    ListEnds,
+    /// `.Bd`.
+    Display,
+    /// `.Ed`.
+    DisplayEnds,
+    /// `.D1`.
+    Line,
+    /// `.Dl`.
+    LiteralLine,
+    /// `.Rs`.
+    Book,
+    /// `.Re`.
+    BookEnds,
+    /// A part of a reference, by its letter.
+    Part(u8),
+    /// `.Bf`.
+    FontBegins,
+    /// `.Ef`.
+    FontEnds,
+    /// `.Sm`.
+    Spacing,
+    /// `.Ex`.
+    Exits,
+    /// `.Rv`.
+    Returns,
+    /// `.Bk`.
+    Keeps,
+    /// `.Ek`.
+    KeepEnds,
+    /// Such as print nothing.
+    Silent,
+    /// `.TS` and `.T&`: lines for tbl come.
+    Table,
+    /// `.TE`: they have ended.
+    TableEnds,
+    /// `.sp`.
+    Spaces,
+    /// `.de`, `.am` and `.ig`: the lines up to `..` pass.
+    Defines,
+}
+
+/// The macros with names of two bytes, and the requests that are of account here.
+static NAMES: [(u8, u8, Macro); 110] = [
+    (b'A', b'c', Macro::Closes(Pair::Angles)),
+    (b'A', b'd', Macro::Words(Font::Italic)),
+    (b'A', b'n', Macro::Author),
+    (b'A', b'o', Macro::Opens(Pair::Angles)),
+    (b'A', b'p', Macro::Apostrophe),
+    (b'A', b'q', Macro::Encloses(Pair::Angles)),
+    (b'A', b'r', Macro::Argument),
+    (b'A', b't', Macro::Att),
+    (b'B', b'c', Macro::Closes(Pair::Brackets)),
+    (b'B', b'd', Macro::Display),
+    (b'B', b'f', Macro::FontBegins),
+    (b'B', b'k', Macro::Keeps),
+    (b'B', b'l', Macro::List),
+    (b'B', b'o', Macro::Opens(Pair::Brackets)),
+    (b'B', b'q', Macro::Encloses(Pair::Brackets)),
+    (b'B', b't', Macro::Stands(System::Beta)),
+    (b'B', b'x', Macro::Bsd),
+    (b'C', b'd', Macro::Configuration),
+    (b'C', b'm', Macro::Words(Font::Bold)),
+    (b'D', b'1', Macro::Line),
+    (b'D', b'b', Macro::Silent),
+    (b'D', b'c', Macro::Closes(Pair::DoubleQuotes)),
+    (b'D', b'd', Macro::Date),
+    (b'D', b'l', Macro::LiteralLine),
+    (b'D', b'o', Macro::Opens(Pair::DoubleQuotes)),
+    (b'D', b'q', Macro::Encloses(Pair::DoubleQuotes)),
+    (b'D', b't', Macro::Title),
+    (b'D', b'v', Macro::Words(Font::Roman)),
+    (b'D', b'x', Macro::Stands(System::DragonFly)),
+    (b'E', b'c', Macro::OwnCloses),
+    (b'E', b'd', Macro::DisplayEnds),
+    (b'E', b'f', Macro::FontEnds),
+    (b'E', b'k', Macro::KeepEnds),
+    (b'E', b'l', Macro::ListEnds),
+    (b'E', b'm', Macro::Words(Font::Italic)),
+    (b'E', b'n', Macro::Words(Font::Roman)),
+    (b'E', b'o', Macro::OwnOpens),
+    (b'E', b'r', Macro::Words(Font::Roman)),
+    (b'E', b's', Macro::Silent),
+    (b'E', b'v', Macro::Words(Font::Roman)),
+    (b'E', b'x', Macro::Exits),
+    (b'F', b'a', Macro::Parameter),
+    (b'F', b'c', Macro::FunctionCloses),
+    (b'F', b'd', Macro::Declaration),
+    (b'F', b'l', Macro::Flag),
+    (b'F', b'n', Macro::Function),
+    (b'F', b'o', Macro::FunctionOpens),
+    (b'F', b'r', Macro::Words(Font::Italic)),
+    (b'F', b't', Macro::ResultType),
+    (b'F', b'x', Macro::Stands(System::FreeBsd)),
+    (b'H', b'f', Macro::Plain),
+    (b'I', b'c', Macro::Words(Font::Bold)),
+    (b'I', b'n', Macro::Include),
+    (b'I', b't', Macro::Item),
+    (b'L', b'b', Macro::Library),
+    (b'L', b'i', Macro::Words(Font::Roman)),
+    (b'L', b'k', Macro::Link),
+    (b'L', b'p', Macro::Paragraph),
+    (b'M', b's', Macro::Words(Font::Bold)),
+    (b'M', b't', Macro::Mail),
+    (b'N', b'd', Macro::Describes),
+    (b'N', b'm', Macro::Name),
+    (b'N', b'o', Macro::Words(Font::Roman)),
+    (b'N', b's', Macro::Joins),
+    (b'N', b'x', Macro::Stands(System::NetBsd)),
+    (b'O', b'c', Macro::Closes(Pair::Brackets)),
+    (b'O', b'o', Macro::Opens(Pair::Brackets)),
+    (b'O', b'p', Macro::Encloses(Pair::Brackets)),
+    (b'O', b's', Macro::System),
+    (b'O', b't', Macro::Words(Font::Italic)),
+    (b'O', b'x', Macro::Stands(System::OpenBsd)),
+    (b'P', b'a', Macro::Path),
+    (b'P', b'c', Macro::Closes(Pair::Parentheses)),
+    (b'P', b'f', Macro::Prefix),
+    (b'P', b'o', Macro::Opens(Pair::Parentheses)),
+    (b'P', b'p', Macro::Paragraph),
+    (b'P', b'q', Macro::Encloses(Pair::Parentheses)),
+    (b'Q', b'c', Macro::Closes(Pair::PlainQuotes)),
+    (b'Q', b'l', Macro::Encloses(Pair::SingleQuotes)),
+    (b'Q', b'o', Macro::Opens(Pair::PlainQuotes)),
+    (b'Q', b'q', Macro::Encloses(Pair::PlainQuotes)),
+    (b'R', b'e', Macro::BookEnds),
+    (b'R', b's', Macro::Book),
+    (b'R', b'v', Macro::Returns),
+    (b'S', b'c', Macro::Closes(Pair::SingleQuotes)),
+    (b'S', b'h', Macro::Section),
+    (b'S', b'm', Macro::Spacing),
+    (b'S', b'o', Macro::Opens(Pair::SingleQuotes)),
+    (b'S', b'q', Macro::Encloses(Pair::SingleQuotes)),
+    (b'S', b's', Macro::Subsection),
+    (b'S', b't', Macro::Standard),
+    (b'S', b'x', Macro::SectionName),
+    (b'S', b'y', Macro::Words(Font::Bold)),
+    (b'T', b'&', Macro::Table),
+    (b'T', b'E', Macro::TableEnds),
+    (b'T', b'S', Macro::Table),
+    (b'T', b'a', Macro::Cell),
+    (b'T', b'g', Macro::Silent),
+    (b'T', b'n', Macro::Words(Font::Roman)),
+    (b'U', b'd', Macro::Stands(System::Developed)),
+    (b'U', b'x', Macro::Stands(System::Unix)),
+    (b'V', b'a', Macro::Words(Font::Italic)),
+    (b'V', b't', Macro::Variable),
+    (b'X', b'c', Macro::Closes(Pair::Nothing)),
+    (b'X', b'o', Macro::Opens(Pair::Nothing)),
+    (b'X', b'r', Macro::Reference),
+    (b'a', b'm', Macro::Defines),
+    (b'd', b'e', Macro::Defines),
+    (b'i', b'g', Macro::Defines),
+    (b's', b'p', Macro::Spaces),
+];
+
+/// What a table says of a name of two bytes.
+pub(crate) fn looked_up<T: Copy>(table: &[(u8, u8, T)], first: u8, second: u8) -> Option<T>
+    ensures { result ≡ specs.looked_up table.now first second }
+{
+    for entry in table {
+        if entry.0 == first && entry.1 == second {
+            return Some(entry.2);
+        }
+    }
+    None
+}
+
+/// The macro of a name of two letters.
+fn letters_macro(first: u8, second: u8) -> Option<Macro>
+    ensures { result ≡ specs.letters_macro first second }
+{
+    looked_up(&NAMES, first, second)
+}
+
+/// The font of a part of a reference.
+pub(crate) fn part_font(letter: u8) -> Font
+    ensures { result ≡ specs.part_font letter }
+{
+    match letter {
+        b'B' | b'I' | b'J' => Font::Italic,
+        _ => Font::Roman,
+    }
+}
+
+/// The macro of a name of two bytes.
+fn short_macro(first: u8, second: u8) -> Option<Macro>
+    ensures { result ≡ specs.short_macro first second }
+{
+    if first == b'%' {
+        return Some(Macro::Part(second));
+    }
+    letters_macro(first, second)
+}
+
+/// The macro of a name of three bytes.
+fn long_macro(first: u8, second: u8, third: u8) -> Option<Macro>
+    ensures { result ≡ specs.long_macro first second third }
+{
+    if first == b'B' && second == b's' && third == b'x' {
+        return Some(Macro::Stands(System::BsdOs));
+    }
+    if first != b'B' || second != b'r' {
+        return None;
+    }
+    match third {
+        b'q' => Some(Macro::Encloses(Pair::Braces)),
+        b'o' => Some(Macro::Opens(Pair::Braces)),
+        b'c' => Some(Macro::Closes(Pair::Braces)),
+        _ => None,
+    }
+}
+
+/// The macro of a name.
+pub(crate) fn macro_of(name: &[u8]) -> Option<Macro>
+    ensures { result ≡ specs.macro_of name.now }
+{
+    match name {
+        [first, second] => short_macro(*first, *second),
+        [first, second, third] => long_macro(*first, *second, *third),
+        _ => None,
+    }
+}
+
+/// Whether a name is that of a macro of mdoc(7), or of a request that is read as one.
+pub fn is_macro(name: &[u8]) -> bool
+    ensures { result ≡ is_some (specs.macro_of name.now) }
+{
+    macro_of(name).is_some()
+}
+
+impl Macro {
+    /// Whether it is called by a word of a line that another macro began.
+    pub(crate) fn is_callable(self) -> bool
+        ensures { result ≡ specs.is_callable self }
+    {
+        match self {
+            Macro::Words(_)
+            | Macro::SectionName
+            | Macro::Flag
+            | Macro::Argument
+            | Macro::Path
+            | Macro::Mail
+            | Macro::Name
+            | Macro::Parameter
+            | Macro::Reference
+            | Macro::Author
+            | Macro::Encloses(_)
+            | Macro::Opens(_)
+            | Macro::Closes(_)
+            | Macro::OwnOpens
+            | Macro::OwnCloses => true,
+            _ => self.is_callable_too(),
+        }
+    }
+
+    /// Those that stand for text, joints, and those of functions and tables.
+    fn is_callable_too(self) -> bool
+        ensures { result ≡ specs.is_callable_too self }
+    {
+        match self {
+            Macro::Stands(System::Beta | System::Developed) => false,
+            Macro::Stands(_)
+            | Macro::Att
+            | Macro::Bsd
+            | Macro::Standard
+            | Macro::Joins
+            | Macro::Apostrophe
+            | Macro::Prefix
+            | Macro::Function
+            | Macro::FunctionOpens
+            | Macro::FunctionCloses
+            | Macro::Include
+            | Macro::Link
+            | Macro::Cell
+            | Macro::ResultType
+            | Macro::Variable
+            | Macro::Configuration => true,
+            _ => false,
+        }
+    }
+}

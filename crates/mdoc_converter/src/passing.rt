@@ -1,0 +1,53 @@
+//! Pages that go out as they are.
+ghost use Rattle.std.specs.Prelude.{◌≡◌, IsTrue};
+ghost use Rattle.mdoc_converter.specs.Passing as specs;
+ghost use Rattle.mdoc_converter.specs.Reading.{converted};
+
+use super::keeping::ends_word;
+use super::page::{Front, Scan};
+use super::scan::{front_grows, given_up, passes_to};
+
+/// Where a byte leads that goes on no `.Dd`: nowhere, if it ends one.
+fn leads_behind(front: Front, lines: u8, byte: u8) -> Option<Scan>
+    ensures { result ≡ specs.leads_behind front lines byte }
+{
+    match front {
+        Front::Whole if ends_word(byte) => None,
+        _ => Some(passes_to(given_up(front), lines, byte)),
+    }
+}
+
+/// Where a byte leads before a page is known to be one of mdoc.
+fn leads_from(scan: Scan, byte: u8) -> Option<Scan>
+    ensures { result ≡ specs.leads_from scan byte }
+{
+    match scan {
+        Scan::Asleep(front, lines) => match front_grows(front, byte) {
+            Some(more) => Some(Scan::Asleep(more, lines)),
+            None => leads_behind(front, lines, byte),
+        },
+        _ => Some(scan),
+    }
+}
+
+/// The same, where the bytes before led somewhere.
+fn leads(scan: Option<Scan>, byte: u8) -> Option<Scan>
+    ensures { result ≡ specs.leads scan byte }
+{
+    match scan {
+        Some(scan) => leads_from(scan, byte),
+        None => None,
+    }
+}
+
+/// Whether none of the first 64 lines of a text that are neither empty nor comments begins with `.Dd`. Such a text is what `convert` makes of it.
+pub fn passes_unchanged(text: &[u8]) -> bool
+    ensures value { result ≡ specs.is_other text.now }
+    ensures law { IsTrue result → converted text.now ≡ text.now }
+{
+    let mut scan = Some(Scan::Asleep(Front::Nothing, 0));
+    for byte in text {
+        scan = leads(scan, *byte);
+    }
+    scan.is_some()
+}

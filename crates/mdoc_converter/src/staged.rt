@@ -1,0 +1,90 @@
+//! A page is turned a part at a time.
+ghost use Rattle.std.specs.Prelude.{◌≡◌, ◌<◌, ◌≤◌, List, [], length, take};
+ghost use Rattle.mdoc_converter.specs.declared.page.Block.{Block as BlockValue};
+ghost use Rattle.mdoc_converter.specs.AtHand.{Passes};
+ghost use Rattle.mdoc_converter.specs.Reading.{first_state, state};
+
+use super::page::Block;
+use super::reader::Reader;
+use document_stages::{LEAST_ROOM, Stage};
+use nr_vectors::slice_vec::SliceVec;
+
+/// A page of mdoc(7) becomes one of man(7), and another page stays as it is, as with `convert`.
+#[derive(Drop)]
+pub struct Turner<'a> {
+    reader: Reader,
+    blocks: SliceVec<'a, Block>,
+    ghost room: { 64 ≤ blocks.capacity },
+}
+
+/// How many bytes pass, so many at most.
+fn passing_of(reader: &Reader, bytes: &[u8]) -> usize
+    ensures passes { (around : List BlockValue) → Passes (state reader.now around) (take result bytes.now) }
+    ensures within { result ≤ length bytes.now }
+    ensures room { result ≤ 73984 }
+{
+    if !reader.is_asleep() {
+        return 0;
+    }
+    let len = bytes.len().min(LEAST_ROOM);
+    reader.passing(&bytes[..len])
+}
+
+impl<'a> Turner<'a> {
+    ghost use Rattle.mdoc_converter.specs.Staged.{said};
+    ghost use Rattle.document_stages.specs.Pulling.{fits_always};
+
+    /// A page begins. The room for the lists and displays that are open is 64 at least; what it held is of no account.
+    pub fn over(blocks: &'a mut [Block]) -> Turner<'a>
+        requires { 64 ≤ length blocks.now }
+        ensures says { ⟦<Turner<'a> as Stage>⟧.says result ≡ said first_state }
+        ensures fits { ⟦<Turner<'a> as Stage>⟧.fits result ≡ fits_always }
+        ensures wants { ⟦<Turner<'a> as Stage>⟧.wants result ≡ 73984 }
+    {
+        Turner {
+            reader: Reader::new(),
+            blocks: SliceVec::over(blocks),
+        }
+    }
+}
+
+impl Stage for Turner<'_> {
+    ghost use Rattle.std.specs.Prelude.{refl};
+    ghost use Rattle.document_stages.specs.Pulling.{fits_always};
+    ghost use Rattle.mdoc_converter.specs.Reading.{state};
+    ghost use Rattle.mdoc_converter.specs.Staged.{said};
+
+    ghost says = { λ s. said (state s.reader s.blocks.items) };
+
+    ghost fits = { λ s. fits_always };
+
+    ghost wants = { λ s. 73984 };
+
+    ghost waits = { λ s. refl };
+
+    fn room(&self) -> usize {
+        LEAST_ROOM
+    }
+
+    fn turn(&mut self, bytes: &[u8], out: &mut SliceVec<'_, u8>) -> usize {
+        if bytes.is_empty() {
+            return 0;
+        }
+        let count = passing_of(&self.reader, bytes);
+        if count > 0 {
+            out.extend(&bytes[..count]);
+            return count;
+        }
+        self.reader.read(bytes[0], &mut self.blocks, out);
+        1
+    }
+
+    fn finish(&mut self, out: &mut SliceVec<'_, u8>) -> bool {
+        self.reader.finish(&mut self.blocks, out);
+        true
+    }
+
+    fn is_full(&self) -> bool {
+        false
+    }
+}

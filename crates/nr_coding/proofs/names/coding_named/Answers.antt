@@ -1,8 +1,0 @@
-use Rattle.std.proofs.Common.{◌∙◌, ap}
-use Rattle.nr_coding.specs.declared.names.TheConstants.{NAMES}
-use Rattle.nr_coding.specs.Names.{named_in, coding_named}
-use Rattle.nr_coding.proofs.names.coding_named.Goals as goal
-
-pub returns : goal.returns
-unfolding coding_named
-returns c = c.named_in.ensures ∙ ap (named_in NAMES) c.base_of.ensures

@@ -1,9 +1,0 @@
-//! What the formatter reads of a page: mdoc becomes man, and characters and escapes what it knows, as bytes are asked
-//! for.
-//!
-//! It stands on nr_stages, nr_mdoc, nr_preconv, nr_characters and nr_units. To read: `page`.
-#![tactic(auto)]
-
-mod page;
-
-pub use page::{PageText, Stages, Waits, read_page};

@@ -1,9 +1,0 @@
-use Rattle.std.proofs.Common.{◌+◌, ◌*◌, ◌≤◌}
-use Rattle.nr_input_rows.specs.MacroLines.{ReadsOn}
-use Rattle.nr_input_rows.proofs.macro_lines.read_arguments.Given as goal
-
-abbrev pub invariant-loop : goal.invariant-loop
-invariant-loop g l = record {
-  reads : ReadsOn l.moves l.taken l.bytes l.fn.store l.fn.reader l.store l.reader;
-  few : l.moves ≤ 2 * l.taken + 4 * l.counter;
-}

@@ -1,9 +1,0 @@
-use Prim.Native.Char.{code}
-use Rattle.std.proofs.Common.{◌≡◌, All, take}
-use Rattle.nr_input_rows.proofs.macro_lines.space_count.Given as goal
-
-abbrev pub invariant-loop-byte : goal.invariant-loop-byte
-invariant-loop-byte l = record {
-  count : l.count ≡ l.byte-index;
-  spaces : All (λ byte. byte ≡ code " ") (take l.byte-index l.bytes);
-}

@@ -1,5 +1,0 @@
-use Rattle.nr_layout.proofs.PlacedRows.{fields_stand_once}
-use Rattle.nr_layout.proofs.laws.fields_stand_once.Goals as goal
-
-pub returns : goal.returns
-returns c = fields_stand_once

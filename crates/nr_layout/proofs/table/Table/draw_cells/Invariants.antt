@@ -1,6 +1,0 @@
-use Rattle.nr_layout.specs.Drawing.{row_cells}
-use Rattle.nr_layout.specs.Tapes.{Draws}
-use Rattle.nr_layout.proofs.table.Table.draw_cells.Given as goal
-
-abbrev pub invariant-loop-column : goal.invariant-loop-column
-invariant-loop-column g l = Draws l.initial.out l.out (row_cells l.column l.self l.row l.line)

@@ -1,5 +1,0 @@
-use Rattle.nr_layout.proofs.Tapes.{draws_same}
-use Rattle.nr_layout.proofs.table.Table.go_end.Goals as goal
-
-pub returns : goal.returns
-returns g c = draws_same c.go.ensures cc

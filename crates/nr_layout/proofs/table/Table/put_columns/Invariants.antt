@@ -1,9 +1,0 @@
-use Rattle.std.proofs.Common.{◌∷◌, []}
-use Rattle.nr_layout.specs.Registers.{column_text}
-use Rattle.nr_layout.specs.Pens.{Bytes}
-use Rattle.nr_layout.specs.Sequences.{joined}
-use Rattle.nr_layout.specs.Tapes.{Draws}
-use Rattle.nr_layout.proofs.table.Table.put_columns.Given as goal
-
-abbrev pub invariant-loop-number : goal.invariant-loop-number
-invariant-loop-number g l = Draws l.initial.out l.out (Bytes (joined l.number (column_text l.self)) ∷ [])

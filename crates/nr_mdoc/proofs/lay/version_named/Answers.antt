@@ -1,9 +1,0 @@
-use Rattle.std.proofs.Common.{List, ℕ, ◌∙◌, ap}
-use Rattle.nr_mdoc.specs.declared.names.TheConstants.{SYSTEMS}
-use Rattle.nr_mdoc.specs.Laying.{version_named}
-use Rattle.nr_mdoc.specs.Lookup.{named_in}
-use Rattle.nr_mdoc.proofs.lay.version_named.Goals as goal
-
-pub returns : goal.returns
-unfolding version_named
-returns c = c.named_in.ensures ∙ ap (λ (xs : List ℕ). named_in SYSTEMS xs) c.as_bytes.ensures.value

@@ -1,5 +1,0 @@
-use Rattle.nr_own_characters.proofs.Coding.{there_if}
-use Rattle.nr_own_characters.proofs.table.stands.Goals as goal
-
-pub returns : goal.returns
-returns c = there_if c.args.cells.now c.args.place c.at-cell.result c.args.cluster.now c.is_same.result c.at-cell.ensures c.is_same.ensures

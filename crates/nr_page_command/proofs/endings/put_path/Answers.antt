@@ -1,8 +1,0 @@
-use Rattle.nr_filters.proofs.Telling.{Tells-put}
-use Rattle.nr_page_command.proofs.Telling.{path_is}
-use Rattle.nr_page_command.proofs.endings.put_path.Goals as goal
-
-pub returns : goal.returns
-returns g c =
-    Tells-put c.put_all.result _ _ _ _ _ _ (path_is _ _ _ _ c.as_bytes.ensures.value c.as_bytes-2.ensures.value)
-    c.put_all.ensures.ok c.put_all.ensures.err c.put_all.ensures.failures

@@ -1,4 +1,0 @@
-use Rattle.nr_page_command.proofs.program.run_words.Goals as goal
-
-pub returns : goal.returns
-returns g c = (c.ending_of-ending.result, c.tell.ensures.status, c.tell.ensures.told, c.ending_of-ending.ensures)

@@ -1,7 +1,0 @@
--- The name stands nowhere before the place.
-use Rattle.std.proofs.Common.{◌≡◌, drop}
-use Rattle.nr_page_options.specs.Locale.{has_utf8}
-use Rattle.nr_page_options.proofs.locale.has_utf8.Given as goal
-
-abbrev pub invariant-loop-at : goal.invariant-loop-at
-invariant-loop-at l = has_utf8 l.locale ≡ has_utf8 (drop l.at l.locale)

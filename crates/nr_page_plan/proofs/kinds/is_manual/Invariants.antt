@@ -1,7 +1,0 @@
--- The bytes before the place decided nothing.
-use Rattle.std.proofs.Common.{◌≡◌, true, drop}
-use Rattle.nr_page_plan.specs.Kinds.{asks}
-use Rattle.nr_page_plan.proofs.kinds.is_manual.Given as goal
-
-abbrev pub invariant-loop-at : goal.invariant-loop-at
-invariant-loop-at l = asks true l.text ≡ asks l.begins (drop l.at l.text)

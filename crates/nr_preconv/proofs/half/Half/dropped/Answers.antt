@@ -1,5 +1,0 @@
-use Rattle.std.proofs.Common.{rules}
-use Rattle.nr_preconv.proofs.half.Half.dropped.Goals as goal
-
-pub returns : goal.returns
-returns c = search rules

@@ -1,4 +1,0 @@
-use Rattle.nr_preconv.proofs.reader.Reader.+hear_in.Given as goal
-
-abbrev pub decreases-hear_in : goal.decreases-hear_in
-decreases-hear_in l = l.most

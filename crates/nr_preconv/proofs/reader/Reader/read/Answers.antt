@@ -1,6 +1,0 @@
-use Rattle.std.proofs.Common.{arith}
-use Rattle.std.proofs.lemmas.Grind.{common_steps}
-use Rattle.nr_preconv.proofs.reader.Reader.read.Goals as goal
-
-pub returns-then-is_raw-clause-few : goal.returns-then-is_raw-clause-few
-returns-then-is_raw-clause-few c = grind (arith, common_steps)

@@ -1,9 +1,0 @@
-use Rattle.std.proofs.Common.{◌≡◌, ◌+◌, ◌≤◌, ◌++◌, drop, length}
-use Rattle.nr_preconv.specs.Saying.{all_sent}
-use Rattle.nr_preconv.proofs.said.put_sent.Given as goal
-
-abbrev pub invariant-loop-byte : goal.invariant-loop-byte
-invariant-loop-byte l =
-    (l.out.items ++ all_sent l.table (drop l.byte-index l.text) ≡ l.initial.out.items ++ all_sent l.table l.text)
-    × (length l.out.items ≤ length l.initial.out.items + l.byte-index)
-    × (l.out.capacity ≡ l.initial.out.capacity)

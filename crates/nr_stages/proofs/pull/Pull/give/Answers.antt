@@ -1,7 +1,0 @@
-use Rattle.nr_stages.proofs.Steps.{Gives-item}
-use Rattle.nr_stages.proofs.pull.Pull.give.Goals as goal
-
-pub returns-clause-gives : goal.returns-clause-gives
-returns-clause-gives g c =
-    let s = c.args.self.now in
-    Gives-item (g.R.Source.supply s.input) _ (g.T.Stage.says s.stage) (g.T.Stage.fits s.stage) s.out.items s.at c.get-byte.result s.taken s.ended c.get-byte.ensures

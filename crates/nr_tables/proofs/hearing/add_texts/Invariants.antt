@@ -1,8 +1,0 @@
-use Rattle.std.proofs.Common.{◌≡◌, drop}
-use Rattle.nr_layout.specs.Held.{emptied}
-use Rattle.nr_tables.specs.Hearing.{texts_held}
-use Rattle.nr_tables.proofs.hearing.add_texts.Given as goal
-
-abbrev pub invariant-loop-byte : goal.invariant-loop-byte
-invariant-loop-byte l =
-    (texts_held (drop l.byte-index l.text) l.table ≡ texts_held l.text l.initial.table) × (emptied l.table ≡ emptied l.initial.table)

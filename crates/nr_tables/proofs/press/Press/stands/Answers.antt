@@ -1,5 +1,0 @@
-use Rattle.nr_layout.proofs.Tapes.{draws_then}
-use Rattle.nr_tables.proofs.press.Press.stands.Goals as goal
-
-pub returns-clause-draws : goal.returns-clause-draws
-returns-clause-draws g c = draws_then c.ends_begun.ensures.draws c.put.ensures.draws

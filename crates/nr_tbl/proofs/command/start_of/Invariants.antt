@@ -1,6 +1,0 @@
-use Rattle.std.proofs.Common.{◌≡◌, drop}
-use Rattle.nr_tbl.specs.Commands.{start_behind, start_of}
-use Rattle.nr_tbl.proofs.command.start_of.Given as goal
-
-abbrev pub invariant-loop-byte : goal.invariant-loop-byte
-invariant-loop-byte l = start_behind l.letter (drop l.byte-index l.bytes) l.start ≡ start_of l.letter l.bytes

@@ -1,9 +1,0 @@
-use Rattle.std.proofs.Common.{◌≡◌, ◌≤◌, drop}
-use Rattle.nr_tbl.specs.Fields.{marks_behind, marks_of}
-use Rattle.nr_tbl.proofs.field.marks_of.Given as goal
-
-abbrev pub invariant-loop-place : goal.invariant-loop-place
-invariant-loop-place l = record {
-  same : marks_behind l.point l.place (drop l.place l.text) l.marks ≡ marks_of l.point l.text;
-  few : l.marks.solid ≤ l.place;
-}

@@ -1,8 +1,0 @@
-use Rattle.std.proofs.Common.{refl}
-use Rattle.nr_tbl.proofs.Runs.{took_byte}
-use Rattle.nr_tbl.proofs.reader.Reader.passes.Goals as goal
-
-pub returns : goal.returns
-returns g c =
-    took_byte g.S.Setter.shows g.S.Setter.hears c.args.bytes.now _ c.args.start c.args.self.now c.passes_byte.new.self c.args.setter.now c.passes_byte.new.setter
-    c.requires.mode c.requires.some refl c.requires.fits c.passes_byte.ensures.page c.passes_byte.ensures.told

@@ -1,6 +1,0 @@
-use Rattle.std.proofs.Common.{◌≡◌, drop}
-use Rattle.nr_tbl.specs.RowLines.{are_empty}
-use Rattle.nr_tbl.proofs.rows.are_empty.Given as goal
-
-abbrev pub invariant-loop-byte : goal.invariant-loop-byte
-invariant-loop-byte l = are_empty l.tab (drop l.byte-index l.text) ≡ are_empty l.tab l.text

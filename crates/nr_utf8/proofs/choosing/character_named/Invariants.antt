@@ -1,7 +1,0 @@
--- What is left to look at.
-use Rattle.std.proofs.Common.{◌≡◌, drop}
-use Rattle.nr_utf8.specs.Choosing.{character_named}
-use Rattle.nr_utf8.proofs.choosing.character_named.Given as goal
-
-abbrev pub invariant-loop-name : goal.invariant-loop-name
-invariant-loop-name l = character_named l.names l.first l.second ≡ character_named (drop l.name-index l.names) l.first l.second

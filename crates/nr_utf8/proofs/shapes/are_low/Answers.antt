@@ -1,8 +1,0 @@
-use Rattle.std.proofs.Common.{arith}
-use Rattle.nr_utf8.proofs.HighBits.{are-low, no_bits}
-use Rattle.nr_utf8.proofs.shapes.are_low.Goals as goal
-
-pub returns : goal.returns
-returns c none =
-    are-low c.args.piece.now c.from_le_bytes.result (λ i. (let fits = c.fits-piece i in omega (arith, fits))) c.from_le_bytes.ensures
-    (no_bits _ none)

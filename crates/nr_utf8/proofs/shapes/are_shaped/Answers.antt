@@ -1,6 +1,0 @@
-use Rattle.nr_utf8.proofs.Shaped.{Shapes-next}
-use Rattle.nr_utf8.proofs.shapes.are_shaped.Goals as goal
-
-pub loop-place-preserved : goal.loop-place-preserved
-loop-place-preserved c =
-    Shapes-next c.loop-place.all c.is_shaped-all.result c.args.bytes.now c.loop-place.place c.is_shaped-all.ensures c.loop-place.invariant

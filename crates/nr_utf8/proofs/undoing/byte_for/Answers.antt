@@ -1,8 +1,0 @@
-use Rattle.nr_utf8.proofs.Undone.{turns-back}
-use Rattle.nr_utf8.proofs.undoing.byte_for.Goals as goal
-
-pub returns-clause-back : goal.returns-clause-back
-returns-clause-back c = turns-back c.args.table
-
-pub returns-then-is_shown-clause-back : goal.returns-then-is_shown-clause-back
-returns-then-is_shown-clause-back c = turns-back c.args.table

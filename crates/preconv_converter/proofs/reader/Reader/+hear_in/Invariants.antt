@@ -1,0 +1,4 @@
+use Rattle.preconv_converter.proofs.reader.Reader.+hear_in.Given as goal
+
+abbrev pub decreases-hear_in : goal.decreases-hear_in
+decreases-hear_in l = l.most

@@ -1,0 +1,194 @@
+-- Hyphens of a manual page: a line may be broken after one only where it stands between two letters (groff(7), `.cflags`).
+-- A text line may hang to the left of its paragraph.
+use Prim.Native.Char.{code}
+use Rattle.std.specs.Prelude.{ℕ, List, [], ◌∷◌, Bool, true, false, not, ◌==◌, ◌&&◌, ◌||◌, nat_le, if◌then◌else◌, codes}
+use Rattle.preconv_converter.specs.declared.said.Said.TheVariants as says
+use Rattle.preconv_converter.specs.declared.half.Half.{Half}
+use Rattle.preconv_converter.specs.declared.half.Line.{Line}
+use Rattle.preconv_converter.specs.declared.half.Line.TheVariants as lines
+use Rattle.preconv_converter.specs.declared.half.Before.{Before}
+use Rattle.preconv_converter.specs.declared.half.Before.TheVariants.{Character, Argument}
+use Rattle.preconv_converter.specs.declared.half.Mark.{Mark}
+use Rattle.preconv_converter.specs.declared.half.Mark.TheVariants.{Letter, Opening, Quote, Stop, Closing, Closed, Backslash, Other}
+use Rattle.preconv_converter.specs.declared.half.Escape.TheVariants as escapes
+use Rattle.preconv_converter.specs.Numbers.{is_within}
+use Rattle.preconv_converter.specs.Likeness.{is_latin_letter}
+use Rattle.preconv_converter.specs.Half.{Met, taken, left, next_line, is_whole, character_said, without_escape, abandoned}
+use Rattle.preconv_converter.specs.Translations.{translated}
+use Rattle.preconv_converter.specs.Words.{has_hyphens as words_have}
+
+-- ---- letters
+
+abbrev pub is_ascii_letter : ℕ → Bool
+is_ascii_letter b = is_within (code "A") (code "Z") b || is_within (code "a") (code "z") b
+
+-- beyond Latin-1 by the blocks of characters: those up to U+1FFF and from U+2C00 on are scripts
+abbrev pub is_letter : ℕ → Bool
+is_letter c = is_ascii_letter c || is_within 256 8191 c || nat_le 11264 c || is_latin_letter c
+
+-- ---- what stands before the next character
+
+-- after an opening bracket or a quote a word begins: ( [ < " and the opening quotes of Unicode
+abbrev pub is_opening : ℕ → Bool
+is_opening c = (c == code "(") || (c == code "[") || (c == code "<") || (c == 8216) || (c == 8220)
+
+-- a sentence ends with one of these at a line's end, or with one of the next after it
+abbrev pub is_stop : ℕ → Bool
+is_stop c = (c == code ".") || (c == code "?") || (c == code "!")
+
+abbrev pub is_closing : ℕ → Bool
+is_closing c =
+    (c == code ")") || (c == code "]") || (c == code "'") || (c == code "*") || (c == 8217) || (c == 8221)
+
+abbrev pub mark_by : Bool → ℕ → Mark
+mark_by letter c =
+    if letter then Letter else
+    if c == code "\"" then Quote else
+    if is_opening c then Opening else
+    if is_stop c then Stop else
+    if is_closing c then Closing else Other
+
+-- what an ASCII character is for what stands after it, and another
+abbrev pub mark_of : ℕ → Mark
+mark_of b = mark_by (is_ascii_letter b) b
+
+abbrev pub wide_mark : ℕ → Mark
+wide_mark c = mark_by (is_letter c) c
+
+-- a sentence ends there, or goes on to end: with a stop, or what closes after one
+abbrev pub has_ended : Mark → Bool
+has_ended Stop = true
+has_ended Closed = true
+has_ended mark = false
+
+abbrev pub is_closer : Mark → Bool
+is_closer Quote = true
+is_closer Closing = true
+is_closer mark = false
+
+abbrev pub mark_after : Mark → Mark → Mark
+mark_after before mark = if has_ended before && is_closer mark then Closed else mark
+
+abbrev pub followed : Mark → Before → Before
+followed mark Argument = Argument
+followed mark (Character before) = Character (mark_after before mark)
+
+-- a character is read
+abbrev pub placed : Mark → Half → Half
+placed mark h = if h.manual then record h { before = followed mark h.before } else h
+
+abbrev pub gone_by : ℕ → Half → Half
+gone_by b h =
+    if b == code "\n" then record h { before = Character Other; tag = next_line h.tag } else placed (mark_of b) h
+
+-- a word begins there that no blank stands before
+abbrev pub is_begun : Before → Bool
+is_begun (Character Opening) = true
+is_begun (Character Quote) = true
+is_begun before = false
+
+abbrev pub begins_behind : Half → Bool
+begins_behind h = is_begun h.before
+
+-- After an escape with a number or a text hyphens may stand in its argument: up to the end of the line they stay as they are.
+abbrev pub leaving_hyphens : Half → Half
+leaving_hyphens h = if h.manual then record h { before = Argument } else h
+
+-- ---- hyphens
+
+-- they are read after a title, and in no table
+abbrev pub turns_hyphens : Half → Bool
+turns_hyphens h = h.manual && not h.table
+
+-- After a letter what comes decides, but in a tag or an address; else it goes out as `\-`, after which no line is broken. One
+-- that copying a macro's word makes `\-` stays.
+abbrev pub hyphen_by : Before → Half → Met
+hyphen_by (Character Letter) h =
+    if is_whole h.tag then taken (says.Escape (code "-")) (record h { before = Character Other })
+    else taken says.Nothing (record h { before = Character Other; escape = escapes.Hyphen; kept = code "-" ∷ [] })
+hyphen_by (Character Backslash) h = taken (says.Byte (code "-")) (record h { before = Character Other })
+hyphen_by (Character mark) h = taken (says.Escape (code "-")) (record h { before = Character Other })
+hyphen_by Argument h = taken (says.Byte (code "-")) h
+
+abbrev pub has_hyphens : Line → Bool
+has_hyphens (lines.Words words) = words_have words
+has_hyphens line = true
+
+-- in a number it is a sign
+abbrev pub hyphen : Line → Half → Met
+hyphen line h =
+    if not (has_hyphens line) then taken (says.Byte (code "-")) (record h { line = line })
+    else hyphen_by h.before (record h { line = line })
+
+-- between letters it stays, and so does one before an escape, which may be that of a font
+abbrev pub behind_hyphen : ℕ → Half → Met
+behind_hyphen b h =
+    if is_ascii_letter b || (b == code "\\") then abandoned h
+    else left (says.Escape (code "-")) (without_escape h)
+
+-- ---- text lines
+
+abbrev pub saying : ℕ → Line → Half → Met
+saying b line h = taken (says.Byte b) (record (gone_by b h) { line = line })
+
+-- a character goes out as what it looks like, and the line goes on so
+abbrev pub showing : ℕ → Line → Half → Met
+showing c line h = taken (character_said h.line c) (record (placed (wide_mark c) h) { line = line })
+
+-- A carriage return is dropped, and a byte may be translated.
+abbrev pub carriage_return : ℕ
+carriage_return = 13
+
+abbrev pub is_moved : ℕ → Half → Bool
+is_moved b h = (b == carriage_return) || (h.translating && not (translated b h.translations == 0))
+
+abbrev pub moved : ℕ → Half → Met
+moved b h = if b == carriage_return then taken says.Nothing h else showing (translated b h.translations) lines.Text h
+
+-- The language ends a sentence with `.`, `?` or `!` alone, groff also with what closes after it. So the newline waits for what
+-- comes: after it a word of the sentence that begins stands two blanks apart where lines are filled (tmac.an, `.1`).
+abbrev pub is_closed : Before → Bool
+is_closed (Character Closed) = true
+is_closed before = false
+
+abbrev pub closes : Half → Bool
+closes h = turns_hyphens h && not h.defining && is_closed h.before
+
+abbrev pub newline_held : Half → Met
+newline_held h =
+    taken says.Nothing (record (gone_by (code "\n") h)
+    { line = lines.Start; escape = escapes.Sentence; kept = code "\n" ∷ [] })
+
+-- a blank or an empty line breaks
+abbrev pub behind_sentence : ℕ → Half → Met
+behind_sentence b h =
+    left (says.Kept (if (b == code " ") || (b == code "\n") then code "\n" ∷ [] else codes "\\*(.\\n(.u\n"))
+    (without_escape h)
+
+abbrev pub in_text : ℕ → Half → Met
+in_text b h =
+    if is_moved b h then moved b h else
+    if b == code "\n" then (if closes h then newline_held h else saying b lines.Start h) else
+    if turns_hyphens h && (b == code "-") then hyphen lines.Text h else saying b lines.Text h
+
+-- ---- a text line that hangs
+
+abbrev pub is_digit : ℕ → Bool
+is_digit b = is_within (code "0") (code "9") b
+
+-- so many cells to the left, by one digit or two
+abbrev pub is_hang : List ℕ → Bool
+is_hang [] = false
+is_hang (sign ∷ []) = false
+is_hang (sign ∷ digit ∷ []) = (sign == code "-") && is_digit digit
+is_hang (sign ∷ tens ∷ ones ∷ []) = (sign == code "-") && is_digit tens && is_digit ones
+is_hang (sign ∷ tens ∷ ones ∷ more ∷ rest) = false
+
+-- only a line that begins in no condition, or after its `\{`, may become two
+abbrev pub begins_line : Line → Bool
+begins_line lines.Start = true
+begins_line lines.Braced = true
+begins_line line = false
+
+abbrev pub may_hang : Half → Bool
+may_hang h = turns_hyphens h && begins_line h.line

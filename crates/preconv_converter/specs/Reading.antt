@@ -1,0 +1,167 @@
+-- Bytes become characters (RFC 3629; ISO 8859-1), and these are heard.
+use Rattle.std.specs.Prelude.{◌≡◌, ℕ, zero, suc, ◌+◌, ◌*◌, ◌%◌, List, [], ◌∷◌, ◌++◌, take, Bool, ◌==◌, nat_lt, if◌then◌else◌, Option}
+use Rattle.utf8_characters.specs.declared.table.Table.{Table}
+use Rattle.preconv_converter.specs.declared.half.Half.{Half}
+use Rattle.preconv_converter.specs.declared.half.Coming.{Coming}
+use Rattle.preconv_converter.specs.declared.half.Coming.TheVariants.{Byte, Wide}
+use Rattle.preconv_converter.specs.declared.half.Line.{Line}
+use Rattle.preconv_converter.specs.declared.half.Line.TheVariants as lines
+use Rattle.preconv_converter.specs.declared.reader.Reader.{Reader}
+use Rattle.preconv_converter.specs.declared.reader.Pending.{Pending}
+use Rattle.preconv_converter.specs.declared.reader.Pending.TheVariants.{Nothing, One, Two, Three}
+use Rattle.preconv_converter.specs.Numbers.{is_within}
+use Rattle.preconv_converter.specs.Saying.{bytes_of, sent, all_sent}
+use Rattle.preconv_converter.specs.Half.{first_half}
+use Rattle.preconv_converter.specs.Lines.{passing}
+use Rattle.preconv_converter.specs.Meeting.{meet, is_raw}
+
+-- What is half read then, what goes out, and in how many steps: a character meets what is half read, or a byte passes as it is.
+pub record Told : Type 0 where
+  pub reader : Reader
+  pub bytes : List ℕ
+  pub steps : ℕ
+
+abbrev pub told : Reader → List ℕ → ℕ → Told
+told r bytes steps = record { reader = r; bytes = bytes; steps = steps }
+
+-- these bytes, in so many steps, and then what comes
+abbrev pub behind : List ℕ → ℕ → Told → Told
+behind bytes steps t = record { reader = t.reader; bytes = bytes ++ t.bytes; steps = steps + t.steps }
+
+-- first the one, then the other
+abbrev pub then_told : Told → (Reader → Told) → Told
+then_told t next = behind t.bytes t.steps (next t.reader)
+
+-- a page begins
+abbrev pub first_reader : Option Table → Reader
+first_reader table = record { half = first_half; pending = Nothing; table = table }
+
+-- ---- a character is heard: it is met again until it is taken
+
+abbrev pub with_half : Half → Reader → Reader
+with_half h r = record r { half = h }
+
+abbrev pub heard_in : ℕ → Coming → Reader → Told
+heard_in zero coming r = told r [] 0
+heard_in (suc n) coming r =
+    let m = meet coming r.half in
+    behind (bytes_of r.table m.said) 1 (if m.takes then told (with_half m.half r) [] 0
+    else heard_in n coming (with_half m.half r))
+
+-- six times are enough: an escape that is none, and words that end and begin
+unfoldable pub heard : Coming → Reader → Told
+heard coming r = heard_in 6 coming r
+
+-- ---- characters of several bytes
+
+abbrev pub is_lead : ℕ → Bool
+is_lead b = is_within 194 244 b
+
+abbrev pub is_tail : ℕ → Bool
+is_tail b = is_within 128 191 b
+
+-- no longer form than is needed, no surrogate, nothing above U+10FFFF
+abbrev pub is_second : ℕ → ℕ → Bool
+is_second first b =
+    if first == 224 then is_within 160 191 b else
+    if first == 237 then is_within 128 159 b else
+    if first == 240 then is_within 144 191 b else
+    if first == 244 then is_within 128 143 b else is_tail b
+
+abbrev pub low_six : ℕ → ℕ
+low_six b = b % 64
+
+-- a byte that is no part of one comes as Latin-1
+abbrev pub stray : ℕ → Reader → Told
+stray b r = heard (Wide b) r
+
+abbrev pub pending_with : Pending → Reader → Reader
+pending_with pending r = record r { pending = pending }
+
+abbrev pub strays : Pending → Reader → Told
+strays Nothing r = told r [] 0
+strays (One a) r = stray a r
+strays (Two a b) r = then_told (stray a r) (λ s. stray b s)
+strays (Three a b c) r = then_told (then_told (stray a r) (λ s. stray b s)) (λ s. stray c s)
+
+-- what was read of a character was none
+abbrev pub pending_heard : Reader → Told
+pending_heard r = strays r.pending (pending_with Nothing r)
+
+abbrev pub fresh : ℕ → Reader → Told
+fresh b r =
+    if nat_lt b 127 then heard (Byte b) r else
+    if is_lead b then told (pending_with (One b) r) [] 0 else stray b r
+
+abbrev pub apart : ℕ → Reader → Told
+apart b r = then_told (pending_heard r) (λ s. fresh b s)
+
+abbrev pub whole : ℕ → Reader → Told
+whole c r = heard (Wide c) (pending_with Nothing r)
+
+-- by what is pending
+abbrev pub heard_behind : Pending → ℕ → Reader → Told
+heard_behind Nothing b r = apart b r
+heard_behind (One a) b r =
+    if is_second a b
+    then (if nat_lt a 224 then whole ((a % 32) * 64 + low_six b) r else told (pending_with (Two a b) r) [] 0)
+    else apart b r
+heard_behind (Two a b) c r =
+    if is_tail c
+    then (if nat_lt a 240 then whole ((a % 16) * 4096 + low_six b * 64 + low_six c) r
+    else told (pending_with (Three a b c) r) [] 0)
+    else apart c r
+heard_behind (Three a b c) d r =
+    if is_tail d then whole ((a % 8) * 262144 + low_six b * 4096 + low_six c * 64 + low_six d) r
+    else apart d r
+
+abbrev pub heard_byte : ℕ → Reader → Told
+heard_byte b r = heard_behind r.pending b r
+
+-- ---- a byte, and the end
+
+abbrev pub read : ℕ → Reader → Told
+read b r = if is_raw r.half.line then told (with_half (passing b r.half) r) (sent r.table b ∷ []) 1
+    else heard_byte b r
+
+-- a name that is half read
+abbrev pub name_left : Line → List ℕ → List ℕ
+name_left lines.Control name = name
+name_left lines.Name name = name
+name_left lines.Face name = name
+name_left (lines.Asked asked) name = name
+name_left line name = []
+
+-- what is half read at the end goes out as it is
+abbrev pub ended : Reader → List ℕ
+ended r = all_sent r.table r.half.kept ++ all_sent r.table (name_left r.half.line r.half.name)
+
+abbrev pub finished : Reader → List ℕ
+finished r = (pending_heard r).bytes ++ ended (pending_heard r).reader
+
+-- ---- many bytes
+
+abbrev pub fed : Reader → List ℕ → Told
+fed r [] = told r [] 0
+fed r (b ∷ bs) = then_told (read b r) (λ s. fed s bs)
+
+-- ---- bytes are taken one after another
+
+-- the first n of these, in so many steps, and what comes of them stands after what was pending
+pub record Takes (n : ℕ) (bytes : List ℕ) (r s : Reader) (pending left : List ℕ) (steps : ℕ) : Type 0 where
+  pub reader : s ≡ (fed r (take n bytes)).reader
+  pub out : left ≡ pending ++ (fed r (take n bytes)).bytes
+  pub made : steps ≡ (fed r (take n bytes)).steps
+
+-- ---- the definition: what comes of all bytes of an input
+
+abbrev pub converted : Option Table → List ℕ → List ℕ
+converted table input =
+    let t = fed (first_reader table) input in
+    t.bytes ++ finished t.reader
+
+-- in how many steps that comes
+abbrev pub steps_of : Option Table → List ℕ → ℕ
+steps_of table input =
+    let t = fed (first_reader table) input in
+    t.steps + (pending_heard t.reader).steps

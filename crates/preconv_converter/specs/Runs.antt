@@ -1,0 +1,160 @@
+-- Runs of bytes that only go on a line.
+use Prim.Native.Char.{code}
+use Rattle.std.specs.Prelude.{ℕ, List, [], ◌∷◌, Bool, true, false, not, ◌==◌, ◌&&◌, ◌||◌, nat_lt, if◌then◌else◌, min}
+use Rattle.std.specs.List.{prefix_len}
+use Rattle.nr_units.specs.Name.{capacity}
+use Rattle.preconv_converter.specs.declared.half.Half.{Half}
+use Rattle.preconv_converter.specs.declared.half.Line.{Line}
+use Rattle.preconv_converter.specs.declared.half.Line.TheVariants as lines
+use Rattle.preconv_converter.specs.declared.words.Words.{Words}
+use Rattle.preconv_converter.specs.declared.half.Before.TheVariants.{Character}
+use Rattle.preconv_converter.specs.declared.half.Mark.TheVariants.{Stop, Other}
+use Rattle.preconv_converter.specs.Half.{is_plain, is_open, without_escape, in_text, in_fonts}
+use Rattle.preconv_converter.specs.Hyphens.{placed, gone_by}
+use Rattle.preconv_converter.specs.Faces.{faced}
+use Rattle.preconv_converter.specs.Numbers.{is_within}
+use Rattle.preconv_converter.specs.declared.beginnings.Opens.{Opens}
+use Rattle.preconv_converter.specs.Lines.{ends_name, opening}
+use Rattle.preconv_converter.specs.Meeting.{taken_as_is}
+use Rattle.preconv_converter.specs.declared.words.Place.{Place}
+use Rattle.preconv_converter.specs.declared.words.Place.TheVariants.{Between}
+use Rattle.preconv_converter.specs.Words.{class_of, goes_on_with, begins_word, inside}
+
+-- a printing byte that is neither a hyphen, a backslash nor what closes a sentence
+abbrev pub goes_on_text : ℕ → Bool
+goes_on_text b =
+    is_within (code " ") (code "!") b || is_within (code "#") (code "&") b || (b == code "(")
+    || is_within (code "+") (code ",") b || is_within (code ".") (code "[") b
+    || is_within (code "^") (code "~") b
+
+abbrev pub goes_on_word : Words → ℕ → Bool
+goes_on_word words b = goes_on_text b && goes_on_with (class_of b) words
+
+-- how many bytes come first that only go on a line
+abbrev pub run_at : Line → List ℕ → ℕ
+run_at lines.Text bs = prefix_len goes_on_text bs
+run_at lines.Request bs = prefix_len goes_on_text bs
+run_at lines.Stored bs = prefix_len goes_on_text bs
+run_at (lines.Words words) bs = prefix_len (goes_on_word words) bs
+run_at line bs = 0
+
+abbrev pub run_len : List ℕ → Half → ℕ
+run_len bs h = if is_open h then run_at h.line bs else 0
+
+-- ---- comments
+
+abbrev pub goes_on_comment : ℕ → Bool
+goes_on_comment b = nat_lt b 127 && not (b == code "\n")
+
+abbrev pub comment_at : Line → List ℕ → ℕ
+comment_at lines.Comment bs = prefix_len goes_on_comment bs
+comment_at line bs = 0
+
+-- how many bytes come first that only go on a comment
+abbrev pub comment_len : List ℕ → Half → ℕ
+comment_len bs h = comment_at h.line bs
+
+-- ---- names of control lines
+
+abbrev pub goes_on_name : ℕ → Bool
+goes_on_name b = nat_lt b 127 && not (ends_name b)
+
+-- what is said for such a line up to the end of its name
+abbrev pub dot : List ℕ
+dot = code "." ∷ []
+
+-- how long the name is after a dot, which doesn't begin with one
+abbrev pub dotted_len : List ℕ → ℕ
+dotted_len [] = 0
+dotted_len (a ∷ []) = 0
+dotted_len (a ∷ first ∷ bs) =
+    if (a == code ".") && not (first == code ".") then min (prefix_len goes_on_name (first ∷ bs)) capacity
+    else 0
+
+abbrev pub is_start : Line → Bool
+is_start lines.Start = true
+is_start line = false
+
+abbrev pub name_len : List ℕ → Half → ℕ
+name_len bs h = if is_plain h.escape && is_start h.line then dotted_len bs else 0
+
+-- the dot and the name were read
+abbrev pub behind_name : List ℕ → Half → Half
+behind_name name h = record (placed Stop h) { conditional = false; name = name; line = lines.Name }
+
+abbrev pub is_end : ℕ → Bool
+is_end b = (b == code " ") || (b == code "\n")
+
+-- the dot, a name that opens so, and what ended it
+abbrev pub behind_control : Opens → ℕ → Half → Half
+behind_control o b h = taken_as_is b (opening o b (behind_name [] h))
+
+-- ---- comments that begin a line
+
+abbrev pub begins_comment : List ℕ → Bool
+begins_comment [] = false
+begins_comment (a ∷ []) = false
+begins_comment (a ∷ b ∷ []) = false
+begins_comment (a ∷ b ∷ c ∷ bs) = (a == code ".") && (b == code "\\") && (c == code "\"")
+
+abbrev pub behind_comment : Half → Half
+behind_comment h = record (without_escape h) {
+  name = [];
+  conditional = false;
+  before = Character Other;
+  line = lines.Comment;
+}
+
+-- ---- words that begin
+
+abbrev pub is_between : Place → Bool
+is_between Between = true
+is_between place = false
+
+-- up to the eighth
+abbrev pub begins_word_with : Words → ℕ → Bool
+begins_word_with w b =
+    goes_on_text b && not (b == code " ") && not (b == code "\"") && is_between w.place && nat_lt w.count 8
+
+abbrev pub behind_word : Words → ℕ → Half → Half
+behind_word w b h = record (gone_by b h) { line = lines.Words (inside w) }
+
+-- ---- escapes that go out as they are: those of two bytes, and fonts
+
+-- no word begins with it
+abbrev pub takes_plain_at : Line → Bool
+takes_plain_at lines.Start = true
+takes_plain_at lines.Fonts = true
+takes_plain_at lines.Text = true
+takes_plain_at lines.Request = true
+takes_plain_at (lines.Words words) = not (begins_word words)
+takes_plain_at line = false
+
+abbrev pub takes_plain_escape : Half → Bool
+takes_plain_escape h = if is_plain h.escape then takes_plain_at h.line else false
+
+-- the minus sign, what prints nothing, a thin blank, what goes on a line, a backslash
+abbrev pub is_kept : ℕ → Bool
+is_kept b =
+    (b == code "-") || (b == code "&") || (b == code "|") || (b == code "c") || (b == code "e")
+
+abbrev pub begins_kept : List ℕ → Bool
+begins_kept [] = false
+begins_kept (a ∷ []) = false
+begins_kept (a ∷ b ∷ bs) = (a == code "\\") && is_kept b
+
+abbrev pub is_font : ℕ → Bool
+is_font b = (b == code "B") || (b == code "I") || (b == code "P") || (b == code "R")
+
+abbrev pub begins_font : List ℕ → Bool
+begins_font [] = false
+begins_font (a ∷ []) = false
+begins_font (a ∷ b ∷ []) = false
+begins_font (a ∷ b ∷ c ∷ bs) = (a == code "\\") && (b == code "f") && is_font c
+
+-- what is half read then
+abbrev pub behind_font : ℕ → Half → Half
+behind_font letter h = in_fonts (without_escape (faced letter h))
+
+abbrev pub behind_kept : Half → Half
+behind_kept h = in_text (without_escape (placed Other h))

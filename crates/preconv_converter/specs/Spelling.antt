@@ -1,0 +1,71 @@
+-- How the name in an escape is spelled (the groff manual, Identifiers): by one byte, two, or between delimiters.
+use Prim.Native.Char.{code}
+use Rattle.std.specs.Prelude.{ℕ, length, Bool, true, false, not, ◌==◌, ◌&&◌, ◌||◌, if◌then◌else◌}
+use Rattle.preconv_converter.specs.declared.said.Said.TheVariants as says
+use Rattle.preconv_converter.specs.declared.half.Half.{Half}
+use Rattle.preconv_converter.specs.declared.half.Escape.TheVariants as escapes
+use Rattle.preconv_converter.specs.declared.half.Kind.{Kind}
+use Rattle.preconv_converter.specs.declared.half.Kind.TheVariants as kinds
+use Rattle.preconv_converter.specs.Half.{Met, taken, abandoned}
+use Rattle.preconv_converter.specs.Endings.{keeping, spelling, going_on, ended_kept}
+use Rattle.preconv_converter.specs.Named.{named}
+
+-- a name of one byte; the language has sizes of one digit
+abbrev pub named_once : Kind → Half → Met
+named_once kinds.Size h = ended_kept h
+named_once kind h = named kind h
+
+abbrev pub named_by : Kind → ℕ → Half → Met
+named_by kind b h = named_once kind (spelling b (keeping b h))
+
+abbrev pub has_sign : Kind → Bool
+has_sign kinds.Register = true
+has_sign kinds.Size = true
+has_sign kind = false
+
+abbrev pub is_size : Kind → Bool
+is_size kinds.Size = true
+is_size kind = false
+
+abbrev pub is_dropped : Kind → Bool
+is_dropped kinds.Dropped = true
+is_dropped kind = false
+
+-- one that another escape gives, as `\f\*B`, is left to the formatter
+abbrev pub target : Kind → ℕ → Half → Met
+target kind b h =
+    if b == code "\n" then abandoned h else
+    if (b == code "\\") && not (is_dropped kind) then abandoned h else
+    if b == code "(" then going_on b (escapes.Pair kind) h else
+    if b == code "[" then going_on b (escapes.Bracket kind) h else
+    if ((b == code "+") || (b == code "-")) && has_sign kind then going_on b (escapes.Target kind) h else
+    if (b == code "'") && is_size kind then going_on b (escapes.Delimited kind b) h else named_by kind b h
+
+abbrev pub paired : Kind → Half → Met
+paired kind h = if length h.spelled == 2 then named kind h else taken says.Nothing h
+
+abbrev pub pair : Kind → ℕ → Half → Met
+pair kind b h = if b == code "\n" then abandoned h else paired kind (spelling b (keeping b h))
+
+-- what hangs by an escape in another is read as it stands
+abbrev pub is_hang_kind : Kind → Bool
+is_hang_kind kinds.Hang = true
+is_hang_kind kind = false
+
+abbrev pub spelled_up_to : ℕ → Kind → ℕ → Half → Met
+spelled_up_to end kind b h =
+    if b == code "\n" then abandoned h else
+    if (b == code "\\") && is_hang_kind kind then abandoned h else
+    if b == end then named kind (keeping b h) else taken says.Nothing (spelling b (keeping b h))
+
+abbrev pub delimiter : Kind → ℕ → Half → Met
+delimiter kind b h = if b == code "\n" then abandoned h else going_on b (escapes.Delimited kind b) h
+
+abbrev pub bracketed : Kind → ℕ → Half → Met
+bracketed kind b h =
+    if b == code "[" then going_on b (escapes.Nested kind) h else spelled_up_to (code "]") kind b h
+
+abbrev pub nested : Kind → ℕ → Half → Met
+nested kind b h =
+    if b == code "\n" then abandoned h else
+    if b == code "]" then going_on b (escapes.Bracket kind) h else taken says.Nothing (keeping b h)

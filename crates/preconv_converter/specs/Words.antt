@@ -1,0 +1,164 @@
+-- The words of a font macro's line. No more than nine are taken, so the ninth and all after it are one word in quotes;
+-- where two fonts take turns, the words after the ninth follow one another with their fonts.
+use Prim.Native.Char.{code}
+use Rattle.std.specs.Prelude.{ℕ, ◌+◌, Bool, true, false, not, ◌==◌, ◌&&◌, nat_le, if◌then◌else◌}
+use Rattle.preconv_converter.specs.declared.said.Said.{Said}
+use Rattle.preconv_converter.specs.declared.said.Said.TheVariants.{Nothing, Byte, Escape, Quotes, Font}
+use Rattle.preconv_converter.specs.declared.words.Words.{Words}
+use Rattle.preconv_converter.specs.declared.words.Told.{Told}
+use Rattle.preconv_converter.specs.declared.words.Fonts.{Fonts}
+use Rattle.preconv_converter.specs.declared.words.Fonts.TheVariants.{One, Same, Turn, Tag}
+use Rattle.preconv_converter.specs.declared.words.Place.{Place}
+use Rattle.preconv_converter.specs.declared.words.Place.TheVariants.{Between, Begun, Opened, Inside, Quoted, Closing}
+use Rattle.preconv_converter.specs.declared.words.Class.{Class}
+use Rattle.preconv_converter.specs.declared.words.Class.TheVariants.{Space, Quote, Other}
+
+abbrev pub class_of : ℕ → Class
+class_of b = if b == code " " then Space else if b == code "\"" then Quote else Other
+
+-- no word has begun
+abbrev pub first_words : Fonts → Words
+first_words fonts = record { fonts = fonts; count = 0; second = true; place = Between }
+
+abbrev pub is_ninth : Words → Bool
+is_ninth w = nat_le 9 w.count
+
+abbrev pub hyphens_by : Fonts → ℕ → Bool
+hyphens_by Tag count = count == 1
+hyphens_by fonts count = true
+
+-- the font of the word, by its letter
+abbrev pub face_by : Fonts → Bool → ℕ
+face_by (Same a) second = a
+face_by (Turn a b) second = if second then b else a
+face_by fonts second = code "R"
+
+abbrev pub word_face : Words → ℕ
+word_face w = face_by w.fonts w.second
+
+-- a hyphen here is one of text: where a tag or an address stands, the words after it are numbers
+abbrev pub has_hyphens : Words → Bool
+has_hyphens w = hyphens_by w.fonts w.count
+
+abbrev pub begins_at : Place → Bool
+begins_at Between = true
+begins_at Begun = true
+begins_at Opened = true
+begins_at Closing = true
+begins_at place = false
+
+-- an escape that comes begins a word
+abbrev pub begins_word : Words → Bool
+begins_word w = begins_at w.place
+
+-- a character in a word goes out as it is
+abbrev pub goes_on_at : Place → Class → Bool
+goes_on_at Inside Other = true
+goes_on_at Quoted Other = true
+goes_on_at Quoted Space = true
+goes_on_at place class = false
+
+abbrev pub goes_on_with : Class → Words → Bool
+goes_on_with class w = goes_on_at w.place class
+
+-- up to the eighth word a space goes out as it is
+abbrev pub spaced_at : Place → Bool
+spaced_at Between = true
+spaced_at Inside = true
+spaced_at Quoted = true
+spaced_at place = false
+
+abbrev pub goes_on_with_space : Words → Bool
+goes_on_with_space w = if is_ninth w then goes_on_with Space w else spaced_at w.place
+
+-- an ASCII character goes out as it is and is taken at once
+abbrev pub is_as_is : ℕ → Words → Bool
+is_as_is b w =
+    if b == code "\n" then not (is_ninth w) else
+    if b == code " " then goes_on_with_space w else not (b == code "-") && goes_on_with (class_of b) w
+
+abbrev pub words_at : Place → Words → Words
+words_at place w = record { fonts = w.fonts; count = w.count; second = w.second; place = place }
+
+-- a space ends a word
+abbrev pub behind_space : Place → Place
+behind_space Inside = Between
+behind_space place = place
+
+abbrev pub taken_as_is : ℕ → Words → Words
+taken_as_is b w = if b == code " " then words_at (behind_space w.place) w else w
+
+abbrev pub told : Place → Said → Bool → Words → Told
+told place said takes w = record { words = words_at place w; said = said; takes = takes }
+
+-- ---- a word begins
+
+abbrev pub turned : Fonts → Bool → Said
+turned One second = Nothing
+turned (Same a) second = Nothing
+turned Tag second = Nothing
+turned (Turn a b) second = Font (if second then a else b)
+
+-- after the ninth word the font changes
+abbrev pub font_said : Words → Said
+font_said w = turned w.fonts w.second
+
+-- before the ninth a quote goes out
+abbrev pub begun : Words → Told
+begun w =
+    if nat_le 9 w.count
+    then record {
+      words = record { fonts = w.fonts; count = 9; second = not w.second; place = Begun };
+      said = font_said w;
+      takes = false;
+    }
+    else record {
+      words = record { fonts = w.fonts; count = w.count + 1; second = not w.second; place = Begun };
+      said = if w.count == 8 then Byte (code "\"") else Nothing;
+      takes = false;
+    }
+
+-- in a word up to the eighth that begins
+abbrev pub inside : Words → Words
+inside w = record { fonts = w.fonts; count = w.count + 1; second = not w.second; place = Inside }
+
+-- ---- what a character says
+
+abbrev pub blank_by : Fonts → Bool → Said → Said
+blank_by (Turn a b) true said = Nothing
+blank_by fonts ninth said = said
+
+abbrev pub blank_said : Said → Words → Said
+blank_said said w = blank_by w.fonts (is_ninth w) said
+
+abbrev pub quoted_said : Said → Said → Words → Said
+quoted_said said ninth w = if is_ninth w then ninth else said
+
+-- what stands right after a last quote is a word of its own
+abbrev pub met_closing : Class → Said → Words → Told
+met_closing Quote said w = told Quoted (quoted_said said Quotes w) true w
+met_closing Space said w = told Between (blank_said said w) true w
+met_closing Other said w = told Between (blank_said (Byte (code " ")) w) false w
+
+-- After a quote with which a word begins. Blanks before the first word of a filled line are dropped: after the first quote
+-- they are printed, as are those between words.
+abbrev pub behind_quote : Words → Place
+behind_quote w = if w.count == 1 then Opened else Quoted
+
+-- by where it comes, and what it is
+abbrev pub met_at : Place → Class → Said → Words → Told
+met_at Between Space said w = told Between (blank_said said w) true w
+met_at Between class said w = begun w
+met_at Begun Quote said w = told (behind_quote w) (quoted_said said Nothing w) true w
+met_at Begun class said w = told Inside Nothing false w
+met_at Inside Space said w = told Between (blank_said said w) true w
+met_at Inside Quote said w = told Inside (quoted_said said Quotes w) true w
+met_at Inside Other said w = told Inside said true w
+met_at Opened Space said w = told Quoted (Escape (code "&")) false w
+met_at Opened class said w = told Quoted Nothing false w
+met_at Quoted Quote said w = told Closing (quoted_said said Nothing w) true w
+met_at Quoted class said w = told Quoted said true w
+met_at Closing class said w = met_closing class said w
+
+abbrev pub met_words : Class → Said → Words → Told
+met_words class said w = met_at w.place class said w

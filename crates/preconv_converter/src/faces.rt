@@ -1,0 +1,102 @@
+//! Which font a page is in, so that a name that is no font keeps it.
+ghost use Rattle.std.specs.Prelude.{◌≡◌};
+ghost use Rattle.preconv_converter.specs.Half.{met};
+ghost use Rattle.preconv_converter.specs.Faces as specs;
+
+use super::glyphs::font_of;
+use super::half::{Half, Line, Seen};
+use super::said::Said;
+use nr_units::Name;
+
+impl Line {
+    /// The letter of the font here, where text has this one.
+    fn face(self, text: u8) -> u8
+        ensures { result ≡ specs.face_at self text }
+    {
+        match self {
+            Line::Words(words) => words.face(),
+            _ => text,
+        }
+    }
+}
+
+impl Half {
+    /// A font is set. What a macro sets in its line holds no longer than that.
+    pub(crate) fn faces(&mut self, letter: u8)
+        ensures { self.new ≡ specs.faced letter self.old }
+    {
+        if matches!(self.line, Line::Words(_)) {
+            return;
+        }
+        let before = self.font;
+        self.font = if letter == b'P' {
+            self.previous
+        } else {
+            letter
+        };
+        self.previous = before;
+    }
+
+    /// A font by its name. One that is none keeps the font, and counts as a change.
+    fn named_face(&self, name: Name) -> u8
+        ensures { result ≡ specs.named_face name self.now }
+    {
+        match font_of(name.as_bytes()) {
+            Some(letter) => letter,
+            None => self.line.face(self.font),
+        }
+    }
+
+    /// The name of a font in an escape has ended.
+    pub(crate) fn font(&mut self) -> Seen
+        ensures { met self.new result ≡ specs.font_named self.old }
+    {
+        let letter = self.named_face(self.spelled);
+        self.faces(letter);
+        self.ended_font(Said::Font(letter))
+    }
+
+    /// The name of a font in a line of `.ft` has ended.
+    pub(crate) fn face_ends(&mut self) -> Seen
+        ensures { met self.new result ≡ specs.face_ended self.old }
+    {
+        let name = self.name;
+        let letter = self.named_face(name);
+        self.faces(letter);
+        self.line = Line::Request;
+        self.name = Name::new();
+        if name.is_empty() {
+            return Seen::left(Said::Nothing);
+        }
+        Seen::left(Said::Byte(letter))
+    }
+
+    /// A byte of a line of `.ft`.
+    pub(crate) fn in_face(&mut self, byte: u8) -> Seen
+        ensures { met self.new result ≡ specs.in_face byte self.old }
+    {
+        match byte {
+            b'\n' => self.face_ends(),
+            b' ' | b'\t' if self.name.is_empty() => self.says(byte, Line::Face),
+            b'\\' if self.name.is_empty() => self.face_unknown(),
+            b' ' | b'\t' | b'\\' => self.face_ends(),
+            b'\r' => Seen::taken(Said::Nothing),
+            _ => {
+                if !self.name.is_full() {
+                    self.name.push(byte);
+                }
+                Seen::taken(Said::Nothing)
+            }
+        }
+    }
+
+    /// An escape names the font: which it is isn't known.
+    fn face_unknown(&mut self) -> Seen
+        ensures { met self.new result ≡ specs.face_unknown self.old }
+    {
+        self.font = b'R';
+        self.previous = b'R';
+        self.line = Line::Request;
+        Seen::left(Said::Nothing)
+    }
+}

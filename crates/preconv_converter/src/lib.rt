@@ -1,0 +1,40 @@
+//! What manual pages use, turned into the language of the formatter.
+//!
+//! It stands on nr_units, nr_vectors, utf8_characters and document_stages. To read: `numbers`, `pairs`, `glyphs`; `signs`, `likeness`, `said`; `words`, `half`;
+//! `beginnings`, `hyphens`, `sentences`, `translations`, `lines`, `conditions`; `endings`, `faces`, `skipping`, `letters`,
+//! `named`, `spelling`, `escapes`; `meeting`, which puts them together; `runs`, `passing`, `reader`, `running`; `staged`;
+//! `plain_text`.
+#![tactic(auto)]
+
+mod beginnings;
+mod conditions;
+mod endings;
+mod escapes;
+mod faces;
+mod glyphs;
+mod half;
+mod hyphens;
+mod letters;
+mod likeness;
+mod lines;
+mod meeting;
+mod named;
+mod numbers;
+mod pairs;
+mod passing;
+mod plain_text;
+mod reader;
+mod running;
+mod runs;
+mod said;
+mod sentences;
+mod signs;
+mod skipping;
+mod spelling;
+mod staged;
+mod translations;
+mod words;
+
+pub use plain_text::passes_unchanged;
+pub use running::{Outcome, convert};
+pub use staged::Turner;

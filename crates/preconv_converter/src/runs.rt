@@ -1,0 +1,277 @@
+//! Runs of bytes that only go on a line, which are taken at once.
+ghost use Rattle.std.specs.Prelude.{◌≡◌, ◌+◌, ◌<◌, ◌≤◌, length, true};
+ghost use Rattle.std.specs.List.{prefix_len};
+ghost use Rattle.preconv_converter.specs.Runs as specs;
+
+use super::beginnings::Opens;
+use super::half::{Before, Escape, Half, Line, Mark};
+use super::words::{Class, Place, Words};
+use nr_units::Name;
+
+/// Each byte that only goes on a text line or a request, at its place, and a hyphen at that of each other.
+static TEXT: [u8; 256] =
+    *b"-------------------------------- !-#$%&-(--+,-./0123456789:;<=>?@ABCDEFGHIJKLMNOPQRSTUVWXYZ[--^_`abcdefghijklmnopqrstuvwxyz{|}~---------------------------------------------------------------------------------------------------------------------------------";
+
+/// Whether a byte only goes on a text line or a request: it prints, and is neither a hyphen, a backslash nor what
+/// closes a sentence. One look at a table takes half the instructions of comparing with the ends of three ranges.
+fn goes_on_text(byte: u8) -> bool
+    ensures { result ≡ specs.goes_on_text byte }
+{
+    TEXT[usize::from(byte)] != b'-'
+}
+
+/// Whether a byte only goes on a word of a font macro's line.
+fn goes_on_word(words: Words, byte: u8) -> bool
+    ensures { result ≡ specs.goes_on_word words byte }
+{
+    goes_on_text(byte) && words.goes_on_with(Class::of(byte))
+}
+
+/// Whether a word begins with a byte that goes out as it is: up to the eighth.
+pub(crate) fn begins_word_with(words: Words, byte: u8) -> bool
+    ensures value { result ≡ specs.begins_word_with words byte }
+    ensures few { result ≡ true → words.count < 8 }
+{
+    goes_on_text(byte)
+        && byte != b' '
+        && byte != b'"'
+        && matches!(words.place, Place::Between)
+        && words.count < 8
+}
+
+/// How many of these bytes come first that only go on a text line or a request.
+fn text_run(bytes: &[u8]) -> usize
+    ensures len { result ≡ prefix_len specs.goes_on_text bytes.now }
+    ensures within { result ≤ length bytes.now }
+{
+    bytes.iter().take_while(|byte| goes_on_text(**byte)).count()
+}
+
+/// How many of these bytes come first that only go on a word.
+fn word_run(words: Words, bytes: &[u8]) -> usize
+    ensures len { result ≡ prefix_len (specs.goes_on_word words) bytes.now }
+    ensures within { result ≤ length bytes.now }
+{
+    bytes
+        .iter()
+        .take_while(|byte| goes_on_word(words, **byte))
+        .count()
+}
+
+/// Whether a byte only goes on a comment.
+fn goes_on_comment(byte: u8) -> bool
+    ensures { result ≡ specs.goes_on_comment byte }
+{
+    byte < 127 && byte != b'\n'
+}
+
+/// How many of these bytes come first that only go on a comment.
+fn comment_run(bytes: &[u8]) -> usize
+    ensures len { result ≡ prefix_len specs.goes_on_comment bytes.now }
+    ensures within { result ≤ length bytes.now }
+{
+    bytes
+        .iter()
+        .take_while(|byte| goes_on_comment(**byte))
+        .count()
+}
+
+impl Half {
+    /// How many of these bytes come first that only go on the line, in no escape.
+    #[inline(always)]
+    pub(crate) fn run_len(&self, bytes: &[u8]) -> usize
+        ensures len { result ≡ specs.run_len bytes.now self.now }
+        ensures within { result ≤ length bytes.now }
+    {
+        if !self.is_open() {
+            return 0;
+        }
+        match self.line {
+            Line::Text | Line::Request | Line::Stored => text_run(bytes),
+            Line::Words(words) => word_run(words, bytes),
+            _ => 0,
+        }
+    }
+
+    /// How many of these bytes come first that only go on a comment.
+    #[inline(always)]
+    pub(crate) fn comment_len(&self, bytes: &[u8]) -> usize
+        ensures len { result ≡ specs.comment_len bytes.now self.now }
+        ensures within { result ≤ length bytes.now }
+    {
+        match self.line {
+            Line::Comment => comment_run(bytes),
+            _ => 0,
+        }
+    }
+
+    /// How long the name is that these bytes begin with after a dot, at the beginning of a line: up to 32 bytes,
+    /// none of which ends it.
+    pub(crate) fn name_len(&self, bytes: &[u8]) -> usize
+        ensures len { result ≡ specs.name_len bytes.now self.now }
+        ensures few { result ≤ 32 }
+        ensures within { 0 < result → result + 1 ≤ length bytes.now }
+    {
+        if !matches!(self.escape, Escape::Plain) || !matches!(self.line, Line::Start) {
+            return 0;
+        }
+        dotted_len(bytes)
+    }
+
+    /// Takes the dot and this name.
+    pub(crate) fn takes_name(&mut self, name: Name)
+        ensures { self.new ≡ specs.behind_name name self.old }
+    {
+        self.places(Mark::Stop);
+        self.conditional = false;
+        self.name = name;
+        self.line = Line::Name;
+    }
+
+    /// Takes the dot, a name that opens so, and the blank or newline after it.
+    #[inline(always)]
+    pub(crate) fn takes_control(&mut self, opens: Opens, byte: u8)
+        ensures { self.new ≡ specs.behind_control opens byte self.old }
+    {
+        self.takes_name(Name::new());
+        self.opens(opens, byte);
+        self.takes(byte);
+    }
+
+    /// Takes the beginning of a comment that is a line of its own.
+    #[inline(always)]
+    pub(crate) fn takes_comment(&mut self)
+        ensures { self.new ≡ specs.behind_comment self.old }
+    {
+        self.forget();
+        self.name = Name::new();
+        self.conditional = false;
+        self.before = Before::Character(Mark::Other);
+        self.line = Line::Comment;
+    }
+
+    /// Takes the first byte of a word.
+    #[inline(always)]
+    pub(crate) fn takes_word(&mut self, words: Words, byte: u8)
+        requires { words.count < 8 }
+        ensures { self.new ≡ specs.behind_word words byte self.old }
+    {
+        self.goes_by(byte);
+        self.line = Line::Words(words.inside());
+    }
+
+    /// Whether an escape may begin here that goes out as it is: in no other, and where no word begins with it.
+    pub(crate) fn takes_plain_escape(&self) -> bool
+        ensures { result ≡ specs.takes_plain_escape self.now }
+    {
+        if !matches!(self.escape, Escape::Plain) {
+            return false;
+        }
+        match self.line {
+            Line::Start | Line::Fonts | Line::Text | Line::Request => true,
+            Line::Words(words) => !words.begins_word(),
+            _ => false,
+        }
+    }
+
+    /// Takes a font, as `\\fB`.
+    pub(crate) fn takes_font(&mut self, letter: u8)
+        ensures { self.new ≡ specs.behind_font letter self.old }
+    {
+        self.faces(letter);
+        self.forget();
+        self.line = self.line.with_font();
+    }
+
+    /// Takes an escape of two bytes that goes out as it is.
+    pub(crate) fn takes_kept(&mut self)
+        ensures { self.new ≡ specs.behind_kept self.old }
+    {
+        self.places(Mark::Other);
+        self.forget();
+        self.line = self.line.with_text();
+    }
+}
+
+/// Whether a byte goes on a name.
+fn goes_on_name(byte: u8) -> bool
+    ensures { result ≡ specs.goes_on_name byte }
+{
+    byte < 127 && byte > b' ' && byte != b'\\'
+}
+
+/// A blank or a newline, which end a name.
+pub(crate) fn is_end(byte: u8) -> bool
+    ensures { result ≡ specs.is_end byte }
+{
+    byte == b' ' || byte == b'\n'
+}
+
+/// How many of these bytes come first that go on a name.
+fn name_run(bytes: &[u8]) -> usize
+    ensures len { result ≡ prefix_len specs.goes_on_name bytes.now }
+    ensures within { result ≤ length bytes.now }
+{
+    bytes.iter().take_while(|byte| goes_on_name(**byte)).count()
+}
+
+/// How long the name is that stands after a dot, and doesn't begin with one.
+fn dotted_len(bytes: &[u8]) -> usize
+    ensures len { result ≡ specs.dotted_len bytes.now }
+    ensures few { result ≤ 32 }
+    ensures within { 0 < result → result + 1 ≤ length bytes.now }
+{
+    match bytes {
+        [dot, first, ..] if *dot == b'.' && *first != b'.' => name_run(&bytes[1..]).min(32),
+        _ => 0,
+    }
+}
+
+/// The byte after a backslash in an escape of two bytes that goes out as it is: a minus sign, nothing, a thin blank, the
+/// end of a text that goes on, a backslash.
+fn is_kept(byte: u8) -> bool
+    ensures { result ≡ specs.is_kept byte }
+{
+    matches!(byte, b'-' | b'&' | b'|' | b'c' | b'e')
+}
+
+/// Whether a text begins with such an escape.
+pub(crate) fn begins_kept(bytes: &[u8]) -> bool
+    ensures { result ≡ specs.begins_kept bytes.now }
+{
+    match bytes {
+        [backslash, letter, ..] => *backslash == b'\\' && is_kept(*letter),
+        _ => false,
+    }
+}
+
+/// Whether a text begins with `.\"`.
+pub(crate) fn begins_comment(bytes: &[u8]) -> bool
+    ensures value { result ≡ specs.begins_comment bytes.now }
+    ensures within { result ≡ true → 3 ≤ length bytes.now }
+{
+    match bytes {
+        [dot, backslash, quote, ..] => *dot == b'.' && *backslash == b'\\' && *quote == b'"',
+        _ => false,
+    }
+}
+
+/// Whether a text begins with one of the fonts that the language has.
+pub(crate) fn begins_font(bytes: &[u8]) -> bool
+    ensures value { result ≡ specs.begins_font bytes.now }
+    ensures within { result ≡ true → 3 ≤ length bytes.now }
+{
+    match bytes {
+        [backslash, letter, font, ..] => {
+            *backslash == b'\\' && *letter == b'f' && is_font(*font)
+        }
+        _ => false,
+    }
+}
+
+/// The letter of a font that the language has.
+fn is_font(byte: u8) -> bool
+    ensures { result ≡ specs.is_font byte }
+{
+    matches!(byte, b'B' | b'I' | b'P' | b'R')
+}

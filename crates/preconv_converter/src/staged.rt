@@ -1,0 +1,70 @@
+//! A text is turned a part at a time.
+ghost use Rattle.std.specs.Prelude.{◌≡◌};
+ghost use Rattle.preconv_converter.specs.Reading.{first_reader};
+ghost use Rattle.preconv_converter.specs.Staged.{said};
+ghost use Rattle.document_stages.specs.Pulling.{fits_always};
+
+use super::reader::{MOST, Reader};
+use document_stages::Stage;
+use nr_vectors::slice_vec::SliceVec;
+use utf8_characters::Table;
+
+/// Characters and escapes become what the formatter reads, as with `convert`.
+#[derive(Drop)]
+pub struct Turner {
+    reader: Reader,
+}
+
+impl Turner {
+    /// A text begins. Bytes from 128 on stand for characters of the table, if there is one.
+    pub fn new(table: Option<Table>) -> Turner
+        ensures says { ⟦<Turner as Stage>⟧.says result ≡ said (first_reader table) }
+        ensures fits { ⟦<Turner as Stage>⟧.fits result ≡ fits_always }
+        ensures wants { ⟦<Turner as Stage>⟧.wants result ≡ 1536 }
+    {
+        Turner {
+            reader: Reader::new(table),
+        }
+    }
+}
+
+impl Stage for Turner {
+    ghost use Rattle.std.specs.Prelude.{refl};
+    ghost use Rattle.document_stages.specs.Pulling.{fits_always};
+    ghost use Rattle.preconv_converter.specs.Staged.{said};
+
+    ghost says = { λ s. said s.reader };
+
+    ghost fits = { λ s. fits_always };
+
+    ghost wants = { λ s. 1536 };
+
+    ghost waits = { λ s. refl };
+
+    fn room(&self) -> usize {
+        MOST
+    }
+
+    fn turn(&mut self, bytes: &[u8], out: &mut SliceVec<'_, u8>) -> usize {
+        let len = bytes.len().min(MOST);
+        let taken = self.reader.take(&bytes[..len], out);
+        if taken.count > 0 {
+            return taken.count;
+        }
+        if bytes.is_empty() {
+            return 0;
+        }
+        let byte = bytes[0];
+        self.reader.read(byte, out);
+        1
+    }
+
+    fn finish(&mut self, out: &mut SliceVec<'_, u8>) -> bool {
+        self.reader.finish(out);
+        true
+    }
+
+    fn is_full(&self) -> bool {
+        false
+    }
+}

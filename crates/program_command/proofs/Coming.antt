@@ -1,0 +1,69 @@
+-- What the program comes to, part by part.
+use Rattle.std.proofs.Common.{◌≡◌, ℕ, List, [], ◌++◌, append-nil, Bool, Option, None, Some, Result, Ok, Err, ◌⊎◌, inl, inr, refl, sym, subst}
+use Rattle.nr_command_options.specs.Inputs.{Reading}
+use Rattle.nr_command.specs.Opening.{Opening, Asks}
+use Rattle.nr_command.specs.Program.{IsRefused}
+use Rattle.nr_command.specs.declared.opening.NotRun.TheVariants as not_run
+use Rattle.nr_command_options.specs.declared.inputs.Input.{Input}
+use Rattle.program_options.specs.Job.{Asked}
+use Rattle.program_options.specs.Reading.{Complaint, is_bad}
+use Rattle.program_options.specs.declared.usage.Usage.{Usage}
+use Rattle.program_plan.specs.Texts.{readings_of}
+use Rattle.program_command.specs.Program.{Comes, IsOfRun, IsUnopened, Opens, Passes}
+use Rattle.program_command.specs.declared.endings.Ending.{Ending}
+use Rattle.program_command.specs.declared.endings.Ending.TheVariants.{BadWord, CannotOpen, Done, Limit, NoMacros, NeedsOthers, NoRoom, OutOfMemory, ReadFault, TooLong, WriteFault}
+
+-- nothing was asked for
+pub Asks-same : {A : Type 0} (xs : Option (List A)) → Asks xs xs []
+Asks-same None = tt
+Asks-same (Some xs) = sym (append-nil xs)
+
+-- a run asked for all texts, or for none
+pub Opens-of_run : (may_come : Reading → Opening → Type 0) (asked asked' : Option (List Reading)) (readings : List Reading) (ending : Ending)
+    → IsOfRun ending → (Asks asked asked' [] ⊎ Asks asked asked' readings) → Opens may_come asked asked' readings ending
+Opens-of_run may_come asked asked' readings (CannotOpen input) run opened = absurd run
+Opens-of_run may_come asked asked' readings other run opened = opened
+
+-- all texts were opened
+pub Opens-run : (may_come : Reading → Opening → Type 0) (asked asked' : Option (List Reading)) (readings others : List Reading) (ending : Ending)
+    → readings ≡ others → IsOfRun ending → Asks asked asked' readings → Opens may_come asked asked' others ending
+Opens-run may_come asked asked' readings others ending same run opened =
+    Opens-of_run may_come asked asked' others ending run (inr (subst (λ (rs : List Reading). Asks asked asked' rs) same opened))
+
+-- none was
+pub Opens-none : (may_come : Reading → Opening → Type 0) (asked : Option (List Reading)) (readings : List Reading) (ending : Ending)
+    → IsUnopened ending → Opens may_come asked asked readings ending
+Opens-none may_come asked readings (BadWord usage) unopened = inl (Asks-same asked)
+Opens-none may_come asked readings (NoMacros name) unopened = inl (Asks-same asked)
+Opens-none may_come asked readings Done unopened = absurd unopened
+Opens-none may_come asked readings (Limit place which) unopened = absurd unopened
+Opens-none may_come asked readings (NoRoom place) unopened = absurd unopened
+Opens-none may_come asked readings TooLong unopened = absurd unopened
+Opens-none may_come asked readings (CannotOpen input) unopened = absurd unopened
+Opens-none may_come asked readings (ReadFault place) unopened = absurd unopened
+Opens-none may_come asked readings WriteFault unopened = absurd unopened
+Opens-none may_come asked readings OutOfMemory unopened = absurd unopened
+Opens-none may_come asked readings (NeedsOthers name) unopened = absurd unopened
+
+pub Opens-memory : (may_come : Reading → Opening → Type 0) (asked asked' : Option (List Reading)) (readings others : List Reading)
+    → readings ≡ others → IsRefused may_come asked asked' readings not_run.OutOfMemory → Opens may_come asked asked' others OutOfMemory
+Opens-memory may_come asked asked' readings others same refused =
+    subst (λ (rs : List Reading). IsRefused may_come asked asked' rs not_run.OutOfMemory) same refused
+
+-- the same texts
+pub Opens-refused : (may_come : Reading → Opening → Type 0) (asked asked' : Option (List Reading)) (readings others : List Reading) (input : Input)
+    → readings ≡ others → IsRefused may_come asked asked' readings (not_run.CannotOpen input) → Opens may_come asked asked' others (CannotOpen input)
+Opens-refused may_come asked asked' readings others input same refused =
+    subst (λ (rs : List Reading). IsRefused may_come asked asked' rs (not_run.CannotOpen input)) same refused
+
+pub Comes-good : (answer : Result Asked Complaint) (job : Asked) (may_come : Reading → Opening → Type 0) (asked asked' : Option (List Reading))
+    (unopened unprinted : Type 0) (passed_on : Bool) (ending : Ending) → Ok job ≡ answer → Opens may_come asked asked' (readings_of job) ending
+    → (unprinted ⊎ Passes ending passed_on) → Comes answer may_come asked asked' unopened unprinted passed_on ending
+Comes-good answer job may_come asked asked' unopened unprinted passed_on ending is opens prints =
+    subst (λ (a : Result Asked Complaint). Comes a may_come asked asked' unopened unprinted passed_on ending) is (opens, prints)
+
+pub Comes-bad : (answer : Result Asked Complaint) (usage : Usage) (may_come : Reading → Opening → Type 0) (asked asked' : Option (List Reading))
+    (unopened unprinted : Type 0) (passed_on : Bool) → is_bad usage.case usage.word.now ≡ answer → unopened → unprinted
+    → Comes answer may_come asked asked' unopened unprinted passed_on (BadWord usage)
+Comes-bad answer usage may_come asked asked' unopened unprinted passed_on is same_opener same_output =
+    subst (λ (a : Result Asked Complaint). Comes a may_come asked asked' unopened unprinted passed_on (BadWord usage)) is ((refl, refl), same_opener, same_output)

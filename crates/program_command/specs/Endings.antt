@@ -1,0 +1,59 @@
+-- How the program ended: its status, and the line that reports it.
+use Rattle.std.specs.Prelude.{ℕ, List, [], ◌∷◌, codes, decimal}
+use Rattle.std.specs.List.{concat}
+use Rattle.nr_machine.specs.declared.outcome.Measure.{Measure}
+use Rattle.nr_machine.specs.declared.outcome.Measure.TheVariants.{Stored, Depth, LineCells, PageCells, Expansions, Moves}
+use Rattle.nr_command_options.specs.Inputs.{reading_of}
+use Rattle.nr_command.specs.Opening.{name_of}
+use Rattle.program_options.specs.Usage.{usage_text}
+use Rattle.program_command.specs.declared.endings.Ending.{Ending}
+use Rattle.program_command.specs.declared.endings.Ending.TheVariants.{Done, Limit, NoRoom, TooLong, BadWord, CannotOpen, NoMacros, ReadFault, WriteFault, OutOfMemory, NeedsOthers}
+
+-- the status of the program
+abbrev pub status_of : Ending → ℕ
+status_of Done = 0
+status_of (Limit place which) = 1
+status_of (NoRoom place) = 1
+status_of TooLong = 1
+status_of (BadWord usage) = 2
+status_of (CannotOpen input) = 3
+status_of (NoMacros name) = 3
+status_of (ReadFault place) = 3
+status_of WriteFault = 4
+status_of OutOfMemory = 5
+status_of (NeedsOthers name) = 6
+
+-- what is limited
+abbrev pub limit_text : Measure → List ℕ
+limit_text Stored = codes "stored bytes"
+limit_text Depth = codes "input depth"
+limit_text LineCells = codes "line cells"
+limit_text PageCells = codes "page cells"
+limit_text Expansions = codes "expansions"
+limit_text Moves = codes "moves"
+
+-- a line of the program
+abbrev pub told : List ℕ → List ℕ → List ℕ
+told what name = concat (codes "nulbiko: " ∷ what ∷ name ∷ codes "\n" ∷ [])
+
+-- a line about a line of a text
+abbrev pub placed : List ℕ → List ℕ → List ℕ → List ℕ → List ℕ
+placed name line what end =
+    concat (codes "nulbiko: " ∷ name ∷ codes ":" ∷ line ∷ codes ": " ∷ what ∷ end ∷ codes "\n" ∷ [])
+
+abbrev pub told_at : List ℕ → ℕ → List ℕ → List ℕ → List ℕ
+told_at name line what end = placed name (decimal line) what end
+
+-- the line that reports how the program ended: nothing where all went out
+abbrev pub line_of : Ending → List ℕ
+line_of Done = []
+line_of (Limit place which) = told_at place.name.now place.line (limit_text which) (codes " limit passed")
+line_of (NoRoom place) = told_at place.name.now place.line (codes "no room for a page with tables") []
+line_of TooLong = told (codes "input too long") []
+line_of (BadWord usage) = usage_text usage.case usage.word.now
+line_of (CannotOpen input) = told (codes "cannot open ") (name_of (reading_of input))
+line_of (NoMacros name) = told (codes "no macros of the name ") name.now
+line_of (ReadFault place) = told_at place.name.now place.line (codes "read fault") []
+line_of WriteFault = told (codes "write fault") []
+line_of OutOfMemory = told (codes "out of memory") []
+line_of (NeedsOthers name) = told name.now (codes " needs other programs")

@@ -1,0 +1,176 @@
+//! How the program ended: its status, and the line that reports it.
+ghost use Rattle.std.specs.Prelude.{◌≡◌, codes};
+ghost use Rattle.nr_command_options.specs.Inputs.{macro_path, reading_of};
+ghost use Rattle.nr_command.specs.Opening.{name_of};
+ghost use Rattle.filters.specs.Endings.{Tells};
+ghost use Rattle.program_command.specs.Endings.{line_of, limit_text, placed, status_of, told, told_at};
+
+use filters::put_all;
+use itoa::Buffer;
+use nr_command_options::Input;
+use nr_engine::Measure;
+use nr_units::sink::Sink;
+use program_options::{Usage, usage_line};
+
+/// A place in a text.
+#[derive(Clone, Copy)]
+pub struct Place<'a> {
+    /// The name of the text; `-` is standard input.
+    pub name: &'a str,
+    /// The line, from 1 on; 0 before the first.
+    pub line: u64,
+}
+
+/// How the program ended.
+#[derive(Clone, Copy)]
+pub enum Ending<'a> {
+    /// All went out.
+    Done,
+    /// The next move would have passed a limit.
+    Limit(Place<'a>, Measure),
+    /// A page whose tables are set makes more than there is room for.
+    NoRoom(Place<'a>),
+    /// The texts have 2^40 bytes or more.
+    TooLong,
+    /// A word is bad.
+    BadWord(Usage<'a>),
+    /// A text can't be opened. Those before it were, and none after it was asked for.
+    CannotOpen(Input<'a>),
+    /// The macro file of that name is not in the program.
+    NoMacros(&'a str),
+    /// A text failed.
+    ReadFault(Place<'a>),
+    /// The output failed.
+    WriteFault,
+    /// There was not enough memory.
+    OutOfMemory,
+    /// The texts, of which the first has this name, ask for other programs. Nothing was printed.
+    NeedsOthers(&'a str),
+}
+
+/// The status of an ending.
+fn status(ending: Ending<'_>) -> u8
+    ensures { result ≡ status_of ending.entry }
+{
+    match ending {
+        Ending::Done => 0,
+        Ending::Limit(_, _) | Ending::NoRoom(_) | Ending::TooLong => 1,
+        Ending::BadWord(_) => 2,
+        Ending::CannotOpen(_) | Ending::NoMacros(_) | Ending::ReadFault(_) => 3,
+        Ending::WriteFault => 4,
+        Ending::OutOfMemory => 5,
+        Ending::NeedsOthers(_) => 6,
+    }
+}
+
+/// What is limited.
+fn limit_text(which: Measure) -> &'static str
+    ensures { result.now ≡ limit_text which }
+{
+    match which {
+        Measure::Stored => "stored bytes",
+        Measure::Depth => "input depth",
+        Measure::LineCells => "line cells",
+        Measure::PageCells => "page cells",
+        Measure::Expansions => "expansions",
+        Measure::Moves => "moves",
+    }
+}
+
+/// Writes a line of the program.
+fn put_line<E: Sink>(what: &str, name: &str, errors: &mut E)
+    ensures { Tells (E.held errors.old) (E.held errors.new) (E.failures errors.old) (E.failures errors.new)
+        (told what.now name.now) }
+{
+    let parts = [b"nulbiko: ", what.as_bytes(), name.as_bytes(), b"\n"];
+    let _ = put_all(&parts, errors);
+}
+
+/// Writes a line about a place in a text.
+fn put_placed<E: Sink>(place: Place<'_>, what: &str, end: &str, errors: &mut E)
+    ensures { Tells (E.held errors.old) (E.held errors.new) (E.failures errors.old) (E.failures errors.new)
+        (told_at place.entry.name.now place.entry.line what.now end.now) }
+{
+    let mut digits = Buffer::new();
+    put_at(place.name, digits.format(place.line), what, end, errors);
+}
+
+/// The same, with the digits of the line.
+fn put_at<E: Sink>(name: &str, line: &str, what: &str, end: &str, errors: &mut E)
+    ensures { Tells (E.held errors.old) (E.held errors.new) (E.failures errors.old) (E.failures errors.new)
+        (placed name.now line.now what.now end.now) }
+{
+    let parts = [
+        b"nulbiko: ",
+        name.as_bytes(),
+        b":",
+        line.as_bytes(),
+        b": ",
+        what.as_bytes(),
+        end.as_bytes(),
+        b"\n",
+    ];
+    let _ = put_all(&parts, errors);
+}
+
+/// Writes the line of a text that can't be opened.
+fn put_unopened<E: Sink>(input: Input<'_>, errors: &mut E)
+    ensures { Tells (E.held errors.old) (E.held errors.new) (E.failures errors.old) (E.failures errors.new)
+        (told (codes "cannot open ") (name_of (reading_of input.entry))) }
+{
+    match input {
+        Input::Macros(file) => put_path(file.folder, file.name, errors),
+        Input::File(name) => put_line("cannot open ", name, errors),
+        Input::Standard => put_line("cannot open ", "-", errors),
+    }
+}
+
+/// The same of a macro file.
+fn put_path<E: Sink>(folder: &str, name: &str, errors: &mut E)
+    ensures { Tells (E.held errors.old) (E.held errors.new) (E.failures errors.old) (E.failures errors.new)
+        (told (codes "cannot open ") (macro_path folder.now name.now)) }
+{
+    let parts = [
+        b"nulbiko: cannot open ",
+        folder.as_bytes(),
+        b"/tmac.",
+        name.as_bytes(),
+        b"\n",
+    ];
+    let _ = put_all(&parts, errors);
+}
+
+/// Reports how the program ended, as far as `errors` takes the line, and gives the status. Nothing is reported where all
+/// went out.
+pub(crate) fn tell<E: Sink>(ending: Ending<'_>, errors: &mut E) -> u8
+    ensures status { result ≡ status_of ending.entry }
+    ensures told { Tells (E.held errors.old) (E.held errors.new) (E.failures errors.old)
+        (E.failures errors.new) (line_of ending.entry) }
+{
+    put_ending(ending, errors);
+    status(ending)
+}
+
+/// Writes the line of an ending.
+fn put_ending<E: Sink>(ending: Ending<'_>, errors: &mut E)
+    ensures { Tells (E.held errors.old) (E.held errors.new) (E.failures errors.old) (E.failures errors.new)
+        (line_of ending.entry) }
+{
+    match ending {
+        Ending::Done => {}
+        Ending::Limit(place, which) => {
+            put_placed(place, limit_text(which), " limit passed", errors)
+        }
+        Ending::NoRoom(place) => put_placed(place, "no room for a page with tables", "", errors),
+        Ending::TooLong => put_line("input too long", "", errors),
+        Ending::BadWord(usage) => {
+            let _ = usage_line(&usage, errors);
+        }
+        Ending::CannotOpen(input) => put_unopened(input, errors),
+        Ending::NoMacros(name) => put_line("no macros of the name ", name, errors),
+        Ending::ReadFault(place) => put_placed(place, "read fault", "", errors),
+        Ending::WriteFault => put_line("write fault", "", errors),
+        Ending::OutOfMemory => put_line("out of memory", "", errors),
+        Ending::NeedsOthers(name) => put_line(name, " needs other programs", errors),
+    }
+}

@@ -1,0 +1,17 @@
+//! The program nulbiko but for its `main`: a run through all stages, the lines that report how it ended, and its status.
+//!
+//! It stands on program_options, program_plan, nr_command, document_printing and what these stand on. To read: `endings`; `bare`, `nowhere`; `surroundings`, `plan`, `printing`, `running`, `program`.
+#![tactic(auto)]
+
+mod bare;
+mod endings;
+mod nowhere;
+mod plan;
+mod printing;
+mod program;
+mod running;
+mod surroundings;
+
+pub use endings::{Ending, Place};
+pub use program::{run_program, run_words};
+pub use surroundings::Surroundings;

@@ -1,0 +1,116 @@
+//! How a page is printed.
+
+use crate::surroundings::Surroundings;
+use arrayvec::ArrayVec;
+use document_printing::{PageLimits, Rooms, Stages, has_tables};
+use document_stages::Text;
+use nr_engine::{Faces as Looks, Options};
+use nr_page::Select;
+use program_options::{Device, Faces, Job};
+use program_plan::{Macros, cells_of};
+use std::alloc::{AllocError, Global};
+use utf8_characters::Table;
+use utf8_converter::{CHARACTERS, choose};
+
+/// The bytes of a text that say what it is, and what characters it has.
+pub(crate) const LOOKED_AT: usize = 65_536;
+
+/// The most bytes of a page whose tables are set.
+const LONGEST_PAGE: usize = 268_435_456;
+
+/// The greatest number of a page.
+const LAST_PAGE: u64 = 2_147_483_647;
+
+/// How a page is printed.
+#[derive(Clone, Copy)]
+pub(crate) struct Plan {
+    /// The cells of a line of tables.
+    pub cells: usize,
+    /// What it goes through.
+    pub stages: Stages,
+    /// Its tables are set.
+    pub tables: bool,
+    /// The table of its characters; none for ASCII.
+    pub characters: Option<Table>,
+    /// Characters go out in UTF-8, and not as the bytes of their table.
+    pub spells: bool,
+    /// With these, what is underlined or bold stands between escape sequences.
+    pub escapes: bool,
+    /// What is underlined or bold is struck over.
+    pub strikes: bool,
+    /// Nothing is printed.
+    pub checks: bool,
+}
+
+/// How pages are printed that begin with these bytes.
+pub(crate) fn plan_of(
+    job: &Job<'_>,
+    kind: Macros,
+    around: &Surroundings,
+    front: &[u8],
+) -> Result<Plan, AllocError> {
+    let device = job.plain.device.unwrap_or(around.device);
+    let characters = table_of(device, front, around.alloc)?;
+    Ok(Plan {
+        cells: cells_of(job, kind),
+        stages: Stages {
+            mdoc: kind == Macros::Manual,
+            characters: true,
+        },
+        tables: front.len() == LOOKED_AT || has_tables(front),
+        characters,
+        spells: device == Device::Utf8,
+        escapes: escapes(job.plain.faces, around.shows),
+        strikes: job.plain.faces != Faces::None,
+        checks: job.plain.checks,
+    })
+}
+
+/// The table of the characters of a text, by its first bytes: none where ASCII is printed.
+fn table_of(device: Device, front: &[u8], alloc: Global) -> Result<Option<Table>, AllocError> {
+    match device {
+        Device::Utf8 => {
+            let mut page = vec![in alloc; 0u8; LOOKED_AT]?;
+            let mut counts = vec![in alloc; 0u32; CHARACTERS]?;
+            match choose(&mut Text::over(front), &mut page, &mut counts) {
+                Ok(table) => Ok(Some(table)),
+                Err(_) => Ok(None),
+            }
+        }
+        Device::Latin1 => Ok(Some(Table::Latin1)),
+        Device::Ascii => Ok(None),
+    }
+}
+
+/// Whether what is underlined or bold stands between escape sequences, where `shows` says that the output is a terminal.
+fn escapes(faces: Faces, shows: bool) -> bool {
+    match faces {
+        Faces::Auto => shows,
+        Faces::On => true,
+        Faces::Off | Faces::None => false,
+    }
+}
+
+/// What the formatter is given.
+pub(crate) fn options_of(job: &Job<'_>, select: Select) -> Options {
+    Options {
+        first: job.plain.first.min(LAST_PAGE) as i64,
+        registers: ArrayVec::new(),
+        select,
+        faces: if job.plain.shows_bold {
+            Looks::All
+        } else {
+            Looks::Letters
+        },
+    }
+}
+
+/// The memory of the stages before the formatter.
+pub(crate) fn rooms_of(job: &Job<'_>, plan: &Plan, alloc: Global) -> Result<Rooms, AllocError> {
+    let limits = PageLimits {
+        formats: job.plain.formats as usize,
+        row: job.plain.row as usize,
+        page: LONGEST_PAGE,
+    };
+    Rooms::new(alloc, limits, plan.cells, plan.characters)
+}

@@ -1,0 +1,250 @@
+//! The program over its words.
+ghost use Rattle.std.specs.Prelude.{◌≡◌, ◌⊎◌, IfErr, OnOk};
+ghost use Rattle.nr_command.specs.Opening.{Asks};
+ghost use Rattle.nr_command.specs.Program.{IsRefused};
+ghost use Rattle.nr_command_options.specs.Inputs.{readings};
+ghost use Rattle.nr_command_options.specs.Job.{asked_of as texts_asked};
+ghost use Rattle.filters.specs.Endings.{Tells};
+ghost use Rattle.program_options.specs.Job.{asked_of, texts};
+ghost use Rattle.program_options.specs.Reading.{asked};
+ghost use Rattle.program_command.specs.declared.endings.Ending.{Ending};
+ghost use Rattle.program_command.specs.Endings.{line_of, status_of};
+ghost use Rattle.program_plan.specs.Texts.{readings_of};
+ghost use Rattle.program_command.specs.Program.{Comes, IsOfRun, IsUnopened, Opens, Passes};
+
+use crate::endings::{Ending, tell};
+use crate::running::run_texts;
+use crate::surroundings::Surroundings;
+use command_line::{SystemWords, words_of};
+use nr_command::{BUFFER_SIZE, Disk, Heap, Memory, NotRun, Opener, Tree, open_texts, text_count};
+use nr_command_options::Job as Texts;
+use nr_engine::{Fault, Sink, ToWriter};
+use nr_page::Select;
+use program_macros::VERSION;
+use program_options::{Case, Job, Says, Usage, read_words};
+use program_plan::{first_missing, texts_of};
+use std::alloc::{AllocError, Global};
+use std::io::{BufWriter, Read, Write};
+use std::rt::{Env, Files};
+
+/// The bytes of the buffer of the output.
+const OUTPUT_SIZE: usize = 8_192;
+
+/// How the program is called.
+const HELP: &[u8] = b"\
+nulbiko [-man | -mdoc | -mandoc | -ms | -me | -ml | -m NAME] [-T utf8 | latin1 | ascii] [-w CELLS] [-p] [-o PAGES]\n\
+        [-b] [--faces on | off | auto | none] [--alone] [FILE ..]\n\
+nulbiko --version | --help\n";
+
+/// Runs the program in a system: over its words, its files and these streams. Gives its status. `shows` says that the
+/// output is a terminal.
+pub fn run_program<R: Env + Files, I: Read + Copy + Drop, W: Write + Drop, E: Write + Drop>(
+    system: &R,
+    alloc: Global,
+    input: I,
+    output: W,
+    errors: E,
+    shows: bool,
+) -> u8 {
+    let mut errors = ToWriter::over(errors);
+    let Ok(owned) = words_of(&SystemWords::new(system, alloc), alloc) else {
+        return tell(Ending::OutOfMemory, &mut errors);
+    };
+    let Ok(words) = borrowed(&owned, alloc) else {
+        return tell(Ending::OutOfMemory, &mut errors);
+    };
+    let Ok(output) = BufWriter::with_capacity(alloc, OUTPUT_SIZE, output) else {
+        return tell(Ending::OutOfMemory, &mut errors);
+    };
+    let mut output = ToWriter::over(output);
+    let around = Surroundings::of(system, alloc, shows);
+    let mut buffers = Vec::new(alloc);
+    let mut disk = Disk::new(Tree::new(system), input);
+    run_words(
+        &around,
+        &words,
+        &mut disk,
+        &mut buffers,
+        &mut output,
+        &mut errors,
+    )
+}
+
+/// The words as they are borrowed.
+fn borrowed(words: &[String], alloc: Global) -> Result<Vec<&str>, AllocError> {
+    let mut borrowed = Vec::new(alloc);
+    for word in words {
+        borrowed.push(word.as_str())?;
+    }
+    Ok(borrowed)
+}
+
+/// Runs the program over the words after its name, and gives its status: 0 done, 1 a limit, 2 a bad word, 3 a text that
+/// can't be opened or read, 4 the output can't be written, 5 there is not enough memory, 6 other programs are needed.
+///
+/// All texts are opened before the first is read, each over its part of `buffers`.
+pub fn run_words<'b, O: Opener<'b>, W: Sink, E: Sink>(
+    around: &Surroundings,
+    words: &[&str],
+    opener: &mut O,
+    buffers: &'b mut Vec<u8>,
+    output: &mut W,
+    errors: &mut E,
+) -> u8
+    ensures { (ending : Ending) × (result ≡ status_of ending)
+        × Tells (E.held errors.old) (E.held errors.new) (E.failures errors.old) (E.failures errors.new)
+        (line_of ending)
+        × Comes (asked (texts words.now)) (O.may_come opener.old) (O.asked opener.old) (O.asked opener.new)
+        (opener.new ≡ opener.old) (output.new ≡ output.old) (W.passed_on output.new) ending }
+{
+    let ending = ending_of(around, words, opener, buffers, output);
+    tell(ending, errors)
+}
+
+/// How the program ends over these words.
+fn ending_of<'a, 'b, O: Opener<'b>, W: Sink>(
+    around: &Surroundings,
+    words: &'a [&'a str],
+    opener: &mut O,
+    buffers: &'b mut Vec<u8>,
+    output: &mut W,
+) -> Ending<'a>
+    ensures { Comes (asked (texts words.now)) (O.may_come opener.old) (O.asked opener.old) (O.asked opener.new)
+        (opener.new ≡ opener.old) (output.new ≡ output.old) (W.passed_on output.new) result }
+{
+    match read_words(words) {
+        Ok(job) => run_job(around, &job, opener, buffers, output),
+        Err(usage) => Ending::BadWord(usage),
+    }
+}
+
+/// Runs a job.
+fn run_job<'a, 'b, O: Opener<'b>, W: Sink>(
+    around: &Surroundings,
+    job: &Job<'a>,
+    opener: &mut O,
+    buffers: &'b mut Vec<u8>,
+    output: &mut W,
+) -> Ending<'a>
+    ensures opens { Opens (O.may_come opener.old) (O.asked opener.old) (O.asked opener.new)
+        (readings_of (asked_of job.now)) result }
+    ensures prints { (output.new ≡ output.old) ⊎ Passes result (W.passed_on output.new) }
+{
+    match job.plain.says {
+        Some(says) => say(says, output),
+        None => format_job(around, job, opener, buffers, output),
+    }
+}
+
+/// Runs a job that prints pages.
+fn format_job<'a, 'b, O: Opener<'b>, W: Sink>(
+    around: &Surroundings,
+    job: &Job<'a>,
+    opener: &mut O,
+    buffers: &'b mut Vec<u8>,
+    output: &mut W,
+) -> Ending<'a>
+    ensures opens { Opens (O.may_come opener.old) (O.asked opener.old) (O.asked opener.new)
+        (readings_of (asked_of job.now)) result }
+    ensures prints { (output.new ≡ output.old) ⊎ Passes result (W.passed_on output.new) }
+{
+    match pages_of(job) {
+        Ok(select) => open_and_run(around, job, select, opener, buffers, output),
+        Err(ending) => ending,
+    }
+}
+
+/// The pages that a job prints, or why it isn't run: their list is bad, or macros are not in the program.
+fn pages_of<'a>(job: &Job<'a>) -> Result<Select, Ending<'a>>
+    ensures { IfErr result IsUnopened }
+{
+    let select = match selected(job) {
+        Ok(select) => select,
+        Err(usage) => return Err(Ending::BadWord(usage)),
+    };
+    if job.folder.is_none()
+        && let Some(name) = first_missing(job.macros.as_slice())
+    {
+        return Err(Ending::NoMacros(name));
+    }
+    Ok(select)
+}
+
+/// Prints the version, or how the program is called.
+fn say<'a, W: Sink>(says: Says, output: &mut W) -> Ending<'a>
+    ensures run { IsOfRun result }
+    ensures passed_on { Passes result (W.passed_on output.new) }
+{
+    let put = match says {
+        Says::Version => output.put(VERSION),
+        Says::Help => output.put(HELP),
+    };
+    match output.flush() {
+        Ok(()) => said(put),
+        Err(_) => Ending::WriteFault,
+    }
+}
+
+/// How the program ended that put a text, which was passed on.
+fn said<'a>(put: Result<(), Fault>) -> Ending<'a>
+    ensures { IsOfRun result }
+{
+    match put {
+        Ok(()) => Ending::Done,
+        Err(_) => Ending::WriteFault,
+    }
+}
+
+/// The pages that a job prints.
+fn selected<'a>(job: &Job<'a>) -> Result<Select, Usage<'a>> {
+    let Some(pages) = job.pages else {
+        return Ok(Select::all());
+    };
+    match Select::parse(pages.as_bytes()) {
+        Ok(select) => Ok(select),
+        Err(_) => Err(Usage {
+            case: Case::BadValue,
+            word: pages,
+        }),
+    }
+}
+
+/// Opens the texts of a job, and runs it.
+fn open_and_run<'a, 'b, O: Opener<'b>, W: Sink>(
+    around: &Surroundings,
+    job: &Job<'a>,
+    select: Select,
+    opener: &mut O,
+    buffers: &'b mut Vec<u8>,
+    output: &mut W,
+) -> Ending<'a>
+    ensures opens { Opens (O.may_come opener.old) (O.asked opener.old) (O.asked opener.new)
+        (readings_of (asked_of job.now)) result }
+    ensures prints { (output.new ≡ output.old) ⊎ Passes result (W.passed_on output.new) }
+{
+    let texts = texts_of(job);
+    match open_all(&texts, around.alloc, opener, buffers) {
+        Ok(mut opened) => run_texts(job, select, around, &mut opened, output),
+        Err(why) => match why {
+            NotRun::CannotOpen(input) => Ending::CannotOpen(input),
+            NotRun::OutOfMemory => Ending::OutOfMemory,
+        },
+    }
+}
+
+/// Opens texts, each over its part of `buffers`.
+fn open_all<'a, 'b, O: Opener<'b>>(
+    texts: &Texts<'a>,
+    alloc: Global,
+    opener: &mut O,
+    buffers: &'b mut Vec<u8>,
+) -> Result<Vec<O::Text>, NotRun<'a>>
+    ensures asked { OnOk result
+        (Asks (O.asked opener.old) (O.asked opener.new) (readings (texts_asked texts.now))) }
+    ensures refused { IfErr result (λ why. IsRefused (O.may_come opener.old) (O.asked opener.old)
+        (O.asked opener.new) (readings (texts_asked texts.now)) why) }
+{
+    let mut memory = Heap::new(alloc);
+    *buffers = memory.bytes(text_count(texts).saturating_mul(BUFFER_SIZE))?;
+    open_texts(&mut memory, opener, texts, buffers.as_mut_slice())
+}

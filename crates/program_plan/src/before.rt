@@ -1,0 +1,77 @@
+//! What is read before a text.
+ghost use Rattle.std.specs.Prelude.{◌≡◌};
+ghost use Rattle.program_options.specs.Job.{asked_of, texts};
+ghost use Rattle.program_plan.specs.Before.{cells_of, is_paper, usual_cells};
+
+use crate::macros::{Macros, file_name};
+use crate::prefix::put_prefix;
+use program_macros::macro_file;
+use program_options::Job;
+use std::alloc::{AllocError, Global};
+
+/// The first name whose macro file is not in the program, if there is one.
+pub fn first_missing<'a>(names: &[&'a str]) -> Option<&'a str> {
+    for name in names {
+        let name: &'a str = *name;
+        if macro_file(file_name(name).as_bytes()).is_none() {
+            return Some(name);
+        }
+    }
+    None
+}
+
+/// The cells of a line where no word sets them: those of the macro files.
+pub fn cells_of(job: &Job<'_>, macros: Macros) -> usize
+    ensures { result ≡ cells_of macros (asked_of job.now) }
+{
+    match job.plain.width {
+        Some(cells) => cells as usize,
+        None => usual_cells(macros, job.macros.as_slice()),
+    }
+}
+
+/// The name of a macro file of papers: of -ms or -me.
+fn is_paper(name: &[u8]) -> bool
+    ensures { result ≡ is_paper name.now }
+{
+    name == b"s".as_slice() || name == b"e".as_slice()
+}
+
+/// The cells of a line of macro files: 78 of manual pages, 60 of papers, 65 of others and without any.
+fn usual_cells(macros: Macros, names: &[&str]) -> usize
+    ensures { result ≡ usual_cells macros (texts names.now) }
+{
+    if macros == Macros::Manual {
+        return 78;
+    }
+    match names.first() {
+        Some(name) if is_paper(name.as_bytes()) => 60,
+        _ => 65,
+    }
+}
+
+/// What is read before a text: the lines of the words, and the macro files of the program, if they are from there.
+pub fn text_before(job: &Job<'_>, macros: Macros, alloc: Global) -> Result<Vec<u8>, AllocError> {
+    let mut text = Vec::new(alloc);
+    put_prefix(job, macros == Macros::Manual, &mut text)?;
+    if job.macros.is_empty() {
+        if macros == Macros::Manual {
+            put_file("an", &mut text)?;
+        }
+        return Ok(text);
+    }
+    if job.folder.is_none() {
+        for name in &job.macros {
+            put_file(file_name(name), &mut text)?;
+        }
+    }
+    Ok(text)
+}
+
+/// Adds the macro file of that name, if the program has it.
+fn put_file(name: &str, text: &mut Vec<u8>) -> Result<(), AllocError> {
+    match macro_file(name.as_bytes()) {
+        Some(file) => text.extend_from_slice(file),
+        None => Ok(()),
+    }
+}

@@ -1,0 +1,58 @@
+// The memory that texts are turned in.
+
+use super::arguments::Job;
+use super::complaints::tell_complaints;
+use filters::{BUFFER_SIZE, Ending, Turns};
+use nr_units::buffered::Buffered;
+use nr_units::sink::Sink;
+use nr_vectors::slice_vec::SliceVec;
+use std::alloc::{AllocError, Global};
+use std::io::Read;
+use tbl_setting::{Complaint, Outcome, convert};
+
+/// How many complaints about the tables of a text are reported.
+const MOST_COMPLAINTS: usize = 64;
+
+/// The memory that texts are turned in, taken once.
+#[derive(Drop)]
+pub struct Rooms {
+    /// What was read of a text and is not taken yet.
+    input: Vec<u8>,
+    /// What is held of a table, and what is to go out.
+    held: tbl_setting::Rooms,
+    /// What is wrong with its tables.
+    complaints: Vec<Complaint>,
+}
+
+impl Rooms {
+    /// Takes the memory of a job.
+    pub fn new(job: Job, alloc: Global) -> Result<Rooms, AllocError> {
+        Ok(Rooms {
+            input: vec![in alloc; 0u8; BUFFER_SIZE]?,
+            complaints: vec![in alloc; Complaint::NONE; MOST_COMPLAINTS]?,
+            held: tbl_setting::Rooms::new(alloc, job.formats, job.row, job.line, job.characters)?,
+        })
+    }
+}
+
+impl Turns for Rooms {
+    fn turn<'a, T: Read + Drop, W: Sink, E: Sink>(
+        &mut self,
+        name: &'a str,
+        text: T,
+        output: &mut W,
+        errors: &mut E,
+    ) -> Ending<'a> {
+        let mut source = Buffered::over(text, &mut self.input);
+        let mut complaints = SliceVec::over(&mut self.complaints);
+        let (report, _) = convert(&mut source, output, &mut self.held, &mut complaints);
+        let wrong = tell_complaints(name, report, complaints.as_slice(), errors);
+        match report.outcome {
+            Outcome::Done if wrong => Ending::Complained,
+            Outcome::Done => Ending::Done,
+            Outcome::TooLong => Ending::TooLong(None),
+            Outcome::ReadFault { at } => Ending::ReadFault(None, at),
+            Outcome::WriteFault => Ending::WriteFault,
+        }
+    }
+}

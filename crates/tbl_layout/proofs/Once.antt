@@ -1,0 +1,460 @@
+-- Each field stands on one of the lines that go out: lines lie apart, a row has one line, and a field that goes on over rows below is put on a
+-- line beside which it stands.
+use Rattle.std.proofs.Common.{◌≡◌, ◌≢◌, ℕ, zero, suc, ◌+◌, ◌*◌, ◌<◌, ◌≤◌, Bool, true, false, ◌&&◌, ◌||◌, not, nat_lt, List, [], ◌∷◌, ◌++◌, length, get_or, Option, None, Some, refl, sym, ap, subst, arith, ◌∙◌, length-append, length-set, inl, inr, if◌then◌else◌}
+use Rattle.std.specs.Prelude.{◌⊎◌}
+use Rattle.std.proofs.Math.ListN.{get_or-append}
+use Rattle.std.proofs.Math.Seq.{get_or-append_seam}
+use Rattle.std.proofs.lemmas.Bool.Decides.{nat_tests}
+use Rattle.std.proofs.lemmas.List.{get_or-set_other, get_or-set_same}
+use Rattle.nr_vectors.specs.Items.{Items}
+use Rattle.tbl_layout.specs.declared.steps.Walk.{Walk}
+use Rattle.tbl_layout.specs.declared.table.Item.{Item}
+use Rattle.tbl_layout.specs.declared.table.Item.TheVariants as items
+use Rattle.tbl_layout.specs.declared.table.Row.{Row}
+use Rattle.tbl_layout.specs.declared.table.Span.{Span}
+use Rattle.tbl_layout.specs.declared.table.Step.{Step}
+use Rattle.tbl_layout.specs.declared.table.StepKind.{StepKind}
+use Rattle.tbl_layout.specs.declared.table.StepKind.TheVariants as steps
+use Rattle.tbl_layout.specs.declared.table.Table.{Table}
+use Rattle.tbl_layout.specs.Held.{cell_number, cell_of, is_boxed, is_double, item, no_row, no_step, row, text_of}
+use Rattle.tbl_layout.specs.Lists.{added, in_turn}
+use Rattle.tbl_layout.specs.Places.{sum}
+use Rattle.tbl_layout.specs.Requests.{open_behind}
+use Rattle.tbl_layout.specs.Steps.{Walking, asked, asked_in, beyond_stepped, closed_box, closed_rule, closes_rule, has_beyond, on_step, released, row_asked, row_beside, row_stepped, ruled, space_in, step_at, stepped, walk_begun, walk_ended, walked, walked_at, walked_item, walked_line, walked_own_row, walked_request, walking_on, with_next, with_open, with_rule, without_steps}
+use Rattle.tbl_layout.proofs.Turns.{set_same}
+
+-- each field begins in the first column of its first row, which takes room; rows stand below one another in their order
+pub record IsPlaced (t : Table) : Type 0 where
+  pub first : (n : ℕ) → n < length t.cells.items → cell_number t (cell_of t n).top (cell_of t n).first ≡ n
+  pub own : (n : ℕ) → n < length t.cells.items → (row t (cell_of t n).top).own ≡ true
+  pub among : (n : ℕ) → n < length t.cells.items
+      → (i : ℕ) × (i < length t.items.items) × (item t i ≡ items.Row (cell_of t n).top)
+  pub held : (i r : ℕ) → i < length t.items.items → item t i ≡ items.Row r → r < length t.rows.items
+  pub order : (i j r s : ℕ) → i < j → j < length t.items.items → item t i ≡ items.Row r
+      → item t j ≡ items.Row s → r < s
+
+-- how many lines a step takes
+abbrev pub height : StepKind → ℕ
+height (steps.Before r ruled) = 0
+height (steps.Bars r lines) = lines
+height (steps.Edge above) = 1
+height (steps.Rule above below) = 1
+height (steps.Row r) = 1
+height (steps.Request s) = 1
+height (steps.Beyond r) = 1
+
+abbrev pub at : List Step → ℕ → Step
+at ss i = get_or ss i no_step
+
+abbrev pub end_of : Step → ℕ
+end_of s = sum s.line (height s.kind)
+
+-- ---- steps that begin where those before them end, up to a line
+
+pub record Apart (ss : List Step) (line : ℕ) : Type 0 where
+  pub apart : (i j : ℕ) → i < j → j < length ss → end_of (at ss i) ≤ (at ss j).line
+  pub below : (i : ℕ) → i < length ss → end_of (at ss i) ≤ line
+
+at_before : (ss : List Step) (s : Step) (i : ℕ) → i < length ss → at (ss ++ s ∷ []) i ≡ at ss i
+at_before ss s i h = get_or-append ss (s ∷ []) no_step i h
+
+at_last : (ss : List Step) (s : Step) → at (ss ++ s ∷ []) (length ss) ≡ s
+at_last ss s = get_or-append_seam ss s [] no_step
+
+at_end : (ss : List Step) (s : Step) (i : ℕ) → i ≡ length ss → at (ss ++ s ∷ []) i ≡ s
+at_end ss s i e = ap (at (ss ++ s ∷ [])) e ∙ at_last ss s
+
+more : (ss : List Step) (s : Step) → length (ss ++ s ∷ []) ≡ length ss + 1
+more ss s = length-append ss (s ∷ [])
+
+pub two : (i n : ℕ) → i < n + 1 → (i < n) ⊎ (i ≡ n)
+two i n h = split (nat_lt i n) refl
+  where
+    split : (b : Bool) → nat_lt i n ≡ b → (i < n) ⊎ (i ≡ n)
+    split true e = inl (grind (arith, nat_tests))
+    split false e = inr (grind (arith, nat_tests))
+
+apart_more : (ss : List Step) (line : ℕ) (kind : StepKind) → Apart ss line
+    → Apart (ss ++ step_at kind line ∷ []) (sum line (height kind))
+apart_more ss line kind a =
+    let s : Step = step_at kind line in
+    record {
+      apart = λ i j less inside.
+          let before : i < length ss = omega (arith, less, inside, more ss s) in
+          let is : end_of (at (ss ++ s ∷ []) i) ≡ end_of (at ss i) = ap end_of (at_before ss s i before) in
+          elim (two j (length ss) (omega (arith, inside, more ss s))) [
+            | inl h ↦ (let there : (at (ss ++ s ∷ []) j).line ≡ (at ss j).line = ap (λ (x : Step). x.line) (at_before ss s j h) in
+                omega (arith, is, there, a.apart i j less h))
+            | inr e ↦ (let there : (at (ss ++ s ∷ []) j).line ≡ line = ap (λ (x : Step). x.line) (at_end ss s j e) in
+                omega (arith, is, there, a.below i before))
+          ];
+      below = λ i inside.
+          elim (two i (length ss) (omega (arith, inside, more ss s))) [
+            | inl h ↦ (let is : end_of (at (ss ++ s ∷ []) i) ≡ end_of (at ss i) = ap end_of (at_before ss s i h) in
+                omega (arith, is, a.below i h))
+            | inr e ↦ (let is : end_of (at (ss ++ s ∷ []) i) ≡ sum line (height kind) = ap end_of (at_end ss s i e) in
+                omega (arith, is))
+          ];
+    }
+
+-- ---- a list of steps with one more
+
+grown_len : (old new : List Step) (s : Step) → new ≡ old ++ s ∷ [] → length new ≡ length old + 1
+grown_len old new s e = ap length e ∙ more old s
+
+grown_before : (old new : List Step) (s : Step) → new ≡ old ++ s ∷ [] → (i : ℕ) → i < length old → at new i ≡ at old i
+grown_before old new s e i h = ap (λ (ss : List Step). at ss i) e ∙ at_before old s i h
+
+grown_last : (old new : List Step) (s : Step) → new ≡ old ++ s ∷ [] → (i : ℕ) → i ≡ length old → at new i ≡ s
+grown_last old new s e i h = ap (λ (ss : List Step). at ss i) e ∙ at_end old s i h
+
+added_items : (s : Step) (xs : Items Step) → length xs.items < xs.capacity → (added s xs).items ≡ xs.items ++ s ∷ []
+added_items s xs h = fits (nat_lt (length xs.items) xs.capacity) (grind (arith, nat_tests, h))
+  where
+    fits : (b : Bool) → b ≡ true → (if b then xs.items ++ s ∷ [] else xs.items) ≡ xs.items ++ s ∷ []
+    fits true e = refl
+    fits false e = cc
+
+-- ---- a walk over the first items of a table: what its steps are, and where rows have theirs
+
+abbrev pub ss_of : Walking → List Step
+ss_of w = w.table.steps.items
+
+abbrev pub Drawn : Walking → ℕ → Type 0
+Drawn w r = ((row w.table r).step < length (ss_of w)) × ((at (ss_of w) (row w.table r).step).kind ≡ steps.Row r)
+
+abbrev pub Among : Table → ℕ → ℕ → Type 0
+Among t k r = (m : ℕ) × (m < k) × (item t m ≡ items.Row r)
+
+pub record Met (t : Table) (k lines : ℕ) (w : Walking) : Type 0 where
+  pub few : length (ss_of w) ≤ lines
+  pub room : w.table.steps.capacity ≡ t.steps.capacity
+  pub listed : w.table.items ≡ t.items
+  pub cells : w.table.cells ≡ t.cells
+  pub grid : w.table.grid ≡ t.grid
+  pub columns : w.table.columns ≡ t.columns
+  pub rows : length w.table.rows.items ≡ length t.rows.items
+  pub own : (r : ℕ) → (row w.table r).own ≡ (row t r).own
+  pub lie : Apart (ss_of w) w.walk.line
+  pub rowed : (i r : ℕ) → i < length (ss_of w) → (at (ss_of w) i).kind ≡ steps.Row r → (row w.table r).step ≡ i
+  pub met : (i r : ℕ) → i < length (ss_of w) → (at (ss_of w) i).kind ≡ steps.Row r → Among t k r
+  pub drawn : (m r : ℕ) → m < k → item t m ≡ items.Row r → (row t r).own ≡ true → Drawn w r
+
+more_lines : (t : Table) (k lines n : ℕ) (w : Walking) → lines ≤ n → Met t k lines w → Met t k n w
+more_lines t k lines n w h m = record {
+  few = omega (arith, h, m.few);
+  room = m.room;
+  listed = m.listed;
+  cells = m.cells;
+  grid = m.grid;
+  columns = m.columns;
+  rows = m.rows;
+  own = m.own;
+  lie = m.lie;
+  rowed = m.rowed;
+  met = m.met;
+  drawn = m.drawn;
+}
+
+-- the walk alone is another, on the same line
+walked_as : (t : Table) (k lines : ℕ) (w : Walking) (walk : Walk) → walk.line ≡ w.walk.line → Met t k lines w
+    → Met t k lines (record w { walk = walk })
+walked_as t k lines w walk e m = record {
+  few = m.few;
+  room = m.room;
+  listed = m.listed;
+  cells = m.cells;
+  grid = m.grid;
+  columns = m.columns;
+  rows = m.rows;
+  own = m.own;
+  lie = subst (λ (line : ℕ). Apart (ss_of w) line) (sym e) m.lie;
+  rowed = m.rowed;
+  met = m.met;
+  drawn = m.drawn;
+}
+
+-- a step that is no row
+other_met : (t : Table) (k lines : ℕ) (kind : StepKind) (w : Walking) → ((r : ℕ) → kind ≡ steps.Row r → ⊥) → lines < t.steps.capacity
+    → Met t k lines w → Met t k (suc lines) (stepped kind (height kind) w)
+other_met t k lines kind w never h m =
+    let s : Step = step_at kind w.walk.line in
+    let old : List Step = ss_of w in
+    let new : List Step = (added s w.table.steps).items in
+    let inside : length old < w.table.steps.capacity = omega (arith, h, m.few, m.room) in
+    let is : new ≡ old ++ s ∷ [] = added_items s w.table.steps inside in
+    let len : length new ≡ length old + 1 = grown_len old new s is in
+    record {
+      few = omega (arith, len, m.few);
+      room = m.room;
+      listed = m.listed;
+      cells = m.cells;
+      grid = m.grid;
+      columns = m.columns;
+      rows = m.rows;
+      own = m.own;
+      lie = subst (λ (l : List Step). Apart l (sum w.walk.line (height kind))) (sym is) (apart_more old w.walk.line kind m.lie);
+      rowed = λ i r less e.
+          elim (two i (length old) (omega (arith, less, len))) [
+            | inl before ↦ m.rowed i r before (ap (λ (x : Step). x.kind) (sym (grown_before old new s is i before)) ∙ e)
+            | inr last ↦ absurd (never r (ap (λ (x : Step). x.kind) (sym (grown_last old new s is i last)) ∙ e))
+          ];
+      met = λ i r less e.
+          elim (two i (length old) (omega (arith, less, len))) [
+            | inl before ↦ m.met i r before (ap (λ (x : Step). x.kind) (sym (grown_before old new s is i before)) ∙ e)
+            | inr last ↦ absurd (never r (ap (λ (x : Step). x.kind) (sym (grown_last old new s is i last)) ∙ e))
+          ];
+      drawn = λ n r less e o.
+          let d : Drawn w r = m.drawn n r less e o in
+          let there : at new (row w.table r).step ≡ at old (row w.table r).step = grown_before old new s is (row w.table r).step d.0 in
+          (omega (arith, d.0, len), ap (λ (x : Step). x.kind) there ∙ d.1);
+    }
+
+row_same : (n r : ℕ) → steps.Row n ≡ steps.Row r → n ≡ r
+row_same n r e = ap number e
+  where
+    number : StepKind → ℕ
+    number (steps.Row r) = r
+    number kind = 0
+
+pub item_same : (n r : ℕ) → items.Row n ≡ items.Row r → n ≡ r
+item_same n r e = ap number e
+  where
+    number : Item → ℕ
+    number (items.Row r) = r
+    number i = 0
+
+not_less : {a b : ℕ} → a < b → a ≡ b → ⊥
+not_less h e = omega (arith, h, e)
+
+-- a row has the next step
+row_met : (t : Table) (k lines n : ℕ) (own : Row) (w : Walking) → own.own ≡ (row t n).own → IsPlaced t → k < length t.items.items
+    → item t k ≡ items.Row n → lines < t.steps.capacity → Met t k lines w → Met t (suc k) (suc lines) (row_stepped n (on_step n own w))
+row_met t k lines n own w is_own p inside e h m =
+    let s : Step = step_at (steps.Row n) w.walk.line in
+    let old : List Step = ss_of w in
+    let v : Walking = on_step n own w in
+    let new : List Step = (added s w.table.steps).items in
+    let space : length old < w.table.steps.capacity = omega (arith, h, m.few, m.room) in
+    let is : new ≡ old ++ s ∷ [] = added_items s w.table.steps space in
+    let len : length new ≡ length old + 1 = grown_len old new s is in
+    let held : n < length w.table.rows.items = omega (arith, m.rows, p.held k n inside e) in
+    let mine : (row v.table n).step ≡ length old =
+    ap (λ (r : Row). r.step) (get_or-set_same w.table.rows.items n (record own { step = length old }) no_row held) in
+    let others : (r : ℕ) → r ≢ n → row v.table r ≡ row w.table r =
+    λ r ne. get_or-set_other w.table.rows.items n r (record own { step = length old }) no_row ne in
+    let fresh : (r : ℕ) → Among t k r → r ≢ n = λ r a same. not_less (p.order a.0 k r n a.1 inside a.2 e) same in
+    record {
+      few = omega (arith, len, m.few);
+      room = m.room;
+      listed = m.listed;
+      cells = m.cells;
+      grid = m.grid;
+      columns = m.columns;
+      rows = length-set w.table.rows.items n (record own { step = length old }) ∙ m.rows;
+      own = λ r.
+          set_same (λ (x : Row). x.own) w.table.rows.items n (record own { step = length old }) no_row (is_own ∙ sym (m.own n)) r ∙ m.own r;
+      lie = subst (λ (l : List Step). Apart l (sum w.walk.line 1)) (sym is) (apart_more old w.walk.line (steps.Row n) m.lie);
+      rowed = λ i r less k'.
+          elim (two i (length old) (omega (arith, less, len))) [
+            | inl before ↦
+                (let was : (at old i).kind ≡ steps.Row r = ap (λ (x : Step). x.kind) (sym (grown_before old new s is i before)) ∙ k' in
+                ap (λ (x : Row). x.step) (others r (fresh r (m.met i r before was))) ∙ m.rowed i r before was)
+            | inr last ↦
+                (let same : n ≡ r = row_same n r (ap (λ (x : Step). x.kind) (sym (grown_last old new s is i last)) ∙ k') in
+                ap (λ (x : ℕ). (row v.table x).step) (sym same) ∙ mine ∙ sym last)
+          ];
+      met = λ i r less k'.
+          elim (two i (length old) (omega (arith, less, len))) [
+            | inl before ↦
+                (let a : Among t k r = m.met i r before (ap (λ (x : Step). x.kind) (sym (grown_before old new s is i before)) ∙ k') in
+                (a.0, omega (arith, a.1), a.2))
+            | inr last ↦
+                (let same : n ≡ r = row_same n r (ap (λ (x : Step). x.kind) (sym (grown_last old new s is i last)) ∙ k') in
+                (k, omega arith, e ∙ ap (λ (x : ℕ). items.Row x) same))
+          ];
+      drawn = λ i r less k' o.
+          elim (two i k (omega (arith, less))) [
+            | inl before ↦
+                (let d : Drawn w r = m.drawn i r before k' o in
+                let kept : (row v.table r).step ≡ (row w.table r).step = ap (λ (x : Row). x.step) (others r (fresh r (i, before, k'))) in
+                let there : at new (row v.table r).step ≡ at old (row w.table r).step =
+                ap (at new) kept ∙ grown_before old new s is (row w.table r).step d.0 in
+                (omega (arith, d.0, len, kept), ap (λ (x : Step). x.kind) there ∙ d.1))
+            | inr last ↦
+                (let same : n ≡ r = item_same n r (sym e ∙ sym (ap (item t) last) ∙ k') in
+                let kept : (row v.table r).step ≡ length old = ap (λ (x : ℕ). (row v.table x).step) (sym same) ∙ mine in
+                let there : at new (row v.table r).step ≡ s = grown_last old new s is (row v.table r).step kept in
+                (omega (arith, kept, len), ap (λ (x : Step). x.kind) there ∙ ap (λ (x : ℕ). steps.Row x) same))
+          ];
+    }
+
+-- an item that is no row of its own
+next_met : (t : Table) (k lines : ℕ) (w : Walking) → ((r : ℕ) → item t k ≡ items.Row r → (row t r).own ≡ true → ⊥) → Met t k lines w
+    → Met t (suc k) lines w
+next_met t k lines w never m = record {
+  few = m.few;
+  room = m.room;
+  listed = m.listed;
+  cells = m.cells;
+  grid = m.grid;
+  columns = m.columns;
+  rows = m.rows;
+  own = m.own;
+  lie = m.lie;
+  rowed = m.rowed;
+  met = λ i r less e. (let a : Among t k r = m.met i r less e in (a.0, omega (arith, a.1), a.2));
+  drawn = λ i r less e o.
+      elim (two i k (omega (arith, less))) [
+        | inl before ↦ m.drawn i r before e o
+        | inr last ↦ absurd (never r (sym (ap (item t) last) ∙ e) o)
+      ];
+}
+
+if_met : (t : Table) (k lines : ℕ) (b : Bool) (x y : Walking) → Met t k lines x → Met t k lines y → Met t k lines (if b then x else y)
+if_met t k lines true x y m n = m
+if_met t k lines false x y m n = n
+
+released_met : (t : Table) (k lines : ℕ) (below : Option ℕ) (w : Walking) → lines < t.steps.capacity → Met t k lines w
+    → Met t k (suc lines) (released below w)
+released_met t k lines below w h m =
+    if_met t k (suc lines) w.walk.ruled (stepped (steps.Rule w.walk.last below) 1 w) w
+    (other_met t k lines (steps.Rule w.walk.last below) w (λ r e. cc) h m) (more_lines t k lines (suc lines) w (omega arith) m)
+
+asked_met : (t : Table) (k lines : ℕ) (space last : Option ℕ) (s : Span) (w : Walking) → suc lines < t.steps.capacity → Met t k lines w
+    → Met t k (suc (suc lines)) (asked space last s w)
+asked_met t k lines None last s w h m =
+    more_lines t k (suc lines) (suc (suc lines)) (stepped (steps.Request s) 1 w) (omega arith)
+    (other_met t k lines (steps.Request s) w (λ r e. cc) (omega (arith, h)) m)
+asked_met t k lines (Some n) None s w h m =
+    more_lines t k (suc lines) (suc (suc lines)) (stepped (steps.Request s) 1 w) (omega arith)
+    (other_met t k lines (steps.Request s) w (λ r e. cc) (omega (arith, h)) m)
+asked_met t k lines (Some n) (Some r) s w h m =
+    let v : Walking = released (row_beside w.table w.walk) w in
+    other_met t k (suc lines) (steps.Bars r n) (ruled false v) (λ x e. cc) h
+    (walked_as t k (suc lines) v (with_rule false v.walk) refl (released_met t k lines (row_beside w.table w.walk) w (omega (arith, h)) m))
+
+request_met : (t : Table) (k lines : ℕ) (s : Span) (w : Walking) → suc lines < t.steps.capacity → Met t k lines w
+    → Met t k (suc (suc lines)) (walked_request s w)
+request_met t k lines s w h m =
+    let v : Walking = asked_in (space_in w.table w.walk s) s w in
+    walked_as t k (suc (suc lines)) v (with_open (open_behind (text_of v.table s) v.walk.opened) v.walk) refl
+    (asked_met t k lines (space_in w.table w.walk s) (row_asked w.table (space_in w.table w.walk s) w.walk) s w h m)
+
+own_met : (t : Table) (k lines n : ℕ) (r : Row) (w : Walking) → r.own ≡ (row t n).own → IsPlaced t → k < length t.items.items → item t k ≡ items.Row n
+    → lines + 4 ≤ t.steps.capacity → Met t k lines w → Met t (suc k) (suc (suc (suc lines))) (walked_own_row n r w)
+own_met t k lines n r w o p inside e h m =
+    let before : Walking = stepped (steps.Before n w.walk.ruled) 0 w in
+    let under : Walking = released (Some n) before in
+    let m1 : Met t k (suc lines) before = other_met t k lines (steps.Before n w.walk.ruled) w (λ r e. cc) (omega (arith, h)) m in
+    let m2 : Met t k (suc (suc lines)) under = released_met t k (suc lines) (Some n) before (omega (arith, h)) m1 in
+    row_met t k (suc (suc lines)) n r under o p inside e (omega (arith, h)) m2
+
+line_met : (t : Table) (k lines n : ℕ) (r : Row) (w : Walking) → r.own ≡ (row t n).own → IsPlaced t → k < length t.items.items → item t k ≡ items.Row n
+    → lines + 4 ≤ t.steps.capacity → Met t k lines w → (b : Bool) → r.own ≡ b
+    → Met t (suc k) (suc (suc (suc lines))) (if b then walked_own_row n r w else stepped (steps.Before n false) 0 w)
+line_met t k lines n r w o p inside e h m true is = own_met t k lines n r w o p inside e h m
+line_met t k lines n r w o p inside e h m false is =
+    let v : Walking = stepped (steps.Before n false) 0 w in
+    next_met t k (suc (suc (suc lines))) v (λ q f x. not_own (sym is ∙ o ∙ ap (λ (i : ℕ). (row t i).own) (item_same n q (sym e ∙ f)) ∙ x))
+    (more_lines t k (suc lines) (suc (suc (suc lines))) v (omega arith)
+    (other_met t k lines (steps.Before n false) w (λ r e. cc) (omega (arith, h)) m))
+  where
+    not_own : false ≡ true → ⊥
+    not_own e = cc
+
+beyond_met : (t : Table) (k lines n : ℕ) (r : Row) (w : Walking) → lines < t.steps.capacity → Met t k lines w → Met t k (suc lines) (beyond_stepped n r w)
+beyond_met t k lines n r w h m =
+    if_met t k (suc lines) (has_beyond w.table r) (stepped (steps.Beyond n) 1 w) w
+    (other_met t k lines (steps.Beyond n) w (λ r e. cc) h m) (more_lines t k lines (suc lines) w (omega arith) m)
+
+item_met : (t : Table) (k lines : ℕ) (i : Item) (w : Walking) → IsPlaced t → k < length t.items.items → item t k ≡ i → lines + 4 ≤ t.steps.capacity
+    → Met t k lines w → Met t (suc k) (suc (suc (suc (suc lines)))) (walked_item i w)
+item_met t k lines items.Rule w p inside e h m =
+    let v : Walking = released (row_beside w.table w.walk) w in
+    let m1 : Met t k (suc lines) v = released_met t k lines (row_beside w.table w.walk) w (omega (arith, h)) m in
+    walked_as t (suc k) (suc (suc (suc (suc lines)))) v (with_rule true v.walk) refl
+    (next_met t k (suc (suc (suc (suc lines)))) v (λ r f o. no_row_item (sym e ∙ f))
+    (more_lines t k (suc lines) (suc (suc (suc (suc lines)))) v (omega arith) m1))
+  where
+    no_row_item : {r : ℕ} → items.Rule ≡ items.Row r → ⊥
+    no_row_item f = cc
+item_met t k lines (items.Request s) w p inside e h m =
+    let v : Walking = walked_request s w in
+    next_met t k (suc (suc (suc (suc lines)))) v (λ r f o. no_row_item (sym e ∙ f))
+    (more_lines t k (suc (suc lines)) (suc (suc (suc (suc lines)))) v (omega arith) (request_met t k lines s w (omega (arith, h)) m))
+  where
+    no_row_item : {r : ℕ} → items.Request s ≡ items.Row r → ⊥
+    no_row_item f = cc
+item_met t k lines (items.Row n) w p inside e h m =
+    let r : Row = row w.table n in
+    let v : Walking = walked_line r n w in
+    let b : Walking = beyond_stepped n r v in
+    walked_as t (suc k) (suc (suc (suc (suc lines)))) b (with_next (sum n 1) b.walk) refl
+    (beyond_met t (suc k) (suc (suc (suc lines))) n r v (omega (arith, h)) (line_met t k lines n r w (m.own n) p inside e h m r.own refl))
+
+-- ---- all of them
+
+all_met : (t : Table) (k : ℕ) (w : Walking) → IsPlaced t → k ≤ length t.items.items → 4 * length t.items.items + 4 ≤ t.steps.capacity → Met t 0 1 w
+    → Met t k (4 * k + 1) (in_turn k walked_at w)
+all_met t zero w p h room m = more_lines t 0 1 (4 * zero + 1) w (omega arith) m
+all_met t (suc k) w p h room m =
+    let v : Walking = in_turn k walked_at w in
+    let before : Met t k (4 * k + 1) v = all_met t k w p (omega (arith, h)) room m in
+    let is : item t k ≡ item v.table k = sym (ap (λ (xs : Items Item). get_or xs.items k items.Rule) before.listed) in
+    more_lines t (suc k) (suc (suc (suc (suc (4 * k + 1))))) (4 * suc k + 1) (walked_item (item v.table k) v) (omega arith)
+    (item_met t k (4 * k + 1) (item v.table k) v p (omega (arith, h)) is (omega (arith, h, room)) before)
+
+first_met : (t : Table) → Met t 0 0 (walking_on (without_steps t))
+first_met t = record {
+  few = omega arith;
+  room = refl;
+  listed = refl;
+  cells = refl;
+  grid = refl;
+  columns = refl;
+  rows = refl;
+  own = λ r. refl;
+  lie = record { apart = λ i j less inside. omega (arith, inside); below = λ i inside. omega (arith, inside) };
+  rowed = λ i r inside e. omega (arith, inside);
+  met = λ i r inside e. absurd (none i inside);
+  drawn = λ i r inside e o. absurd (none i inside);
+}
+  where
+    none : (i : ℕ) → i < 0 → ⊥
+    none i h = omega (arith, h)
+
+begun_met : (t : Table) → 4 ≤ t.steps.capacity → Met t 0 1 (walk_begun (without_steps t))
+begun_met t room =
+    let u : Table = without_steps t in
+    if_met t 0 1 (is_double t.looks.frame && not t.begun) (stepped (steps.Edge true) 1 (walking_on u)) (walking_on u)
+    (other_met t 0 0 (steps.Edge true) (walking_on u) (λ r e. cc) (omega (arith, room)) (first_met t))
+    (more_lines t 0 0 1 (walking_on u) (omega arith) (first_met t))
+
+ended_met : (t : Table) (k lines : ℕ) (ends : Bool) (w : Walking) → lines + 3 ≤ t.steps.capacity → Met t k lines w
+    → Met t k (suc (suc (suc lines))) (walk_ended ends w)
+ended_met t k lines ends w h m =
+    let rule : Walking = closed_rule ends w in
+    let box : Walking = closed_box ends rule in
+    let m1 : Met t k (suc lines) rule =
+    if_met t k (suc lines) (closes_rule ends w.table) (released w.walk.last w) w
+    (released_met t k lines w.walk.last w (omega (arith, h)) m) (more_lines t k lines (suc lines) w (omega arith) m) in
+    let m2 : Met t k (suc (suc lines)) box =
+    if_met t k (suc (suc lines)) (ends && (rule.walk.ruled || is_boxed rule.table)) (stepped (steps.Rule rule.walk.last None) 1 rule) rule
+    (other_met t k (suc lines) (steps.Rule rule.walk.last None) rule (λ r e. cc) (omega (arith, h)) m1)
+    (more_lines t k (suc lines) (suc (suc lines)) rule (omega arith) m1) in
+    if_met t k (suc (suc (suc lines))) (ends && is_double box.table.looks.frame) (stepped (steps.Edge false) 1 box) box
+    (other_met t k (suc (suc lines)) (steps.Edge false) box (λ r e. cc) (omega (arith, h)) m2)
+    (more_lines t k (suc (suc lines)) (suc (suc (suc lines))) box (omega arith) m2)
+
+pub steps_met : (t : Table) (ends : Bool) → IsPlaced t → 4 * length t.items.items + 4 ≤ t.steps.capacity
+    → Met t (length t.items.items) (suc (suc (suc (4 * length t.items.items + 1)))) (walked ends t)
+steps_met t ends p room =
+    let w : Walking = walk_begun (without_steps t) in
+    let n : ℕ = length t.items.items in
+    let first : Met t 0 1 w = begun_met t (omega (arith, room)) in
+    let count : n ≡ length w.table.items.items = sym (ap (λ (xs : Items Item). length xs.items) first.listed) in
+    let all : Met t n (4 * n + 1) (in_turn n walked_at w) = all_met t n w p (omega arith) room first in
+    let last : Met t n (suc (suc (suc (4 * n + 1)))) (walk_ended ends (in_turn n walked_at w)) =
+    ended_met t n (4 * n + 1) ends (in_turn n walked_at w) (omega (arith, room)) all in
+    subst (λ (k : ℕ). Met t n (suc (suc (suc (4 * n + 1)))) (walk_ended ends (in_turn k walked_at w))) count last

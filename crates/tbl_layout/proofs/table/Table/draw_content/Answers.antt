@@ -1,0 +1,51 @@
+use Rattle.std.proofs.Common.{arith, ◌≡◌, ℕ, List, get_or, ◌==◌, ◌&&◌, ap, sym, ◌∙◌}
+use Rattle.std.proofs.lemmas.Bool.Decides.{nat_tests}
+use Rattle.std.proofs.lemmas.List.{get_or_default, get_or_past}
+use Rattle.tbl_layout.specs.declared.table.Cell.{Cell}
+use Rattle.tbl_layout.specs.Contents.{text_in}
+use Rattle.tbl_layout.specs.Drawing.{column_rule}
+use Rattle.tbl_layout.specs.Held.{cell, cell_number, is_rule, no_cell}
+use Rattle.tbl_layout.proofs.Absent.{content-absent}
+use Rattle.tbl_layout.proofs.Choices.{chosen, other}
+use Rattle.tbl_layout.proofs.Tapes.{draws_nothing, draws_same}
+use Rattle.tbl_layout.proofs.table.Table.draw_content.Goals as goal
+
+pub returns-in_default : goal.returns-in_default
+returns-in_default g c =
+    let t = c.args.self.now in
+    let is : cell t c.args.row c.args.column ≡ no_cell =
+    ap (λ (xs : List Cell). get_or xs (cell_number t c.args.row c.args.column) no_cell) (sym c.as_slice-cells.ensures.value)
+    ∙ ap (λ (n : ℕ). get_or c.as_slice-cells.result.now n no_cell) (sym c.cell_number.ensures)
+    ∙ get_or_past c.as_slice-cells.result.now c.cell_number.result no_cell (grind (arith, nat_tests, c.in_default.ensures.lookup.0)) in
+    draws_same (draws_nothing _) (content-absent t c.args.row c.args.column c.args.line is)
+
+pub returns-then-rules : goal.returns-then-rules
+returns-then-rules g c =
+    let t = c.args.self.now in
+    let r = c.args.row in
+    let k = c.args.column in
+    let f = cell t r k in
+    let is : cell t r k ≡ c.in-Some.cell.now =
+    ap (λ (xs : List Cell). get_or xs (cell_number t r k) no_cell) (sym c.as_slice-cells.ensures.value)
+    ∙ ap (λ (n : ℕ). get_or c.as_slice-cells.result.now n no_cell) (sym c.cell_number.ensures)
+    ∙ get_or_default c.as_slice-cells.result.now c.cell_number.result no_cell c.in-Some.cell.now (grind (arith, nat_tests, c.in-Some.ensures.lookup.0))
+    ∙ sym c.in-Some.ensures.lookup.1 in
+    draws_same c.draw_column_rule.ensures
+    (chosen (is_rule f.field.form && (f.top == r)) (column_rule t r k) (text_in t r k c.args.line f)
+    (ap (λ (x : Cell). is_rule x.field.form && (x.top == r)) is ∙ sym c.rules.ensures ∙ c.if-rules.true))
+
+pub returns : goal.returns
+returns g c =
+    let t = c.args.self.now in
+    let r = c.args.row in
+    let k = c.args.column in
+    let f = cell t r k in
+    let is : cell t r k ≡ c.in-Some.cell.now =
+    ap (λ (xs : List Cell). get_or xs (cell_number t r k) no_cell) (sym c.as_slice-cells.ensures.value)
+    ∙ ap (λ (n : ℕ). get_or c.as_slice-cells.result.now n no_cell) (sym c.cell_number.ensures)
+    ∙ get_or_default c.as_slice-cells.result.now c.cell_number.result no_cell c.in-Some.cell.now (grind (arith, nat_tests, c.in-Some.ensures.lookup.0))
+    ∙ sym c.in-Some.ensures.lookup.1 in
+    draws_same c.draw_text_in.ensures
+    (other (is_rule f.field.form && (f.top == r)) (column_rule t r k) (text_in t r k c.args.line f)
+    (ap (λ (x : Cell). is_rule x.field.form && (x.top == r)) is ∙ sym c.rules.ensures ∙ c.if-rules.false)
+    ∙ ap (λ (x : Cell). text_in t r k c.args.line x) is)

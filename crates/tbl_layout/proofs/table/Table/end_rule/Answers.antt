@@ -1,0 +1,42 @@
+use Rattle.std.proofs.Common.{◌≡◌, ℕ, ◌<◌, Bool, ◌==◌, not, max, ap, sym, arith, eq-eqb, ◌∙◌}
+use Rattle.tbl_layout.specs.declared.places.Place.{Place}
+use Rattle.tbl_layout.specs.Drawing.{crossing_byte, ends_covered, go}
+use Rattle.tbl_layout.specs.Frames.{bars_at, framing_at, meeting, width_end}
+use Rattle.tbl_layout.specs.Held.{columns}
+use Rattle.tbl_layout.specs.Pens.{bars}
+use Rattle.tbl_layout.specs.Places.{on}
+use Rattle.tbl_layout.proofs.Choices.{other_of}
+use Rattle.tbl_layout.proofs.Chosen.{strokes_chosen}
+use Rattle.tbl_layout.proofs.Tapes.{draws_same}
+use Rattle.tbl_layout.proofs.table.Table.end_rule.Goals as goal
+
+pub returns-then-most_meeting-eq0 : goal.returns-then-most_meeting-eq0
+returns-then-most_meeting-eq0 g c =
+    let t = c.args.self.now in
+    let last = columns t in
+    let behind = c.len-columns.result in
+    let is : meeting t c.args.above c.args.below last ≡ c.most_meeting.result =
+    ap (λ (n : ℕ). meeting t c.args.above c.args.below n) (sym c.len-columns.ensures.value)
+    ∙ ap (λ (n : ℕ). max (max n (bars_at t c.args.below behind)) (framing_at t behind)) (sym c.bars_at-up.ensures)
+    ∙ ap (λ (n : ℕ). max (max c.bars_at-up.result n) (framing_at t behind)) (sym c.bars_at-down.ensures)
+    ∙ sym c.most_meeting.ensures in
+    strokes_chosen (meeting t c.args.above c.args.below last == 0) (bars (crossing_byte t c.args.above c.args.below last) 1)
+    (draws_same c.go.ensures
+    (ap (λ (b : Bool). go t (not b) (width_end t)) (sym c.ends_covered.ensures)
+    ∙ ap (λ (p : Place). go t (not c.ends_covered.result) p) (ap (λ (p : Place). on 1 p) (sym c.end.ensures) ∙ sym c.on.ensures)))
+    (ap (λ (n : ℕ). n == 0) is ∙ eq-eqb c.most_meeting.result 0 c.if-most_meeting-eq0.true)
+
+pub returns : goal.returns
+returns g c =
+    let t = c.args.self.now in
+    let last = columns t in
+    let behind = c.len-columns.result in
+    let is : meeting t c.args.above c.args.below last ≡ c.most_meeting.result =
+    ap (λ (n : ℕ). meeting t c.args.above c.args.below n) (sym c.len-columns.ensures.value)
+    ∙ ap (λ (n : ℕ). max (max n (bars_at t c.args.below behind)) (framing_at t behind)) (sym c.bars_at-up.ensures)
+    ∙ ap (λ (n : ℕ). max (max c.bars_at-up.result n) (framing_at t behind)) (sym c.bars_at-down.ensures)
+    ∙ sym c.most_meeting.ensures in
+    let some : 0 < meeting t c.args.above c.args.below last = omega (arith, is) in
+    draws_same c.bars.ensures
+    (other_of (meeting t c.args.above c.args.below last) (go t (not (ends_covered t c.args.above c.args.below)) (width_end t)) (bars (crossing_byte t c.args.above c.args.below last) 1) some
+    ∙ ap (λ (b : ℕ). bars b 1) (sym (c.crossing_of.ensures ∙ ap (λ (n : ℕ). crossing_byte t c.args.above c.args.below n) c.len-columns.ensures.value)))

@@ -1,0 +1,15 @@
+use Rattle.std.proofs.Common.{arith}
+use Rattle.std.proofs.lemmas.Grind.{common_steps}
+use Rattle.tbl_reader.proofs.measure.cells_of.Goals as goal
+
+pub loop-byte-init : goal.loop-byte-init
+loop-byte-init c = grind (arith, common_steps)
+
+pub loop-byte-preserved : goal.loop-byte-preserved
+loop-byte-preserved c = grind (arith, common_steps)
+
+pub returns-in-Text-clause-value : goal.returns-in-Text-clause-value
+returns-in-Text-clause-value c = grind (arith, common_steps)
+
+pub returns-in_default : goal.returns-in_default
+returns-in_default c = grind (arith, common_steps)

@@ -1,0 +1,24 @@
+-- Lines of options and formats (Tbl, "Options", "Format"): options end with a semicolon, formats with a point at the end of a line.
+use Rattle.std.specs.Prelude.{ℕ, List, [], ◌∷◌, Bool, false, ◌==◌, ◌&&◌, ◌||◌, not, if◌then◌else◌, Option, None, Some}
+use Prim.Native.Char.{code}
+use Rattle.tbl_reader.specs.Fields.{behind}
+
+-- where the semicolon stands that ends the options: none does right behind a parenthesis that opens
+abbrev pub options_end_in : Bool → List ℕ → Option ℕ
+options_end_in opened [] = None
+options_end_in opened (b ∷ bs) =
+    if (b == code ";") && not opened then Some 0 else behind (options_end_in (b == code "(") bs)
+
+abbrev pub options_end : List ℕ → Option ℕ
+options_end line = options_end_in false line
+
+abbrev pub is_blank : ℕ → Bool
+is_blank b = (b == code " ") || (b == code "\t")
+
+-- a line ends with a point, and blanks
+abbrev pub dotted_behind : Bool → List ℕ → Bool
+dotted_behind dotted [] = dotted
+dotted_behind dotted (b ∷ bs) = dotted_behind ((b == code ".") || (dotted && is_blank b)) bs
+
+abbrev pub is_dotted : List ℕ → Bool
+is_dotted line = dotted_behind false line

@@ -1,0 +1,213 @@
+//! A whole page is turned.
+ghost use Rattle.std.specs.Prelude.{◌≡◌, [], false, IfOk, min};
+ghost use Rattle.tbl_setting.specs.Drawing.{signs_of};
+ghost use Rattle.tbl_setting.specs.Running as specs;
+ghost use Rattle.tbl_setting.specs.Setting.{first_tape, page_table};
+ghost use Rattle.tbl_layout.specs.Held.{emptied};
+ghost use Rattle.tbl_reader.specs.Running.{TellsReads, is_write_fault};
+ghost use Rattle.nr_units.specs.Failures.{put_counted_if};
+
+use super::drawing::signs_of;
+use super::press::Press;
+use nr_units::sink::Sink;
+use nr_units::source::Source;
+use nr_vectors::slice_vec::SliceVec;
+use nr_vectors::{CountedAlloc, FixedVec};
+use std::alloc::{AllocError, Global};
+use std::marker::Model;
+use tbl_layout::{Out, Table};
+use tbl_reader::{Complaint, Limits, Outcome, Reader, read_page};
+use utf8_characters::Table as Characters;
+
+/// The bytes that wait to go out at most.
+const PENDING: usize = 4_096;
+
+/// The greatest limit.
+const MOST: usize = 18_446_744_073_709_551_614;
+
+/// How a run ended, and what it tells beside what went out.
+#[derive(Clone, Copy, Debug, PartialEq, Eq)]
+pub struct Report {
+    /// How it ended.
+    pub outcome: Outcome,
+    /// There were more complaints than there was room for.
+    pub missed: bool,
+    /// A table that was longer than what is held went out in parts, whose columns may differ.
+    pub uneven: bool,
+}
+
+/// The memory that texts are turned in, taken once.
+pub struct Rooms {
+    reader: Reader,
+    table: Table,
+    pending: FixedVec<u8>,
+}
+
+// Derived, it would be gone through part by part in the proof of each function that owns rooms.
+impl Drop for Rooms {
+    fn drop(self) {
+        let Rooms {
+            reader: _,
+            table: _,
+            pending: _,
+        } = self;
+    }
+}
+
+impl Model for Rooms {
+    ghost use Rattle.std.specs.Prelude.{◌≡◌};
+    ghost use Rattle.tbl_layout.specs.Held.{emptied};
+    ghost use Rattle.tbl_setting.specs.Running.{Bounds};
+    ghost use Rattle.tbl_setting.specs.Setting.{page_table};
+
+    ghost Value = { Bounds };
+
+    ghost view = { λ r. record {
+      signs = r.table.signs;
+      limits = r.reader.limits;
+      cells = r.reader.state.measure.line;
+    } };
+
+    ghost invariant = { λ r. emptied r.table ≡ page_table r.table.signs r.reader.limits };
+}
+
+impl Rooms {
+    /// Takes the memory: for a table of so many bytes, of which rows have so many at most, where the line has so
+    /// many cells, and frames are drawn with what a table of characters has, or in ASCII.
+    pub fn new(
+        alloc: Global,
+        table: usize,
+        row: usize,
+        cells: usize,
+        characters: Option<Characters>,
+    ) -> Result<Rooms, AllocError>
+        ensures signs { IfOk result (λ made. made.signs ≡ signs_of characters) }
+        ensures table { IfOk result (λ made. made.limits.formats ≡ min table 18446744073709551614) }
+        ensures row { IfOk result (λ made. made.limits.row ≡ min row 18446744073709551614) }
+        ensures cells { IfOk result (λ made. made.cells ≡ cells) }
+    {
+        let limits = Limits {
+            formats: table.min(MOST),
+            row: row.min(MOST),
+        };
+        Ok(Rooms {
+            pending: FixedVec::new(&mut CountedAlloc::new(alloc), PENDING)?,
+            reader: Reader::new(alloc, limits, cells)?,
+            table: Table::new(alloc, limits.formats, limits.row, signs_of(characters))?,
+        })
+    }
+}
+
+/// The input is read, and what is told of it set.
+fn run<R: Source, W: Sink>(
+    reader: &mut Reader,
+    input: &mut R,
+    press: &mut Press<'_, '_, '_, '_, W>,
+) -> Outcome
+    requires table { press.old.table.now ≡ page_table press.old.table.now.signs reader.old.limits }
+    requires tape { press.old.out ≡ first_tape press.old.out.held press.old.out.failures }
+    requires empty { press.old.complaints.now.items ≡ [] }
+    requires missed { press.old.missed ≡ false }
+    ensures ran { specs.Ran press.old.table.now.signs reader.old.limits reader.old.state.measure.line
+        (R.supply input.old) (R.supply input.new) press.old.out.held press.new.out.held
+        press.new.complaints.now press.new.missed press.new.table.now.uneven result }
+    ensures table_same { press.new.table.ghost_name ≡ press.old.table.ghost_name }
+    ensures table_room { emptied press.new.table.now ≡ emptied press.old.table.now }
+    ensures same { press.new.complaints.ghost_name ≡ press.old.complaints.ghost_name }
+    ensures room { press.new.complaints.now.capacity ≡ press.old.complaints.now.capacity }
+    ensures read_faults { TellsReads result (R.failures input.old) (R.failures input.new) }
+    ensures write_faults { press.new.out.failures ≡ put_counted_if (is_write_fault result)
+        press.old.out.failures }
+    ensures limits { reader.new.limits ≡ reader.old.limits }
+    ensures line { reader.new.state.measure.line ≡ reader.old.state.measure.line }
+{
+    let outcome = read_page(reader, input, press);
+    press.ends(outcome)
+}
+
+/// How a page was turned with parts that are lent, and its output.
+struct Turned<W> {
+    outcome: Outcome,
+    missed: bool,
+    output: W,
+}
+
+/// The same with parts that are lent.
+fn turn<R: Source, W: Sink>(
+    reader: &mut Reader,
+    input: &mut R,
+    table: &mut Table,
+    out: Out<'_, W>,
+    complaints: &mut SliceVec<'_, Complaint>,
+) -> Turned<W>
+    requires table { table.old ≡ page_table table.old.signs reader.old.limits }
+    requires tape { out ≡ first_tape out.held out.failures }
+    requires empty { complaints.old.items ≡ [] }
+    ensures ran { specs.Ran table.old.signs reader.old.limits reader.old.state.measure.line
+        (R.supply input.old) (R.supply input.new) out.entry.held (W.held result.output) complaints.new
+        result.missed table.new.uneven result.outcome }
+    ensures table_room { emptied table.new ≡ emptied table.old }
+    ensures room { complaints.new.capacity ≡ complaints.old.capacity }
+    ensures read_faults { TellsReads result.outcome (R.failures input.old) (R.failures input.new) }
+    ensures write_faults { W.failures result.output ≡ put_counted_if (is_write_fault result.outcome)
+        out.entry.failures }
+    ensures limits { reader.new.limits ≡ reader.old.limits }
+    ensures line { reader.new.state.measure.line ≡ reader.old.state.measure.line }
+{
+    let mut press = Press {
+        table,
+        out,
+        complaints,
+        missed: false,
+    };
+    let outcome = run(reader, input, &mut press);
+    let missed = press.missed;
+    let Press {
+        table: _table,
+        out,
+        complaints: _complaints,
+        missed: _,
+    } = press;
+    Turned {
+        outcome,
+        missed,
+        output: out.into_sink(),
+    }
+}
+
+/// Turns the tables of what the input gives into lines of text, or into requests where only the formatter knows a width,
+/// and puts it to the output, which is not flushed, and comes back. Nothing is allocated.
+pub fn convert<R: Source, W: Sink>(
+    input: &mut R,
+    output: W,
+    rooms: &mut Rooms,
+    complaints: &mut SliceVec<'_, Complaint>,
+) -> (Report, W)
+    ensures ran { specs.Ran rooms.old.signs rooms.old.limits rooms.old.cells (R.supply input.old)
+        (R.supply input.new) (W.held output) (W.held result.1) complaints.new result.0.missed
+        result.0.uneven result.0.outcome }
+    // A read fault is reported only where the source failed once, and then always, but where the output fails too.
+    ensures read_faults { TellsReads result.0.outcome (R.failures input.old) (R.failures input.new) }
+    // A write fault is reported where a call of the sink failed, and else none did.
+    ensures write_faults { W.failures result.1 ≡ put_counted_if (is_write_fault result.0.outcome)
+        (W.failures output) }
+    ensures room { complaints.new.capacity ≡ complaints.old.capacity }
+    // The next page is turned by the same limits, for a line of as many cells.
+    ensures same { rooms.new ≡ rooms.old }
+{
+    rooms.pending.clear();
+    rooms.table.begin_page();
+    complaints.clear();
+    let out = Out::over(&mut rooms.pending, output);
+    let Turned {
+        outcome,
+        missed,
+        output,
+    } = turn(&mut rooms.reader, input, &mut rooms.table, out, complaints);
+    let report = Report {
+        outcome,
+        missed,
+        uneven: rooms.table.is_uneven(),
+    };
+    (report, output)
+}

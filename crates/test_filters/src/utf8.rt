@@ -1,0 +1,294 @@
+// Whole runs of utf8 over words, and over texts in memory.
+use command_line::fakes::{Closing, Page, System, Typed};
+use filters::run_program;
+use std::cell::Cell;
+use utf8_command::Utf8;
+
+/// A run: its words, what it writes, its status and its line. Standard input is `caf`, a byte of the table and `_`.
+struct Row {
+    words: &'static [&'static [u8]],
+    output: &'static [u8],
+    status: u8,
+    line: &'static [u8],
+}
+
+static TEXTS: [(&str, Page<'static>); 16] = [
+    ("underlined", Page::Bytes(b"_\x08a_\x08b c__\x08_\n_")),
+    (
+        "bold",
+        Page::Bytes(b"_\x08_e\x08e\xe9\x08\xe9(_\x08\xe9_\x08_\n-\x08--\x08-"),
+    ),
+    ("apart", Page::Bytes(b"a\x08b \x08 _\x08 x\x08x\x08x\n")),
+    ("struck", Page::Cut(b"_\x08_a\x08")),
+    ("hostile", Page::Bytes(b"\x1b[1m\x08\x7f_\x08-\x00\r\n\xff")),
+    ("half", Page::Bytes(b"a_\x08")),
+    ("cut", Page::Cut(b"ab_\x08")),
+    ("russian", Page::Bytes(b"\xc3\xa9 \xd0\xaf\xd0\xb1\n")),
+    ("greek", Page::Bytes(b"\xce\xb1\xce\xb9")),
+    (
+        "named",
+        Page::Bytes(b".\\\" -*- coding: iso-8859-7 -*-\n\xe1\xe2"),
+    ),
+    ("polish", Page::Bytes(b"\xc4\x99\xe2\x80\x9c")),
+    ("plain", Page::Bytes(b"a\xe9\n")),
+    ("letters", Page::Bytes(b"\\(oeuvre \\[/l]")),
+    ("accents", Page::Bytes(b"\\'a \\(14 \xe2\x80\x94")),
+    ("ordinals", Page::Bytes(b"N\\(Om 1\xc2\xaa")),
+    ("arrow", Page::Bytes(b"a \xe2\x86\x92 b")),
+];
+
+static ROWS: [Row; 33] = [
+    Row {
+        words: &[b"utf8", b"latin"],
+        output: b"caf\xc3\xa9_",
+        status: 0,
+        line: b"",
+    },
+    Row {
+        words: &[b"utf8", b"cyrillic", b"-"],
+        output: b"caf\xd2\x90_",
+        status: 0,
+        line: b"",
+    },
+    Row {
+        words: &[b"utf8", b"latin", b"underlined"],
+        output: b"_\x08a_\x08b c__\x08_\n_",
+        status: 0,
+        line: b"",
+    },
+    Row {
+        words: &[b"utf8", b"-c", b"latin", b"underlined"],
+        output: b"\x1b[4mab\x1b[24m c_\x1b[1m_\x1b[22m\n_",
+        status: 0,
+        line: b"",
+    },
+    // `_` over itself goes on what is underlined, and else is bold.
+    Row {
+        words: &[b"utf8", b"latin", b"bold"],
+        output: b"_\x08_e\x08e\xc3\xa9\x08\xc3\xa9(_\x08\xc3\xa9_\x08_\n-\x08--\x08-",
+        status: 0,
+        line: b"",
+    },
+    Row {
+        words: &[b"utf8", b"-c", b"latin", b"bold"],
+        output: b"\x1b[1m_e\xc3\xa9\x1b[22m(\x1b[4m\xc3\xa9_\x1b[24m\n\x1b[1m--\x1b[22m",
+        status: 0,
+        line: b"",
+    },
+    // A backspace strikes no other byte, and no blank; a third byte is a cell of its own.
+    Row {
+        words: &[b"utf8", b"latin", b"apart"],
+        output: b"ab  _ x\x08xx\n",
+        status: 0,
+        line: b"utf8: 4 bytes dropped that show nothing\n",
+    },
+    Row {
+        words: &[b"utf8", b"-c", b"latin", b"apart"],
+        output: b"ab  _ \x1b[1mx\x1b[22mx\n",
+        status: 0,
+        line: b"utf8: 4 bytes dropped that show nothing\n",
+    },
+    // No control character goes out but newline.
+    Row {
+        words: &[b"utf8", b"latin", b"hostile"],
+        output: b"[1m_\x08-\n\xe2\x80\x9c",
+        status: 0,
+        line: b"utf8: 5 bytes dropped that show nothing\n",
+    },
+    // What is half read at the end of a file is no part of the next.
+    Row {
+        words: &[b"utf8", b"latin", b"half", b"half"],
+        output: b"a_a_",
+        status: 0,
+        line: b"utf8: 2 bytes dropped that show nothing\n",
+    },
+    Row {
+        words: &[b"utf8"],
+        output: b"",
+        status: 2,
+        line: b"utf8: no table is named\n",
+    },
+    Row {
+        words: &[b"utf8", b"-c"],
+        output: b"",
+        status: 2,
+        line: b"utf8: no table is named\n",
+    },
+    Row {
+        words: &[b"utf8", b"Latin"],
+        output: b"",
+        status: 2,
+        line: b"utf8: unknown table Latin\n",
+    },
+    Row {
+        words: &[b"utf8", b"-x", b"latin"],
+        output: b"",
+        status: 2,
+        line: b"utf8: unknown option -x\n",
+    },
+    Row {
+        words: &[b"utf8", b"-c", b"-c", b"latin"],
+        output: b"",
+        status: 2,
+        line: b"utf8: unknown option -c\n",
+    },
+    Row {
+        words: &[b"utf8", b"latin", b"none"],
+        output: b"",
+        status: 3,
+        line: b"utf8: cannot open none\n",
+    },
+    Row {
+        words: &[b"utf8", b"--choose", b"russian"],
+        output: b"cyrillic\n",
+        status: 0,
+        line: b"",
+    },
+    Row {
+        words: &[b"utf8", b"--choose", b"greek"],
+        output: b"greek\n",
+        status: 0,
+        line: b"",
+    },
+    // A page is read under its coding.
+    Row {
+        words: &[b"utf8", b"--choose", b"named"],
+        output: b"greek\n",
+        status: 0,
+        line: b"",
+    },
+    Row {
+        words: &[b"utf8", b"--choose", b"polish"],
+        output: b"latin\n",
+        status: 0,
+        line: b"",
+    },
+    // Names count where only some tables have what they name.
+    Row {
+        words: &[b"utf8", b"--choose", b"letters"],
+        output: b"latin\n",
+        status: 0,
+        line: b"",
+    },
+    Row {
+        words: &[b"utf8", b"--choose", b"accents"],
+        output: b"english\n",
+        status: 0,
+        line: b"",
+    },
+    Row {
+        words: &[b"utf8", b"--choose", b"ordinals"],
+        output: b"latin\n",
+        status: 0,
+        line: b"",
+    },
+    // Of two that have as many, the one that draws boxes.
+    Row {
+        words: &[b"utf8", b"--choose", b"arrow"],
+        output: b"english\n",
+        status: 0,
+        line: b"",
+    },
+    // Where no table has a character, and from standard input where no file is named.
+    Row {
+        words: &[b"utf8", b"--choose", b"plain"],
+        output: b"english\n",
+        status: 0,
+        line: b"",
+    },
+    Row {
+        words: &[b"utf8", b"--choose"],
+        output: b"english\n",
+        status: 0,
+        line: b"",
+    },
+    Row {
+        words: &[b"utf8", b"--choose", b"plain", b"greek"],
+        output: b"",
+        status: 2,
+        line: b"utf8: --choose takes one file\n",
+    },
+    Row {
+        words: &[b"utf8", b"--choose", b"cut"],
+        output: b"",
+        status: 3,
+        line: b"utf8: cannot read cut\n",
+    },
+    Row {
+        words: &[b"utf8", b"--choose", b"none"],
+        output: b"",
+        status: 3,
+        line: b"utf8: cannot open none\n",
+    },
+    Row {
+        words: &[b"utf8", b"--version"],
+        output: b"utf8 0.2.0\n",
+        status: 0,
+        line: b"",
+    },
+    Row {
+        words: &[b"utf8", b"latin", b"--choose"],
+        output: b"",
+        status: 3,
+        line: b"utf8: cannot open --choose\n",
+    },
+    // What was half read does not go out where the file fails.
+    Row {
+        words: &[b"utf8", b"latin", b"cut"],
+        output: b"ab",
+        status: 3,
+        line: b"utf8: cut: read fault at byte 4\n",
+    },
+    Row {
+        words: &[b"utf8", b"-c", b"latin", b"struck"],
+        output: b"\x1b[1m_",
+        status: 3,
+        line: b"utf8: struck: read fault at byte 5\n",
+    },
+];
+
+#[test]
+fn runs_in_a_system(rt: HostRuntime) {
+    for row in &ROWS {
+        let system = System {
+            words: row.words,
+            texts: &TEXTS,
+        };
+        let left = Cell::new(b"caf\xe9_".as_slice());
+        let input = Typed { left: &left };
+        let mut output = Vec::new(rt.alloc());
+        let mut line = Vec::new(rt.alloc());
+        let status = run_program(&Utf8, &system, rt.alloc(), input, &mut output, &mut line);
+        let words = row.words;
+        assert!(rt; output.as_slice() == row.output, "{words:?}");
+        assert!(rt; line.as_slice() == row.line, "{words:?}");
+        assert_eq!(rt; status, row.status, "{words:?}");
+    }
+}
+
+// A write that fails, and a flush; a read fault is not reported then.
+#[test]
+fn tells_an_output_that_fails(rt: HostRuntime) {
+    for (takes, text) in [
+        (false, b"underlined".as_slice()),
+        (true, b"underlined"),
+        (true, b"cut"),
+    ] {
+        let system = System {
+            words: &[b"utf8", b"latin", text],
+            texts: &TEXTS,
+        };
+        let mut line = Vec::new(rt.alloc());
+        let input = b"".as_slice();
+        let status = run_program(
+            &Utf8,
+            &system,
+            rt.alloc(),
+            input,
+            Closing { takes },
+            &mut line,
+        );
+        assert_eq!(rt; status, 4);
+        assert!(rt; line.as_slice() == b"utf8: write fault\n".as_slice());
+    }
+}

@@ -1,0 +1,257 @@
+// Whole runs in a system: over its words, its texts and its standard input.
+
+use command_line::fakes::{Closing, Page, System, Typed};
+use program_command::run_program;
+use std::alloc::Global;
+use std::cell::Cell;
+
+/// A run in a system: its words, standard input, what it prints, its status and its line.
+struct Row {
+    words: &'static [&'static [u8]],
+    input: &'static [u8],
+    output: &'static [u8],
+    status: u8,
+    line: &'static [u8],
+}
+
+static TEXTS: [(&str, Page<'static>); 7] = [
+    ("one", Page::Bytes(b"one\n.br\ntwo")),
+    ("-i", Page::Bytes(b".br\nthree")),
+    (
+        "a.1",
+        Page::Bytes(b".TH A 1 today here\n.SH NAME\na \\- b\n"),
+    ),
+    (
+        "b.1",
+        Page::Bytes(b".Dd May 1, 2020\n.Dt B 1\n.Os X\n.Sh NAME\n.Nm b\n.Nd c\n"),
+    ),
+    ("lib/tmac.line", Page::Bytes(b".ll 20")),
+    ("lib/tmac.page", Page::Bytes(b".pl 1")),
+    ("folder", Page::Cut(b".pl 1\na\n.br\nb\n")),
+];
+
+/// What is formatted.
+static PRINTED: [Row; 12] = [
+    Row {
+        words: &[b"nulbiko"],
+        input: b".pl 2\n.ll 8\na bb ccc dddd\n",
+        output: b"a bb ccc\ndddd\n",
+        status: 0,
+        line: b"",
+    },
+    // files in order, and standard input after them
+    Row {
+        words: &[b"nulbiko", b"-i", b"one", b"-"],
+        input: b".pl 1\n.br\nthree",
+        output: b"one\ntwo\nthree\n",
+        status: 0,
+        line: b"",
+    },
+    // a page asks for its macros by itself
+    Row {
+        words: &[b"nulbiko", b"-Tascii", b"-w", b"41", b"a.1"],
+        input: b"",
+        output: b"A(1)     General Commands Manual     A(1)\n\n\
+NAME\n       a - b\n\n\
+here              today              A(1)\n",
+        status: 0,
+        line: b"",
+    },
+    // tables, characters beyond ASCII and strings of the words
+    Row {
+        words: &[b"nulbiko", b"-Tutf8", b"-dwd=word"],
+        input: b".pl 1\n\\*(wd \xc3\xa9\n",
+        output: b"word \xc3\xa9\n",
+        status: 0,
+        line: b"",
+    },
+    Row {
+        words: &[
+            b"nulbiko", b"-Tascii", b"-mline", b"-mpage", b"-Mlib", b"-rab=7",
+        ],
+        input: b"\\n(ab.\n",
+        output: b"7.\n",
+        status: 0,
+        line: b"",
+    },
+    Row {
+        words: &[b"nulbiko", b"-o2"],
+        input: b".pl 1\na\n.bp\nb\n.bp\nc\n",
+        output: b"b\n",
+        status: 0,
+        line: b"",
+    },
+    // a page that needs no other program
+    Row {
+        words: &[b"nulbiko", b"--alone", b"one"],
+        input: b"",
+        output: b"one\ntwo\n",
+        status: 0,
+        line: b"",
+    },
+    // bold text struck over, and as other text
+    Row {
+        words: &[b"nulbiko", b"-Tascii", b"-b"],
+        input: b".pl 1\n\\fBab\\fP \\fIc\\fP\n",
+        output: b"a\x08ab\x08b _\x08c\n",
+        status: 0,
+        line: b"",
+    },
+    Row {
+        words: &[b"nulbiko", b"-Tascii", b"-b", b"--faces", b"none"],
+        input: b".pl 1\n\\fBab\\fP \\fIc\\fP\n",
+        output: b"ab c\n",
+        status: 0,
+        line: b"",
+    },
+    Row {
+        words: &[b"nulbiko", b"-Tutf8", b"--faces=none"],
+        input: b".pl 1\n\\fIa\xc3\xa9\\fP\n",
+        output: b"a\xc3\xa9\n",
+        status: 0,
+        line: b"",
+    },
+    // a text that is only checked
+    Row {
+        words: &[b"nulbiko", b"-z", b"one"],
+        input: b"",
+        output: b"",
+        status: 0,
+        line: b"",
+    },
+    Row {
+        words: &[b"nulbiko", b"--version"],
+        input: b"",
+        output: b"nulbiko 0.1.0\n",
+        status: 0,
+        line: b"",
+    },
+];
+
+/// What is reported.
+static REPORTED: [Row; 10] = [
+    Row {
+        words: &[b"nulbiko", b"-c", b"-V", b"-y"],
+        input: b".pl 1\na\n",
+        output: b"",
+        status: 2,
+        line: b"nulbiko: option -V is not in this program\n",
+    },
+    Row {
+        words: &[b"nulbiko", b"-o3-1", b"nowhere"],
+        input: b"",
+        output: b"",
+        status: 2,
+        line: b"nulbiko: bad value in 3-1\n",
+    },
+    Row {
+        words: &[b"nulbiko", b"one", b"nowhere", b"nor"],
+        input: b"",
+        output: b"",
+        status: 3,
+        line: b"nulbiko: cannot open nowhere\n",
+    },
+    Row {
+        words: &[b"nulbiko", b"-Mno", b"-mline", b"one"],
+        input: b"",
+        output: b"",
+        status: 3,
+        line: b"nulbiko: cannot open no/tmac.line\n",
+    },
+    Row {
+        words: &[b"nulbiko", b"-mx", b"one"],
+        input: b"",
+        output: b"",
+        status: 3,
+        line: b"nulbiko: no macros of the name x\n",
+    },
+    // what was ended before the fault is out
+    Row {
+        words: &[b"nulbiko", b"folder"],
+        input: b"",
+        output: b"a\n",
+        status: 3,
+        line: b"nulbiko: folder:4: read fault\n",
+    },
+    Row {
+        words: &[b"nulbiko", b"-Lp4"],
+        input: b".pl 1\na\n.br\nb\n.br\nhello\n",
+        output: b"a\n",
+        status: 1,
+        line: b"nulbiko: -:6: line cells limit passed\n",
+    },
+    Row {
+        words: &[b"nulbiko", b"-Ls64"],
+        input: b".ds xx aaaaaaaaaaaaaaaaaaaaaaaaaaaaaaaaaaaaaaaaaaaaaaaaaaaaaaaaaaaaaaaaaaaaa\n",
+        output: b"",
+        status: 1,
+        line: b"nulbiko: -:1: stored bytes limit passed\n",
+    },
+    // a page that names another
+    Row {
+        words: &[b"nulbiko", b"--alone"],
+        input: b".pl 1\na\n.so man1/b.1\n",
+        output: b"",
+        status: 6,
+        line: b"nulbiko: - needs other programs\n",
+    },
+    Row {
+        words: &[b"nulbiko", b"-K"],
+        input: b"",
+        output: b"",
+        status: 2,
+        line: b"nulbiko: no value after -K\n",
+    },
+];
+
+/// The first words of a run that comes to something else.
+fn first_other(rows: &'static [Row], alloc: Global) -> Option<&'static [&'static [u8]]> {
+    for row in rows {
+        if !meets(alloc, row) {
+            return Some(row.words);
+        }
+    }
+    None
+}
+
+/// Whether a run comes to what its row says.
+fn meets(alloc: Global, row: &Row) -> bool {
+    let mut output = Vec::new(alloc);
+    let mut line = Vec::new(alloc);
+    let status = run_row(alloc, row, &mut output, &mut line);
+    output.as_slice() == row.output && line.as_slice() == row.line && status == row.status
+}
+
+/// Its status.
+fn run_row(alloc: Global, row: &Row, output: &mut Vec<u8>, line: &mut Vec<u8>) -> u8 {
+    let system = System {
+        words: row.words,
+        texts: &TEXTS,
+    };
+    let left = Cell::new(row.input);
+    run_program(&system, alloc, Typed { left: &left }, output, line, false)
+}
+
+#[test]
+fn prints(rt: HostRuntime) {
+    assert_eq!(rt; first_other(&PRINTED, rt.alloc()), None);
+}
+
+#[test]
+fn reports(rt: HostRuntime) {
+    assert_eq!(rt; first_other(&REPORTED, rt.alloc()), None);
+}
+
+#[test]
+fn tells_an_output_that_fails(rt: HostRuntime) {
+    let system = System {
+        words: &[b"nulbiko", b"one"],
+        texts: &TEXTS,
+    };
+    let mut line = Vec::new(rt.alloc());
+    let input = b"".as_slice();
+    let output = Closing { takes: false };
+    let status = run_program(&system, rt.alloc(), input, output, &mut line, false);
+    assert_eq!(rt; status, 4);
+    assert!(rt; line.as_slice() == b"nulbiko: write fault\n".as_slice());
+}

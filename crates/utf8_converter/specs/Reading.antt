@@ -1,0 +1,84 @@
+-- Bytes are read one by one: what is half read, and what goes out.
+use Rattle.std.specs.Prelude.{ℕ, ◌+◌, List, [], ◌∷◌, ◌++◌, Bool, ◌==◌, if◌then◌else◌}
+use Rattle.nr_vectors.specs.declared.cell.Look.{Look}
+use Rattle.nr_vectors.specs.declared.cell.Look.TheVariants.{Plain}
+use Rattle.utf8_characters.specs.declared.table.Table.{Table}
+use Rattle.utf8_converter.specs.Cells.{Cell, Once, Over, drawn, first_way, goes_out, shows, strikes, turning, way_behind, way_to}
+use Rattle.utf8_converter.specs.declared.reader.Half.{Half}
+use Rattle.utf8_converter.specs.declared.reader.Half.TheVariants.{Nothing, Byte, Backspaced}
+use Rattle.utf8_converter.specs.declared.reader.Reader.{Reader}
+
+-- What is half read then, what goes out, and how many bytes were dropped.
+pub record Told : Type 0 where
+  pub reader : Reader
+  pub bytes : List ℕ
+  pub strays : ℕ
+
+abbrev pub told : Reader → List ℕ → ℕ → Told
+told r bytes strays = record { reader = r; bytes = bytes; strays = strays }
+
+-- these bytes and so many strays, and then what comes
+abbrev pub behind : List ℕ → ℕ → Told → Told
+behind bytes strays t = record { reader = t.reader; bytes = bytes ++ t.bytes; strays = strays + t.strays }
+
+-- first the one, then the other
+abbrev pub then_told : Told → (Reader → Told) → Told
+then_told t next = behind t.bytes t.strays (next t.reader)
+
+-- nothing was read
+abbrev pub first_reader : Table → Bool → Reader
+first_reader table escapes = record { half = Nothing; way = first_way escapes; table = table }
+
+abbrev pub with_half : Half → Reader → Reader
+with_half h r = record r { half = h }
+
+-- ---- cells go out
+
+abbrev pub out : Cell → Reader → Told
+out c r = told (record r { way = way_behind r.way c }) (drawn r.table r.way c) 0
+
+-- a byte goes out by itself, or is dropped
+abbrev pub put_alone : ℕ → Reader → Told
+put_alone b r = if goes_out r.table b then out (Once b) r else told r [] 1
+
+abbrev pub turned : Look → Reader → Reader
+turned look r = record r { way = way_to r.way look }
+
+-- the look that is open ends
+abbrev pub shut : Reader → Told
+shut r = told (turned Plain r) (turning r.way Plain) 0
+
+-- ---- bytes are read
+
+-- nothing is half read: a byte that shows may still be struck over
+abbrev pub fresh : ℕ → Reader → Told
+fresh b r = if shows r.table b then told (with_half (Byte b) r) [] 0 else put_alone b r
+
+-- what is half read is no cell with what comes, and goes out; a backspace of it is dropped
+abbrev pub released : Half → Reader → Told
+released Nothing r = told r [] 0
+released (Byte a) r = put_alone a (with_half Nothing r)
+released (Backspaced a) r = behind [] 1 (put_alone a (with_half Nothing r))
+
+abbrev pub released_and_fresh : ℕ → Reader → Told
+released_and_fresh b r = then_told (released r.half r) (λ s. fresh b s)
+
+abbrev pub read_behind : Half → ℕ → Reader → Told
+read_behind Nothing b r = fresh b r
+read_behind (Byte a) b r =
+    if b == 8 then told (with_half (Backspaced a) r) [] 0 else released_and_fresh b r
+read_behind (Backspaced a) b r =
+    if strikes r.table a b then out (Over a b) (with_half Nothing r) else released_and_fresh b r
+
+abbrev pub read : ℕ → Reader → Told
+read b r = read_behind r.half b r
+
+-- the end comes
+abbrev pub ended : Reader → Told
+ended r = then_told (released r.half r) (λ s. shut s)
+
+-- ---- many bytes
+
+abbrev pub fed : Reader → List ℕ → Told
+fed r [] = told r [] 0
+fed r (b ∷ bs) = then_told (read b r) (λ s. fed s bs)

@@ -1,0 +1,20 @@
+//! The bytes that stand for characters where they are formatted.
+ghost use Rattle.std.specs.Prelude.{◌≡◌};
+ghost use Rattle.utf8_converter.specs.Undoing.{TurnsBack, byte_for};
+
+use super::reader::is_shown;
+use utf8_characters::Table;
+
+/// The byte that stands for a character: a character of ASCII that shows something, a blank or a newline stands for
+/// itself, and one of the table has its byte.
+pub fn byte_for(table: Table, character: char) -> Option<u8>
+    ensures value { result ≡ byte_for table character }
+    // What `convert` makes of the bytes of a text is that text, in UTF-8.
+    ensures back { TurnsBack table }
+{
+    let code = u32::from(character);
+    if code < 128 && is_shown(code as u8) {
+        return Some(code as u8);
+    }
+    table.byte(code)
+}

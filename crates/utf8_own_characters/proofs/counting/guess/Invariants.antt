@@ -1,0 +1,5 @@
+use Rattle.std.proofs.Common.{◌<◌, length}
+use Rattle.utf8_own_characters.proofs.counting.guess.Given as goal
+
+abbrev pub invariant-loop : goal.invariant-loop
+invariant-loop l = l.slot < length l.slots

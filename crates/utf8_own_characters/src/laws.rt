@@ -1,0 +1,41 @@
+//! In which way a row is read back: laws of the definitions alone, so the functions do nothing.
+ghost use Rattle.utf8_own_characters.specs.Choosing.{ChoiceIsGood, NoneIsLost, AllFit, FewestAreSides};
+ghost use Rattle.utf8_own_characters.specs.Fixed.{SameBytes, SameCharacters};
+ghost use Rattle.utf8_own_characters.specs.Laws.{Inverse, InverseWhole, OneWay, ColumnsAreBytes, ColumnsStay, HalvesAreApart};
+
+/// The bytes of clusters that have a code are read back as these clusters, also where other bytes come behind.
+pub fn bytes_are_read_back()
+    ensures behind { Inverse }
+    ensures whole { InverseWhole }
+{}
+
+/// No two texts have the same bytes, and no byte is a lead and a trail, so a row is read in one way and no pair is cut.
+pub fn rows_are_read_in_one_way()
+    ensures texts { OneWay }
+    ensures halves { HalvesAreApart }
+{}
+
+/// A cluster has a byte for each of its columns, and a row shows a column for each byte, however it was laid over.
+pub fn columns_are_kept()
+    ensures bytes { ColumnsAreBytes }
+    ensures rows { ColumnsStay }
+{}
+
+/// What is chosen of clusters that are counted once each makes a table that is read in one way. Each of them is in the table or told, and
+/// where all have room, none is told.
+pub fn choices_are_good()
+    ensures good { ChoiceIsGood }
+    ensures none_lost { NoneIsLost }
+    ensures all { AllFit }
+{}
+
+/// The trails are the least number whose square reaches that of the wide clusters, and the leads as few as reach it with them.
+pub fn halves_are_fewest()
+    ensures { FewestAreSides }
+{}
+
+/// A character beyond ASCII has in a fixed table, as a table like those of a page, the byte that it has there, and a byte the character.
+pub fn fixed_tables_are_tables()
+    ensures bytes { SameBytes }
+    ensures characters { SameCharacters }
+{}
