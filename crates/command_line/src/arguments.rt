@@ -59,6 +59,8 @@ impl<R: Env> CommandLine for SystemWords<'_, R> {
 }
 
 /// The words after the program's name, in order.
+///
+/// Proved: The words are those of the command line, in order.
 pub fn words_of<C: CommandLine>(line: &C, alloc: Global) -> Result<Vec<String>, AllocError>
     ensures { IfOk result (λ words. AreWords (C.may_stand line.now) (map string_bytes words.items)) }
 {

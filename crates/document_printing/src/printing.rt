@@ -145,6 +145,17 @@ fn run_pull<R: Source + Drop, W: Sink>(
 /// Prints a page: it goes through mdoc, characters and tables, and is formatted behind its macros. Without tables it is
 /// formatted as it comes. What was printed before a refusal went out; where a page whose tables are set has no room, nothing
 /// did. The output is not flushed. Nothing is allocated.
+///
+/// Proved: **A whole document is one equation.** Where a page comes whole and all is printed, what goes out are the
+/// pages of the machine, once its run is over, over `macros ++ tables (characters (mdoc page))`, each word the
+/// definition of its crate and each stage left out that is off; so with any table of characters, with tables and
+/// without, where the page and what mdoc makes of it have less than 2^40 bytes. (`print`; `Prints` in Document.antt)
+/// Proved: Where a limit is passed, it is one that the machine over the text of `Prints` would pass with the next
+/// move, and the pages that had ended by then went out, and no other byte. Where the output fails, a prefix of these
+/// and of the page that the next move ends did.
+/// Proved: Where a page whose tables are set has no room, nothing went out.
+/// Proved: Of a page that breaks off after so many bytes, where no tables are set, the same is true over what the
+/// stages make of these bytes, but for what is half read. (`cut` of `print`)
 pub fn print<R: Source + Drop, W: Sink>(
     input: R,
     setup: &Setup<'_>,

@@ -35,6 +35,13 @@ pub type PageText<'a, R> = Pull<'a, Pull<'a, Counted<R>, Switch<Mdoc<'a>>>, Swit
 
 /// A page as the formatter reads it, but for its tables. Nothing is allocated. The line that was read last is
 /// `input().input().line()`.
+///
+/// Proved: What the formatter reads of a page is what the stages make of it, one after the other: `characters (mdoc
+/// page)`, each word the definition of its crate, and each stage left out that is off. So it is however the bytes
+/// come, where the source never fails, and the page and what mdoc makes of it have less than 2^40 bytes. (`whole` of
+/// `read_page`)
+/// Proved: Where the source fails after so many bytes, what the formatter reads is what the stages make of these, but
+/// for what is half read, and then each call fails. (`cut` of `read_page`)
 pub fn read_page<'a, R: Source + Drop>(
     input: R,
     stages: Stages,

@@ -15,6 +15,8 @@ pub struct Joined<'a, S> {
 
 impl<'a, S: Source> Joined<'a, S> {
     /// These bytes, and then those of this source.
+    ///
+    /// Proved: Bytes before a source come first, and it fails as many bytes later.
     pub fn over(first: &'a [u8], second: S) -> Self
         ensures supply { ⟦<Joined<'a, S> as Source>⟧.supply result ≡ joined first.now (S.supply second) }
         ensures failures { ⟦<Joined<'a, S> as Source>⟧.failures result ≡ 0 }

@@ -175,6 +175,12 @@ fn fill<R: Source, T: Stage>(
 
 impl<'a, R: Source, T: Stage> Pull<'a, R, T> {
     /// A stage that turned nothing yet, over a source. The room holds what it makes: what that held is of no account.
+    ///
+    /// Proved: A stage over a source gives what the stage makes of all bytes that come and of the end after them,
+    /// however they come. Where the source fails after so many bytes it gives what the stage makes of these, but for
+    /// what is half read, and then fails at each call; a source that never fails makes one that never fails. So
+    /// stages stand on one another, and what is said of a source that never fails, or fails once, holds of the last
+    /// of them. (`over` and `next` of `Pull`; `pulled` in its specs)
     pub fn over(stage: T, input: R, room: &'a mut [u8]) -> Self
         ensures supply { ⟦<Pull<'a, R, T> as Source>⟧.supply result ≡ specs.pulled (R.supply input)
             (nat_le (T.wants stage) (length room.entry.now)) (T.says stage) (T.fits stage) [] 0 false }
@@ -258,6 +264,8 @@ impl<'a, R: Source, T: Stage> Source for Pull<'a, R, T> {
 
     ghost failures = { λ s. s.failed };
 
+    /// Proved: Where the source may fail at any call, has 2^40 bytes or the room is smaller than the stage wants, a
+    /// call may fail at any time, and until it does what is given is the same. (`pulled`)
     fn next(&mut self) -> Result<Option<u8>, Fault> {
         if self.at < self.out.len() {
             return Ok(self.give());

@@ -39,6 +39,9 @@ pub trait Stage {
         ensures room { out.new.capacity ≡ out.old.capacity };
 
     /// The end comes. Tells whether all that comes of it went into the room.
+    ///
+    /// Proved: A stage that makes more than it may gives what it made before, and then the calls fail: so it does
+    /// only where the definition says that it doesn't fit (`fits`). (`finish` and `is_full` of `Stage`)
     fn finish(&mut self, out: &mut SliceVec<'_, u8>) -> bool
         requires empty { out.old.items ≡ [] }
         requires room { wants self.old ≤ out.old.capacity }

@@ -15,6 +15,8 @@ impl<T: Stage> Switch<T> {
     ghost use Rattle.document_stages.specs.Switch.{says_if, fits_if, wants_if};
 
     /// The stage, on or off.
+    ///
+    /// Proved: A stage that is off gives what comes as it is.
     pub fn over(stage: T, on: bool) -> Switch<T>
         ensures says { ⟦<Switch<T> as Stage>⟧.says result ≡ says_if on (T.says stage) }
         ensures fits { ⟦<Switch<T> as Stage>⟧.fits result ≡ fits_if on (T.fits stage) }

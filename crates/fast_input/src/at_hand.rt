@@ -10,6 +10,8 @@ use nr_units::source::Source;
 
 /// The bytes that come next of the input, as far as the source has them at hand: none where a level is read or a byte
 /// was read ahead.
+///
+/// Proved: Bytes at hand are shown and taken, all before the 2^40th. (`window`, `take_window`)
 #[inline]
 pub fn window<'s, K: Copy, R: Source>(place: &Place, store: &Store<K>, source: &'s R) -> &'s [u8]
     ensures all { is_unseen place.now.ahead ≡ true → store.now.levels ≡ []

@@ -205,6 +205,10 @@ fn read_parts<K: Copy>(reader: &mut Reader, store: &mut Store<K>, bytes: &[u8]) 
 
 /// The lines of a definition that the source has at hand are read and added to its text, up to one that may end it and to any escape
 /// but `\\`, where they come next and nothing was spliced since the last byte. No move where they don't.
+///
+/// Proved: The lines of a definition that the source has at hand are read and added to its text in one call by
+/// exactly the moves of nr_input, and so is the rest of a line that does nothing. (`read_body_lines`;
+/// `read_dropped_line` in dropped_lines.rt)
 #[inline(never)]
 pub fn read_body_lines<K: Copy, R: Source>(
     place: &mut Place,

@@ -88,6 +88,10 @@ fn read_named_line<K: Copy, R: Source>(
 /// The control line that the source has at hand, where nothing else comes first: its name is looked up. If it calls a request whose
 /// line is there too, with no escape in it, all of it is read, and if it calls a macro its arguments are, up to the first escape.
 /// None where no such name is there.
+///
+/// Proved: At the beginning of a line of the source the name of a control line is looked up, and the line of its
+/// request or the arguments of its macro read, in one call by exactly the moves of nr_input. (`read_control_line`,
+/// `read_next`)
 #[inline(always)]
 pub fn read_control_line<K: Copy, R: Source>(
     place: &mut Place,
@@ -155,6 +159,9 @@ fn read_beginning<K: Copy, R: Source>(
 
 /// As `read_run`; but the name of a control line is looked up at once, and what is after it is read: of the source the line of a
 /// request, where it is at hand and no escape stands in it, of a level its items.
+///
+/// Proved: If the source has a byte at hand, or the newest level has one, and no action is pending, `read_next` makes
+/// at least one move. Except at the beginning of a line of the source it reads as many bytes as `read_run`.
 #[inline(always)]
 pub fn read_next<K: Copy, R: Source>(
     place: &mut Place,

@@ -15,6 +15,10 @@ use nr_reading::Run;
 
 /// The font escape that these bytes begin with is met, where an item is looked at next: `\fX` or `\f(XX` in the midst of a text line, `\fX`
 /// at the beginning of a line. None where the bytes have not all of it, or begin otherwise. The bytes are not taken yet.
+///
+/// Proved: A font escape that bytes begin with is met in one call by exactly the moves of nr_input, and one that has
+/// its name, of one byte or in the midst of a line of two, is met wherever the midst or the beginning of a text line
+/// is read and a `\` is no control character.
 #[inline(always)]
 pub fn meet_font(reader: &mut Reader, bytes: &[u8]) -> Option<Run>
     ensures met { IfSome result (λ run. HasMet run.moves (map variants.Byte bytes.now) reader.old.half

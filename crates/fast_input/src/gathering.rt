@@ -377,6 +377,12 @@ fn gather_row<K: Copy, I: Tail>(
 
 /// Gathers the bytes that come next of the newest level into the chunk, with those of the arguments, registers and strings that are
 /// spliced between them: up to a newline or the `\}` before it, and as many as there is room for. Nothing is taken.
+///
+/// Proved: In a text line the bytes that come next of the newest level are gathered, with those of the arguments,
+/// registers and strings that are spliced between them: nothing is taken, and they are followed by a newline or a
+/// `\`, or there are 64 or more. A closing brace after them is reported, and the newline after that. Taking a prefix
+/// of them is exactly the moves by which they come. If all are taken and reading goes on, the two moves of that brace
+/// are added. (`gather`, `leave`)
 pub fn gather<K: Copy>(
     reader: &mut Reader,
     store: &Store<K>,

@@ -61,6 +61,9 @@ fn read_name<K: Copy>(reader: &mut Reader, store: &mut Store<K>) -> Option<MetNa
 }
 
 /// As `read_level`; but the name of a control line that comes next is looked up at once, and what is after it is read.
+///
+/// Proved: At the beginning of a line of the newest level the name of a control line is looked up, and the items
+/// after it are read, in one call by exactly the moves of nr_input.
 #[inline(never)]
 pub(crate) fn read_level_line<K: Copy>(reader: &mut Reader, store: &mut Store<K>) -> Run
     ensures read { (c : Coming) (p : Reached) (supply : Option Supply) → HoldsComing c p supply

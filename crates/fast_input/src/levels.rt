@@ -283,6 +283,14 @@ fn read_text_on<K: Copy>(reader: &mut Reader, store: &mut Store<K>) -> Moved
 /// What levels bring is read, up to what tells something and to a text line: control lines, the lines of requests, conditions, strings
 /// and arguments with what is spliced into them, ends of levels, and what is due. In a text line that has begun, the items up to what is
 /// due are read, or the end of its level. The mode after a sprung text is left; `_mode` is of no account.
+///
+/// Proved: What levels bring is read in one call by exactly the moves of nr_input: what is pending, items that lie in
+/// a row, control lines with their names, ends of levels, and arguments and registers that are spliced where bytes
+/// are copied, for which no level need be opened, also where an argument or a string's text begins with them.
+/// (`read_levels`; `interpolate_at_once` in interpolations.rt; `meet_bytes` in beginnings.rt)
+/// Proved: If the newest level has a byte and no action is pending, `read_levels` makes at least one move. If it
+/// emits nothing, makes fewer than 512 moves and no text line has begun, the next byte does not fit where it is to be
+/// added, or is not plain there.
 #[inline(always)]
 pub fn read_levels<K: Copy>(reader: &mut Reader, store: &mut Store<K>, _mode: &mut K) -> Moved
     ensures read { (c : Coming) (p : Reached) (supply : Option Supply) → HoldsComing c p supply

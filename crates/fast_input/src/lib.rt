@@ -5,6 +5,8 @@
 //! read: `at_hand`, `target`, `adding`, `rows`, `runs`, `level_lines`, `level_rows`, `beginnings`,
 //! `interpolations`, `levels`, `splices`, `gathering`, `macro_lines`, `body_lines`, `dropped_lines`,
 //! `control_lines`, `fonts`.
+//!
+//! Proved: Each call makes many moves of nr_input at once.
 #![tactic(auto)]
 
 mod adding;

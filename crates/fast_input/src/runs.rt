@@ -215,6 +215,10 @@ pub(crate) fn read_run_of_level<K: Copy>(reader: &mut Reader, store: &mut Store<
 
 /// Items that lie in a row are read, many moves at once: up to the first that tells something or after which something
 /// is due, and none where an item has to be looked at alone.
+///
+/// Proved: Bytes that lie in a row are read in one call by exactly the moves of nr_input, of which only the last may
+/// emit an event.
+/// Proved: Of the bytes that the source has at hand `read_run` reads as many as can be, in 65,536 moves at most.
 #[inline(always)]
 pub fn read_run<K: Copy, R: Source>(
     place: &mut Place,

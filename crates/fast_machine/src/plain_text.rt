@@ -77,6 +77,10 @@ pub(crate) fn put_line_words(formatter: &mut Formatter, bytes: &[u8]) -> Words
 
 /// Puts the text that these bytes begin with, in a text line that has begun: its words and font escapes, and after the newline that ends
 /// it and does nothing else, where it begins with a byte that is put or with a font escape, the next line's.
+///
+/// Proved: Of the text of the source that is at hand as much is put in one call as can be: what comes next is no
+/// word, no newline that only ends its line, no beginning of text that is put, and no font escape that has its name,
+/// of one byte or in the midst of a line of two.
 #[inline(always)]
 fn put_words(formatter: &mut Formatter, bytes: &[u8]) -> Words
     requires line { is_in_line formatter.old ≡ true }
@@ -238,6 +242,8 @@ fn put_next<R: Source>(engine: &mut Engine, input: &mut R) -> u128
 
 /// Reads and puts what is at hand, where the input is read next and so many moves are left that there can't be more. Tells how many
 /// moves that was.
+///
+/// Proved: Many moves in one call are so many moves of the machine, and no call of the source fails in them.
 #[inline(always)]
 pub fn put_at_hand<R: Source>(engine: &mut Engine, input: &mut R, left: u64) -> u64
     ensures reads { MakesReading result (shape engine.old) (shape engine.new) (R.supply input.old)

@@ -16,6 +16,8 @@ pub(crate) fn borrowed(words: &[String], alloc: Global) -> Result<Vec<&str>, All
 }
 
 /// Whether a word is an option: it begins with `-` and isn't `-` alone.
+///
+/// Proved: A word is an option where it begins with `-` and is not `-`.
 pub fn is_option(word: &str) -> bool
     ensures { result ≡ is_option word.now }
 {

@@ -75,6 +75,9 @@ impl<R: Files, I: Read + Copy + Drop> Disk<'_, R, I> {
 
     /// Opens the texts of these names, in order, up to the first that can't be, or standard input where there is no
     /// name.
+    ///
+    /// Proved: Each name is opened, in order: standard input where it is `-`, else a file; standard input alone where
+    /// there is no name.
     #[tactic(auto, using(crate::proofs::Opening::named_more))]
     pub fn open_all<'a>(&self, names: &[&'a str]) -> Result<Vec<Text<'a, R::File, I>>, Ending<'a>>
         ensures { IfOk result (λ opened. AreNamed (named (texts names.now)) opened.items) }

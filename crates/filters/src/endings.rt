@@ -113,6 +113,9 @@ fn put_ending<E: Sink>(program: &str, ending: Ending<'_>, errors: &mut E)
 }
 
 /// Tells how the program of this name ended, as far as `errors` takes the line, and gives the status.
+///
+/// Proved: Status and line report how a program ended. The line goes out whole, or a prefix of it where a call
+/// failed; nothing where all went out.
 pub fn tell<E: Sink>(program: &str, ending: Ending<'_>, errors: &mut E) -> u8
     ensures status { result ≡ status_of ending.entry }
     ensures told { Tells (E.held errors.old) (E.held errors.new) (E.failures errors.old)

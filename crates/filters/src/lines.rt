@@ -9,6 +9,8 @@ use nr_units::sink::Sink;
 use nr_units::source::Fault;
 
 /// Writes these bytes, one after the other.
+///
+/// Proved: Bytes in several parts go out one after the other, a prefix of them where a call failed.
 pub fn put_all<W: Sink>(parts: &[&[u8]], output: &mut W) -> Result<(), Fault>
     ensures ok { OnOk result (Appends (W.held output.old) (W.held output.new) (joined parts.now)) }
     ensures err { OnErr result (AppendsFront (W.held output.old) (W.held output.new) (joined parts.now)) }

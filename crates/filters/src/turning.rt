@@ -45,6 +45,8 @@ pub trait Turns {
 
 /// Turns the texts, one after the other, up to the first fault, and flushes the output: then what was put out went
 /// on.
+///
+/// Proved: Where no write fault is reported, all that was put out went on.
 pub fn turn_all<'a, M: Turns, F: Read + Drop, I: Read + Drop, W: Sink, E: Sink>(
     turner: &mut M,
     texts: Vec<Text<'a, F, I>>,

@@ -16,6 +16,8 @@ fn shown_byte(byte: u8) -> u8
 }
 
 /// A name as it is reported: each of its bytes prints.
+///
+/// Proved: A name of a page is reported with printing characters of ASCII alone: each other byte stands as `?`.
 pub fn shown(name: Name) -> Name
     ensures bytes { result ≡ map specs.shown_byte name }
     ensures prints { list_all specs.is_printing result ≡ true }

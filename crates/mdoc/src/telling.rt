@@ -84,6 +84,9 @@ impl<'a> Told<'a> {
     }
 
     /// Tells what is wrong with a line.
+    ///
+    /// Proved: The first complaints on a page are reported, as many as there is room for, and whether there were
+    /// more.
     pub fn tell(&mut self, kind: Kind, line: u64)
         ensures { self.new ≡ specs.told kind line self.old }
     {

@@ -47,6 +47,10 @@ impl<'a> Watch<'a> {
     }
 
     /// A byte comes.
+    ///
+    /// Proved: What is reported of a page is what the definition finds wrong with it: macros that are none, blocks
+    /// and enclosures that nothing ends, ends of what is not open or in the wrong order, too many that are open. That
+    /// each complaint is written is read. (`Watch::hear`, `Watch::finish`)
     #[inline(always)]
     pub fn hear(&mut self, byte: u8)
         ensures { self.new ≡ specs.heard byte self.old }

@@ -366,6 +366,9 @@ impl Page {
     }
 
     /// The line ends: what is due comes first, then what closes enclosures, the last first, then marks.
+    ///
+    /// Proved: What a line opened for its own words is closed where it ends, the last first, before the closing marks
+    /// that end it. (`ends`, `closes_last`)
     pub(crate) fn ends(&mut self) -> Seen
         ensures { met self.new result ≡ specs.ends self.old }
     {

@@ -362,6 +362,9 @@ fn long_macro(first: u8, second: u8, third: u8) -> Option<Macro>
 }
 
 /// The macro of a name.
+///
+/// Proved: `macro_of` and `is_callable` look names up in the table of macros: what a name is, and whether it is
+/// called. (`macro_of`, `is_callable`)
 pub(crate) fn macro_of(name: &[u8]) -> Option<Macro>
     ensures { result ≡ specs.macro_of name.now }
 {

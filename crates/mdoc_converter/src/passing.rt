@@ -41,6 +41,9 @@ fn leads(scan: Option<Scan>, byte: u8) -> Option<Scan>
 }
 
 /// Whether none of the first 64 lines of a text that are neither empty nor comments begins with `.Dd`. Such a text is what `convert` makes of it.
+///
+/// Proved: A text goes out as it is where none of its first 64 lines that are neither empty nor comments begins with
+/// `.Dd` and a blank, a tab or its end.
 pub fn passes_unchanged(text: &[u8]) -> bool
     ensures value { result ≡ specs.is_other text.now }
     ensures law { IsTrue result → converted text.now ≡ text.now }

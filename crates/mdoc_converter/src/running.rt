@@ -207,6 +207,15 @@ fn run<R: Source, W: Sink>(
 ///
 /// `steps` is set to the number of steps that this took: in each a byte meets what is half read. There are at most
 /// ninety-six for each byte that came, and as many more.
+///
+/// Proved: What goes out of a page is one function of the bytes that came, however they came: `converted`, whose
+/// definition makes words of lines, parts with fonts and joints of words, and text of parts.
+/// Proved: At a read fault what the bytes before come to is out, but for what is half read; at a write fault a prefix
+/// of what goes out.
+/// Proved: A fault is reported only where a call of the source or the sink failed, and always then; where both
+/// failed, that of the sink.
+/// Proved: A run returns how many steps it took. They are those of the definition (at a write fault only their bound
+/// is proved), and at most 96 for each byte that came, and 96 more.
 pub fn convert<R: Source, W: Sink>(
     input: &mut R,
     output: &mut W,

@@ -10,6 +10,9 @@ use document_stages::{LEAST_ROOM, Stage};
 use nr_vectors::slice_vec::SliceVec;
 
 /// A page of mdoc(7) becomes one of man(7), and another page stays as it is, as with `convert`.
+///
+/// Proved: A page that is turned a part at a time comes to the same: what goes out of the parts, one after another,
+/// and of the end is `converted`, in whatever parts it comes.
 #[derive(Drop)]
 pub struct Turner<'a> {
     reader: Reader,

@@ -105,6 +105,10 @@ impl<P: Paths, I: Read + Copy + Drop> Disk<P, I> {
     }
 
     /// The text of that name.
+    ///
+    /// Proved: A text of the system is opened by its path, a macro file's by `folder/tmac.name`, asked for once, but
+    /// for a macro file's that is longer than 4,095 bytes; standard input needs none. (`Disk::text`, for whatever
+    /// opens files and tells the paths that it was asked for)
     fn text(&mut self, input: Input<'_>) -> io::Result<Text<P::File, I>>
         ensures text { IsText self.old.standard (reading_of input.entry) result }
         ensures asked { AsksPath (P.asked self.old.paths) (P.asked self.new.paths)

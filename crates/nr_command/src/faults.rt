@@ -11,6 +11,9 @@ use nr_engine::{Fault, Measure, Outcome, Sink, WriteFault};
 /// Writes the one line that reports how a run ended, and nothing where it is done.
 ///
 /// `WriteFault` where the sink failed; a prefix of the line went out then.
+///
+/// Proved: The line that reports an outcome goes out whole, or a prefix of it where the sink failed; where all is
+/// done there is none.
 pub fn fault_line<W: Sink>(outcome: &Outcome, errors: &mut W) -> Result<(), WriteFault>
     ensures ok { OnOk result (Appends (W.held errors.old) (W.held errors.new) (line_of outcome.now)) }
     ensures err { OnErr result (AppendsFront (W.held errors.old) (W.held errors.new) (line_of outcome.now)) }

@@ -84,6 +84,10 @@ pub fn text_count(job: &Job<'_>) -> usize
 
 /// Opens the texts that a job reads, each once, in the order in which they are read, up to the first that
 /// can't be, each over the next 8 KiB of the buffers as far as there are so many.
+///
+/// Proved: Each text of a job is opened once, in reading order, and nothing else is. If one fails it is the one that
+/// is reported, and none after it is tried. (`open_texts`, `run_words` in program.rt, for each opener that tells what
+/// it was asked for)
 pub fn open_texts<'a, 'b, O: Opener<'b>, M: Memory>(
     memory: &mut M,
     opener: &mut O,
@@ -118,6 +122,9 @@ pub fn open_texts<'a, 'b, O: Opener<'b>, M: Memory>(
 /// Writes the one line that reports a text that can't be opened.
 ///
 /// `WriteFault` where the sink failed; a prefix of the line went out then.
+///
+/// Proved: The line of a text that can't be opened, and that of want of memory, go out whole, or a prefix of each
+/// where the sink failed. (`unopened_line`; `out_of_memory` in running.rt)
 pub fn unopened_line<W: Sink>(input: &Input<'_>, errors: &mut W) -> Result<(), WriteFault>
     ensures ok { OnOk result
         (Appends (W.held errors.old) (W.held errors.new) (unopened_text (reading_of input.now))) }

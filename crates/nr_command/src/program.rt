@@ -74,6 +74,21 @@ fn borrowed(words: &[String], alloc: Global) -> Result<Vec<&str>, AllocError>
 ///
 /// First memory is taken for the buffers of the texts, which come to stand in `buffers`, and for the list
 /// of the texts; then the texts are opened; then the desk is taken; and then the first byte is read.
+///
+/// Proved: A bad word gives status 2 and the line of the first one, nothing is printed or opened then, and no other
+/// run has status 2.
+/// Proved: Good words ask for a job, which comes to one of three ends: the first text that can't be opened, want of
+/// memory, or the outcome of a run over its texts as the one input that they make; status and line report which.
+/// (`run_words`, by `Comes` in Program.antt)
+/// Proved: A read fault is reported where a call of one of the job's texts failed, and nowhere else. (`run_words`, by
+/// `Comes` in Program.antt)
+/// Proved: Want of memory is reported exactly where a call for memory was refused; then the status is 5, the line
+/// says so, and nothing is printed. (`run_words`, `open_texts` in opening.rt; `Memory` in memory.rt counts refused
+/// calls)
+/// Proved: For a job memory is asked for in this order: 8 KiB for each of its texts, room for the list of them, and,
+/// once all of them are open, a desk under its limits. No text is opened before the first two are there, nothing else
+/// is asked for, and nothing at all where a word is bad. (`run_words`, by `Takes` in Memory.antt, for whatever memory
+/// tells what it was asked for)
 pub fn run_words<'b, M: Memory, O: Opener<'b>, W: Sink, E: Sink>(
     memory: &mut M,
     words: &[&str],

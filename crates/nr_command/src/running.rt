@@ -15,6 +15,15 @@ use std::alloc::AllocError;
 ///
 /// Without a desk there was no memory: then it says so, and the status is 5. Nothing is read, and the
 /// output is left alone.
+///
+/// Proved: A run over given streams comes to an outcome of `format`, or to a write fault where the flush failed; its
+/// status and its line report that outcome.
+/// Proved: Where a run over given streams ends with another status than 4 and 5, the output passed on all that was
+/// printed. After a write fault too it is flushed: it passed on all that it took, or the flush failed and was
+/// counted. (`run_over`, by `Ran` in Running.antt)
+/// Proved: Status 5 comes of a run over given streams exactly where there was no desk; then nothing was read and
+/// nothing printed.
+/// Proved: Where the status is 0 nothing went to the error stream. (`run_over`; `run_words` in program.rt)
 pub fn run_over<R: Source, W: Sink, E: Sink>(
     desk: Result<Desk, AllocError>,
     options: &Options,

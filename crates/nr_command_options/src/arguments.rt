@@ -10,6 +10,9 @@ use crate::usage::Usage;
 ///
 /// Options are the words before the first that is `-` or does not begin with `-`; that one and all
 /// after it are files. The first bad option is reported, with how it is bad.
+///
+/// Proved: The words of the command line come to the one answer that the definition allows: a job, or the first bad
+/// word and how it is bad.
 pub fn read_words<'a>(words: &'a [&'a str]) -> Result<Job<'a>, Usage<'a>>
     ensures answer { IsAnswer (texts words.now) (answer_of result) }
 

@@ -43,6 +43,8 @@ pub enum Input<'a> {
 impl<'a> Job<'a> {
     /// The text that is read at a place, counted from 0: the macro files in the order of `-m`, the files,
     /// and standard input where it is read after them. None after the last.
+    ///
+    /// Proved: What a job reads comes in order: macro files, files, standard input.
     pub fn input(&self, place: usize) -> Option<Input<'a>>
         ensures { option_map reading_of result ≡ slice_get (readings (asked_of self.now)) place }
     {

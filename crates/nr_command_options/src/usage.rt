@@ -43,6 +43,9 @@ impl Usage<'_> {
 /// Writes the one line that reports a bad word.
 ///
 /// `WriteFault` where the sink failed; a prefix of the line went out then.
+///
+/// Proved: The line of a bad word goes out whole, or a prefix of it where the sink failed, and its status is 2.
+/// (`usage_line`, `Usage::status`)
 pub fn usage_line<W: Sink>(usage: &Usage<'_>, errors: &mut W) -> Result<(), WriteFault>
     ensures ok { OnOk result
         (Appends (W.held errors.old) (W.held errors.new) (usage_text usage.now.case usage.now.word.now)) }

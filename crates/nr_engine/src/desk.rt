@@ -47,6 +47,9 @@ pub struct Work<'a> {
 
 impl Desk {
     /// Takes all memory that runs under these limits need: `AllocError` where there is not so much.
+    ///
+    /// Proved: A desk is made of as many elements of memory as `sizes` reports, by the count of the allocator.
+    /// Proved: A desk has the limits that it was made for, and is lent as often as wanted. (`Desk::{new, lend}`)
     pub fn new(alloc: &mut CountedAlloc, limits: Limits) -> Result<Desk, AllocError>
         ensures limits { IfOk result (λ desk. desk ≡ limits) }
         ensures taken { IfOk result (λ desk. alloc.new ≡ alloc.old + sum_of (sizes_of limits)) }
@@ -58,6 +61,10 @@ impl Desk {
     }
 
     /// The lengths of the vectors that hold a run's memory, as these tell. They never change.
+    ///
+    /// Proved: The vectors of a desk, asked one by one, have the lengths that its limits ask for, whatever was
+    /// formatted. (`Desk::memory`, by the invariants of the eighteen vectors' holders; `format` in run.rt keeps the
+    /// desk's limits)
     pub fn memory(&self) -> Sizes
         ensures sizes { result ≡ sizes_of self.now }
         ensures bound { sum_of result ≤ 4 * self.now.stored + 4 * self.now.depth + 6 * self.now.cells + 8192 }

@@ -79,6 +79,8 @@ fn run<R: Source, W: Sink>(
 }
 
 /// A run under these limits, from the beginning.
+///
+/// Proved: The limits that stand in an engine are at the end of its run as at the beginning, however it ends.
 fn run_in<R: Source, W: Sink>(
     engine: &mut Engine,
     limits: Limits,
@@ -107,6 +109,19 @@ fn run_in<R: Source, W: Sink>(
 /// Formats the input until the run ends, a limit would be passed or the input or the output fails, and
 /// sets `moves` to the number of moves made. Where one more move would pass the limit of all moves, none is
 /// made, whatever else would stop it. It consumes its working space.
+///
+/// Proved: The pages that go out, those selected, are those that the machine of the definition has ended after the
+/// moves made, and all of them where the answer is `Done`.
+/// Proved: A limit that is named is the first measure that the next move would bring above its limit, with the number
+/// of input bytes taken (but for a `\` that the text of `.ds` or `.as` begins with), and no earlier move would have
+/// passed one.
+/// Proved: A read fault, an input too long and a write fault are reported where the definition says, and what went
+/// out is all pages that had ended, before a write fault with a prefix of the next.
+/// Proved: A fault is reported only where a call of the source or the sink failed, and each failed call is reported,
+/// counted modulo 2^64.
+/// Proved: There are on the whole at most `256 · (X + 1) · (S + P + D + 4)` moves for each byte of the input that was
+/// taken, and as many besides.
+/// Proved: The limits of a desk stay as they were. (`format`; `Desk::lend` in desk.rt)
 pub fn format<R: Source, W: Sink>(
     work: Work<'_>,
     options: &Options,

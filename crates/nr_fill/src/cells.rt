@@ -12,6 +12,9 @@ use crate::setting::Extra;
 use nr_vectors::cell::Cell;
 
 /// Takes the cells of a row one after another.
+///
+/// Proved: A line or a title is set in whatever takes cells, and how wide it is does not depend on that. (`CellSink`;
+/// `Line::take_line` in taking.rt; `Line::set_title` in titling.rt)
 pub trait CellSink {
     /// These cells were added between the one and the other.
     ghost Adds: { Self → List CellValue → Self → Type 0 };

@@ -95,6 +95,9 @@ impl Line {
     }
 
     /// How many cells there is memory for, as their vector tells.
+    ///
+    /// Proved: A line has the memory that its limit asks for, and a row that of its capacity. (`Line::{cell_memory,
+    /// piece_memory}`; `Out::memory` in out.rt)
     pub fn cell_memory(&self) -> usize
         ensures { result ≡ self.now.limit }
     {
@@ -197,6 +200,8 @@ impl Line {
     }
 
     /// 1 and its cells for each piece, and the cells of the word and of the title.
+    ///
+    /// Proved: The measure of the line never passes its limit.
     #[inline]
     pub fn measure(&self) -> usize
         ensures value { result ≡ line_cells self.now.collected }

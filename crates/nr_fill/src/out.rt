@@ -67,6 +67,8 @@ impl Out {
     }
 
     /// The row without the blanks at its end, where there was room for it.
+    ///
+    /// Proved: A row reports that it is longer than its capacity.
     pub fn row(&self) -> Option<&[Cell]>
         ensures { (cells : List CellValue) → IsRow cells self.now →
             MatchOption result (self.now.capacity < length (trimmed cells)) (λ row. row.now ≡ trimmed cells) }

@@ -42,6 +42,9 @@ impl Line {
     /// Reads a prefix of these bytes as cells of a word, of this look, as many calls of `put` would: up to the first
     /// that is not plain or whose cell would pass the limit. Tells how many it read. It takes the time of one pass
     /// over those bytes.
+    ///
+    /// Proved: A run of plain bytes, and a word with the blank after it, are put as byte by byte, as many as can be.
+    /// (`Line::{put_run, put_word}`)
     pub fn put_run(&mut self, margins: Margins, look: Look, bytes: &[u8]) -> usize
         ensures front { result ≤ length bytes.now }
         ensures plain { All IsPlain (take result bytes.now) }
@@ -193,6 +196,9 @@ impl Line {
 
     /// Reads the blanks that these bytes begin with as cells, as many calls of `put_blank` would: up to the first byte that is none, or
     /// whose cell would pass the limit. Tells how many it read.
+    ///
+    /// Proved: Blanks that are cells are put as one by one, each within the limit; how many is not claimed, and costs
+    /// speed alone.
     pub fn put_blanks(&mut self, margins: Margins, bytes: &[u8]) -> usize
         ensures front { result ≤ length bytes.now }
         ensures blanks { take result bytes.now ≡ replicate result (code " ") }

@@ -54,6 +54,9 @@ impl Line {
     /// Sets in a row, after what stands there, the longest prefix of the pieces that fits, with its hyphen where it is
     /// cut at a soft point, and one piece where none fits. What is left takes the margins `next`. Tells how wide the
     /// text is, in cells, without the blanks at its end; the row keeps them. A word that is being read stays.
+    ///
+    /// Proved: The line that goes out is the longest prefix that fits with its hyphen, or one piece where none does,
+    /// spread by turns or set right, centred or at the left, and the rest stays.
     pub fn take_line<S: CellSink>(&mut self, next: Margins, setting: Setting, out: &mut S) -> usize
         requires pieces { 0 < length self.old.collected.pieces }
         ensures out { S.Adds out.old (line_row setting self.old.collected (cut_of self.old.collected))
@@ -72,6 +75,8 @@ impl Line {
     /// Sets all pieces as one line in a row, after what stands there, as in no-fill mode and where lines are centred.
     /// A word that is being read stays, and takes the margins `next`. Tells how wide the text is, in cells, without the
     /// blanks at its end; the row keeps them.
+    ///
+    /// Proved: All that is collected goes out as one line where that is asked for.
     pub fn take_all<S: CellSink>(&mut self, next: Margins, setting: Setting, out: &mut S) -> usize
         requires pieces { 0 < length self.old.collected.pieces }
         ensures out { S.Adds out.old (line_row setting self.old.collected (length self.old.collected.pieces))

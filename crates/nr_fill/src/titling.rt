@@ -12,6 +12,9 @@ use nr_vectors::cell::Cell;
 impl Line {
     /// A title begins with its left part, which has no cells yet. It shares the line's cells: what is added to the
     /// line while a title is read gives the title up.
+    ///
+    /// Proved: A title is read part by part and set with its three parts in their places. (`Line::{begin_title,
+    /// put_title, end_part, set_title}`)
     pub fn begin_title(&mut self)
         ensures { self.new ≡ record self.old { collected = with_title self.old.collected } }
     {

@@ -135,6 +135,13 @@ impl Line {
 
     /// Reads one more cell of a word; the first cell of a line gives it its margins. It fails where the cell would
     /// pass the limit.
+    ///
+    /// Proved: Each cell, blank, break point, mark, tab and gap makes of the collected line what the definition says.
+    /// (`Line::{put, put_blank, put_cells, mark, bar, hyphenate, widen_gap, newline_gap}`; `Line::{tab, end_field}`
+    /// in tabs.rt)
+    /// Proved: `LineCells` is answered exactly where the measure would pass the limit, and then nothing has changed.
+    /// (`Line::{put, put_blank, put_cells, end_word}`; `Line::{tab, end_field}` in tabs.rt; `Line::put_title` in
+    /// titling.rt)
     #[inline(always)]
     pub fn put(&mut self, margins: Margins, cell: Cell, behind: Behind) -> Result<(), LineCells>
         ensures result { result
@@ -334,6 +341,8 @@ impl Line {
     }
 
     /// The word, where there is one, becomes pieces of the line. It fails where they would pass the limit.
+    ///
+    /// Proved: A word ends as its pieces, or as one piece. (`Line::{end_word, join_word, drop_blanks}`)
     #[inline(always)]
     pub fn end_word(&mut self) -> Result<(), LineCells>
         ensures result { result ≡ afforded (record self.old { collected = end_word self.old.collected }) }

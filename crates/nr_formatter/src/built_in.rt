@@ -93,6 +93,9 @@ impl BuiltInRegister {
     }
 
     /// The built-in register of this name, if there is one.
+    ///
+    /// Proved: Built-in registers have the names and the values of the definition. (`BuiltInRegister::of`;
+    /// `Formatter::give_register` in registers.rt)
     pub fn of(name: &[u8]) -> Option<BuiltInRegister>
         ensures register { result ≡ given_named name.now }
         // These are the names that the reader takes for built-in registers.

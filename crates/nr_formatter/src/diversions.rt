@@ -102,6 +102,9 @@ impl Formatter {
 
     /// The line that goes out next goes into the diversion, as high as lines are and without the page offset, and
     /// ends no-space mode.
+    ///
+    /// Proved: A line, a title, space and a line that is read again go into a diversion, lines and titles however
+    /// long. (`Formatter::{divert_line, divert_title, divert_space, divert_cell, divert_line_end}`)
     pub fn divert_line(&mut self, going: Going) -> Result<(), StoredBytes>
         requires pieces { 0 < length (collected self.old).pieces }
         ensures result { result ≡ afforded (divert_line going self.old).store tt }

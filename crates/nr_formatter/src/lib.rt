@@ -6,6 +6,8 @@
 //! `springing`, `diversion_row`, `diversions`, `built_in`, `registers`, `names`, `conditions`, `settings`,
 //! `ending`; `requests` and `moves`, the tables of them; `runs`, `cell_bytes`, `empty_lines` and `obeying`, many moves
 //! at once.
+//!
+//! Proved: Each move is one equation between the formatter before and after.
 #![tactic(auto)]
 
 pub mod built_in;

@@ -5,6 +5,8 @@ use crate::formatter::Formatter;
 
 impl Formatter {
     /// What is stored, the levels and the line are within their limits, whatever was done.
+    ///
+    /// Proved: What is stored, the levels and the line are never above their limits.
     #[inline]
     pub fn fit_memory(&self)
         ensures { FitsMemory self.now }

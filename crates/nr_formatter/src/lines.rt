@@ -179,6 +179,9 @@ impl Formatter {
     }
 
     /// The line that goes out next where a word or a text line ended: a full one; with `\p` the rest, as a full one.
+    ///
+    /// Proved: Which line goes out next where a word, a text line or a break ended is one function of the formatter.
+    /// (`Formatter::{flow_line, break_line}`)
     pub fn flow_line(&self, after: After, breaks: bool) -> Option<Going>
         ensures { result ≡ flow_line after breaks self.now }
     {
@@ -212,6 +215,9 @@ impl Formatter {
     }
 
     /// Sets the line that goes out next in a row after what stands there, so many cells on, and takes it away.
+    ///
+    /// Proved: The line that goes out, and what it leaves, are the definition's. (`Formatter::{set_line, flow_done,
+    /// break_done, break_word_end}`)
     pub fn set_line<S: CellSink>(&mut self, going: Going, offset: u32, out: &mut S)
         requires { 0 < length (collected self.old).pieces }
         ensures out { S.Adds out.old (row_going going offset self.old) out.new }

@@ -154,6 +154,19 @@ impl Formatter {
     }
 
     /// What was read is acted on.
+    ///
+    /// Proved: What was read is acted on as the definition says: text, titles, fonts, widths, conditions, the lines
+    /// of requests.
+    /// Proved: A move is refused for the first measure that it would bring above its limit, and only then.
+    /// (`Formatter::{hear, work}`; `Formatter::spring` in springing.rt; `Formatter::eject_to` in pages.rt;
+    /// `Formatter::set_register` in registers.rt)
+    /// Proved: The limits that stand in a formatter stay where a call is refused as where it is made.
+    /// (`Formatter::{hear, work}`; `Formatter::spring` in springing.rt; `Formatter::eject_to` in pages.rt;
+    /// `Formatter::break_word_end` in lines.rt; `Formatter::{divert_line, divert_title, divert_space, divert_cell,
+    /// divert_line_end}` in diversions.rt; `Formatter::set_register` in registers.rt)
+    /// Proved: Each move reports by how much the number of moves that may still come before the next byte falls, or
+    /// rises where an earlier move has paid for that. (`Formatter::{hear, work}`; `Formatter::set_line` in lines.rt;
+    /// `Formatter::{line_placed, begin_page, page_ended}` in pages.rt; `Formatter::{spring, resume}` in springing.rt)
     #[inline]
     pub fn hear(&mut self, event: Event) -> Result<(), Passed>
         ensures result { IsWithin self.old → result ≡ judged (heard event self.old) }
@@ -210,6 +223,10 @@ impl Formatter {
     }
 
     /// What is under way goes on, where it needs neither the source nor the page nor the output.
+    ///
+    /// Proved: What is under way goes on as the definition says: each request under its own name, counting lines,
+    /// turning pages, the steps of the end. (`Formatter::work`; `Formatter::act` in requests.rt; `Formatter::finish`
+    /// in ending.rt)
     pub fn work(&mut self, task: Task) -> Result<(), Passed>
         ensures result { IsWithin self.old → result ≡ judged (worked task self.old) }
         ensures ok { OnOk result (self.new ≡ worked task self.old) }

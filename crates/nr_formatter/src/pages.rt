@@ -106,6 +106,9 @@ impl Formatter {
     }
 
     /// A line of this height, in u, was placed. It ends no-space mode.
+    ///
+    /// Proved: A line that was placed moves the place down, and the nearest trap that it passes or reaches springs,
+    /// and no other.
     #[inline]
     pub fn line_placed(&mut self, height: u32)
         ensures is { self.new ≡ line_placed height self.old }
@@ -125,6 +128,9 @@ impl Formatter {
     }
 
     /// A page begins at its top, and the trap there springs.
+    ///
+    /// Proved: A page begins, ends and is ejected from trap to trap as the definition says. (`Formatter::{begin_page,
+    /// page_ended, next_springing, eject_to}`)
     pub fn begin_page(&mut self)
         ensures is { self.new ≡ page_begun self.old }
         ensures opened { 0 < self.old.settings.pages.page_length → is_open self.old.paper.state ≡ false

@@ -32,6 +32,8 @@ impl Formatter {
     }
 
     /// Space of so many u goes down on the open page, to the next trap or the bottom at most.
+    ///
+    /// Proved: Space goes down to the next trap or the bottom at most.
     pub fn space_down(&mut self, distance: u32)
         ensures is { self.new ≡ spaced distance self.old }
         ensures falls { self.old.event ≡ events.Nothing → self.old.task ≡ tasks.Space distance

@@ -29,6 +29,9 @@ impl Formatter {
     }
 
     /// The macro of this name springs. A name without text springs nothing.
+    ///
+    /// Proved: A macro springs before the rest of the input, and after it what was interrupted is gone on with.
+    /// (`Formatter::{spring, resume}`)
     pub fn spring(&mut self, name: Name) -> Result<(), Refusal>
         ensures result { IsWithin self.old → result ≡ splice_checked (sprung name self.old) }
         ensures ok { OnOk result (self.new ≡ sprung name self.old) }

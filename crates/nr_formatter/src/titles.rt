@@ -219,6 +219,8 @@ impl Formatter {
     }
 
     /// Sets the title that was read in a row after what stands there, so many cells on, and takes it away.
+    ///
+    /// Proved: A title goes out with its parts, and is gone then.
     pub fn set_title<S: CellSink>(&mut self, offset: u32, out: &mut S)
         ensures out { S.Adds out.old (title_row offset self.old) out.new }
         ensures rest { self.new ≡ title_set self.old }

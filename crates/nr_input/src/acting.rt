@@ -333,6 +333,9 @@ impl Reader {
     }
 
     /// Does what is due.
+    ///
+    /// Proved: What is due with the store is done as the definition says, which knows no limit, or refused where a
+    /// limit would be passed, and where that leaves all is reported.
     pub fn act<K: Copy>(&mut self, store: &mut Store<K>) -> Result<Event, Refusal>
         ensures { called store.new self.new result ≡ acted self.old.half.reading.due store.old self.old }
     {

@@ -74,6 +74,21 @@ fn look<K: Copy, R: Source>(
 
 /// One move: it takes an item, or makes a splice, or adds an element, or sees what is next. Where it takes the mark
 /// after a sprung text, it puts what was under way into `mode`.
+///
+/// Proved: Each move of the reader is the definition's, made where the definition makes it, or is refused for the
+/// reason reported where the definition refuses it for that.
+/// Proved: A byte that was read ahead and not taken is still to come.
+/// Proved: A read fault is reported only where a call of the source has failed, and each call that fails is reported.
+/// (`advance`; `read_run` in fast_input/runs.rt)
+/// Proved: A move that is made leaves a source that had not failed as one that has not failed. (`advance`; `read_run`
+/// in fast_input/runs.rt)
+/// Proved: A read fault, or an input too long, is answered again by each move that would look at the source.
+/// Proved: Each move is paid for: by a byte of the source, an item of the list, a splice, or what is half read.
+/// (`advance`; `read_run` in fast_input/runs.rt; `Reader::{give, spring, define}` in splicing.rt)
+/// Proved: No move of the reader makes the open diversions more.
+/// Proved: The limits that stand in what is stored and in the reader stay, whether a call is made or refused.
+/// (`advance`; `read_run` in fast_input/runs.rt; `read_next`, `read_control_line` in fast_input/control_lines.rt;
+/// `Reader::{give, spring, define}` in splicing.rt)
 pub fn advance<K: Copy, R: Source>(
     place: &mut Place,
     reader: &mut Reader,

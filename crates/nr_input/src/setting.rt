@@ -16,6 +16,9 @@ impl Reader {
     ghost use Rattle.nr_input.specs.Weights.{CostsAtMost, cost_of_standing};
 
     /// The condition that was to be judged holds, or not. One that is not judged is rejected.
+    ///
+    /// Proved: What sets what is read next costs a fixed number of moves at most. (`Reader::{accept, begin_title,
+    /// begin_diverted_line, stand}`)
     pub fn accept(&mut self, holds: bool)
         ensures sets { self.new ≡ on_half (judged holds) self.old }
         ensures costs { CostsAtMost weight_of_judged self.old.half self.new.half }

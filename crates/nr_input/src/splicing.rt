@@ -50,6 +50,9 @@ impl Reader {
     ghost use Rattle.nr_input.specs.Weights.{Splices, Springs, Defines};
 
     /// Splices the text of a built-in register, or of a width.
+    ///
+    /// Proved: Texts are given, sprung and begun to be defined as the definition says, and what is left of the source
+    /// is dropped. (`Reader::{give, spring, define}`; `Place::empty` in place.rt)
     pub fn give<K: Copy>(&mut self, store: &mut Store<K>, bytes: &[u8]) -> Result<(), Refusal>
         ensures gives { called store.new self.new result ≡ giving bytes.now store.old self.old }
         ensures pays { OnOk result (Splices store.old self.old store.new self.new) }

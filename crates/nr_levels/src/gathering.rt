@@ -81,6 +81,9 @@ impl Gathering {
     }
 
     /// Adds a byte to the one under way, where fewer than nine are read whole.
+    ///
+    /// Proved: The arguments of a macro are gathered byte by byte or many at once; nine count. (`Gathering::{push,
+    /// extend, end, clear}`)
     #[inline]
     pub fn push(&mut self, byte: u8)
         requires { gathered_len self.old.gathered < self.old.capacity }

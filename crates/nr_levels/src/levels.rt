@@ -148,6 +148,9 @@ impl<K: Copy> Levels<K> {
     }
 
     /// What the newest level gives next.
+    ///
+    /// Proved: What comes next of the newest level, and all that is left of it, are those of the definition.
+    /// (`Levels::{front, rest}`)
     #[inline(always)]
     pub fn front(&self) -> Next
         ensures { Comes result (front_of self.now.levels) }
@@ -188,6 +191,8 @@ impl<K: Copy> Levels<K> {
     }
 
     /// Takes the mode that comes next away, and puts it into `mode`.
+    ///
+    /// Proved: After the end of a sprung text the mode is resumed that it interrupted.
     pub fn resume(&mut self, mode: &mut K)
         requires { HasMark (front_of self.old.levels) }
         ensures mode { front_of self.old.levels ≡ Some (fronts.Resume mode.new) }
@@ -207,6 +212,8 @@ impl<K: Copy> Levels<K> {
     }
 
     /// The newest level goes on after the element that it gave.
+    ///
+    /// Proved: The newest level goes on by one element or by many, as asked. (`Levels::{advance, skip}`)
     #[inline]
     pub fn advance(&mut self)
         requires { HasNext (front_of self.old.levels) }
@@ -228,6 +235,9 @@ impl<K: Copy> Levels<K> {
     }
 
     /// Opens a level that reads a text, with no arguments in force, and with a mode to resume after its end.
+    ///
+    /// Proved: A level is opened over a text, a macro with its arguments, bytes, or an argument that is in force.
+    /// (`Levels::{open_text, open_call, open_bytes, open_argument}`)
     #[inline(always)]
     pub fn open_text(&mut self, id: Id, charge: u32, resume: Option<K>)
         requires room { length self.old.levels < self.old.most }
@@ -345,6 +355,9 @@ impl<K: Copy> Levels<K> {
 
     /// Takes the newest level's end, and gives its charge back: the arguments before it are in force again. The mode
     /// that is to be resumed, if there is one, then comes next.
+    ///
+    /// Proved: The end of a level restores the arguments that were in force before it, byte for byte, and reports
+    /// what the level was charged.
     #[inline]
     pub fn close(&mut self) -> u32
         requires { HasEnd (front_of self.old.levels) }

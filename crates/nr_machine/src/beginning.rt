@@ -21,6 +21,8 @@ use nr_vectors::CountedAlloc;
 use std::alloc::AllocError;
 
 /// The lengths that the limits ask for.
+///
+/// Proved: The room that the limits ask for is `4S + 4D + 6P + 8192` elements at most.
 pub fn sizes(limits: Limits) -> Sizes
     ensures value { result ≡ sizes_of limits }
     ensures bound { sum_of result ≤ 4 * limits.stored + 4 * limits.depth + 6 * limits.cells + 8192 }
@@ -55,6 +57,8 @@ pub fn sizes(limits: Limits) -> Sizes
 impl Engine {
     /// Nothing is read yet, and nothing placed: `AllocError` where there is no memory for what the limits allow. No other call
     /// allocates.
+    ///
+    /// Proved: An engine is made of as many elements of memory as `sizes` reports, by the count of the allocator.
     pub fn new(alloc: &mut CountedAlloc, limits: Limits) -> Result<Engine, AllocError>
         ensures limits { IfOk result (λ engine. limits_of (shape engine) ≡ limits_under limits) }
         ensures taken { IfOk result (λ engine. alloc.new ≡ alloc.old + sum_of (sizes_of limits)) }
@@ -81,6 +85,9 @@ impl Engine {
     }
 
     /// Nothing is read yet, and nothing placed, under the limits that it was made for. What is printed is as the options say.
+    ///
+    /// Proved: An engine that is emptied stands where the machine begins: nothing is read and nothing placed, under
+    /// the limits that it was made for.
     pub fn clear(&mut self, limits: Limits, options: &Options)
         requires { limits_of (shape self.old) ≡ limits_under limits }
         ensures is_new { IsNew limits options.now (shape self.new) }

@@ -38,6 +38,8 @@ impl Engine {
     }
 
     /// The options take effect, each as a move. Sets `moves` to how many were made.
+    ///
+    /// Proved: Each option is one move of the machine, up to the first that would pass a limit.
     pub fn choose(&mut self, options: &Options, moves: &mut u128) -> Result<(), Outcome>
         ensures chooses { ChoosesAll options.now (shape self.old) (shape self.new) moves.new result }
         ensures limits { limits_of (shape self.new) ≡ limits_of (shape self.old) }

@@ -228,6 +228,10 @@ impl Engine {
     }
 
     /// One move, or why the run stops.
+    ///
+    /// Proved: One move in the program is one move of the machine, or the reason why none is made.
+    /// Proved: The limits that stand in an engine are after each move as before it, and after the options.
+    /// (`Engine::advance`, `Engine::choose` in choosing.rt)
     #[inline(always)]
     pub fn advance<R: Source, W: Sink>(
         &mut self,

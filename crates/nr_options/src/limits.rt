@@ -78,6 +78,8 @@ impl Model for Limits {
 impl Limits {
     /// None outside the ranges: 64 to 2^24 stored bytes, a depth of 1 to 4096, 1 to 2^24 cells, 1 to
     /// 2^32 expansions, 64 to 2^64 - 1 moves.
+    ///
+    /// Proved: Limits are made exactly where each lies in its range. (`Limits::new`, `Limit::admits`)
     pub fn new(stored: u64, depth: u64, cells: u64, expansions: u64, moves: u64) -> Option<Limits>
         ensures ranges { IsSome result ↔ AreLimits (record {
           stored = stored;
@@ -112,6 +114,8 @@ impl Limits {
     }
 
     /// Sets one limit; the others stay.
+    ///
+    /// Proved: One limit is set and the others stay.
     pub fn set(&mut self, limit: Limit, number: u64)
         requires { IsInRange limit number }
         ensures { self.new ≡ with_bound limit number self.old }
@@ -174,6 +178,7 @@ impl Default for Limits {
 
     ghost is_default = { λ limits. limits ≡ default_bounds };
 
+    /// Proved: The limits where none is given are the manual's.
     fn default() -> Self {
         Limits {
             stored: 262_144,

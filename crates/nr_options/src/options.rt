@@ -26,6 +26,8 @@ pub struct Options {
 
 impl Options {
     /// The first page is page 1, no register is set, all pages are printed, and of faces underlined letters show.
+    ///
+    /// Proved: Without options the first page is 1, no register is set and all pages are printed.
     pub fn plain() -> Options
         ensures first { result.first ≡ pos 1 }
         ensures registers { result.registers.items ≡ [] }

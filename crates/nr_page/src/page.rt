@@ -80,6 +80,9 @@ impl Model for Page {
 
 impl Page {
     /// An empty page: `AllocError` where there is not the memory that `capacity` tells.
+    ///
+    /// Proved: A page holds the lines that were placed on it: it shows what they show, reaches as far down, and is
+    /// charged 1 and its cells for each. (`Page::{new, place, clear, charge}`)
     pub fn new(alloc: &mut CountedAlloc, limit: usize) -> Result<Page, AllocError>
         requires in_range { limit < 2 ^ 32 }
         ensures empty { IfOk result (λ page. Holds [] page) }
@@ -97,6 +100,8 @@ impl Page {
     }
 
     /// How many elements there is memory for, as the vectors tell.
+    ///
+    /// Proved: A page has the memory that its limit asks for, no more and no less.
     pub fn memory(&self) -> PageRoom
         ensures cells { result.cells ≡ self.now.limit }
         ensures texts { result.texts ≡ self.now.limit / 2 }
@@ -120,6 +125,9 @@ impl Page {
 
     /// Places a line on a row, counted from 0 at the top: its cells from column 0 on. `PageCells` where the limit would be
     /// passed; then nothing has changed.
+    ///
+    /// Proved: `PageCells` is answered exactly where the page's charge would pass the limit, and then nothing has
+    /// changed.
     pub fn place(&mut self, row: u32, cells: &[Cell]) -> Result<(), PageCells>
         ensures ok { OnOk result ((lines : List Placed) → Holds lines self.old
             → Holds (lines ++ (record { row = row; cells = cells.now }) ∷ []) self.new) }
@@ -141,6 +149,12 @@ impl Page {
     /// trailing blanks and has a newline after it. What `faces` shows as underlined is `_`, a backspace and the byte,
     /// and what it shows as bold the byte, a backspace and the byte.
     /// `WriteFault` where the sink failed; a prefix of the bytes went out then.
+    ///
+    /// Proved: The bytes of a page are those of the grid: at each place the last cell placed there that is no blank,
+    /// rows without blanks at their ends, each cell as the faces show it (underlined letters and digits, or each cell
+    /// but a blank that is underlined, as `_`, backspace and the byte, and bold ones as the byte, backspace and the
+    /// byte), as many rows as asked for or down to the lowest line.
+    /// Proved: Where the sink failed, a prefix of the page's bytes went out.
     pub fn write_page<W: Sink>(
         &self,
         faces: Faces,

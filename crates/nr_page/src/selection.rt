@@ -100,6 +100,8 @@ impl Select {
     /// Reads a page list (CSTR 54, "Usage", the option `-o`): items `N`, `N-M` with N not above M, `-N` and `N-`,
     /// 1 to 64 of them, separated by commas. A number is decimal digits, at most 2147483647; leading zeros are
     /// allowed, a sign or a blank isn't. `BadList` where the text is no such list.
+    ///
+    /// Proved: A page list is read exactly where a text spells one, of 1 to 64 items.
     pub fn parse(text: &[u8]) -> Result<Self, BadList>
         ensures listed { IfOk result (λ select. IsSomeAnd select (λ items. IsPageList items text.now)) }
         ensures read { (items : List Item) → IsPageList items text.now → result ≡ Ok (Some items) }
@@ -124,6 +126,9 @@ impl Select {
     }
 
     /// Whether the page of that number is selected. The number may be 0 or negative: `-N` selects those pages too.
+    ///
+    /// Proved: A page is selected exactly where an item of the list names it, or there is no list. (`Select::{has,
+    /// all}`)
     pub fn has(&self, page: i64) -> bool
         ensures { IsTrue result ↔ Selects self.now page }
     {

@@ -48,6 +48,8 @@ impl Model for Id {
 /// last or has no elements; else such passes, and as many steps as it has elements where more than 64 lie after it and
 /// the text that lies last is as long; else one move of the elements after it. Beside that each takes constant time, and
 /// that of a copy of the elements that it is given.
+///
+/// Proved: Each call for one text leaves all other texts as they are.
 #[derive(Drop)]
 pub struct Pool<T: Copy> {
     // The elements of the texts lie at the front. What lies after them is of no account.
@@ -114,6 +116,9 @@ impl<T: Copy> Pool<T> {
 
     /// A new text, with no elements and one holder, in constant time. It fails if every number has a text,
     /// and then nothing has changed.
+    ///
+    /// Proved: A text is opened empty, with one holder, under a number that had none; it is refused exactly where
+    /// every number has a text.
     pub fn open(&mut self) -> Result<Id, Full>
         ensures full { IsErr result ↔ All (λ t. 0 < t.holders) self.old.texts }
         ensures unused { IfOk result (λ id. slice_get self.old.texts id ≡ Some no_text) }
@@ -170,6 +175,9 @@ impl<T: Copy> Pool<T> {
     }
 
     /// How many hold a text: at least one, and fewer than 2^32.
+    ///
+    /// Proved: How many hold a text is reported, how long it is, and how many elements all texts have.
+    /// (`Pool::{holders, len, used}`)
     pub fn holders(&self, id: Id) -> usize
         requires { IsOpen self.now id }
         ensures { result ≡ holders self.now id }
@@ -178,6 +186,8 @@ impl<T: Copy> Pool<T> {
     }
 
     /// One holder more of a text. The caller keeps the number of holders below 2^32.
+    ///
+    /// Proved: A text goes with its last holder. (`Pool::{hold, release, close}`)
     pub fn hold(&mut self, id: Id)
         requires is_open { IsOpen self.old id }
         requires fits { holders self.old id + 1 < 2 ^ 32 }
@@ -220,6 +230,8 @@ impl<T: Copy> Pool<T> {
     }
 
     /// Removes all texts, whoever holds them, in constant time.
+    ///
+    /// Proved: All texts are removed at once.
     pub fn remove_all(&mut self)
         ensures capacity { self.new.capacity ≡ self.old.capacity }
         ensures empty { self.new.texts ≡ replicate (length self.old.texts) no_text }
@@ -238,6 +250,9 @@ impl<T: Copy> Pool<T> {
     }
 
     /// The element at a place of a text.
+    ///
+    /// Proved: An element is read or replaced at its place, and a text is shortened or emptied. (`Pool::{get, text,
+    /// set, truncate, clear}`)
     pub fn get(&self, id: Id, place: usize) -> T
         requires is_open { IsOpen self.now id }
         requires within { place < length (text self.now id) }
@@ -273,6 +288,9 @@ impl<T: Copy> Pool<T> {
 
     /// Puts an element at the end of a text. It fails if the texts have as many elements as there is room
     /// for, and then nothing has changed.
+    ///
+    /// Proved: Elements are added at the end of a text; they are refused exactly where all texts together would have
+    /// more than there is room for, and then nothing has changed. (`Pool::{append, append_slice, copy_text}`)
     pub fn append(&mut self, id: Id, element: T) -> Result<(), Full>
         requires { IsOpen self.old id }
         ensures full { IsErr result ↔ (used self.old ≡ self.old.capacity) }

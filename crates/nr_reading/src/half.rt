@@ -384,6 +384,11 @@ impl Half {
     }
 
     /// What the item in front does.
+    ///
+    /// Proved: What an item of the input does to what is half read is one function of plain values, whatever the item
+    /// and the mode.
+    /// Proved: What an item brings is paid by it or by what was half read, so no mode leaves an item for ever.
+    /// (`Half::meet`; `Half::meet_run` in many/runs.rt)
     #[inline(never)]
     pub fn meet(&mut self, front: Front) -> Seen
         ensures meets { met self.new result ≡ meet front self.old }

@@ -7,6 +7,8 @@
 //! items at once, with `passing`, `row`, `control_names`, `interpolations`, `arguments`, `request_lines`, `braces` and
 //! `defined_texts`; and a file for each group of modes whose rows have loops of their own, `line_rows`, `condition_rows`,
 //! `request_rows`, `part_rows`, `argument_rows`, `string_rows`.
+//!
+//! Proved: The end of a level does nothing to what is half read. (`meet-mark` in Marks.antt)
 #![tactic(auto)]
 
 mod answers;

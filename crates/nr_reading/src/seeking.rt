@@ -31,6 +31,9 @@ impl Half {
     }
 
     /// The name calls this.
+    ///
+    /// Proved: What the name of a control line calls, and what the answer of a condition leads to, are functions of
+    /// plain values too. (`Half::seek`; `Half::judge` in conditionals.rt)
     pub fn seek(&mut self, calls: Calls)
         ensures { self.new ≡ sought calls self.old }
     {

@@ -14,6 +14,9 @@ impl Half {
     ghost use Rattle.nr_reading.specs.Mode.{standing_of};
 
     /// Sets the control character.
+    ///
+    /// Proved: What is set from outside sets what the definition says. (`Half::{set_control, set_long_names, spring,
+    /// stand, define}`)
     pub fn set_control(&mut self, byte: u8)
         ensures { self.new ≡ with_control byte self.old }
     {

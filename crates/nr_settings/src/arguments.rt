@@ -94,6 +94,9 @@ impl<'a> Arguments<'a> {
 
     /// The next argument as a name of at most two bytes, or of as many as there are where long names are on. None
     /// where there is none, or one of more than 32 bytes.
+    ///
+    /// Proved: The next name, number or word of a request's line, and what stands after it, are those of the
+    /// definition. (`Arguments::{name, number, word, byte}`)
     pub fn name(&mut self, long: bool) -> Option<Name>
         ensures name { result ≡ name_in long self.old.rest.now }
         ensures rest { self.new.rest.now ≡ behind_name long self.old.rest.now }

@@ -51,6 +51,9 @@ impl Filling {
     }
 
     /// `.fi`
+    ///
+    /// Proved: `.fi .nf .ad .na .ce` each change filling, adjusting and centring by one equation. (`Filling::{fi, nf,
+    /// ad, na, ce}`)
     pub fn fi(&mut self)
         ensures { self.new ≡ fi self.old }
     {
@@ -109,6 +112,9 @@ impl Filling {
     }
 
     /// How a line is set; `full` where it goes out because it is full, or by `\p`.
+    ///
+    /// Proved: How a line is set and which margins it has is one function of the settings. (`Filling::align`;
+    /// `Indents::{margins, take_margins}` in indents.rt)
     pub fn align(&self, full: bool) -> Align
         ensures { result ≡ align_of full self.now }
     {

@@ -91,6 +91,9 @@ impl Fonts {
     }
 
     /// `.ft`
+    ///
+    /// Proved: `.ft .ul` and `\f` each change the font or the lines to be underlined by one equation, and from these
+    /// come the looks of cells. (`Fonts::{ft, ul, set, look, cell}`)
     pub fn ft(&mut self, line: &[u8], long: bool)
         ensures { self.new ≡ ft line.now long self.old }
     {

@@ -20,6 +20,9 @@ impl Hyphenation {
     }
 
     /// `.hy`
+    ///
+    /// Proved: `.hy .nh .cc .c2 .cp` each set what the definition says. (`Hyphenation::{hy, nh}`; `cc`, `c2`, `cp` in
+    /// characters.rt)
     pub fn hy(&mut self, line: &[u8], v: Height)
         ensures { self.new ≡ hy line.now v self.old }
     {

@@ -85,6 +85,9 @@ impl Indents {
     }
 
     /// `.in`
+    ///
+    /// Proved: `.in .ti .po .ll .lt` each change the indents and lengths by one equation. (`Indents::{in_, ti, po,
+    /// ll, lt}`)
     pub fn in_(&mut self, line: &[u8], v: Height)
         ensures { self.new ≡ in_ line.now v self.old }
     {

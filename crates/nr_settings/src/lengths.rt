@@ -69,6 +69,9 @@ impl Width {
     }
 
     /// In characters.
+    ///
+    /// Proved: Every width is whole characters, 0 to 1365, and every height whole lines, 1 to 819. (`Width::cells`,
+    /// `Height::rows`)
     #[inline]
     pub fn cells(&self) -> u32
         ensures value { 24 * result ≡ self.now }

@@ -38,6 +38,8 @@ fn motion_by(units: Option<i64>) -> Option<Width>
 
 /// The width of the motion `\h'N'`, `here` being the present column in units: None where its number is absent, invalid
 /// or negative. One past 32760 is 32760.
+///
+/// Proved: `\h` and `\l` make as many cells as the definition says. (`motion`, `rule`)
 pub fn motion(argument: &[u8], v: Height, here: i64) -> Option<Width>
     ensures { result ≡ motion v here argument.now }
 {

@@ -32,6 +32,9 @@ impl Change {
 
 /// The value of a number argument under a default scale, `v` being the vertical space and `here` the present place in
 /// units. None for one that is absent or invalid.
+///
+/// Proved: A number's value, what a signed one makes of an old value, and whether that of a condition is true are
+/// those of the definition. (`value_of`, `change_of`, `is_true_number`, `Change::applied`)
 pub(crate) fn value_of(argument: &[u8], scale: Scale, v: Height, here: i64) -> Option<i32>
     ensures value { result ≡ value_of scale v here argument.now }
     ensures range { IfSome result (λ n. unsigned_abs n ≤ 2147483647) }

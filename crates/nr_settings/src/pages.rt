@@ -38,6 +38,8 @@ impl Pages {
     }
 
     /// `.pl`; `here` is the present place, in units.
+    ///
+    /// Proved: `.pl .vs .ns .rs .pc` each change the page's settings by one equation. (`Pages::{pl, vs, ns, rs, pc}`)
     pub fn pl(&mut self, line: &[u8], here: i64)
         ensures { self.new ≡ pl line.now here self.old }
     {

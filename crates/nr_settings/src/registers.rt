@@ -24,6 +24,10 @@ pub struct FormatChange {
 }
 
 /// What `.nr` changes; None where the register's name or its number is absent.
+///
+/// Proved: What the lines of `.nr .af .wh .ch .dt .it .sp .ne .rt .bp .pn` say is one function of the line and the
+/// place or number at hand. (`nr`, `af`; `wh`, `ch`, `dt`, `it` in traps.rt; `sp`, `ne`, `rt` in spacing.rt;
+/// `page_number` in pages.rt)
 pub fn nr(line: &[u8], long: bool, v: Height) -> Option<RegisterChange>
     ensures { result ≡ nr line.now long v }
 {

@@ -37,6 +37,8 @@ impl Special {
     }
 
     /// The special character of a name; None for a name that prints nothing.
+    ///
+    /// Proved: A special character has its byte and its number of cells, two at most. (`Special::{of, byte, cells}`)
     pub fn of(name: &[u8]) -> Option<Self>
         ensures { result ≡ special_of name.now }
     {

@@ -152,6 +152,9 @@ impl Tabs {
     }
 
     /// `.ta`
+    ///
+    /// Proved: `.ta .tc .lc` each change the tab stops, of which there are 32 at most, or what tabs and leaders
+    /// repeat by one equation. (`Tabs::{ta, tc, lc}`; `Stops::as_slice` in stops.rt)
     pub fn ta(&mut self, line: &[u8], v: Height)
         ensures { self.new ≡ ta line.now v self.old }
     {

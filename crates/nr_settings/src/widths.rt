@@ -110,6 +110,8 @@ fn element_of(byte: u8, text: &[u8], long: bool, v: Height) -> Element
 
 /// The width in units of a text that was read once in argument mode: 24 for each byte that prints and each blank,
 /// escapes by what they print, tabs and leaders nothing. `\[` begins a name where long names are on.
+///
+/// Proved: The width of a text is the sum of the widths of its characters and escapes.
 pub fn width(text: &[u8], long: bool, v: Height) -> u32
     requires { length text.now ≤ 256 }
     ensures value { result ≡ width_of long v text.now }

@@ -4,6 +4,8 @@
 //! It stands on nr_units, nr_vectors, nr_pool, nr_levels and nr_symbol_tables. To read: `height`, `element`, `request`,
 //! `named`, `register`, `shown`, `refusal`; `memory`; `store`, and its calls in `store/`: `beginning`, `names`,
 //! `lines`, `building`, `levels`, `arguments`, `registers`, `traps`, `words`.
+//!
+//! Proved: Callers see the store as one record of plain lists.
 #![tactic(auto)]
 
 pub mod element;

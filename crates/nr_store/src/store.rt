@@ -28,6 +28,10 @@ use std::marker::Model;
 /// Clauses see one record of plain lists. Each call makes of it what its definition says, or is refused, and then
 /// nothing has changed. A name is found among those of its kind, of 512 kinds; what comes next of the
 /// levels is found in constant time; no text is copied or moved for a level. `new` is the only call that allocates.
+///
+/// Proved: What is charged is at all times a sum over the pool in which each text stands once, however many levels
+/// read it: under its name or while it is built, else for the levels. (`IsStore`, the invariant of `Store`, in
+/// Holders.antt)
 #[derive(Drop)]
 pub struct Store<K: Copy> {
     pool: Pool<Element>,
@@ -57,6 +61,9 @@ impl<K: Copy> Model for Store<K> {
 
 impl<K: Copy> Store<K> {
     /// How many of each there is memory for, as the vectors tell.
+    ///
+    /// Proved: There is memory for as many elements, texts, names, levels, registers, traps and words as the limits
+    /// ask for, no more and no fewer.
     pub fn memory(&self) -> Room
         ensures { result ≡ rooms_of self.now.limit self.now.deepest }
     {
@@ -79,6 +86,8 @@ impl<K: Copy> Store<K> {
     }
 
     /// What all is charged.
+    ///
+    /// Proved: What is charged is one sum over the record, and never above the limit.
     #[inline]
     pub fn charge(&self) -> u32
         ensures value { result ≡ charge_of self.now }

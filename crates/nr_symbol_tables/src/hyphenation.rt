@@ -155,6 +155,10 @@ impl HyphenationWords {
     }
 
     /// Adds a word.
+    ///
+    /// Proved: Hyphenation words are kept in the order in which they came, and the break points of a word are those
+    /// of the latest that it is, its closing marks aside and perhaps with an `s` more. (`HyphenationWords::{push,
+    /// clear, points}`; `stem` in word.rt)
     pub fn push(&mut self, word: HyphenationWord)
         requires { length self.old.items < self.old.capacity }
         ensures { self.new ≡ record self.old { items = word ∷ self.old.items } }

@@ -210,6 +210,9 @@ impl<V: Copy> Table<V> {
     }
 
     /// What has this name.
+    ///
+    /// Proved: What has a name is found, put and taken away as in a list of named values. (`Table::{get, put,
+    /// remove}`)
     #[inline(always)]
     pub fn get(&self, name: Name) -> Option<V>
         ensures { result ≡ find name self.now.entries }

@@ -24,6 +24,8 @@ impl Trap {
 }
 
 /// The first trap that was planted at this place.
+///
+/// Proved: A trap is found by its place or by its macro. (`trap_at`, `trap_for`)
 pub fn trap_at(traps: &[Trap], place: i32) -> Option<usize>
     ensures { result ≡ position (is_at place) traps.now }
 {

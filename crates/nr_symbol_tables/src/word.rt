@@ -31,6 +31,9 @@ impl HyphenationWord {
     }
 
     /// A word as it is given, where a minus sign says that it may be cut there.
+    ///
+    /// Proved: A hyphenation word has the letters and the break points of the word as it was given.
+    /// (`HyphenationWord::{of, letters, points}`)
     pub fn of(given: &[u8]) -> HyphenationWord
         requires { length given.now ≤ 64 }
         ensures { word_in result ≡ word_of given.now }

@@ -10,6 +10,8 @@ use super::source::{Fault, Source, next_count};
 use std::marker::Model;
 
 /// Gives the bytes of a slice, and may fail once a number of them was given.
+///
+/// Proved: Sources and sinks in memory fail exactly where they are told to. (`Script`, `Slate`, `Shut`)
 #[derive(Drop)]
 pub struct Script<'a> {
     rest: &'a [u8],

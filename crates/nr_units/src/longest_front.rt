@@ -76,6 +76,13 @@ fn read_nested(text: &[u8], ctx: &Ctx) -> Read
 /// before or after an operand or operator. Where a parenthesis is opened while 64 are open, the reading ends: there is
 /// no value, and `used` is that place, counted from 0. `ctx.v` and `ctx.here` may be any numbers: a value out of range
 /// that comes of them is none.
+///
+/// Proved: Of a text the longest prefix is read that is a number expression of the grammar, with its value from left
+/// to right, and nothing where no prefix is one.
+/// Proved: Where a parenthesis is opened while 64 are open, in a text that may still become an expression, there is
+/// no value.
+/// Proved: Two expressions of one text have one value, the answer is one function of the text, and a value is from
+/// -2147483647 to 2147483647.
 #[tactic(auto, using(crate::proofs::ExpressionFronts::one_value))]
 pub fn read_expr(text: &[u8], ctx: &Ctx) -> Read
     ensures answer { IsAnswer ctx.now text.now result }

@@ -59,6 +59,9 @@ impl Name {
     }
 
     /// The name of these bytes.
+    ///
+    /// Proved: A name holds its bytes, 32 at most, and names are ordered by the first byte in which they differ.
+    /// (`Name::{of, push, compare}`)
     pub fn of(bytes: &[u8]) -> Self
         requires { length bytes.now ≤ capacity }
         ensures { result ≡ bytes.now }

@@ -193,6 +193,9 @@ fn push_alphabetic(text: &mut Text, n: u64, before: u8)
 }
 
 /// The text of a number in a format. The longest is that of the least `i64`.
+///
+/// Proved: The text of a number is that of its format: decimal digits with leading zeros, roman from 1 to 3999, or
+/// letters; it is one function of the number, at most 20 bytes long.
 pub fn format_number(n: i64, format: Format) -> ArrayVec<u8, 32>
     ensures text { IsNumberText format n result.items }
     ensures short { array_vec_len result ≤ 20 }

@@ -81,6 +81,11 @@ fn flush_all<W: Write>(writer: &mut W) -> Result<(), Fault>
 }
 
 /// The bytes of a reader, read one at a time. Once the end was seen, the reader is not read again.
+///
+/// Proved: The wrappers over std give the bytes that a reader has left and put bytes after those that a writer has,
+/// where std knows them, and keep all that is promised of sources and sinks. (`FromReader`, `ToWriter`; `Buffered` in
+/// buffered.rt)
+/// Proved: After the end of a reader nothing more comes. (`FromReader`; `Buffered` in buffered.rt)
 #[derive(Drop)]
 pub struct FromReader<R> {
     reader: R,

@@ -18,6 +18,8 @@ pub trait Sink {
     ghost failures: { Self → SinkFailures };
 
     /// Takes all of the bytes, or a prefix of them and answers an error.
+    ///
+    /// Proved: A sink takes all bytes of a call, or a prefix of them and answers an error, and each error is counted.
     fn put(&mut self, bytes: &[u8]) -> Result<(), Fault>
         ensures ok { OnOk result (Appends (held self.old) (held self.new) bytes.now) }
         ensures err { OnErr result (AppendsFront (held self.old) (held self.new) bytes.now) }
@@ -26,6 +28,9 @@ pub trait Sink {
         ensures failures { failures self.new ≡ put_counted (failures self.old) result };
 
     /// Passes on what it took and has not passed on yet.
+    ///
+    /// Proved: All that a sink took was passed on after a flush that succeeded, as long as no bytes come.
+    /// (`Sink::{flush, put}`)
     fn flush(&mut self) -> Result<(), Fault>
         ensures held { Keeps (held self.old) (held self.new) }
         ensures passed_on { passed_on self.new ≡ passed_on_by (passed_on self.old) result }

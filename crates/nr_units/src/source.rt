@@ -29,11 +29,16 @@ pub trait Source {
     ghost failures: { Self → ℕ };
 
     /// The next byte, or `None` at the end. An error takes no byte, and the call may be made again.
+    ///
+    /// Proved: A source gives its bytes in order, an error takes none of them, and each error is counted.
     fn next(&mut self) -> Result<Option<u8>, Fault>
         ensures gives { Gives (supply self.old) result (supply self.new) }
         ensures failures { failures self.new ≡ counted (failures self.old) result };
 
     /// The bytes at hand: they come next. That there is none says nothing of the end.
+    ///
+    /// Proved: The bytes at hand are those that come next, and to skip some leaves what is to come after them.
+    /// (`Source::{window, skip}`)
     fn window(&self) -> &[u8]
         ensures value { result.now ≡ at_hand self.now }
         ensures offers { Offers (supply self.now) result.now };

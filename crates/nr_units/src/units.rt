@@ -62,6 +62,9 @@ impl Scale {
     ghost use Rattle.nr_units.specs.Units.{scaled};
 
     /// What a number of so many ten-thousandths means under this scale, in units. `v` is the vertical space.
+    ///
+    /// Proved: A number with a scale means the nearest unit, half away from zero, and nothing where that is not from
+    /// -2147483647 to 2147483647.
     pub(crate) fn scaled(self, number: u64, v: i64) -> Option<i32>
         ensures { result ≡ scaled v self number }
     {
@@ -108,6 +111,9 @@ fn with_sign_of(n: i64, magnitude: u64) -> i64
 }
 
 /// The multiple of the width of a character, 24u, nearest to `n` units, half away from zero.
+///
+/// Proved: Lengths are rounded to the nearest multiple of 24 or of 40 units, half away from zero. (`round_h`,
+/// `round_v`)
 pub fn round_h(n: i64) -> i64
     ensures { result ≡ nearest_multiple 24 n }
 {

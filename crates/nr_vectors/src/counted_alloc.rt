@@ -32,6 +32,11 @@ impl CountedAlloc {
 
     /// An empty vector with memory for so many elements, and no more: `AllocError` where there is none, or where the count would
     /// pass `usize::MAX`.
+    ///
+    /// Proved: What takes memory takes it from an allocator that counts the elements, and a call that makes a vector,
+    /// or what holds vectors, says how many more they are then: those of its rooms. A second vector, kept in a field
+    /// that no clause sees or dropped again, would be counted too. (`CountedAlloc::{vector, boxed}`,
+    /// `ReservedVec::new` in reserved_vec.rt, and each `new` above them up to `Desk::new` in nr_engine/desk.rt)
     pub(crate) fn vector<T>(&mut self, capacity: usize) -> Result<Vec<T>, AllocError>
         ensures empty { IfOk result (λ vector. vector.items ≡ []) }
         ensures exact { IfOk result (λ vector. vec_capacity vector ≡ capacity) }

@@ -15,6 +15,8 @@ const CHUNK: usize = 8;
 ///
 /// Clauses see the items and the capacity. Each call takes constant time or one move of memory, beside the first touch of
 /// memory.
+///
+/// Proved: Each call of a vector whose capacity is taken once is one equation of lists, and keeps its capacity.
 pub struct FixedVec<T: Copy> {
     // The items stand at the front. What lies after them is of no account.
     slots: ReservedVec<T>,
@@ -47,6 +49,9 @@ impl<T: Copy> Model for FixedVec<T> {
 
 impl<T: Copy> FixedVec<T> {
     /// No items, and room for so many: `AllocError` where there is no memory for them.
+    ///
+    /// Proved: There is memory for as many items as its capacity says, no more and no fewer, after every call: by the
+    /// type's invariant that is the capacity of its vector. (`FixedVec::{new, memory}`)
     pub fn new(alloc: &mut CountedAlloc, capacity: usize) -> Result<FixedVec<T>, AllocError>
         ensures made { IfOk result (λ made. made ≡ record { items = []; capacity = capacity }) }
         ensures taken { IfOk result (λ made. alloc.new ≡ alloc.old + capacity) }

@@ -15,6 +15,8 @@ const STEP: usize = 64;
 /// so whatever holds items in it can't take memory by it.
 ///
 /// Clauses see the items and the capacity, the greatest number of items.
+///
+/// Proved: A vector whose memory is taken once has that memory after every call, and no call gives its allocator.
 #[derive(Drop)]
 pub struct ReservedVec<T: Copy> {
     items: Vec<T>,
@@ -130,6 +132,9 @@ impl<T: Copy> ReservedVec<T> {
 
     /// Makes it as long as asked for, by copies of an item after what it has. It becomes 64 items longer at least, where there
     /// is room for them, so that few calls write, and all calls together no more than 64 items beyond what was asked for.
+    ///
+    /// Proved: A vector is made longer within its capacity, by at most 63 items beyond what is asked for, and its
+    /// capacity stays.
     #[inline]
     pub fn lengthen(&mut self, least: usize, item: T)
         requires asked { least ≤ self.old.capacity }

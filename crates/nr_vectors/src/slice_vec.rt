@@ -13,6 +13,8 @@ const CHUNK: usize = 8;
 ///
 /// Clauses see the items and the capacity, the greatest number of them. No call allocates; each takes
 /// constant time or one move of memory.
+///
+/// Proved: Each call of a vector over a lent slice is one equation of lists.
 #[derive(Drop)]
 pub struct SliceVec<'a, T: Copy> {
     slots: &'a mut [T],

@@ -153,6 +153,15 @@ fn format_text(
 
 /// Formats a text under limits into a buffer, reports how it went, and gives the number of the outcome: 0 done, 1 a limit would
 /// be passed, 2 the limits are out of range, 4 the buffer is full, 5 there is not enough memory, 6 the text is too long.
+///
+/// Proved: Formatting a text under limits makes the moves of the machine, stops where `format` does, and hands over
+/// the pages: as many of their bytes as fit are at the beginning of the output, their count is reported, and the
+/// number is 4 where not all fit. The number, the limit and its place are those of the outcome, the moves those that
+/// were made, cut at 2^64 - 1.
+/// Proved: The number is 2 exactly where a limit is outside its range, or where no table has the number that is
+/// given. Then, and where memory is refused (5), the output is as it was, and the report has zeros.
+/// (`nulbiko_format_lent`, `nulbiko_preconv_lent` in preconv.rt, `nulbiko_tbl_lent` in tbl.rt, `nulbiko_utf8_lent` in
+/// utf8.rt)
 #[unsafe(no_mangle)]
 pub extern "C" fn nulbiko_format_lent(
     alloc: Global,

@@ -3,6 +3,11 @@
 //!
 //! It stands on these, tbl_reader, utf8_characters, nr_options, nr_vectors and nr_units. To read: `text`, `pages`; `told`,
 //! `tables`; `formatting`; `preconv`, `mdoc`, `tbl`, `utf8`.
+//!
+//! Proved: The library for C. Its contracts are those of its calls `nulbiko_NAME_lent`; those of the header,
+//! `nulbiko_NAME`, are C (include/nulbiko.c; in the plain build Rust, tools/library/nulbiko_c): they test for null
+//! and for sizes, and call them.
+//! Proved: A read fault is never reported. (`readable` of what each of them ensures)
 #![tactic(auto)]
 
 mod formatting;

@@ -61,6 +61,11 @@ fn turn_page(
 
 /// Turns a page of mdoc(7) into one of man(7), into a buffer, reports how it went, and gives the number of the outcome: 0 done,
 /// 4 the buffer is full, 5 there is not enough memory, 6 the text is too long. A text that isn't one goes out as it is.
+///
+/// Proved: What mdoc, preconv and tbl hand over is what `convert` of their crates puts out, and the steps are those
+/// that it reports; of what is wrong with tables the first is reported, with its line, and their boxes are those of
+/// the table of characters that is given. Where memory is refused nothing is done. (`nulbiko_mdoc_lent`,
+/// `nulbiko_preconv_lent` in preconv.rt, `nulbiko_tbl_lent` in tbl.rt)
 #[unsafe(no_mangle)]
 pub extern "C" fn nulbiko_mdoc_lent(
     alloc: Global,

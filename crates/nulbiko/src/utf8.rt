@@ -74,6 +74,10 @@ fn turn_bytes(
 /// Turns the bytes that a table has into its characters, in UTF-8, into a buffer, reports how it went and how many bytes were
 /// dropped, and gives the number of the outcome: 0 done, 2 no table has the number, 4 the buffer is full, 5 there is not
 /// enough memory, 6 the text is too long. With `escapes` underlined text stands between escape sequences.
+///
+/// Proved: What utf8 hands over is what `convert` of utf8_converter puts out with the table of that number, a text
+/// for a terminal but where the buffer cuts it; the bytes that were dropped are reported. The table that is chosen
+/// for a page is that of `choose`, or 0 where memory is refused. (`nulbiko_utf8_lent`, `nulbiko_choose_lent`)
 #[unsafe(no_mangle)]
 pub extern "C" fn nulbiko_utf8_lent(
     alloc: Global,

@@ -18,6 +18,9 @@ pub struct Unknown {
 /// Else they are its bytes, but for the mark of UTF-8; after the name of a set of eight bits in its first two lines, as
 /// `coding: koi8-r`, a byte is a character of the set. What it gives may fail at any call, where what is to come of the
 /// source is known.
+///
+/// Proved: What a source gives under its coding is one function of the bytes that came, however they came: `text_of`,
+/// whose definition meets each byte with what is half read.
 #[derive(Drop)]
 pub struct UnderCoding<S> {
     source: S,
@@ -31,6 +34,16 @@ impl<S: Source + Drop> UnderCoding<S> {
     ghost use Rattle.preconv_coding.specs.UnderCoding.{text_supply, unknown_in};
 
     /// The text of this source, of which nothing was read.
+    ///
+    /// Proved: A text in UTF-16 after its mark is read as its characters, for every list of characters and either
+    /// order of bytes. (`wide` of `UnderCoding::over`)
+    /// Proved: A text that begins with no byte of a mark, and has no `:` in its first two lines, is as it was: text
+    /// in UTF-8 and any other. (`plain` of `UnderCoding::over`)
+    /// Proved: A text whose first line is `.\" -*- coding: NAME -*-`, for any name of a set of eight bits, is read as
+    /// the characters of that set, each byte after the line as one, for every list of bytes; where it names what is
+    /// no such set, known or not, it is as it was. (`named`, `others` of `UnderCoding::over`; the names in names.rt,
+    /// the sets in tables.rt)
+    /// Proved: A text of ASCII is the same in every set. (`ascii` of `UnderCoding::over`)
     pub fn over(source: S) -> Self
         ensures supply { ⟦<UnderCoding<S> as Source>⟧.supply result ≡ text_supply (S.supply source) }
         ensures failures { ⟦<UnderCoding<S> as Source>⟧.failures result ≡ S.failures source }
@@ -99,6 +112,8 @@ impl<S: Source + Drop> Source for UnderCoding<S> {
         Ok(Some(byte))
     }
 
+    /// Proved: Bytes that go out as they are come many at once where the source has them at hand. (`window`, `skip`
+    /// of `UnderCoding`)
     #[inline]
     fn window(&self) -> &[u8] {
         if self.ready.is_empty() && self.part.is_plain() {

@@ -27,6 +27,9 @@ pub enum Wrong {
 }
 
 /// Reads the words: options up to the first file, of which the last that names a table counts.
+///
+/// Proved: The words of preconv come to the answer of the definition: the last table that an option names and the
+/// place of the first file, or what is wrong with the first bad word, and its place.
 pub fn read_words(words: &[&str]) -> Result<Job, Wrong>
     ensures answer { result ≡ asked (texts words.now) }
     ensures within { IsWithin (length words.now) result }

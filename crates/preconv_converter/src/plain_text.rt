@@ -13,6 +13,9 @@ fn goes_on(starts: bool, byte: u8) -> bool
 
 /// Whether a text is of ASCII, without DEL, carriage returns and backslashes, and none of its lines begins with a control character. Such a
 /// text is what `convert` makes of it, in one step for each byte.
+///
+/// Proved: ASCII text without DEL, without carriage returns, without `\` and without control lines goes out as it is,
+/// in one step for each byte.
 pub fn passes_unchanged(text: &[u8]) -> bool
     ensures value { result ≡ is_plain_text text.now }
     ensures law { IsTrue result → (table : Option Table) → converted table text.now ≡ text.now }

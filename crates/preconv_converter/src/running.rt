@@ -192,6 +192,24 @@ fn run<R: Source, W: Sink>(
 ///
 /// `steps` is set to the number of steps that this took: in each a character meets what is half read, or a byte
 /// passes as it is. There are at most six for each byte that came.
+///
+/// Proved: What goes out of a page is one function of the bytes that came, however they came: `converted`, whose
+/// definition meets each character with what is half read.
+/// Proved: At a read fault what the bytes before come to is out, but for what is half read; at a write fault a prefix
+/// of what goes out.
+/// Proved: A fault is reported only where a call of the source or the sink failed, and always then; where both
+/// failed, that of the sink.
+/// Proved: Where all is done, at most 1536 bytes went out for each byte that came, and as many more at the end.
+/// Proved: A run reports how many steps it took; in each a character meets what is half read, or a byte passes as it
+/// is. They are those of the definition (at a write fault no clause says more than their bound), and at most six for
+/// each byte that came.
+/// Proved: A text in UTF-8 is read as its characters, for every list of characters: each is heard by its code, of one
+/// byte or of four. (`characters` of `convert`)
+/// Proved: What a comment has changes nothing of the rest of the page, and so does an ignored line that does not
+/// begin with two dots. Of what stands in a definition that is not claimed: a title in it makes a manual page, and
+/// `.tr` in it translates. (`comments` and `ignored` of `convert`)
+/// Proved: No byte above 126 goes out, whatever comes in, but those of the table in force: without `-u` and `-8` none
+/// does. (`shown` of what `convert` ensures)
 pub fn convert<R: Source, W: Sink>(
     input: &mut R,
     output: &mut W,

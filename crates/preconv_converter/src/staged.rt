@@ -10,6 +10,9 @@ use nr_vectors::slice_vec::SliceVec;
 use utf8_characters::Table;
 
 /// Characters and escapes become what the formatter reads, as with `convert`.
+///
+/// Proved: A text that is turned a part at a time comes to the same: what goes out of the parts, one after another,
+/// and of the end is `converted`, in whatever parts it comes.
 #[derive(Drop)]
 pub struct Turner {
     reader: Reader,

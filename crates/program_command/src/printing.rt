@@ -20,6 +20,9 @@ const ROOM: usize = 2_048;
 const MOST_COMPLAINTS: usize = 64;
 
 /// Prints a page by its plan. Nothing is flushed.
+///
+/// Proved: Where no characters are spelled and nothing is left out, a page of a source that never fails is the
+/// document of document_printing, to each of its ends; where texts are only checked nothing is printed.
 pub(crate) fn print_page<R: Source + Drop, W: Sink>(
     page: R,
     setup: &Setup<'_>,

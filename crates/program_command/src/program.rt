@@ -83,6 +83,13 @@ fn borrowed(words: &[String], alloc: Global) -> Result<Vec<&str>, AllocError> {
 /// can't be opened or read, 4 the output can't be written, 5 there is not enough memory, 6 other programs are needed.
 ///
 /// All texts are opened before the first is read, each over its part of `buffers`.
+///
+/// Proved: Status and line report how it ended, and the line that place in a text; the line goes out whole, or a
+/// prefix of it where a call failed. (`run_words`, `tell` in endings.rt)
+/// Proved: Where a word is bad that word is reported, nothing is opened, and nothing printed.
+/// Proved: All texts of a job are opened, each once and in order, before the first is read; or the first that can't
+/// be is reported, those before it were opened, and none after it was asked for; or none was asked for.
+/// Proved: Where no write fault is reported, all that was printed was passed on.
 pub fn run_words<'b, O: Opener<'b>, W: Sink, E: Sink>(
     around: &Surroundings,
     words: &[&str],

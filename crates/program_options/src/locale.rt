@@ -6,6 +6,8 @@ use crate::plain::Device;
 
 /// What pages are printed in by the locale: UTF-8 where its words name that, and else ASCII. They are the values of
 /// LC_ALL, LC_CTYPE and LANG, of which the first that is not empty counts (POSIX, "Environment Variables").
+///
+/// Proved: The words of the locale say UTF-8 exactly where the first that is set names it.
 pub fn device_of_locale(all: &[u8], ctype: &[u8], lang: &[u8]) -> Device
     ensures { result ≡ device_of all.now ctype.now lang.now }
 {

@@ -16,6 +16,9 @@ use crate::words::{Word, word_of};
 ///
 /// Options are the words before the first that is a file, each with its value; `--` ends them. The first bad
 /// word is reported, with how it is bad.
+///
+/// Proved: The words of nulbiko come to what the definition says, by one equation: what is asked for, or the first
+/// bad word and how it is bad.
 pub fn read_words<'a>(words: &'a [&'a str]) -> Result<Job<'a>, Usage<'a>>
     ensures { answer_of result ≡ asked (texts words.now) }
 {

@@ -35,6 +35,8 @@ pub struct Usage<'a> {
 /// Writes the one line that reports a bad word.
 ///
 /// `Fault` where the sink failed; a prefix of the line went out then.
+///
+/// Proved: The line of a bad word goes out whole, or a prefix of it where the sink failed.
 pub fn usage_line<W: Sink>(usage: &Usage<'_>, errors: &mut W) -> Result<(), Fault>
     ensures ok { OnOk result
         (Appends (W.held errors.old) (W.held errors.new) (usage_text usage.now.case usage.now.word.now)) }

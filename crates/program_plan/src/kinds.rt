@@ -16,6 +16,9 @@ enum LineKind {
 
 /// Whether a text asks for the macros of manual pages: of the lines `.TH`, `.Dd` and `.TS` in it the first is one of
 /// the first two (man(7), "MACRO OVERVIEW"; mdoc(7), "MANUAL STRUCTURE").
+///
+/// Proved: A text is a manual page exactly where of its lines `.TH`, `.Dd` and `.TS` the first is one of the first
+/// two.
 pub fn is_manual(text: &[u8]) -> bool
     ensures { result ≡ is_manual text.now }
 {

@@ -17,6 +17,8 @@ pub enum Macros {
 }
 
 /// What macros a run has: those that its words name, and where they name none what its text asks for.
+///
+/// Proved: The macros of a run are those that words name, and else those that its text asks for.
 pub fn macros_of(job: &Job<'_>, asks_for_manual: bool) -> Macros
     ensures { result ≡ macros_of asks_for_manual (asked_of job.now) }
 {

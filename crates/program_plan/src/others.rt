@@ -5,6 +5,8 @@ ghost use Rattle.program_plan.specs.Others.{asks_at, asks_for_others, is_other_l
 use crate::kinds::{after_blanks, ends};
 
 /// Whether a line of a text asks for another program: `.so` for another file, `.EQ` for eqn and `.PS` for pic.
+///
+/// Proved: A text asks for other programs exactly where one of its lines is `.so`, `.EQ` or `.PS`.
 pub fn asks_for_others(text: &[u8]) -> bool
     ensures { result ≡ asks_for_others text.now }
 {

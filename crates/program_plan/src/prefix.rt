@@ -10,6 +10,8 @@ use std::alloc::AllocError;
 
 /// Adds the lines that are read before the macro files: what makes one long page, the cells of a line, registers and
 /// strings in order.
+///
+/// Proved: What is read before the macro files is what the words set, in order.
 pub fn put_prefix(job: &Job<'_>, is_manual: bool, text: &mut Vec<u8>) -> Result<(), AllocError>
     ensures { OnOk result (text.new.items ≡ text.old.items ++ prefix is_manual (asked_of job.now)) }
 {

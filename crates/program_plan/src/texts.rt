@@ -14,6 +14,8 @@ use program_options::Job;
 
 /// What a job reads, in order: the macro files of a folder that its words name, its files, and standard input where words
 /// say it and where there is no file.
+///
+/// Proved: The texts of a job are the macro files of a folder, its files, and standard input.
 pub fn texts_of<'a>(job: &Job<'a>) -> Texts<'a>
     ensures { readings (texts_asked result) ≡ readings_of (asked_of job.now) }
 {

@@ -199,6 +199,10 @@ impl Job {
 
 /// Reads the words: options up to the first file, the last of each counts. The first that can't be taken is
 /// reported by its place.
+///
+/// Proved: The words of tbl come to the one answer that the definition allows: limits in their ranges, the line's
+/// length, the table of characters and the place of the first file, or the place of the first bad word and how it is
+/// bad.
 pub fn read_words(words: &[&str]) -> Result<Job, BadWord>
     ensures answer { IsAnswer (texts words.now) result }
 

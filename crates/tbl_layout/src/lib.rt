@@ -4,6 +4,10 @@
 //! `formats`, `rows`; `extent`, `cells`; `pen`, `writing`, `strokes`, `fields`; `counted`, `columns`, `frames`; `steps`;
 //! `drawing`, `ruling`, `lines`; `told`, `names`, `registers`, `widening`, `standing`, `heights`, `blocks`,
 //! `sharing`, `kept`, `beside`, `measured`, `as_requests`; `laws`.
+//!
+//! Proved: A table is held as lists: its text, its lines of formats with their letters, its rows with their fields,
+//! and what was made of these. The definitions are functions of that; each call that changes it says what it becomes,
+//! and each that puts something out says which strokes it draws, and so which bytes.
 #![tactic(auto)]
 
 mod as_requests;

@@ -138,6 +138,9 @@ impl Table {
     }
 
     /// The table goes out, or the part of it that was read: a fault where the sink failed, now or before.
+    ///
+    /// Proved: What goes out for a table, or for a part of it, is one function of the table, and so is what it is
+    /// after that: `table_strokes` and `table_after`. Where the sink failed a prefix of it went out.
     pub fn put_table<W: Sink>(&mut self, ends: bool, out: &mut Out<'_, W>) -> Result<(), Fault>
         ensures draws { Draws out.old out.new (specs.table_strokes ends self.old) }
         ensures value { self.new ≡ specs.table_after ends self.old }

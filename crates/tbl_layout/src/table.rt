@@ -249,6 +249,9 @@ pub(crate) enum Open {
 }
 
 /// A table, as far as it was read.
+///
+/// Proved: What a call reads into a table is what the definition makes of it: options, letters and what modifies
+/// them, fields, blocks, rules, requests, rows. (`Table`, formats.rt, rows.rt)
 #[derive(Drop)]
 pub struct Table {
     pub(crate) looks: Looks,
@@ -410,6 +413,9 @@ impl Table {
     }
 
     /// A page begins: nothing is held of another.
+    ///
+    /// Proved: A table keeps the room that it has: each call that changes it says so, and one that begins a page
+    /// leaves nothing else. (`room` of what these ensure; `begin_page`)
     pub fn begin_page(&mut self)
         ensures { self.new ≡ held.emptied self.old }
     {

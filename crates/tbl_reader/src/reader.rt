@@ -173,6 +173,10 @@ impl Reader {
     }
 
     /// The rest of a line that is no command, as far as it came; a newline alone ends it.
+    ///
+    /// Proved: The lines of a table that isn't set, and lines of a text block that are too long to be kept, are said
+    /// as the definition says byte by byte, however many bytes come at once, and so is the rest of a line outside of
+    /// tables that is no command. (`passes_line`, `passes_plain`, `takes_block` of `Reader`)
     fn passes_line<S: Setter>(&mut self, start: Start, bytes: &[u8], setter: &mut S) -> usize
         requires some { 0 < length bytes.now }
         requires lines { self.old.state.line + length bytes.now < 2 ^ 64 }

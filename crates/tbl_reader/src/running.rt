@@ -102,6 +102,16 @@ fn make_turn<R: Source, S: Setter>(
 ///
 /// What is told is one function of the bytes that came, however they came. At a read fault, and where the input is too long,
 /// it is that of the bytes before, but for what is half read. Where the setter fails, no more is read.
+///
+/// Proved: What is said of a page is one function of the bytes that came, of the two limits and of the line's length,
+/// however the bytes came: `page_said`, a list of pieces, of which a setter hears one after the other.
+/// Proved: At a read fault, and where the input is too long, what the bytes before say was heard, but for what is
+/// half read; where the setter fails, no more is read.
+/// Proved: A read fault is reported only where a call of the source failed, and then always, but where the setter
+/// failed too; a write fault where the setter failed.
+/// Proved: At most sixteen pieces are said for each byte that came, and sixteen for the end.
+/// Proved: Lines outside of tables pass, and lines of a table that there is room for are taken as wholes, as the
+/// definition that reads byte by byte says. (`passing` and `reading` of what `read_page` ensures)
 pub fn read_page<R: Source, S: Setter>(
     reader: &mut Reader,
     input: &mut R,

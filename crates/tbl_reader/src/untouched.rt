@@ -21,6 +21,9 @@ fn begins_table(bytes: &[u8]) -> bool
 
 /// Whether no line of a text begins a table, with `.TS` and its end or a byte that ends a name. Of such a text nothing is
 /// said but that it passes, byte for byte.
+///
+/// Proved: Of a text in which no line is `.TS` nothing is said but that it passes, byte for byte, for all limits and
+/// lengths of the line. (`passes_unchanged`; it speaks of the definition `page_said`)
 pub fn passes_unchanged(text: &[u8]) -> bool
     ensures value { result ≡ is_untouched text.now }
     ensures law { IsTrue result → (limits : LimitsValue) (cells : ℕ)

@@ -177,6 +177,19 @@ fn turn<R: Source, W: Sink>(
 
 /// Turns the tables of what the input gives into lines of text, or into requests where only the formatter knows a width,
 /// and puts it to the output, which is not flushed, and comes back. Nothing is allocated.
+///
+/// Proved: What `convert` puts out is one function of the bytes that came, of what frames are drawn with, of the two
+/// limits and of the line's length, however the bytes came: `set_page`, the bytes of the strokes that the page's
+/// pieces draw, one after the other, each from the table that those before it left, the first from one that holds
+/// nothing. At a read fault, and where the input is too long, it is what the bytes before come to, but for what is
+/// half read; at a write fault a prefix of it went out.
+/// Proved: The complaints that are kept are the first of the definition's for the bytes that came, each with its
+/// line, in input order, as many as there is room for. That there were more is reported exactly then. If the run is
+/// done those of the end are among them; at a write fault they may be.
+/// Proved: A read fault is reported only where a call of the source failed, and then always, but where the sink
+/// failed too; a write fault where a call of the sink failed, and else none did.
+/// Proved: The next page is turned as the first one was: by the same limits, from a table that holds nothing, in the
+/// same room. (`same` of what `convert` ensures, with the invariant of `Rooms`)
 pub fn convert<R: Source, W: Sink>(
     input: &mut R,
     output: W,

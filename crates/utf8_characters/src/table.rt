@@ -36,6 +36,8 @@ fn byte_in(characters: &[char; 128], code: u32) -> Option<u8>
 
 impl Table {
     /// The table of a name.
+    ///
+    /// Proved: A table's name leads to it. (`Table::named`, `Table::name`)
     pub fn named(name: &str) -> Option<Table>
         ensures { result ≡ table_named name.now }
     {
@@ -98,6 +100,8 @@ impl Table {
     }
 
     /// The character of a byte.
+    ///
+    /// Proved: Each character of a table takes one cell, and none is a control character.
     pub fn character(self, byte: u8) -> Option<char>
         ensures value { result ≡ character_of self byte }
         // No other byte is that character's.
@@ -118,6 +122,9 @@ impl Table {
     }
 
     /// The byte of a character.
+    ///
+    /// Proved: A table is one to one: the byte of a character has that character, and the character of a byte has
+    /// that byte. (`Table::byte`, `Table::character`)
     pub fn byte(self, code: u32) -> Option<u8>
         ensures value { result ≡ byte_of self code }
         // No other character is that byte's.

@@ -78,6 +78,8 @@ fn read_choice(words: &[&str]) -> Result<Job, Wrong>
 }
 
 /// Reads the words: `--version`; `--choose` and a file or none; or `-c` or not, the name of a table, and files.
+///
+/// Proved: The words of utf8 come to one job, or to the first thing that is wrong with them.
 pub fn read_words(words: &[&str]) -> Result<Job, Wrong>
     ensures answer { result ≡ asked (texts words.now) }
     ensures within { IsWithin (length words.now) result }

@@ -200,6 +200,9 @@ fn read_front<R: Source>(input: &mut R, page: &mut SliceVec<'_, u8>) -> Result<(
 /// of those that are named and that only some tables have; the first of `english`, `latin`, `cyrillic` and `greek` where
 /// several have as many, and so `english` where none has one. The slices hold these bytes and what is counted; what they
 /// held is of no account. Nothing is allocated.
+///
+/// Proved: The table that is chosen for a page has, of the first 65,536 bytes, at least as many characters as any
+/// other to choose from: those that stand there, and those of the names in `NAMES` (names.rt).
 pub fn choose<R: Source>(input: &mut R, page: &mut [u8], counts: &mut [u32]) -> Result<Table, Fault>
     requires page { length page.old ≡ 65536 }
     requires counts { length counts.old ≡ 10240 }

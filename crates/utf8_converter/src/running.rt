@@ -241,6 +241,19 @@ fn run<R: Source, W: Sink>(
 ///
 /// `strays` is set to the number of bytes that were dropped: control characters but newline, backspaces that strike no byte
 /// over another, and bytes that the table lacks.
+///
+/// Proved: What goes out is one function of the bytes that came, however they came: they are read into `cells`, and
+/// these are `printed`. (`convert`, Cells.antt)
+/// Proved: Whatever comes, what goes out is a text for a terminal: UTF-8 (RFC 3629) of parts, each a newline, a
+/// blank, a printing character of ASCII or one of one cell; a character that shows, a backspace and itself, or `_`, a
+/// backspace and one that shows; or, only with `-c`, where there is no such part, one of the four escape sequences
+/// that begin and end bold and underlined text.
+/// Proved: Without sequences and what is struck over, what goes out is the characters of the cells that came, so each
+/// line has as many cells.
+/// Proved: How many bytes were dropped is reported, those that are in no cell (but at a write fault); at most four
+/// bytes go out for each that came.
+/// Proved: At a read fault what the bytes before come to is out, but for what is half read; at a write fault a prefix
+/// of what goes out. A fault is reported only where a call of the source or the sink failed.
 pub fn convert<R: Source, W: Sink>(
     input: &mut R,
     output: &mut W,

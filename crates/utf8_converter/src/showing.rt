@@ -16,6 +16,11 @@ use utf8_characters::Table;
 
 /// Takes bytes of a table, as `convert` does, and puts what they come to into another sink. Once that failed, each `put`
 /// fails.
+///
+/// Proved: A sink that shows bytes in another one puts out the same: once it is finished, what is out is what
+/// `convert` would put out of all bytes that came, in pieces of any size, whatever flushes came between. Where a put
+/// fails, a prefix of that is out, also of what more bytes would have come to; nothing goes out after it, and the end
+/// reports it. (`Shown`; `Finishes` in Showing.antt)
 #[derive(Drop)]
 pub struct Shown<'a, W: Sink> {
     output: W,

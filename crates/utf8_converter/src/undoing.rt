@@ -7,6 +7,9 @@ use utf8_characters::Table;
 
 /// The byte that stands for a character: a character of ASCII that shows something, a blank or a newline stands for
 /// itself, and one of the table has its byte.
+///
+/// Proved: The bytes that stand for a text, of ASCII and of the table's characters, each plain, bold or underlined,
+/// come to that text where what is struck over is taken out, and to the text itself where all is plain.
 pub fn byte_for(table: Table, character: char) -> Option<u8>
     ensures value { result ≡ byte_for table character }
     // What `convert` makes of the bytes of a text is that text, in UTF-8.

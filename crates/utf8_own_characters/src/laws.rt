@@ -4,12 +4,19 @@ ghost use Rattle.utf8_own_characters.specs.Fixed.{SameBytes, SameCharacters};
 ghost use Rattle.utf8_own_characters.specs.Laws.{Inverse, InverseWhole, OneWay, ColumnsAreBytes, ColumnsStay, HalvesAreApart};
 
 /// The bytes of clusters that have a code are read back as these clusters, also where other bytes come behind.
+///
+/// Proved: The bytes of clusters that have a code are read back as these clusters, whatever comes behind, and no two
+/// texts have the same bytes. (`bytes_are_read_back`, `rows_are_read_in_one_way`)
 pub fn bytes_are_read_back()
     ensures behind { Inverse }
     ensures whole { InverseWhole }
 {}
 
 /// No two texts have the same bytes, and no byte is a lead and a trail, so a row is read in one way and no pair is cut.
+///
+/// Proved: No byte is a lead and a trail, and neither is ASCII; a cluster has a byte for each of its columns, and a
+/// row shows a column for each of its bytes, however it was laid over. (`rows_are_read_in_one_way`,
+/// `columns_are_kept`)
 pub fn rows_are_read_in_one_way()
     ensures texts { OneWay }
     ensures halves { HalvesAreApart }
@@ -23,6 +30,9 @@ pub fn columns_are_kept()
 
 /// What is chosen of clusters that are counted once each makes a table that is read in one way. Each of them is in the table or told, and
 /// where all have room, none is told.
+///
+/// Proved: What is chosen of clusters that are counted once each makes such a table; each of them is in it or told,
+/// and where all have room none is told. (`choices_are_good`, `choose` in choosing.rt)
 pub fn choices_are_good()
     ensures good { ChoiceIsGood }
     ensures none_lost { NoneIsLost }
@@ -30,6 +40,9 @@ pub fn choices_are_good()
 {}
 
 /// The trails are the least number whose square reaches that of the wide clusters, and the leads as few as reach it with them.
+///
+/// Proved: The trails are the least number whose square reaches that of the wide clusters, and the leads as few as
+/// reach it with them. (`halves_are_fewest`, `halves_for` in choosing.rt)
 pub fn halves_are_fewest()
     ensures { FewestAreSides }
 {}

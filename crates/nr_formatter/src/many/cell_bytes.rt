@@ -82,6 +82,9 @@ impl Formatter {
 
     /// Reads a prefix of these bytes in the midst of a text line, each a byte that goes to the word and does not end it, and passes no
     /// limit: a hyphen, a blank where lines are not filled, a tab where no text for a stop is read. Tells how many it read.
+    ///
+    /// Proved: Hyphens, blanks where lines are not filled and tabs are put at once, as one after the other; how many
+    /// is not claimed.
     #[inline]
     pub fn put_cell_bytes(&mut self, bytes: &[u8]) -> usize
         requires { is_in_line self.old ≡ true }

@@ -20,6 +20,9 @@ impl Formatter {
     }
 
     /// How many empty lines may go down the open page so that the last ends above the next trap and the bottom.
+    ///
+    /// Proved: How many empty lines end above the next trap and the bottom is reported, and so many go down at once.
+    /// (`Formatter::{lines_below, go_down}`)
     pub fn lines_below(&self) -> u32
         ensures value { result ≡ lines_below self.now }
         ensures within { self.now.paper.place + result * spacing self.now ≤ max self.now.paper.place 32760 }

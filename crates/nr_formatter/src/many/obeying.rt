@@ -173,6 +173,10 @@ impl Formatter {
 
     /// The request whose line was read takes effect, if it only sets or makes space, is not refused, and its break does nothing; its
     /// space is made, if there is none or the open page has room. Tells how many moves that was.
+    ///
+    /// Proved: A request that only sets or makes space takes effect as soon as its line was read, where no macro
+    /// springs, its break does nothing and it is not refused; the space of `.sp` is made then, where there is none or
+    /// the open page has room. That this is two to four moves is fast_machine's claim.
     #[inline]
     pub fn obey(&mut self) -> u32
         ensures moves { result ≡ moves_obeying self.old }

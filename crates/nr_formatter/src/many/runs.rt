@@ -158,6 +158,10 @@ impl Formatter {
 
     /// Adds a prefix of these bytes to the line, up to the first that is not plain or whose cell would pass the limit, and
     /// reads the blank after it as `put_gap` does.
+    ///
+    /// Proved: Words with the blanks after them, a line's beginning and its end are put at once, as many bytes as can
+    /// be; that these are so many moves is fast_machine's claim. (`Formatter::{put_word, put_gap, begin_text,
+    /// put_newline}`)
     #[inline]
     pub fn put_word(&mut self, manner: Manner, bytes: &[u8]) -> WordPut
         requires { manner ≡ manner_of self.old }

@@ -10,6 +10,9 @@ use crate::many::runs::Items;
 
 impl Half {
     /// Whether a row begins with `\}`, which in the midst of a text line does nothing: two moves, which take the two items and leave all else as it was.
+    ///
+    /// Proved: `\}` before a row in the middle of a text line is two moves, which take it and leave all else as it
+    /// was.
     #[inline(always)]
     pub fn meets_brace<I: Items>(&self, items: &I) -> bool
         requires text { is_in_text self.now ≡ true }

@@ -121,6 +121,10 @@ impl Half {
 
     /// A control character at a line's beginning and a name of one byte or two after it are met, where they come first in a row.
     /// None where they don't; where names are long, or the name has one byte, the byte that ends it must be there too, and is left.
+    ///
+    /// Proved: A control character with a name of one byte or two, whether names are long or not, and the line of a
+    /// request with its newline, are met in one call as one by one. (`Half::meet_name`; `Half::meet_request_line` in
+    /// many/request_lines.rt)
     #[inline(always)]
     pub fn meet_name<I: Items>(&mut self, items: &I) -> Option<MetName>
         requires due { self.old.reading.due ≡ dues.Look }

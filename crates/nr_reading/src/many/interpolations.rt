@@ -312,6 +312,10 @@ impl Half {
 
     /// An interpolation `\$N`, `\nX`, `\n(XX` or `\*X`, `\*(XX`, with a sign or not, or in a text line a font escape `\fX`, `\f(XX`, is met
     /// at once that begins at this place of a row, with a `\`. None where the row has not all of it, or it isn't one of these.
+    ///
+    /// Proved: An interpolation `\$N`, or of a string or a register whose name has one byte or two, is met in one
+    /// call as byte by byte, where the row has all of it, and so is a font escape in text, or with a name of one byte
+    /// at a line's beginning.
     #[inline(always)]
     pub(crate) fn meet_interpolation<I: Items>(&mut self, items: &I, place: usize) -> Option<Run>
         requires due { self.old.reading.due ≡ dues.Look }

@@ -46,6 +46,11 @@ pub struct Run {
 impl Half {
     /// Bytes are met, up to the first item that is none, the first that tells something, or after which something is due;
     /// in 65,536 moves at most.
+    ///
+    /// Proved: A row of items is met in one call as one by one, of which only the last may emit an event or leave
+    /// something pending.
+    /// Proved: If a call for a row emits nothing, leaves nothing pending and makes fewer than 65,536 moves, the row
+    /// has no next byte.
     #[inline(always)]
     pub fn meet_run<I: Items>(&mut self, items: &I) -> Run
         ensures met { HasMet result.moves (I.fronts items.now) self.old (spot result self.new) }

@@ -10,6 +10,9 @@ use nr_units::Name;
 
 impl<K: Copy> Store<K> {
     /// Begins to read a macro's arguments: there are none yet.
+    ///
+    /// Proved: The arguments of a macro are gathered byte by byte, nine of them. (`Store::{begin_arguments,
+    /// add_argument_byte, end_argument}`)
     pub fn begin_arguments(&mut self)
         ensures { self.new ≡ ungathered self.old }
     {
@@ -38,6 +41,9 @@ impl<K: Copy> Store<K> {
 
     /// Adds bytes to the argument that is being read, as calls of `add_argument_byte` for one after another do, up to the
     /// first that is refused. Answers how many.
+    ///
+    /// Proved: Bytes are added to an argument or to a text that is being built, as many as pass no limit.
+    /// (`Store::add_argument_bytes`; `Store::add_bytes` in store/building.rt)
     #[inline]
     pub fn add_argument_bytes(&mut self, bytes: &[u8]) -> usize
         ensures within { result ≤ length bytes.now }

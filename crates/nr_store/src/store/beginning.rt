@@ -63,6 +63,8 @@ impl Beside {
 impl<K: Copy> Store<K> {
     /// A store under this limit, with room for so many levels, and with the requests under their names and nothing else:
     /// `AllocError` where there is not the memory that `Room::of` tells.
+    ///
+    /// Proved: A new store has the names of the requests alone.
     pub fn new(alloc: &mut CountedAlloc, limit: u32, deepest: u32) -> Result<Store<K>, AllocError>
         ensures made { IfOk result (λ made. made ≡ nothing request_names limit deepest) }
         ensures taken { IfOk result (λ made. alloc.new ≡ alloc.old + elements_in (rooms_of limit deepest)) }

@@ -16,6 +16,13 @@ use nr_vectors::cell::Cell;
 
 impl<K: Copy> Store<K> {
     /// Begins an empty text.
+    ///
+    /// Proved: A text is built apart, empty or from a copy of an old one, and takes its name when it is whole.
+    /// (`Store::{begin, begin_from, add, define}`)
+    /// Proved: A call is refused exactly where its charge would pass the limit, or a level more the deepest, and then
+    /// nothing has changed. (`Store::{begin, add}`; `Store::{enter, spring}` in store/levels.rt; `Store::call` in
+    /// store/arguments.rt; `Store::set_register` in store/registers.rt; `Store::plant` in store/traps.rt;
+    /// `Store::add_word` in store/words.rt)
     pub fn begin(&mut self) -> Result<(), StoredBytes>
         ensures answer { result ≡ afforded (begun [] None self.old) tt }
         ensures ok { OnOk result (self.new ≡ begun [] None self.old) }
@@ -34,6 +41,9 @@ impl<K: Copy> Store<K> {
     }
 
     /// Begins a diversion that is empty (CSTR 54, `.di`).
+    ///
+    /// Proved: Diversions nest, and the one that ends reports its height and width. (`Store::{begin_diversion,
+    /// begin_appending, diversion, end_diversion}`)
     pub fn begin_diversion(&mut self, name: Name) -> Result<(), StoredBytes>
         ensures answer { result ≡ afforded (begun [] (Some (fresh name)) self.old) tt }
         ensures ok { OnOk result (self.new ≡ begun [] (Some (fresh name)) self.old) }

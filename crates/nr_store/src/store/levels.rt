@@ -17,6 +17,10 @@ use nr_units::Name;
 
 impl<K: Copy> Store<K> {
     /// Opens a level that reads the text of a name, with no arguments in force. Answers whether there is one.
+    ///
+    /// Proved: A text that is entered, called or sprung is read before all others, with its arguments, and its end
+    /// brings back those before. (`Store::{enter, spring, enter_bytes, enter_argument}`; `Store::call` in
+    /// store/arguments.rt)
     pub fn enter(&mut self, name: Name) -> Result<bool, Refusal>
         ensures answer { let text = words (find name self.old.names) in
             result ≡ checked (entered name text None self.old) (is_some text) }
@@ -99,6 +103,9 @@ impl<K: Copy> Store<K> {
     }
 
     /// The bytes of the n-th argument, counted from 0; an absent one has none.
+    ///
+    /// Proved: The bytes of an argument are shown where they lie, and whether so much more may be stored in a level
+    /// more. (`Store::{argument, admits}`)
     #[inline]
     pub fn argument(&self, n: usize) -> &[u8]
         ensures { result.now ≡ argument self.now.arguments n }
@@ -125,6 +132,9 @@ impl<K: Copy> Store<K> {
     }
 
     /// What comes next of the levels, which stays there.
+    ///
+    /// Proved: What comes next of the levels is shown and taken, one element or many at once, and many are the same
+    /// as one by one. (`Store::{look, take, rest, skip}`)
     #[inline(always)]
     pub fn look(&self) -> Sight
         ensures { Shows result (shown self.now.levels) }

@@ -143,6 +143,9 @@ impl<K: Copy> Store<K> {
     /// Adds a line to the newest text being built: so many blanks, the cells, and a line end of this height in u. It is
     /// checked once, for all of it. A diversion's height and width grow by it. Nothing happens where no text is being
     /// built.
+    ///
+    /// Proved: A diverted line goes in as blanks, cells and its end, at once or in parts. (`Store::{add_line,
+    /// add_cells, end_line}`)
     pub fn add_line(&mut self, indent: u32, cells: &[Cell], height: u32) -> Result<(), StoredBytes>
         ensures answer { result ≡ afforded (diverted indent cells.now height self.old) tt }
         ensures ok { OnOk result (self.new ≡ diverted indent cells.now height self.old) }

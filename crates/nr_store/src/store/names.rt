@@ -41,6 +41,8 @@ pub(crate) fn lone_share(pool: &Pool<Element>, id: Id) -> u32
 
 impl<K: Copy> Store<K> {
     /// What a name stands for.
+    ///
+    /// Proved: A name stands for nothing, a request or a text.
     pub fn lookup(&self, name: Name) -> Meaning
         ensures { result ≡ meaning_of (find name self.now.names) }
     {
@@ -66,6 +68,12 @@ impl<K: Copy> Store<K> {
     }
 
     /// Takes a name away (CSTR 54, `.rm`). Levels go on reading its text.
+    ///
+    /// Proved: Names are removed and renamed as lists of named values are. (`Store::{remove, rename}`)
+    /// Proved: A text that is being read stays as it was, whatever becomes of its name. (`Store::{remove, rename}`;
+    /// `Store::define` in store/building.rt)
+    /// Proved: Removing, renaming or defining a name never raises what is charged. (`Store::{remove, rename}`;
+    /// `Store::define` in store/building.rt)
     pub fn remove(&mut self, name: Name)
         ensures is { self.new ≡ removed name self.old }
         ensures gone { find name self.new.names ≡ None }

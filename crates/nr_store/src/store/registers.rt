@@ -10,6 +10,9 @@ use nr_units::{Format, Name};
 
 impl<K: Copy> Store<K> {
     /// A register; an undefined one has the value and the step 0, in Arabic digits.
+    ///
+    /// Proved: Registers are read, set, stepped, formatted and removed; a number that none holds changes nothing.
+    /// (`Store::{register, set_register, step_register, set_format, remove_register}`)
     pub fn register(&self, name: Name) -> Register
         ensures { result ≡ register_of (find name self.now.registers) }
     {

@@ -12,6 +12,9 @@ use nr_units::Name;
 impl<K: Copy> Store<K> {
     /// Plants a trap, in place of the first one at the same place if there is one, else after all others (CSTR 54,
     /// `.wh`). The place is in u.
+    ///
+    /// Proved: Traps are planted, moved, removed and found as the definition says. (`Store::{plant, move_trap,
+    /// remove_trap, next_trap}`)
     pub fn plant(&mut self, place: i32, name: Name) -> Result<(), StoredBytes>
         ensures answer { result ≡ afforded (trap_planted place name self.old) tt }
         ensures ok { OnOk result (self.new ≡ trap_planted place name self.old) }

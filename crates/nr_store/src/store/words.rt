@@ -12,6 +12,9 @@ use nr_vectors::cell::Cell;
 impl<K: Copy> Store<K> {
     /// Takes a hyphenation word as it is given, with a minus sign in each place where it may be cut (CSTR 54, `.hw`).
     /// One above 64 bytes, minus signs counted, changes nothing.
+    ///
+    /// Proved: Hyphenation words are kept, and the break points of a word are those of the latest that it is.
+    /// (`Store::{add_word, points}`)
     pub fn add_word(&mut self, word: &[u8]) -> Result<(), StoredBytes>
         ensures answer { result ≡ afforded (worded word.now self.old) tt }
         ensures ok { OnOk result (self.new ≡ worded word.now self.old) }
