@@ -6,7 +6,7 @@
  * libnulbiko.a. Over the library that is proved (`rt lib` in crates/nulbiko) include/nulbiko.c has these calls.
  *
  * Shapes. A text is a pointer and a count of bytes; it may be 0 and 0. Nothing ends with a byte 0. No text may
- * overlap another or a struct. An output is written from its front; what lies behind the bytes that are
+ * overlap another or a struct. An output is written from its front; what lies after the bytes that are
  * reported is left as it was.
  *
  * Structs begin with their `size`, which the caller sets to sizeof: the macros below do. Those that grow take another size,
@@ -43,7 +43,7 @@ extern "C" {
 /* How a call went. At 2, 3 and 5 nothing was done: the output is as it was, and the report has zeros. */
 enum nulbiko_outcome {
     NULBIKO_DONE = 0,          /* All went into the output. */
-    NULBIKO_LIMIT = 1,         /* The next move would pass the limit `limit`, behind `at` bytes of the text; the
+    NULBIKO_LIMIT = 1,         /* The next move would pass the limit `limit`, after `at` bytes of the text; the
                                 * output has the pages that had ended. */
     NULBIKO_OUT_OF_RANGE = 2,  /* A limit or a size is outside its range, or no table has the number. */
     NULBIKO_NULL = 3,          /* A pointer is null: of a text that has bytes, or of a struct. */
@@ -150,8 +150,8 @@ enum nulbiko_outcome nulbiko_format(const struct nulbiko_limits *limits, const s
                                     const void *input, size_t length, void *output, size_t capacity,
                                     struct nulbiko_report *report);
 
-/* Turns bytes of a table into its characters, in UTF-8, behind nulbiko_format, as utf8 does. With `escapes` underlined
- * text stands between the terminal's escape sequences, and else behind `_` and a backspace. Whatever comes, no other
+/* Turns bytes of a table into its characters, in UTF-8, after nulbiko_format, as utf8 does. With `escapes` underlined
+ * text stands between the terminal's escape sequences, and else after `_` and a backspace. Whatever comes, no other
  * control character goes out but newline. NULBIKO_NO_TABLE is out of range. */
 enum nulbiko_outcome nulbiko_utf8(enum nulbiko_table table, bool escapes, const void *input, size_t length, void *output,
                                   size_t capacity, struct nulbiko_report *report);

@@ -150,7 +150,7 @@ def format(text, limits=LIMITS, first=1, bold=False):
 
 def utf8(text, table, escapes=False):
     """Turns bytes of a table into its characters, in UTF-8. With `escapes` underlined text stands between the terminal's
-    escape sequences, and else behind `_` and a backspace."""
+    escape sequences, and else after `_` and a backspace."""
     return _made('utf8', [TABLES[table], escapes], text)
 
 

@@ -22,7 +22,7 @@ use Rattle.document_printing.specs.declared.setup.Setup.{Setup}
 use Rattle.document_reader.specs.declared.page.Stages.{Stages}
 use Rattle.document_reader.specs.Page.{plain_of, plain_so_far}
 
--- ---- what the formatter reads of a page, behind the macros
+-- ---- what the formatter reads of a page, after the macros
 
 abbrev pub tables_of : Bool → Bounds → List ℕ → List ℕ
 tables_of true b page = set_page b.signs b.limits b.cells page
@@ -64,7 +64,7 @@ pub record GoesOut (s : Setting) (source : Supply) (n : ℕ) (ended : machine.Ou
   pub ends : Ends s.limits.moves n (state_of s source n) ended
   pub out : Appends held new (pages_of s source n)
 
--- HOW A DOCUMENT ENDS. Where the output fails, a front of the pages that stand after one move more went out.
+-- HOW A DOCUMENT ENDS. Where the output fails, a prefix of the pages that stand after one move more went out.
 abbrev pub Prints : Setting → Supply → ℕ → Outcome → Option (List ℕ) → Option (List ℕ) → Type 0
 Prints s source n outcomes.Done held new = GoesOut s source n machines.Done held new
 Prints s source n (outcomes.Limit which at) held new = GoesOut s source n (machines.Limit which at) held new

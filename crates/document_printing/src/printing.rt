@@ -142,7 +142,7 @@ fn run_pull<R: Source + Drop, W: Sink>(
     report_of(told(pulled.outcome), pulled, false)
 }
 
-/// Prints a page: it goes through mdoc, characters and tables, and is formatted behind its macros. Without tables it is
+/// Prints a page: it goes through mdoc, characters and tables, and is formatted after its macros. Without tables it is
 /// formatted as it comes. What was printed before a refusal went out; where a page whose tables are set has no room, nothing
 /// did. The output is not flushed. Nothing is allocated.
 ///

@@ -21,7 +21,7 @@ pub(crate) struct Pulled {
     pub moves: u128,
 }
 
-/// A page is formatted behind its macros, without its tables. Nothing is allocated.
+/// A page is formatted after its macros, without its tables. Nothing is allocated.
 pub(crate) fn pull<R: Source + Drop, W: Sink>(
     input: R,
     setup: &Setup<'_>,

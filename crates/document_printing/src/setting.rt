@@ -31,7 +31,7 @@ pub(crate) fn set<'p, R: Source>(
     convert(input, page, tables, complaints)
 }
 
-/// A text is formatted behind macros. Nothing is allocated.
+/// A text is formatted after macros. Nothing is allocated.
 pub(crate) fn format_text<W: Sink>(
     text: &[u8],
     setup: &Setup<'_>,

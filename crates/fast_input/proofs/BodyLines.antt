@@ -27,9 +27,9 @@ use Rattle.fast_input.proofs.PuttingRead.{plain_at}
 use Rattle.fast_input.proofs.Targets.{diversions-with_more, with_more-none, with_more-next, charge_of-some, charge_of-le, longer-bound}
 
 -- whether a line begins after so many bytes
-abbrev begins_behind : List ℕ → Bool → ℕ → Bool
-begins_behind bs x zero = x
-begins_behind bs x (suc k) = slice_index bs k == code "\n"
+abbrev begins_after : List ℕ → Bool → ℕ → Bool
+begins_after bs x zero = x
+begins_after bs x (suc k) = slice_index bs k == code "\n"
 
 -- the reader in a line, or at its beginning
 abbrev in_line_at : Reader → Bool → Reader
@@ -102,7 +102,7 @@ module _ {K : Type 0} (r : Reader) where
     stored k = with_more Text (take k bs) v
 
     abbrev ReadsTo : Bool → ℕ → Type 0
-    ReadsTo x k = ReadsOn (2 * k) k bs v (in_line_at r x) (stored k) (in_line_at r (begins_behind bs x k))
+    ReadsTo x k = ReadsOn (2 * k) k bs v (in_line_at r x) (stored k) (in_line_at r (begins_after bs x k))
 
     front_byte : (k : ℕ) → slice_index (drop k bs) 0 ≡ slice_index bs k
     front_byte k = get_or-drop k bs 0 0 ∙ (let same : k + 0 ≡ k = omega arith in ap (slice_index bs) same)
@@ -126,13 +126,13 @@ module _ {K : Type 0} (r : Reader) where
         (own_reads keeps (drop k bs) (stored k) y b (omega (arith, below, within, length-drop k bs)) (front_byte k) (escape k below) other (one_fits k below)))))
 
     -- after a byte that is not the last no line begins
-    still : (x : Bool) (k : ℕ) → suc k < n → begins_behind bs x (suc k) ≡ true → slice_index bs (suc k) ≢ code "."
+    still : (x : Bool) (k : ℕ) → suc k < n → begins_after bs x (suc k) ≡ true → slice_index bs (suc k) ≢ code "."
     still x k below is = absurd (line k below (eqb-true (slice_index bs k) (code "\n") is))
 
     plain_read : (x : Bool) (k : ℕ) → k ≤ n → (x ≡ true → 0 < n → slice_index bs 0 ≢ code ".") → ReadsTo x k
     plain_read x zero few other = none_read x
     plain_read x (suc zero) few other = one_more x x 0 (omega (arith, few)) (λ is. other is (omega (arith, few))) (none_read x)
-    plain_read x (suc (suc k)) few other = one_more x (begins_behind bs x (suc k)) (suc k) (omega (arith, few)) (still x k (omega (arith, few))) (plain_read x (suc k) (omega (arith, few)) other)
+    plain_read x (suc (suc k)) few other = one_more x (begins_after bs x (suc k)) (suc k) (omega (arith, few)) (still x k (omega (arith, few))) (plain_read x (suc k) (omega (arith, few)) other)
 
     -- after a dot and another byte
     dot_read : (k : ℕ) → suc (suc k) ≤ n → slice_index bs 0 ≡ code "." → slice_index bs 1 ≢ slice_index (last_line r.half.notes.defining) 1 → ReadsTo true (suc (suc k))
@@ -146,7 +146,7 @@ module _ {K : Type 0} (r : Reader) where
         let both_fit : charge_of (with_more Text (b ∷ []) (with_more Text (code "." ∷ []) v)) ≤ v.limit = subst (λ (w : Stored K). charge_of (with_more Text (b ∷ []) w) ≤ v.limit) (sym one) (one_fits 1 (omega (arith, few))) in
         subst (λ (w : Stored K). ReadsOn 4 2 bs v (in_line_at r true) w (in_line_at r (b == code "\n"))) two
         (other_reads keeps bs v b (omega (arith, few, within)) first refl (escape 1 (omega (arith, few))) other first_fits both_fit)
-    dot_read (suc k) few first other = one_more true (begins_behind bs true (suc (suc k))) (suc (suc k)) (omega (arith, few)) (still true (suc k) (omega (arith, few))) (dot_read k (omega (arith, few)) first other)
+    dot_read (suc k) few first other = one_more true (begins_after bs true (suc (suc k))) (suc (suc k)) (omega (arith, few)) (still true (suc k) (omega (arith, few))) (dot_read k (omega (arith, few)) first other)
 
     line_read : (x : Bool) → (x ≡ true → 0 < n → slice_index bs 0 ≡ code "." → (1 < n) × (slice_index bs 1 ≢ slice_index (last_line r.half.notes.defining) 1)) → ReadsTo x n
     line_read false begins = plain_read false n (omega arith) (λ is some dot. let wrong : false ≡ true = is in cc)
@@ -175,7 +175,7 @@ module _ {K : Type 0} (r : Reader) where
         ap (λ (h : Half). record r { half = record h { reading = record h.reading { mode = in_body b } } }) (is_half_in (line_mode x) r.half i.mode i.idle)
         ∙ ap (λ (m : Mode). record r { half = half_in m r.half }) (in_body-is b)
 
-    own_read : charge_of (with_more Text (take own bs) v) ≤ v.limit → ReadsOn (2 * own) own bs v (in_line_at r x) (with_more Text (take own bs) v) (in_line_at r (begins_behind bs x own))
+    own_read : charge_of (with_more Text (take own bs) v) ≤ v.limit → ReadsOn (2 * own) own bs v (in_line_at r x) (with_more Text (take own bs) v) (in_line_at r (begins_after bs x own))
     own_read fits =
         let i = in_line r.half body in
         let text = is_own.text in
@@ -189,7 +189,7 @@ module _ {K : Type 0} (r : Reader) where
     read_plain : (j : ℕ) → own ≡ suc j → w ≡ with_more Text (take own bs) v → charge_of w ≤ w.limit → ReadsOn (2 * own) own bs v r w (reader_behind r (slice_index bs j))
     read_plain j is added fits =
         let all = own_read (subst (λ (u : Stored K). charge_of u ≤ u.limit) added fits) in
-        let ends : in_line_at r (begins_behind bs x own) ≡ reader_behind r (slice_index bs j) = ap (λ k. in_line_at r (begins_behind bs x k)) is ∙ sym (behind_is (slice_index bs j)) in
+        let ends : in_line_at r (begins_after bs x own) ≡ reader_behind r (slice_index bs j) = ap (λ k. in_line_at r (begins_after bs x k)) is ∙ sym (behind_is (slice_index bs j)) in
         subst (λ (q : Reader). ReadsOn (2 * own) own bs v q w (reader_behind r (slice_index bs j))) (sym stands)
         (subst (λ (u : Stored K). ReadsOn (2 * own) own bs v (in_line_at r x) u (reader_behind r (slice_index bs j))) (sym added)
         (subst (λ (q : Reader). ReadsOn (2 * own) own bs v (in_line_at r x) (with_more Text (take own bs) v) q) ends all))
@@ -197,7 +197,7 @@ module _ {K : Type 0} (r : Reader) where
     read_escaped : own + 1 < length bs → slice_index bs own ≡ code "\\" → slice_index bs (own + 1) ≡ code "\\" → w ≡ with_more Text (take (suc own) bs) v → charge_of w ≤ w.limit → ReadsOn (2 * own + 3) (own + 2) bs v r w (reader_behind r (code "\\"))
     read_escaped some first second added fits =
         let i = in_line r.half body in
-        let y = begins_behind bs x own in
+        let y = begins_after bs x own in
         let u = with_more Text (take own bs) v in
         let all_fit : charge_of (with_more Text (take (suc own) bs) v) ≤ v.limit = subst (λ (o : Stored K). charge_of o ≤ o.limit) added fits in
         let fewer : length (take own bs) ≤ length (take (suc own) bs) = omega (arith, some, length-take own bs, length-take (suc own) bs) in

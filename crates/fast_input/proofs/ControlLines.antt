@@ -24,12 +24,12 @@ use Rattle.nr_reading.specs.Weights.{is_lead}
 use Rattle.nr_input.specs.declared.reader.Reader.{Reader}
 use Rattle.nr_input.specs.declared.refusal.Refusal.{Refusal}
 use Rattle.nr_input.specs.declared.told.Told.TheVariants as tells
-use Rattle.nr_input.specs.Acting.{Acted, act, done, meaning_in, behind_meaning, calls_of, is_look}
+use Rattle.nr_input.specs.Acting.{Acted, act, done, meaning_in, after_meaning, calls_of, is_look}
 use Rattle.nr_input.specs.Refusal.{Called, called, acted, answer}
 use Rattle.fast_input.specs.AtHand.{ComeNext}
 use Rattle.nr_input.specs.Place.{Coming, Reached, HoldsComing, passed_run}
 use Rattle.nr_input.specs.Moving.{Situation, Stands, situation, move, Goes, GoesBy, burst_past}
-use Rattle.fast_input.specs.Runs.{HasRead, PaysAll, moves, told_last, behind_run, inside_behind}
+use Rattle.fast_input.specs.Runs.{HasRead, PaysAll, moves, told_last, after_run, inside_after}
 use Rattle.nr_input.specs.Weights.{Pays, byte_worth, diversions_in}
 use Rattle.fast_input.proofs.Putting.{Quietly}
 use Rattle.nr_input.proofs.Refusals.{acted-ok}
@@ -173,7 +173,7 @@ pub seeks_no_lead : (c : Calls) → is_lead (sought_event c) ≡ false
 seeks_no_lead calls.Title = refl
 seeks_no_lead c = refl
 
-builds_the_same : {K : Type 0} (m : Meaning) (v : Stored K) → (behind_meaning m v).building ≡ v.building
+builds_the_same : {K : Type 0} (m : Meaning) (v : Stored K) → (after_meaning m v).building ≡ v.building
 builds_the_same meanings.Text v = refl
 builds_the_same m v = refl
 
@@ -184,7 +184,7 @@ module _ {K : Type 0} (v w : Stored K) (r s : Reader) (e : Event) (due : r.half.
   pub waits : is_look r.half.reading.due ≡ false
   waits = rw due refl
 
-  stored_is : w ≡ behind_meaning (meaning_in v r) v
+  stored_is : w ≡ after_meaning (meaning_in v r) v
   stored_is = ap (λ (a : Called K (Result Event Refusal)). a.stored) is
 
   same_told : (x y : Result Event Refusal) (a b : Event) → x ≡ Ok a → y ≡ Ok b → x ≡ y → a ≡ b
@@ -212,7 +212,7 @@ may_give_behind t n m (After k) less h = omega (arith, less, h)
 may_give_behind t n m Anytime less h = tt
 
 -- the other bytes come next after the first t
-pub come_behind : (t : ℕ) (bs : List ℕ) (c : Coming) → t ≤ length bs → ComeNext bs c → ComeNext (drop t bs) (behind_run t c)
+pub come_behind : (t : ℕ) (bs : List ℕ) (c : Coming) → t ≤ length bs → ComeNext bs c → ComeNext (drop t bs) (after_run t c)
 come_behind t bs c less next =
     let xs = c.supply.bytes in
     let left : length (drop t bs) ≡ length bs - t = length-drop t bs in
@@ -224,19 +224,19 @@ come_behind t bs c less next =
     }
 
 -- after more bytes
-pub inside_on : (t n : ℕ) (bs : List ℕ) (inside : Bool) → 0 < n → inside_behind n (drop t bs) (inside_behind t bs inside) ≡ inside_behind (t + n) bs inside
+pub inside_on : (t n : ℕ) (bs : List ℕ) (inside : Bool) → 0 < n → inside_after n (drop t bs) (inside_after t bs inside) ≡ inside_after (t + n) bs inside
 inside_on t zero bs inside some = absurd (omega (arith, some))
 inside_on t (suc n) bs inside some =
     let next : suc (t + n) ≡ t + suc n = omega arith in
-    ap (λ b. not (b == code "\n")) (get_or-drop t bs n 0) ∙ ap (λ k. inside_behind k bs inside) next
+    ap (λ b. not (b == code "\n")) (get_or-drop t bs n 0) ∙ ap (λ k. inside_after k bs inside) next
 
-pub run_on : (t n : ℕ) (c : Coming) → 0 < n → behind_run n (behind_run t c) ≡ behind_run (t + n) c
+pub run_on : (t n : ℕ) (c : Coming) → 0 < n → after_run n (after_run t c) ≡ after_run (t + n) c
 run_on t n c some =
     let taken : c.taken + t + n ≡ c.taken + (t + n) = omega arith in
-    let whole = behind_run (t + n) c in
-    ap (λ bs. record { supply = record { bytes = bs; faults = later n (later t c.supply.faults) }; taken = c.taken + t + n; inside = inside_behind n (drop t c.supply.bytes) (inside_behind t c.supply.bytes c.inside) }) (drop-drop n t c.supply.bytes)
-    ∙ ap (λ f. record { supply = record { bytes = drop (t + n) c.supply.bytes; faults = f }; taken = c.taken + t + n; inside = inside_behind n (drop t c.supply.bytes) (inside_behind t c.supply.bytes c.inside) }) (later_on t n c.supply.faults)
-    ∙ ap (λ k. record whole { taken = k; inside = inside_behind n (drop t c.supply.bytes) (inside_behind t c.supply.bytes c.inside) }) taken
+    let whole = after_run (t + n) c in
+    ap (λ bs. record { supply = record { bytes = bs; faults = later n (later t c.supply.faults) }; taken = c.taken + t + n; inside = inside_after n (drop t c.supply.bytes) (inside_after t c.supply.bytes c.inside) }) (drop-drop n t c.supply.bytes)
+    ∙ ap (λ f. record { supply = record { bytes = drop (t + n) c.supply.bytes; faults = f }; taken = c.taken + t + n; inside = inside_after n (drop t c.supply.bytes) (inside_after t c.supply.bytes c.inside) }) (later_on t n c.supply.faults)
+    ∙ ap (λ k. record whole { taken = k; inside = inside_after n (drop t c.supply.bytes) (inside_after t c.supply.bytes c.inside) }) taken
     ∙ ap (λ i. record whole { inside = i }) (inside_on t n c.supply.bytes c.inside some)
 
 passed_on : (t n a b : ℕ) (p : Reached) → passed_run b n (passed_run a t p) ≡ passed_run b (t + n) p
@@ -319,50 +319,50 @@ module _ {K : Type 0} (v w : Stored K) (r r2 : Reader) (bs : List ℕ) (m t : �
     -- ---- where they lead
 
     module _ (c : Coming) (levels : v.levels ≡ []) (next : ComeNext bs c) (long : t ≤ length bs) where
-      row_leads : Quietly m (situation v c r) (situation v (behind_run t c) named)
+      row_leads : Quietly m (situation v c r) (situation v (after_run t c) named)
       row_leads =
           let fs = map fronts.Byte bs in
           let some = some_taken t (λ none. omega (arith, none, many)) in
           let burst : burst_past c.taken (c.taken + t) r.burst ≡ 0 = ap (λ k. burst_past c.taken (c.taken + k) r.burst) some.1 ∙ burst_some c.taken some.0 r.burst in
-          let there : at_source v c r (quiet t h1) ≡ situation v (behind_run t c) named = ap (λ (n : ℕ). situation v (behind_run t c) (record r { half = h1; burst = n })) burst in
+          let there : at_source v c r (quiet t h1) ≡ situation v (after_run t c) named = ap (λ (n : ℕ). situation v (after_run t c) (record r { half = h1; burst = n })) burst in
           subst (λ x. Quietly m (situation v c r) x) there
           (subst (λ s. Quietly m s (at_source v c r (quiet t h1))) (begins_there v c r bs levels next)
           (row_quietly m t fs r.half h1 (at_source v c r) (source_goings v c r bs levels next) name))
 
-      name_read : (q : Reached) (supply : Option Supply) → HoldsComing (behind_run t c) q supply → HasRead (1 + m) (situation v c r) e w r2 q supply
+      name_read : (q : Reached) (supply : Option Supply) → HoldsComing (after_run t c) q supply → HasRead (1 + m) (situation v c r) e w r2 q supply
       name_read q supply holds =
-          then_read 1 m (situation v c r) (situation v (behind_run t c) named) e w r2 q supply row_leads
-          (done_read v w (behind_run t c) named r2 e (waits v w named r2 e due seek) act_is q supply holds)
+          then_read 1 m (situation v c r) (situation v (after_run t c) named) e w r2 q supply row_leads
+          (done_read v w (after_run t c) named r2 e (waits v w named r2 e due seek) act_is q supply holds)
 
-      same_levels : (m : Meaning) → (behind_meaning m v).levels ≡ v.levels
+      same_levels : (m : Meaning) → (after_meaning m v).levels ≡ v.levels
       same_levels meanings.Text = refl
       same_levels m = refl
 
       levels_there : w.levels ≡ []
       levels_there = ap (λ (x : Stored K). x.levels) (stored_is v w named r2 e due seek) ∙ same_levels (meaning_in v named) ∙ levels
 
-      leads_quietly : e ≡ events.Nothing → Quietly (1 + m) (situation v c r) (situation w (behind_run t c) r2)
+      leads_quietly : e ≡ events.Nothing → Quietly (1 + m) (situation v c r) (situation w (after_run t c) r2)
       leads_quietly silent =
-          quietly_add 1 m (situation v c r) (situation v (behind_run t c) named) (situation w (behind_run t c) r2) row_leads (done_quietly v w (behind_run t c) named r2 e (waits v w named r2 e due seek) act_is silent)
+          quietly_add 1 m (situation v c r) (situation v (after_run t c) named) (situation w (after_run t c) r2) row_leads (done_quietly v w (after_run t c) named r2 e (waits v w named r2 e due seek) act_is silent)
 
       line_read : (n : ℕ) (p : Spot) (q : Reached) (supply : Option Supply) → e ≡ events.Nothing → HasMet n (map fronts.Byte (drop t bs)) r2.half p → 0 < p.taken
-          → HoldsComing (behind_run (t + p.taken) c) q supply → HasRead (n + (1 + m)) (situation v c r) p.event w (record r2 { half = p.half }) q supply
+          → HoldsComing (after_run (t + p.taken) c) q supply → HasRead (n + (1 + m)) (situation v c r) p.event w (record r2 { half = p.half }) q supply
       line_read n p q supply silent met some holds =
           let behind : Reader = record r2 { half = p.half; burst = 0 } in
           subst (λ (b : ℕ). HasRead (n + (1 + m)) (situation v c r) p.event w (record r2 { half = p.half; burst = b }) q supply) (sym burst_is)
-          (then_read n (1 + m) (situation v c r) (situation w (behind_run t c) r2) p.event w behind q supply (leads_quietly silent)
-          (source_read w (behind_run t c) r2 (drop t bs) levels_there (come_behind t bs c long next) n p q supply some met
+          (then_read n (1 + m) (situation v c r) (situation w (after_run t c) r2) p.event w behind q supply (leads_quietly silent)
+          (source_read w (after_run t c) r2 (drop t bs) levels_there (come_behind t bs c long next) n p q supply some met
           (subst (λ (d : Coming). HoldsComing d q supply) (sym (run_on t p.taken c some)) holds)))
 
       -- none of the other bytes was taken
       line_looked : (n : ℕ) (p : Spot) (q : Reached) (supply : Option Supply) → e ≡ events.Nothing → HasMet n (map fronts.Byte (drop t bs)) r2.half p → p.taken ≡ 0
-          → HoldsComing (behind_run t c) q supply → HasRead (n + (1 + m)) (situation v c r) p.event w (record r2 { half = p.half }) q supply
+          → HoldsComing (after_run t c) q supply → HasRead (n + (1 + m)) (situation v c r) p.event w (record r2 { half = p.half }) q supply
       line_looked n p q supply silent met none holds =
-          then_read n (1 + m) (situation v c r) (situation w (behind_run t c) r2) p.event w (record r2 { half = p.half }) q supply (leads_quietly silent)
-          (source_looked w (behind_run t c) r2 (drop t bs) levels_there (come_behind t bs c long next) n p q supply none met holds)
+          then_read n (1 + m) (situation v c r) (situation w (after_run t c) r2) p.event w (record r2 { half = p.half }) q supply (leads_quietly silent)
+          (source_looked w (after_run t c) r2 (drop t bs) levels_there (come_behind t bs c long next) n p q supply none met holds)
 
       pub all_read : (line : Run) (h3 : Half) → (e ≡ events.Nothing → HasMet line.moves (map fronts.Byte (drop t bs)) r2.half (spot line h3)) → ((e ≡ events.Nothing → ⊥) → h3 ≡ r2.half)
-          → ((e ≡ events.Nothing → ⊥) → line ≡ record { taken = 0; moves = 0; event = e }) → (q : Reached) (supply : Option Supply) → HoldsComing (behind_run (t + line.taken) c) q supply
+          → ((e ≡ events.Nothing → ⊥) → line ≡ record { taken = 0; moves = 0; event = e }) → (q : Reached) (supply : Option Supply) → HoldsComing (after_run (t + line.taken) c) q supply
           → HasRead (m + 1 + line.moves) (situation v c r) line.event w (record r2 { half = h3 }) q supply
       all_read line h3 met left none q supply holds = elim (silent_or e) [
         | inl silent ↦
@@ -373,7 +373,7 @@ module _ {K : Type 0} (v w : Stored K) (r r2 : Reader) (bs : List ℕ) (m t : �
               | inr few ↦
                   let zero_taken : line.taken ≡ 0 = omega (arith, few) in
                   line_looked line.moves (spot line h3) q supply silent (met silent) zero_taken
-                  (subst (λ k. HoldsComing (behind_run k c) q supply) (none_more line.taken zero_taken) holds)
+                  (subst (λ k. HoldsComing (after_run k c) q supply) (none_more line.taken zero_taken) holds)
             ])
         | inr other ↦
             let nothing : line ≡ record { taken = 0; moves = 0; event = e } = none other in
@@ -381,5 +381,5 @@ module _ {K : Type 0} (v w : Stored K) (r r2 : Reader) (bs : List ℕ) (m t : �
             subst (λ (l : Run). HasRead (m + 1 + l.moves) (situation v c r) l.event w (record r2 { half = h3 }) q supply) (sym nothing)
             (subst (λ n. HasRead n (situation v c r) e w (record r2 { half = h3 }) q supply) count
             (subst (λ (h : Half). HasRead (1 + m) (situation v c r) e w (record r2 { half = h }) q supply) (sym (left other))
-            (name_read q supply (subst (λ k. HoldsComing (behind_run k c) q supply) (none_more line.taken (ap (λ (l : Run). l.taken) nothing)) holds))))
+            (name_read q supply (subst (λ k. HoldsComing (after_run k c) q supply) (none_more line.taken (ap (λ (l : Run). l.taken) nothing)) holds))))
       ]

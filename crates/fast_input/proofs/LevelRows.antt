@@ -4,7 +4,7 @@ use Rattle.std.proofs.Common.{◌≡◌, ℕ, zero, suc, ◌+◌, ◌≤◌, Boo
 use Rattle.std.proofs.lemmas.List.{drop-map, drop_all}
 use Rattle.nr_units.specs.Source.{Supply}
 use Rattle.nr_store.specs.Store.{Stored, Level, Read, Mark, left}
-use Rattle.nr_store.specs.Windows.{rest_of, left_times, levels_behind}
+use Rattle.nr_store.specs.Windows.{rest_of, left_times, levels_after}
 use Rattle.nr_store.specs.Laws.{left_times-run}
 use Rattle.nr_store.specs.declared.named.Meaning.{Meaning}
 use Rattle.nr_store.specs.declared.named.Meaning.TheVariants as meanings
@@ -16,7 +16,7 @@ use Rattle.nr_reading.specs.Many.Runs.{Spot, HasMet}
 use Rattle.nr_reading.specs.Seeking.{sought_event}
 use Rattle.nr_input.specs.declared.reader.Reader.{Reader}
 use Rattle.nr_input.specs.declared.refusal.Refusal.{Refusal}
-use Rattle.nr_input.specs.Acting.{behind_meaning, calls_of, meaning_in, behind_name}
+use Rattle.nr_input.specs.Acting.{after_meaning, calls_of, meaning_in, behind_name}
 use Rattle.nr_input.specs.Place.{Coming, Reached, HoldsComing, element_front}
 use Rattle.fast_input.specs.LevelRows.{begun_by, is_text}
 use Rattle.nr_input.specs.Limits.{limits_of}
@@ -34,7 +34,7 @@ pub left_times-add : {K : Type 0} (t k : ℕ) (v : Stored K) → left_times k (l
 left_times-add zero k v = let same : k ≡ 0 + k = omega arith in ap (λ n. left_times n v) same
 left_times-add (suc t) k v = let same : suc (t + k) ≡ suc t + k = omega arith in left_times-add t k (left v.levels v) ∙ ap (λ n. left_times n v) same
 
-rest_behind : {K : Type 0} (n : ℕ) (levels : List (Level K)) → rest_of (levels_behind n levels) ≡ drop n (rest_of levels)
+rest_behind : {K : Type 0} (n : ℕ) (levels : List (Level K)) → rest_of (levels_after n levels) ≡ drop n (rest_of levels)
 rest_behind n [] = sym (drop_all n [] (omega arith))
 rest_behind n (Mark mode ∷ ls) = sym (drop_all n [] (omega arith))
 rest_behind n (Read l ∷ ls) = refl
@@ -48,7 +48,7 @@ row_behind n fs v few is = ap (drop n) is ∙ drop-map element_front n (rest_of 
 
 -- ---- a name is looked up
 
-begun-meaning : {K : Type 0} (m : Meaning) (v : Stored K) → begun_by (is_text m) v ≡ behind_meaning m v
+begun-meaning : {K : Type 0} (m : Meaning) (v : Stored K) → begun_by (is_text m) v ≡ after_meaning m v
 begun-meaning meanings.Text v = refl
 begun-meaning meanings.Unknown v = refl
 begun-meaning (meanings.Request q) v = refl
@@ -58,7 +58,7 @@ begun-limits true v r = refl
 begun-limits false v r = refl
 
 sought_so : {K : Type 0} (m n : Meaning) (v : Stored K) (r s : Reader) (e : Event) → n ≡ m → s ≡ behind_name m r → e ≡ sought_event (calls_of m)
-    → called {A = Result Event Refusal} (behind_meaning m v) s (Ok e) ≡ called {A = Result Event Refusal} (behind_meaning n v) (behind_name n r) (Ok (sought_event (calls_of n)))
+    → called {A = Result Event Refusal} (after_meaning m v) s (Ok e) ≡ called {A = Result Event Refusal} (after_meaning n v) (behind_name n r) (Ok (sought_event (calls_of n)))
 sought_so m n v r s e same reader told = rw (same, reader, told) refl
 
 module _ {K : Type 0} (t : ℕ) (v : Stored K) (m : Meaning) (r s : Reader) (e : Event) (few : t ≤ length (rest_of v.levels)) (due : r.half.reading.due ≡ dues.Seek) (means : m ≡ meaning_in v r)

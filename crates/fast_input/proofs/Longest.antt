@@ -5,7 +5,7 @@ use Rattle.std.proofs.Common.{◌≡◌, ℕ, zero, suc, ◌+◌, ◌-◌, ◌*�
 use Rattle.std.proofs.lemmas.List.{length-map, length-take, get_or-take}
 use Rattle.std.proofs.lemmas.Option.{slice_get-map, slice_get-get_or}
 use Rattle.nr_store.specs.Store.{Stored, Level, Read, Mark, charge_of}
-use Rattle.nr_store.specs.Windows.{rest_of, left_times, levels_behind}
+use Rattle.nr_store.specs.Windows.{rest_of, left_times, levels_after}
 use Rattle.nr_store.specs.Laws.{left_times-run}
 use Rattle.nr_store.specs.declared.element.Element.{Element}
 use Rattle.nr_store.specs.declared.element.Element.TheVariants as elements
@@ -82,7 +82,7 @@ slice_get-drop zero xs = refl
 slice_get-drop (suc n) [] = refl
 slice_get-drop (suc n) (x ∷ xs) = slice_get-drop n xs
 
-pub rest_of-behind : {K : Type 0} (n : ℕ) (levels : List (Level K)) → slice_get (rest_of (levels_behind n levels)) 0 ≡ slice_get (rest_of levels) n
+pub rest_of-behind : {K : Type 0} (n : ℕ) (levels : List (Level K)) → slice_get (rest_of (levels_after n levels)) 0 ≡ slice_get (rest_of levels) n
 rest_of-behind n [] = refl
 rest_of-behind n (Mark mode ∷ ls) = refl
 rest_of-behind n (Read l ∷ ls) = slice_get-drop n l.rest

@@ -24,9 +24,9 @@ use Rattle.nr_input.specs.Refusal.{called, acted, answer}
 use Rattle.fast_input.specs.AtHand.{ComeNext}
 use Rattle.nr_input.specs.Place.{Coming, Reached, HoldsComing, passed_run}
 use Rattle.nr_input.specs.Limits.{limits_of}
-use Rattle.fast_input.specs.MacroLines.{ReadsOn, reached_behind}
+use Rattle.fast_input.specs.MacroLines.{ReadsOn, reached_after}
 use Rattle.nr_input.specs.Moving.{situation}
-use Rattle.fast_input.specs.Runs.{HasRead, PaysAll, behind_run, inside_behind}
+use Rattle.fast_input.specs.Runs.{HasRead, PaysAll, after_run, inside_after}
 use Rattle.fast_input.specs.Target.{with_more}
 use Rattle.nr_input.specs.Weights.{newline_left, diversions_in}
 use Rattle.fast_input.proofs.ControlLines.{done_read, pays_then, pays_once, come_behind, run_on, inside_on}
@@ -61,17 +61,17 @@ same_coming c d holds =
     ∙ ap (λ (b : Bool). record { supply = d.supply; taken = d.taken; inside = b }) holds.inside
 
 -- after further bytes, if there are any
-run_further : (t u : ℕ) (c : Coming) → behind_run u (behind_run t c) ≡ behind_run (t + u) c
-run_further t zero c = let same : t ≡ t + 0 = omega arith in behind_none (behind_run t c) ∙ ap (λ n. behind_run n c) same
+run_further : (t u : ℕ) (c : Coming) → after_run u (after_run t c) ≡ after_run (t + u) c
+run_further t zero c = let same : t ≡ t + 0 = omega arith in behind_none (after_run t c) ∙ ap (λ n. after_run n c) same
 run_further t (suc u) c = run_on t (suc u) c (omega arith)
 
-reached_further : (t u : ℕ) (bs : List ℕ) (p : Reached) → reached_behind u (drop t bs) (reached_behind t bs p) ≡ reached_behind (t + u) bs p
+reached_further : (t u : ℕ) (bs : List ℕ) (p : Reached) → reached_after u (drop t bs) (reached_after t bs p) ≡ reached_after (t + u) bs p
 reached_further t u bs p =
     let counts : p.taken + t + u ≡ p.taken + (t + u) = omega arith in
     ap₂ (λ (n : ℕ) (b : Bool). record { ahead = Unseen; taken = n; inside = b }) counts (inside_further t u bs p.inside)
   where
-    inside_further : (t u : ℕ) (bs : List ℕ) (inside : Bool) → inside_behind u (drop t bs) (inside_behind t bs inside) ≡ inside_behind (t + u) bs inside
-    inside_further t zero bs inside = let same : t ≡ t + 0 = omega arith in ap (λ n. inside_behind n bs inside) same
+    inside_further : (t u : ℕ) (bs : List ℕ) (inside : Bool) → inside_after u (drop t bs) (inside_after t bs inside) ≡ inside_after (t + u) bs inside
+    inside_further t zero bs inside = let same : t ≡ t + 0 = omega arith in ap (λ n. inside_after n bs inside) same
     inside_further t (suc u) bs inside = inside_on t (suc u) bs inside (omega arith)
 
 -- where the program stands matters by how much was taken and by what the last byte was
@@ -93,7 +93,7 @@ reads_then n m t u bs v w x r s q first more = record {
   burst = more.burst ∙ first.burst;
   limits = more.limits ∙ first.limits;
   reads = λ none still c p supply next holds.
-      let d = behind_run t c in
+      let d = after_run t c in
       read_then m n (situation v c r) events.Nothing w x s q (standing d) p (Some d.supply) supply
       (first.reads none still c (standing d) (Some d.supply) next (stands_there d))
       (λ o there.
@@ -103,9 +103,9 @@ reads_then n m t u bs v w x r s q first more = record {
       (subst (λ (k : Coming). HoldsComing k p supply) (sym (run_further t u c)) holds)));
   pays = λ still p.
       let counts : m + n ≡ n + m = omega arith in
-      subst (λ k. PaysAll k v p r events.Nothing x (reached_behind (t + u) bs p) q) counts
+      subst (λ k. PaysAll k v p r events.Nothing x (reached_after (t + u) bs p) q) counts
       (subst (λ (o : Reached). PaysAll (m + n) v p r events.Nothing x o q) (reached_further t u bs p)
-      (pays_then m n v w x p (reached_behind t bs p) (reached_behind u (drop t bs) (reached_behind t bs p)) r s q events.Nothing (first.pays still p) (more.pays (first.burst ∙ still) (reached_behind t bs p))));
+      (pays_then m n v w x p (reached_after t bs p) (reached_after u (drop t bs) (reached_after t bs p)) r s q events.Nothing (first.pays still p) (more.pays (first.burst ∙ still) (reached_after t bs p))));
 }
 
 -- the same, where that takes none of them
@@ -122,7 +122,7 @@ reads_rest n t u bs v w r s few reads =
 
 -- ---- no move
 
-reached_none : (bs : List ℕ) (p : Reached) → p.taken ≡ (reached_behind 0 bs p).taken
+reached_none : (bs : List ℕ) (p : Reached) → p.taken ≡ (reached_after 0 bs p).taken
 reached_none bs p = omega arith
 
 pub reads_none : {K : Type 0} (bs : List ℕ) (v w : Stored K) (r s : Reader) → w ≡ v → s ≡ r → ReadsOn 0 0 bs v r w s
@@ -133,36 +133,36 @@ reads_none bs v w r s stored reader = record {
   limits = ap₂ (λ (x : Stored _) (q : Reader). limits_of x q) stored reader;
   reads = λ none still c p supply next holds.
       reads_nothing (situation v c r) w s p supply (record { stored = stored; reader = reader; coming = subst (λ (k : Coming). HoldsComing k p supply) (behind_none c) holds });
-  pays = λ still p. rw (stored, reader) (pays_at 0 v v p p (reached_behind 0 bs p) r r events.Nothing (reached_none bs p) refl (pays_nothing v p r));
+  pays = λ still p. rw (stored, reader) (pays_at 0 v v p p (reached_after 0 bs p) r r events.Nothing (reached_none bs p) refl (pays_nothing v p r));
 }
 
 -- ---- bytes that are met
 
 module _ {K : Type 0} (n t : ℕ) (bs : List ℕ) (v : Stored K) (r : Reader) (k : Half) (met : HasMet n (map fronts.Byte bs) r.half (quiet t k)) where
-  met_reads : v.levels ≡ [] → r.burst ≡ 0 → (c : Coming) (p : Reached) (supply : Option Supply) → ComeNext bs c → HoldsComing (behind_run t c) p supply → HasRead n (situation v c r) events.Nothing v (record r { half = k }) p supply
+  met_reads : v.levels ≡ [] → r.burst ≡ 0 → (c : Coming) (p : Reached) (supply : Option Supply) → ComeNext bs c → HoldsComing (after_run t c) p supply → HasRead n (situation v c r) events.Nothing v (record r { half = k }) p supply
   met_reads none still c p supply next holds = elim (cases_lt 0 t) [
     | inl some ↦
         subst (λ (b : ℕ). HasRead n (situation v c r) events.Nothing v (record r { half = k; burst = b }) p supply) (sym still) (source_read v c r bs none next n (quiet t k) p supply some met holds)
     | inr few ↦
         let zero_taken : t ≡ 0 = omega (arith, few) in
         source_looked v c r bs none next n (quiet t k) p supply zero_taken met
-        (subst (λ (d : Coming). HoldsComing d p supply) (ap (λ j. behind_run j c) zero_taken ∙ behind_none c) holds)
+        (subst (λ (d : Coming). HoldsComing d p supply) (ap (λ j. after_run j c) zero_taken ∙ behind_none c) holds)
   ]
 
-  inside_there : (t : ℕ) (p : Reached) → 0 < t → not (slice_index bs (t - 1) == code "\n") ≡ inside_behind t bs p.inside
+  inside_there : (t : ℕ) (p : Reached) → 0 < t → not (slice_index bs (t - 1) == code "\n") ≡ inside_after t bs p.inside
   inside_there zero p some = absurd (omega (arith, some))
   inside_there (suc j) p some = let same : suc j - 1 ≡ j = omega arith in ap (λ i. not (slice_index bs i == code "\n")) same
 
-  met_pays : r.burst ≡ 0 → (p : Reached) → PaysAll n v p r events.Nothing v (reached_behind t bs p) (record r { half = k })
+  met_pays : r.burst ≡ 0 → (p : Reached) → PaysAll n v p r events.Nothing v (reached_after t bs p) (record r { half = k })
   met_pays still p = elim (cases_lt 0 t) [
     | inl some ↦
         let last = slice_index bs (t - 1) in
-        subst (λ (b : ℕ). PaysAll n v p r events.Nothing v (reached_behind t bs p) (record r { half = k; burst = b })) (sym still)
-        (pays_at n v v p (passed_run last t p) (reached_behind t bs p) r (record r { half = k; burst = 0 }) events.Nothing refl (inside_there t p some)
+        subst (λ (b : ℕ). PaysAll n v p r events.Nothing v (reached_after t bs p) (record r { half = k; burst = b })) (sym still)
+        (pays_at n v v p (passed_run last t p) (reached_after t bs p) r (record r { half = k; burst = 0 }) events.Nothing refl (inside_there t p some)
         (source_pays n (map fronts.Byte bs) v p r (quiet t k) met last (passed_run last t p) some refl))
     | inr few ↦
         let zero_taken : t ≡ 0 = omega (arith, few) in
-        pays_at n v v p p (reached_behind t bs p) r (record r { half = k }) events.Nothing (omega (arith, zero_taken)) (ap (λ j. inside_behind j bs p.inside) (sym zero_taken))
+        pays_at n v v p p (reached_after t bs p) r (record r { half = k }) events.Nothing (omega (arith, zero_taken)) (ap (λ j. inside_after j bs p.inside) (sym zero_taken))
         (looked_pays n (map fronts.Byte bs) v p r (quiet t k) met zero_taken)
   ]
 
@@ -189,7 +189,7 @@ module _ {K : Type 0} (bs : List ℕ) (v w : Stored K) (r s : Reader) (waits : i
     limits = limits;
     reads = λ none still c p supply next holds. done_read v w c r s events.Nothing waits is p supply (subst (λ (d : Coming). HoldsComing d p supply) (behind_none c) holds);
     pays = λ still p.
-        pays_at 1 v w p p (reached_behind 0 bs p) r s events.Nothing (reached_none bs p) refl
+        pays_at 1 v w p p (reached_after 0 bs p) r s events.Nothing (reached_none bs p) refl
         (pays_once v w p p r s events.Nothing refl diversions (act_pays v w p r s events.Nothing (λ look. let wrong : true ≡ false = sym (ap is_look look) ∙ waits in cc) is));
   }
 
@@ -235,12 +235,12 @@ module _ {K : Type 0} (n : ℕ) (bs : List ℕ) (v w : Stored K) (r : Reader) (a
         (source_added Argument n v w c r bs none next argument within plain added fits p supply some holds);
     pays = λ still p.
         let last = slice_index bs (n - 1) in
-        subst (λ (b : ℕ). PaysAll (2 * n) v p r events.Nothing w (reached_behind n bs p) (record r { burst = b })) (sym still)
-        (pays_at (2 * n) v w p (passed_run last n p) (reached_behind n bs p) r (record r { burst = 0 }) events.Nothing refl (inside_at n p some)
+        subst (λ (b : ℕ). PaysAll (2 * n) v p r events.Nothing w (reached_after n bs p) (record r { burst = b })) (sym still)
+        (pays_at (2 * n) v w p (passed_run last n p) (reached_after n bs p) r (record r { burst = 0 }) events.Nothing refl (inside_at n p some)
         (source_added_pays Argument n last (take n bs) v w p (passed_run last n p) r some added refl));
   }
     where
-      inside_at : (n : ℕ) (p : Reached) → 0 < n → not (slice_index bs (n - 1) == code "\n") ≡ inside_behind n bs p.inside
+      inside_at : (n : ℕ) (p : Reached) → 0 < n → not (slice_index bs (n - 1) == code "\n") ≡ inside_after n bs p.inside
       inside_at zero p some = absurd (omega (arith, some))
       inside_at (suc j) p some = let same : suc j - 1 ≡ j = omega arith in ap (λ i. not (slice_index bs i == code "\n")) same
 
@@ -282,16 +282,16 @@ module _ {K : Type 0} (n t k : ℕ) (bs : List ℕ) (v w : Stored K) (r s : Read
 
   pub none_read : v.levels ≡ [] → t ≡ 0 → (c : Coming) (p : Reached) (supply : Option Supply) → ComeNext bs c → HoldsComing c p supply → HasRead n (situation v c r) events.Nothing w s p supply
   none_read none zero_taken c p supply next holds =
-      reads.reads none still c p supply (come_front k bs c next) (subst (λ (d : Coming). HoldsComing d p supply) (sym (ap (λ j. behind_run j c) zero_taken ∙ behind_none c)) holds)
+      reads.reads none still c p supply (come_front k bs c next) (subst (λ (d : Coming). HoldsComing d p supply) (sym (ap (λ j. after_run j c) zero_taken ∙ behind_none c)) holds)
 
   pub none_paid : t ≡ 0 → (p : Reached) → PaysAll n v p r events.Nothing w p s
   none_paid zero_taken p =
-      pays_at n v w p (reached_behind t (take k bs) p) p r s events.Nothing (omega (arith, zero_taken)) (ap (λ j. inside_behind j (take k bs) p.inside) zero_taken) (reads.pays still p)
+      pays_at n v w p (reached_after t (take k bs) p) p r s events.Nothing (omega (arith, zero_taken)) (ap (λ j. inside_after j (take k bs) p.inside) zero_taken) (reads.pays still p)
 
-  pub line_read : v.levels ≡ [] → (c : Coming) (p : Reached) (supply : Option Supply) → ComeNext bs c → HoldsComing (behind_run t c) p supply → HasRead n (situation v c r) events.Nothing w s p supply
+  pub line_read : v.levels ≡ [] → (c : Coming) (p : Reached) (supply : Option Supply) → ComeNext bs c → HoldsComing (after_run t c) p supply → HasRead n (situation v c r) events.Nothing w s p supply
   line_read none c p supply next holds = reads.reads none still c p supply (come_front k bs c next) holds
 
-  inside_of : (t : ℕ) (p : Reached) → 0 < t → t ≤ length (take k bs) → inside_behind t (take k bs) p.inside ≡ not (slice_index bs (t - 1) == code "\n")
+  inside_of : (t : ℕ) (p : Reached) → 0 < t → t ≤ length (take k bs) → inside_after t (take k bs) p.inside ≡ not (slice_index bs (t - 1) == code "\n")
   inside_of zero p some few = absurd (omega (arith, some))
   inside_of (suc j) p some few =
       let same : suc j - 1 ≡ j = omega arith in
@@ -302,4 +302,4 @@ module _ {K : Type 0} (n t k : ℕ) (bs : List ℕ) (v w : Stored K) (r s : Read
   line_paid some p q is =
       let last = slice_index bs (t - 1) in
       subst (λ (o : Reached). PaysAll n v p r events.Nothing w o s) (sym is)
-      (pays_at n v w p (reached_behind t (take k bs) p) (passed_run last t p) r s events.Nothing refl (inside_of t p some reads.within) (reads.pays still p))
+      (pays_at n v w p (reached_after t (take k bs) p) (passed_run last t p) r s events.Nothing refl (inside_of t p some reads.within) (reads.pays still p))

@@ -11,7 +11,7 @@ use Rattle.nr_reading.specs.declared.half.Half.{Half}
 use Rattle.nr_reading.specs.declared.mode.Due.{Due}
 use Rattle.nr_reading.specs.declared.mode.Due.TheVariants as dues
 use Rattle.nr_reading.specs.Half.{Met, meet}
-use Rattle.nr_reading.specs.Many.Runs.{Spot, MayGoOn, behind, behind_met}
+use Rattle.nr_reading.specs.Many.Runs.{Spot, MayGoOn, behind, after_met}
 use Rattle.nr_input.specs.declared.reader.Reader.{Reader}
 use Rattle.nr_input.specs.declared.told.Told.TheVariants as tells
 use Rattle.nr_input.specs.Acting.{Acted, act, done, is_look, next, then_due, idle}
@@ -114,7 +114,7 @@ module _ {K : Type 0} (n : ℕ) (fs : List Front) (byte : ℕ → ℕ) (due : �
   met_there : (k : ℕ) → k < n → behind (slice_get fs k) (spot_at k h) ≡ spot_at (suc k) (next (due k) h)
   met_there k below =
       let more : k + 1 ≡ suc k = omega arith in
-      ap (λ f. behind f (spot_at k h)) (each.fronts k below) ∙ ap (λ (m : Met). behind_met m k) (each.meets k below) ∙ ap (λ j. spot_at j (next (due k) h)) more
+      ap (λ f. behind f (spot_at k h)) (each.fronts k below) ∙ ap (λ (m : Met). after_met m k) (each.meets k below) ∙ ap (λ j. spot_at j (next (due k) h)) more
 
   taken_there : (k : ℕ) → k < n → MayGoOn fs (spot_at k h)
   taken_there k below = record { some = omega (arith, below, within); due = looks; event = refl }

@@ -8,7 +8,7 @@ use Rattle.std.proofs.lemmas.Bool.{cases_lt}
 use Rattle.std.proofs.lemmas.Option.{slice_get-map, slice_get-get_or, get_or_from_slice_get}
 use Rattle.nr_units.specs.Source.{Supply}
 use Rattle.nr_store.specs.Store.{Stored, Level, Read, Mark, Reading, level_charge, charge_of}
-use Rattle.nr_store.specs.Windows.{rest_of, left_times, levels_behind, run_left}
+use Rattle.nr_store.specs.Windows.{rest_of, left_times, levels_after, run_left}
 use Rattle.nr_store.specs.Laws.{left_times-run}
 use Rattle.nr_store.specs.declared.element.Element.{Element}
 use Rattle.nr_store.specs.declared.element.Element.TheVariants as elements
@@ -114,7 +114,7 @@ module _ {K : Type 0} (t : Target) (n : ℕ) (v : Stored K) (c : Coming) (r : Re
       let w = with_more t (take n bs) v in
       let here : w.levels ≡ Read l ∷ ls = levels-with_more t (take n bs) v ∙ is in
       let few : n ≤ length (rest_of w.levels) = omega (arith, within, front_within bs l.rest front, ap (λ y. length (rest_of y)) here) in
-      let ends : left_times n w ≡ with_rest l ls (drop n l.rest) w = left_times-run n w few ∙ ap (λ (y : List (Level K)). record w { levels = levels_behind n y }) here in
+      let ends : left_times n w ≡ with_rest l ls (drop n l.rest) w = left_times-run n w few ∙ ap (λ (y : List (Level K)). record w { levels = levels_after n y }) here in
       subst (λ (x : Stored K). HasRead (2 * n) (situation v c r) events.Nothing x r q supply) (sym ends) (level_added_there t n l ls l.rest v c r bs is front reads within plain fits q supply holds)
 
   pub level_added : AreFront bs (rest_of v.levels) → HasRead (2 * n) (situation v c r) events.Nothing (left_times n (with_more t (take n bs) v)) r q supply
@@ -126,7 +126,7 @@ level_added_pays t n bytes v w q r few is =
     let same = levels-with_more t bytes v in
     let w_is : w ≡ run_left n (with_more t bytes v) = is ∙ left_times-run n (with_more t bytes v) (omega (arith, few, ap (λ y. length (rest_of y)) same)) in
     let items = items_behind n v.levels few in
-    let left = ap (λ x. items_left x.levels) w_is ∙ ap (λ y. items_left (levels_behind n y)) same in
+    let left = ap (λ x. items_left x.levels) w_is ∙ ap (λ y. items_left (levels_after n y)) same in
     let limits = ap (λ x. x.limit) w_is ∙ limit-with_more t bytes v in
     let worths = ap (λ k. expansions_worth r.most r.burst k) limits in
     record {
@@ -139,7 +139,7 @@ level_added_pays t n bytes v w q r few is =
 
 -- ---- how many of them are added
 
-pub charge-behind : {K : Type 0} (n : ℕ) (levels : List (Level K)) → sum_by level_charge (levels_behind n levels) ≡ sum_by level_charge levels
+pub charge-behind : {K : Type 0} (n : ℕ) (levels : List (Level K)) → sum_by level_charge (levels_after n levels) ≡ sum_by level_charge levels
 charge-behind n [] = refl
 charge-behind n (Mark mode ∷ ls) = refl
 charge-behind n (Read l ∷ ls) = charge-rest l ls l.rest (drop n l.rest)

@@ -18,7 +18,7 @@ use Rattle.fast_input.specs.declared.target.Target.{Target}
 use Rattle.fast_input.specs.AtHand.{ComeNext}
 use Rattle.nr_input.specs.Place.{Coming, Reached, HoldsComing, passed_run}
 use Rattle.nr_input.specs.Moving.{Situation, Stands, situation, burst_past}
-use Rattle.fast_input.specs.Runs.{HasRead, PaysAll, behind_run}
+use Rattle.fast_input.specs.Runs.{HasRead, PaysAll, after_run}
 use Rattle.fast_input.specs.Target.{is_read_for, due_for, with_more}
 use Rattle.nr_input.specs.Weights.{items_left, expansions_worth, diversions_in}
 use Rattle.fast_input.proofs.RowMoves.{at_source, source_goings}
@@ -65,11 +65,11 @@ module _ {K : Type 0} (t : Target) (n : ℕ) (v w : Stored K) (c : Coming) (r : 
     goings = λ k below. source_goings (stored k) c r bs (no_levels k) next_come;
     fronts = λ k below. slice_get-map fronts.Byte bs k ∙ ap (option_map fronts.Byte) (slice_get-get_or bs k 0 (omega (arith, below, within)));
     meets = λ k below. meet-plain t (slice_index bs k) r.half reads (plain_at n k (ending_of r.half.reading.mode) bs below within plain);
-    goes = λ k below. goes_put (due k) (stored k) (stored (suc k)) (behind_run (suc k) c) (reader_behind (suc k)) (adds k below);
-    puts = λ k below. move-put (due k) (stored k) (stored (suc k)) (behind_run (suc k) c) (reader_behind (suc k)) (adds k below) (due-is_read_for t r.half reads);
+    goes = λ k below. goes_put (due k) (stored k) (stored (suc k)) (after_run (suc k) c) (reader_behind (suc k)) (adds k below);
+    puts = λ k below. move-put (due k) (stored k) (stored (suc k)) (after_run (suc k) c) (reader_behind (suc k)) (adds k below) (due-is_read_for t r.half reads);
   }
 
-  pub source_added : (q : Reached) (supply : Option Supply) → 0 < n → HoldsComing (behind_run n c) q supply → HasRead (2 * n) (situation v c r) events.Nothing w (record r { burst = 0 }) q supply
+  pub source_added : (q : Reached) (supply : Option Supply) → 0 < n → HoldsComing (after_run n c) q supply → HasRead (2 * n) (situation v c r) events.Nothing w (record r { burst = 0 }) q supply
   source_added q supply some holds =
       let many = some_taken n (λ e. omega (arith, e, some)) in
       let stands : Stands (at n (spot_at n r.half)) w (record r { burst = 0 }) q supply = record {

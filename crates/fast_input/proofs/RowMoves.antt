@@ -18,13 +18,13 @@ use Rattle.nr_reading.specs.declared.front.Front.TheVariants as fronts
 use Rattle.nr_reading.specs.declared.half.Half.{Half}
 use Rattle.nr_reading.specs.declared.mode.Due.TheVariants as dues
 use Rattle.nr_reading.specs.Half.{Met, meet}
-use Rattle.nr_reading.specs.Many.Runs.{Spot, MayGoOn, HasMet, behind, behind_met, one_if, spot_after}
+use Rattle.nr_reading.specs.Many.Runs.{Spot, MayGoOn, HasMet, behind, after_met, one_if, spot_after}
 use Rattle.nr_input.specs.declared.reader.Reader.{Reader}
 use Rattle.nr_input.specs.declared.told.Told.TheVariants as tells
 use Rattle.fast_input.specs.AtHand.{ComeNext}
 use Rattle.nr_input.specs.Place.{Coming, Reached, element_front}
 use Rattle.nr_input.specs.Moving.{Situation, Stands, situation, move, met_at, Goes, burst_past}
-use Rattle.fast_input.specs.Runs.{HasRead, moves, told_last, behind_run, inside_behind}
+use Rattle.fast_input.specs.Runs.{HasRead, moves, told_last, after_run, inside_after}
 
 -- ---- moves along a row
 
@@ -127,7 +127,7 @@ may_give-later n m (After k) less all = omega (arith, less, all)
 may_give-later n m Anytime less all = tt
 
 abbrev pub at_source : {K : Type 0} → Stored K → Coming → Reader → Spot → Situation K
-at_source v c r p = situation v (behind_run p.taken c) (record r { half = p.half; burst = burst_past c.taken (c.taken + p.taken) r.burst })
+at_source v c r p = situation v (after_run p.taken c) (record r { half = p.half; burst = burst_past c.taken (c.taken + p.taken) r.burst })
 
 -- one byte more was taken
 further : (taken n burst : ℕ) → burst_past (taken + n) (taken + n + 1) (burst_past taken (taken + n) burst) ≡ burst_past taken (taken + (n + 1)) burst
@@ -139,14 +139,14 @@ coming_at bs f taken inside = record { supply = record { bytes = bs; faults = f 
 
 -- after one byte more
 behind_one : (b n : ℕ) (c : Coming) → slice_index c.supply.bytes n ≡ b
-    → coming_at (drop (suc n) c.supply.bytes) (one_later (later n c.supply.faults)) (c.taken + n + 1) (not (b == code "\n")) ≡ behind_run (n + 1) c
+    → coming_at (drop (suc n) c.supply.bytes) (one_later (later n c.supply.faults)) (c.taken + n + 1) (not (b == code "\n")) ≡ after_run (n + 1) c
 behind_one b n c is =
     let count : suc n ≡ n + 1 = omega arith in
     let taken : c.taken + n + 1 ≡ c.taken + suc n = omega arith in
     ap (λ (f : Faults). coming_at (drop (suc n) c.supply.bytes) f (c.taken + n + 1) (not (b == code "\n"))) (one_later-later n c.supply.faults)
     ∙ ap (λ (t : ℕ). coming_at (drop (suc n) c.supply.bytes) (later (suc n) c.supply.faults) t (not (b == code "\n"))) taken
     ∙ ap (λ (x : ℕ). coming_at (drop (suc n) c.supply.bytes) (later (suc n) c.supply.faults) (c.taken + suc n) (not (x == code "\n"))) (sym is)
-    ∙ ap (λ k. behind_run k c) count
+    ∙ ap (λ k. after_run k c) count
 
 module _ {K : Type 0} (v : Stored K) (c : Coming) (r : Reader) (bs : List ℕ) (none : v.levels ≡ []) (next : ComeNext bs c) where
   -- the byte that is met, and what is to come after it
@@ -160,10 +160,10 @@ module _ {K : Type 0} (v : Stored K) (c : Coming) (r : Reader) (bs : List ℕ) (
 
   -- a byte in front, after so many
   abbrev before : ℕ → ℕ → List ℕ → Coming
-  before n b ys = coming_at (b ∷ ys) (later n c.supply.faults) (c.taken + n) (inside_behind n c.supply.bytes c.inside)
+  before n b ys = coming_at (b ∷ ys) (later n c.supply.faults) (c.taken + n) (inside_after n c.supply.bytes c.inside)
 
-  before_is : (n : ℕ) → n < length bs → behind_run n c ≡ before n (slice_index c.supply.bytes n) (drop (suc n) c.supply.bytes)
-  before_is n less = ap (λ ys. coming_at ys (later n c.supply.faults) (c.taken + n) (inside_behind n c.supply.bytes c.inside)) (byte_at n less)
+  before_is : (n : ℕ) → n < length bs → after_run n c ≡ before n (slice_index c.supply.bytes n) (drop (suc n) c.supply.bytes)
+  before_is n less = ap (λ ys. coming_at ys (later n c.supply.faults) (c.taken + n) (inside_after n c.supply.bytes c.inside)) (byte_at n less)
 
   looks_source : (n b : ℕ) (ys : List ℕ) (q : Reader) → q.half.reading.due ≡ dues.Look → move (situation v (before n b ys) q) ≡ met_at (meet (fronts.Byte b) q.half) (situation v (before n b ys) q)
   looks_source n b ys q due = rw (none, due) refl
@@ -182,13 +182,13 @@ module _ {K : Type 0} (v : Stored K) (c : Coming) (r : Reader) (bs : List ℕ) (
   reader_at p = record r { half = p.half; burst = burst_past c.taken (c.taken + p.taken) r.burst }
 
   behind_is : (takes : Bool) (p : Spot) (k : Half) (e : Event) → p.taken < length bs
-      → behind_byte takes p.taken (slice_index c.supply.bytes p.taken) (drop (suc p.taken) c.supply.bytes) (reader_at p) k ≡ at_source v c r (behind_met (record { half = k; event = e; takes = takes }) p.taken)
+      → behind_byte takes p.taken (slice_index c.supply.bytes p.taken) (drop (suc p.taken) c.supply.bytes) (reader_at p) k ≡ at_source v c r (after_met (record { half = k; event = e; takes = takes }) p.taken)
   behind_is true p k e less =
       ap₂ (λ (d : Coming) (n : ℕ). situation v d (record r { half = k; burst = n })) (behind_one (slice_index c.supply.bytes p.taken) p.taken c refl) (further c.taken p.taken r.burst)
   behind_is false p k e less =
       let same : p.taken ≡ p.taken + 0 = omega arith in
       ap (λ (d : Coming). situation v d (record r { half = k; burst = burst_past c.taken (c.taken + p.taken) r.burst })) (sym (before_is p.taken less))
-      ∙ ap (λ (n : ℕ). situation v (behind_run n c) (record r { half = k; burst = burst_past c.taken (c.taken + n) r.burst })) same
+      ∙ ap (λ (n : ℕ). situation v (after_run n c) (record r { half = k; burst = burst_past c.taken (c.taken + n) r.burst })) same
 
   one_byte : (p : Spot) → p.taken < length bs → p.half.reading.due ≡ dues.Look → let f = Some (fronts.Byte (slice_index c.supply.bytes p.taken)) in
       move (at_source v c r p) ≡ record { situation = at_source v c r (behind f p); told = tells.Event (behind f p).event }

@@ -7,7 +7,7 @@ use Rattle.std.proofs.lemmas.List.{length-map, get_or-take}
 use Rattle.std.proofs.lemmas.List.Sums.{sum_by-cons}
 use Rattle.nr_units.specs.Source.{Supply, Skips, Faults, Never, After, Anytime, later, skipped}
 use Rattle.nr_store.specs.Store.{Stored, Level, Read, Mark}
-use Rattle.nr_store.specs.Windows.{rest_of, left_times, levels_behind, run_left}
+use Rattle.nr_store.specs.Windows.{rest_of, left_times, levels_after, run_left}
 use Rattle.nr_store.specs.Laws.{left_times-run}
 use Rattle.nr_store.specs.declared.element.Element.{Element}
 use Rattle.nr_store.specs.declared.element.Element.TheVariants as elements
@@ -22,7 +22,7 @@ use Rattle.nr_input.specs.declared.place.Ahead.TheVariants.{Unseen, Byte, End, F
 use Rattle.fast_input.specs.AtHand.{ComeNext}
 use Rattle.nr_input.specs.Place.{Coming, Reached, HoldsComing, HoldsSupply, element_front, is_unseen, passed_run}
 use Rattle.nr_input.specs.Moving.{situation, burst_past}
-use Rattle.fast_input.specs.Runs.{HasRead, PaysAll, behind_run}
+use Rattle.fast_input.specs.Runs.{HasRead, PaysAll, after_run}
 use Rattle.nr_input.specs.Weights.{items_in, items_left, newline_left, expansions_worth, diversions_in}
 use Rattle.std.proofs.Math.Nat.{mul-le-mul_right}
 use Rattle.fast_input.proofs.RowMoves.{at_level, at_source, with_rest, level_goings, source_goings, has_read, met_none, reads_nothing}
@@ -46,7 +46,7 @@ module _ {K : Type 0} (v : Stored K) (c : Coming) (r : Reader) (q : Reached) (su
       let begins : at_level l ls xs v c r (spot_after 0 (map element_front xs) r.half) ≡ situation v c r = ap (λ (y : List (Level K)). situation (record v { levels = y }) c r) levels_are in
       let few : p.taken ≤ length (rest_of v.levels) = omega (arith, met.within, length-map xs element_front, ap length rest, ap (λ y. length (rest_of y)) is) in
       let ends : left_times p.taken v ≡ with_rest l ls (drop p.taken xs) v =
-      left_times-run p.taken v few ∙ ap (λ (y : List (Level K)). record v { levels = levels_behind p.taken y }) is ∙ ap (λ ys. record v { levels = Read (record l { rest = drop p.taken ys }) ∷ ls }) (sym rest) in
+      left_times-run p.taken v few ∙ ap (λ (y : List (Level K)). record v { levels = levels_after p.taken y }) is ∙ ap (λ ys. record v { levels = Read (record l { rest = drop p.taken ys }) ∷ ls }) (sym rest) in
       has_read n (map element_front xs) r.half p (at_level l ls xs v c r) (situation v c r) (left_times p.taken v) (record r { half = p.half }) q supply
       (level_goings l ls xs v c r) met begins (record { stored = ends; reader = refl; coming = holds })
 
@@ -61,7 +61,7 @@ bytes_are (b ∷ bs) = ap (λ fs. fronts.Byte b ∷ fs) (bytes_are bs)
 
 -- ---- what they cost
 
-pub items_behind : {K : Type 0} (n : ℕ) (levels : List (Level K)) → n ≤ length (rest_of levels) → items_left (levels_behind n levels) + n ≤ items_left levels
+pub items_behind : {K : Type 0} (n : ℕ) (levels : List (Level K)) → n ≤ length (rest_of levels) → items_left (levels_after n levels) + n ≤ items_left levels
 items_behind n [] few = omega (arith, few)
 items_behind n (Mark mode ∷ ls) few = omega (arith, few)
 items_behind n (Read l ∷ ls) few =
@@ -95,7 +95,7 @@ later-none Never = refl
 later-none (After m) = let same : m - 0 ≡ m = omega arith in ap After same
 later-none Anytime = refl
 
-pub behind_none : (c : Coming) → behind_run 0 c ≡ c
+pub behind_none : (c : Coming) → after_run 0 c ≡ c
 behind_none c =
     let same : c.taken + 0 ≡ c.taken = omega arith in
     ap (λ f. record { supply = record { bytes = c.supply.bytes; faults = f }; taken = c.taken + 0; inside = c.inside }) (later-none c.supply.faults)
@@ -121,11 +121,11 @@ module _ {K : Type 0} (v : Stored K) (c : Coming) (r : Reader) (bs : List ℕ) (
       (record {
         stored = refl;
         reader = sym (ap (λ (k : ℕ). record r { half = p.half; burst = burst_past c.taken (c.taken + k) r.burst }) few ∙ ap (λ (k : ℕ). record r { half = p.half; burst = k }) (burst_none c.taken r.burst));
-        coming = subst (λ d. HoldsComing d q supply) (sym (ap (λ k. behind_run k c) few ∙ behind_none c)) holds;
+        coming = subst (λ d. HoldsComing d q supply) (sym (ap (λ k. after_run k c) few ∙ behind_none c)) holds;
       })
 
   -- some were taken
-  pub source_read : (n : ℕ) (p : Spot) (q : Reached) (supply : Option Supply) → 0 < p.taken → HasMet n (map fronts.Byte bs) r.half p → HoldsComing (behind_run p.taken c) q supply
+  pub source_read : (n : ℕ) (p : Spot) (q : Reached) (supply : Option Supply) → 0 < p.taken → HasMet n (map fronts.Byte bs) r.half p → HoldsComing (after_run p.taken c) q supply
       → HasRead n (situation v c r) p.event v (record r { half = p.half; burst = 0 }) q supply
   source_read n p q supply some met holds =
       let many = some_taken p.taken (λ e. omega (arith, e, some)) in
@@ -230,7 +230,7 @@ supply_behind TooMany n c supply supply' unseen holds skips = absurd (let wrong 
 
 -- the program stands after bytes that it took
 holds_behind : (k : ℕ) (bs : List ℕ) (c : Coming) (q : Reached) (supply supply' : Option Supply) → k < length bs → is_unseen q.ahead ≡ true → ComeNext bs c → HoldsComing c q supply → Skips supply (suc k) supply'
-    → HoldsComing (behind_run (suc k) c) (passed_run (slice_index bs k) (suc k) q) supply'
+    → HoldsComing (after_run (suc k) c) (passed_run (slice_index bs k) (suc k) q) supply'
 holds_behind k bs c q supply supply' less unseen next holds skips = record {
   taken = let taken = holds.taken in omega (arith, taken);
   inside = ap (λ (b : ℕ). not (b == code "\n")) (ap (λ (ys : List ℕ). slice_index ys k) (sym next.bytes) ∙ get_or-take (length bs) c.supply.bytes k 0 less);
@@ -239,9 +239,9 @@ holds_behind k bs c q supply supply' less unseen next holds skips = record {
 
 -- the same, for as many as were taken
 pub holds_past : (n : ℕ) (bs : List ℕ) (c : Coming) (q p : Reached) (supply supply' : Option Supply) → 0 < n → n ≤ length bs → is_unseen q.ahead ≡ true → ComeNext bs c → HoldsComing c q supply → Skips supply n supply'
-    → p ≡ passed_run (slice_index bs (n - 1)) n q → HoldsComing (behind_run n c) p supply'
+    → p ≡ passed_run (slice_index bs (n - 1)) n q → HoldsComing (after_run n c) p supply'
 holds_past zero bs c q p supply supply' some within unseen next holds skips is = absurd (omega (arith, some))
 holds_past (suc k) bs c q p supply supply' some within unseen next holds skips is =
     let last : k ≡ suc k - 1 = omega arith in
-    subst (λ x. HoldsComing (behind_run (suc k) c) x supply') (ap (λ j. passed_run (slice_index bs j) (suc k) q) last ∙ sym is)
+    subst (λ x. HoldsComing (after_run (suc k) c) x supply') (ap (λ j. passed_run (slice_index bs j) (suc k) q) last ∙ sym is)
     (holds_behind k bs c q supply supply' (omega (arith, within)) unseen next holds skips)

@@ -9,7 +9,7 @@ use Rattle.std.proofs.lemmas.Option.{slice_get-get_or, slice_get-map, slice_get_
 use Rattle.nr_levels.specs.Levels.{argument}
 use Rattle.nr_symbol_tables.specs.Table.{find}
 use Rattle.nr_store.specs.Store.{Stored, Level, Read, Mark, charge_of, register_of, words}
-use Rattle.nr_store.specs.Windows.{rest_of, left_times, levels_behind, run_left}
+use Rattle.nr_store.specs.Windows.{rest_of, left_times, levels_after, run_left}
 use Rattle.nr_store.specs.Laws.{left_times-run}
 use Rattle.nr_store.specs.declared.element.Element.{Element}
 use Rattle.nr_store.specs.declared.element.Element.TheVariants as elements
@@ -54,7 +54,7 @@ register_splice bytes v r due is = record { waits = rw due refl; acts = rw (due,
 pub string_splice : {K : Type 0} (bytes : List ℕ) (v : Stored K) (r : Reader) → r.half.reading.due ≡ dues.Splice → words (find r.half.notes.asked v.names) ≡ Some (map elements.Byte bytes) → OpensLevel bytes v r
 string_splice bytes v r due is = record { waits = rw due refl; acts = rw (due, is) refl; answers = rw (due, is) refl; text = λ named. is }
 
-pub depth-behind : {K : Type 0} (n : ℕ) (levels : List (Level K)) → length (levels_behind n levels) ≡ length levels
+pub depth-behind : {K : Type 0} (n : ℕ) (levels : List (Level K)) → length (levels_after n levels) ≡ length levels
 depth-behind n [] = refl
 depth-behind n (Read l ∷ ls) = refl
 depth-behind n (Mark mode ∷ ls) = refl

@@ -11,8 +11,8 @@ pub record ComeNext (bs : List ℕ) (c : Coming) : Type 0 where
   pub few : c.taken + length bs < 2 ^ 40
 
 -- after the next n bytes, of which this is the last
-abbrev pub behind_last : ℕ → ℕ → Coming → Coming
-behind_last last n c =
+abbrev pub after_last : ℕ → ℕ → Coming → Coming
+after_last last n c =
     record {
       supply = skipped n c.supply;
       taken = c.taken + n;

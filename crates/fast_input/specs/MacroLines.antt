@@ -15,7 +15,7 @@ use Rattle.fast_input.specs.AtHand.{ComeNext}
 use Rattle.nr_input.specs.Place.{Coming, Reached, HoldsComing}
 use Rattle.nr_input.specs.Limits.{limits_of}
 use Rattle.nr_input.specs.Moving.{situation}
-use Rattle.fast_input.specs.Runs.{HasRead, PaysAll, behind_run, inside_behind}
+use Rattle.fast_input.specs.Runs.{HasRead, PaysAll, after_run, inside_after}
 
 abbrev pub is_before_argument_in : Mode → Half → Bool
 is_before_argument_in modes.MacroBlanks h = reads_next h
@@ -43,8 +43,8 @@ abbrev pub argument_ended : Half → Half
 argument_ended h = record h { reading = record h.reading { mode = modes.MacroGap; due = dues.EndArgument } }
 
 -- after the first n of these bytes
-abbrev pub reached_behind : ℕ → List ℕ → Reached → Reached
-reached_behind n bs p = record { ahead = Unseen; taken = p.taken + n; inside = inside_behind n bs p.inside }
+abbrev pub reached_after : ℕ → List ℕ → Reached → Reached
+reached_after n bs p = record { ahead = Unseen; taken = p.taken + n; inside = inside_after n bs p.inside }
 
 -- With no level open and nothing spliced since the last byte n moves that tell nothing take so many of these bytes, where they come
 -- next of the source, and lead from the one to the other.
@@ -55,6 +55,6 @@ pub record ReadsOn {K : Type 0} (n taken : ℕ) (bs : List ℕ) (v : Stored K) (
   pub burst : s.burst ≡ r.burst
   pub limits : limits_of w s ≡ limits_of v r
   pub reads : v.levels ≡ [] → r.burst ≡ 0 → (c : Coming) (p : Reached) (supply : Option Supply)
-      → ComeNext bs c → HoldsComing (behind_run taken c) p supply
+      → ComeNext bs c → HoldsComing (after_run taken c) p supply
       → HasRead n (situation v c r) events.Nothing w s p supply
-  pub pays : r.burst ≡ 0 → (p : Reached) → PaysAll n v p r events.Nothing w (reached_behind taken bs p) s
+  pub pays : r.burst ≡ 0 → (p : Reached) → PaysAll n v p r events.Nothing w (reached_after taken bs p) s

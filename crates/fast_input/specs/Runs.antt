@@ -112,15 +112,15 @@ pub record IsLongestUpToText {K : Type 0} (n : ℕ) (v : Stored K) (r : Reader) 
 -- ---- bytes that the source has at hand
 
 -- the last of so many bytes is no newline
-abbrev pub inside_behind : ℕ → List ℕ → Bool → Bool
-inside_behind zero bs inside = inside
-inside_behind (suc n) bs inside = not (slice_index bs n == code "\n")
+abbrev pub inside_after : ℕ → List ℕ → Bool → Bool
+inside_after zero bs inside = inside
+inside_after (suc n) bs inside = not (slice_index bs n == code "\n")
 
 -- after the next n bytes
-abbrev pub behind_run : ℕ → Coming → Coming
-behind_run n c =
+abbrev pub after_run : ℕ → Coming → Coming
+after_run n c =
     record {
       supply = skipped n c.supply;
       taken = c.taken + n;
-      inside = inside_behind n c.supply.bytes c.inside;
+      inside = inside_after n c.supply.bytes c.inside;
     }

@@ -1,7 +1,7 @@
 //! Bytes that the source has at hand, taken many at once.
 ghost use Rattle.std.specs.Prelude.{◌≡◌, ℕ, ◌+◌, ◌-◌, ◌<◌, ◌≤◌, ◌^◌, true, length, take, [], Option};
 ghost use Rattle.nr_units.specs.Source.{Skips};
-ghost use Rattle.fast_input.specs.AtHand.{ComeNext, behind_last};
+ghost use Rattle.fast_input.specs.AtHand.{ComeNext, after_last};
 ghost use Rattle.nr_input.specs.Place.{Coming, HoldsComing, is_unseen, passed_run};
 
 use nr_input::{Place, Reader};
@@ -51,7 +51,7 @@ pub fn take_window<R: Source>(
     ensures place { place.new ≡ passed_run last n place.old }
     ensures reader { reader.new ≡ record reader.old { burst = 0 } }
     ensures coming { (c : Coming) → HoldsComing c place.old (R.supply source.old)
-        → HoldsComing (behind_last last n c) place.new (R.supply source.new) }
+        → HoldsComing (after_last last n c) place.new (R.supply source.new) }
     ensures failures { R.failures source.new ≡ R.failures source.old }
 {
     source.skip(n);

@@ -21,7 +21,7 @@ use nr_units::source::Source;
 
 // What comes after the name of a control line, where nothing was told of it: the line of a request, or nothing.
 #[inline(always)]
-fn meet_behind_name(half: &mut Half, told: Event, bytes: &[u8]) -> Run
+fn meet_after_name(half: &mut Half, told: Event, bytes: &[u8]) -> Run
     ensures met { told ≡ events.Nothing
         → HasMet result.moves (map variants.Byte bytes.now) half.old (spot result half.new) }
     ensures few { result.moves ≤ 32769 }
@@ -74,7 +74,7 @@ fn read_named_line<K: Copy, R: Source>(
     };
     reader.burst = 0;
     let told = reader.seek(store);
-    let line = meet_behind_name(&mut reader.half, told, &bytes[name.taken..]);
+    let line = meet_after_name(&mut reader.half, told, &bytes[name.taken..]);
     let taken = name.taken + line.taken;
     place.pass_run(bytes[taken - 1], taken);
     source.skip(taken);

@@ -121,7 +121,7 @@ fn begin_argument(half: &mut Half, bytes: &[u8]) -> Passed
 
 // The argument ends, after so many bytes of its end and in so many moves.
 #[inline(always)]
-fn end_behind(half: &mut Half, taken: usize, moves: usize) -> Passed
+fn end_after(half: &mut Half, taken: usize, moves: usize) -> Passed
     ensures half { half.new ≡ argument_ended half.old }
     ensures passed { result ≡ record { taken = taken; moves = moves } }
 {
@@ -150,9 +150,9 @@ fn end_argument(half: &mut Half, bytes: &[u8]) -> Passed
         return Passed { taken: 0, moves: 0 };
     }
     match (half.reading.mode, bytes[0]) {
-        (_, b'\n') => end_behind(half, 0, 1),
-        (Mode::Word, b' ') => end_behind(half, 1, 1),
-        (Mode::Quoted, b'"') if bytes.len() > 1 && closes(bytes[1]) => end_behind(half, 1, 2),
+        (_, b'\n') => end_after(half, 0, 1),
+        (Mode::Word, b' ') => end_after(half, 1, 1),
+        (Mode::Quoted, b'"') if bytes.len() > 1 && closes(bytes[1]) => end_after(half, 1, 2),
         _ => Passed { taken: 0, moves: 0 },
     }
 }

@@ -25,7 +25,7 @@ use Rattle.fast_machine.specs.Running.{Makes, PutsText, Saves, unburst}
 use Rattle.fast_machine.proofs.Gliding.{Glides, glides_heard, made_of, told}
 use Rattle.nr_machine.proofs.NextMoves.{step-hear}
 use Rattle.fast_machine.proofs.PlainGaps.{first, first_of, gone_shape, made_gone}
-use Rattle.fast_machine.proofs.PlainText.{IsTyping, behind_byte, behind_many, goes_byte, line_behind, paid, passed_many, reads_byte, stands_typing}
+use Rattle.fast_machine.proofs.PlainText.{IsTyping, behind_byte, behind_many, goes_byte, line_after, paid, passed_many, reads_byte, stands_typing}
 use Rattle.fast_machine.proofs.TextAtHand.{first_left, holds_inside, puts_byte, puts_on, some_left}
 
 -- such a byte is no newline, and begins no escape
@@ -82,7 +82,7 @@ module _ (b : ℕ) (bs : List ℕ) (e : Shape) (supply supply' : Option Supply) 
       let reads = reads_byte b x.rest (at e s) typing (no_newline b e.formatter which) (no_escape b e.formatter which) x.is x.gives x.few in
       let within = within_byte b (at e s) typing byte.within in
       made_gone 2 (byte_put b) e supply supply' held s h (behind s.coming h.coming) within
-      (glides_byte (at e s) (behind_byte (at e s)) b h.chosen_is (line_behind (at e s) typing) goes reads byte.goes within)
+      (glides_byte (at e s) (behind_byte (at e s)) b h.chosen_is (line_after (at e s) typing) goes reads byte.goes within)
 
   makes_byte : Makes 2 e (gone_shape (byte_put b) e) supply supply'
   makes_byte = record { makes = made_byte; limit = refl; most = refl; limits = refl; spends = (let saves = saves_byte b e in omega (arith, saves)) }

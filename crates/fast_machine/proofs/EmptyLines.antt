@@ -9,7 +9,7 @@ use Rattle.nr_reading.specs.declared.event.Event.TheVariants as events
 use Rattle.nr_reading.specs.declared.front.Front.TheVariants as fronts
 use Rattle.nr_reading.specs.declared.half.Half.{Half}
 use Rattle.nr_reading.specs.Half.{meet}
-use Rattle.fast_input.specs.AtHand.{ComeNext, behind_last}
+use Rattle.fast_input.specs.AtHand.{ComeNext, after_last}
 use Rattle.nr_input.specs.Place.{Coming, HoldsComing, front, passed_run}
 use Rattle.nr_input.specs.Moving.{met_at, situation}
 use Rattle.nr_input.specs.Moving.{move as input_move}
@@ -136,11 +136,11 @@ told_empty t = record t { formatter = record t.formatter { event = events.Empty 
 
 -- after it
 abbrev behind_newline : State → State
-behind_newline s = record s { coming = behind_last (code "\n") 1 s.coming; formatter = unburst s.formatter }
+behind_newline s = record s { coming = after_last (code "\n") 1 s.coming; formatter = unburst s.formatter }
 
 -- after so many of them, which went down
 abbrev lines_down : ℕ → State → State
-lines_down n s = record s { coming = behind_last (code "\n") n s.coming; formatter = unburst (gone_down n s.formatter) }
+lines_down n s = record s { coming = after_last (code "\n") n s.coming; formatter = unburst (gone_down n s.formatter) }
 
 -- the same the other way round
 other : (n : ℕ) → (n == code "\n") ≡ false → (code "\n" == n) ≡ false
@@ -162,7 +162,7 @@ module _ (rest : List ℕ) (s : State) (chosen : s.chosen ≡ []) (start : IsSta
   meets = rw (start.levels, next, meet-newline s.formatter.reader.half start.half start.continued) refl
 
   takes : met_at (record { half = s.formatter.reader.half; event = events.Empty; takes = true }) (situation_of s)
-      ≡ record { situation = situation s.formatter.store (behind_last (code "\n") 1 s.coming) (record s.formatter.reader { burst = 0 }); told = tells.Event events.Empty }
+      ≡ record { situation = situation s.formatter.store (after_last (code "\n") 1 s.coming) (record s.formatter.reader { burst = 0 }); told = tells.Event events.Empty }
   takes = rw (start.levels, next, further, later-one s.coming.supply.faults) refl
 
   reads : step s ≡ told_empty (behind_newline s)
@@ -182,13 +182,13 @@ module _ (rest : List ℕ) (s : State) (chosen : s.chosen ≡ []) (start : IsSta
       let t = told_empty (behind_newline s) in
       glides-add s 1 3 t (lines_down 1 s) (glides-one s t goes reads) (glides_empty t chosen refl
       (room_kept 1 s.formatter (record s.formatter.reader { burst = 0 }) events.Empty room)
-      (within_kept s (behind_last (code "\n") 1 s.coming) t.formatter refl refl (omega arith) within))
+      (within_kept s (after_last (code "\n") 1 s.coming) t.formatter refl refl (omega arith) within))
 
 -- ---- many newlines
 
 -- within the limits as before
 within_lines : (n : ℕ) (s : State) → IsWithin s → IsWithin (lines_down n s)
-within_lines n s within = within_kept s (behind_last (code "\n") n s.coming) (lines_down n s).formatter refl refl (omega arith) within
+within_lines n s within = within_kept s (after_last (code "\n") n s.coming) (lines_down n s).formatter refl refl (omega arith) within
 
 -- after a line that went down another begins
 starting_on : (f : Formatter) → IsAtLine f.reader.half → f.springs ≡ None → f.store.levels ≡ [] → IsStarting (gone_down 1 f)
@@ -229,7 +229,7 @@ abbrev coming_of : List ℕ → Faults → ℕ → Coming
 coming_of bs f n = record { supply = record { bytes = bs; faults = f }; taken = n; inside = false }
 
 -- after a newline and then others
-behind-more : (n : ℕ) (c : Coming) → behind_last (code "\n") n (behind_last (code "\n") 1 c) ≡ behind_last (code "\n") (suc n) c
+behind-more : (n : ℕ) (c : Coming) → after_last (code "\n") n (after_last (code "\n") 1 c) ≡ after_last (code "\n") (suc n) c
 behind-more n c =
     let counts : c.taken + 1 + n ≡ c.taken + suc n = omega arith in
     ap (λ bs. coming_of bs (later n (later 1 c.supply.faults)) (c.taken + 1 + n)) (drop-more n c.supply.bytes)
@@ -241,11 +241,11 @@ lines-more : (n : ℕ) (s : State) → lines_down n (lines_down 1 s) ≡ lines_d
 lines-more n s =
     let counts : 1 + n ≡ suc n = omega arith in
     ap (λ c. record s { coming = c; formatter = unburst (gone_down n (gone_down 1 s.formatter)) }) (behind-more n s.coming)
-    ∙ ap (λ f. record s { coming = behind_last (code "\n") (suc n) s.coming; formatter = unburst f }) (lines_gone 1 n s.formatter)
-    ∙ ap (λ k. record s { coming = behind_last (code "\n") (suc n) s.coming; formatter = unburst (gone_down k s.formatter) }) counts
+    ∙ ap (λ f. record s { coming = after_last (code "\n") (suc n) s.coming; formatter = unburst f }) (lines_gone 1 n s.formatter)
+    ∙ ap (λ k. record s { coming = after_last (code "\n") (suc n) s.coming; formatter = unburst (gone_down k s.formatter) }) counts
 
 -- the others come next
-next_more : (bs rest : List ℕ) (c : Coming) → c.supply.bytes ≡ code "\n" ∷ rest → take (length bs) rest ≡ bs → ComeNext (code "\n" ∷ bs) c → ComeNext bs (behind_last (code "\n") 1 c)
+next_more : (bs rest : List ℕ) (c : Coming) → c.supply.bytes ≡ code "\n" ∷ rest → take (length bs) rest ≡ bs → ComeNext (code "\n" ∷ bs) c → ComeNext bs (after_last (code "\n") 1 c)
 next_more bs rest c is others next = record {
   bytes = rw is others;
   faults = may_give_more (length bs) c.supply.faults next.faults;
@@ -309,7 +309,7 @@ makes_empty e supply empty room =
 -- the moves of the others
 made_lines : (n : ℕ) (e : Shape) (supply supply' : Option Supply) (held : Option (List ℕ)) (s : State) → Stands [] supply s e → IsStarting e.formatter → HasRoom (suc n) e.formatter
     → ((c : Coming) → HoldsComing c e.place supply → ComeNext (replicate (suc n) (code "\n")) c)
-    → ((c : Coming) → HoldsComing c e.place supply → HoldsComing (behind_last (code "\n") (suc n) c) (passed_run (code "\n") (suc n) e.place) supply')
+    → ((c : Coming) → HoldsComing c e.place supply → HoldsComing (after_last (code "\n") (suc n) c) (passed_run (code "\n") (suc n) e.place) supply')
     → Made [] (at e s) (4 * suc n) (lines_shape (suc n) e) supply' held held
 made_lines n e supply supply' held s h start room next behind =
     let t = lines_down (suc n) (at e s) in
@@ -339,7 +339,7 @@ spends_lines n e start room =
 -- newlines that come next
 makes_lines : (n : ℕ) (e : Shape) (supply supply' : Option Supply) → 0 < n → IsStarting e.formatter → HasRoom n e.formatter
     → ((c : Coming) → HoldsComing c e.place supply → ComeNext (replicate n (code "\n")) c)
-    → ((c : Coming) → HoldsComing c e.place supply → HoldsComing (behind_last (code "\n") n c) (passed_run (code "\n") n e.place) supply')
+    → ((c : Coming) → HoldsComing c e.place supply → HoldsComing (after_last (code "\n") n c) (passed_run (code "\n") n e.place) supply')
     → Makes (4 * n) e (lines_shape n e) supply supply'
 makes_lines zero e supply supply' some start room next behind = absurd (omega (arith, some))
 makes_lines (suc n) e supply supply' some start room next behind = record {
@@ -352,7 +352,7 @@ makes_lines (suc n) e supply supply' some start room next behind = record {
 
 -- and the newlines after it
 pub makes_more : (n : ℕ) (e : Shape) (supply supply' : Option Supply) → e.formatter.event ≡ events.Empty → 0 < n → HasRoom (1 + n) e.formatter → NewlinesNext n e supply
-    → ((c : Coming) → HoldsComing c e.place supply → HoldsComing (behind_last (code "\n") n c) (passed_run (code "\n") n e.place) supply')
+    → ((c : Coming) → HoldsComing c e.place supply → HoldsComing (after_last (code "\n") n c) (passed_run (code "\n") n e.place) supply')
     → Makes (3 + 4 * n) e (lines_shape n (down_shape e)) supply supply'
 makes_more n e supply supply' empty some room next behind =
     let f = e.formatter in

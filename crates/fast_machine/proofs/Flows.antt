@@ -4,7 +4,7 @@ use Rattle.std.proofs.lemmas.List.Sums.{sum_by-cons}
 use Rattle.nr_fill.specs.Piece.{line_cells}
 use Rattle.nr_store.specs.Laws.{left_times-run}
 use Rattle.nr_store.specs.Store.{Level, Mark, Read, Stored, charge_of, left, level_charge, shown}
-use Rattle.nr_store.specs.Windows.{levels_behind, run_left}
+use Rattle.nr_store.specs.Windows.{levels_after, run_left}
 use Rattle.nr_store.specs.declared.element.Element.TheVariants as elements
 use Rattle.nr_store.specs.declared.shown.Shown.TheVariants as shows
 use Rattle.nr_reading.specs.declared.event.Event.{Event}
@@ -61,21 +61,21 @@ further_led f n v r w q is leads = record {
 -- after a byte
 further_left : (f : Formatter) (v : Stored Resume) (r : Reader) → IsFurther f v r → IsFurther f (run_left 1 v) r
 further_left f v r is = record {
-  stored = ap (λ (x : Stored Resume). record x { levels = levels_behind 1 v.levels; texts = v.texts; arguments = v.arguments }) is.stored;
+  stored = ap (λ (x : Stored Resume). record x { levels = levels_after 1 v.levels; texts = v.texts; arguments = v.arguments }) is.stored;
   reader = is.reader;
 }
 
 -- ---- what has a limit
 
 -- what is left of a text is charged nothing
-charge_behind : (v : Stored Resume) (levels : List (Level Resume)) → charge_of (record v { levels = levels_behind 1 levels }) ≡ charge_of (record v { levels = levels })
-charge_behind v [] = refl
-charge_behind v (Mark mode ∷ ls) = refl
-charge_behind v (Read l ∷ ls) = omega (arith, sum_by-cons level_charge (Read l) ls, sum_by-cons level_charge (Read (record l { rest = drop 1 l.rest })) ls)
+charge_after : (v : Stored Resume) (levels : List (Level Resume)) → charge_of (record v { levels = levels_after 1 levels }) ≡ charge_of (record v { levels = levels })
+charge_after v [] = refl
+charge_after v (Mark mode ∷ ls) = refl
+charge_after v (Read l ∷ ls) = omega (arith, sum_by-cons level_charge (Read l) ls, sum_by-cons level_charge (Read (record l { rest = drop 1 l.rest })) ls)
 
-depth_behind : (levels : List (Level Resume)) → length (levels_behind 1 levels) ≡ length levels
-depth_behind [] = refl
-depth_behind (l ∷ ls) = refl
+depth_after : (levels : List (Level Resume)) → length (levels_after 1 levels) ≡ length levels
+depth_after [] = refl
+depth_after (l ∷ ls) = refl
 
 -- after moves that lead to more
 pub fits_led : (f : Formatter) (n : ℕ) (v : Stored Resume) (r : Reader) (w : Stored Resume) (q : Reader) → LeadsInText n v r w q → FitsMemory (with_read v r f) → FitsMemory (with_read w q f)
@@ -84,8 +84,8 @@ fits_led f n v r w q leads fits = record { stored = leads.charge fits.stored; de
 -- after a byte
 fits_left : (f : Formatter) (v : Stored Resume) (r : Reader) → FitsMemory (with_read v r f) → FitsMemory (with_read (run_left 1 v) r f)
 fits_left f v r fits = record {
-  stored = subst (λ n. n ≤ v.limit) (sym (charge_behind v v.levels)) fits.stored;
-  depth = subst (λ n. n ≤ v.deepest) (sym (depth_behind v.levels)) fits.depth;
+  stored = subst (λ n. n ≤ v.limit) (sym (charge_after v v.levels)) fits.stored;
+  depth = subst (λ n. n ≤ v.deepest) (sym (depth_after v.levels)) fits.depth;
   line = fits.line;
 }
 

@@ -4,7 +4,7 @@ use Rattle.std.proofs.Common.{◌≡◌, ℕ, ◌+◌, ◌*◌, ◌≤◌, true,
 use Rattle.std.proofs.lemmas.Bool.{eq-eqb}
 use Rattle.nr_units.specs.Source.{Supply}
 use Rattle.nr_store.specs.Store.{Level, Read, Reading, shown}
-use Rattle.nr_store.specs.Windows.{rest_of, levels_behind}
+use Rattle.nr_store.specs.Windows.{rest_of, levels_after}
 use Rattle.nr_store.specs.declared.element.Element.{Element}
 use Rattle.nr_store.specs.declared.element.Element.TheVariants as elements
 use Rattle.nr_store.specs.declared.shown.Shown.TheVariants as shows
@@ -117,7 +117,7 @@ module _ (e : Shape) (supply : Option Supply) (held : Option (List ℕ)) (s : St
       ∙ ap (λ v. record there { formatter = record (newline_put there.formatter) { task = v } }) (sym line.task)
 
   formatter_is : (g : Formatter → Formatter) → (level_gone g e).formatter ≡ g there.formatter
-  formatter_is g = ap (λ v. g (record e.formatter { store = record e.formatter.store { levels = v } })) (ap (levels_behind 1) levels_is)
+  formatter_is g = ap (λ v. g (record e.formatter { store = record e.formatter.store { levels = v } })) (ap (levels_after 1) levels_is)
 
   glides_read : Glides from 1 (told_line behind)
   glides_read = glides-one from (told_line behind) goes_line reads_line

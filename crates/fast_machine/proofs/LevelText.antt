@@ -8,7 +8,7 @@ use Rattle.nr_units.specs.Source.{Supply}
 use Rattle.nr_fill.specs.Piece.{line_cells}
 use Rattle.nr_fill.specs.Plain.{IsPlain}
 use Rattle.nr_store.specs.Store.{Level, Read, Mark, Reading, shown, level_charge}
-use Rattle.nr_store.specs.Windows.{rest_of, levels_behind, run_left}
+use Rattle.nr_store.specs.Windows.{rest_of, levels_after, run_left}
 use Rattle.nr_store.specs.declared.element.Element.{Element}
 use Rattle.nr_store.specs.declared.element.Element.TheVariants as elements
 use Rattle.nr_store.specs.declared.shown.Shown.{Shown}
@@ -164,7 +164,7 @@ module _ (b : ℕ) (e : Shape) (supply : Option Supply) (held : Option (List ℕ
       (reads_byte l ls b xs (at e s) h.chosen_is line (newline b plain) (escape b plain)) plain within_put
 
   put_is : (level_gone (run_put (b ∷ [])) e).formatter ≡ run_put (b ∷ []) behind.formatter
-  put_is = ap (λ v. run_put (b ∷ []) (record e.formatter { store = record e.formatter.store { levels = v } })) (ap (levels_behind 1) levels_is)
+  put_is = ap (λ v. run_put (b ∷ []) (record e.formatter { store = record e.formatter.store { levels = v } })) (ap (levels_after 1) levels_is)
 
   made_plain : Made [] (at e s) 2 (level_gone (run_put (b ∷ [])) e) supply held held
   made_plain =
@@ -211,7 +211,7 @@ module _ (e : Shape) (supply : Option Supply) (held : Option (List ℕ)) (s : St
   within_there = within_text l ls (elements.Byte (code " ") ∷ xs) xs [] (at e s) (subst IsWithin (sym start_is) h.within) h.within.formatter.line
 
   formatter_is : (g : Formatter → Formatter) → (level_gone g e).formatter ≡ g (at_text l ls xs (at e s)).formatter
-  formatter_is g = ap (λ v. g (record e.formatter { store = record e.formatter.store { levels = v } })) (ap (levels_behind 1) levels_is)
+  formatter_is g = ap (λ v. g (record e.formatter { store = record e.formatter.store { levels = v } })) (ap (levels_after 1) levels_is)
 
   made_flows : Made [] (at e s) 2 (level_gone gap_flows e) supply held held
   made_flows =

@@ -8,7 +8,7 @@ use Rattle.nr_units.specs.Source.{Supply}
 use Rattle.nr_fill.specs.Piece.{line_cells}
 use Rattle.nr_fill.specs.Plain.{IsPlain}
 use Rattle.nr_store.specs.Store.{Level, Read, Reading, Stored}
-use Rattle.nr_store.specs.Windows.{levels_behind, rest_of}
+use Rattle.nr_store.specs.Windows.{levels_after, rest_of}
 use Rattle.nr_store.specs.declared.element.Element.{Element}
 use Rattle.nr_store.specs.declared.element.Element.TheVariants as elements
 use Rattle.nr_settings.specs.Fonts.{present_look}
@@ -67,7 +67,7 @@ module _ (b : ℕ) (e : Shape) (supply : Option Supply) (held : Option (List ℕ
   }
 
   formatter_is : (level_gone (byte_put b) e).formatter ≡ byte_put b there.formatter
-  formatter_is = ap (λ v. byte_put b (record e.formatter { store = record e.formatter.store { levels = v } })) (ap (levels_behind 1) levels_is)
+  formatter_is = ap (λ v. byte_put b (record e.formatter { store = record e.formatter.store { levels = v } })) (ap (levels_after 1) levels_is)
 
   made_byte : Made [] (at e s) 2 (level_gone (byte_put b) e) supply held held
   made_byte =

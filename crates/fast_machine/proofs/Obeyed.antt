@@ -11,7 +11,7 @@ use Rattle.nr_store.specs.declared.request.Request.TheVariants as requests
 use Rattle.nr_formatter.specs.Access.{collected}
 use Rattle.nr_formatter.specs.Lines.{break_done}
 use Rattle.nr_formatter.specs.Moves.{heard_for, task_requested}
-use Rattle.nr_formatter.specs.Many.Obeying.{acted, behind_break, behind_space, breaks_first, breaks_idly, is_spacing, may_act, may_obey, may_set, may_space, moves_obeying, moves_spacing, obeyed, space_made}
+use Rattle.nr_formatter.specs.Many.Obeying.{acted, after_break, after_space, breaks_first, breaks_idly, is_spacing, may_act, may_obey, may_set, may_space, moves_obeying, moves_spacing, obeyed, space_made}
 use Rattle.nr_formatter.specs.Pages.{begins_first_page}
 use Rattle.nr_formatter.specs.Places.{outlet}
 use Rattle.nr_formatter.specs.Requests.{act}
@@ -22,7 +22,7 @@ use Rattle.nr_formatter.specs.declared.paper.Outlet.TheVariants as outlets
 use Rattle.nr_formatter.specs.declared.tasks.Task.{Task}
 use Rattle.nr_formatter.specs.declared.tasks.Task.TheVariants as tasks
 use Rattle.nr_formatter.specs.declared.tasks.Then.TheVariants as thens
-use Rattle.nr_formatter.proofs.Obeyed.{Leaves, Reads, Spaces, acts-act, behind_by, event_behind, falls-obeyed, obeyed-limits, sets-act, springs_behind, within-spaced}
+use Rattle.nr_formatter.proofs.Obeyed.{Leaves, Reads, Spaces, acts-act, behind_by, event_after, falls-obeyed, obeyed-limits, sets-act, springs_behind, within-spaced}
 use Rattle.nr_machine.specs.State.{State, plainly}
 use Rattle.nr_machine.specs.Machine as machine
 use Rattle.nr_machine.specs.Machine.{put_space, work}
@@ -123,21 +123,21 @@ glides_space true n s may chosen springs idle task within =
 
 -- after a request that was made with this formatter
 glides_behind : (f : Formatter) (s : State) → Leaves f s.formatter → f.springs ≡ None → s.chosen ≡ [] → s.formatter.event ≡ events.Nothing → IsWithin s
-    → Glides s (moves_spacing s.formatter) (with_formatter (behind_space s.formatter) s)
+    → Glides s (moves_spacing s.formatter) (with_formatter (after_space s.formatter) s)
 glides_behind f s (Reads task) springs chosen idle within =
     subst (λ (t : Task). Glides s (moves_by_task t s.formatter) (with_formatter (space_by t s.formatter) s)) (sym task) (glides_none s)
 glides_behind f s (Spaces n task kept) springs chosen idle within =
     subst (λ (t : Task). Glides s (moves_by_task t s.formatter) (with_formatter (space_by t s.formatter) s)) (sym task)
     (glides_space (may_space (tasks.Space n) s.formatter) n s refl chosen (kept ∙ springs) idle task within)
 
-within_behind : (f : Formatter) (s : State) → Leaves f s.formatter → IsWithin s → IsWithin (with_formatter (behind_space s.formatter) s)
+within_behind : (f : Formatter) (s : State) → Leaves f s.formatter → IsWithin s → IsWithin (with_formatter (after_space s.formatter) s)
 within_behind f s (Reads task) within = subst (λ (t : Task). IsWithin (with_formatter (space_by t s.formatter) s)) (sym task) within
 within_behind f s (Spaces n task kept) within =
     subst (λ (t : Task). IsWithin (with_formatter (space_by t s.formatter) s)) (sym task) (within_space (may_space (tasks.Space n) s.formatter) n s refl within)
 
 -- ---- all of them
 
-module _ (s : State) (chosen : s.chosen ≡ []) (request : s.formatter.event ≡ events.Request) (springs : s.formatter.springs ≡ None) (may : may_act s.formatter.reader.request (behind_break s.formatter) ≡ true) (within : IsWithin s) where
+module _ (s : State) (chosen : s.chosen ≡ []) (request : s.formatter.event ≡ events.Request) (springs : s.formatter.springs ≡ None) (may : may_act s.formatter.reader.request (after_break s.formatter) ≡ true) (within : IsWithin s) where
   abbrev r : Request
   r = s.formatter.reader.request
 
@@ -182,24 +182,24 @@ module _ (s : State) (chosen : s.chosen ≡ []) (request : s.formatter.event ≡
   after = with_formatter (acted s.formatter) s
 
   within_after : IsWithin after
-  within_after = within_acted r (with_formatter (behind_break s.formatter) s) may (within_behind_break (breaks_first s.formatter))
+  within_after = within_acted r (with_formatter (after_break s.formatter) s) may (within_behind_break (breaks_first s.formatter))
 
-  leaves : Leaves (behind_break s.formatter) (acted s.formatter)
-  leaves = (acts-act r (behind_break s.formatter) may).leaves
+  leaves : Leaves (after_break s.formatter) (acted s.formatter)
+  leaves = (acts-act r (after_break s.formatter) may).leaves
 
   idle : (acted s.formatter).event ≡ events.Nothing
-  idle = (acts-act r (behind_break s.formatter) may).event ∙ event_behind (breaks_first s.formatter) s.formatter
+  idle = (acts-act r (after_break s.formatter) may).event ∙ event_after (breaks_first s.formatter) s.formatter
 
   -- and its space is made
   glides_obeyed : (not (breaks_first s.formatter) || breaks_idly s.formatter) ≡ true
-      → Glides s ((if breaks_first s.formatter then 3 else 2) + moves_spacing (acted s.formatter)) (with_formatter (behind_space (acted s.formatter)) s)
+      → Glides s ((if breaks_first s.formatter then 3 else 2) + moves_spacing (acted s.formatter)) (with_formatter (after_space (acted s.formatter)) s)
   glides_obeyed idly =
-      glides-add s (if breaks_first s.formatter then 3 else 2) (moves_spacing (acted s.formatter)) after (with_formatter (behind_space (acted s.formatter)) s)
+      glides-add s (if breaks_first s.formatter then 3 else 2) (moves_spacing (acted s.formatter)) after (with_formatter (after_space (acted s.formatter)) s)
       (glides_by_break (breaks_first s.formatter) refl idly)
-      (glides_behind (behind_break s.formatter) after leaves (springs_behind (breaks_first s.formatter) s.formatter ∙ springs) chosen idle within_after)
+      (glides_behind (after_break s.formatter) after leaves (springs_behind (breaks_first s.formatter) s.formatter ∙ springs) chosen idle within_after)
 
-  within_obeyed : IsWithin (with_formatter (behind_space (acted s.formatter)) s)
-  within_obeyed = within_behind (behind_break s.formatter) after leaves within_after
+  within_obeyed : IsWithin (with_formatter (after_space (acted s.formatter)) s)
+  within_obeyed = within_behind (after_break s.formatter) after leaves within_after
 
 -- what the engine is then
 abbrev pub obeyed_shape : Formatter → Shape → Shape
@@ -208,13 +208,13 @@ obeyed_shape f e = record e { formatter = f }
 -- what may be obeyed, part by part
 record MayObey (f : Formatter) : Type 0 where
   springs : f.springs ≡ None
-  acts : may_act f.reader.request (behind_break f) ≡ true
+  acts : may_act f.reader.request (after_break f) ≡ true
   idly : (not (breaks_first f) || breaks_idly f) ≡ true
 
 may_parts : (f : Formatter) → may_obey f ≡ true → MayObey f
 may_parts f may =
-    let first = and_parts (is_none f.springs) (may_act f.reader.request (behind_break f) && (not (breaks_first f) || breaks_idly f)) may in
-    let second = and_parts (may_act f.reader.request (behind_break f)) (not (breaks_first f) || breaks_idly f) first.1 in
+    let first = and_parts (is_none f.springs) (may_act f.reader.request (after_break f) && (not (breaks_first f) || breaks_idly f)) may in
+    let second = and_parts (may_act f.reader.request (after_break f)) (not (breaks_first f) || breaks_idly f) first.1 in
     record { springs = none_of f.springs first.0; acts = second.0; idly = second.1 }
 
 -- how many moves the request takes
@@ -228,7 +228,7 @@ made_obeyed e supply held s h request may =
     let parts = may_parts f may in
     let glides = glides_obeyed (at e s) h.chosen_is request parts.springs parts.acts h.within parts.idly in
     let within = within_obeyed (at e s) h.chosen_is request parts.springs parts.acts h.within in
-    let g : Formatter = behind_space (acted f) in
+    let g : Formatter = after_space (acted f) in
     let is : obeyed f ≡ g = rw may refl in
     let holds : Holds [] supply (with_formatter g (at e s)) (obeyed_shape g e) =
     holds_of supply (with_formatter g (at e s)) (obeyed_shape g e) refl h.chosen_is h.coming h.row h.page h.page_limit h.select h.faces within in
@@ -281,10 +281,10 @@ sets_of false b none may = absurd (let wrong : false ≡ true = sym none ∙ may
 reads_behind : (b : Bool) (f : Formatter) → may_set f.reader.request (behind_by b f) ≡ true → f.springs ≡ None → ReadsNext (act f.reader.request (behind_by b f))
 reads_behind b f sets springs =
     let act = sets-act f.reader.request (behind_by b f) sets in
-    record { springs = act.springs ∙ springs_behind b f ∙ springs; event = act.event ∙ event_behind b f; task = act.task }
+    record { springs = act.springs ∙ springs_behind b f ∙ springs; event = act.event ∙ event_after b f; task = act.task }
 
 -- where the input is read no space is to be made
-reads_made : (f : Formatter) → ReadsNext f → ReadsNext (behind_space f)
+reads_made : (f : Formatter) → ReadsNext f → ReadsNext (after_space f)
 reads_made f reads = subst (λ (t : Task). ReadsNext (space_by t f)) (sym reads.task) reads
 
 reads_by : (m : Bool) (f : Formatter) → may_obey f ≡ m → is_spacing f.reader.request ≡ false → 0 < moves_obeying f → ReadsNext (obeyed f)
@@ -293,8 +293,8 @@ reads_by false f may sets some =
     absurd (omega (arith, none, some))
 reads_by true f may sets some =
     let parts = may_parts f may in
-    let is : obeyed f ≡ behind_space (acted f) = rw may refl in
-    let only = sets_of (may_set f.reader.request (behind_break f)) (is_spacing f.reader.request) sets parts.acts in
+    let is : obeyed f ≡ after_space (acted f) = rw may refl in
+    let only = sets_of (may_set f.reader.request (after_break f)) (is_spacing f.reader.request) sets parts.acts in
     subst ReadsNext (sym is) (reads_made (acted f) (reads_behind (breaks_first f) f only parts.springs))
 
 -- the input is read next where a request took effect that only sets

@@ -23,7 +23,7 @@ use Rattle.nr_machine.specs.Run.{Goes}
 use Rattle.nr_machine.specs.Holding.{Shape, at, Stands, Holds, Made}
 use Rattle.fast_machine.specs.Running.{Makes, Saves, unburst}
 use Rattle.fast_machine.proofs.Gliding.{Glides, glides_flows, glides_gap, made_of, told, within_flows, within_gap}
-use Rattle.fast_machine.proofs.PlainText.{IsTyping, behind_byte, behind_many, front_more, goes_byte, line_behind, may_give_one, paid, passed_many, reads_byte, stands_typing}
+use Rattle.fast_machine.proofs.PlainText.{IsTyping, behind_byte, behind_many, front_more, goes_byte, line_after, may_give_one, paid, passed_many, reads_byte, stands_typing}
 use Rattle.nr_machine.proofs.Standing.{wrote_nothing}
 use Rattle.nr_machine.proofs.Working.{holds_of}
 
@@ -112,7 +112,7 @@ module _ (bs : List ℕ) (e : Shape) (supply supply' : Option Supply) (is : is_i
       blank_next x.rest (at e s) (stands_typing supply s e h is levels) gap x.is x.gives x.few
 
   line_in : (s : State) → Stands [] supply s e → IsInLine (behind_byte (at e s)).formatter
-  line_in s h = line_behind (at e s) (stands_typing supply s e h is levels)
+  line_in s h = line_after (at e s) (stands_typing supply s e h is levels)
 
   made_flows : (held : Option (List ℕ)) (s : State) → Stands [] supply s e → Made [] (at e s) 2 (gone_shape gap_flows e) supply' held held
   made_flows held s h =

@@ -13,7 +13,7 @@ use Rattle.nr_reading.specs.declared.event.Event.TheVariants as events
 use Rattle.nr_reading.specs.declared.mode.Mode.TheVariants as modes
 use Rattle.nr_reading.proofs.InText.{in_text, meet-newline}
 use Rattle.nr_input.specs.Acting.{on_half}
-use Rattle.fast_input.specs.AtHand.{ComeNext, behind_last}
+use Rattle.fast_input.specs.AtHand.{ComeNext, after_last}
 use Rattle.nr_input.specs.Place.{Coming, HoldsComing, front, passed_run}
 use Rattle.nr_input.specs.Moving.{met_at, situation}
 use Rattle.nr_input.specs.Moving.{move as input_move}
@@ -54,8 +54,8 @@ abbrev pub ended : Formatter → Formatter
 ended f = record f { reader = on_half text_ended f.reader }
 
 -- after the newline
-abbrev behind_line : State → State
-behind_line s = record s { coming = behind_last (code "\n") 1 s.coming; formatter = unburst (ended s.formatter) }
+abbrev after_line : State → State
+after_line s = record s { coming = after_last (code "\n") 1 s.coming; formatter = unburst (ended s.formatter) }
 
 -- the end of the line is told
 abbrev pub told_line : State → State
@@ -79,11 +79,11 @@ module _ (rest : List ℕ) (s : State) (typing : IsTyping s) (next : s.coming.su
 
   -- it is taken and told
   takes : met_at (record { half = text_ended s.formatter.reader.half; event = events.EndLine; takes = true }) (situation_of s)
-      ≡ record { situation = situation s.formatter.store (behind_last (code "\n") 1 s.coming) (record s.formatter.reader { half = text_ended s.formatter.reader.half; burst = 0 }); told = tells.Event events.EndLine }
+      ≡ record { situation = situation s.formatter.store (after_last (code "\n") 1 s.coming) (record s.formatter.reader { half = text_ended s.formatter.reader.half; burst = 0 }); told = tells.Event events.EndLine }
   takes = rw (typing.levels, next, further, later-one s.coming.supply.faults) refl
 
   -- this is the first move
-  reads_line : step s ≡ told_line (behind_line s)
+  reads_line : step s ≡ told_line (after_line s)
   reads_line =
       step-read s typing.chosen typing.line.springs typing.line.event typing.line.task
       ∙ ap (λ m. with_situation m s) (looks ∙ ap (λ m. met_at m (situation_of s)) meets ∙ takes)
@@ -172,10 +172,10 @@ abbrev pub ended_shape : (Formatter → Formatter) → Shape → Shape
 ended_shape g e = record e { formatter = g (unburst e.formatter); place = passed_run (code "\n") 1 e.place }
 
 abbrev ended_state : (Formatter → Formatter) → State → State
-ended_state g s = record s { coming = behind_last (code "\n") 1 s.coming; formatter = g (unburst s.formatter) }
+ended_state g s = record s { coming = after_last (code "\n") 1 s.coming; formatter = g (unburst s.formatter) }
 
 -- the text has ended after such a newline
-line_end : (s : State) → IsTyping s → IsNewline s.formatter → IsLineEnd (behind_line s).formatter
+line_end : (s : State) → IsTyping s → IsNewline s.formatter → IsLineEnd (after_line s).formatter
 line_end s typing newline =
     let ends = ends_word s.formatter newline.plain in
     record {
@@ -189,24 +189,24 @@ line_end s typing newline =
       within = newline.within;
     }
 
-within_behind : (s : State) → IsTyping s → IsWithin (behind_line s)
+within_behind : (s : State) → IsTyping s → IsWithin (after_line s)
 within_behind s typing = record {
   formatter = record { stored = typing.within.formatter.stored; depth = typing.within.formatter.depth; line = typing.within.formatter.line; burst = omega arith };
   page = typing.within.page;
 }
 
 -- where the moves lead
-leads_flows : (s : State) → s.formatter.event ≡ events.Nothing → plainly line_flows (behind_line s) ≡ ended_state newline_flows s
-leads_flows s event = ap (λ v. record s { coming = behind_last (code "\n") 1 s.coming; formatter = record (newline_flows (unburst s.formatter)) { event = v } }) (sym event)
+leads_flows : (s : State) → s.formatter.event ≡ events.Nothing → plainly line_flows (after_line s) ≡ ended_state newline_flows s
+leads_flows s event = ap (λ v. record s { coming = after_last (code "\n") 1 s.coming; formatter = record (newline_flows (unburst s.formatter)) { event = v } }) (sym event)
 
-leads_put : (s : State) → s.formatter.event ≡ events.Nothing → s.formatter.task ≡ tasks.Read → plainly (line_put tasks.Read) (behind_line s) ≡ ended_state newline_put s
+leads_put : (s : State) → s.formatter.event ≡ events.Nothing → s.formatter.task ≡ tasks.Read → plainly (line_put tasks.Read) (after_line s) ≡ ended_state newline_put s
 leads_put s event task =
-    ap (λ v. record s { coming = behind_last (code "\n") 1 s.coming; formatter = record (newline_put (unburst s.formatter)) { event = v; task = tasks.Read } }) (sym event)
-    ∙ ap (λ v. record s { coming = behind_last (code "\n") 1 s.coming; formatter = record (newline_put (unburst s.formatter)) { task = v } }) (sym task)
+    ap (λ v. record s { coming = after_last (code "\n") 1 s.coming; formatter = record (newline_put (unburst s.formatter)) { event = v; task = tasks.Read } }) (sym event)
+    ∙ ap (λ v. record s { coming = after_last (code "\n") 1 s.coming; formatter = record (newline_put (unburst s.formatter)) { task = v } }) (sym task)
 
 -- the moves lead where the engine stands
 made_line : (n : ℕ) (g : Formatter → Formatter) (e : Shape) (supply supply' : Option Supply) (held : Option (List ℕ)) (s : State) → Stands [] supply s e
-    → HoldsComing (behind_last (code "\n") 1 s.coming) (passed_run (code "\n") 1 e.place) supply' → IsWithin (ended_state g (at e s)) → Glides (at e s) n (ended_state g (at e s))
+    → HoldsComing (after_last (code "\n") 1 s.coming) (passed_run (code "\n") 1 e.place) supply' → IsWithin (ended_state g (at e s)) → Glides (at e s) n (ended_state g (at e s))
     → Made [] (at e s) n (ended_shape g e) supply' held held
 made_line n g e supply supply' held s h behind within glides =
     let holds : Holds [] supply' (ended_state g (at e s)) (ended_shape g e) =
@@ -273,23 +273,23 @@ saves_newline e line =
 
 module _ (bs : List ℕ) (e : Shape) (supply supply' : Option Supply) (levels : e.formatter.store.levels ≡ []) (newline : IsNewline e.formatter)
     (next : (c : Coming) → HoldsComing c e.place supply → ComeNext (code "\n" ∷ bs) c)
-    (behind : (c : Coming) → HoldsComing c e.place supply → HoldsComing (behind_last (code "\n") 1 c) (passed_run (code "\n") 1 e.place) supply') where
+    (behind : (c : Coming) → HoldsComing c e.place supply → HoldsComing (after_last (code "\n") 1 c) (passed_run (code "\n") 1 e.place) supply') where
   -- the newline comes next in a line that has begun
   typing : (s : State) → Stands [] supply s e → IsTyping (at e s)
   typing s h = stands_typing supply s e h newline.line levels
 
-  end : (s : State) → Stands [] supply s e → IsLineEnd (behind_line (at e s)).formatter
+  end : (s : State) → Stands [] supply s e → IsLineEnd (after_line (at e s)).formatter
   end s h = line_end (at e s) (typing s h) newline
 
   -- it is read
-  glides_read : (s : State) → Stands [] supply s e → Glides (at e s) 1 (told_line (behind_line (at e s)))
+  glides_read : (s : State) → Stands [] supply s e → Glides (at e s) 1 (told_line (after_line (at e s)))
   glides_read s h =
       let x = first (code "\n") bs s.coming (next s.coming h.coming) in
-      glides-one (at e s) (told_line (behind_line (at e s))) (goes_line x.rest (at e s) (typing s h) x.is x.gives x.few) (reads_line x.rest (at e s) (typing s h) x.is x.gives x.few)
+      glides-one (at e s) (told_line (after_line (at e s))) (goes_line x.rest (at e s) (typing s h) x.is x.gives x.few) (reads_line x.rest (at e s) (typing s h) x.is x.gives x.few)
 
   made_flows : (held : Option (List ℕ)) (s : State) → Stands [] supply s e → Made [] (at e s) 2 (ended_shape newline_flows e) supply' held held
   made_flows held s h =
-      let t = behind_line (at e s) in
+      let t = after_line (at e s) in
       let is = leads_flows (at e s) (typing s h).line.event in
       let within = within_put t h.chosen_is (end s h) (within_behind (at e s) (typing s h)) (tasks.Flow afters.Line false) in
       let heard = hears t h.chosen_is (end s h) (within_behind (at e s) (typing s h)) in
@@ -298,7 +298,7 @@ module _ (bs : List ℕ) (e : Shape) (supply supply' : Option Supply) (levels : 
 
   made_put : fits_line (line_gapped (collected e.formatter)) ≡ true → (held : Option (List ℕ)) (s : State) → Stands [] supply s e → Made [] (at e s) 5 (ended_shape newline_put e) supply' held held
   made_put fits held s h =
-      let t = behind_line (at e s) in
+      let t = after_line (at e s) in
       let is = leads_put (at e s) (typing s h).line.event (typing s h).line.task in
       let within = within_put t h.chosen_is (end s h) (within_behind (at e s) (typing s h)) tasks.Read in
       let heard = ends_line t h.chosen_is (end s h) (within_behind (at e s) (typing s h)) fits in

@@ -142,8 +142,8 @@ module _ (b : ℕ) (rest : List ℕ) (s : State) (typing : IsTyping s) (line : (
       subst (λ k. GoesBy k s) (sym reads) sees
 
 -- it is read in the same line
-pub line_behind : (s : State) → IsTyping s → IsInLine (behind_byte s).formatter
-line_behind s typing = record {
+pub line_after : (s : State) → IsTyping s → IsInLine (behind_byte s).formatter
+line_after s typing = record {
   springs = typing.line.springs;
   event = typing.line.event;
   task = typing.line.task;
@@ -154,7 +154,7 @@ line_behind s typing = record {
 glides_byte : (b : ℕ) (rest : List ℕ) (s : State) → IsTyping s → IsPlain b → s.coming.supply.bytes ≡ b ∷ rest → MayGive s.coming.supply.faults → s.coming.taken + 1 < 2 ^ 40
     → IsWithin (typed (b ∷ []) s) → Glides s 2 (typed (b ∷ []) s)
 glides_byte b rest s typing plain next gives few within =
-    glides_plain s (behind_byte s) b typing.chosen (line_behind s typing) (goes_byte b rest s typing (newline b plain) (escape b plain) next gives few)
+    glides_plain s (behind_byte s) b typing.chosen (line_after s typing) (goes_byte b rest s typing (newline b plain) (escape b plain) next gives few)
     (reads_byte b rest s typing (newline b plain) (escape b plain) next gives few) plain within
 
 -- ---- a run

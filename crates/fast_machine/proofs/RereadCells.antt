@@ -7,7 +7,7 @@ use Rattle.nr_vectors.specs.declared.cell.Cell.{Cell}
 use Rattle.nr_fill.specs.Piece.{is_nil}
 use Rattle.nr_fill.specs.CellRow.{Row, IsRow, AddsToRow}
 use Rattle.nr_store.specs.Store.{Level, Read, Mark, Reading, level_charge}
-use Rattle.nr_store.specs.Windows.{rest_of, levels_behind, run_left}
+use Rattle.nr_store.specs.Windows.{rest_of, levels_after, run_left}
 use Rattle.nr_store.specs.declared.element.Element.{Element}
 use Rattle.nr_store.specs.declared.element.Element.TheVariants as elements
 use Rattle.nr_reading.specs.declared.event.Event.TheVariants as events
@@ -158,7 +158,7 @@ module _ (l : Reading Resume) (ls : List (Level Resume)) (s : State) (chosen : s
 abbrev pub reread_shape : ℕ → Row → Shape → Shape
 reread_shape n row e = record e { formatter = record e.formatter { store = run_left n e.formatter.store }; row = row }
 
-pub items_fewer : (n : ℕ) (levels : List (Level Resume)) → n ≤ length (rest_of levels) → items_left (levels_behind n levels) + n ≤ items_left levels
+pub items_fewer : (n : ℕ) (levels : List (Level Resume)) → n ≤ length (rest_of levels) → items_left (levels_after n levels) + n ≤ items_left levels
 items_fewer n [] few = omega (arith, few)
 items_fewer n (Mark mode ∷ ls) few = omega (arith, few)
 items_fewer n (Read l ∷ ls) few =
@@ -175,11 +175,11 @@ no_elements (y ∷ ys) zs is = absurd (let wrong : y ∷ (ys ++ zs) ≡ [] = is 
 module _ (ys zs : List Element) (row : Row) (e : Shape) (supply : Option Supply) (held : Option (List ℕ)) (s : State) (h : Stands [] supply s e)
     (is : is_rereading_line e.formatter ≡ true) (are : AreCells ys) (some : is_nil s.row ≡ false) (adds : AddsToRow e.row (cells_of ys) row) where
   -- nothing is left to be read of a level
-  made_nothing : (levels : List (Level Resume)) → e.formatter.store.levels ≡ levels → levels_behind (length ys) levels ≡ levels → ys ≡ []
+  made_nothing : (levels : List (Level Resume)) → e.formatter.store.levels ≡ levels → levels_after (length ys) levels ≡ levels → ys ≡ []
       → Made [] (at e s) (2 * length ys) (reread_shape (length ys) row e) supply held held
   made_nothing levels levels_is same none =
       let formatter_is : record e.formatter { store = run_left (length ys) e.formatter.store } ≡ e.formatter =
-      ap (λ v. record e.formatter { store = record e.formatter.store { levels = v } }) (ap (levels_behind (length ys)) levels_is ∙ same ∙ sym levels_is) in
+      ap (λ v. record e.formatter { store = record e.formatter.store { levels = v } }) (ap (levels_after (length ys)) levels_is ∙ same ∙ sym levels_is) in
       let row_is : IsRow s.row row = subst (λ r. IsRow r row) (ap (λ y. s.row ++ cells_of y) none ∙ append-nil s.row) (adds.1 s.row h.row) in
       let holds : Holds [] supply (at e s) (reread_shape (length ys) row e) =
       holds_of supply (at e s) (reread_shape (length ys) row e) formatter_is h.chosen_is h.coming row_is h.page h.page_limit h.select h.faces h.within in
@@ -199,7 +199,7 @@ module _ (ys zs : List Element) (row : Row) (e : Shape) (supply : Option Supply)
       let glides : Glides (at e s) (2 * length ys) end = subst (λ t. Glides t (2 * length ys) end) start (glides_cells l ls (at e s) h.chosen_is line ys zs s.row are some within) in
       let left : drop (length ys) l.rest ≡ zs = ap (drop (length ys)) (sym rest_is) ∙ drop_at ys zs (length ys) refl in
       let formatter_is : record e.formatter { store = run_left (length ys) e.formatter.store } ≡ end.formatter =
-      ap (λ v. record e.formatter { store = record e.formatter.store { levels = v } }) (ap (levels_behind (length ys)) levels_is ∙ ap (λ r. Read (record l { rest = r }) ∷ ls) left) in
+      ap (λ v. record e.formatter { store = record e.formatter.store { levels = v } }) (ap (levels_after (length ys)) levels_is ∙ ap (λ r. Read (record l { rest = r }) ∷ ls) left) in
       let holds : Holds [] supply end (reread_shape (length ys) row e) =
       holds_of supply end (reread_shape (length ys) row e) formatter_is h.chosen_is h.coming (adds.1 s.row h.row) h.page h.page_limit h.select h.faces
       (within_rest l ls (at e s) h.chosen_is line (ys ++ zs) zs s.row (s.row ++ cells_of ys) within) in

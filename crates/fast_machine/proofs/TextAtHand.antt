@@ -12,7 +12,7 @@ use Rattle.nr_settings.specs.Fonts.{present_look}
 use Rattle.nr_fill.specs.Piece.{Collected, Piece, Word, begins_line, is_nil, line_cells, word_pieces}
 use Rattle.nr_fill.specs.Plain.{run_cell}
 use Rattle.nr_fill.specs.Runs.{add_run}
-use Rattle.fast_input.specs.AtHand.{ComeNext, behind_last}
+use Rattle.fast_input.specs.AtHand.{ComeNext, after_last}
 use Rattle.nr_input.specs.Place.{Coming, HoldsComing, HoldsSupply, Reached, is_unseen, passed_run}
 use Rattle.nr_input.specs.declared.place.Ahead.{Ahead}
 use Rattle.nr_input.specs.declared.place.Ahead.TheVariants.{Unseen}
@@ -42,7 +42,7 @@ supply_held c a unseen = absurd (let wrong : false ≡ true = unseen in cc)
 
 -- the program stands after the next n bytes
 pub holds_behind : (last n : ℕ) (c : Coming) (p : Reached) (supply : Option Supply) → is_unseen p.ahead ≡ true → HoldsComing c p supply
-    → HoldsComing (behind_last last n c) (passed_run last n p) (option_map (skipped n) supply)
+    → HoldsComing (after_last last n c) (passed_run last n p) (option_map (skipped n) supply)
 holds_behind last n c p supply unseen h = record {
   taken = ap (λ t. t + n) h.taken;
   inside = refl;
@@ -53,7 +53,7 @@ holds_behind last n c p supply unseen h = record {
 record Before (last n : ℕ) (k : Coming) (p : Reached) (supply : Option Supply) : Type 0 where
   coming : Coming
   holds : HoldsComing coming p supply
-  is : k ≡ behind_last last n coming
+  is : k ≡ after_last last n coming
 
 -- where the program stands after n bytes, it stood before them
 before : (last n : ℕ) (k : Coming) (p : Reached) (supply : Option Supply) → is_unseen p.ahead ≡ true → HoldsComing k (passed_run last n p) (option_map (skipped n) supply) → Before last n k p supply
@@ -67,8 +67,8 @@ before last n k p (Some q) unseen h =
     record {
       coming = coming;
       holds = record { taken = refl; inside = refl; stands = supply_held coming p.ahead unseen };
-      is = ap (λ x. record k { supply = x }) supply ∙ ap (λ x. record (behind_last last n coming) { taken = x; inside = k.inside }) taken
-          ∙ ap (λ x. record (behind_last last n coming) { inside = x }) inside;
+      is = ap (λ x. record k { supply = x }) supply ∙ ap (λ x. record (after_last last n coming) { taken = x; inside = k.inside }) taken
+          ∙ ap (λ x. record (after_last last n coming) { inside = x }) inside;
     }
 
 -- so many bytes on, and then more of them
@@ -114,7 +114,7 @@ may_give_behind t n m (After k) less h = omega (arith, less, h)
 may_give_behind t n m Anytime less h = tt
 
 -- the other bytes come next after the first t
-come_behind : (last t : ℕ) (bs : List ℕ) (c : Coming) → t ≤ length bs → ComeNext bs c → ComeNext (drop t bs) (behind_last last t c)
+come_behind : (last t : ℕ) (bs : List ℕ) (c : Coming) → t ≤ length bs → ComeNext bs c → ComeNext (drop t bs) (after_last last t c)
 come_behind last t bs c less next =
     let xs = c.supply.bytes in
     let left : length (drop t bs) ≡ length bs - t = length-drop t bs in
@@ -381,7 +381,7 @@ makes_there n e f x y z m there = record {
 
 -- the source was moved after the bytes that were put
 pub makes_taken : (t m : ℕ) (bs : List ℕ) (e : Shape) (supply supply' : Option Supply) (g : Formatter) → PutsText bs t m e.formatter g → 0 < t → HasNext bs e supply
-    → ((c : Coming) → HoldsComing c e.place supply → HoldsComing (behind_last (slice_index bs (t - 1)) t c) (passed_run (slice_index bs (t - 1)) t e.place) supply')
+    → ((c : Coming) → HoldsComing c e.place supply → HoldsComing (after_last (slice_index bs (t - 1)) t c) (passed_run (slice_index bs (t - 1)) t e.place) supply')
     → Makes m e (taken_shape bs t g e) supply supply'
 makes_taken t m bs e supply supply' g puts some has behind =
     makes_there m e (taken_shape bs t g e) supply (option_map (skipped t) supply) supply' (puts.makes e supply refl has some)

@@ -111,7 +111,7 @@ fn answer(engine: &mut Engine) -> u128
 /// What was told after text is done, if it is a request that only sets or makes space, or a condition to be judged, and what
 /// levels bring after it is read. Tells how many moves that was.
 #[inline(always)]
-pub(crate) fn answer_behind(engine: &mut Engine) -> u128
+pub(crate) fn answer_after(engine: &mut Engine) -> u128
     ensures answers { MakesInPlace result (shape engine.old) (shape engine.new) }
     ensures few { result ≤ 524301 }
 {

@@ -10,7 +10,7 @@ ghost use Rattle.fast_machine.specs.Running.{HasNext, MakesReading, Longest, Lon
 use crate::empty_lines::read_lines;
 use crate::fonts::{begin_font, put_font};
 use crate::level_text::put_level_text;
-use crate::obeying::answer_behind;
+use crate::obeying::answer_after;
 use crate::reading::reads_next;
 use crate::rereading::put_row;
 use nr_formatter::formatter::Formatter;
@@ -208,13 +208,13 @@ fn put_text<R: Source>(engine: &mut Engine, input: &mut R) -> u128
 /// After text: of levels what was told is answered, and what they bring after it is read; of the source what can be read
 /// there without anything being done, and empty lines after it. Tells how many moves that was.
 #[inline(always)]
-fn read_behind<R: Source>(engine: &mut Engine, input: &mut R) -> u128
+fn read_after<R: Source>(engine: &mut Engine, input: &mut R) -> u128
     ensures reads { MakesReading result (shape engine.old) (shape engine.new) (R.supply input.old)
         (R.supply input.new) (R.failures input.old) (R.failures input.new) }
     ensures few { result ≤ 524301 }
 {
     if engine.formatter.store.is_reading() {
-        return answer_behind(engine);
+        return answer_after(engine);
     }
     read_lines(engine, input)
 }
@@ -230,7 +230,7 @@ fn put_next<R: Source>(engine: &mut Engine, input: &mut R) -> u128
     if engine.formatter.is_at_text() {
         let text = put_text(engine, input);
         if text > 0 {
-            return text + read_behind(engine, input);
+            return text + read_after(engine, input);
         }
     }
     let cells = put_row(engine);

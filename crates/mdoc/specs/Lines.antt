@@ -62,8 +62,8 @@ starts b h =
 abbrev pub begins : Line → ℕ → Half → Half
 begins line b h = record h { line = line; name = b ∷ []; cut = false }
 
-abbrev pub behind_control : ℕ → Half → Half
-behind_control b h =
+abbrev pub after_control : ℕ → Half → Half
+after_control b h =
     if (b == code " ") || (b == code "\t") then record h { line = lines.Apart; dotted = false } else
     if b == code "\n" then with_line lines.Start h else
     if b == code "\\" then with_line lines.ControlEscape h else begins lines.Name b h
@@ -163,7 +163,7 @@ behind_dot b h = with_line (if b == code "." then lines.Rest else body_after b) 
 
 abbrev pub passed_at : Line → ℕ → Half → Half
 passed_at lines.Start b h = starts b h
-passed_at lines.Control b h = behind_control b h
+passed_at lines.Control b h = after_control b h
 passed_at lines.Apart b h = apart b h
 passed_at lines.Between b h = between b h
 passed_at (lines.Text escaped) b h = in_text escaped b h

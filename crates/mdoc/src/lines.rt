@@ -224,7 +224,7 @@ impl Half {
     {
         match self.line {
             Line::Start => self.starts(byte),
-            Line::Control => self.behind_control(byte),
+            Line::Control => self.after_control(byte),
             Line::Apart => self.apart(byte),
             Line::Between => self.between(byte),
             Line::Text(escaped) => self.in_text(escaped, byte),
@@ -251,8 +251,8 @@ impl Half {
     }
 
     /// After the control character.
-    fn behind_control(&mut self, byte: u8)
-        ensures { self.new ≡ specs.behind_control byte self.old }
+    fn after_control(&mut self, byte: u8)
+        ensures { self.new ≡ specs.after_control byte self.old }
     {
         match byte {
             b' ' | b'\t' => {

@@ -42,8 +42,8 @@ pub record Heard (m : Macro) (b : ℕ) (s : State) (k : ℕ) : Type 0 where
 heard_of : (m : Macro) (b : ℕ) (s : State) (k : ℕ) (scan : Scan) → 1 ≤ k → is_inside scan ≡ true → Taking m b s 1 scan → Heard m b s k
 heard_of m b s k scan l i t = record { next = t.next; steps = 1; few = l; takes = t.takes; scan = scan; at = t.at; inside = i }
 
-pub heard_behind : (m : Macro) (b : ℕ) (s : State) (k : ℕ) (scan : Scan) (one : Leading m b s 1 scan) → Heard m b one.next k → Heard m b s (1 + k)
-heard_behind m b s k scan one h = record {
+pub heard_after : (m : Macro) (b : ℕ) (s : State) (k : ℕ) (scan : Scan) (one : Leading m b s 1 scan) → Heard m b one.next k → Heard m b s (1 + k)
+heard_after m b s k scan one h = record {
   next = h.next;
   steps = 1 + h.steps;
   few = (let few = h.few in omega arith);
@@ -123,14 +123,14 @@ between_heard false false false m b s h at e f g i j =
     ∙ ap (λ (t : Bool). between_by false false false t (b == code "\"") p) g
     ∙ ap (λ (t : Bool). between_by false false false false t p) i)
     (begun_asking m scans.Word scans.Between p at) in
-    heard_behind m b s 1 scans.Word one (word_heard m b one.next h one.at (none_ends (b == code " ") (b == code "\t") (b == code "\n") e f g) j)
+    heard_after m b s 1 scans.Word one (word_heard m b one.next h one.at (none_ends (b == code " ") (b == code "\t") (b == code "\n") e f g) j)
 
 -- a word that is whole is read for what it asks, and the byte behind it is met again
 given_heard : (quoted : Bool) (m : Macro) (b : ℕ) (s : State) → asks m ≡ true → Asking m s.page (scans.Given quoted)
     → (b == code "\n") ≡ false → (b == code "\\") ≡ false → Heard m b s 3
 given_heard quoted m b s h at e f =
     let one = given_step m quoted b s h at in
-    heard_behind m b s 2 scans.Between one
+    heard_after m b s 2 scans.Between one
     (between_heard (b == code " ") (b == code "\t") (b == code "\"") m b one.next h one.at refl refl e refl f)
 
 pub given_asking : (m : Macro) (quoted : Bool) (from : Scan) (p : Page) → Asking m p from → Asking m (with_scan (scans.Given quoted) p) (scans.Given quoted)
@@ -141,7 +141,7 @@ word_byte : (t : Bool) (m : Macro) (b : ℕ) (s : State) → asks m ≡ true →
 word_byte true m b s h at e f g =
     let p = s.page in
     let one = left_leads m b s (with_scan (scans.Given false) p) (scans.Given false) (word_met b p true at.scan_is e g) (given_asking m false scans.Word p at) in
-    heard_behind m b s 3 (scans.Given false) one (given_heard false m b one.next h one.at f g)
+    heard_after m b s 3 (scans.Given false) one (given_heard false m b one.next h one.at f g)
 word_byte false m b s h at e f g = heard_within m b s 1 4 (omega arith) (word_heard m b s h at e g)
 
 unfoldable pub quoted_rest : ℕ → Page → Met
@@ -197,7 +197,7 @@ closing_byte false m b s h at e f g =
     (ap (λ (sc : Scan). meet_at sc b p) at.scan_is
     ∙ ap (λ (t : Bool). if t then keep_quote p else met (with_scan (scans.Given true) p) (left acts.Nothing)) e)
     (given_asking m true scans.Closing p at) in
-    heard_behind m b s 3 (scans.Given true) one (given_heard true m b one.next h one.at f g)
+    heard_after m b s 3 (scans.Given true) one (given_heard true m b one.next h one.at f g)
 
 pub byte_heard : (scan : Scan) (m : Macro) (b : ℕ) (s : State) → asks m ≡ true → Asking m s.page scan → is_inside scan ≡ true
     → (b == code "\n") ≡ false → (b == code "\\") ≡ false → Heard m b s 4

@@ -31,7 +31,7 @@ use Rattle.mdoc_converter.specs.Seeing.{Met, met, left, three, two, and_taken}
 use Rattle.mdoc_converter.specs.WordLaws.{reads_at}
 use Rattle.mdoc_converter.specs.WrittenLines.{begins_star, each, asks, opens_block, is_plain, Letter, Plain, Escape, bytes_of, is_asking, are_asking, begins_blank, asking_line, written, names_no_string}
 use Rattle.mdoc_converter.proofs.After.{after, after-append, next-state, Fresh}
-use Rattle.mdoc_converter.proofs.AskedBytes.{between_heard, between_met, byte_heard, escape_met, escape_of, given_asking, heard_behind, inside_by, is_inside, quoted_rest, slash_heard, word_met}
+use Rattle.mdoc_converter.proofs.AskedBytes.{between_heard, between_met, byte_heard, escape_met, escape_of, given_asking, heard_after, inside_by, is_inside, quoted_rest, slash_heard, word_met}
 use Rattle.mdoc_converter.proofs.AskedWords.{Asking, asking_as, Leading, left_leads, given_step, kept_escape, is_hushed, three_page, three_words}
 use Rattle.mdoc_converter.proofs.Endings.{is_laid, last_laid, last_word, three_laid}
 use Rattle.mdoc_converter.proofs.Escapes.{and_left, and_right, both, is_not}
@@ -415,7 +415,7 @@ rest_said (Plain b ∷ ls) m name s none h f room blank good =
     let start = reads_name name s in
     let here = and_left (is_asking (Plain b)) (are_asking ls) good in
     let one = begin_step m b name s none h blank f room in
-    let first = heard_behind m b start 2 scans.Between one
+    let first = heard_after m b start 2 scans.Between one
     (between_heard (b == code " ") (b == code "\t") (b == code "\"") m b one.next h one.at refl refl
     (is_not (b == code "\n") (and_left (not (b == code "\n")) (not (b == code "\\")) here)) refl
     (is_not (b == code "\\") (and_right (not (b == code "\n")) (not (b == code "\\")) here))) in

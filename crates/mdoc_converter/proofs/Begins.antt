@@ -15,7 +15,7 @@ use Rattle.mdoc_converter.specs.declared.page.Last.TheVariants as lasts
 use Rattle.mdoc_converter.specs.declared.page.Page.{Page}
 use Rattle.mdoc_converter.specs.Blocks.{before_item, counted_item, counts, inner, is_bare, is_diagnosis, is_list, item, item_head, item_head_of, line_opens, new_item, plainly, space, stands_close, taking}
 use Rattle.mdoc_converter.specs.Calls.{is_synopsis}
-use Rattle.mdoc_converter.specs.Lines.{after, begins, book, function_line, is_see_also, include_line, line_before, stands_behind, synopsis_line}
+use Rattle.mdoc_converter.specs.Lines.{after, begins, book, function_line, is_see_also, include_line, line_before, stands_after, synopsis_line}
 use Rattle.mdoc_converter.specs.Options.{none}
 use Rattle.mdoc_converter.specs.WrittenLines.{heads_words, Usual, way_of}
 use Rattle.mdoc_converter.proofs.Outcomes.{is_quiet, of_word, never, Lined, lined_as, takes_plain, Keeps, Out, out, out_if, out_when, out_act_if, same_page}
@@ -32,10 +32,10 @@ silent_by true w = refl
 silent_by false w = refl
 
 quiet_before : (kind : Last) (p : Page) → is_quiet (line_before kind p) ≡ true
-quiet_before kind p = quiet_by (stands_behind p.place.last kind)
+quiet_before kind p = quiet_by (stands_after p.place.last kind)
 
 silent_before : (kind : Last) (p : Page) (w : List ℕ) → of_word (line_before kind p) w ++ [] ≡ []
-silent_before kind p w = silent_by (stands_behind p.place.last kind) w
+silent_before kind p w = silent_by (stands_after p.place.last kind) w
 
 kept_after : (kind : Last) (q : Page) → takes_plain q.call.taker ≡ true → Keeps q (after kind q)
 kept_after kind q f = record { scan = refl; word = refl; marks = refl; few = λ l. l; going = refl; comment = refl; line = refl; fits = f; way = refl }

@@ -24,7 +24,7 @@ use Rattle.mdoc_converter.specs.Scanning.{meet, meet_at, meet_whole, meet_whole_
 use Rattle.mdoc_converter.specs.Seeing.{Met, met, left, two, three, with_stack}
 use Rattle.mdoc_converter.specs.WordLaws.{reads_at, HeadingsAreSaid}
 use Rattle.mdoc_converter.specs.Words.{closing_mark, ends_long, heading_calls, marked_or, parsed, read_or_called, taken_behind}
-use Rattle.mdoc_converter.specs.WrittenLines.{Way, Usual, Headed, way_of, way_behind, way_headed, unless_called, none_or, prints_words, names_no_string, Letter, kept, written, Word, Bare, Quoted, is_first, headed, are_written, behind_each, line_of, printed_as, written_word}
+use Rattle.mdoc_converter.specs.WrittenLines.{Way, Usual, Headed, way_of, way_after, way_headed, unless_called, none_or, prints_words, names_no_string, Letter, kept, written, Word, Bare, Quoted, is_first, headed, are_written, after_each, line_of, printed_as, written_word}
 use Rattle.mdoc_converter.proofs.After.{after, after-append, next-state, Fresh}
 use Rattle.mdoc_converter.proofs.Escapes.{line-text}
 use Rattle.mdoc_converter.proofs.Given.{Whole, whole_of, whole_within}
@@ -32,7 +32,7 @@ use Rattle.mdoc_converter.proofs.LongWords.{the_heading}
 use Rattle.mdoc_converter.proofs.MacroLines.{beginning, control_taken, given, given_at, given_leads, letters_names, macro_met, name_begun, name_taken, one_enough, reads_name, two_enough, word_letters, word_prints}
 use Rattle.mdoc_converter.proofs.Meeting.{with_page, Leads, Takes, then_takes, leads_with, takes_by}
 use Rattle.mdoc_converter.proofs.Outcomes.{Lined, lined_as, takes_plain, Keeps}
-use Rattle.mdoc_converter.proofs.QuotedLines.{called_none, each_names, given_quoted, long_calls, long_whole, quoted_at, quoted_leads, Behind, behind_of, in_words, Line}
+use Rattle.mdoc_converter.proofs.QuotedLines.{called_none, each_names, given_quoted, long_calls, long_whole, quoted_at, quoted_leads, Behind, after_of, in_words, Line}
 use Rattle.mdoc_converter.proofs.ReadWords.{Read, between_by, between_met, read_bare, read_quoted}
 use Rattle.mdoc_converter.proofs.Stepping.{Head, In, Manner, out_step}
 use Rattle.mdoc_converter.proofs.Taken.{said_in}
@@ -207,25 +207,25 @@ last_whole quoted b s word at =
 
 -- by what it calls
 given_first : (o : Option Macro) (b : ℕ) (s : State) (word : List ℕ) → In false heads s (scans.Given false) word [] → called_by false word ≡ o
-    → none_or prints_words o ≡ true → Whole (behind_heads (way_behind Usual o)) b s 3 (unless_called Headed o word)
+    → none_or prints_words o ≡ true → Whole (behind_heads (way_after Usual o)) b s 3 (unless_called Headed o word)
 given_first None b s word at e f = short_whole false b s word at e
 given_first (Some m) b s word at e f =
     whole_within (behind_heads (way_of m)) b s 1 3 [] (omega arith)
     (calls_whole heads (behind_heads (way_of m)) m b s word at refl refl (prints_plain m f) (call_met b s word m at e))
 
 bare_behind : (s : State) (word : List ℕ) → In false heads s scans.Word word [] → none_or prints_words (called_by false word) ≡ true
-    → Behind (behind_heads (way_behind Usual (called_by false word))) s (unless_called Headed (called_by false word) word)
+    → Behind (behind_heads (way_after Usual (called_by false word))) s (unless_called Headed (called_by false word) word)
 bare_behind s word at f =
     let o = called_by false word in
     let inside = given_at false heads s word [] at in
-    behind_of (behind_heads (way_behind Usual o)) s (given s) (unless_called Headed o word)
+    after_of (behind_heads (way_after Usual o)) s (given s) (unless_called Headed o word)
     (given_leads false heads (code " ") s word [] at refl) (given_leads false heads (code "\n") s word [] at refl)
     (given_first o (code " ") (given s) word inside refl f) (given_first o (code "\n") (given s) word inside refl f) refl
 
 long_behind : (s : State) (word : List ℕ) → In true heads s scans.Word word [] → Behind (behind_heads Usual) s word
 long_behind s word at =
     let inside = given_at true heads s word [] at in
-    behind_of (behind_heads Usual) s (given s) word
+    after_of (behind_heads Usual) s (given s) word
     (given_leads true heads (code " ") s word [] at refl) (given_leads true heads (code "\n") s word [] at refl)
     (last_whole false (code " ") (given s) word inside) (last_whole false (code "\n") (given s) word inside) refl
 
@@ -236,7 +236,7 @@ quoted_whole false b s word at = short_whole true b s word at (called_none word)
 quoted_behind : (going : Bool) (s : State) (word : List ℕ) → In going heads s scans.Closing word [] → Behind (behind_heads Usual) s word
 quoted_behind going s word at =
     let inside = quoted_at going heads s word [] at in
-    behind_of (behind_heads Usual) s (given_quoted s) word
+    after_of (behind_heads Usual) s (given_quoted s) word
     (quoted_leads going heads (code " ") s word [] at refl) (quoted_leads going heads (code "\n") s word [] at refl)
     (quoted_whole going (code " ") (given_quoted s) word inside) (quoted_whole going (code "\n") (given_quoted s) word inside) refl
 
@@ -266,7 +266,7 @@ first_total xs held word all e f = ap (λ (hs : List ℕ). xs ++ (hs ++ word)) (
 
 first_bare : (t : Bool) (s : State) (bs all : List ℕ) (first hyphen : Bool) (r : Read heads false false s scans.Word bs [] all first hyphen) → r.going ≡ t
     → none_or prints_words (called_by false all) ≡ true
-    → First (way_behind Usual (called_by false all)) s bs (unless_called Headed (called_by false all) all)
+    → First (way_after Usual (called_by false all)) s bs (unless_called Headed (called_by false all) all)
 first_bare true s bs all first hyphen r e f =
     let none = none_held r.going r.held r.clear r.same_marks in
     let at = clear_at true r.next scans.Word r.word r.held none (going_at true r.going r.next scans.Word r.word r.held e r.at) in
@@ -279,7 +279,7 @@ first_bare true s bs all first hyphen r e f =
       behind = long_behind r.next r.word at;
       total = first_total r.xs r.held r.word all r.total none;
     } in
-    subst (λ (o : Option Macro). First (way_behind Usual o) s bs (unless_called Headed o all)) (sym (long_calls false all (r.long e))) long
+    subst (λ (o : Option Macro). First (way_after Usual o) s bs (unless_called Headed o all)) (sym (long_calls false all (r.long e))) long
 first_bare false s bs all first hyphen r e f =
     let none = none_held r.going r.held r.clear r.same_marks in
     let short = clear_at false r.next scans.Word r.word r.held none (going_at false r.going r.next scans.Word r.word r.held e r.at) in
@@ -332,9 +332,9 @@ heading_line w ws s none h all =
     let line = begun_by s.page.place.titled (is_page s.page.block.kind) s none refl refl in
     let first = first_word w line.next (codes "Sh") line.at h in
     let rest = in_words ws (behind_heads (way_headed w)) first.next first.ys first.behind refl all in
-    let behind = behind_each ws ++ codes "\n" in
+    let behind = after_each ws ++ codes "\n" in
     let bytes = written_word w in
-    let words = (bytes ++ behind_each ws) ++ codes "\n" in
+    let words = (bytes ++ after_each ws) ++ codes "\n" in
     let takes = then_takes (code " ") (reads_name (codes "Sh") s) line.next line.next 1 1 [] [] line.leads (blank_taken line.next (codes "Sh") line.at) in
     let begins = name_begun (code "S") s refl in
     let goes_on = name_taken (code "h") (codes "S") s refl (omega arith) in
@@ -345,7 +345,7 @@ heading_line w ws s none h all =
           ∙ next-words (code "S") (codes "h " ++ words) (reads_at scans.Control s) (reads_name (codes "S") s) 1 [] _ one_enough begins refl
           ∙ next-words (code "h") (codes " " ++ words) (reads_name (codes "S") s) (reads_name (codes "Sh") s) 1 [] _ one_enough goes_on refl
           ∙ next-words (code " ") words (reads_name (codes "Sh") s) line.next (1 + 1) ([] ++ []) _ two_enough takes refl
-          ∙ ap (λ (xs : List ℕ). words_of (parts_of line.next xs)) (append_assoc bytes (behind_each ws) (codes "\n"))
+          ∙ ap (λ (xs : List ℕ). words_of (parts_of line.next xs)) (append_assoc bytes (after_each ws) (codes "\n"))
           ∙ first.said behind ∙ ap (λ (zs : List ℕ). first.xs ++ zs) rest.words
           ∙ sym (append_assoc first.xs first.ys (printed_as false (way_headed w) rest.wholes ws))
           ∙ ap (λ (zs : List ℕ). zs ++ printed_as false (way_headed w) rest.wholes ws) first.total;
@@ -355,26 +355,26 @@ heading_line w ws s none h all =
           ∙ next-state (code "S") (codes "h " ++ words) (reads_at scans.Control s) (reads_name (codes "S") s) 1 [] one_enough begins
           ∙ next-state (code "h") (codes " " ++ words) (reads_name (codes "S") s) (reads_name (codes "Sh") s) 1 [] one_enough goes_on
           ∙ next-state (code " ") words (reads_name (codes "Sh") s) line.next (1 + 1) ([] ++ []) two_enough takes
-          ∙ ap (λ (xs : List ℕ). after line.next xs) (append_assoc bytes (behind_each ws) (codes "\n"))
+          ∙ ap (λ (xs : List ℕ). after line.next xs) (append_assoc bytes (after_each ws) (codes "\n"))
           ∙ after-append line.next bytes behind ∙ ap (λ (t : State). after t behind) first.state))
           rest.fresh;
     }
 
 pub heading_names : (w : Word) (ws : List Word) → is_first w ≡ true → are_written false (way_headed w) ws ≡ true
-    → names_no_string (codes "." ++ codes "Sh" ++ behind_each (w ∷ ws)) ≡ true
+    → names_no_string (codes "." ++ codes "Sh" ++ after_each (w ∷ ws)) ≡ true
 heading_names (Bare []) ws h all = absurd (let no : false ≡ true = h in cc)
 heading_names (Bare (l ∷ ls)) ws h all =
-    letters_names false (l ∷ ls) (behind_each ws) (word_letters false Headed l ls h) (each_names ws false (way_headed (Bare (l ∷ ls))) all)
+    letters_names false (l ∷ ls) (after_each ws) (word_letters false Headed l ls h) (each_names ws false (way_headed (Bare (l ∷ ls))) all)
 heading_names (Quoted ls) ws h all =
-    subst (λ (xs : List ℕ). names_no_string xs ≡ true) (sym (append_assoc (written true ls) (codes "\"") (behind_each ws)))
-    (letters_names true ls (code "\"" ∷ behind_each ws) h (each_names ws false Usual all))
+    subst (λ (xs : List ℕ). names_no_string xs ≡ true) (sym (append_assoc (written true ls) (codes "\"") (after_each ws)))
+    (letters_names true ls (code "\"" ∷ after_each ws) h (each_names ws false Usual all))
 
 pub headings_are_said : HeadingsAreSaid
 headings_are_said s w ws none h all =
     let line = heading_line w ws s none h all in (
       line.wholes,
       record {
-        text = line-text (codes "." ++ codes "Sh" ++ behind_each (w ∷ ws)) (reads_at scans.Start s) refl (heading_names w ws h all);
+        text = line-text (codes "." ++ codes "Sh" ++ after_each (w ∷ ws)) (reads_at scans.Start s) refl (heading_names w ws h all);
         words = line.words;
       },
     )

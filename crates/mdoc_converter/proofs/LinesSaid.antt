@@ -14,7 +14,7 @@ use Rattle.mdoc_converter.specs.Macros.{macro_of}
 use Rattle.mdoc_converter.specs.Reading.{State, fed}
 use Rattle.mdoc_converter.specs.Saying.{parts_of, text_of, words_of}
 use Rattle.mdoc_converter.specs.WordLaws.{begins_block, has_room, opens_some, printed_lines, reads_at, LinesAreSaid}
-use Rattle.mdoc_converter.specs.WrittenLines.{Way, is_first, is_item, mute_named, none_named, way_headed, way_named, way_of, printed_as, begins_star, begins_text, each, is_plain, is_text, names_no_string, Word, are_written, behind_each, Line, EmptyLine, CommentLine, TextLine, HeadingLine, MacroLine, AskingLine, asks_some, are_asking, begins_blank, written, Letter, heads_some, is_line, are_lines, written_line, written_lines, printed_line}
+use Rattle.mdoc_converter.specs.WrittenLines.{Way, is_first, is_item, mute_named, none_named, way_headed, way_named, way_of, printed_as, begins_star, begins_text, each, is_plain, is_text, names_no_string, Word, are_written, after_each, Line, EmptyLine, CommentLine, TextLine, HeadingLine, MacroLine, AskingLine, asks_some, are_asking, begins_blank, written, Letter, heads_some, is_line, are_lines, written_line, written_lines, printed_line}
 use Rattle.mdoc_converter.proofs.After.{after, after-pending, words-append, Fresh}
 use Rattle.mdoc_converter.proofs.AskingLines.{asking_said, line_names}
 use Rattle.mdoc_converter.proofs.Escapes.{and_left, and_right, both, line-text}
@@ -146,8 +146,8 @@ abbrev body : Line → List ℕ
 body EmptyLine = []
 body (CommentLine bs) = codes ".\\\"" ++ bs
 body (TextLine b bs) = b ∷ bs
-body (HeadingLine w ws) = codes "." ++ codes "Sh" ++ behind_each (w ∷ ws)
-body (MacroLine name ws) = codes "." ++ name ++ behind_each ws
+body (HeadingLine w ws) = codes "." ++ codes "Sh" ++ after_each (w ∷ ws)
+body (MacroLine name ws) = codes "." ++ name ++ after_each ws
 body (AskingLine name rest) = codes "." ++ name ++ written false rest
 
 body_written : (l : Line) → written_line l ≡ body l ++ codes "\n"
@@ -168,7 +168,7 @@ body_names (HeadingLine w ws) h =
 body_names (MacroLine name ws) h =
     let way = way_named (macro_of name) in
     let mute = none_named (macro_of name) in
-    plain_names name (behind_each ws)
+    plain_names name (after_each ws)
     (and_right (heads_some (macro_of name)) (each is_plain name)
     (and_left (heads_some (macro_of name) && each is_plain name) (are_written mute way ws) h))
     (each_names ws mute way (and_right (heads_some (macro_of name) && each is_plain name) (are_written mute way ws) h))

@@ -22,8 +22,8 @@ use Rattle.mdoc_converter.specs.Scanning.{meet, meet_at, meet_whole, meet_whole_
 use Rattle.mdoc_converter.specs.Seeing.{Met, met, left}
 use Rattle.mdoc_converter.specs.Taking.{argument, taken_word}
 use Rattle.mdoc_converter.specs.WordLaws.{reads_at, WordsAreSaid}
-use Rattle.mdoc_converter.specs.Words.{behind_long, closing_mark, ends_long, heading_calls, marked_or, parsed, read_or_called, taken_behind, unmarked}
-use Rattle.mdoc_converter.specs.WrittenLines.{Way, is_mute, said_of, unless_called, way_of, way_then, each, names_no_string, are_letters, is_plain, is_word, kept, written, heads_words, Word, Bare, Quoted, are_written, behind_each, line_of, printed_as, none_or, prints_words}
+use Rattle.mdoc_converter.specs.Words.{after_long, closing_mark, ends_long, heading_calls, marked_or, parsed, read_or_called, taken_behind, unmarked}
+use Rattle.mdoc_converter.specs.WrittenLines.{Way, is_mute, said_of, unless_called, way_of, way_then, each, names_no_string, are_letters, is_plain, is_word, kept, written, heads_words, Word, Bare, Quoted, are_written, after_each, line_of, printed_as, none_or, prints_words}
 use Rattle.mdoc_converter.proofs.Endings.{ends_quiet, heads_end}
 use Rattle.mdoc_converter.proofs.Escapes.{and_left, and_right, both, line-text}
 use Rattle.mdoc_converter.proofs.Given.{Whole, whole_of, whole_behind, whole_within, plain_reads}
@@ -172,7 +172,7 @@ long_met quoted head b s word at =
     ap (λ (sc : Scan). meet_at sc b p) at.scan_is ∙ ap (λ (sc : Scan). meet_whole_at sc b p) at.scan_is
     ∙ ap (λ (t : Bool). if t then ends_long p else if reads_for p.call.taker && not (heading_calls quoted p) then option p else parsed quoted p) at.going
 
-behind_out : (k : _) (p q : Page) → Keeps q p → Out (met p (behind_long k)) q q.word
+behind_out : (k : _) (p q : Page) → Keeps q p → Out (met p (after_long k)) q q.word
 unfolding is_quiet of_word
 behind_out behinds.Nothing p q keeps = out p q acts.LastMore acts.Nothing acts.Nothing q.word refl refl refl (append-nil q.word) keeps
 behind_out behinds.Parenthesis p q keeps =
@@ -225,9 +225,9 @@ pub record Behind (head : Head) (s : State) (all : List ℕ) : Type 0 where
   newline : words_of (parts_of s (codes "\n")) ≡ all
   fresh : Fresh (after s (codes "\n"))
 
-pub behind_of : (head : Head) (s g : State) (all : List ℕ) → Leads (code " ") s g 1 [] → Leads (code "\n") s g 1 []
+pub after_of : (head : Head) (s g : State) (all : List ℕ) → Leads (code " ") s g 1 [] → Leads (code "\n") s g 1 []
     → Whole head (code " ") g 3 all → Whole head (code "\n") g 3 all → ends_quiet head.line.macro ≡ true → Behind head s all
-behind_of head s g all blank newline w v h =
+after_of head s g all blank newline w v h =
     let t = w.step.next in
     let u = v.step.next in
     let e = over head u v.word v.marks v.step.at h in
@@ -262,7 +262,7 @@ behind_bare : (head : Head) (s : State) (word marks : List ℕ) → At head s sc
 unfolding of_kept
 behind_bare head s word marks at h f =
     let inside = given_at false (plainly head) s word marks at in
-    behind_of (behind_head head (called_by head.line.mute word)) s (given s) (marks ++ of_kept head.line.mute head.way word)
+    after_of (behind_head head (called_by head.line.mute word)) s (given s) (marks ++ of_kept head.line.mute head.way word)
     (given_leads false (plainly head) (code " ") s word marks at refl) (given_leads false (plainly head) (code "\n") s word marks at refl)
     (given_whole head (code " ") (given s) word marks inside f) (given_whole head (code "\n") (given s) word marks inside f) h
 
@@ -270,7 +270,7 @@ behind_bare_long : (head : Head) (s : State) (word : List ℕ) → In true (plai
     → Behind (behind_head head None) s word
 behind_bare_long head s word at h =
     let inside = given_at true (plainly head) s word [] at in
-    behind_of (behind_head head None) s (given s) word
+    after_of (behind_head head None) s (given s) word
     (given_leads true (plainly head) (code " ") s word [] at refl) (given_leads true (plainly head) (code "\n") s word [] at refl)
     (called_nothing head (code " ") (given s) 3 word (plain_whole false head (code " ") (given s) word inside))
     (called_nothing head (code "\n") (given s) 3 word (plain_whole false head (code "\n") (given s) word inside)) h
@@ -279,7 +279,7 @@ behind_quoted : (head : Head) (s : State) (word marks : List ℕ) → At head s 
     → Behind head s (marks ++ said_of head.way word)
 behind_quoted head s word marks at h =
     let inside = quoted_at false (plainly head) s word marks at in
-    behind_of head s (given_quoted s) (marks ++ said_of head.way word)
+    after_of head s (given_quoted s) (marks ++ said_of head.way word)
     (quoted_leads false (plainly head) (code " ") s word marks at refl) (quoted_leads false (plainly head) (code "\n") s word marks at refl)
     (quoted_whole head (code " ") (given_quoted s) word marks inside)
     (quoted_whole head (code "\n") (given_quoted s) word marks inside) h
@@ -287,7 +287,7 @@ behind_quoted head s word marks at h =
 behind_quoted_long : (head : Head) (s : State) (word : List ℕ) → In true (plainly head) s scans.Closing word [] → ends_quiet head.line.macro ≡ true → Behind head s word
 behind_quoted_long head s word at h =
     let inside = quoted_at true (plainly head) s word [] at in
-    behind_of head s (given_quoted s) word
+    after_of head s (given_quoted s) word
     (quoted_leads true (plainly head) (code " ") s word [] at refl) (quoted_leads true (plainly head) (code "\n") s word [] at refl)
     (plain_whole true head (code " ") (given_quoted s) word inside) (plain_whole true head (code "\n") (given_quoted s) word inside) h
 
@@ -366,27 +366,27 @@ regroup us xs ys vs = ap (λ (zs : List ℕ). us ++ zs) (sym (append_assoc xs ys
 -- a word is read behind a blank, and the others behind it
 then_word : (head : Head) (s : State) (all bs xs ys us vs : List ℕ) (ws : List Word) (one : Said head s all) (next : State)
     → ((rest : List ℕ) → words_of (parts_of one.next (bs ++ rest)) ≡ xs ++ words_of (parts_of next rest))
-    → words_of (parts_of next (behind_each ws ++ codes "\n")) ≡ ys ++ vs → xs ++ ys ≡ one.marks ++ us
-    → words_of (parts_of s (code " " ∷ ((bs ++ behind_each ws) ++ codes "\n"))) ≡ all ++ (us ++ vs)
+    → words_of (parts_of next (after_each ws ++ codes "\n")) ≡ ys ++ vs → xs ++ ys ≡ one.marks ++ us
+    → words_of (parts_of s (code " " ∷ ((bs ++ after_each ws) ++ codes "\n"))) ≡ all ++ (us ++ vs)
 then_word head s all bs xs ys us vs ws one next heard rest total =
-    one.said ((bs ++ behind_each ws) ++ codes "\n")
-    ∙ ap (λ (zs : List ℕ). one.xs ++ words_of (parts_of one.next zs)) (append_assoc bs (behind_each ws) (codes "\n"))
-    ∙ ap (λ (zs : List ℕ). one.xs ++ zs) (heard (behind_each ws ++ codes "\n") ∙ ap (λ (zs : List ℕ). xs ++ zs) rest)
+    one.said ((bs ++ after_each ws) ++ codes "\n")
+    ∙ ap (λ (zs : List ℕ). one.xs ++ words_of (parts_of one.next zs)) (append_assoc bs (after_each ws) (codes "\n"))
+    ∙ ap (λ (zs : List ℕ). one.xs ++ zs) (heard (after_each ws ++ codes "\n") ∙ ap (λ (zs : List ℕ). xs ++ zs) rest)
     ∙ regroup one.xs xs ys vs ∙ ap (λ (zs : List ℕ). one.xs ++ (zs ++ vs)) total
     ∙ regrouped one.xs one.marks all us vs one.total
 
 then_fresh : (head : Head) (s : State) (all bs : List ℕ) (ws : List Word) (one : Said head s all) (next : State) → after one.next bs ≡ next
-    → Fresh (after next (behind_each ws ++ codes "\n")) → Fresh (after s (code " " ∷ ((bs ++ behind_each ws) ++ codes "\n")))
+    → Fresh (after next (after_each ws ++ codes "\n")) → Fresh (after s (code " " ∷ ((bs ++ after_each ws) ++ codes "\n")))
 then_fresh head s all bs ws one next state rest =
-    let behind = behind_each ws ++ codes "\n" in
+    let behind = after_each ws ++ codes "\n" in
     subst Fresh
-    (sym (ap (λ (t : State). after t ((bs ++ behind_each ws) ++ codes "\n")) one.state
-    ∙ ap (λ (xs : List ℕ). after one.next xs) (append_assoc bs (behind_each ws) (codes "\n"))
+    (sym (ap (λ (t : State). after t ((bs ++ after_each ws) ++ codes "\n")) one.state
+    ∙ ap (λ (xs : List ℕ). after one.next xs) (append_assoc bs (after_each ws) (codes "\n"))
     ∙ after-append one.next bs behind ∙ ap (λ (t : State). after t behind) state))
     rest
 
 pub in_words : (ws : List Word) (head : Head) (s : State) (all : List ℕ) → Behind head s all → ends_quiet head.line.macro ≡ true → are_written head.line.mute head.way ws ≡ true
-    → Line s (behind_each ws ++ codes "\n") all head.line.mute head.way ws
+    → Line s (after_each ws ++ codes "\n") all head.line.mute head.way ws
 unfolding of_kept
 in_words [] head s all behind h good = record { wholes = []; words = behind.newline ∙ sym (append-nil all); fresh = behind.fresh }
 in_words (Bare [] ∷ ws) head s all behind h good = absurd (let no : false ≡ true = and_left false (are_written head.line.mute (way_then head.line.mute head.way (Bare [])) ws) good in cc)
@@ -457,22 +457,22 @@ pub quoted_line : (name : List ℕ) (ws : List Word) (m : Macro) (s : State) →
     → Line (reads_at scans.Start s) (line_of name ws) [] (is_mute s.page.block m) (way_of m) ws
 quoted_line [] ws m s marks f h plain all = absurd (let no : None ≡ Some m = f in cc)
 quoted_line (b ∷ bs) ws m s marks f h plain all =
-    let rest = behind_each ws ++ codes "\n" in
+    let rest = after_each ws ++ codes "\n" in
     let short = short_name (b ∷ bs) m f in
     let line = in_words ws (head_of m (is_mute s.page.block m)) (reads_name (b ∷ bs) s) [] (name_behind m (b ∷ bs) s marks f h) (heads_end m h) all in
     record {
       wholes = line.wholes;
       words =
-          next-words (code ".") ((b ∷ bs ++ behind_each ws) ++ codes "\n") (reads_at scans.Start s) (reads_at scans.Control s) 1 [] _ one_enough (control_taken s) refl
-          ∙ ap (λ (xs : List ℕ). words_of (parts_of (reads_at scans.Control s) xs)) (append_assoc (b ∷ bs) (behind_each ws) (codes "\n"))
+          next-words (code ".") ((b ∷ bs ++ after_each ws) ++ codes "\n") (reads_at scans.Start s) (reads_at scans.Control s) 1 [] _ one_enough (control_taken s) refl
+          ∙ ap (λ (xs : List ℕ). words_of (parts_of (reads_at scans.Control s) xs)) (append_assoc (b ∷ bs) (after_each ws) (codes "\n"))
           ∙ next-words b (bs ++ rest) (reads_at scans.Control s) (reads_name (b ∷ []) s) 1 [] _ one_enough
           (name_begun b s (and_left (is_plain b) (each is_plain bs) plain)) refl
           ∙ name_more bs (b ∷ []) s rest (and_right (is_plain b) (each is_plain bs) plain) (omega arith)
           ∙ line.words;
       fresh =
           subst Fresh
-          (sym (next-state (code ".") ((b ∷ bs ++ behind_each ws) ++ codes "\n") (reads_at scans.Start s) (reads_at scans.Control s) 1 [] one_enough (control_taken s)
-          ∙ ap (λ (xs : List ℕ). after (reads_at scans.Control s) xs) (append_assoc (b ∷ bs) (behind_each ws) (codes "\n"))
+          (sym (next-state (code ".") ((b ∷ bs ++ after_each ws) ++ codes "\n") (reads_at scans.Start s) (reads_at scans.Control s) 1 [] one_enough (control_taken s)
+          ∙ ap (λ (xs : List ℕ). after (reads_at scans.Control s) xs) (append_assoc (b ∷ bs) (after_each ws) (codes "\n"))
           ∙ next-state b (bs ++ rest) (reads_at scans.Control s) (reads_name (b ∷ []) s) 1 [] one_enough
           (name_begun b s (and_left (is_plain b) (each is_plain bs) plain))
           ∙ name_more_state bs (b ∷ []) s rest (and_right (is_plain b) (each is_plain bs) plain) (omega arith)))
@@ -481,16 +481,16 @@ quoted_line (b ∷ bs) ws m s marks f h plain all =
 
 -- ---- no string is named in it
 
-pub each_names : (ws : List Word) (mute : Bool) (way : Way) → are_written mute way ws ≡ true → names_no_string (behind_each ws) ≡ true
+pub each_names : (ws : List Word) (mute : Bool) (way : Way) → are_written mute way ws ≡ true → names_no_string (after_each ws) ≡ true
 each_names [] mute way all = refl
 each_names (Bare [] ∷ ws) mute way all = absurd (let no : false ≡ true = and_left false (are_written mute (way_then mute way (Bare [])) ws) all in cc)
 each_names (Bare (l ∷ ls) ∷ ws) mute way all =
     let then_way = way_then mute way (Bare (l ∷ ls)) in
-    letters_names false (l ∷ ls) (behind_each ws) (word_letters mute way l ls (and_left (is_word mute way (l ∷ ls)) (are_written mute then_way ws) all))
+    letters_names false (l ∷ ls) (after_each ws) (word_letters mute way l ls (and_left (is_word mute way (l ∷ ls)) (are_written mute then_way ws) all))
     (each_names ws mute then_way (and_right (is_word mute way (l ∷ ls)) (are_written mute then_way ws) all))
 each_names (Quoted ls ∷ ws) mute way all =
-    subst (λ (xs : List ℕ). names_no_string xs ≡ true) (sym (append_assoc (written true ls) (codes "\"") (behind_each ws)))
-    (letters_names true ls (code "\"" ∷ behind_each ws) (and_left (are_letters true ls) (are_written mute way ws) all)
+    subst (λ (xs : List ℕ). names_no_string xs ≡ true) (sym (append_assoc (written true ls) (codes "\"") (after_each ws)))
+    (letters_names true ls (code "\"" ∷ after_each ws) (and_left (are_letters true ls) (are_written mute way ws) all)
     (each_names ws mute way (and_right (are_letters true ls) (are_written mute way ws) all)))
 
 -- words that may be written where they call macros may be so where they call none
@@ -514,7 +514,7 @@ words_are_said s m name ws marks f h plain all =
     let line = quoted_line name ws m s marks f h plain all in (
       line.wholes,
       record {
-        text = line-text (code "." ∷ name ++ behind_each ws) (reads_at scans.Start s) refl (plain_names name (behind_each ws) plain (each_names ws (is_mute s.page.block m) (way_of m) all));
+        text = line-text (code "." ∷ name ++ after_each ws) (reads_at scans.Start s) refl (plain_names name (after_each ws) plain (each_names ws (is_mute s.page.block m) (way_of m) all));
         words = line.words;
       },
     )

@@ -22,7 +22,7 @@ use Rattle.mdoc_converter.specs.declared.page.Split.TheVariants.{Never, Next, Al
 use Rattle.mdoc_converter.specs.Calls.{with_call, with_place, is_nothing, is_none, heads_line, after_name, takes_no_more, called}
 use Rattle.mdoc_converter.specs.Macros.{part_font}
 use Rattle.mdoc_converter.specs.Seeing.{Met, met, three}
-use Rattle.mdoc_converter.specs.Taking.{author, author_line_by, named_author, splits, behind_later, include, keeps_link, link, prefix, taken_by, taken_word, taken_alone_by, naming, named, named_under_condition, is_conditional, parameter, is_outside, is_first, is_listed, behind_first, listing, reference, function_begins, function}
+use Rattle.mdoc_converter.specs.Taking.{author, author_line_by, named_author, splits, after_later, include, keeps_link, link, prefix, taken_by, taken_word, taken_alone_by, naming, named, named_under_condition, is_conditional, parameter, is_outside, is_first, is_listed, behind_first, listing, reference, function_begins, function}
 use Rattle.mdoc_converter.specs.Texts.{closer}
 use Rattle.mdoc_converter.specs.WrittenLines.{Authors, Usual, said_of, way_of}
 use Rattle.mdoc_converter.proofs.Outcomes.{is_quiet, of_word, never, takes_plain, Keeps, keeps_if, keeps_no_more, Out, out, out_if, out_seen_if, out_act_if, same_page, function_closes_out}
@@ -144,8 +144,8 @@ reference_out q f u =
     refl refl refl (append-nil q.word) (no_more q f u))
 
 -- what stands behind a long word comes later
-behind_kept : (behind : Behind) (q p : Page) → Keeps q p → Keeps q (behind_later behind p)
-behind_kept behind q p i = record {
+after_kept : (behind : Behind) (q p : Page) → Keeps q p → Keeps q (after_later behind p)
+after_kept behind q p i = record {
   scan = i.scan;
   word = i.word;
   marks = i.marks;
@@ -160,7 +160,7 @@ behind_kept behind q p i = record {
 pub prefix_out : (q : Page) → takes_plain q.call.taker ≡ true → way_of q.call.taker ≡ Usual → Out (prefix q) q q.word
 unfolding is_quiet of_word
 prefix_out q f u =
-    out_if q.lay.front _ _ q q.word (said_in Roman _ q (behind_kept behinds.Joint q (takes_no_more q) (no_more q f u)))
+    out_if q.lay.front _ _ q q.word (said_in Roman _ q (after_kept behinds.Joint q (takes_no_more q) (no_more q f u)))
     (out (takes_no_more q) q (acts.Word Roman) acts.Join acts.Nothing q.word refl refl refl (append-nil q.word) (no_more q f u))
 
 include_out : (q : Page) → takes_plain q.call.taker ≡ true → way_of q.call.taker ≡ Usual → Out (include q) q q.word
@@ -168,7 +168,7 @@ unfolding is_quiet of_word
 include_out q f u =
     out_if q.lay.front _ _ q q.word
     (out _ q (acts.Text (texts.Opening pairs.Signs)) (acts.Joined Italic) acts.Nothing q.word refl refl refl (append-nil q.word)
-    (behind_kept behinds.Angle q (takes_no_more q) (no_more q f u)))
+    (after_kept behinds.Angle q (takes_no_more q) (no_more q f u)))
     (out (takes_no_more q) q (acts.Text (texts.Opening pairs.Signs)) (acts.Joined Italic) (acts.Close (texts.Closing (code ">"))) q.word
     refl refl refl (append-nil q.word) (no_more q f u))
 

@@ -16,7 +16,7 @@ use Rattle.mdoc_converter.specs.Laying.{is_control, is_middle, laid, put, then_l
 use Rattle.mdoc_converter.specs.LayingOut.{lay_out}
 use Rattle.mdoc_converter.specs.Reading.{State, said, heard}
 use Rattle.mdoc_converter.specs.Saying.{part_of, parts_at, parts_of, words_of}
-use Rattle.mdoc_converter.specs.Scanning.{before_next, behind_hyphen, behind_text, first_before, hyphen_in_text, is_letter, meet}
+use Rattle.mdoc_converter.specs.Scanning.{before_next, after_hyphen, after_text, first_before, hyphen_in_text, is_letter, meet}
 use Rattle.mdoc_converter.specs.Seeing.{met, taken}
 use Rattle.mdoc_converter.specs.WordLaws.{reads_at, TextIsSaid}
 use Rattle.mdoc_converter.specs.WrittenLines.{begins_text, each, is_text}
@@ -94,9 +94,9 @@ behind_other s =
 
 -- ---- behind a hyphen that was held back
 
-behind_met : (b : ℕ) (p : Page) → meet b (with_scan scans.Hyphen p) ≡ behind_hyphen b (with_scan scans.Hyphen p)
+after_met : (b : ℕ) (p : Page) → meet b (with_scan scans.Hyphen p) ≡ after_hyphen b (with_scan scans.Hyphen p)
 unfolding meet
-behind_met b p = refl
+after_met b p = refl
 
 hyphen_or : Bool → Act
 hyphen_or t = if t then acts.Byte (code "-") else acts.Hyphen
@@ -116,7 +116,7 @@ unfolding said hyphen_or lay_out
 hyphen_leads b s =
     let p = with_scan (scans.Text befores.Other) s.page in
     leads_by b (reads_at scans.Hyphen s) p p (hyphen_or (is_letter b)) acts.Nothing acts.Nothing (codes "-")
-    (behind_met b s.page) (hyphen_page (is_letter b) p) (hyphen_word (is_letter b) p)
+    (after_met b s.page) (hyphen_page (is_letter b) p) (hyphen_word (is_letter b) p)
 
 ended_lays : (t : Bool) (l : _) (p : Page) → Lays p (if t then with_lay l p else p)
 ended_lays true l p = (l, refl)
@@ -213,7 +213,7 @@ all_said (b ∷ bs) h =
 -- ---- the first byte
 
 start_met : (b : ℕ) (s : State) → is_control b ≡ false → (b == code "\n") ≡ false → (b == code " ") ≡ false → (b == code "\t") ≡ false
-    → meet b (reads_at scans.Start s).page ≡ met (with_scan (scans.Text (first_before b)) (behind_text s.page)) (taken (acts.Begin b))
+    → meet b (reads_at scans.Start s).page ≡ met (with_scan (scans.Text (first_before b)) (after_text s.page)) (taken (acts.Begin b))
 unfolding meet
 start_met b s c e f g = rw (c, e, f, g) refl
 
@@ -229,7 +229,7 @@ begun_lays b p = begun_by (begins_row p) b p
 
 begun : ℕ → State → Page
 begun b s =
-    let p = behind_text s.page in with_lay (begun_lays b (with_scan (scans.Text (first_before b)) p)).0 p
+    let p = after_text s.page in with_lay (begun_lays b (with_scan (scans.Text (first_before b)) p)).0 p
 
 begun_page : (b : ℕ) (p : Page) → (said (taken (acts.Begin b)) p).page ≡ (lay_out (acts.Begin b) p).page
 unfolding said lay_out
@@ -239,7 +239,7 @@ start_taken : (b : ℕ) (s : State) → is_control b ≡ false → (b == code "\
     → Takes b (reads_at scans.Start s) (reads_at (scans.Text (first_before b)) (with_page (begun b s) s)) 1 (b ∷ [])
 unfolding begun said
 start_taken b s c e f g =
-    let p = with_scan (scans.Text (first_before b)) (behind_text s.page) in
+    let p = with_scan (scans.Text (first_before b)) (after_text s.page) in
     takes_by b (reads_at scans.Start s) p (with_scan (scans.Text (first_before b)) (begun b s))
     (acts.Begin b) acts.Nothing acts.Nothing (b ∷ []) (start_met b s c e f g) (begun_page b p ∙ (begun_lays b p).1) refl
 

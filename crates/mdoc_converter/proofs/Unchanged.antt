@@ -9,7 +9,7 @@ use Rattle.mdoc_converter.specs.declared.page.Scan.{Scan}
 use Rattle.mdoc_converter.specs.declared.page.Scan.TheVariants as scans
 use Rattle.mdoc_converter.specs.declared.pending.Pending.TheVariants.{Nothing}
 use Rattle.mdoc_converter.specs.LayingOut.{lay_out}
-use Rattle.mdoc_converter.specs.Passing.{leads_behind, leads_with, leads_on, is_other}
+use Rattle.mdoc_converter.specs.Passing.{leads_after, leads_with, leads_on, is_other}
 use Rattle.mdoc_converter.specs.Reading.{State, Told, told, behind, said, once, once_seen, heard_in, heard, read, fed, finished, first_state, converted}
 use Rattle.mdoc_converter.specs.Keeping.{ends_word}
 use Rattle.mdoc_converter.specs.Scanning.{asleep_with, front_grows, front_then, gives_up, is_blank, meet, meet_whole, passes_to, wakes}
@@ -239,7 +239,7 @@ whole false lines b s bs rest g e h =
     (ap (λ (t : Told). t.state) here ∙ whole_state lines b s) (ap (λ (t : Told). t.bytes) here ∙ whole_bytes lines b s) h
 
 by-front : (front : Front) (lines b : ℕ) (s : State) (bs : List ℕ) → Rest bs → front_grows front b ≡ None
-    → is_some (leads_on (leads_behind front lines b) bs) ≡ true
+    → is_some (leads_on (leads_after front lines b) bs) ≡ true
     → all_of (at (scans.Asleep front lines) s) (b ∷ bs) ≡ front_of front ++ b ∷ bs
 by-front fronts.Nothing lines b s bs rest g h =
     let here = read-is fronts.Nothing lines b s ∙ ap (λ (x : Option Front). read_with x fronts.Nothing lines b s) g in

@@ -19,7 +19,7 @@ use Rattle.mdoc_converter.specs.Scanning.{meet}
 use Rattle.mdoc_converter.specs.Seeing.{Met, met, left, three}
 use Rattle.mdoc_converter.specs.Texts.{closer}
 use Rattle.mdoc_converter.specs.Taking.{argument, is_bar, is_opening, some_taken, taken_word}
-use Rattle.mdoc_converter.specs.WrittenLines.{asks, heads_words, none_or, prints_otherwise, prints_words, said_of, unless_called, Way, Usual, way_behind, way_of}
+use Rattle.mdoc_converter.specs.WrittenLines.{asks, heads_words, none_or, prints_otherwise, prints_words, said_of, unless_called, Way, Usual, way_after, way_of}
 use Rattle.mdoc_converter.specs.Words.{closing_mark, marked_or, parsed, read_or_called, unmarked}
 use Rattle.mdoc_converter.proofs.Escapes.{and_left, and_right, is_not}
 use Rattle.mdoc_converter.proofs.Given.{Whole, whole_of, whole_behind, whole_within, given_met}
@@ -146,7 +146,7 @@ calling m p = record p { scan = scans.Between; call = record p.call { taker = m;
 
 -- how the words behind a word are taken
 abbrev pub behind_head : Head → Option Macro → Head
-behind_head head o = record { line = head.line; way = way_behind head.way o }
+behind_head head o = record { line = head.line; way = way_after head.way o }
 
 -- a word that calls nothing
 pub called_nothing : (head : Head) (b : ℕ) (s : State) (k : ℕ) (all : List ℕ) → Whole head b s k all → Whole (behind_head head None) b s k all

@@ -20,7 +20,7 @@ abbrev pub before_newline : List ℕ → ℕ
 before_newline [] = 0
 before_newline (b ∷ bs) = if b == code "\n" then 0 else 1 + before_newline bs
 
--- how many of some bytes pass at once: behind the first lines all of them, and before up to a line's end
+-- how many of some bytes pass at once: after the first lines all of them, and before up to a line's end
 abbrev pub passing_in : Scan → List ℕ → ℕ
 passing_in scans.Passes bs = length bs
 passing_in (scans.Asleep Other lines) bs = before_newline bs

@@ -66,7 +66,7 @@ abbrev pub is_nothing : Pair → Bool
 is_nothing pairs.Nothing = true
 is_nothing pair = false
 
--- an enclosure that has no words yet: what opens it stands behind the opening marks that come first in it
+-- an enclosure that has no words yet: what opens it stands after the opening marks that come first in it
 abbrev pub is_opened_by : Macro → Bool
 is_opened_by (macros.Encloses pair) = true
 is_opened_by (macros.Opens pair) = not (is_nothing pair)
@@ -112,7 +112,7 @@ function_closes p =
     (if is_synopsis p then two (acts.Close texts.FunctionEnds) (acts.Request requests.HangEnds)
     else left (acts.Close (texts.Closing (code ")"))))
 
--- a link stands behind its name, and behind a colon
+-- a link stands after its name, and after a colon
 abbrev pub link_closes : Page → Seen
 link_closes p =
     if p.call.listed then two (acts.Close texts.Colon) (acts.Text texts.Link)

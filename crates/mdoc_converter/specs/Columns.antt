@@ -36,7 +36,7 @@ stays_whole cell b = nat_lt (cell + 1) b.columns
 abbrev pub begins_row : Page → Bool
 begins_row p = is_column p.block.kind && not p.block.begun
 
--- the row has a cell behind its last column
+-- the row has a cell after its last column
 abbrev pub is_past : ℕ → Block → Bool
 is_past cell b = nat_lt 0 b.columns && nat_le b.columns cell
 
@@ -65,7 +65,7 @@ cell_begun p =
       kept = p.lay.kept && (p.block.columns == 0 || stays_whole (next_cell p) p.block);
     }) p
 
--- below the first cell behind the last column its text goes on
+-- below the first cell after the last column its text goes on
 abbrev pub put_cell : Page → Laid
 put_cell p =
     laid (cell_begun p)

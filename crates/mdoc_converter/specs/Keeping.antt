@@ -33,7 +33,7 @@ widens p =
 abbrev pub keeping : List ℕ → Page → Page
 keeping bytes p = record p { word = p.word ++ bytes }
 
--- where a byte has no room: in a word, or behind a backslash in it
+-- where a byte has no room: in a word, or after a backslash in it
 abbrev pub within : Bool → Inside
 within quoted = if quoted then insides.Quoted else insides.Word
 

@@ -183,7 +183,7 @@ put_library (Some text) p = put (is_joined p) (before_nul text) p
 abbrev pub put_release : Page → Laid
 put_release p = behind (codes "-") (put_word true Roman p)
 
--- the head of an item of `-diag`: blanks stand behind it, which what comes next joins
+-- the head of an item of `-diag`: blanks stand after it, which what comes next joins
 abbrev pub put_head_end : Page → Laid
 put_head_end p =
     let l = put true (codes "\\~\\~") p in

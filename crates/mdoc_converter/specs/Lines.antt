@@ -79,17 +79,17 @@ abbrev pub is_include : Last → Bool
 is_include lasts.Include = true
 is_include kind = false
 
-abbrev pub stands_behind : Last → Last → Bool
-stands_behind lasts.Heading kind = true
-stands_behind lasts.Configuration kind = true
-stands_behind lasts.ResultType kind = is_function kind
-stands_behind lasts.Variable kind = is_variable kind
-stands_behind lasts.Declaration kind = is_declaration kind
-stands_behind lasts.Include kind = is_include kind
-stands_behind last kind = false
+abbrev pub stands_after : Last → Last → Bool
+stands_after lasts.Heading kind = true
+stands_after lasts.Configuration kind = true
+stands_after lasts.ResultType kind = is_function kind
+stands_after lasts.Variable kind = is_variable kind
+stands_after lasts.Declaration kind = is_declaration kind
+stands_after lasts.Include kind = is_include kind
+stands_after last kind = false
 
 abbrev pub line_before : Last → Page → Act
-line_before kind p = if stands_behind p.place.last kind then acts.Request requests.Break else acts.Space
+line_before kind p = if stands_after p.place.last kind then acts.Request requests.Break else acts.Space
 
 abbrev pub after : Last → Page → Page
 after kind p = with_place (record p.place { last = kind }) p
@@ -156,7 +156,7 @@ subsection p = met (heads p) (heading acts.Subsection p)
 abbrev pub paragraph : Page → Met
 paragraph p = met (after lasts.Heading p) (left acts.Space)
 
--- space that the page itself asks for passes, but behind space that was made
+-- space that the page itself asks for passes, but after space that was made
 abbrev pub asks_space : Page → Met
 asks_space p = if p.lay.quiet then silent p else met (with_scan scans.Rest p) (left acts.Control)
 

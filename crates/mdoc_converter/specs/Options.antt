@@ -151,7 +151,7 @@ is_usual p = bytes_eq p.word (codes "-std")
 abbrev pub listed : Page → Page
 listed p = record p { call = record p.call { listed = true } }
 
--- a name behind the first is held back, as it may be the last: the one that was held back before it is not
+-- a name after the first is held back, as it may be the last: the one that was held back before it is not
 abbrev pub holds : Page → Met
 holds p =
     if length p.held == 0 then met (record p { held = p.word }) (left acts.Nothing) else

@@ -49,13 +49,13 @@ fresh p =
 abbrev pub freshen : Page → Laid
 freshen p = laid (fresh p) (line_end p)
 
--- A tag is whole: text stands behind it where it is one line, by the place before it, and no wider than this.
+-- A tag is whole: text stands after it where it is one line, by the place before it, and no wider than this.
 abbrev pub end_tag : ℕ → Page → Laid
 end_tag width p =
     laid (fresh p) (line_end p ++ codes ".br\n.if \\n(nl-\\n(%tu=1v&(\\n(.nu<=" ++ digits width
     ++ codes "n) \\{\\\n.sp -1\n\\&\\c\n.\\}\n")
 
--- The same, where text goes on behind it: a tag that is wider than this by more than one, or of several lines, has it a blank behind
+-- The same, where text goes on after it: a tag that is wider than this by more than one, or of several lines, has it a blank after
 -- its last line.
 abbrev pub end_hang : ℕ → Page → Laid
 end_hang width p =
@@ -109,12 +109,12 @@ put_numbered n width p =
 abbrev pub is_comma_last : List ℕ → Bool
 is_comma_last day = slice_index day (length day - 1) == code ","
 
--- a comma stands behind the day
-abbrev pub behind_day : List ℕ → List ℕ
-behind_day day = if nat_lt 0 (length day) && not (is_comma_last day) then codes ", " else codes " "
+-- a comma stands after the day
+abbrev pub after_day : List ℕ → List ℕ
+after_day day = if nat_lt 0 (length day) && not (is_comma_last day) then codes ", " else codes " "
 
 abbrev pub put_date : Page → Laid
-put_date p = laid p (p.month ++ codes " " ++ p.day ++ behind_day p.day ++ p.year)
+put_date p = laid p (p.month ++ codes " " ++ p.day ++ after_day p.day ++ p.year)
 
 abbrev pub titled : Page → Page
 titled p =

@@ -9,13 +9,13 @@ use Rattle.mdoc_converter.specs.Keeping.{ends_word}
 use Rattle.mdoc_converter.specs.Scanning.{front_grows, given_up, passes_to}
 
 -- where a byte leads that goes on no `.Dd`: nowhere, if it ends one
-abbrev pub leads_behind : Front → ℕ → ℕ → Option Scan
-leads_behind fronts.Whole lines b =
+abbrev pub leads_after : Front → ℕ → ℕ → Option Scan
+leads_after fronts.Whole lines b =
     if ends_word b then None else Some (passes_to (given_up fronts.Whole) lines b)
-leads_behind front lines b = Some (passes_to (given_up front) lines b)
+leads_after front lines b = Some (passes_to (given_up front) lines b)
 
 abbrev pub leads_with : Option Front → Front → ℕ → ℕ → Option Scan
-leads_with None front lines b = leads_behind front lines b
+leads_with None front lines b = leads_after front lines b
 leads_with (Some more) front lines b = Some (scans.Asleep more lines)
 
 abbrev pub leads_from : Scan → ℕ → Option Scan

@@ -88,7 +88,7 @@ abbrev pub put_part : ℕ → Page → Laid
 put_part letter p =
     if not (has_part letter p) then laid p [] else then_laid (put_comma p) (λ q. put_string letter q)
 
--- the order of the parts behind the title
+-- the order of the parts after the title
 unfoldable pub order : List ℕ
 order = codes "BIJRNVUPQCDO"
 

@@ -43,16 +43,16 @@ abbrev pub row_begins : ℕ → Page → Met
 row_begins b p =
     if is_control b then turns (scans.Table rows.Control) (taken acts.Nothing) p else row_passes b p
 
-abbrev pub behind_row_control : ℕ → Page → Met
-behind_row_control b p =
+abbrev pub after_row_control : ℕ → Page → Met
+after_row_control b p =
     if (b == code " ") || (b == code "\t") then met p (taken acts.Nothing) else
     if b == code "\n" then turns (scans.Table rows.Start) (taken acts.Nothing) p else
     if b == code "\\" then turns (scans.Table rows.Escape) (taken acts.Nothing) p else
     turns (scans.Table rows.Name) (taken acts.Nothing) (record p { word = b ∷ [] })
 
 -- comments are dropped
-abbrev pub behind_row_escape : ℕ → Page → Met
-behind_row_escape b p =
+abbrev pub after_row_escape : ℕ → Page → Met
+after_row_escape b p =
     if (b == code "\"") || (b == code "#") then turns (scans.Table rows.Comment) (taken acts.Nothing) p else
     turns (scans.Table rows.Rest) (left acts.Control) (record p { word = codes "\\" })
 
@@ -79,8 +79,8 @@ row_words b p =
 
 abbrev pub in_table : Row → ℕ → Page → Met
 in_table rows.Start b p = row_begins b p
-in_table rows.Control b p = behind_row_control b p
-in_table rows.Escape b p = behind_row_escape b p
+in_table rows.Control b p = after_row_control b p
+in_table rows.Escape b p = after_row_escape b p
 in_table rows.Comment b p = turns (after_byte rows.Comment b) (taken acts.Nothing) p
 in_table rows.Name b p = in_row_name b p
 in_table rows.Words b p = row_words b p

@@ -1,4 +1,4 @@
--- What is said while bytes are heard, in parts: the bytes of words, and what stands before and behind them.
+-- What is said while bytes are heard, in parts: the bytes of words, and what stands before and after them.
 use Rattle.std.specs.Prelude.{ℕ, zero, suc, List, [], ◌∷◌, ◌++◌, Bool, true, if◌then◌else◌, codes}
 use Prim.Native.Char.{code}
 use Rattle.mdoc_converter.specs.declared.acts.Act.{Act}
@@ -14,7 +14,7 @@ use Rattle.mdoc_converter.specs.Reading.{State, once, heard}
 use Rattle.mdoc_converter.specs.Scanning.{meet}
 use Rattle.mdoc_converter.specs.Texts.{font_begin, font_end}
 
--- the bytes of a word, or of marks, and what a macro adds before and behind them
+-- the bytes of a word, or of marks, and what a macro adds before and after them
 pub record Part : Type 0 where
   pub before : List ℕ
   pub word : List ℕ
@@ -80,7 +80,7 @@ abbrev pub parts_of : State → List ℕ → List Part
 parts_of s [] = []
 parts_of s (b ∷ bs) = parts_at b s ++ parts_of (heard b s).state bs
 
--- what is half read behind them
+-- what is half read after them
 abbrev pub state_behind : State → List ℕ → State
 state_behind s [] = s
 state_behind s (b ∷ bs) = state_behind (heard b s).state bs

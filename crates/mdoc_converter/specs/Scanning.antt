@@ -51,9 +51,9 @@ abbrev pub empty_line : Page → Seen
 empty_line p =
     if p.lay.literal then and_taken (two (acts.Text texts.Empty) acts.Ends) else taken acts.Space
 
--- a line of a synopsis behind text begins no paragraph
-abbrev pub behind_text : Page → Page
-behind_text p = record p { place = record p.place { last = lasts.Heading } }
+-- a line of a synopsis after text begins no paragraph
+abbrev pub after_text : Page → Page
+after_text p = record p { place = record p.place { last = lasts.Heading } }
 
 -- blanks that begin a line stay where lines do
 abbrev pub at_start : ℕ → Page → Met
@@ -61,7 +61,7 @@ at_start b p =
     if is_control b then turns scans.Control (taken acts.Nothing) p else
     if b == code "\n" then met p (empty_line p) else
     if ((b == code " ") || (b == code "\t")) && not p.lay.literal then met p (taken acts.Nothing) else
-    turns (scans.Text (first_before b)) (taken (acts.Begin b)) (behind_text p)
+    turns (scans.Text (first_before b)) (taken (acts.Begin b)) (after_text p)
 
 -- a line may be broken after a hyphen between letters: one after a letter is held back; one of an escape stays
 abbrev pub hyphen_in_text : Before → Page → Met
@@ -70,8 +70,8 @@ hyphen_in_text (befores.Within escape) p =
     turns (scans.Text (within (escape_then escape (code "-")))) (taken (acts.Byte (code "-"))) p
 hyphen_in_text befores.Other p = turns (scans.Text befores.Other) (taken acts.Hyphen) p
 
-abbrev pub behind_hyphen : ℕ → Page → Met
-behind_hyphen b p =
+abbrev pub after_hyphen : ℕ → Page → Met
+after_hyphen b p =
     turns (scans.Text befores.Other) (left (if is_letter b then acts.Byte (code "-") else acts.Hyphen)) p
 
 abbrev pub in_text : Before → ℕ → Page → Met
@@ -85,15 +85,15 @@ in_text before b p =
 abbrev pub name_begins : ℕ → Page → Met
 name_begins b p = turns scans.Name (taken acts.Nothing) (record p { word = b ∷ [] })
 
-abbrev pub behind_control : ℕ → Page → Met
-behind_control b p =
+abbrev pub after_control : ℕ → Page → Met
+after_control b p =
     if (b == code " ") || (b == code "\t") then met p (taken acts.Nothing) else
     if b == code "\n" then turns scans.Start (taken acts.Nothing) p else
     if b == code "\\" then turns scans.ControlEscape (taken acts.Nothing) p else name_begins b p
 
 -- `.\"` and `.\#` begin comments; another line that begins with an escape passes
-abbrev pub behind_escape : ℕ → Page → Met
-behind_escape b p =
+abbrev pub after_escape : ℕ → Page → Met
+after_escape b p =
     if (b == code "\"") || (b == code "#") then turns scans.Comment (taken acts.Nothing) p else
     turns scans.Rest (left acts.Control) (record p { word = codes "\\" })
 
@@ -180,14 +180,14 @@ wakes p = turns scans.Between (left acts.Nothing) (record p { call = call_of mac
 abbrev pub gives_up : Front → ℕ → Page → Met
 gives_up front lines p = turns (scans.Asleep (given_up front) lines) (left (acts.Front front)) p
 
-abbrev pub asleep_behind : Front → ℕ → ℕ → Page → Met
-asleep_behind fronts.Dot lines b p = gives_up fronts.Dot lines p
-asleep_behind fronts.Half lines b p = gives_up fronts.Half lines p
-asleep_behind fronts.Whole lines b p = if ends_word b then wakes p else gives_up fronts.Whole lines p
-asleep_behind front lines b p = passes front lines b p
+abbrev pub asleep_after : Front → ℕ → ℕ → Page → Met
+asleep_after fronts.Dot lines b p = gives_up fronts.Dot lines p
+asleep_after fronts.Half lines b p = gives_up fronts.Half lines p
+asleep_after fronts.Whole lines b p = if ends_word b then wakes p else gives_up fronts.Whole lines p
+asleep_after front lines b p = passes front lines b p
 
 abbrev pub asleep_with : Option Front → Front → ℕ → ℕ → Page → Met
-asleep_with None front lines b p = asleep_behind front lines b p
+asleep_with None front lines b p = asleep_after front lines b p
 asleep_with (Some more) front lines b p = turns (scans.Asleep more lines) (taken acts.Nothing) p
 
 abbrev pub asleep : Front → ℕ → ℕ → Page → Met
@@ -214,9 +214,9 @@ abbrev pub meet_at : Scan → ℕ → Page → Met
 meet_at (scans.Asleep front lines) b p = asleep front lines b p
 meet_at scans.Start b p = at_start b p
 meet_at (scans.Text before) b p = in_text before b p
-meet_at scans.Hyphen b p = behind_hyphen b p
-meet_at scans.Control b p = behind_control b p
-meet_at scans.ControlEscape b p = behind_escape b p
+meet_at scans.Hyphen b p = after_hyphen b p
+meet_at scans.Control b p = after_control b p
+meet_at scans.ControlEscape b p = after_escape b p
 meet_at scans.Comment b p = in_comment b p
 meet_at scans.Name b p = in_name b p
 meet_at scans.Between b p = between b p

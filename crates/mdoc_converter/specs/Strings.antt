@@ -51,8 +51,8 @@ named_by_one b =
     if b == code "q" then Says (code "\\") (code "(") (code "d") (code "q") else
     if b == code "R" then Says (code "\\") (code "(") (code "r") (code "g") else Breaks
 
-abbrev pub behind_star : ℕ → Next
-behind_star b =
+abbrev pub after_star : ℕ → Next
+after_star b =
     if b == code "(" then Waits pendings.Open else
     if b == code "[" then Waits pendings.Bracket else named_by_one b
 
@@ -60,7 +60,7 @@ behind_star b =
 abbrev pub met_by : Pending → ℕ → Bool → Next
 met_by pendings.Nothing b takes = if takes && (b == code "\\") then Waits pendings.Backslash else Breaks
 met_by pendings.Backslash b takes = if b == code "*" then Waits pendings.Star else Breaks
-met_by pendings.Star b takes = behind_star b
+met_by pendings.Star b takes = after_star b
 met_by pendings.Open b takes = Waits (pendings.Pair b)
 met_by (pendings.Pair a) b takes = named a b
 met_by pendings.Bracket b takes = Waits (pendings.One b)

@@ -130,19 +130,19 @@ release p =
     met (with_call (record p.call { taker = macros.BsdRelease }) p)
     (two (acts.Word Roman) (acts.Close texts.Bsd))
 
--- what stands behind a word that is only the front of a longer one comes later
-abbrev pub behind_later : Behind → Page → Page
-behind_later behind p = with_call (record p.call { behind = behind }) p
+-- what stands after a word that is only the front of a longer one comes later
+abbrev pub after_later : Behind → Page → Page
+after_later behind p = with_call (record p.call { behind = behind }) p
 
 abbrev pub prefix : Page → Met
 prefix p =
-    if p.lay.front then met (behind_later behinds.Joint (takes_no_more p)) (left (acts.Word Roman)) else
+    if p.lay.front then met (after_later behinds.Joint (takes_no_more p)) (left (acts.Word Roman)) else
     met (takes_no_more p) (two (acts.Word Roman) acts.Join)
 
 -- a parenthesis stands after a function's name, all of it
 abbrev pub function_begins : Page → Met
 function_begins p =
-    if p.lay.front then met (behind_later behinds.Parenthesis p) (left (acts.Word Bold)) else
+    if p.lay.front then met (after_later behinds.Parenthesis p) (left (acts.Word Bold)) else
     met p (three (acts.Word Bold) (acts.Close (texts.Opening pairs.Parentheses)) acts.Join)
 
 abbrev pub function : Page → Met
@@ -157,13 +157,13 @@ function_opens p = function_begins (with_place (record p.place { parameters = Fi
 abbrev pub include : Page → Met
 include p =
     if p.lay.front then
-    met (behind_later behinds.Angle (takes_no_more p))
+    met (after_later behinds.Angle (takes_no_more p))
     (two (acts.Text (texts.Opening pairs.Signs)) (acts.Joined Italic)) else
     met (takes_no_more p)
     (three (acts.Text (texts.Opening pairs.Signs)) (acts.Joined Italic)
     (acts.Close (texts.Closing (code ">"))))
 
--- A link stands behind its name: a string keeps it meanwhile, where its line may be broken off.
+-- A link stands after its name: a string keeps it meanwhile, where its line may be broken off.
 abbrev pub keeps_link : Page → Bool
 keeps_link p = p.call.first && not (p.lay.tag || p.lay.joined || p.place.reference)
 

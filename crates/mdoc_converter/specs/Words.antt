@@ -69,7 +69,7 @@ mark_as_word p =
     if is_prefix p.call.taker then prefix q else
     met (with_call (record q.call { some = true }) q) (left (acts.Word Roman))
 
--- a macro whose element a mark ends: behind marks it begins another
+-- a macro whose element a mark ends: after marks it begins another
 abbrev pub begins_anew : Macro → Bool
 begins_anew macros.Flag = true
 begins_anew macros.Argument = true
@@ -109,14 +109,14 @@ marked_or (Some b) quoted p = mark b p
 unfoldable pub parsed : Bool → Page → Met
 parsed quoted p = marked_or (closing_mark quoted p.word) quoted p
 
--- its last part, and what stands behind all of it
-abbrev pub behind_long : Behind → Seen
-behind_long behinds.Nothing = left acts.LastMore
-behind_long behinds.Parenthesis = three acts.LastMore (acts.Close (texts.Opening pairs.Parentheses)) acts.Join
-behind_long behinds.Angle = two acts.LastMore (acts.Close (texts.Closing (code ">")))
-behind_long behinds.Joint = two acts.LastMore acts.Join
+-- its last part, and what stands after all of it
+abbrev pub after_long : Behind → Seen
+after_long behinds.Nothing = left acts.LastMore
+after_long behinds.Parenthesis = three acts.LastMore (acts.Close (texts.Opening pairs.Parentheses)) acts.Join
+after_long behinds.Angle = two acts.LastMore (acts.Close (texts.Closing (code ">")))
+after_long behinds.Joint = two acts.LastMore acts.Join
 
--- behind the first word of a heading others are read as they are on other lines
+-- after the first word of a heading others are read as they are on other lines
 abbrev pub taken_behind : Macro → Macro
 taken_behind macros.Section = macros.Words Roman
 taken_behind m = m
@@ -132,7 +132,7 @@ ends_long p =
         taker = taken_behind p.call.taker;
       };
     })
-    (behind_long p.call.behind)
+    (after_long p.call.behind)
 
 -- the first word of a section's heading calls a macro
 abbrev pub heading_calls : Bool → Page → Bool

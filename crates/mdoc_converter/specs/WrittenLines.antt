@@ -24,7 +24,7 @@ abbrev pub begins_star : List ℕ → Bool
 begins_star [] = false
 begins_star (b ∷ bs) = b == code "*"
 
--- no string of mdoc's is named: nowhere a star stands behind a backslash
+-- no string of mdoc's is named: nowhere a star stands after a backslash
 abbrev pub names_no_string : List ℕ → Bool
 names_no_string [] = true
 names_no_string (b ∷ bs) = not ((b == code "\\") && begins_star bs) && names_no_string bs
@@ -64,8 +64,8 @@ said_of Authors word =
     if bytes_eq word (codes "-split") then [] else if bytes_eq word (codes "-nosplit") then [] else word
 said_of way word = word
 
--- Whether a hyphen that is not the first letter of its word, behind a hyphen or not, is kept as an escape, since no line is broken
--- after it. In titles it is so for one behind another.
+-- Whether a hyphen that is not the first letter of its word, after a hyphen or not, is kept as an escape, since no line is broken
+-- after it. In titles it is so for one after another.
 abbrev pub holds_hyphen : Way → Bool → Bool
 holds_hyphen Titled behind = behind
 holds_hyphen Headed behind = false
@@ -86,7 +86,7 @@ is_plain b = not (ends_word b) && not (b == code "\"") && not (b == code "\\")
 abbrev pub is_quotable : ℕ → Bool
 is_quotable b = not (b == code "\n") && not (b == code "\\")
 
--- a byte behind a backslash: it begins no comment, goes on with no further line, and names no string
+-- a byte after a backslash: it begins no comment, goes on with no further line, and names no string
 abbrev pub is_escaped : ℕ → Bool
 is_escaped b = not (b == code "\"") && not (b == code "\n") && not (b == code "*") && not (b == code "\\")
 
@@ -114,7 +114,7 @@ is_hyphen (Escape b) = b == code "-"
 abbrev pub is_held : Way → Bool → ℕ → Bool
 is_held way behind b = (b == code "-") && holds_hyphen way behind
 
--- a letter as it is kept, behind a hyphen or not, where the blanks of its word stay together or not
+-- a letter as it is kept, after a hyphen or not, where the blanks of its word stay together or not
 abbrev pub kept_letter : Way → Bool → Bool → Letter → List ℕ
 kept_letter way whole behind (Plain b) =
     if (b == code " ") && whole then codes "\\~" else if is_held way behind b then codes "\\-" else b ∷ []
@@ -201,13 +201,13 @@ abbrev pub is_written : Bool → Way → Word → Bool
 is_written mute way (Bare letters) = is_word mute way letters
 is_written mute way (Quoted letters) = are_letters true letters
 
--- words behind one that calls a macro are taken as that takes them
-abbrev pub way_behind : Way → Option Macro → Way
-way_behind way None = way
-way_behind way (Some m) = way_of m
+-- words after one that calls a macro are taken as that takes them
+abbrev pub way_after : Way → Option Macro → Way
+way_after way None = way
+way_after way (Some m) = way_of m
 
 abbrev pub way_then : Bool → Way → Word → Way
-way_then mute way (Bare letters) = way_behind way (called_by mute (kept way false letters))
+way_then mute way (Bare letters) = way_after way (called_by mute (kept way false letters))
 way_then mute way (Quoted letters) = way
 
 -- a word that calls a macro is not printed
@@ -223,12 +223,12 @@ abbrev pub written_word : Word → List ℕ
 written_word (Bare letters) = written false letters
 written_word (Quoted letters) = codes "\"" ++ written true letters ++ codes "\""
 
-abbrev pub behind_each : List Word → List ℕ
-behind_each [] = []
-behind_each (w ∷ ws) = codes " " ++ written_word w ++ behind_each ws
+abbrev pub after_each : List Word → List ℕ
+after_each [] = []
+after_each (w ∷ ws) = codes " " ++ written_word w ++ after_each ws
 
 abbrev pub line_of : List ℕ → List Word → List ℕ
-line_of name words = codes "." ++ name ++ behind_each words ++ codes "\n"
+line_of name words = codes "." ++ name ++ after_each words ++ codes "\n"
 
 -- the first word of a heading, which is printed as it is, or calls a macro
 abbrev pub is_first : Word → Bool
@@ -242,7 +242,7 @@ headed (Quoted letters) = kept Headed false letters
 
 -- how the others are taken
 abbrev pub way_headed : Word → Way
-way_headed (Bare letters) = way_behind Usual (called_by false (kept Headed false letters))
+way_headed (Bare letters) = way_after Usual (called_by false (kept Headed false letters))
 way_headed (Quoted letters) = Usual
 
 -- what words say, where the blanks of these words between quotes stay together
@@ -284,7 +284,7 @@ asking_line name rest = codes "." ++ name ++ written false rest ++ codes "\n"
 -- ---- lines of a page
 
 -- an empty line, a comment, by its bytes, a text line, by its first byte and the others, a heading, by its first word and the
--- others, a line of a macro, by its name and its words, or one that asks, by its name and what stands behind it
+-- others, a line of a macro, by its name and its words, or one that asks, by its name and what stands after it
 pub data Line : Type 0 where
   EmptyLine : Line
   CommentLine : List ℕ → Line

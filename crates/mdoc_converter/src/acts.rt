@@ -169,9 +169,9 @@ pub(crate) enum Act {
     Tag(u16),
     /// A tag is whole: one wider than so many ens, or of several lines, stands alone.
     TagEnds(u16),
-    /// A tag is whole, behind which text goes on: one wider than so many ens has it a blank further to the right.
+    /// A tag is whole, after which text goes on: one wider than so many ens has it a blank further to the right.
     HangEnds(u16),
-    /// The head of an item ends, which stays on one line with the first word behind it.
+    /// The head of an item ends, which stays on one line with the first word after it.
     HeadEnds,
     /// The same, and nothing was put since space was made.
     Quiet,

@@ -41,7 +41,7 @@ impl Reader {
         matches!(self.page.scan, Scan::Asleep(_, _) | Scan::Passes)
     }
 
-    /// How many of these bytes pass: behind the lines that are looked at all of them, and before up to a line's end.
+    /// How many of these bytes pass: after the lines that are looked at all of them, and before up to a line's end.
     pub(crate) fn passing(&self, bytes: &[u8]) -> usize
         ensures value { result ≡ specs.passing self.now bytes.now }
         ensures few { result ≤ length bytes.now }

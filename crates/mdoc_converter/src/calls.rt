@@ -144,7 +144,7 @@ impl Page {
         Seen::left(Act::Close(Text::Closing(b')')))
     }
 
-    /// A link comes behind its name.
+    /// A link comes after its name.
     fn link_closes(&self) -> Seen
         ensures { result ≡ specs.link_closes self.now }
     {

@@ -92,7 +92,7 @@ impl Page {
         matches!(self.block.kind, Kind::Column) && !self.block.begun
     }
 
-    /// Whether the row has a cell behind its last column.
+    /// Whether the row has a cell after its last column.
     fn is_past(&self) -> bool
         ensures { result ≡ specs.is_past self.now.lay.cell self.now.block }
     {

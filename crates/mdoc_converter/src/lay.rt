@@ -188,7 +188,7 @@ impl Page {
         self.was_put();
     }
 
-    /// What stands behind a word: it ends no sentence.
+    /// What stands after a word: it ends no sentence.
     fn word_end(&self) -> &'static [u8]
         ensures value { result.now ≡ specs.word_end self.now }
         ensures few { length result.now ≤ 2 }
@@ -402,7 +402,7 @@ impl Page {
         self.put_word(true, Font::Roman, out);
     }
 
-    /// The head of an item of `-diag`: blanks stand behind it, which what comes next joins.
+    /// The head of an item of `-diag`: blanks stand after it, which what comes next joins.
     pub(crate) fn put_head_end(&mut self, out: &mut SliceVec<'_, u8>)
         requires { length out.old.items + 16 ≤ out.old.capacity }
         ensures page { self.new ≡ (specs.put_head_end self.old).page }

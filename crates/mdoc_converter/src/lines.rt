@@ -57,8 +57,8 @@ pub(crate) fn call_of(line: Macro) -> Call
 }
 
 /// Whether a line of this kind stands right after one of that kind in a synopsis.
-fn stands_behind(last: Last, kind: Last) -> bool
-    ensures { result ≡ specs.stands_behind last kind }
+fn stands_after(last: Last, kind: Last) -> bool
+    ensures { result ≡ specs.stands_after last kind }
 {
     match last {
         Last::Heading | Last::Configuration => true,
@@ -228,7 +228,7 @@ impl Page {
         Seen::left(Act::Nothing)
     }
 
-    /// Space that the page itself asks for passes, but behind space that was made.
+    /// Space that the page itself asks for passes, but after space that was made.
     fn asks_space(&mut self) -> Seen
         ensures { met self.new result ≡ specs.asks_space self.old }
     {
@@ -322,7 +322,7 @@ impl Page {
     fn line_before(&self, kind: Last) -> Act
         ensures { result ≡ specs.line_before kind self.now }
     {
-        if stands_behind(self.place.last, kind) {
+        if stands_after(self.place.last, kind) {
             Act::Request(Request::Break)
         } else {
             Act::Space

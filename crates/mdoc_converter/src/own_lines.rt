@@ -9,8 +9,8 @@ use super::texts::{request_of, sized_of};
 use nr_vectors::slice_vec::SliceVec;
 
 /// What stands between the day of a date and its year.
-fn behind_day(day: &[u8]) -> &'static [u8]
-    ensures value { result.now ≡ specs.behind_day day.now }
+fn after_day(day: &[u8]) -> &'static [u8]
+    ensures value { result.now ≡ specs.after_day day.now }
     ensures few { length result.now ≤ 2 }
 {
     let len = day.len();
@@ -73,7 +73,7 @@ impl Page {
         self.lay.tag = false;
     }
 
-    /// A tag is whole: text stands behind it where it is one line, and no wider than this.
+    /// A tag is whole: text stands after it where it is one line, and no wider than this.
     pub(crate) fn end_tag(&mut self, width: u16, out: &mut SliceVec<'_, u8>)
         requires { length out.old.items + 128 ≤ out.old.capacity }
         ensures page { self.new ≡ (specs.end_tag width self.old).page }
@@ -87,7 +87,7 @@ impl Page {
         out.extend(b"n) \\{\\\n.sp -1\n\\&\\c\n.\\}\n");
     }
 
-    /// A tag is whole, and text goes on behind it: where it is wider than this by more than one, a blank behind its last line.
+    /// A tag is whole, and text goes on after it: where it is wider than this by more than one, a blank after its last line.
     pub(crate) fn end_hang(&mut self, width: u16, out: &mut SliceVec<'_, u8>)
         requires { length out.old.items + 128 ≤ out.old.capacity }
         ensures page { self.new ≡ (specs.end_hang width self.old).page }
@@ -220,7 +220,7 @@ impl Page {
         out.extend(self.month.as_bytes());
         out.push(b' ');
         out.extend(self.day.as_bytes());
-        out.extend(behind_day(self.day.as_bytes()));
+        out.extend(after_day(self.day.as_bytes()));
         out.extend(self.year.as_bytes());
     }
 

@@ -96,7 +96,7 @@ pub(crate) enum Scan {
     Comment,
     /// In a text line, after such a byte.
     Text(Before),
-    /// In a text line, after a hyphen behind a letter.
+    /// In a text line, after a hyphen after a letter.
     Hyphen,
     /// After the control character.
     Control,
@@ -320,7 +320,7 @@ pub(crate) struct Lay {
     pub bare: bool,
 }
 
-/// What stands behind a long word, all of it.
+/// What stands after a long word, all of it.
 #[derive(Clone, Copy)]
 pub(crate) enum Behind {
     /// Nothing.
@@ -350,7 +350,7 @@ pub(crate) struct Call {
     pub listed: bool,
     /// More than two names came.
     pub many: bool,
-    /// What stands behind the long word.
+    /// What stands after the long word.
     pub behind: Behind,
     /// The front of the word went out.
     pub going: bool,

@@ -8,8 +8,8 @@ use super::page::{Front, Scan};
 use super::scan::{front_grows, given_up, passes_to};
 
 /// Where a byte leads that goes on no `.Dd`: nowhere, if it ends one.
-fn leads_behind(front: Front, lines: u8, byte: u8) -> Option<Scan>
-    ensures { result ≡ specs.leads_behind front lines byte }
+fn leads_after(front: Front, lines: u8, byte: u8) -> Option<Scan>
+    ensures { result ≡ specs.leads_after front lines byte }
 {
     match front {
         Front::Whole if ends_word(byte) => None,
@@ -24,7 +24,7 @@ fn leads_from(scan: Scan, byte: u8) -> Option<Scan>
     match scan {
         Scan::Asleep(front, lines) => match front_grows(front, byte) {
             Some(more) => Some(Scan::Asleep(more, lines)),
-            None => leads_behind(front, lines, byte),
+            None => leads_after(front, lines, byte),
         },
         _ => Some(scan),
     }

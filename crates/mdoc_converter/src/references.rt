@@ -17,7 +17,7 @@ fn authors_of(authors: u8) -> &'static [u8]
     }
 }
 
-/// The order of the parts behind the title.
+/// The order of the parts after the title.
 #[tactic(auto, unfolding(crate::specs::References::order))]
 fn order() -> &'static [u8]
     ensures value { result.now ≡ specs.order }
@@ -96,7 +96,7 @@ impl Page {
         self.has_part(b'J') || self.has_part(b'B')
     }
 
-    /// What stands before the title, and behind it.
+    /// What stands before the title, and after it.
     fn title_marks(&self) -> (&'static [u8], &'static [u8])
         ensures before { result.0.now ≡ (specs.title_marks self.now).0 }
         ensures behind { result.1.now ≡ (specs.title_marks self.now).1 }

@@ -44,8 +44,8 @@ impl Page {
     {
         match row {
             Row::Start => self.row_begins(byte),
-            Row::Control => self.behind_row_control(byte),
-            Row::Escape => self.behind_row_escape(byte),
+            Row::Control => self.after_row_control(byte),
+            Row::Escape => self.after_row_escape(byte),
             Row::Comment => self.turns(after_byte(Row::Comment, byte), Seen::taken(Act::Nothing)),
             Row::Name => self.in_row_name(byte),
             Row::Words => self.row_words(byte),
@@ -71,8 +71,8 @@ impl Page {
     }
 
     /// After the control character.
-    fn behind_row_control(&mut self, byte: u8) -> Seen
-        ensures { met self.new result ≡ specs.behind_row_control byte self.old }
+    fn after_row_control(&mut self, byte: u8) -> Seen
+        ensures { met self.new result ≡ specs.after_row_control byte self.old }
     {
         match byte {
             b' ' | b'\t' => Seen::taken(Act::Nothing),
@@ -86,8 +86,8 @@ impl Page {
     }
 
     /// After the control character and a backslash: a comment, or a line that passes.
-    fn behind_row_escape(&mut self, byte: u8) -> Seen
-        ensures { met self.new result ≡ specs.behind_row_escape byte self.old }
+    fn after_row_escape(&mut self, byte: u8) -> Seen
+        ensures { met self.new result ≡ specs.after_row_escape byte self.old }
     {
         if byte == b'"' || byte == b'#' {
             return self.turns(Scan::Table(Row::Comment), Seen::taken(Act::Nothing));

@@ -176,8 +176,8 @@ impl Page {
     }
 
     /// After a hyphen that was held back.
-    fn behind_hyphen(&mut self, byte: u8) -> Seen
-        ensures { met self.new result ≡ specs.behind_hyphen byte self.old }
+    fn after_hyphen(&mut self, byte: u8) -> Seen
+        ensures { met self.new result ≡ specs.after_hyphen byte self.old }
     {
         let act = if is_letter(byte) {
             Act::Byte(b'-')
@@ -188,8 +188,8 @@ impl Page {
     }
 
     /// After the control character.
-    fn behind_control(&mut self, byte: u8) -> Seen
-        ensures { met self.new result ≡ specs.behind_control byte self.old }
+    fn after_control(&mut self, byte: u8) -> Seen
+        ensures { met self.new result ≡ specs.after_control byte self.old }
     {
         match byte {
             b' ' | b'\t' => Seen::taken(Act::Nothing),
@@ -208,8 +208,8 @@ impl Page {
     }
 
     /// After the control character and a backslash: a comment, or a line that passes.
-    fn behind_escape(&mut self, byte: u8) -> Seen
-        ensures { met self.new result ≡ specs.behind_escape byte self.old }
+    fn after_escape(&mut self, byte: u8) -> Seen
+        ensures { met self.new result ≡ specs.after_escape byte self.old }
     {
         if byte == b'"' || byte == b'#' {
             return self.turns(Scan::Comment, Seen::taken(Act::Nothing));
@@ -333,9 +333,9 @@ impl Page {
             Scan::Asleep(front, lines) => self.asleep(front, lines, byte),
             Scan::Start => self.at_start(byte),
             Scan::Text(before) => self.in_text(before, byte),
-            Scan::Hyphen => self.behind_hyphen(byte),
-            Scan::Control => self.behind_control(byte),
-            Scan::ControlEscape => self.behind_escape(byte),
+            Scan::Hyphen => self.after_hyphen(byte),
+            Scan::Control => self.after_control(byte),
+            Scan::ControlEscape => self.after_escape(byte),
             Scan::Comment => self.in_comment(byte),
             Scan::Name => self.in_name(byte),
             Scan::Between => self.between(byte),

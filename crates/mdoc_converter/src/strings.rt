@@ -99,8 +99,8 @@ fn named_by_one(name: u8) -> Next
 }
 
 /// After a star.
-fn behind_star(byte: u8) -> Next
-    ensures { result ≡ strings.behind_star byte }
+fn after_star(byte: u8) -> Next
+    ensures { result ≡ strings.after_star byte }
 {
     match byte {
         b'(' => Next::Waits(Pending::Open),
@@ -116,7 +116,7 @@ fn met_by(pending: Pending, byte: u8, takes: bool) -> Next
     match pending {
         Pending::Nothing if takes && byte == b'\\' => Next::Waits(Pending::Backslash),
         Pending::Backslash if byte == b'*' => Next::Waits(Pending::Star),
-        Pending::Star => behind_star(byte),
+        Pending::Star => after_star(byte),
         Pending::Open => Next::Waits(Pending::Pair(byte)),
         Pending::Pair(first) => named(first, byte),
         Pending::Bracket => Next::Waits(Pending::One(byte)),

@@ -31,7 +31,7 @@ fn is_closing(mark: u8) -> bool
     matches!(mark, b'.' | b',' | b':' | b';' | b')' | b']' | b'?' | b'!')
 }
 
-/// A macro whose element a mark ends: behind marks it begins another.
+/// A macro whose element a mark ends: after marks it begins another.
 fn begins_anew(called: Macro) -> bool
     ensures { result ≡ specs.begins_anew called }
 {
@@ -41,7 +41,7 @@ fn begins_anew(called: Macro) -> bool
     )
 }
 
-/// What takes the words behind a long one: those behind the first of a heading are read as on other lines.
+/// What takes the words after a long one: those after the first of a heading are read as on other lines.
 fn taken_behind(taker: Macro) -> Macro
     ensures { result ≡ specs.taken_behind taker }
 {
@@ -51,9 +51,9 @@ fn taken_behind(taker: Macro) -> Macro
     }
 }
 
-/// The last part of a long word, and what stands behind it.
-fn behind_long(behind: Behind) -> Seen
-    ensures { result ≡ specs.behind_long behind }
+/// The last part of a long word, and what stands after it.
+fn after_long(behind: Behind) -> Seen
+    ensures { result ≡ specs.after_long behind }
 {
     match behind {
         Behind::Nothing => Seen::left(Act::LastMore),
@@ -146,7 +146,7 @@ impl Page {
         Seen::left(Act::Nothing)
     }
 
-    /// A mark comes first: the macro stands for text, and may go on behind marks.
+    /// A mark comes first: the macro stands for text, and may go on after marks.
     #[tactic(auto, unfolding(crate::specs::Words::stands))]
     fn stands(&mut self) -> Seen
         ensures { met self.new result ≡ specs.stands self.old }
@@ -191,7 +191,7 @@ impl Page {
         let behind = self.call.behind;
         self.call.behind = Behind::Nothing;
         self.call.taker = taken_behind(self.call.taker);
-        behind_long(behind)
+        after_long(behind)
     }
 
     /// The front of a long word is read as a word, and more of it comes.

@@ -1,4 +1,4 @@
-//! A formatter for terminals: marked-up text into pages, under five limits.
+//! A formatter for terminals: marked-up text into pages, under limits.
 //!
 //! It stands on nr_machine, fast_machine, nr_page, nr_options and the crates below them. To read: `desk`; `run`, with
 //! `format`.

@@ -172,10 +172,10 @@ flat_map-pieces_of (slot ∷ slots) cells h =
     ap (λ zs. take slot.len cells ++ zs) more ∙ take_two slot.len (cells_in_slots slots) cells ∙ ap (λ n. take n cells) (sym total)
 
 -- the cells after the first pieces, one after another
-pub cells_behind-laid_of : {slots : List PieceSlot} {cells : List Cell} {slot_room cell_room pieced read : ℕ} (room n parted : ℕ) → IsLaid slots cells slot_room cell_room pieced read
+pub cells_after-laid_of : {slots : List PieceSlot} {cells : List Cell} {slot_room cell_room pieced read : ℕ} (room n parted : ℕ) → IsLaid slots cells slot_room cell_room pieced read
     → cells_in (drop n (pieces_of slots cells)) ≡ parted
     → take (read - (pieced - parted)) (drop (pieced - parted) cells) ≡ flat_map (λ (p : Piece). p.cells) (drop n (pieces_of slots cells)) ++ (laid_of slots cells pieced read room).last
-cells_behind-laid_of {slots} {cells} {pieced = pieced} {read = read} room n parted h parted_is =
+cells_after-laid_of {slots} {cells} {pieced = pieced} {read = read} room n parted h parted_is =
     let parts = sum_by-take-drop (λ (s : PieceSlot). s.len) slots n in
     let pieced_is = h.pieced_is in
     let within = h.pieced_within in
@@ -310,4 +310,4 @@ pub laid_of_opened : {slots : List PieceSlot} {cells : List Cell} {slot_room cel
       pieces = take n (laid_of slots cells pieced read room).pieces;
       last = flat_map (λ (p : Piece). p.cells) (drop n (laid_of slots cells pieced read room).pieces) ++ (laid_of slots cells pieced read room).last;
     }
-laid_of_opened {slots} {cells} room n k h is = same_laid (sym (take-pieces_of n slots cells)) (cells_behind-laid_of room n k h (sym is)) refl refl
+laid_of_opened {slots} {cells} room n k h is = same_laid (sym (take-pieces_of n slots cells)) (cells_after-laid_of room n k h (sym is)) refl refl

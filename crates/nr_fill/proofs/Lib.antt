@@ -3,7 +3,7 @@ pub mod Planning
 pub mod RunLemmas
 pub mod BlankRuns
 pub mod Trimming
-pub mod LongestFront
+pub mod LongestPrefix
 pub mod PiecesOf
 pub mod SettingPieces
 pub mod Laying

@@ -11,7 +11,7 @@ use Rattle.nr_fill.specs.declared.title.TitleState.{TitleState}
 use Rattle.nr_fill.specs.Cutting.{join_width, piece_width}
 use Rattle.nr_fill.specs.Laid.{Laid, read_cells}
 use Rattle.nr_fill.specs.PieceRow.{cells_needed, IsLine}
-use Rattle.nr_fill.specs.Piece.{Piece, pending_behind, pending_soft, pending_without_point, is_for_stop, is_inside}
+use Rattle.nr_fill.specs.Piece.{Piece, pending_after, pending_soft, pending_without_point, is_for_stop, is_inside}
 use Rattle.nr_fill.proofs.Lines.{the_word, is_line_word, widths_small}
 
 pub needed_blanks : (p : Pending) (b k n : ℕ) → cells_needed p b k ≤ n → b ≤ k + n
@@ -32,7 +32,7 @@ needed_soft Nothing b k n h = elim (cases_Bool (nat_lt 0 n)) [
 needed_soft (AtPoint point) b k n h = h
 needed_soft (ForStop f) b k n h = h
 
-pub needed_behind : (mark : Behind) (m : ℕ) (p : Pending) (b k n : ℕ) → cells_needed p b k ≤ n → cells_needed (pending_behind mark m p) 0 k ≤ n + 1
+pub needed_behind : (mark : Behind) (m : ℕ) (p : Pending) (b k n : ℕ) → cells_needed p b k ≤ n → cells_needed (pending_after mark m p) 0 k ≤ n + 1
 needed_behind Letter m (ForStop f) b k n h = omega arith
 needed_behind Hyphen m (ForStop f) b k n h = omega arith
 needed_behind Dash m (ForStop f) b k n h = omega arith

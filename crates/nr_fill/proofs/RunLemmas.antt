@@ -7,9 +7,9 @@ use Rattle.nr_settings.specs.declared.indents.Margins.{Margins}
 use Rattle.nr_fill.specs.declared.piece.Behind.TheVariants.{Letter}
 use Rattle.nr_fill.specs.declared.stops.Pending.{Pending}
 use Rattle.nr_fill.specs.declared.stops.Pending.TheVariants.{Nothing, AtPoint, ForStop}
-use Rattle.nr_fill.specs.Piece.{Collected, Word, add_cell, add_cell_behind, append, begins_line, end_word, ended, ended_at, ends_sentence, in_word, is_nil, one_blank_more, pending_behind, pending_without_point, with_word, word_length, word_or_new}
+use Rattle.nr_fill.specs.Piece.{Collected, Word, add_cell, add_cell_after, append, begins_line, end_word, ended, ended_at, ends_sentence, in_word, is_nil, one_blank_more, pending_after, pending_without_point, with_word, word_length, word_or_new}
 use Rattle.nr_fill.specs.Plain.{run_cell}
-use Rattle.nr_fill.specs.Runs.{add_run, add_word, run_behind}
+use Rattle.nr_fill.specs.Runs.{add_run, add_word, run_after}
 use Rattle.nr_fill.specs.declared.piece.Join.TheVariants.{Gap}
 use Rattle.nr_fill.specs.declared.line.WordState.{WordState}
 use Rattle.nr_fill.specs.declared.title.TitleState.{TitleState}
@@ -31,7 +31,7 @@ run_sentence-last before look b (x ∷ bs) =
 
 -- ---- what waits after a letter
 
-behind_letter : (n : ℕ) (p : Pending) → pending_behind Letter n p ≡ pending_without_point p
+behind_letter : (n : ℕ) (p : Pending) → pending_after Letter n p ≡ pending_without_point p
 behind_letter n Nothing = refl
 behind_letter n (AtPoint point) = refl
 behind_letter n (ForStop f) = refl
@@ -65,36 +65,36 @@ with_word-at_word m c w sentence = rw (and_false (is_nil c.pieces)) refl
 
 -- a letter more
 add_cell-at_word : (m : Margins) (look : Look) (b : ℕ) (c : Collected) (w : Word) (sentence : Bool) → HasNoPoint w.pending
-    → add_cell m Letter (run_cell look b) (at_word c w sentence) ≡ at_word c (run_behind look (b ∷ []) w) (ends_sentence (run_cell look b))
+    → add_cell m Letter (run_cell look b) (at_word c w sentence) ≡ at_word c (run_after look (b ∷ []) w) (ends_sentence (run_cell look b))
 add_cell-at_word m look b c w sentence none =
     let x : Cell = run_cell look b in
-    ap (λ (k : Collected). record (in_word (add_cell_behind Letter x) (in_word ended k)) { sentence = ends_sentence x }) (with_word-at_word m c w sentence)
-    ∙ ap (λ (v : Word). at_word c (add_cell_behind Letter x v) (ends_sentence x)) (ended_at-none w.pending w none)
+    ap (λ (k : Collected). record (in_word (add_cell_after Letter x) (in_word ended k)) { sentence = ends_sentence x }) (with_word-at_word m c w sentence)
+    ∙ ap (λ (v : Word). at_word c (add_cell_after Letter x v) (ends_sentence x)) (ended_at-none w.pending w none)
     ∙ ap (λ (p : Pending). at_word c (record (append (x ∷ []) w) { pending = p }) (ends_sentence x)) (behind_letter (word_length (append (x ∷ []) w)) w.pending)
 
 -- one run after another
-run_behind-cons : (look : Look) (b : ℕ) (bs : List ℕ) (w : Word) → run_behind look bs (run_behind look (b ∷ []) w) ≡ run_behind look (b ∷ bs) w
-run_behind-cons look b bs w =
+run_after-cons : (look : Look) (b : ℕ) (bs : List ℕ) (w : Word) → run_after look bs (run_after look (b ∷ []) w) ≡ run_after look (b ∷ bs) w
+run_after-cons look b bs w =
     let xs = map (run_cell look) bs in
     ap (λ (cells : List Cell). record w { last = record w.last { cells = cells }; blanks = 0; pending = pending_without_point (pending_without_point w.pending) })
     (append_assoc w.last.cells (run_cell look b ∷ []) xs)
     ∙ ap (λ (p : Pending). record w { last = record w.last { cells = w.last.cells ++ run_cell look b ∷ xs }; blanks = 0; pending = p }) (no_point_without w.pending)
 
 add_run-at_word : (m : Margins) (look : Look) (b : ℕ) (bs : List ℕ) (c : Collected) (w : Word) (sentence : Bool) → HasNoPoint w.pending
-    → add_run m look (b ∷ bs) (at_word c w sentence) ≡ at_word c (run_behind look (b ∷ bs) w) (run_sentence sentence look (b ∷ bs))
+    → add_run m look (b ∷ bs) (at_word c w sentence) ≡ at_word c (run_after look (b ∷ bs) w) (run_sentence sentence look (b ∷ bs))
 unfolding run_sentence
 add_run-at_word m look b [] c w sentence none = add_cell-at_word m look b c w sentence none
 add_run-at_word m look b (x ∷ bs) c w sentence none =
     ap (add_run m look (x ∷ bs)) (add_cell-at_word m look b c w sentence none)
-    ∙ add_run-at_word m look x bs c (run_behind look (b ∷ []) w) (ends_sentence (run_cell look b)) (no_point_without w.pending)
-    ∙ ap (λ (v : Word). at_word c v (run_sentence sentence look (b ∷ x ∷ bs))) (run_behind-cons look b (x ∷ bs) w)
+    ∙ add_run-at_word m look x bs c (run_after look (b ∷ []) w) (ends_sentence (run_cell look b)) (no_point_without w.pending)
+    ∙ ap (λ (v : Word). at_word c v (run_sentence sentence look (b ∷ x ∷ bs))) (run_after-cons look b (x ∷ bs) w)
 
 -- ---- a run at once
 
 -- the first letter takes the word from where it stands
 add_cell-ended : (m : Margins) (look : Look) (b : ℕ) (c : Collected)
     → add_cell m Letter (run_cell look b) c
-    ≡ at_word (with_word m c) (run_behind look (b ∷ []) (ended (word_or_new c.gap c.word))) (ends_sentence (run_cell look b))
+    ≡ at_word (with_word m c) (run_after look (b ∷ []) (ended (word_or_new c.gap c.word))) (ends_sentence (run_cell look b))
 add_cell-ended m look b c =
     let x : Cell = run_cell look b in
     let w = ended (word_or_new c.gap c.word) in
@@ -102,19 +102,19 @@ add_cell-ended m look b c =
 
 add_run-at_once : (m : Margins) (look : Look) (b : ℕ) (bs : List ℕ) (c : Collected)
     → add_run m look (b ∷ bs) c
-    ≡ record (in_word (run_behind look (b ∷ bs)) (in_word ended (with_word m c))) { sentence = ends_sentence (run_cell look (get_or (b ∷ bs) (length (b ∷ bs) - 1) 0)) }
+    ≡ record (in_word (run_after look (b ∷ bs)) (in_word ended (with_word m c))) { sentence = ends_sentence (run_cell look (get_or (b ∷ bs) (length (b ∷ bs) - 1) 0)) }
 unfolding run_sentence
 add_run-at_once m look b [] c = add_cell-ended m look b c
 add_run-at_once m look b (x ∷ bs) c =
     let w = ended (word_or_new c.gap c.word) in
     ap (add_run m look (x ∷ bs)) (add_cell-ended m look b c)
-    ∙ add_run-at_word m look x bs (with_word m c) (run_behind look (b ∷ []) w) (ends_sentence (run_cell look b)) (no_point_without w.pending)
-    ∙ ap (λ (v : Word). at_word (with_word m c) v (run_sentence c.sentence look (b ∷ x ∷ bs))) (run_behind-cons look b (x ∷ bs) w)
-    ∙ ap (λ s. at_word (with_word m c) (run_behind look (b ∷ x ∷ bs) w) s) (run_sentence-last c.sentence look b (x ∷ bs))
+    ∙ add_run-at_word m look x bs (with_word m c) (run_after look (b ∷ []) w) (ends_sentence (run_cell look b)) (no_point_without w.pending)
+    ∙ ap (λ (v : Word). at_word (with_word m c) v (run_sentence c.sentence look (b ∷ x ∷ bs))) (run_after-cons look b (x ∷ bs) w)
+    ∙ ap (λ s. at_word (with_word m c) (run_after look (b ∷ x ∷ bs) w) s) (run_sentence-last c.sentence look b (x ∷ bs))
 
 pub add_run-run : (m : Margins) (look : Look) (bs : List ℕ) (c : Collected) → 0 < length bs
     → add_run m look bs c
-    ≡ record (in_word (run_behind look bs) (in_word ended (with_word m c))) { sentence = ends_sentence (run_cell look (get_or bs (length bs - 1) 0)) }
+    ≡ record (in_word (run_after look bs) (in_word ended (with_word m c))) { sentence = ends_sentence (run_cell look (get_or bs (length bs - 1) 0)) }
 add_run-run m look [] c some = absurd (omega arith)
 add_run-run m look (b ∷ bs) c some = add_run-at_once m look b bs c
 

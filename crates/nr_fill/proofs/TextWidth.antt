@@ -13,7 +13,7 @@ use Rattle.nr_fill.specs.declared.piece.Join.TheVariants.{Gap, Soft, Hard}
 use Rattle.nr_fill.specs.declared.setting.Extra.{Extra}
 use Rattle.nr_fill.specs.Cutting.{join_width, piece_width, pieces_width}
 use Rattle.nr_fill.specs.Piece.{Piece}
-use Rattle.nr_fill.specs.Spreading.{is_gap, gaps, shared, extra_at, blanks_before, next_gap, cells_behind, cells_in_line}
+use Rattle.nr_fill.specs.Spreading.{is_gap, gaps, shared, extra_at, blanks_before, next_gap, cells_after, cells_in_line}
 
 extra_at-le : (x : Extra) (i : ℕ) → extra_at x i ≤ x.each + 1
 extra_at-le x i = elim (cases_Bool (nat_lt x.above i && nat_le i x.up_to)) [ inl wider ↦ rw wider (omega arith) | inr same ↦ rw same (omega arith) ]
@@ -23,13 +23,13 @@ blanks_before-le x i (Gap k) = let more = extra_at-le x i in omega arith
 blanks_before-le x i Soft = omega arith
 blanks_before-le x i Hard = omega arith
 
-length-cells_behind : (x : Extra) (i : ℕ) (ps : List Piece)
-    → length (cells_behind x i ps) ≤ pieces_width ps + x.each * count_by (λ (p : Piece). is_gap p.join) ps + count_by (λ (p : Piece). is_gap p.join) ps
-length-cells_behind x i [] = omega arith
-length-cells_behind x i (p ∷ ps) =
+length-cells_after : (x : Extra) (i : ℕ) (ps : List Piece)
+    → length (cells_after x i ps) ≤ pieces_width ps + x.each * count_by (λ (p : Piece). is_gap p.join) ps + count_by (λ (p : Piece). is_gap p.join) ps
+length-cells_after x i [] = omega arith
+length-cells_after x i (p ∷ ps) =
     let blanks = replicate (blanks_before x i p.join) blank in
-    let rest = cells_behind x (next_gap i p.join) ps in
-    let more = length-cells_behind x (next_gap i p.join) ps in
+    let rest = cells_after x (next_gap i p.join) ps in
+    let more = length-cells_after x (next_gap i p.join) ps in
     let wide = sum_by-cons piece_width p ps in
     let count = sum_by-cons (λ (q : Piece). cond (is_gap q.join) 1 0) p ps in
     let here = blanks_before-le x i p.join in
@@ -46,9 +46,9 @@ length-cells_behind x i (p ∷ ps) =
 pub length-cells_in_line : (x : Extra) (ps : List Piece) → length (cells_in_line x ps) ≤ pieces_width ps + x.each * gaps ps + gaps ps
 length-cells_in_line x [] = omega arith
 length-cells_in_line x (p ∷ ps) =
-    let more = length-cells_behind x 1 ps in
+    let more = length-cells_after x 1 ps in
     let wide = sum_by-cons piece_width p ps in
-    omega (arith, length-append p.cells (cells_behind x 1 ps))
+    omega (arith, length-append p.cells (cells_after x 1 ps))
 
 -- fewer gaps than pieces
 pub gaps-le : (ps : List Piece) → gaps ps ≤ length ps

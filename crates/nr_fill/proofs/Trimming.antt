@@ -9,7 +9,7 @@ use Rattle.std.proofs.lemmas.List.Sums.{suffix_len-le-length, suffix_len_is}
 use Rattle.nr_vectors.specs.Cell.{blank, is_blank, trimmed}
 use Rattle.nr_vectors.specs.declared.cell.Cell.{Cell}
 use Rattle.nr_fill.specs.CellRow.{Row, row_of}
-use Rattle.nr_fill.specs.Extents.{counted, written_behind}
+use Rattle.nr_fill.specs.Extents.{counted, written_after}
 
 -- how many cells there are up to the last that is no blank
 abbrev pub written : List Cell → ℕ
@@ -67,7 +67,7 @@ pub same_row : {k k' : List Cell} {c c' w w' r r' : ℕ} → k ≡ k' → c ≡ 
 same_row k_is c_is w_is r_is = rw (k_is, c_is, w_is, r_is) refl
 
 -- how many are written once more cells are added
-written_more : (xs ys : List Cell) → written_behind (counted (length (trimmed xs))) (counted (length xs)) (written ys) ≡ counted (length (trimmed (xs ++ ys)))
+written_more : (xs ys : List Cell) → written_after (counted (length (trimmed xs))) (counted (length xs)) (written ys) ≡ counted (length (trimmed (xs ++ ys)))
 written_more xs ys =
     let before = length-trimmed xs in
     let after = length-trimmed (xs ++ ys) in
@@ -87,7 +87,7 @@ pub row_extended : (room : ℕ) (xs ys : List Cell) (m : ℕ) → m ≡ min (len
     → ◌≡◌ {A = Row} (record {
       kept = take room xs ++ take m ys;
       count = min (counted (length xs) + length ys) (2 ^ 64 - 1);
-      written = written_behind (counted (length (trimmed xs))) (counted (length xs)) (written ys);
+      written = written_after (counted (length (trimmed xs))) (counted (length xs)) (written ys);
       capacity = room;
     }) (row_of room (xs ++ ys))
 row_extended room xs ys m m_is =
@@ -112,9 +112,9 @@ row_blanked room xs n m m_is =
 
 -- so many cells more, and so many up to the last that is no blank
 pub extent_extended : {count reached : ℕ} (xs ys : List Cell) → count ≡ counted (length xs) → reached ≡ counted (length (trimmed xs))
-    → (min (count + length ys) (2 ^ 64 - 1) ≡ counted (length (xs ++ ys))) × (written_behind reached count (written ys) ≡ counted (length (trimmed (xs ++ ys))))
+    → (min (count + length ys) (2 ^ 64 - 1) ≡ counted (length (xs ++ ys))) × (written_after reached count (written ys) ≡ counted (length (trimmed (xs ++ ys))))
 extent_extended xs ys count_is reached_is =
-    (omega (arith, length-append xs ys), ap₂ (λ a b. written_behind a b (written ys)) reached_is count_is ∙ written_more xs ys)
+    (omega (arith, length-append xs ys), ap₂ (λ a b. written_after a b (written ys)) reached_is count_is ∙ written_more xs ys)
 
 -- so many blanks more
 pub extent_blanked : {count reached : ℕ} (xs : List Cell) (n : ℕ) → count ≡ counted (length xs) → reached ≡ counted (length (trimmed xs))
@@ -133,7 +133,7 @@ row_whole {room = room} xs items_is count_is small none_gone = let long = ap len
 -- a row with more cells for which there is room, and none of whose own are gone
 pub row_laid : {items : List Cell} {count reached room : ℕ} (xs ys : List Cell) (n w : ℕ) → items ≡ take room xs → count ≡ counted (length xs) → reached ≡ counted (length (trimmed xs))
     → room < 2 ^ 32 → count ≡ length items → length items + length ys ≤ room → n ≡ counted (length ys) → w ≡ counted (length (trimmed ys))
-    → ◌≡◌ {A = Row} (record { kept = items ++ ys; count = length items + n; written = written_behind reached (length items) w; capacity = room }) (row_of room (xs ++ ys))
+    → ◌≡◌ {A = Row} (record { kept = items ++ ys; count = length items + n; written = written_after reached (length items) w; capacity = room }) (row_of room (xs ++ ys))
 row_laid {items} {count} {reached} {room} xs ys n w items_is count_is reached_is small none_gone fits n_is w_is =
     let long = ap length items_is in
     let part = length-take room xs in
@@ -146,5 +146,5 @@ row_laid {items} {count} {reached} {room} xs ys n w items_is count_is reached_is
     same_row
     (ap (λ zs. zs ++ ys) whole ∙ sym all)
     (omega arith)
-    (ap₂ (λ a b. written_behind a b w) reached_is count_of ∙ ap (written_behind (counted (length (trimmed xs))) (counted (length xs))) written_of ∙ written_more xs ys)
+    (ap₂ (λ a b. written_after a b w) reached_is count_of ∙ ap (written_after (counted (length (trimmed xs))) (counted (length xs))) written_of ∙ written_more xs ys)
     refl

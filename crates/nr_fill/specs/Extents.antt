@@ -8,8 +8,8 @@ abbrev pub counted : ℕ → ℕ
 counted n = min n (2 ^ 64 - 1)
 
 -- how many there are up to the last that is no blank, where `more` of those that were added after `count` are
-abbrev pub written_behind : ℕ → ℕ → ℕ → ℕ
-written_behind written count more = if more == 0 then written else counted (count + more)
+abbrev pub written_after : ℕ → ℕ → ℕ → ℕ
+written_after written count more = if more == 0 then written else counted (count + more)
 
 -- there are so many cells, and so many up to the last that is no blank
 abbrev pub IsExtent : List Cell → ℕ → ℕ → Type 0

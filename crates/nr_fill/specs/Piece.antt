@@ -137,10 +137,10 @@ mark_cells Hyphen = 1
 mark_cells Dash = 2
 
 -- A hard point stands after `-`, `\(hy` and `\(em` where the word, of n cells, has a cell before them. The text for a right or centring stop has none.
-abbrev pub pending_behind : Behind → ℕ → Pending → Pending
-pending_behind mark n (ForStop f) = ForStop f
-pending_behind Letter n pending = Nothing
-pending_behind mark n pending = if nat_lt (mark_cells mark) n then AtPoint points.Hard else Nothing
+abbrev pub pending_after : Behind → ℕ → Pending → Pending
+pending_after mark n (ForStop f) = ForStop f
+pending_after Letter n pending = Nothing
+pending_after mark n pending = if nat_lt (mark_cells mark) n then AtPoint points.Hard else Nothing
 
 -- `\%` after one of n cells. Of two points at one place it is soft only where both are.
 abbrev pub pending_soft : ℕ → Pending → Pending
@@ -192,14 +192,14 @@ abbrev pub append : List Cell → Word → Word
 append xs w = record w { last = record w.last { cells = w.last.cells ++ xs }; blanks = 0 }
 
 -- one cell more
-abbrev pub add_cell_behind : Behind → Cell → Word → Word
-add_cell_behind behind x w =
+abbrev pub add_cell_after : Behind → Cell → Word → Word
+add_cell_after behind x w =
     let longer = append (x ∷ []) w in
-    record longer { pending = pending_behind behind (word_length longer) w.pending }
+    record longer { pending = pending_after behind (word_length longer) w.pending }
 
 abbrev pub add_cell : Margins → Behind → Cell → Collected → Collected
 add_cell margins behind x c =
-    record (in_word (add_cell_behind behind x) (in_word ended (with_word margins c)))
+    record (in_word (add_cell_after behind x) (in_word ended (with_word margins c)))
     { sentence = ends_sentence x }
 
 -- a blank of the text that is a cell, as others where a break point waits

@@ -14,8 +14,8 @@ add_run margins look [] c = c
 add_run margins look (b ∷ bs) c = add_run margins look bs (add_cell margins Letter (run_cell look b) c)
 
 -- the cells of a run after those of a word: no break point waits after them
-abbrev pub run_behind : Look → List ℕ → Word → Word
-run_behind look bs w =
+abbrev pub run_after : Look → List ℕ → Word → Word
+run_after look bs w =
     record (append (map (run_cell look) bs) w) { pending = pending_without_point w.pending }
 
 -- the bytes as a word, and the blank after it

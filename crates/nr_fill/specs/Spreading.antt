@@ -50,12 +50,12 @@ next_gap i Soft = i
 next_gap i Hard = i
 
 -- pieces that are not the first, from gap i on
-abbrev pub cells_behind : Extra → ℕ → List Piece → List Cell
-cells_behind x i [] = []
-cells_behind x i (p ∷ ps) =
-    replicate (blanks_before x i p.join) blank ++ p.cells ++ cells_behind x (next_gap i p.join) ps
+abbrev pub cells_after : Extra → ℕ → List Piece → List Cell
+cells_after x i [] = []
+cells_after x i (p ∷ ps) =
+    replicate (blanks_before x i p.join) blank ++ p.cells ++ cells_after x (next_gap i p.join) ps
 
 -- the cells of these pieces as a line
 abbrev pub cells_in_line : Extra → List Piece → List Cell
 cells_in_line x [] = []
-cells_in_line x (p ∷ ps) = p.cells ++ cells_behind x 1 ps
+cells_in_line x (p ∷ ps) = p.cells ++ cells_after x 1 ps

@@ -5,7 +5,7 @@ ghost use Rattle.nr_vectors.specs.declared.cell.Cell.{Cell as CellValue};
 ghost use Rattle.nr_fill.specs.Slots.{pieces_of, cells_in_slots};
 ghost use Rattle.nr_fill.specs.Spreading.{cells_in_line};
 
-use crate::cutting::{blanks_of, gap_behind};
+use crate::cutting::{blanks_of, gap_after};
 use crate::piece::PieceSlot;
 use crate::setting::Extra;
 use nr_vectors::FixedVec;
@@ -25,7 +25,7 @@ pub trait CellRow {
         ensures room { (Holds self.new).capacity ≡ (Holds self.old).capacity };
 
     /// Adds copies of a cell, and after them the first n of these cells.
-    fn add_behind_copies(&mut self, cell: Cell, copies: usize, cells: &[Cell], n: usize)
+    fn add_after_copies(&mut self, cell: Cell, copies: usize, cells: &[Cell], n: usize)
         requires front { n ≤ length cells.now }
         requires room { length (Holds self.old).items + copies + n ≤ (Holds self.old).capacity }
         ensures items { (Holds self.new).items ≡ (Holds self.old).items ++ replicate copies cell
@@ -42,8 +42,8 @@ impl CellRow for FixedVec<Cell> {
     }
 
     #[inline(always)]
-    fn add_behind_copies(&mut self, cell: Cell, copies: usize, cells: &[Cell], n: usize) {
-        self.extend_behind_copies(cell, copies, cells, n);
+    fn add_after_copies(&mut self, cell: Cell, copies: usize, cells: &[Cell], n: usize) {
+        self.extend_after_copies(cell, copies, cells, n);
     }
 }
 
@@ -56,7 +56,7 @@ impl CellRow for SliceVec<'_, Cell> {
     }
 
     #[inline(always)]
-    fn add_behind_copies(&mut self, cell: Cell, copies: usize, cells: &[Cell], n: usize) {
+    fn add_after_copies(&mut self, cell: Cell, copies: usize, cells: &[Cell], n: usize) {
         self.extend_copies(cell, copies);
         self.extend_front(cells, n);
     }
@@ -81,8 +81,8 @@ pub fn lay_line<R: CellRow>(slots: &[PieceSlot], cells: &[Cell], extra: Extra, r
     for slot in others {
         let blanks = blanks_of(slot.join, extra, gap);
         let len = slot.len as usize;
-        row.add_behind_copies(Cell::blank(), blanks, &cells[taken..], len);
-        gap = gap_behind(slot.join, gap);
+        row.add_after_copies(Cell::blank(), blanks, &cells[taken..], len);
+        gap = gap_after(slot.join, gap);
         taken += len;
     }
 }

@@ -23,7 +23,7 @@ pub(crate) struct Sums {
 }
 
 /// The number of pieces in the longest prefix that fits the line, and 1 where none does.
-pub(crate) fn longest_front(slots: &[PieceSlot], line: usize) -> usize
+pub(crate) fn longest_prefix(slots: &[PieceSlot], line: usize) -> usize
     requires some { 0 < length slots.now }
     requires wide { slots_width slots.now < 2 ^ 63 }
     ensures pieces { (cells : List CellValue) → cells_in_slots slots.now ≤ length cells
@@ -46,7 +46,7 @@ pub(crate) fn longest_front(slots: &[PieceSlot], line: usize) -> usize
 }
 
 /// The same, from the last piece on. The pieces are so wide without the gap before the first.
-pub(crate) fn front_from_behind(slots: &[PieceSlot], wide: usize, line: usize) -> usize
+pub(crate) fn longest_prefix_from_end(slots: &[PieceSlot], wide: usize, line: usize) -> usize
     requires some { 0 < length slots.now }
     requires wide { slots_width slots.now ≡ wide + join_width (get_or slots.now 0 blank_slot).join }
     requires small { wide < 2 ^ 63 }
@@ -102,7 +102,7 @@ pub(crate) fn blanks_of(join: Join, extra: Extra, gap: usize) -> usize
 
 /// The number of the next gap.
 #[inline]
-pub(crate) fn gap_behind(join: Join, gap: usize) -> usize
+pub(crate) fn gap_after(join: Join, gap: usize) -> usize
     requires gap { gap < 2 ^ 62 }
     ensures next { result ≡ next_gap gap join }
     ensures near { result ≤ gap + 1 }
@@ -136,7 +136,7 @@ pub(crate) fn set_pieces<S: CellSink>(
     for slot in others {
         let blanks = blanks_of(slot.join, extra, gap);
         out.blanks(blanks);
-        gap = gap_behind(slot.join, gap);
+        gap = gap_after(slot.join, gap);
         let end = taken + slot.len as usize;
         out.extend(&cells[taken..end]);
         extent = extent.with_blanks(blanks).with_cells(&cells[taken..end]);

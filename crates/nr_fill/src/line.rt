@@ -282,7 +282,7 @@ impl Line {
     {
         match self.word {
             None => &[],
-            Some(word) => self.row.cells_behind(word.parted),
+            Some(word) => self.row.cells_after(word.parted),
         }
     }
 }

@@ -13,12 +13,7 @@ pub enum Turn {
 
 /// The margins after a line with these, where so many pieces are left, and no word is being read where `wordless`:
 /// `next` where something is left, with which a line begins.
-pub(crate) fn margins_behind(
-    margins: Margins,
-    left: usize,
-    wordless: bool,
-    next: Margins,
-) -> Margins
+pub(crate) fn margins_after(margins: Margins, left: usize, wordless: bool, next: Margins) -> Margins
     ensures { result ≡ (if left == 0 && wordless then margins else next) }
 {
     if left == 0 && wordless { margins } else { next }

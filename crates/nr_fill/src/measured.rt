@@ -2,7 +2,7 @@
 ghost use Rattle.std.specs.Prelude.{◌≡◌, ◌-◌, ◌≤◌, length, replicate};
 ghost use Rattle.std.specs.List.{suffix_len};
 ghost use Rattle.nr_vectors.specs.Cell.{blank, is_blank};
-ghost use Rattle.nr_fill.specs.Extents.{AddsToExtent, IsExtent, written_behind};
+ghost use Rattle.nr_fill.specs.Extents.{AddsToExtent, IsExtent, written_after};
 
 use nr_vectors::cell::Cell;
 
@@ -41,7 +41,7 @@ impl Extent {
     {
         Extent {
             count: self.count.saturating_add(cells.len()),
-            written: written_behind(self.written, self.count, written_len(cells)),
+            written: written_after(self.written, self.count, written_len(cells)),
         }
     }
 
@@ -60,8 +60,8 @@ impl Extent {
 /// How many cells there are up to the last that is no blank, where `more` of those that were added are, after
 /// `count` cells of which `written` are.
 #[inline]
-pub(crate) fn written_behind(written: usize, count: usize, more: usize) -> usize
-    ensures { result ≡ written_behind written count more }
+pub(crate) fn written_after(written: usize, count: usize, more: usize) -> usize
+    ensures { result ≡ written_after written count more }
 {
     if more == 0 {
         written

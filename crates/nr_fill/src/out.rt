@@ -10,7 +10,7 @@ ghost use Rattle.nr_fill.specs.Spreading.{cells_in_line};
 
 use crate::cell_row::lay_line;
 use crate::cells::CellSink;
-use crate::measured::{Extent, written_behind, written_len};
+use crate::measured::{Extent, written_after, written_len};
 use crate::piece::PieceSlot;
 use crate::setting::Extra;
 use nr_vectors::cell::Cell;
@@ -115,7 +115,7 @@ impl CellSink for Out {
         let one = [cell];
         let kept = one.len().min(self.cells.capacity() - self.cells.len());
         self.cells.extend_copies(cell, kept);
-        self.written = written_behind(self.written, self.count, written_len(&one));
+        self.written = written_after(self.written, self.count, written_len(&one));
         self.count = self.count.saturating_add(one.len());
     }
 
@@ -123,7 +123,7 @@ impl CellSink for Out {
     fn extend(&mut self, cells: &[Cell]) {
         let n = cells.len().min(self.cells.capacity() - self.cells.len());
         self.cells.extend(&cells[..n]);
-        self.written = written_behind(self.written, self.count, written_len(cells));
+        self.written = written_after(self.written, self.count, written_len(cells));
         self.count = self.count.saturating_add(cells.len());
     }
 
@@ -163,7 +163,7 @@ impl CellSink for Out {
         lay_line(slots, cells, extra, &mut self.cells);
         let laid = &self.cells.as_slice()[start..];
         let extent = Extent::of(laid);
-        self.written = written_behind(self.written, start, extent.written);
+        self.written = written_after(self.written, start, extent.written);
         self.count = start + extent.count;
         Some(extent)
     }

@@ -10,7 +10,7 @@ ghost use Rattle.nr_fill.specs.Plain.{IsPlain, run_cell};
 ghost use Rattle.nr_fill.specs.Spreading.{cells_in_line, gaps};
 
 use crate::cells::CellSink;
-use crate::cutting::{Sums, front_from_behind, longest_front, set_pieces, sums_of};
+use crate::cutting::{Sums, longest_prefix, longest_prefix_from_end, set_pieces, sums_of};
 use crate::measured::Extent;
 use crate::piece::{Join, PieceSlot};
 use crate::queue::Queue;
@@ -225,7 +225,7 @@ impl PieceRow {
 
     /// The pieces after the first n, which have so many cells, have no end any more: their cells stand before those
     /// after the last piece.
-    pub(crate) fn open_behind(&mut self, n: usize, cells: usize)
+    pub(crate) fn open_after(&mut self, n: usize, cells: usize)
         requires within { n ≤ length self.old.pieces }
         requires cells { cells ≡ cells_in (drop n self.old.pieces) }
         ensures { self.new ≡ record self.old {
@@ -261,7 +261,7 @@ impl PieceRow {
     }
 
     /// The cells after the first pieces, but the title's. The other pieces have `parted` cells.
-    pub(crate) fn cells_behind(&self, parted: usize) -> &[Cell]
+    pub(crate) fn cells_after(&self, parted: usize) -> &[Cell]
         requires { parted ≤ cells_in self.now.pieces }
         ensures { (n : ℕ) → cells_in (drop n self.now.pieces) ≡ parted
             → result.now ≡ flat_map (λ (p : Piece). p.cells) (drop n self.now.pieces) ++ self.now.last }
@@ -271,7 +271,7 @@ impl PieceRow {
 
     /// The number of pieces in the longest prefix of the first n, which are so wide, that fits the line, and 1 where none
     /// does.
-    pub(crate) fn longest_front(&self, n: usize, wide: usize, line: usize) -> usize
+    pub(crate) fn longest_prefix(&self, n: usize, wide: usize, line: usize) -> usize
         requires some { 0 < n }
         requires within { n ≤ length self.now.pieces }
         requires wide { pieces_width (take n self.now.pieces) ≡ wide }
@@ -284,9 +284,9 @@ impl PieceRow {
         let slots = &self.slots.as_slice()[..n];
         let width = wide - usize::from(slots[0].join.width());
         if width <= 2 * line {
-            front_from_behind(slots, width, line)
+            longest_prefix_from_end(slots, width, line)
         } else {
-            longest_front(slots, line)
+            longest_prefix(slots, line)
         }
     }
 

@@ -4,7 +4,7 @@ ghost use Rattle.nr_units.specs.Character.{code};
 ghost use Rattle.nr_settings.specs.Indents.{margins_of};
 ghost use Rattle.nr_fill.specs.Piece.{ends_sentence, in_word, line_cells, text_cells};
 ghost use Rattle.nr_fill.specs.Plain.{IsPlain, run_cell};
-ghost use Rattle.nr_fill.specs.Runs.{EndsWord, add_blanks, add_run, add_word, run_behind};
+ghost use Rattle.nr_fill.specs.Runs.{EndsWord, add_blanks, add_run, add_word, run_after};
 
 use crate::line::{Line, WordState};
 use crate::margins::Margins;
@@ -175,7 +175,7 @@ impl Line {
         ensures plain { All IsPlain (take result bytes.now) }
         ensures stops { result < length bytes.now → ¬ IsPlain (slice_index bytes.now result) }
         ensures cells { self.new ≡ record self.old {
-          collected = record (in_word (run_behind look (take result bytes.now)) self.old.collected)
+          collected = record (in_word (run_after look (take result bytes.now)) self.old.collected)
               { sentence = ends_sentence (run_cell look (slice_index bytes.now (result - 1))) };
         } }
     {

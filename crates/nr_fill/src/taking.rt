@@ -9,7 +9,7 @@ ghost use Rattle.nr_fill.specs.Setting.{behind, cut_of, extra_of, hyphens, left_
 use crate::cells::CellSink;
 use crate::cutting::Sums;
 use crate::line::Line;
-use crate::margins::{Margins, margins_behind};
+use crate::margins::{Margins, margins_after};
 use crate::setting::{Extra, Setting, shift_of, spreads_gaps};
 use nr_vectors::cell::{Cell, Look};
 
@@ -68,7 +68,7 @@ impl Line {
     {
         let n = self
             .row
-            .longest_front(self.pieces, self.wide, self.margins.length as usize);
+            .longest_prefix(self.pieces, self.wide, self.margins.length as usize);
         self.take_front(n, next, setting, out)
     }
 
@@ -213,6 +213,6 @@ impl Line {
         self.pieces -= n;
         self.wide -= plan.wide;
         self.turn = self.turn.behind(plan.spread);
-        self.margins = margins_behind(self.margins, self.pieces, self.word.is_none(), next);
+        self.margins = margins_after(self.margins, self.pieces, self.word.is_none(), next);
     }
 }

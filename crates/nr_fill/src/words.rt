@@ -1,7 +1,7 @@
 // What is read: cells, break points, the ends of words, and gaps. (CSTR 54, sections 4 and 13.)
 ghost use Rattle.std.specs.Prelude.{◌≡◌, ◌+◌, ◌<◌, ◌≤◌, ◌++◌, ◌∷◌, [], None, OnOk, OnErr, false, replicate};
 ghost use Rattle.nr_fill.specs.Line.{afforded};
-ghost use Rattle.nr_fill.specs.Piece.{Word, add_blank, add_cell, add_cell_behind, add_cells, after_newline, append, barred_here, end_word, ended, ends_sentence, hyphenated, in_word, is_inside, joined, line_cells, marked, one_blank_more, pending_behind, pending_soft, pending_without_point, text_cells, with_blanks_kept, with_word, without_blanks};
+ghost use Rattle.nr_fill.specs.Piece.{Word, add_blank, add_cell, add_cell_after, add_cells, after_newline, append, barred_here, end_word, ended, ends_sentence, hyphenated, in_word, is_inside, joined, line_cells, marked, one_blank_more, pending_after, pending_soft, pending_without_point, text_cells, with_blanks_kept, with_word, without_blanks};
 ghost use Rattle.nr_fill.specs.Runs.{blanks_behind};
 
 use crate::line::{Line, LineCells, WIDEST_GAP, WordState};
@@ -56,8 +56,8 @@ impl WordState {
 impl Pending {
     /// Goes on after a cell, where the word has n cells then.
     #[inline]
-    fn step_behind(&mut self, mark: Behind, n: usize)
-        ensures { self.new ≡ pending_behind mark n self.old }
+    fn step_after(&mut self, mark: Behind, n: usize)
+        ensures { self.new ≡ pending_after mark n self.old }
     {
         if matches!(self, Pending::ForStop(_)) {
             return;
@@ -165,7 +165,7 @@ impl Line {
         requires room { text_cells self.old.collected < self.old.limit }
         requires no_title { self.old.collected.title ≡ None }
         ensures { self.new ≡ record self.old {
-          collected = record (in_word (add_cell_behind behind cell) self.old.collected)
+          collected = record (in_word (add_cell_after behind cell) self.old.collected)
               { sentence = ends_sentence cell };
         } }
     {
@@ -173,7 +173,7 @@ impl Line {
         if let Some(word) = &mut self.word {
             self.row.push(cell);
             let n = word.parted + self.row.last_len();
-            word.pending.step_behind(behind, n);
+            word.pending.step_after(behind, n);
             word.blanks = 0;
         }
     }
@@ -334,7 +334,7 @@ impl Line {
             return;
         }
         word.join = self.row.join_before(self.pieces, word.join);
-        self.row.open_behind(self.pieces, word.parted);
+        self.row.open_after(self.pieces, word.parted);
         word.pending = Pending::Nothing;
         word.parted = 0;
         word.wide = 0;

@@ -151,8 +151,8 @@ module _ {before store : Stored Resume} {row : List Cell} {blanks : ℕ} (cells 
   length-behind : length behind ≡ blanks + length cells
   length-behind = omega (arith, length-append (replicate blanks blank) cells, length-replicate blanks blank)
 
-  charge_behind : charge_of (with_cells behind store) ≡ charge_of before + share before.building (length h.done + (blanks + length cells))
-  charge_behind = ap charge_of added_is ∙ charge_of-with_cells (h.done ++ behind) before
+  charge_after : charge_of (with_cells behind store) ≡ charge_of before + share before.building (length h.done + (blanks + length cells))
+  charge_after = ap charge_of added_is ∙ charge_of-with_cells (h.done ++ behind) before
       ∙ ap (λ n. charge_of before + share before.building n) (length-append h.done behind ∙ ap (λ n. length h.done + n) length-behind)
 
   pub holds_some : (store_now : Stored Resume) → store_now ≡ with_cells behind store → charge_of (with_cells behind store) < 2 ^ 32 → HoldsRow before (row ++ cells) store_now 0 false
@@ -163,7 +163,7 @@ module _ {before store : Stored Resume} {row : List Cell} {blanks : ℕ} (cells 
     all_written = ends.all_written (h.done ++ replicate h.waiting blank);
     blanks_are = λ e. refl;
     store_is = λ e.
-        let is = charge_behind in
+        let is = charge_after in
         let part = share-le before.building (blanks + length cells) (length h.done + (blanks + length cells)) (omega arith) in
         now_is ∙ added_is ∙ counted_all before before.building refl h.done blanks h.waiting cells (h.blanks_are refl) (omega arith);
     passed = λ agrees. cc;
@@ -180,7 +180,7 @@ module _ {before store : Stored Resume} {row : List Cell} {blanks : ℕ} (cells 
     blanks_are = λ e. cc;
     store_is = λ e. cc;
     passed = λ agrees.
-        let is = charge_behind in
+        let is = charge_after in
         let all = charge_is cells ends h in
         let counted = h.blanks_are refl in
         let limit : store.limit ≡ before.limit = ap (λ (v : Stored Resume). v.limit) (h.store_is refl) in

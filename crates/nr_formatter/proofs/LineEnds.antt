@@ -7,7 +7,7 @@ use Rattle.nr_reading.specs.declared.event.Event.TheVariants as events
 use Rattle.nr_reading.specs.declared.mode.Mode.TheVariants as modes
 use Rattle.nr_formatter.specs.Access.{collected, is_filling, with_collected}
 use Rattle.nr_formatter.specs.Many.LineEnds.{line_gapped}
-use Rattle.nr_formatter.specs.Lines.{breaks_behind, count, count_input, fits_line, flow_line, input_macro, input_trap_behind}
+use Rattle.nr_formatter.specs.Lines.{breaks_after, count, count_input, fits_line, flow_line, input_macro, input_trap_after}
 use Rattle.nr_formatter.specs.Moves.{heard}
 use Rattle.nr_formatter.specs.Text.{line_end, word_line_ended}
 use Rattle.nr_formatter.specs.declared.formatter.Formatter.{Formatter}
@@ -19,19 +19,19 @@ use Rattle.nr_formatter.proofs.PlainText.{EndsWord, pointed-plain}
 -- ---- the newline
 
 -- with what is collected where the word ends
-abbrev line_behind : Collected → Formatter → Formatter
-line_behind c f = record (with_collected (line_gapped c) f) {
+abbrev line_after : Collected → Formatter → Formatter
+line_after c f = record (with_collected (line_gapped c) f) {
   event = events.Nothing;
-  breaks = f.breaks && not (breaks_behind f);
-  task = tasks.Flow afters.Line (breaks_behind f);
+  breaks = f.breaks && not (breaks_after f);
+  task = tasks.Flow afters.Line (breaks_after f);
 }
 
 -- the newline was heard
 abbrev pub line_flows : Formatter → Formatter
 line_flows f = record (with_collected (line_gapped (collected f)) f) { event = events.Nothing; task = tasks.Flow afters.Line false }
 
-line_behind-is : (f : Formatter) → EndsWord f → line_behind (collected f) f ≡ line_flows f
-line_behind-is f ends = rw ends.breaks refl
+line_after-is : (f : Formatter) → EndsWord f → line_after (collected f) f ≡ line_flows f
+line_after-is f ends = rw ends.breaks refl
 
 newline_heard : (f : Formatter) → EndsWord f → f.reader.half.reading.mode ≡ modes.Start → heard events.EndLine f ≡ word_line_ended afters.Line f
 unfolding line_end
@@ -40,7 +40,7 @@ newline_heard f ends mode = rw (mode, ends.filling, ends.field) refl
 -- it is heard as the word's end
 pub heard-newline : (f : Formatter) → EndsWord f → f.reader.half.reading.mode ≡ modes.Start → heard events.EndLine f ≡ line_flows f
 heard-newline f ends mode =
-    newline_heard f ends mode ∙ ap (λ c. line_behind c f) (pointed-plain f ends.filling ends.words) ∙ line_behind-is f ends
+    newline_heard f ends mode ∙ ap (λ c. line_after c f) (pointed-plain f ends.filling ends.words) ∙ line_after-is f ends
 
 -- nothing goes out where nothing is full
 pub none_out : (f : Formatter) → is_filling f ≡ true → fits_line (line_gapped (collected f)) ≡ true → flow_line afters.Line false (line_flows f) ≡ None
@@ -75,5 +75,5 @@ count-none f filling under =
 -- and no trap is there
 pub count_input-none : (f : Formatter) → f.input_trap ≡ None → count_input f ≡ record f { task = tasks.Read }
 count_input-none f none =
-    ap (λ t. record f { input_trap = input_trap_behind t; springs = input_macro t f.springs; task = tasks.Read }) none
+    ap (λ t. record f { input_trap = input_trap_after t; springs = input_macro t f.springs; task = tasks.Read }) none
     ∙ ap (λ t. record f { input_trap = t; task = tasks.Read }) (sym none)

@@ -14,7 +14,7 @@ use Rattle.nr_formatter.specs.declared.tasks.Task.TheVariants as tasks
 use Rattle.nr_formatter.specs.declared.tasks.Then.{Then}
 use Rattle.nr_formatter.specs.declared.tasks.Then.TheVariants as thens
 use Rattle.nr_formatter.specs.Access.{collected, margins}
-use Rattle.nr_formatter.specs.Lines.{reads_a_field, word_ended, break_word_end, pieces_going, behind_line, task_after, flow_done, task_of, step_behind, break_done}
+use Rattle.nr_formatter.specs.Lines.{reads_a_field, word_ended, break_word_end, pieces_going, after_line, task_after, flow_done, task_of, step_after, break_done}
 use Rattle.nr_formatter.specs.Titles.{title_set}
 use Rattle.nr_formatter.specs.Weights.{weight_of_agenda, weight_of_task, weight_of_break, weight_of_step, owed_by_then, owed_by_task, Falls}
 use Rattle.nr_formatter.proofs.WorkFalls.{falls-work}
@@ -36,9 +36,9 @@ falls-break_word_end f some = cond_both (reads_a_field f) _ _ (λ g. Falls 1 0 f
 some-pieces_going : (going : Going) (c : Collected) → 0 < length c.pieces → 0 < pieces_going going c
 some-pieces_going going c some = cond_both going.whole _ _ (λ n. 0 < n) (λ _. some) (λ _. omega arith)
 
-pub falls-behind_line : (going : Going) (f : Formatter) → 0 < length (collected f).pieces → Falls 5 0 f (behind_line going f)
-falls-behind_line going f some =
-    falls-work 5 0 f (behind_line going f) refl (omega arith)
+pub falls-after_line : (going : Going) (f : Formatter) → 0 < length (collected f).pieces → Falls 5 0 f (after_line going f)
+falls-after_line going f some =
+    falls-work 5 0 f (after_line going f) refl (omega arith)
     (omega (arith, weight-behind (margins f) going.align (collected f) (pieces_going going (collected f)) (some-pieces_going going (collected f) some) some))
 
 pub falls-title_set : (f : Formatter) → f.event ≡ events.Nothing → f.task ≡ tasks.Title → Falls 5 0 f (title_set f)
@@ -67,12 +67,12 @@ falls-flow_done after breaks f event task =
     let new : weight_of_agenda f.event (task_after after) f.step ≡ weight_of_task (task_after after) f.step = rw event refl in
     falls-work 1 0 f (flow_done after f) refl (omega (arith, owed-task_after after f.reader.half)) (omega (arith, weight-task_after after f.step))
 
-weight-break_done : (t : Then) (f : Formatter) → weight_of_task (task_of t f) (step_behind t f.step) + weight_of_step (step_behind t f.step) + 1 ≤ weight_of_break t f.step + weight_of_step f.step
+weight-break_done : (t : Then) (f : Formatter) → weight_of_task (task_of t f) (step_after t f.step) + weight_of_step (step_after t f.step) + 1 ≤ weight_of_break t f.step + weight_of_step f.step
 weight-break_done (thens.Act r) f = omega arith
 weight-break_done thens.Space f = omega arith
 weight-break_done thens.Leading f = omega arith
 weight-break_done thens.Diverted f = omega arith
-weight-break_done thens.Finish f = elim f.step as (λ s. weight_of_task tasks.Finish (step_behind thens.Finish s) + weight_of_step (step_behind thens.Finish s) + 1 ≤ weight_of_break thens.Finish s + weight_of_step s) [
+weight-break_done thens.Finish f = elim f.step as (λ s. weight_of_task tasks.Finish (step_after thens.Finish s) + weight_of_step (step_after thens.Finish s) + 1 ≤ weight_of_break thens.Finish s + weight_of_step s) [
   | steps.NotYet ↦ omega arith
   | steps.FirstBreak ↦ omega arith
   | steps.Macro ↦ omega arith

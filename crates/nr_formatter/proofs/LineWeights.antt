@@ -11,7 +11,7 @@ use Rattle.nr_fill.specs.declared.piece.Behind.TheVariants.{Letter, Hyphen, Dash
 use Rattle.nr_fill.specs.declared.piece.Point.TheVariants as points
 use Rattle.nr_fill.specs.declared.stops.Pending.{Pending}
 use Rattle.nr_fill.specs.declared.stops.Pending.TheVariants.{Nothing, AtPoint, ForStop}
-use Rattle.nr_fill.specs.Piece.{Word, Collected, word_or_new, with_word, ended_at, ended, pending_behind, pending_soft, with_soft_point, pending_without_point, add_cell_behind, add_cell, add_blank, add_cells, marked, barred_here, joined_at, shortened, without_blanks, reads_field, append, word_length}
+use Rattle.nr_fill.specs.Piece.{Word, Collected, word_or_new, with_word, ended_at, ended, pending_after, pending_soft, with_soft_point, pending_without_point, add_cell_after, add_cell, add_blank, add_cells, marked, barred_here, joined_at, shortened, without_blanks, reads_field, append, word_length}
 use Rattle.nr_fill.specs.Tabs.{to_stop, tabbed, first_beyond, column, is_aligned, filled_by, with_field_filled}
 use Rattle.nr_fill.specs.Setting.{behind}
 use Rattle.nr_formatter.specs.Weights.{weight_of_pending, weight_of_word, weight_of_line}
@@ -21,16 +21,16 @@ use Rattle.nr_formatter.specs.Weights.{weight_of_pending, weight_of_word, weight
 weight-pending_if : (b : Bool) (p : Pending) (n : ℕ) → weight_of_pending p ≡ 0 → weight_of_pending (if b then p else Nothing) ≤ n
 weight-pending_if b p n none = cond_both b p Nothing (λ q. weight_of_pending q ≤ n) (λ _. omega arith) (λ _. omega arith)
 
-weight-pending_behind : (mark : Behind) (n : ℕ) (p : Pending) → weight_of_pending (pending_behind mark n p) ≤ weight_of_pending p
-weight-pending_behind Letter n Nothing = omega arith
-weight-pending_behind Letter n (AtPoint q) = omega arith
-weight-pending_behind Letter n (ForStop f) = omega arith
-weight-pending_behind Hyphen n Nothing = weight-pending_if (nat_lt 1 n) (AtPoint points.Hard) 0 refl
-weight-pending_behind Hyphen n (AtPoint q) = weight-pending_if (nat_lt 1 n) (AtPoint points.Hard) 0 refl
-weight-pending_behind Hyphen n (ForStop f) = omega arith
-weight-pending_behind Dash n Nothing = weight-pending_if (nat_lt 2 n) (AtPoint points.Hard) 0 refl
-weight-pending_behind Dash n (AtPoint q) = weight-pending_if (nat_lt 2 n) (AtPoint points.Hard) 0 refl
-weight-pending_behind Dash n (ForStop f) = omega arith
+weight-pending_after : (mark : Behind) (n : ℕ) (p : Pending) → weight_of_pending (pending_after mark n p) ≤ weight_of_pending p
+weight-pending_after Letter n Nothing = omega arith
+weight-pending_after Letter n (AtPoint q) = omega arith
+weight-pending_after Letter n (ForStop f) = omega arith
+weight-pending_after Hyphen n Nothing = weight-pending_if (nat_lt 1 n) (AtPoint points.Hard) 0 refl
+weight-pending_after Hyphen n (AtPoint q) = weight-pending_if (nat_lt 1 n) (AtPoint points.Hard) 0 refl
+weight-pending_after Hyphen n (ForStop f) = omega arith
+weight-pending_after Dash n Nothing = weight-pending_if (nat_lt 2 n) (AtPoint points.Hard) 0 refl
+weight-pending_after Dash n (AtPoint q) = weight-pending_if (nat_lt 2 n) (AtPoint points.Hard) 0 refl
+weight-pending_after Dash n (ForStop f) = omega arith
 
 weight-pending_soft : (n : ℕ) (p : Pending) → weight_of_pending (pending_soft n p) ≤ weight_of_pending p
 weight-pending_soft n Nothing = weight-pending_if (nat_lt 0 n) (AtPoint points.Soft) 0 refl
@@ -53,8 +53,8 @@ weight-ended_at Nothing w = omega arith
 weight-ended_at (AtPoint q) w = omega (arith, length-append w.parts (w.last ∷ []))
 weight-ended_at (ForStop f) w = omega arith
 
-weight-add_cell_behind : (behind : Behind) (x : Cell) (w : Word) → weight_of_word (Some (add_cell_behind behind x w)) ≤ weight_of_word (Some w)
-weight-add_cell_behind behind x w = omega (arith, weight-pending_behind behind (word_length (append (x ∷ []) w)) w.pending)
+weight-add_cell_after : (behind : Behind) (x : Cell) (w : Word) → weight_of_word (Some (add_cell_after behind x w)) ≤ weight_of_word (Some w)
+weight-add_cell_after behind x w = omega (arith, weight-pending_after behind (word_length (append (x ∷ []) w)) w.pending)
 
 weight-with_soft_point : (o : Option Word) → weight_of_word (option_map with_soft_point o) ≤ weight_of_word o
 weight-with_soft_point None = omega arith
@@ -70,7 +70,7 @@ pub weight-with_word : (m : Margins) (c : Collected) → weight_of_line (with_wo
 weight-with_word m c = omega (arith, weight-word_or_new c.gap c.word)
 
 pub weight-add_cell : (m : Margins) (b : Behind) (x : Cell) (c : Collected) → weight_of_line (add_cell m b x c) ≤ weight_of_line c + 175
-weight-add_cell m b x c = omega (arith, weight_of_begun c, weight-add_cell_behind b x (ended (word_or_new c.gap c.word)))
+weight-add_cell m b x c = omega (arith, weight_of_begun c, weight-add_cell_after b x (ended (word_or_new c.gap c.word)))
 
 pub weight-add_blank : (m : Margins) (c : Collected) → weight_of_line (add_blank m c) ≤ weight_of_line c + 175
 weight-add_blank m c = omega (arith, weight_of_begun c)

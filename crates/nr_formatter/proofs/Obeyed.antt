@@ -21,7 +21,7 @@ use Rattle.nr_formatter.specs.Limits.{IsWithin, limits_of}
 use Rattle.nr_formatter.specs.Registers.{change_checked, given_set, nr_checked, register_changed, register_set_by, register_value, set_checked_by}
 use Rattle.nr_formatter.specs.Lines.{break_done}
 use Rattle.nr_formatter.specs.Moves.{heard_for, task_requested}
-use Rattle.nr_formatter.specs.Many.Obeying.{acted, behind_break, behind_space, breaks_first, is_nr, is_spacing, may_act, may_obey, may_set, may_space, moves_obeying, moves_spacing, obeyed, only_sets, space_made}
+use Rattle.nr_formatter.specs.Many.Obeying.{acted, after_break, after_space, breaks_first, is_nr, is_spacing, may_act, may_obey, may_set, may_space, moves_obeying, moves_spacing, obeyed, only_sets, space_made}
 use Rattle.nr_formatter.specs.Pages.{moved_to}
 use Rattle.nr_formatter.specs.Places.{distance_below, outlet, present_place, to_read}
 use Rattle.nr_formatter.specs.Requests.{act}
@@ -221,9 +221,9 @@ pub springs_behind : (first : Bool) (f : Formatter) → (behind_by first f).spri
 springs_behind true f = refl
 springs_behind false f = refl
 
-pub event_behind : (first : Bool) (f : Formatter) → (behind_by first f).event ≡ events.Nothing
-event_behind true f = refl
-event_behind false f = refl
+pub event_after : (first : Bool) (f : Formatter) → (behind_by first f).event ≡ events.Nothing
+event_after true f = refl
+event_after false f = refl
 
 -- ---- space that is made
 
@@ -249,15 +249,15 @@ falls-space t f idle is = record { limit = refl; most = refl; falls = λ p. omeg
 -- ---- all of it
 
 -- the limits stay
-behind_break-limits : (f : Formatter) → limits_of (behind_break f) ≡ limits_of f
-behind_break-limits f =
+after_break-limits : (f : Formatter) → limits_of (after_break f) ≡ limits_of f
+after_break-limits f =
     let r = f.reader.request in
     either-limits (breaks_first f) f (break_done (thens.Act r) (heard_for (tasks.Break (thens.Act r)) f)) (heard_for (tasks.Act r) f) refl refl
 
-pub obeyed-limits : (f : Formatter) → may_act f.reader.request (behind_break f) ≡ true → may_obey f ≡ true → limits_of (obeyed f) ≡ limits_of f
+pub obeyed-limits : (f : Formatter) → may_act f.reader.request (after_break f) ≡ true → may_obey f ≡ true → limits_of (obeyed f) ≡ limits_of f
 obeyed-limits f acts may =
-    let there : obeyed f ≡ behind_space (acted f) = rw may refl in
-    ap limits_of there ∙ space-limits (acted f).task (acted f) ∙ (acts-act f.reader.request (behind_break f) acts).limits ∙ behind_break-limits f
+    let there : obeyed f ≡ after_space (acted f) = rw may refl in
+    ap limits_of there ∙ space-limits (acted f).task (acted f) ∙ (acts-act f.reader.request (after_break f) acts).limits ∙ after_break-limits f
 
 -- each move takes off one
 falls-acted : (first : Bool) (f : Formatter) → breaks_first f ≡ first → f.event ≡ events.Request → Falls (if first then 3 else 2) 0 f (act f.reader.request (behind_by first f))
@@ -275,10 +275,10 @@ falls-acted false f b is =
     let hears : Falls 1 0 f g = subst (λ t. Falls 1 0 f (heard_for t f)) task (falls-control events.Request f is (λ e. let wrong : ⊥ = cc in wrong)) in
     falls-then 1 0 1 0 f g (act r g) hears (falls-act r g refl refl)
 
-pub falls-obeyed : (f : Formatter) → f.event ≡ events.Request → may_act f.reader.request (behind_break f) ≡ true → may_obey f ≡ true → Falls (moves_obeying f) 0 f (obeyed f)
+pub falls-obeyed : (f : Formatter) → f.event ≡ events.Request → may_act f.reader.request (after_break f) ≡ true → may_obey f ≡ true → Falls (moves_obeying f) 0 f (obeyed f)
 falls-obeyed f is acts may =
-    let idle : (acted f).event ≡ events.Nothing = (acts-act f.reader.request (behind_break f) acts).event ∙ event_behind (breaks_first f) f in
+    let idle : (acted f).event ≡ events.Nothing = (acts-act f.reader.request (after_break f) acts).event ∙ event_after (breaks_first f) f in
     let moves : ℕ = if breaks_first f then 3 else 2 in
-    let falls : Falls (moves + moves_spacing (acted f)) 0 f (behind_space (acted f)) =
-    falls-then moves 0 (moves_spacing (acted f)) 0 f (acted f) (behind_space (acted f)) (falls-acted (breaks_first f) f refl is) (falls-space (acted f).task (acted f) idle refl) in
+    let falls : Falls (moves + moves_spacing (acted f)) 0 f (after_space (acted f)) =
+    falls-then moves 0 (moves_spacing (acted f)) 0 f (acted f) (after_space (acted f)) (falls-acted (breaks_first f) f refl is) (falls-space (acted f).task (acted f) idle refl) in
     rw may falls

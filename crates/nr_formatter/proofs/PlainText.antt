@@ -22,7 +22,7 @@ use Rattle.nr_formatter.specs.declared.tasks.After.TheVariants as afters
 use Rattle.nr_formatter.specs.declared.tasks.Task.{Task}
 use Rattle.nr_formatter.specs.declared.tasks.Task.TheVariants as tasks
 use Rattle.nr_formatter.specs.Access.{collected, done, is_filling, with_collected}
-use Rattle.nr_formatter.specs.Lines.{breaks_behind, pointed, reads_a_field}
+use Rattle.nr_formatter.specs.Lines.{breaks_after, pointed, reads_a_field}
 use Rattle.nr_formatter.specs.Moves.{heard}
 use Rattle.nr_formatter.specs.Many.Runs.{IsInLine, is_in_line, reads_next, run_put, gaps_plainly, gapped, gap_flows, is_rereading_line, IsRereadingLine}
 use Rattle.nr_formatter.specs.Places.{outlet, is_on_page}
@@ -144,20 +144,20 @@ unfolding text_byte blank
 blank_heard f ends mode = rw (mode, ends.filling, ends.field) refl
 
 -- with what is collected where the word ends
-abbrev gap_behind : Collected → Formatter → Formatter
-gap_behind c f = record (with_collected (one_blank_more (end_word c)) f) {
+abbrev gap_after : Collected → Formatter → Formatter
+gap_after c f = record (with_collected (one_blank_more (end_word c)) f) {
   event = events.Nothing;
-  breaks = f.breaks && not (breaks_behind f);
-  task = if has_word f then tasks.Flow afters.Text (breaks_behind f) else tasks.Read;
+  breaks = f.breaks && not (breaks_after f);
+  task = if has_word f then tasks.Flow afters.Text (breaks_after f) else tasks.Read;
 }
 
-gap_behind-is : (f : Formatter) → EndsWord f → gap_behind (collected f) f ≡ done (gap_flows f)
-gap_behind-is f ends = rw (ends.word, ends.breaks) refl
+gap_after-is : (f : Formatter) → EndsWord f → gap_after (collected f) f ≡ done (gap_flows f)
+gap_after-is f ends = rw (ends.word, ends.breaks) refl
 
 -- the blank is heard as the word's end
 pub heard-gap : (f : Formatter) → EndsWord f → f.reader.half.reading.mode ≡ modes.Text → heard (events.Byte (code " ")) f ≡ done (gap_flows f)
 heard-gap f ends mode =
-    blank_heard f ends mode ∙ ap (λ c. gap_behind c f) (pointed-plain f ends.filling ends.words) ∙ gap_behind-is f ends
+    blank_heard f ends mode ∙ ap (λ c. gap_after c f) (pointed-plain f ends.filling ends.words) ∙ gap_after-is f ends
 
 -- the word becomes pieces, which weigh less
 pub weight-gap : (c : Collected) → weight_of_line (gapped c) ≤ weight_of_line c

@@ -20,7 +20,7 @@ use Rattle.nr_formatter.specs.Access.{collected, is_filling, asked, cell, margin
 use Rattle.nr_formatter.specs.Lines.{reads_a_field, field_ended}
 use Rattle.nr_formatter.specs.Motions.{motion_cells, rule_cells}
 use Rattle.nr_formatter.specs.Moves.{is_text}
-use Rattle.nr_formatter.specs.Text.{put, behind_of, blank_cell, has_word, gap_blank, blank, tab, text_byte, dash, dash_end, special_at, special, cells, mark, percent, break_word, blanks_dropped, word_line_ended, trimmed_end, line_end, text}
+use Rattle.nr_formatter.specs.Text.{put, after_of, blank_cell, has_word, gap_blank, blank, tab, text_byte, dash, dash_end, special_at, special, cells, mark, percent, break_word, blanks_dropped, word_line_ended, trimmed_end, line_end, text}
 use Rattle.nr_formatter.specs.Titles.{with_title_cells, titled, title_byte, printed, title_special, title_dash_end, title}
 use Rattle.nr_formatter.specs.Weights.{weight_of_line, weight_of_event, weight_of_agenda, weight_of_task, owed_by_task, Falls}
 use Rattle.nr_formatter.proofs.WorkFalls.{falls-work, falls-behind, falls-heard_for, falls-heard}
@@ -80,7 +80,7 @@ falls-text_byte b f is =
     cond_both (b == code " ") _ _ (λ g. Falls 1 0 f g) (λ _. falls-blank f is)
     (λ _. cond_both (b == code "\t") _ _ (λ g. Falls 1 0 f g) (λ _. falls-tab f.settings.tabs.tab f is)
     (λ _. cond_both (b == 1) _ _ (λ g. Falls 1 0 f g) (λ _. falls-tab f.settings.tabs.leader f is)
-    (λ _. cond_both (prints b) _ _ (λ g. Falls 1 0 f g) (λ _. falls-put (cell b f) (behind_of b) f is) (λ _. falls-done f (omega arith)))))
+    (λ _. cond_both (prints b) _ _ (λ g. Falls 1 0 f g) (λ _. falls-put (cell b f) (after_of b) f is) (λ _. falls-done f (omega arith)))))
 
 -- ---- escapes
 

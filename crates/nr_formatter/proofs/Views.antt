@@ -10,7 +10,7 @@ use Rattle.nr_store.specs.declared.element.Diversion.{Diversion}
 use Rattle.nr_store.specs.declared.element.Element.{Element}
 use Rattle.nr_store.specs.declared.register.Register.{Register}
 use Rattle.nr_store.specs.Store.{Stored, Built, Level, Means, begun, moved, renamed, written, worded, trapped, on_newest, named_newest, newest_diversion, ended_by, diversion_ended}
-use Rattle.nr_settings.specs.Arguments.{word_in, behind_word}
+use Rattle.nr_settings.specs.Arguments.{word_in, after_word}
 use Rattle.nr_reading.specs.declared.event.Event.{Event}
 use Rattle.nr_formatter.specs.declared.formatter.Formatter.{Formatter}
 use Rattle.nr_formatter.specs.declared.tasks.Resume.{Resume}
@@ -93,7 +93,7 @@ pub seen-with_words : (n : ℕ) (line : List ℕ) (v : Stored Resume) → seen (
 seen-with_words zero line v = refl
 seen-with_words (suc n) line v =
     let w = worded (word_in line) v in
-    seen-if (length (word_in line) == 0) v v (with_words n (behind_word line) w) refl (seen-with_words n (behind_word line) w ∙ seen-worded (word_in line) v)
+    seen-if (length (word_in line) == 0) v v (with_words n (after_word line) w) refl (seen-with_words n (after_word line) w ∙ seen-worded (word_in line) v)
 
 -- ---- texts being built
 

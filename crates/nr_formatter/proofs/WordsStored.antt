@@ -6,20 +6,20 @@ use Rattle.std.proofs.Common.{◌≡◌, ◌∷◌, ℕ, zero, suc, ◌+◌, ◌
 use Rattle.nr_symbol_tables.specs.Word.{word_weight, word_of}
 use Rattle.nr_store.specs.declared.refusal.StoredBytes.{StoredBytes}
 use Rattle.nr_store.specs.Store.{Stored, afforded, charge_of, worded}
-use Rattle.nr_settings.specs.Arguments.{word_in, behind_word}
+use Rattle.nr_settings.specs.Arguments.{word_in, after_word}
 use Rattle.nr_formatter.specs.Names.{with_words}
 
 -- one word more
 pub words-more : {K : Type 0} (n i : ℕ) (line : List ℕ) (v : Stored K) → i < n → length (word_in line) == 0 ≡ false
-    → with_words (n - i) line v ≡ with_words (n - (i + 1)) (behind_word line) (worded (word_in line) v)
+    → with_words (n - i) line v ≡ with_words (n - (i + 1)) (after_word line) (worded (word_in line) v)
 words-more {K} n i line v less some =
     let one : n - i ≡ suc (n - (i + 1)) = omega arith in
-    ap (λ k. with_words k line v) one ∙ cond-false (length (word_in line) == 0) v (with_words (n - (i + 1)) (behind_word line) (worded (word_in line) v)) some
+    ap (λ k. with_words k line v) one ∙ cond-false (length (word_in line) == 0) v (with_words (n - (i + 1)) (after_word line) (worded (word_in line) v)) some
 
 -- no word more
 words-none_by : {K : Type 0} (n : ℕ) (line : List ℕ) (v : Stored K) → length (word_in line) == 0 ≡ true → with_words n line v ≡ v
 words-none_by zero line v none = refl
-words-none_by (suc n) line v none = cond-true (length (word_in line) == 0) v (with_words n (behind_word line) (worded (word_in line) v)) none
+words-none_by (suc n) line v none = cond-true (length (word_in line) == 0) v (with_words n (after_word line) (worded (word_in line) v)) none
 
 pub words-none : {K : Type 0} (n i : ℕ) (line : List ℕ) (v : Stored K) → length (word_in line) == 0 ≡ true → with_words (n - i) line v ≡ v
 words-none n i line v none = words-none_by (n - i) line v none
@@ -45,14 +45,14 @@ charge-words : {K : Type 0} (n : ℕ) (line : List ℕ) (v : Stored K) → charg
 charge-words zero line v = omega arith
 charge-words (suc n) line v =
     let w = worded (word_in line) v in
-    charged-if (length (word_in line) == 0) v v (with_words n (behind_word line) w) (omega arith)
-    (let one = charge-worded (word_in line) v in let more = charge-words n (behind_word line) w in omega (arith, one, more))
+    charged-if (length (word_in line) == 0) v v (with_words n (after_word line) w) (omega arith)
+    (let one = charge-worded (word_in line) v in let more = charge-words n (after_word line) w in omega (arith, one, more))
 
 limit-words : {K : Type 0} (n : ℕ) (line : List ℕ) (v : Stored K) → (with_words n line v).limit ≡ v.limit
 limit-words zero line v = refl
 limit-words (suc n) line v =
     let w = worded (word_in line) v in
-    limit-if (length (word_in line) == 0) v v (with_words n (behind_word line) w) refl (limit-words n (behind_word line) w ∙ limit-worded (word_in line) v)
+    limit-if (length (word_in line) == 0) v v (with_words n (after_word line) w) refl (limit-words n (after_word line) w ∙ limit-worded (word_in line) v)
 
 -- ---- what refuses one word refuses all
 
@@ -82,14 +82,14 @@ pub words-refused : {K : Type 0} (n i : ℕ) (line word : List ℕ) (v w : Store
 words-refused {K} n i line word v w e less some first all is =
     let u = worded (word_in line) v in
     let none : length (word_in line) == 0 ≡ false = rw (← first) some in
-    let one : with_words (n - (i + 1)) (behind_word line) u ≡ w = sym (words-more n i line v less none) ∙ all in
+    let one : with_words (n - (i + 1)) (after_word line) u ≡ w = sym (words-more n i line v less none) ∙ all in
     let alone : Err e ≡ afforded u (tt {0}) = is ∙ ap (λ (x : List ℕ). afforded (worded x v) (tt {0})) first in
-    let refused : Err e ≡ afforded (with_words (n - (i + 1)) (behind_word line) u) (tt {0}) =
-    refused-more u (with_words (n - (i + 1)) (behind_word line) u) e alone (charge-words (n - (i + 1)) (behind_word line) u) (limit-words (n - (i + 1)) (behind_word line) u) in
+    let refused : Err e ≡ afforded (with_words (n - (i + 1)) (after_word line) u) (tt {0}) =
+    refused-more u (with_words (n - (i + 1)) (after_word line) u) e alone (charge-words (n - (i + 1)) (after_word line) u) (limit-words (n - (i + 1)) (after_word line) u) in
     refused ∙ ap (λ (x : Stored K). afforded x (tt {0})) one
 
 -- and after one that is stored
-pub words-kept : {K : Type 0} (n i : ℕ) (line rest word : List ℕ) (v u w : Stored K) → i < n → length word == 0 ≡ false → word ≡ word_in line → rest ≡ behind_word line
+pub words-kept : {K : Type 0} (n i : ℕ) (line rest word : List ℕ) (v u w : Stored K) → i < n → length word == 0 ≡ false → word ≡ word_in line → rest ≡ after_word line
     → u ≡ worded word v → with_words (n - i) line v ≡ w → with_words (n - (i + 1)) rest u ≡ w
 words-kept {K} n i line rest word v u w less some first left new all =
     let none : length (word_in line) == 0 ≡ false = rw (← first) some in

@@ -16,7 +16,7 @@ use Rattle.nr_formatter.specs.Places.{lowest, present_place, diversion_room}
 use Rattle.nr_formatter.specs.Pages.{without_no_space}
 use Rattle.nr_formatter.specs.declared.lines.Going.{Going}
 use Rattle.nr_formatter.specs.DiversionRow.{diverted_cells}
-use Rattle.nr_formatter.specs.Lines.{row_going, behind_line}
+use Rattle.nr_formatter.specs.Lines.{row_going, after_line}
 use Rattle.nr_formatter.specs.Titles.{title_row, title_set}
 
 -- ---- lines go into a diversion
@@ -43,7 +43,7 @@ with_diverted_row cells f = with_diverted 0 cells (spacing f) (without_no_space 
 
 -- the line that goes out next goes in: its indent as blanks, no page offset
 abbrev pub divert_line : Going → Formatter → Formatter
-divert_line going f = with_diverted_row (diverted_cells (row_going going 0 f)) (behind_line going f)
+divert_line going f = with_diverted_row (diverted_cells (row_going going 0 f)) (after_line going f)
 
 -- and so does the title that was read
 abbrev pub divert_title : Formatter → Formatter

@@ -7,9 +7,9 @@ use Rattle.nr_fill.specs.Tabs.{with_field_filled}
 use Rattle.nr_fill.specs.Cutting.{fits}
 use Rattle.nr_fill.specs.Setting.{behind, cut_of, line_row, set_width}
 use Rattle.nr_settings.specs.declared.filling.Align.TheVariants as aligns
-use Rattle.nr_settings.specs.Filling.{align_of, behind_centred_line}
-use Rattle.nr_settings.specs.Fonts.{behind_underlined_line}
-use Rattle.nr_settings.specs.Indents.{behind_line_begun, margins_of}
+use Rattle.nr_settings.specs.Filling.{align_of, after_centred_line}
+use Rattle.nr_settings.specs.Fonts.{after_underlined_line}
+use Rattle.nr_settings.specs.Indents.{after_line_begun, margins_of}
 use Rattle.nr_settings.specs.declared.indents.Indents.{Indents}
 use Rattle.nr_settings.specs.declared.settings.Settings.{Settings}
 use Rattle.nr_symbol_tables.specs.Word.{bytes_of, points_of}
@@ -52,12 +52,12 @@ pointed f =
     then with_points (given_points f) (collected f) else collected f)
 
 -- `\p` asks for a break at the end of the word that is being read
-abbrev pub breaks_behind : Formatter → Bool
-breaks_behind f = f.breaks && not (is_none (collected f).word)
+abbrev pub breaks_after : Formatter → Bool
+breaks_after f = f.breaks && not (is_none (collected f).word)
 
 -- the word, if there is one, becomes pieces of the line
 abbrev pub word_ended : Formatter → Formatter
-word_ended f = record (with_collected (end_word (pointed f)) f) { breaks = f.breaks && not (breaks_behind f) }
+word_ended f = record (with_collected (end_word (pointed f)) f) { breaks = f.breaks && not (breaks_after f) }
 
 -- the text for a right or centring stop ends
 abbrev pub field_ended : Formatter → Formatter
@@ -132,16 +132,16 @@ abbrev pub rest_behind : Going → Formatter → Collected
 rest_behind going f = rest_of going f.settings.indents (collected f)
 
 -- a line went out: where something is left, if only an open word, a `.ti` is used up
-abbrev pub settings_behind : Going → Collected → Settings → Settings
-settings_behind going c s = record s {
-  indents = if begins_line (rest_of going s.indents c) then s.indents else behind_line_begun s.indents;
+abbrev pub settings_after : Going → Collected → Settings → Settings
+settings_after going c s = record s {
+  indents = if begins_line (rest_of going s.indents c) then s.indents else after_line_begun s.indents;
   text_width = min (24 * width_going going c) greatest;
 }
 
-abbrev pub behind_line : Going → Formatter → Formatter
-behind_line going f =
+abbrev pub after_line : Going → Formatter → Formatter
+after_line going f =
     record (with_collected (rest_behind going f) f)
-    { settings = settings_behind going (collected f) f.settings }
+    { settings = settings_after going (collected f) f.settings }
 
 -- ---- where nothing more goes out
 
@@ -164,21 +164,21 @@ task_of thens.Diverted f = tasks.Room rooms.Line
 task_of thens.Finish f = tasks.Finish
 
 -- the step of the end after one of its breaks
-abbrev pub behind_end_break : Step → Step
-behind_end_break steps.FirstBreak = steps.Macro
-behind_end_break steps.SecondBreak = steps.Diversions
-behind_end_break s = s
+abbrev pub after_end_break : Step → Step
+after_end_break steps.FirstBreak = steps.Macro
+after_end_break steps.SecondBreak = steps.Diversions
+after_end_break s = s
 
-abbrev pub step_behind : Then → Step → Step
-step_behind thens.Finish s = behind_end_break s
-step_behind t s = s
+abbrev pub step_after : Then → Step → Step
+step_after thens.Finish s = after_end_break s
+step_after t s = s
 
 -- A break drops a `\p` that waits for a word, and ends what `\c` continues.
 abbrev pub break_done : Then → Formatter → Formatter
 break_done t f = record f {
   breaks = false;
   reader = on_half not_continued f.reader;
-  step = step_behind t f.step;
+  step = step_after t f.step;
   task = task_of t f;
 }
 
@@ -188,16 +188,16 @@ break_done t f = record f {
 abbrev pub count : Formatter → Formatter
 count f = record f {
   settings = record f.settings {
-    filling = behind_centred_line f.settings.filling;
-    fonts = behind_underlined_line f.settings.fonts;
+    filling = after_centred_line f.settings.filling;
+    fonts = after_underlined_line f.settings.fonts;
   };
   task = tasks.InputTrap;
 }
 
 -- by `.it`, whose macro springs after the last
-abbrev pub input_trap_behind : Option InputTrap → Option InputTrap
-input_trap_behind None = None
-input_trap_behind (Some t) = if nat_le t.lines 1 then None else Some (record t { lines = t.lines - 1 })
+abbrev pub input_trap_after : Option InputTrap → Option InputTrap
+input_trap_after None = None
+input_trap_after (Some t) = if nat_le t.lines 1 then None else Some (record t { lines = t.lines - 1 })
 
 abbrev pub input_macro : Option InputTrap → Option (List ℕ) → Option (List ℕ)
 input_macro None waiting = waiting
@@ -206,7 +206,7 @@ input_macro (Some t) waiting = if nat_le t.lines 1 then Some t.name else waiting
 abbrev pub count_input : Formatter → Formatter
 count_input f =
     record f {
-      input_trap = input_trap_behind f.input_trap;
+      input_trap = input_trap_after f.input_trap;
       springs = input_macro f.input_trap f.springs;
       task = tasks.Read;
     }

@@ -1,7 +1,7 @@
 -- Names and what they stand for; control characters; hyphenation words. (CSTR 54, sections 7, 10 and 13; groff manual, `.cp`.)
 use Rattle.std.specs.Prelude.{ℕ, zero, suc, ◌==◌, if◌then◌else◌, List, [], length, Option, None, Some, unwrap_or}
 use Rattle.nr_store.specs.Store.{Stored, removed, renamed, worded}
-use Rattle.nr_settings.specs.Arguments.{name_in, behind_name, word_in, behind_word}
+use Rattle.nr_settings.specs.Arguments.{name_in, behind_name, word_in, after_word}
 use Rattle.nr_settings.specs.Characters as characters
 use Rattle.nr_reading.specs.Setting.{defining, with_control, with_no_break, with_long_names}
 use Rattle.nr_input.specs.declared.splicing.Definition.{Definition}
@@ -85,7 +85,7 @@ cp f = to_read (record f { reader = on_half (with_long_names (characters.cp (lin
 abbrev pub with_words : {K : Type 0} → ℕ → List ℕ → Stored K → Stored K
 with_words zero line v = v
 with_words (suc most) line v =
-    if length (word_in line) == 0 then v else with_words most (behind_word line) (worded (word_in line) v)
+    if length (word_in line) == 0 then v else with_words most (after_word line) (worded (word_in line) v)
 
 -- `.hw w ..`: all words of its line
 abbrev pub hw : Formatter → Formatter

@@ -81,12 +81,12 @@ page_begun f = record f {
 -- ---- ending
 
 -- the number after 2147483647 is that again
-abbrev pub number_behind : Option ℤ → ℤ → ℤ
-number_behind None n = if int_lt n (pos 2147483647) then n +ℤ pos 1 else n
-number_behind (Some m) n = m
+abbrev pub number_after : Option ℤ → ℤ → ℤ
+number_after None n = if int_lt n (pos 2147483647) then n +ℤ pos 1 else n
+number_after (Some m) n = m
 
 abbrev pub following : Paper → ℤ
-following p = number_behind p.next p.number
+following p = number_after p.next p.number
 
 abbrev pub task_ejected : Ejected → Task
 task_ejected ejecteds.Request = tasks.Read

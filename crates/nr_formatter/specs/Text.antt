@@ -6,7 +6,7 @@ use Rattle.nr_fill.specs.declared.piece.Behind.{Behind}
 use Rattle.nr_fill.specs.declared.piece.Behind.TheVariants.{Letter, Hyphen, Dash}
 use Rattle.nr_fill.specs.Piece.{Collected, begins_line, add_cell, add_cells, add_blank, marked, barred_here, one_blank_more, after_newline, without_blanks}
 use Rattle.nr_fill.specs.Tabs.{tabbed}
-use Rattle.nr_settings.specs.Indents.{behind_line_begun}
+use Rattle.nr_settings.specs.Indents.{after_line_begun}
 use Rattle.nr_settings.specs.Characters.{prints}
 use Rattle.nr_settings.specs.Specials.{special_of, byte_of}
 use Rattle.nr_settings.specs.declared.indents.Margins.{Margins}
@@ -19,7 +19,7 @@ use Rattle.nr_formatter.specs.declared.tasks.After.TheVariants as afters
 use Rattle.nr_formatter.specs.declared.tasks.Task.TheVariants as tasks
 use Rattle.nr_formatter.specs.declared.formatter.Formatter.{Formatter}
 use Rattle.nr_formatter.specs.Access.{collected, with_collected, done, is_filling, cell, margins, asked}
-use Rattle.nr_formatter.specs.Lines.{breaks_behind, field_ended, reads_a_field, word_ended}
+use Rattle.nr_formatter.specs.Lines.{breaks_after, field_ended, reads_a_field, word_ended}
 use Rattle.nr_formatter.specs.Motions.{motion_cells, rule_cells}
 use Rattle.nr_formatter.specs.Titles.{reads_title, title_dash_end}
 
@@ -30,7 +30,7 @@ abbrev pub line_begun : Formatter → Formatter
 line_begun f = record f {
   settings =
       record f.settings {
-        indents = if begins_line (collected f) then behind_line_begun f.settings.indents
+        indents = if begins_line (collected f) then after_line_begun f.settings.indents
             else f.settings.indents;
       };
 }
@@ -44,11 +44,11 @@ abbrev pub put : Cell → Behind → Formatter → Formatter
 put x behind f = to_word (λ m. add_cell m behind x) f
 
 -- a `-` has a break point after it
-abbrev pub behind_of : ℕ → Behind
-behind_of byte = if byte == code "-" then Hyphen else Letter
+abbrev pub after_of : ℕ → Behind
+after_of byte = if byte == code "-" then Hyphen else Letter
 
 abbrev pub character : ℕ → Formatter → Formatter
-character b f = put (cell b f) (behind_of b) f
+character b f = put (cell b f) (after_of b) f
 
 abbrev pub letter : ℕ → Formatter → Formatter
 letter b f = put (cell b f) Letter f
@@ -68,7 +68,7 @@ gap_blank f =
     let g = word_ended f in
     record (with_collected (one_blank_more (collected g)) g) {
       event = events.Nothing;
-      task = if has_word f then tasks.Flow afters.Text (breaks_behind f) else tasks.Read;
+      task = if has_word f then tasks.Flow afters.Text (breaks_after f) else tasks.Read;
     }
 
 -- In no-fill mode and where lines are centred a blank is a cell. Text for a stop ends first.
@@ -152,7 +152,7 @@ word_line_ended after f =
     let g = word_ended f in
     record (with_collected (after_newline (collected g)) g) {
       event = events.Nothing;
-      task = tasks.Flow after (breaks_behind f);
+      task = tasks.Flow after (breaks_after f);
     }
 
 abbrev pub trimmed_end : After → Formatter → Formatter

@@ -8,7 +8,7 @@ ghost use Rattle.nr_store.specs.Store.{Stored, afforded, charge_of, diverted};
 ghost use Rattle.nr_fill.specs.Piece.{without_title};
 ghost use Rattle.nr_fill.specs.Title.{titled_row};
 ghost use Rattle.nr_formatter.specs.Limits.{stored_limits};
-ghost use Rattle.nr_formatter.specs.Lines.{row_of, rest_of, settings_behind};
+ghost use Rattle.nr_formatter.specs.Lines.{row_of, rest_of, settings_after};
 ghost use Rattle.nr_formatter.specs.declared.tasks.Resume.{Resume as ResumeValue};
 ghost use Rattle.nr_formatter.specs.DiversionRow.{AddsToDiversion, AddsToDiversion-both, AddsToDiversion-nothing, EndsRow, HoldsRow, diverted_cells, is_faced_blank, with_cells};
 
@@ -73,7 +73,7 @@ fn ends_row(cells: &[Cell]) -> bool
 }
 
 /// Adds so many blanks and cells after them, and tells what the store is charged then.
-fn add_behind(store: &mut Store<Resume>, blanks: usize, cells: &[Cell]) -> Result<u32, StoredBytes>
+fn add_after(store: &mut Store<Resume>, blanks: usize, cells: &[Cell]) -> Result<u32, StoredBytes>
     ensures result { result ≡ afforded (with_cells (replicate blanks blank ++ cells.now) store.old)
         (charge_of (with_cells (replicate blanks blank ++ cells.now) store.old)) }
     ensures ok { OnOk result (store.new ≡ with_cells (replicate blanks blank ++ cells.now) store.old) }
@@ -112,7 +112,7 @@ impl<'b> DiversionRow<'b> {
         if self.refused {
             return;
         }
-        match add_behind(self.store, self.blanks, cells) {
+        match add_after(self.store, self.blanks, cells) {
             Ok(_charge) => self.blanks = 0,
             Err(StoredBytes) => self.refused = true,
         }
@@ -214,7 +214,7 @@ pub(crate) fn divert_going(
     ensures limits { stored_limits store.new ≡ stored_limits store.old }
     ensures line { line.new ≡ record line.old
         { collected = rest_of going settings.old.indents line.old.collected } }
-    ensures settings { settings.new ≡ settings_behind going line.old.collected settings.old }
+    ensures settings { settings.new ≡ settings_after going line.old.collected settings.old }
 {
     let charge = store.charge();
     let mut row = DiversionRow {

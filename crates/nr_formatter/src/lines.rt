@@ -4,7 +4,7 @@ ghost use Rattle.nr_fill.specs.Line.{afforded};
 ghost use Rattle.nr_reading.specs.declared.event.Event.TheVariants as events;
 ghost use Rattle.nr_formatter.specs.Access.{collected, with_collected};
 ghost use Rattle.nr_formatter.specs.Limits.{limits_of};
-ghost use Rattle.nr_formatter.specs.Lines.{with_points, most_points, pointed, breaks_behind, word_ended, break_word_end, goes_out, whole_line, front_line, flow_line, break_line, row_of, row_going, rest_of, settings_behind, behind_line, task_after, flow_done, task_of, step_behind, break_done, count, count_input};
+ghost use Rattle.nr_formatter.specs.Lines.{with_points, most_points, pointed, breaks_after, word_ended, break_word_end, goes_out, whole_line, front_line, flow_line, break_line, row_of, row_going, rest_of, settings_after, after_line, task_after, flow_done, task_of, step_after, break_done, count, count_input};
 ghost use Rattle.nr_formatter.specs.Weights.{Falls};
 
 use crate::formatter::{Formatter, InputTrap};
@@ -56,7 +56,7 @@ pub(crate) fn set_going<S: CellSink>(
     ensures out { S.Adds out.old (row_of going offset line.old.collected) out.new }
     ensures line { line.new ≡ record line.old
         { collected = rest_of going settings.old.indents line.old.collected } }
-    ensures settings { settings.new ≡ settings_behind going line.old.collected settings.old }
+    ensures settings { settings.new ≡ settings_after going line.old.collected settings.old }
 {
     let setting = Setting {
         align: going.align,
@@ -95,8 +95,8 @@ impl After {
 
 impl Then {
     /// The step of the end after this break.
-    fn step_behind(self, step: Step) -> Step
-        ensures { result ≡ step_behind self step }
+    fn step_after(self, step: Step) -> Step
+        ensures { result ≡ step_after self step }
     {
         match (self, step) {
             (Then::Finish, Step::FirstBreak) => Step::Macro,
@@ -123,8 +123,8 @@ impl Formatter {
     }
 
     /// Whether `\p` asks for a break at the end of the word that is being read.
-    pub(crate) fn breaks_behind(&self) -> bool
-        ensures { result ≡ breaks_behind self.now }
+    pub(crate) fn breaks_after(&self) -> bool
+        ensures { result ≡ breaks_after self.now }
     {
         self.breaks && self.line.has_word()
     }
@@ -135,7 +135,7 @@ impl Formatter {
         ensures ok { OnOk result (self.new ≡ word_ended self.old) }
         ensures limits { limits_of self.new ≡ limits_of self.old }
     {
-        let breaks = self.breaks && !self.breaks_behind();
+        let breaks = self.breaks && !self.breaks_after();
         self.point_word();
         self.line.end_word()?;
         self.breaks = breaks;
@@ -221,7 +221,7 @@ impl Formatter {
     pub fn set_line<S: CellSink>(&mut self, going: Going, offset: u32, out: &mut S)
         requires { 0 < length (collected self.old).pieces }
         ensures out { S.Adds out.old (row_going going offset self.old) out.new }
-        ensures rest { self.new ≡ behind_line going self.old }
+        ensures rest { self.new ≡ after_line going self.old }
         ensures falls { Falls 5 0 self.old self.new }
     {
         set_going(&mut self.line, &mut self.settings, going, offset, out);
@@ -237,7 +237,7 @@ impl Formatter {
     }
 
     /// What a break was for.
-    fn behind_break(&self, then: Then) -> Task
+    fn after_break(&self, then: Then) -> Task
         ensures { result ≡ task_of then self.now }
     {
         match then {
@@ -257,8 +257,8 @@ impl Formatter {
     {
         self.breaks = false;
         self.reader.end_continuing();
-        self.step = then.step_behind(self.step);
-        self.task = self.behind_break(then);
+        self.step = then.step_after(self.step);
+        self.task = self.after_break(then);
     }
 
     /// A text line is counted by `.ce` and `.ul`.

@@ -83,7 +83,7 @@ impl Formatter {
         ensures limits { limits_of self.new ≡ limits_of self.old }
     {
         let task = if self.line.has_word() {
-            Task::Flow(After::Text, self.breaks_behind())
+            Task::Flow(After::Text, self.breaks_after())
         } else {
             Task::Read
         };
@@ -270,7 +270,7 @@ impl Formatter {
         if self.line.has_field() {
             return self.line.end_field();
         }
-        let breaks = self.breaks_behind();
+        let breaks = self.breaks_after();
         self.end_word()?;
         self.line.newline_gap();
         self.event = Event::Nothing;

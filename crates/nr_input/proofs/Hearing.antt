@@ -14,7 +14,7 @@ use Rattle.nr_input.specs.declared.reader.Reader.{Reader}
 use Rattle.nr_input.specs.declared.told.Told.{Told}
 use Rattle.nr_input.specs.Acting.{is_look}
 use Rattle.nr_input.specs.Place.{Coming, Reached, HoldsComing, MayLook, front, behind}
-use Rattle.nr_input.specs.Moving.{Situation, situation, Move, told_of, taken_at, met_at, look, acted_at, move, burst_past, burst_behind, Stands, Goes, GoesBy}
+use Rattle.nr_input.specs.Moving.{Situation, situation, Move, told_of, taken_at, met_at, look, acted_at, move, burst_past, burst_after, Stands, Goes, GoesBy}
 use Rattle.nr_input.specs.Told.{heard_of, told_as}
 
 pub heard_is : {K : Type 0} → (s : Sight) (mode : K) (e : Event) → told_as mode (heard_of s e) ≡ told_of (shown_with s mode) e
@@ -42,7 +42,7 @@ module _ {K : Type 0} (v : Stored K) (r : Reader) (c : Coming) (k : Half) (e : E
       → (t ≡ (move at).told) × Stands (move at).situation w (record r { half = k; burst = burst }) n supply × Goes at
   taken_moves q n f w t burst before supply looks is holds may meets store coming burst_is told =
       let there = moved_is looks (meets ∙ ap (λ g. meet g r.half) is) in
-      let burst_at : burst ≡ burst_behind c (behind (shown v.levels) c) r.burst = burst_is ∙ ap₂ (λ a b. burst_past a b r.burst) holds.taken coming.taken in
+      let burst_at : burst ≡ burst_after c (behind (shown v.levels) c) r.burst = burst_is ∙ ap₂ (λ a b. burst_past a b r.burst) holds.taken coming.taken in
       let stands : Stands (taken_at seen at).situation w (record r { half = k; burst = burst }) n supply = record {
         stored = store;
         reader = ap (λ b. record r { half = k; burst = b }) burst_at;

@@ -14,7 +14,7 @@ use Rattle.nr_reading.specs.declared.mode.Due.TheVariants as dues
 use Rattle.nr_input.specs.declared.reader.Reader.{Reader}
 use Rattle.nr_input.specs.declared.refusal.Refusal.{Refusal}
 use Rattle.nr_input.specs.declared.refusal.Refusal.TheVariants as refusals
-use Rattle.nr_input.specs.Acting.{act, splicing, has_text, name_in, meaning_in, behind_meaning, expanded}
+use Rattle.nr_input.specs.Acting.{act, splicing, has_text, name_in, meaning_in, after_meaning, expanded}
 use Rattle.nr_input.specs.Limits.{Limits, limits_of}
 use Rattle.nr_input.specs.Refusal.{Called, called, called_by, answer, acted, splicing_answer}
 use Rattle.nr_input.specs.Splicing.{giving}
@@ -45,7 +45,7 @@ written-limits : {K : Type 0} (x : Option Register) (name : List ℕ) (v : Store
 written-limits None name v r = refl
 written-limits (Some x) name v r = refl
 
-meaning-limits : {K : Type 0} (m : Meaning) (v : Stored K) (r : Reader) → limits_of (behind_meaning m v) r ≡ limits_of v r
+meaning-limits : {K : Type 0} (m : Meaning) (v : Stored K) (r : Reader) → limits_of (after_meaning m v) r ≡ limits_of v r
 meaning-limits meanings.Text v r = refl
 meaning-limits m v r = refl
 

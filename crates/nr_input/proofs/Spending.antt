@@ -39,7 +39,7 @@ use Rattle.nr_input.specs.declared.reader.Reader.{Reader}
 use Rattle.nr_input.specs.declared.refusal.Refusal.{Refusal}
 use Rattle.nr_input.specs.declared.refusal.Refusal.TheVariants as refusals
 use Rattle.nr_input.specs.declared.told.Told.TheVariants as tells
-use Rattle.nr_input.specs.Acting.{Acted, done, then_due, idle, splicing, name_in, base_of, behind_held, naming, splicing_bytes, register_text, calls_of, request_of, meaning_in, behind_meaning, act}
+use Rattle.nr_input.specs.Acting.{Acted, done, then_due, idle, splicing, name_in, base_of, after_held, naming, splicing_bytes, register_text, calls_of, request_of, meaning_in, after_meaning, act}
 use Rattle.nr_input.specs.Refusal.{answer, splicing_by, splicing_answer, called, acted}
 use Rattle.nr_input.specs.Place.{Reached}
 use Rattle.nr_input.specs.Laws.{weight_of_mode-le, weight_of_backslash-le}
@@ -201,7 +201,7 @@ written_keeps None name v = record { levels = refl; limit = refl }
 written_keeps (Some x) name v = record { levels = refl; limit = refl }
 
 -- a byte that was held back
-release_weighs : (held n : ℕ) (b : Option ℕ) (m : Mode) (e : Escape) → weight_by (behind_held held n b) m e + 1 + 178 * blanks_of_due (behind_held held n b) ≤ weight_by (dues.Release held n b) m e
+release_weighs : (held n : ℕ) (b : Option ℕ) (m : Mode) (e : Escape) → weight_by (after_held held n b) m e + 1 + 178 * blanks_of_due (after_held held n b) ≤ weight_by (dues.Release held n b) m e
 release_weighs held n (Some b) m e = more (nat_lt (n + 1) held) (ltb-true (n + 1) held)
   where
     more : (t : Bool) → (t ≡ true → n + 1 < held)
@@ -250,7 +250,7 @@ seeking_spends calls.Else v w p r q keeps =
 seeking_spends calls.Title v w p r q keeps =
     kept v w p (then_due dues.Seek r) (sought calls.Title (idle r).half) q events.Title keeps (omega (arith, title_weighs r.half.reading.escape)) tt
 
-meaning_keeps : {K : Type 0} (m : Meaning) (v : Stored K) → Keeps v (behind_meaning m v)
+meaning_keeps : {K : Type 0} (m : Meaning) (v : Stored K) → Keeps v (after_meaning m v)
 meaning_keeps meanings.Text v = record { levels = refl; limit = refl }
 meaning_keeps m v = record { levels = refl; limit = refl }
 
@@ -282,7 +282,7 @@ due_spends dues.Begin v p r some ok = stored_spends v (base_of r v) p dues.Begin
 due_spends (dues.Add b) v p r some ok = stored_spends v (added (elements.Byte b ∷ []) v) p (dues.Add b) dues.Look r (record { levels = refl; limit = refl }) (omega arith)
 due_spends (dues.Release held n b) v p r some ok =
     let w = added (elements.Byte (slice_index (last_line r.half.notes.defining) n) ∷ []) v in
-    stored_spends v w p (dues.Release held n b) (behind_held held n b) r (record { levels = refl; limit = refl }) (release_weighs held n b r.half.reading.mode r.half.reading.escape)
+    stored_spends v w p (dues.Release held n b) (after_held held n b) r (record { levels = refl; limit = refl }) (release_weighs held n b r.half.reading.mode r.half.reading.escape)
 due_spends dues.Define v p r some ok =
     kept v (naming r v) p (then_due dues.Define r) (idle r).half r.request events.Nothing (naming_keeps r.half.notes.defining.keeps (name_in r) v) (omega arith) tt
 due_spends dues.DefineAndCall v p r some ok =
@@ -303,7 +303,7 @@ due_spends dues.EndArgument v p r some ok =
     kept v (gathered_whole v) p (then_due dues.EndArgument r) (idle r).half r.request events.Nothing (record { levels = refl; limit = refl }) (omega arith) tt
 due_spends dues.Call v p r some ok = let name = name_in r in call_spends name (words (find name v.names)) v p dues.Call r refl (omega arith) ok
 due_spends dues.Seek v p r some ok =
-    let m = meaning_in v r in seeking_spends (calls_of m) v (behind_meaning m v) p r (request_of m r.request) (meaning_keeps m v)
+    let m = meaning_in v r in seeking_spends (calls_of m) v (after_meaning m v) p r (request_of m r.request) (meaning_keeps m v)
 due_spends (dues.Judge b) v p r some ok =
     let h = (idle r).half in judged_by (answer_of b h.notes) b (remembering b h).notes b v p r
 due_spends (dues.Lead n) v p r some ok = lead_spends (nat_le n 1) n v p r (leb-true n 1) (leb-false n 1)

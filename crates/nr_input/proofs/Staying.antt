@@ -19,7 +19,7 @@ use Rattle.nr_reading.specs.Definitions.{last_line}
 use Rattle.nr_input.specs.declared.reader.Reader.{Reader}
 use Rattle.nr_input.specs.declared.refusal.Refusal.{Refusal}
 use Rattle.nr_input.specs.declared.refusal.Refusal.TheVariants as refusals
-use Rattle.nr_input.specs.Acting.{name_in, register_text, meaning_in, behind_meaning, act}
+use Rattle.nr_input.specs.Acting.{name_in, register_text, meaning_in, after_meaning, act}
 use Rattle.nr_input.specs.Refusal.{answer, Called, called, stored_by, acted}
 use Rattle.nr_input.specs.Weights.{diversions_of, diversions_in}
 
@@ -68,8 +68,8 @@ written_more : {K : Type 0} (x : Option Register) (name : List ℕ) (v : Stored 
 written_more None name v = same v v refl
 written_more (Some x) name v = same v (written (Some x) name v) refl
 
-meaning_more : {K : Type 0} (m : Meaning) (v : Stored K) → NoMore v (behind_meaning m v)
-meaning_more meanings.Text v = same v (behind_meaning meanings.Text v) refl
+meaning_more : {K : Type 0} (m : Meaning) (v : Stored K) → NoMore v (after_meaning m v)
+meaning_more meanings.Text v = same v (after_meaning meanings.Text v) refl
 meaning_more m v = same v v refl
 
 -- ---- all of it

@@ -60,20 +60,20 @@ abbrev pub adding_byte : {K : Type 0} → ℕ → Due → Stored K → Reader �
 adding_byte b d v r = done events.Nothing (added (elements.Byte b ∷ []) v) (then_due d r)
 
 -- what is due after a byte that was held back
-abbrev pub behind_held : ℕ → ℕ → Option ℕ → Due
-behind_held held n (Some b) = if nat_lt (n + 1) held then dues.Release held (n + 1) (Some b) else dues.Add b
-behind_held held n None = if nat_lt (n + 1) held then dues.Release held (n + 1) None else dues.Look
+abbrev pub after_held : ℕ → ℕ → Option ℕ → Due
+after_held held n (Some b) = if nat_lt (n + 1) held then dues.Release held (n + 1) (Some b) else dues.Add b
+after_held held n None = if nat_lt (n + 1) held then dues.Release held (n + 1) None else dues.Look
 
 abbrev pub act_release : {K : Type 0} → ℕ → ℕ → Option ℕ → Stored K → Reader → Acted K
 act_release held n b v r =
-    adding_byte (slice_index (last_line r.half.notes.defining) n) (behind_held held n b) v r
+    adding_byte (slice_index (last_line r.half.notes.defining) n) (after_held held n b) v r
 
 -- the text takes its name, where it is kept
 abbrev pub naming : {K : Type 0} → Reader → Stored K → Stored K
 naming r v = if r.half.notes.defining.keeps then defined (name_in r) v else v
 
-abbrev pub behind_definition : Reader → Due
-behind_definition r = if is_empty r.half.notes.defining.ending then dues.Look else dues.CallEnding
+abbrev pub after_definition : Reader → Due
+after_definition r = if is_empty r.half.notes.defining.ending then dues.Look else dues.CallEnding
 
 -- ---- splices
 
@@ -131,9 +131,9 @@ abbrev pub meaning_in : {K : Type 0} → Stored K → Reader → Meaning
 meaning_in v r = if is_empty (name_in r) then meanings.Unknown else meaning_of (find (name_in r) v.names)
 
 -- the arguments of a macro begin to be read
-abbrev pub behind_meaning : {K : Type 0} → Meaning → Stored K → Stored K
-behind_meaning meanings.Text v = ungathered v
-behind_meaning m v = v
+abbrev pub after_meaning : {K : Type 0} → Meaning → Stored K → Stored K
+after_meaning meanings.Text v = ungathered v
+after_meaning m v = v
 
 -- what is half read after a name that means this
 abbrev pub behind_name : Meaning → Reader → Reader
@@ -142,13 +142,13 @@ behind_name m r =
 
 abbrev pub seeking : {K : Type 0} → Meaning → Stored K → Reader → Acted K
 seeking m v r =
-    done (sought_event (calls_of m)) (behind_meaning m v)
+    done (sought_event (calls_of m)) (after_meaning m v)
     (record r { half = sought (calls_of m) (next dues.Look r.half); request = request_of m r.request })
 
 -- ---- the blanks that a text line begins with
 
-abbrev pub behind_lead : ℕ → Due
-behind_lead n = if nat_le n 1 then dues.Look else dues.Lead (n - 1)
+abbrev pub after_lead : ℕ → Due
+after_lead n = if nat_le n 1 then dues.Look else dues.Lead (n - 1)
 
 -- ---- all of it
 
@@ -158,7 +158,7 @@ act dues.Begin v r = done events.Nothing (base_of r v) (idle r)
 act (dues.Add b) v r = adding_byte b dues.Look v r
 act (dues.Release held n b) v r = act_release held n b v r
 act dues.Define v r = done events.Nothing (naming r v) (idle r)
-act dues.DefineAndCall v r = done events.Nothing (naming r v) (then_due (behind_definition r) r)
+act dues.DefineAndCall v r = done events.Nothing (naming r v) (then_due (after_definition r) r)
 act dues.CallEnding v r = splicing_name r.half.notes.defining.ending v r
 act dues.Splice v r = splicing_name r.half.notes.asked v r
 act (dues.Register signs.None) v r =
@@ -175,7 +175,7 @@ act dues.EndArgument v r = done events.Nothing (gathered_whole v) (idle r)
 act dues.Call v r = act_call v r
 act dues.Seek v r = seeking (meaning_in v r) v r
 act (dues.Judge b) v r = done events.Nothing v (on_half (λ h. judged b (next dues.Look h)) r)
-act (dues.Lead n) v r = done events.Lead v (then_due (behind_lead n) r)
+act (dues.Lead n) v r = done events.Lead v (then_due (after_lead n) r)
 -- a splice was refused, and is from then on
 act dues.Expanded v r = done events.Nothing v r
 

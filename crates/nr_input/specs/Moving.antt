@@ -39,8 +39,8 @@ pub record Move (K : Type 0) : Type 0 where
 abbrev pub burst_past : ℕ → ℕ → ℕ → ℕ
 burst_past before taken burst = if taken == before then burst else 0
 
-abbrev pub burst_behind : Coming → Coming → ℕ → ℕ
-burst_behind before after burst = burst_past before.taken after.taken burst
+abbrev pub burst_after : Coming → Coming → ℕ → ℕ
+burst_after before after burst = burst_past before.taken after.taken burst
 
 -- what is told: a resume mark that is taken resumes what was under way
 abbrev pub told_of : {K : Type 0} → Shown K → Event → Told K
@@ -53,7 +53,7 @@ taken_at m s = record {
   situation = situation (left s.stored.levels s.stored) (behind (shown s.stored.levels) s.coming)
       (record s.reader {
         half = m.half;
-        burst = burst_behind s.coming (behind (shown s.stored.levels) s.coming)
+        burst = burst_after s.coming (behind (shown s.stored.levels) s.coming)
             s.reader.burst;
       });
   told = told_of (shown s.stored.levels) m.event;

@@ -49,18 +49,18 @@ front shows.End c = fronts.Mark
 front (shows.Item x) c = element_front x
 front (shows.Resume k) c = fronts.Resume
 
-abbrev pub behind_front_of : List ℕ → Coming → Coming
-behind_front_of (b ∷ bs) c =
+abbrev pub after_front_of : List ℕ → Coming → Coming
+after_front_of (b ∷ bs) c =
     record {
       supply = record { bytes = bs; faults = one_later c.supply.faults };
       taken = c.taken + 1;
       inside = not (b == code "\n");
     }
-behind_front_of [] c = record c { inside = false }
+after_front_of [] c = record c { inside = false }
 
 -- what is to come of the source after the item in front of the list
 abbrev pub behind : {K : Type 0} → Shown K → Coming → Coming
-behind shows.Nothing c = behind_front_of c.supply.bytes c
+behind shows.Nothing c = after_front_of c.supply.bytes c
 behind s c = c
 
 -- the byte that is there, if one is, would be the 2^40th

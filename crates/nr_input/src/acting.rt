@@ -1,6 +1,6 @@
 //! What a move does that is due.
 ghost use Rattle.std.specs.Prelude.{◌≡◌};
-ghost use Rattle.nr_input.specs.Acting.{calls_of, calls_of_request, request_of, behind_held, behind_lead};
+ghost use Rattle.nr_input.specs.Acting.{calls_of, calls_of_request, request_of, after_held, after_lead};
 
 use super::reader::Reader;
 use super::refusal::Refusal;
@@ -45,8 +45,8 @@ fn request_of(meaning: Meaning, old: Request) -> Request
 }
 
 // What is due after a byte that was held back.
-fn behind_held(held: u8, next: u8, then: Option<u8>) -> Due
-    ensures { result ≡ behind_held held next then }
+fn after_held(held: u8, next: u8, then: Option<u8>) -> Due
+    ensures { result ≡ after_held held next then }
 {
     if next < held && next + 1 < held {
         return Due::Release {
@@ -62,8 +62,8 @@ fn behind_held(held: u8, next: u8, then: Option<u8>) -> Due
 }
 
 // What is due after one of the blanks that a text line begins with.
-fn behind_lead(count: u32) -> Due
-    ensures { result ≡ behind_lead count }
+fn after_lead(count: u32) -> Due
+    ensures { result ≡ after_lead count }
 {
     if count <= 1 {
         return Due::Look;
@@ -74,7 +74,7 @@ fn behind_lead(count: u32) -> Due
 impl Reader {
     ghost use Rattle.std.specs.Prelude.{◌+◌, ◌≤◌, true, Ok};
     ghost use Rattle.nr_store.specs.Store.{stepped};
-    ghost use Rattle.nr_input.specs.Acting.{name_in, adding_byte, naming, behind_definition, has_text, expanded, splicing_name, splicing_bytes, meaning_in, is_look, then_due, behind_name};
+    ghost use Rattle.nr_input.specs.Acting.{name_in, adding_byte, naming, after_definition, has_text, expanded, splicing_name, splicing_bytes, meaning_in, is_look, then_due, behind_name};
     ghost use Rattle.nr_reading.specs.Seeking.{sought_event};
     ghost use Rattle.nr_input.specs.Refusal.{expanding_answer, storing_answer, splicing_answer, called, reader_by, answered, acted_by, acted};
 
@@ -151,7 +151,7 @@ impl Reader {
         ensures { called store.new self.new result ≡ acted (Due.Release held next then) store.old self.old }
     {
         let byte = self.half.notes.defining.last_line_byte(next);
-        self.add(byte, behind_held(held, next, then), store)
+        self.add(byte, after_held(held, next, then), store)
     }
 
     // The text takes its name, where it is kept.
@@ -164,8 +164,8 @@ impl Reader {
     }
 
     // What is due after a definition of lines.
-    fn behind_definition(&self) -> Due
-        ensures { result ≡ behind_definition self.now }
+    fn after_definition(&self) -> Due
+        ensures { result ≡ after_definition self.now }
     {
         if self.half.notes.defining.ending.is_empty() {
             return Due::Look;
@@ -351,7 +351,7 @@ impl Reader {
             }
             Due::DefineAndCall => {
                 self.name_text(store);
-                self.half.reading.due = self.behind_definition();
+                self.half.reading.due = self.after_definition();
                 Ok(Event::Nothing)
             }
             Due::CallEnding => self.splice(self.half.notes.defining.ending, store),
@@ -371,7 +371,7 @@ impl Reader {
                 Ok(Event::Nothing)
             }
             Due::Lead(count) => {
-                self.half.reading.due = behind_lead(count);
+                self.half.reading.due = after_lead(count);
                 Ok(Event::Lead)
             }
             Due::Expanded => Err(Refusal::Expansions),

@@ -20,7 +20,7 @@ use nr_units::source::Source;
 
 // How many splices there were since the last byte of the input was taken, after an item, by how many bytes were taken before
 // and after it.
-fn burst_behind(before: u64, taken: u64, burst: u64) -> u64
+fn burst_after(before: u64, taken: u64, burst: u64) -> u64
     ensures { result ≡ burst_past before taken burst }
 {
     if taken == before {
@@ -68,7 +68,7 @@ fn look<K: Copy, R: Source>(
     }
     let before = place.taken();
     let sight = place.take(store, mode);
-    reader.burst = burst_behind(before, place.taken(), reader.burst);
+    reader.burst = burst_after(before, place.taken(), reader.burst);
     Ok(heard_of(sight, seen.event))
 }
 

@@ -5,7 +5,7 @@ use Rattle.std.proofs.Common.{◌≡◌, ℕ, Bool, true, false, if◌then◌els
 use Rattle.nr_vectors.specs.declared.cell.Cell.{Cell}
 use Rattle.nr_vectors.specs.declared.cell.Look.TheVariants.{Plain}
 use Rattle.nr_fill.specs.Piece.{Piece, Word, Collected, is_nil, nothing_collected, word_pieces, add_cell, end_word, one_blank_more, after_newline}
-use Rattle.nr_formatter.specs.Text.{behind_of}
+use Rattle.nr_formatter.specs.Text.{after_of}
 use Rattle.nr_laws.specs.FilledText.{first_margins, with_byte}
 use Rattle.nr_laws.proofs.FilledLines.{rows_at}
 use Rattle.nr_laws.proofs.PlainLines.{NoSoft, Clean, add_cell-clean, end_word-clean}
@@ -28,7 +28,7 @@ core c = record nothing_collected { word = c.word; gap = c.gap; sentence = c.sen
 abbrev byte_by : (newline blank : Bool) → ℕ → Collected → Collected
 byte_by newline blank b c =
     if newline then after_newline (end_word c)
-    else (if blank then one_blank_more (end_word c) else add_cell first_margins (behind_of b) (record { byte = b; look = Plain }) c)
+    else (if blank then one_blank_more (end_word c) else add_cell first_margins (after_of b) (record { byte = b; look = Plain }) c)
 
 byte_core : (newline blank : Bool) (b : ℕ) (c : Collected) → core (byte_by newline blank b c) ≡ core (byte_by newline blank b (core c))
 byte_core true blank b c = refl
@@ -52,7 +52,7 @@ pieces-after c (b ∷ bs) =
 byte_clean : (newline blank : Bool) (b : ℕ) (c : Collected) → Clean c → Clean (byte_by newline blank b c)
 byte_clean true blank b c clean = (let e = end_word-clean c clean in record { pieces = e.pieces; word = e.word })
 byte_clean false true b c clean = (let e = end_word-clean c clean in record { pieces = e.pieces; word = e.word })
-byte_clean false false b c clean = add_cell-clean first_margins (behind_of b) (record { byte = b; look = Plain }) c clean
+byte_clean false false b c clean = add_cell-clean first_margins (after_of b) (record { byte = b; look = Plain }) c clean
 
 pub pieces_after-clean : (c : Collected) (bs : List ℕ) → Clean c → NoSoft (pieces_after c bs)
 pieces_after-clean c [] clean = (end_word-clean c clean).pieces

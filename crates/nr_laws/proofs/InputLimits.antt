@@ -19,7 +19,7 @@ use Rattle.nr_reading.specs.Seeking.{sought, sought_event}
 use Rattle.nr_input.specs.declared.reader.Reader.{Reader}
 use Rattle.nr_input.specs.declared.refusal.Refusal.{Refusal}
 use Rattle.nr_input.specs.declared.refusal.Refusal.TheVariants as refusals
-use Rattle.nr_input.specs.Acting.{Acted, done, splicing, has_text, name_in, then_due, idle, meaning_in, behind_meaning, behind_definition, act, calls_of, request_of, next}
+use Rattle.nr_input.specs.Acting.{Acted, done, splicing, has_text, name_in, then_due, idle, meaning_in, after_meaning, after_definition, act, calls_of, request_of, next}
 use Rattle.nr_input.specs.Refusal.{Asking, Nothing, Bytes, Splice, Refused, asking, answer_to, answer, storing_by, splicing_by, expanding_answer}
 use Rattle.nr_laws.specs.Limited.{stored_under, reader_under}
 
@@ -59,7 +59,7 @@ pub written_under : {K : Type 0} (l d : ℕ) (x : Option Register) (name : List 
 written_under l d None name v = refl
 written_under l d (Some x) name v = refl
 
-meaning_under : {K : Type 0} (l d : ℕ) (m : Meaning) (v : Stored K) → behind_meaning m (stored_under l d v) ≡ stored_under l d (behind_meaning m v)
+meaning_under : {K : Type 0} (l d : ℕ) (m : Meaning) (v : Stored K) → after_meaning m (stored_under l d v) ≡ stored_under l d (after_meaning m v)
 meaning_under l d meanings.Text v = refl
 meaning_under l d m v = refl
 
@@ -79,7 +79,7 @@ act-under l d m (dues.Add b) v r = refl
 act-under l d m (dues.Release held n b) v r = refl
 act-under l d m dues.Define v r = ap (λ w. done events.Nothing w (reader_under m (idle r))) (naming_under l d r.half.notes.defining.keeps (name_in r) v)
 act-under l d m dues.DefineAndCall v r =
-    ap (λ w. done events.Nothing w (reader_under m (then_due (behind_definition r) r))) (naming_under l d r.half.notes.defining.keeps (name_in r) v)
+    ap (λ w. done events.Nothing w (reader_under m (then_due (after_definition r) r))) (naming_under l d r.half.notes.defining.keeps (name_in r) v)
 act-under l d m dues.CallEnding v r =
     let name = r.half.notes.defining.ending in name_under l d m name (has_text name v) (words (find name v.names)) v r
 act-under l d m dues.Splice v r = let name = r.half.notes.asked in name_under l d m name (has_text name v) (words (find name v.names)) v r

@@ -20,7 +20,7 @@ use Rattle.nr_reading.specs.Half.{Met, meet}
 use Rattle.nr_reading.specs.declared.ask.Sign.TheVariants as signs
 use Rattle.nr_reading.specs.declared.mode.Due.{Due}
 use Rattle.nr_reading.specs.declared.mode.Due.TheVariants as dues
-use Rattle.nr_input.specs.Acting.{act, name_in, behind_meaning, meaning_in, register_text, expanded, idle}
+use Rattle.nr_input.specs.Acting.{act, name_in, after_meaning, meaning_in, register_text, expanded, idle}
 use Rattle.nr_input.specs.Moving.{Situation, looks, look, taken_at, stays_at, acted_at, answer_at, move as input_move}
 use Rattle.nr_input.specs.Moving as input
 use Rattle.nr_input.specs.Place.{front}
@@ -40,7 +40,7 @@ use Rattle.nr_machine.specs.Run.{Kind, Reads, Works, Over, kind, IsRefusal, Pass
 use Rattle.nr_machine.specs.declared.outcome.Measure.{Measure}
 use Rattle.nr_machine.specs.declared.outcome.Measure.TheVariants as measures
 use Rattle.nr_input.specs.declared.refusal.Refusal.TheVariants as refusals
-use Rattle.nr_laws.specs.Moves.{AboveIsRefused, IsChargedOnce, charge_behind, charge_under, names_text}
+use Rattle.nr_laws.specs.Moves.{AboveIsRefused, IsChargedOnce, charge_after, charge_under, names_text}
 use Rattle.nr_laws.proofs.Over.{over-step}
 use Rattle.nr_laws.proofs.ReadMoves.{reads-step}
 use Rattle.nr_laws.proofs.RefusedMoves.{refused_is_above, text_answer, text_same}
@@ -185,7 +185,7 @@ ended_whole : (full : Bool) (g : Gathered) → gathered_len (if full then g else
 ended_whole true g = omega arith
 ended_whole false g = omega (arith, sum_by_push (λ (bytes : List ℕ). length bytes) g.kept g.last)
 
-meant : (m : Meaning) (v : Stored Resume) (r s : Reader) → s.burst ≡ r.burst → s.most ≡ r.most → Fits v r → Fits (behind_meaning m v) s
+meant : (m : Meaning) (v : Stored Resume) (r s : Reader) → s.burst ≡ r.burst → s.most ≡ r.most → Fits v r → Fits (after_meaning m v) s
 meant meanings.Text v r s burst most fits = without_arguments v r s burst most fits
 meant m v r s burst most fits = let few = fits.burst in record { stored = fits.stored; depth = fits.depth; burst = omega (arith, few, burst, most) }
 
@@ -199,7 +199,7 @@ head_loose : (same : Bool) (o : Option (List ℕ)) (share : ℕ) → loose (if s
 head_loose true o share = omega arith
 head_loose false o share = omega arith
 
-loosened : (name : List ℕ) (ts : List Shared) → sum_by text_charge (renamed_by (without_name name) ts) ≤ sum_by text_charge ts + charge_behind name ts
+loosened : (name : List ℕ) (ts : List Shared) → sum_by text_charge (renamed_by (without_name name) ts) ≤ sum_by text_charge ts + charge_after name ts
 loosened name [] = omega arith
 loosened name (t ∷ ts) =
     let u : Shared = record t { name = without_name name t.name } in

@@ -41,7 +41,7 @@ use Rattle.nr_formatter.specs.declared.tasks.Then.{Then}
 use Rattle.nr_formatter.specs.Access.{asked, collected, diversion, done, long, spacing, argument}
 use Rattle.nr_formatter.specs.Diversions.{with_diverted_cell}
 use Rattle.nr_formatter.specs.BuiltIn.{given_named}
-use Rattle.nr_formatter.specs.Lines.{behind_line, break_done, break_line, break_word_end, flow_done, flow_line}
+use Rattle.nr_formatter.specs.Lines.{after_line, break_done, break_line, break_word_end, flow_done, flow_line}
 use Rattle.nr_formatter.specs.Moves as moves
 use Rattle.nr_formatter.specs.Pages.{begins_first_page, begins_page, is_ejecting, is_unbegun, line_placed, next_springing, task_ejected}
 use Rattle.nr_formatter.specs.Places.{is_diverting, is_open, outlet, outlet_of, page_outlet, to_read}
@@ -56,7 +56,7 @@ use Rattle.nr_formatter.proofs.DivertedFalls.{falls-divert_line, falls-divert_ti
 use Rattle.nr_formatter.proofs.Falling.{falls-kept, falls-less, falls-then}
 use Rattle.nr_formatter.proofs.HearingFalls.{falls-heard, falls-control, falls-given, falls-text as falls-spliced}
 use Rattle.nr_formatter.proofs.InputFalls.{falls-sprung, falls-unsprung, falls-ejected_to, falls-read_in}
-use Rattle.nr_formatter.proofs.LineFalls.{falls-break_word_end, falls-behind_line, falls-title_set, falls-flow_done, falls-break_done}
+use Rattle.nr_formatter.proofs.LineFalls.{falls-break_word_end, falls-after_line, falls-title_set, falls-flow_done, falls-break_done}
 use Rattle.nr_formatter.proofs.PageFalls.{falls-line_placed, falls-spaced, falls-spaceless, falls-opened, falls-begun, falls-full_ended, falls-ejected}
 use Rattle.nr_formatter.proofs.RequestFalls.{falls-if, falls-ex, falls-act}
 use Rattle.nr_formatter.proofs.TaskFalls.{falls-task, falls-gone_on}
@@ -224,7 +224,7 @@ some_pieces (p ∷ ps) x g is = omega arith
 line_goes : (o : Outlet) (g : Going) (s : State) → outlet s.formatter ≡ o → HasHeight s.formatter → 0 < length (collected s.formatter).pieces → Lightens s (machine.put_line_to o g s)
 line_goes outlets.Diversion g s is height some = lightens s _ refl refl (falls-divert_line g s.formatter some)
 line_goes outlets.Room g s is height some =
-    lightens s _ refl refl (placed-falls (spacing s.formatter) s.formatter (behind_line g s.formatter) (falls-behind_line g s.formatter some))
+    lightens s _ refl refl (placed-falls (spacing s.formatter) s.formatter (after_line g s.formatter) (falls-after_line g s.formatter some))
 line_goes outlets.Full g s is height some = full_ends s is
 line_goes outlets.NoPage g s is height some = none_begins s height is
 

@@ -18,7 +18,7 @@ use Rattle.nr_formatter.specs.declared.lines.Going.{Going}
 use Rattle.nr_formatter.specs.declared.tasks.Step.{Step}
 use Rattle.nr_formatter.specs.declared.tasks.Task.{Task}
 use Rattle.nr_formatter.specs.Access.{collected, spacing}
-use Rattle.nr_formatter.specs.Lines.{row_going, behind_line, pieces_going, rest_behind}
+use Rattle.nr_formatter.specs.Lines.{row_going, after_line, pieces_going, rest_behind}
 use Rattle.nr_formatter.specs.Pages.{task_begun, task_ended}
 use Rattle.nr_formatter.specs.Places.{is_open}
 use Rattle.nr_machine.specs.State.{State, Ended}
@@ -119,7 +119,7 @@ module _ (m : Mode) (d : Due) (k : Task) (p : Step) (bs : List ℕ) (i : Bool) (
   -- the state after it, where the margins are these
   abbrev placed : Going → Indents → State
   placed g indents =
-      let t = place (row_going g (offset at.formatter) at.formatter) (spacing at.formatter) (behind_line g at.formatter) at in
+      let t = place (row_going g (offset at.formatter) at.formatter) (spacing at.formatter) (after_line g at.formatter) at in
       record t { formatter = record t.formatter { settings = record t.formatter.settings { indents = indents } } }
 
   -- of filled text, the row that is placed is the next of all
@@ -131,7 +131,7 @@ module _ (m : Mode) (d : Due) (k : Task) (p : Step) (bs : List ℕ) (i : Bool) (
   same_margins false same = refl
 
   pub places_line : (g : Going) → s.formatter.paper.place < 2640 → Drained p (left g) → is_open s.formatter.paper.state ≡ true → Closed k (placed g first_indents).lines s.formatter.paper.ejecting → Phase m d events.Nothing k p bs i
-      → is_nil c.pieces ≡ false → IsNextRow g → Keeps at (place (row_going g (offset at.formatter) at.formatter) (spacing at.formatter) (behind_line g at.formatter) at)
+      → is_nil c.pieces ≡ false → IsNextRow g → Keeps at (place (row_going g (offset at.formatter) at.formatter) (spacing at.formatter) (after_line g at.formatter) at)
   places_line g above drained is_open_now closed phase some next =
       let n = pieces_going g c in
       let row = row_going g (offset at.formatter) at.formatter in
@@ -141,7 +141,7 @@ module _ (m : Mode) (d : Due) (k : Task) (p : Step) (bs : List ℕ) (i : Bool) (
       let less : down / 40 ≤ min (down + 40) 2147483647 / 40 = omega arith in
       let line : List Placed = s.lines ++ record { row = down / 40; cells = trimmed row } ∷ [] in
       let lines_are : s.lines ++ record { row = min (down + 40) 2147483647 / 40 - 1; cells = trimmed row } ∷ [] ≡ line = ap (λ r. s.lines ++ record { row = r; cells = trimmed row } ∷ []) low in
-      keeps at (place row (spacing at.formatter) (behind_line g at.formatter) at) (placed g first_indents) m d events.Nothing k p bs i
+      keeps at (place row (spacing at.formatter) (after_line g at.formatter) at) (placed g first_indents) m d events.Nothing k p bs i
       (ap (placed g) (same_if (begins_line (left g)) first_indents)) refl phase
       (record {
         clean = behind-clean (margins_of first_indents) (record { align = g.align; offset = 0 }) c n o.clean;

@@ -134,7 +134,7 @@ module _ (s : State) (o : OrderlyIn tasks.Read steps.NotYet s) where
       let no_tab : (b == 9) ≡ false = ne_eqb b 9 (omega arith) in
       let no_leader : (b == 1) ≡ false = ne_eqb b 1 (omega arith) in
       let is : prints b ≡ true = grind (arith, nat_tests) in
-      let e = add_cell (margins_of first_indents) (texts.behind_of b) (record { byte = b; look = Plain }) c in
+      let e = add_cell (margins_of first_indents) (texts.after_of b) (record { byte = b; look = Plain }) c in
       let leads : step x ≡ with_line e tasks.Read x =
       ap (λ (g : Formatter). record x { formatter = g })
       (if-false (b == 32) (texts.blank f) (if b == 9 then texts.tab f.settings.tabs.tab f else (if b == 1 then texts.tab f.settings.tabs.leader f else (if prints b then texts.character b f else record f { event = events.Nothing }))) other
@@ -143,8 +143,8 @@ module _ (s : State) (o : OrderlyIn tasks.Read steps.NotYet s) where
       ∙ if-true (prints b) (texts.character b f) (record f { event = events.Nothing }) is)
       ∙ ap (indented e x) (same_if (begins_line c) first_indents) in
       keeps x (step x) (with_line e tasks.Read x) modes.Text dues.Look events.Nothing tasks.Read steps.NotYet bs i leads refl (InText Nothing plain)
-      (changed tasks.Read e tt (add_cell-clean (margins_of first_indents) (texts.behind_of b) (record { byte = b; look = Plain }) c o.clean))
-      (ap (λ z. around s (z ++ ([] ++ squeezed bs))) (add_cell-ink s.faces (margins_of first_indents) (texts.behind_of b) (record { byte = b; look = Plain }) c o.clean
+      (changed tasks.Read e tt (add_cell-clean (margins_of first_indents) (texts.after_of b) (record { byte = b; look = Plain }) c o.clean))
+      (ap (λ z. around s (z ++ ([] ++ squeezed bs))) (add_cell-ink s.faces (margins_of first_indents) (texts.after_of b) (record { byte = b; look = Plain }) c o.clean
       ∙ ap (λ z. collected_ink s.faces c ++ squeezed (z ++ [])) (plain_bytes s.faces b))
       ∙ ap (around s) (append_assoc (collected_ink s.faces c) (squeezed (b ∷ [])) (squeezed bs)))
       (λ r p. record {

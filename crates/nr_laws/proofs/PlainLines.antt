@@ -15,9 +15,9 @@ use Rattle.nr_fill.specs.declared.piece.Join.TheVariants as joins
 use Rattle.nr_fill.specs.declared.stops.Pending.{Pending}
 use Rattle.nr_fill.specs.declared.stops.Pending.TheVariants as pendings
 use Rattle.nr_fill.specs.declared.piece.Point.TheVariants as points
-use Rattle.nr_fill.specs.Piece.{Piece, Word, Collected, ended, ended_at, word_or_new, pending_behind, word_length, add_cell_behind, add_cell, add_blank, word_pieces, end_word}
+use Rattle.nr_fill.specs.Piece.{Piece, Word, Collected, ended, ended_at, word_or_new, pending_after, word_length, add_cell_after, add_cell, add_blank, word_pieces, end_word}
 use Rattle.nr_fill.specs.Cutting.{hyphen_before, hyphen_width}
-use Rattle.nr_fill.specs.Spreading.{blanks_before, next_gap, cells_behind, cells_in_line}
+use Rattle.nr_fill.specs.Spreading.{blanks_before, next_gap, cells_after, cells_in_line}
 use Rattle.nr_fill.specs.Setting.{line_row, extra_of, shift, left_over, behind}
 use Rattle.nr_fill.specs.declared.setting.Setting.{Setting}
 use Rattle.nr_settings.specs.declared.indents.Margins.{Margins}
@@ -117,7 +117,7 @@ pending_if : (b : Bool) → IsPlainPending (if b then pendings.AtPoint points.Ha
 pending_if true = tt
 pending_if false = tt
 
-pending_plain : (mark : Behind) (n : ℕ) → IsPlainPending (pending_behind mark n pendings.Nothing)
+pending_plain : (mark : Behind) (n : ℕ) → IsPlainPending (pending_after mark n pendings.Nothing)
 pending_plain behinds.Letter n = tt
 pending_plain behinds.Hyphen n = pending_if (nat_lt 1 n)
 pending_plain behinds.Dash n = pending_if (nat_lt 2 n)
@@ -126,7 +126,7 @@ pub add_cell-ink : (faces : Faces) (m : Margins) (mark : Behind) (x : Cell) (c :
 add_cell-ink faces m mark x c clean =
     let w = word_or_new c.gap c.word in
     let g = going w (word_clean c.gap c.word clean.word) in
-    let longer : word_ink faces (Some (add_cell_behind mark x (ended w))) ≡ word_ink faces c.word ++ ink faces (x ∷ []) =
+    let longer : word_ink faces (Some (add_cell_after mark x (ended w))) ≡ word_ink faces c.word ++ ink faces (x ∷ []) =
     ap (λ z. pieces_ink faces (ended w).parts ++ z) (ink-append faces (ended w).last.cells (x ∷ [])) ∙ sym (append_assoc (pieces_ink faces (ended w).parts) (ink faces (ended w).last.cells) (ink faces (x ∷ [])))
     ∙ ap (λ z. z ++ ink faces (x ∷ [])) (g.same_ink faces ∙ word_same faces c.gap c.word) in
     ap (λ z. pieces_ink faces c.pieces ++ z) longer ∙ sym (append_assoc (pieces_ink faces c.pieces) (word_ink faces c.word) (ink faces (x ∷ [])))
@@ -137,7 +137,7 @@ add_cell-clean m mark x c clean =
     let g = going w (word_clean c.gap c.word clean.word) in
     record {
       pieces = clean.pieces;
-      word = record { parts = g.parts; last = g.last; pending = subst (λ p. IsPlainPending (pending_behind mark (word_length (add_cell_behind mark x (ended w))) p)) (sym g.none) (pending_plain mark (word_length (add_cell_behind mark x (ended w)))) };
+      word = record { parts = g.parts; last = g.last; pending = subst (λ p. IsPlainPending (pending_after mark (word_length (add_cell_after mark x (ended w))) p)) (sym g.none) (pending_plain mark (word_length (add_cell_after mark x (ended w)))) };
     }
 
 pub add_blank-ink : (faces : Faces) (m : Margins) (c : Collected) → Clean c → collected_ink faces (add_blank m c) ≡ collected_ink faces c
@@ -172,15 +172,15 @@ end_word-clean c clean = record { pieces = no_soft-append c.pieces (word_pieces 
 
 -- ---- a line goes out
 
-behind-ink : (faces : Faces) (x : Extra) (i : ℕ) (ps : List Piece) → ink faces (cells_behind x i ps) ≡ pieces_ink faces ps
+behind-ink : (faces : Faces) (x : Extra) (i : ℕ) (ps : List Piece) → ink faces (cells_after x i ps) ≡ pieces_ink faces ps
 behind-ink faces x i [] = refl
 behind-ink faces x i (p ∷ ps) =
-    ink-append faces (replicate (blanks_before x i p.join) blank ++ p.cells) (cells_behind x (next_gap i p.join) ps)
+    ink-append faces (replicate (blanks_before x i p.join) blank ++ p.cells) (cells_after x (next_gap i p.join) ps)
     ∙ ap₂ (λ a b. a ++ b) (ink-append faces (replicate (blanks_before x i p.join) blank) p.cells ∙ ap (λ z. z ++ ink faces p.cells) (ink-blanks faces (blanks_before x i p.join))) (behind-ink faces x (next_gap i p.join) ps)
 
 line-ink : (faces : Faces) (x : Extra) (ps : List Piece) → ink faces (cells_in_line x ps) ≡ pieces_ink faces ps
 line-ink faces x [] = refl
-line-ink faces x (p ∷ ps) = ink-append faces p.cells (cells_behind x 1 ps) ∙ ap (λ z. ink faces p.cells ++ z) (behind-ink faces x 1 ps)
+line-ink faces x (p ∷ ps) = ink-append faces p.cells (cells_after x 1 ps) ∙ ap (λ z. ink faces p.cells ++ z) (behind-ink faces x 1 ps)
 
 no_width : (j : Join) → is_soft j ≡ false → hyphen_width j ≡ 0
 no_width (joins.Gap k) is = refl

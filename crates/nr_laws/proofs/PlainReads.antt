@@ -13,7 +13,7 @@ use Rattle.nr_reading.specs.Step.{Step as ReadStep, go, tell, leave}
 use Rattle.nr_reading.specs.declared.mode.Escape.TheVariants as escapes
 use Rattle.nr_reading.specs.Text.{start_byte, start_control, one_blank_more}
 use Rattle.nr_reading.specs.declared.mode.Reading.{Reading}
-use Rattle.nr_input.specs.Acting.{behind_lead}
+use Rattle.nr_input.specs.Acting.{after_lead}
 use Rattle.nr_input.specs.Moving.{met_at}
 use Rattle.nr_formatter.specs.declared.tasks.Task.TheVariants as tasks
 use Rattle.nr_formatter.specs.declared.tasks.Step.TheVariants as steps
@@ -180,7 +180,7 @@ module _ (s : State) (o : OrderlyIn tasks.Read steps.NotYet s) where
       (λ r p. record { reads = record { goes = refl; bytes = refl; inside = λ begins. refl }; prints = p; same = ap (λ rows. text s.pages ++ text_of s.faces (rows_shown s.lines ++ rows)) (added-newline (collected s.formatter)) })
   text_reads bs i (Blanks n) plain =
       let c = reading modes.Text (dues.Lead n) bs i s in
-      keeps c (step c) (step c) modes.Text (behind_lead n) events.Lead tasks.Read steps.NotYet bs i refl refl (HearsLead (owes_by (nat_le n 1) (n - 1)) plain) o refl
+      keeps c (step c) (step c) modes.Text (after_lead n) events.Lead tasks.Read steps.NotYet bs i refl refl (HearsLead (owes_by (nat_le n 1) (n - 1)) plain) o refl
       (λ r p. never_here r.goes)
     where
       owes_by : (x : Bool) (k : ℕ) → Owes (if x then dues.Look else dues.Lead k)

@@ -19,10 +19,10 @@ use Rattle.nr_fill.specs.declared.stops.Pending.{Pending}
 use Rattle.nr_fill.specs.declared.stops.Pending.TheVariants as pendings
 use Rattle.nr_fill.specs.declared.title.TitlePart.{TitlePart}
 use Rattle.nr_fill.specs.declared.title.TitlePart.TheVariants as parts
-use Rattle.nr_fill.specs.Piece.{Piece, Word, Collected, word_or_new, with_word, in_word, ended_at, ended, pending_behind, pending_soft, with_soft_point, pending_without_point, barred_here, is_inside, point_at, hyphenated, append, add_cell_behind, add_cell, ends_sentence, add_blank_to, add_blank, with_blanks_kept, add_cells, marked, joined_at, joined, shortened, without_blanks, word_pieces, end_word, word_length, with_title, with_title_cell, with_part_ended, cells_in}
+use Rattle.nr_fill.specs.Piece.{Piece, Word, Collected, word_or_new, with_word, in_word, ended_at, ended, pending_after, pending_soft, with_soft_point, pending_without_point, barred_here, is_inside, point_at, hyphenated, append, add_cell_after, add_cell, ends_sentence, add_blank_to, add_blank, with_blanks_kept, add_cells, marked, joined_at, joined, shortened, without_blanks, word_pieces, end_word, word_length, with_title, with_title_cell, with_part_ended, cells_in}
 use Rattle.nr_fill.specs.Cutting.{hyphen_before}
 use Rattle.nr_fill.specs.Setting.{hyphens, hyphen, text_of, extra_of, left_over, shift, line_row}
-use Rattle.nr_fill.specs.Spreading.{blanks_before, next_gap, cells_behind, cells_in_line}
+use Rattle.nr_fill.specs.Spreading.{blanks_before, next_gap, cells_after, cells_in_line}
 use Rattle.nr_fill.specs.Tabs.{with_field, to_stop, tabbed, filled_by, fill_count, with_field_filled, is_aligned, column, first_beyond}
 use Rattle.nr_fill.specs.Title.{Title, next_part, with_cell_in, with_cell, cell_at, centre_at, right_at, title_row, title_or_empty, titled_row, is_within, reach}
 use Rattle.nr_settings.specs.Characters.{prints}
@@ -119,7 +119,7 @@ ended-at (pendings.ForStop f) w h = h
 ended-word : (m : Margins) (c : Collected) → IsLined c → IsLined (in_word ended (with_word m c))
 ended-word m c h = changed ended (with_word m c) (λ w k. ended-at w.pending w k) (worded m c h)
 
-pended : (m : Behind) (n : ℕ) (p : Pending) → IsFilled p → IsFilled (pending_behind m n p)
+pended : (m : Behind) (n : ℕ) (p : Pending) → IsFilled p → IsFilled (pending_after m n p)
 pended m n (pendings.ForStop f) h = h
 pended Letter n pendings.Nothing h = tt
 pended Letter n (pendings.AtPoint p) h = tt
@@ -134,13 +134,13 @@ appended xs w more h = record { parts = h.parts; last = join w.last.cells xs h.l
 one : (x : Cell) → IsPrinted x → ArePrinted (x ∷ [])
 one x h = All-cons IsPrinted x [] h (All-nil IsPrinted)
 
-celled : (b : Behind) (x : Cell) (w : Word) → IsPrinted x → IsWord w → IsWord (add_cell_behind b x w)
+celled : (b : Behind) (x : Cell) (w : Word) → IsPrinted x → IsWord w → IsWord (add_cell_after b x w)
 celled b x w is h =
     let longer = appended (x ∷ []) w (one x is) h in
     record { parts = longer.parts; last = longer.last; pending = pended b (word_length (append (x ∷ []) w)) w.pending h.pending }
 
 pub add_cell-lined : (m : Margins) (b : Behind) (x : Cell) (c : Collected) → IsPrinted x → IsLined c → IsLined (add_cell m b x c)
-add_cell-lined m b x c is h = changed (add_cell_behind b x) (in_word ended (with_word m c)) (λ w k. celled b x w is k) (ended-word m c h)
+add_cell-lined m b x c is h = changed (add_cell_after b x) (in_word ended (with_word m c)) (λ w k. celled b x w is k) (ended-word m c h)
 
 blanked : (w : Word) → IsWord w → IsWord (add_blank_to w)
 blanked w h = record { parts = h.parts; last = join w.last.cells (blank ∷ []) h.last (one blank refl); pending = h.pending }
@@ -255,16 +255,16 @@ filled-lined c h = changed (λ (w : Word). filled_by w.pending w) c (λ w k. fil
 
 -- ---- rows
 
-behind-cells : (x : Extra) (i : ℕ) (ps : List Piece) → AreSet ps → ArePrinted (cells_behind x i ps)
+behind-cells : (x : Extra) (i : ℕ) (ps : List Piece) → AreSet ps → ArePrinted (cells_after x i ps)
 behind-cells x i [] h = All-nil IsPrinted
 behind-cells x i (p ∷ ps) h =
-    join (replicate (blanks_before x i p.join) blank ++ p.cells) (cells_behind x (next_gap i p.join) ps)
+    join (replicate (blanks_before x i p.join) blank ++ p.cells) (cells_after x (next_gap i p.join) ps)
     (join (replicate (blanks_before x i p.join) blank) p.cells (blanks (blanks_before x i p.join)) (All-head IsSet p ps h))
     (behind-cells x (next_gap i p.join) ps (All-tail IsSet p ps h))
 
 in-line : (x : Extra) (ps : List Piece) → AreSet ps → ArePrinted (cells_in_line x ps)
 in-line x [] h = All-nil IsPrinted
-in-line x (p ∷ ps) h = join p.cells (cells_behind x 1 ps) (All-head IsSet p ps h) (behind-cells x 1 ps (All-tail IsSet p ps h))
+in-line x (p ∷ ps) h = join p.cells (cells_after x 1 ps) (All-head IsSet p ps h) (behind-cells x 1 ps (All-tail IsSet p ps h))
 
 pub line_row-printed : (s : Setting) (c : Collected) (n : ℕ) → IsLined c → ArePrinted (line_row s c n)
 line_row-printed s c n h =

@@ -35,13 +35,13 @@ use Rattle.nr_reading.specs.Notes.{Note}
 use Rattle.nr_reading.specs.Notes as notes
 use Rattle.nr_reading.specs.declared.notes.Notes.{Notes}
 use Rattle.nr_reading.specs.Noting.{are_equal}
-use Rattle.nr_reading.specs.Reader.{read_by, read, read_over_by, read_over, unescaped, behind_backslash, ends_comment, direct_by, direct}
+use Rattle.nr_reading.specs.Reader.{read_by, read, read_over_by, read_over, unescaped, after_backslash, ends_comment, direct_by, direct}
 use Rattle.nr_reading.specs.Skipping.{accepted, accepted_escape, behind_newline, skip, skip_escape, diverted, diverting}
 use Rattle.nr_reading.specs.Spelled.{is_blank, is_empty, ends_name, name_of, spelled}
 use Rattle.nr_reading.specs.Step.{Step, to, escaping, due, go, leave, tell, noting, leave_telling, leave_noting}
-use Rattle.nr_reading.specs.Strings.{behind_string_name, read_string_name}
-use Rattle.nr_reading.specs.Text.{continuing, begin_escape, in_text, start_blank, start_newline, start_control, start_byte, start, one_blank_more, text_behind_blanks, leading, end_continued, continued, is_interrupted, ended, end_event, text}
-use Rattle.nr_reading.specs.TextEscape.{plain, interpolated, asked_in_text, is_nothing, is_plain, other_byte, event_behind, is_titled, behind_escape, escape_in_text, escape_at_start, escape_by, spliced_or, lone_escape, escaped}
+use Rattle.nr_reading.specs.Strings.{after_string_name, read_string_name}
+use Rattle.nr_reading.specs.Text.{continuing, begin_escape, in_text, start_blank, start_newline, start_control, start_byte, start, one_blank_more, text_after_blanks, leading, end_continued, continued, is_interrupted, ended, end_event, text}
+use Rattle.nr_reading.specs.TextEscape.{plain, interpolated, asked_in_text, is_nothing, is_plain, other_byte, event_after, is_titled, after_escape, escape_in_text, escape_at_start, escape_by, spliced_or, lone_escape, escaped}
 use Rattle.nr_reading.specs.Titles.{ended_title, before_title, next_part, title}
 use Rattle.nr_settings.specs.Characters.{prints}
 use Rattle.nr_laws.proofs.PrintedLines.{IsPrinted}
@@ -99,7 +99,7 @@ module _ (m : Mode) where
   other-heard true b is = in-title (is_titled m) b is
   other-heard false b is = tt
 
-  behind-heard : (titled : Bool) (b : ℕ) → is_titled m ≡ titled → IsHeard (event_behind b titled) m
+  behind-heard : (titled : Bool) (b : ℕ) → is_titled m ≡ titled → IsHeard (event_after b titled) m
   behind-heard titled b is =
       let a9 : Event = other_byte titled b in
       let a8 : Event = if b == code "t" then events.Tab else a9 in
@@ -122,13 +122,13 @@ text-behind : (c : Bool) → is_titled (if c then modes.Interrupted else modes.T
 text-behind true = refl
 text-behind false = refl
 
-behind-titled : (b : ℕ) (m : Mode) → is_titled (behind_escape b m) ≡ is_titled m
+behind-titled : (b : ℕ) (m : Mode) → is_titled (after_escape b m) ≡ is_titled m
 behind-titled b modes.Text = text-behind (b == code "c")
 behind-titled b m = refl
 
 in-text : (b : ℕ) (a : Option Ask) (r : Reading) → Tells (escape_in_text b a r)
 in-text b (Some a) r = record { heard = tt }
-in-text b None r = record { heard = behind-heard (behind_escape b r.mode) (is_titled r.mode) b (behind-titled b r.mode) }
+in-text b None r = record { heard = behind-heard (after_escape b r.mode) (is_titled r.mode) b (behind-titled b r.mode) }
 
 at-start : (b : ℕ) (r : Reading) → Tells (escape_at_start b r)
 at-start b r = choose (b == code "!") (go (plain (to modes.Transparent r))) (leave (continuing false (to modes.Text r))) (record { heard = tt }) (record { heard = tt })
@@ -187,11 +187,11 @@ start-tells fronts.Over s r = record { heard = tt }
 leading-tells : (f : Front) (n : ℕ) (r : Reading) → Tells (leading f n r)
 leading-tells fronts.Mark n r = record { heard = tt }
 leading-tells (fronts.Byte b) n r =
-    let c3 : Step = if b == code "\\" then begin_escape r else text_behind_blanks n r in
+    let c3 : Step = if b == code "\\" then begin_escape r else text_after_blanks n r in
     let c2 : Step = if b == code " " then go (to (modes.Leading (one_blank_more n)) r) else c3 in
     choose (b == code "\n") (tell events.Empty (to modes.Start r)) c2 (record { heard = tt })
     (choose (b == code " ") (go (to (modes.Leading (one_blank_more n)) r)) c3 (record { heard = tt })
-    (choose (b == code "\\") (begin_escape r) (text_behind_blanks n r) (record { heard = tt }) (record { heard = tt })))
+    (choose (b == code "\\") (begin_escape r) (text_after_blanks n r) (record { heard = tt }) (record { heard = tt })))
 leading-tells (fronts.Cell x) n r = record { heard = tt }
 leading-tells (fronts.LineEnd k) n r = record { heard = tt }
 leading-tells fronts.Resume n r = record { heard = tt }
@@ -309,7 +309,7 @@ unescaped-tells modes.Accepted f s r is = accepted-tells f r
 unescaped-tells (modes.Skip n) f s r is = skip-tells f n r
 unescaped-tells m f s r is = start-tells f s r
 
-backslash-tells : (m : Mode) (f : Front) (s : Signs) (r : Reading) → Tells (behind_backslash m f s r)
+backslash-tells : (m : Mode) (f : Front) (s : Signs) (r : Reading) → Tells (after_backslash m f s r)
 backslash-tells modes.Accepted f s r = accepted_escape-tells f r
 backslash-tells (modes.Skip n) f s r = skip_escape-tells f n r
 backslash-tells m f s r = escaped-tells f s.long r
@@ -375,7 +375,7 @@ gap-tells b r =
 
 string_name-tells : (b : ℕ) (long : Bool) (name : Spelled) (r : Reading) → Tells (read_string_name b long name r)
 string_name-tells b long name r =
-    choose (ends_name b) (leave (behind_string_name name r)) (if completes long name then noting (notes.Name b) (to modes.StringBlanks r) else noting (notes.Name b) r) (record { heard = tt })
+    choose (ends_name b) (leave (after_string_name name r)) (if completes long name then noting (notes.Name b) (to modes.StringBlanks r) else noting (notes.Name b) r) (record { heard = tt })
     (choose (completes long name) (noting (notes.Name b) (to modes.StringBlanks r)) (noting (notes.Name b) r) (record { heard = tt }) (record { heard = tt }))
 
 two-tell : (c d : Bool) (x y z : Step) → Tells x → Tells y → Tells z → Tells (if c then x else (if d then y else z))

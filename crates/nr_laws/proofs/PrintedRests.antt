@@ -14,7 +14,7 @@ use Rattle.nr_store.specs.declared.request.Request.{Request}
 use Rattle.nr_store.specs.declared.request.Request.TheVariants as requests
 use Rattle.nr_symbol_tables.specs.Word.{word_of}
 use Rattle.nr_store.specs.Store.{Stored, words, newest_diversion, diversion_ended as ended_diversion, begun, fresh, text_of, trapped, removed, renamed, written, set_to, register_of, is_held, unregistered, worded}
-use Rattle.nr_settings.specs.Arguments.{name_in, byte_in, word_in, behind_word}
+use Rattle.nr_settings.specs.Arguments.{name_in, byte_in, word_in, after_word}
 use Rattle.nr_settings.specs.Numbers.{applied}
 use Rattle.nr_settings.specs.Registers as register_lines
 use Rattle.nr_settings.specs.Spacing as space_lines
@@ -93,7 +93,7 @@ diverted-row xs h = trim (map plain xs) (plain-cells xs h)
 pub row-printed : (g : Going) (offset : ℕ) (f : Formatter) → IsKept f → ArePrinted (lines.row_going g offset f)
 row-printed g offset f h = line_row-printed (record { align = g.align; offset = offset }) (collected f) (lines.pieces_going g (collected f)) h.lined
 
-pub line-behind : (g : Going) (f : Formatter) → Resting f → Resting (lines.behind_line g f)
+pub line-behind : (g : Going) (f : Formatter) → Resting f → Resting (lines.after_line g f)
 line-behind g f h =
     record {
       kept = record {
@@ -123,7 +123,7 @@ row-diverted : (xs : List Cell) (f : Formatter) → ArePrinted xs → Resting f 
 row-diverted xs f is h = diverted-with 0 xs (spacing f) (pages.without_no_space f) is (record { kept = h.kept; idle = h.idle })
 
 pub line-diverted : (g : Going) (f : Formatter) → Resting f → Resting (diversions.divert_line g f)
-line-diverted g f h = row-diverted (diverted_cells (lines.row_going g 0 f)) (lines.behind_line g f) (diverted-row (lines.row_going g 0 f) (row-printed g 0 f h.kept)) (line-behind g f h)
+line-diverted g f h = row-diverted (diverted_cells (lines.row_going g 0 f)) (lines.after_line g f) (diverted-row (lines.row_going g 0 f) (row-printed g 0 f h.kept)) (line-behind g f h)
 
 pub title-diverted : (f : Formatter) → Resting f → Resting (diversions.divert_title f)
 title-diverted f h = row-diverted (diverted_cells (titles.title_row 0 f)) (titles.title_set f) (diverted-row (titles.title_row 0 f) (title-row 0 f h.kept)) (title-behind f h)
@@ -273,8 +273,8 @@ worded-stored word v h = either AreStored (nat_lt 64 (length word)) v (record v 
 words-stored : (n : ℕ) (l : List ℕ) (v : Stored Resume) → AreStored v → AreStored (naming.with_words n l v)
 words-stored zero l v h = h
 words-stored (suc n) l v h =
-    either AreStored (length (word_in l) == 0) v (naming.with_words n (behind_word l) (worded (word_in l) v)) h
-    (words-stored n (behind_word l) (worded (word_in l) v) (worded-stored (word_in l) v h))
+    either AreStored (length (word_in l) == 0) v (naming.with_words n (after_word l) (worded (word_in l) v)) h
+    (words-stored n (after_word l) (worded (word_in l) v) (worded-stored (word_in l) v h))
 
 written-stored : (r : Option Register) (name : List ℕ) (v : Stored Resume) → AreStored v → AreStored (written r name v)
 written-stored None name v h = h

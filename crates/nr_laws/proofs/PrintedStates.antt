@@ -125,7 +125,7 @@ placed xs height f s is clean h =
 
 line-goes : (o : Outlet) (g : Going) (s : State) → Rests s → Rests (put_line_to o g s)
 line-goes outlets.Diversion g s h = plain-rests s _ h.clean (line-diverted g s.formatter h.resting)
-line-goes outlets.Room g s h = placed (lines.row_going g (offset s.formatter) s.formatter) (spacing s.formatter) (lines.behind_line g s.formatter) s (row-printed g (offset s.formatter) s.formatter h.resting.kept) h.clean (line-behind g s.formatter h.resting)
+line-goes outlets.Room g s h = placed (lines.row_going g (offset s.formatter) s.formatter) (spacing s.formatter) (lines.after_line g s.formatter) s (row-printed g (offset s.formatter) s.formatter h.resting.kept) h.clean (line-behind g s.formatter h.resting)
 line-goes o g s h = turned o s h
 
 goes-or : (g : Option Going) (done : Formatter → Formatter) (s : State) → Rests s → Rests (plainly done s) → Rests (put_or g done s)

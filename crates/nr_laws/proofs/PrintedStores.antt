@@ -25,7 +25,7 @@ use Rattle.nr_reading.specs.declared.front.Front.{Front}
 use Rattle.nr_reading.specs.declared.front.Front.TheVariants as fronts
 use Rattle.nr_reading.specs.declared.mode.Due.{Due}
 use Rattle.nr_reading.specs.declared.mode.Due.TheVariants as dues
-use Rattle.nr_input.specs.Acting.{act, name_in, behind_meaning, meaning_in, register_text}
+use Rattle.nr_input.specs.Acting.{act, name_in, after_meaning, meaning_in, register_text}
 use Rattle.nr_input.specs.Place.{Coming, front, front_of, element_front}
 use Rattle.nr_input.specs.declared.reader.Reader.{Reader}
 use Rattle.nr_formatter.specs.declared.tasks.Resume.{Resume}
@@ -318,7 +318,7 @@ naming-stored : (keeps : Bool) (name : List ℕ) (v : Stored Resume) → AreStor
 naming-stored true name v h = defined-stored name v h
 naming-stored false name v h = h
 
-meant : (m : Meaning) (v : Stored Resume) → AreStored v → AreStored (behind_meaning m v)
+meant : (m : Meaning) (v : Stored Resume) → AreStored v → AreStored (after_meaning m v)
 meant meanings.Text v h = h
 meant m v h = h
 

@@ -17,10 +17,10 @@ use Rattle.nr_fill.specs.Piece.{Collected, Word, Piece, add_cell, add_cells, add
 use Rattle.nr_fill.specs.Tabs.{tabbed, with_field_filled}
 use Rattle.nr_fill.specs.Title.{Title}
 use Rattle.nr_settings.specs.Characters.{prints, printing}
-use Rattle.nr_units.specs.LongestFront.{read_of}
+use Rattle.nr_units.specs.LongestPrefix.{read_of}
 use Rattle.nr_units.specs.declared.units.Scale.TheVariants.{Em}
 use Rattle.nr_settings.specs.Numbers.{context}
-use Rattle.nr_settings.specs.Motions.{first_printing, behind_ampersand, rule_byte}
+use Rattle.nr_settings.specs.Motions.{first_printing, after_ampersand, rule_byte}
 use Rattle.nr_settings.specs.Widths.{width_of}
 use Rattle.nr_settings.specs.Specials.{special_of, byte_of}
 use Rattle.nr_settings.specs.declared.indents.Margins.{Margins}
@@ -189,13 +189,13 @@ first-printed (b ∷ bs) =
     by true is = is
     by false is = refl
 
-ampersand-printed : (bs : List ℕ) → prints (behind_ampersand bs) ≡ true
+ampersand-printed : (bs : List ℕ) → prints (after_ampersand bs) ≡ true
 ampersand-printed [] = refl
 ampersand-printed (b ∷ bs) = either IsByteOf (b == code "&") (first_printing bs) (code "_") (first-printed bs) refl
 
 rule-printed : (bs : List ℕ) → prints (rule_byte bs) ≡ true
 rule-printed [] = refl
-rule-printed (b ∷ bs) = either IsByteOf (b == code "\\") (behind_ampersand bs) (first_printing (b ∷ bs)) (ampersand-printed bs) (first-printed (b ∷ bs))
+rule-printed (b ∷ bs) = either IsByteOf (b == code "\\") (after_ampersand bs) (first_printing (b ∷ bs)) (ampersand-printed bs) (first-printed (b ∷ bs))
 
 rule_cells-printed : (f : Formatter) → prints (rule_cells f).byte ≡ true
 rule_cells-printed f = rule-printed (drop (read_of (context Em (spacing f) (next_place f)) (argument f)).used (argument f))
@@ -304,7 +304,7 @@ tab-hearing filler f is h =
     (tabbed-lined (margins f) f.settings.tabs.stops (not f.settings.filling.fill) x (collected f) (filler-printed filler is) h.kept.lined))
 
 byte-hearing : (b : ℕ) (c : Bool) (f : Formatter) → prints b ≡ c → Hearing f → Hearing (if c then texts.character b f else done f)
-byte-hearing b true f is h = put-cell (cell b f) (texts.behind_of b) f is h
+byte-hearing b true f is h = put-cell (cell b f) (texts.after_of b) f is h
 byte-hearing b false f is h = done-hearing f h
 
 text_byte-hearing : (b : ℕ) (f : Formatter) → Hearing f → Hearing (texts.text_byte b f)

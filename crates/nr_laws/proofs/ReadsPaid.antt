@@ -15,7 +15,7 @@ use Rattle.nr_reading.proofs.Paying.{pays_for}
 use Rattle.nr_input.specs.Acting.{is_look}
 use Rattle.nr_input.specs.Moving.{Situation, looks, look, taken_at, stays_at, acted_at, acting, answer_at, burst_past, told_of, move as input_move}
 use Rattle.nr_input.specs.Moving as input
-use Rattle.nr_input.specs.Place.{Coming, Reached, StaysThere, front, front_of, behind, behind_front_of, front_seen, seen_front, passed_in, passed_by}
+use Rattle.nr_input.specs.Place.{Coming, Reached, StaysThere, front, front_of, behind, after_front_of, front_seen, seen_front, passed_in, passed_by}
 use Rattle.nr_input.specs.Refusal.{acted_by}
 use Rattle.nr_input.specs.Weights.{Pays, IfLead, byte_worth, newline_left, diversions_in, diversions_of, count_of_diversion}
 use Rattle.nr_input.specs.declared.place.Ahead.{Ahead}
@@ -176,7 +176,7 @@ front_same sh c = refl
 abbrev AreSame : Reached → Coming → Type 0
 AreSame p c = (p.taken ≡ c.taken) × (p.inside ≡ c.inside)
 
-behind_bytes : (bs : List ℕ) (c : Coming) → AreSame (passed_by (ahead_of bs) (reached c)) (behind_front_of bs c)
+behind_bytes : (bs : List ℕ) (c : Coming) → AreSame (passed_by (ahead_of bs) (reached c)) (after_front_of bs c)
 behind_bytes [] c = (refl, refl)
 behind_bytes (b ∷ bs) c = (refl, refl)
 

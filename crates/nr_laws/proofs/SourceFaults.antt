@@ -12,7 +12,7 @@ use Rattle.nr_store.specs.declared.shown.Shown.TheVariants as shows
 use Rattle.nr_reading.specs.Half.{Met, meet}
 use Rattle.nr_reading.specs.declared.event.Event.{Event}
 use Rattle.nr_reading.specs.declared.event.Event.TheVariants as events
-use Rattle.nr_input.specs.Place.{Coming, front, behind, behind_front_of}
+use Rattle.nr_input.specs.Place.{Coming, front, behind, after_front_of}
 use Rattle.nr_input.specs.Moving.{Situation, looks, look, taken_at, stays_at, acted_at}
 use Rattle.nr_formatter.specs.declared.formatter.Formatter.{Formatter}
 use Rattle.nr_formatter.specs.declared.lines.Going.{Going}
@@ -46,7 +46,7 @@ later Anytime = refl
 
 -- ---- the item in front
 
-behind_front : (bs : List ℕ) (c : Coming) → Told c → Told (behind_front_of bs c)
+behind_front : (bs : List ℕ) (c : Coming) → Told c → Told (after_front_of bs c)
 behind_front [] c h = h
 behind_front (b ∷ bs) c h = later c.supply.faults ∙ h
 

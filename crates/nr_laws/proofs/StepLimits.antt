@@ -38,7 +38,7 @@ use Rattle.nr_store.specs.Store.{Stored, Reading, Level, Read, Mark, left, left_
 use Rattle.nr_reading.specs.Half.{Met, meet}
 use Rattle.nr_input.specs.Acting.{Acted}
 use Rattle.nr_input.specs.Place.{front, behind}
-use Rattle.nr_input.specs.Moving.{Situation, Move, situation, looks, look, taken_at, stays_at, burst_behind, told_of, acted_at, move as input_move}
+use Rattle.nr_input.specs.Moving.{Situation, Move, situation, looks, look, taken_at, stays_at, burst_after, told_of, acted_at, move as input_move}
 use Rattle.nr_input.specs.declared.told.Told.{Told}
 use Rattle.nr_input.specs.declared.told.Told.TheVariants as tells
 use Rattle.nr_formatter.specs.declared.tasks.Resume.{Resume}
@@ -179,7 +179,7 @@ module _ (b : Bounds) where
   met_at-under true m q =
       ap (λ (v : Stored Resume). record {
         situation = situation v (behind (shown q.stored.levels) q.coming)
-            (record (reader_under b.expansions q.reader) { half = m.half; burst = burst_behind q.coming (behind (shown q.stored.levels) q.coming) q.reader.burst });
+            (record (reader_under b.expansions q.reader) { half = m.half; burst = burst_after q.coming (behind (shown q.stored.levels) q.coming) q.reader.burst });
         told = told_of (shown q.stored.levels) m.event;
       }) (left-under q.stored.levels q.stored)
   met_at-under false m q = refl

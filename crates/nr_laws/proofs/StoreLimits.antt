@@ -4,7 +4,7 @@ use Rattle.std.proofs.Common.{◌≡◌, ℕ, zero, suc, Bool, true, false, if�
 use Rattle.nr_symbol_tables.specs.Table.{find, is_same}
 use Rattle.nr_store.specs.declared.element.Diversion.{Diversion}
 use Rattle.nr_store.specs.Store.{Stored, Built, Means, named_newest, ended_by, moved, renamed, worded}
-use Rattle.nr_settings.specs.Arguments.{word_in, behind_word}
+use Rattle.nr_settings.specs.Arguments.{word_in, after_word}
 use Rattle.nr_options.specs.Limits.{Bounds}
 use Rattle.nr_formatter.specs.declared.tasks.Resume.{Resume}
 use Rattle.nr_formatter.specs.Names as naming
@@ -40,5 +40,5 @@ module _ (b : Bounds) where
   pub with_words-under : (n : ℕ) (l : List ℕ) (v : Stored Resume) → naming.with_words n l (stores_under v) ≡ stores_under (naming.with_words n l v)
   with_words-under zero l v = refl
   with_words-under (suc n) l v =
-      store-if (length (word_in l) == 0) v (naming.with_words n (behind_word l) (worded (word_in l) v)) (stores_under v) (naming.with_words n (behind_word l) (worded (word_in l) (stores_under v))) refl
-      (ap (λ w. naming.with_words n (behind_word l) w) (worded-under (word_in l) v) ∙ with_words-under n (behind_word l) (worded (word_in l) v))
+      store-if (length (word_in l) == 0) v (naming.with_words n (after_word l) (worded (word_in l) v)) (stores_under v) (naming.with_words n (after_word l) (worded (word_in l) (stores_under v))) refl
+      (ap (λ w. naming.with_words n (after_word l) w) (worded-under (word_in l) v) ∙ with_words-under n (after_word l) (worded (word_in l) v))

@@ -17,7 +17,7 @@ use Rattle.nr_reading.specs.Half.{Met, meet}
 use Rattle.nr_reading.specs.declared.ask.Sign.TheVariants as signs
 use Rattle.nr_reading.specs.declared.mode.Due.{Due}
 use Rattle.nr_reading.specs.declared.mode.Due.TheVariants as dues
-use Rattle.nr_input.specs.Acting.{act, name_in, behind_meaning, meaning_in, base_of}
+use Rattle.nr_input.specs.Acting.{act, name_in, after_meaning, meaning_in, base_of}
 use Rattle.nr_input.specs.Moving.{Situation, looks, look, taken_at, stays_at, acted_at, answer_at, move as input_move}
 use Rattle.nr_input.specs.Moving as input
 use Rattle.nr_input.specs.Place.{front}
@@ -85,7 +85,7 @@ set : (x : Option Register) (name : List ℕ) (v : Stored Resume) → AreFew v �
 set None name v h = h
 set (Some x) name v h = h
 
-meant : (m : Meaning) (v : Stored Resume) → AreFew v → AreFew (behind_meaning m v)
+meant : (m : Meaning) (v : Stored Resume) → AreFew v → AreFew (after_meaning m v)
 meant meanings.Text v h = h
 meant m v h = h
 

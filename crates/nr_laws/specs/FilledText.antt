@@ -15,7 +15,7 @@ use Rattle.nr_page.specs.PageBytes.{cell_bytes}
 use Rattle.nr_page.specs.declared.faces.Faces.{Faces}
 use Rattle.nr_options.specs.Limits.{Bounds}
 use Rattle.nr_options.specs.declared.options.Options.{Options}
-use Rattle.nr_formatter.specs.Text.{behind_of}
+use Rattle.nr_formatter.specs.Text.{after_of}
 use Rattle.nr_machine.specs.declared.outcome.Outcome.TheVariants.{Done}
 use Rattle.nr_laws.specs.Laws.{AnswersWith}
 use Rattle.nr_laws.specs.PlainText.{is_plain, TakesAll}
@@ -35,7 +35,7 @@ abbrev pub with_byte : Collected → ℕ → Collected
 with_byte c b =
     if b == code "\n" then after_newline (end_word c)
     else (if b == code " " then one_blank_more (end_word c)
-    else add_cell first_margins (behind_of b) (record { byte = b; look = Plain }) c)
+    else add_cell first_margins (after_of b) (record { byte = b; look = Plain }) c)
 
 -- the pieces of the whole text, from which no line was taken
 abbrev pub pieces_of : List ℕ → List Piece

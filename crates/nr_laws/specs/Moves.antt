@@ -43,12 +43,12 @@ charge_under None = 0
 charge_under (Some m) = weight_of m
 
 -- what levels that read the text of a name are charged for it once another text has the name
-abbrev pub charge_behind : List ℕ → List Shared → ℕ
-charge_behind name texts = sum_by (λ (t : Shared). if is_named name t.name then t.share else 0) texts
+abbrev pub charge_after : List ℕ → List Shared → ℕ
+charge_after name texts = sum_by (λ (t : Shared). if is_named name t.name then t.share else 0) texts
 
 -- a text that gives way to another under its name is charged no more then than it was with the name
 abbrev pub IsChargedOnce : List ℕ → Stored Resume → Type 0
-IsChargedOnce name v = charge_behind name v.texts ≤ charge_under (find name v.names)
+IsChargedOnce name v = charge_after name v.texts ≤ charge_under (find name v.names)
 
 -- And it is refused wherever that state is above a limit, at the first that it is above. A move that gives a definition its name asks for
 -- nothing, since its text was charged while it was built: there the text that gives way has to be charged once.

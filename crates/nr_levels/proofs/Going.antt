@@ -5,7 +5,7 @@ use Rattle.std.proofs.lemmas.List.{drop-drop, drop_all, length-drop}
 use Rattle.std.proofs.lemmas.Bool.Decides.{nat_tests}
 use Rattle.nr_levels.specs.Levels.{Source, Text, Own, Mark, Open, Levels, front, front_of, behind, advanced, HasNext, HasMark, resumed}
 use Rattle.nr_levels.specs.Further.{further, further_on, Reaches, NewestReaches}
-use Rattle.nr_levels.specs.Frame.{part, source_of, resume_of, open_of, opens_of, mode_of, modes_behind, modes_in, mode_count, levels_of, ReadsBelow, IsBare, IsStacked, AreLevels, MarkHasMode, AreModes}
+use Rattle.nr_levels.specs.Frame.{part, source_of, resume_of, open_of, opens_of, mode_of, modes_after, modes_in, mode_count, levels_of, ReadsBelow, IsBare, IsStacked, AreLevels, MarkHasMode, AreModes}
 use Rattle.nr_levels.specs.Moving.{gone_on, newest_gone_on, MayGoOn, NewestMayGoOn}
 use Rattle.nr_levels.specs.declared.frame.Span.{Span}
 use Rattle.nr_levels.specs.declared.frame.Frame.{Frame}
@@ -34,7 +34,7 @@ pub gone_further : {K : Type 0} → (fs : List Frame) (ms : List K) (xs : List �
 gone_further [] ms xs ps now room most n v view = ap (λ (w : Levels _). record w { levels = further_on n w.levels }) view
 gone_further (f ∷ fs) ms xs ps now room most n v view =
     let mode = mode_of f.has_mode ms in
-    ap₂ (λ s o. record (levels_of fs ms xs ps now room most) { levels = record (open_of xs ps f mode) { source = s; resume = o } ∷ opens_of xs ps fs (modes_behind f.has_mode ms) }) (gone_source n xs f.reads mode) (gone_resume n f.reads mode)
+    ap₂ (λ s o. record (levels_of fs ms xs ps now room most) { levels = record (open_of xs ps f mode) { source = s; resume = o } ∷ opens_of xs ps fs (modes_after f.has_mode ms) }) (gone_source n xs f.reads mode) (gone_resume n f.reads mode)
     ∙ ap (λ (w : Levels _). record w { levels = further_on n w.levels }) view
 
 once : {K : Type 0} → (s : Source K) → further 1 s ≡ behind s
@@ -116,7 +116,7 @@ module _ {K : Type 0} (xs : List ℕ) (ps : List Span) (now : Span) (room most m
   pub mode_dropped : (fs : List Frame) (ms : List K) → levels_of fs ms xs ps now room most ≡ v → HasMark (front_of v.levels) → AreModes fs ms mode_room most → levels_of (drop 1 fs) (drop 1 ms) xs ps now room most ≡ resumed v.levels v
   mode_dropped [] ms view mark modes = absurd (subst (λ (w : Levels _). HasMark (front_of w.levels)) (sym view) mark)
   mode_dropped (f ∷ fs) ms view mark modes =
-      sym (ap (λ has. levels_of fs (modes_behind has ms) xs ps now room most) (newest_has f fs ms view mark modes)) ∙ ap (λ (w : Levels _). resumed w.levels w) view
+      sym (ap (λ has. levels_of fs (modes_after has ms) xs ps now room most) (newest_has f fs ms view mark modes)) ∙ ap (λ (w : Levels _). resumed w.levels w) view
 
   pub modes_stand : (fs : List Frame) (ms : List K) → levels_of fs ms xs ps now room most ≡ v → HasMark (front_of v.levels) → AreModes fs ms mode_room most → AreModes (drop 1 fs) (drop 1 ms) mode_room most
   modes_stand [] ms view mark modes = absurd (subst (λ (w : Levels _). HasMark (front_of w.levels)) (sym view) mark)

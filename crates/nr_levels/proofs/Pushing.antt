@@ -5,7 +5,7 @@ use Rattle.std.proofs.lemmas.List.Sums.{sum_by-cons}
 use Rattle.std.proofs.lemmas.Bool.{cases_lt}
 use Rattle.nr_vectors.specs.Items.{Items}
 use Rattle.nr_levels.specs.Levels.{Levels, total, deeper, cut, argument}
-use Rattle.nr_levels.specs.Frame.{part, arguments_of, source_of, resume_of, opens_of, mode_of, modes_behind, levels_of, EndBy, AreBelow, ReadsBelow, IsBare, reader, AreLevels, MarkHasMode, modes_in, AreModes, spans_from, no_span}
+use Rattle.nr_levels.specs.Frame.{part, arguments_of, source_of, resume_of, opens_of, mode_of, modes_after, levels_of, EndBy, AreBelow, ReadsBelow, IsBare, reader, AreLevels, MarkHasMode, modes_in, AreModes, spans_from, no_span}
 use Rattle.nr_levels.specs.declared.frame.Span.{Span}
 use Rattle.nr_levels.specs.declared.frame.Frame.{Frame}
 use Rattle.nr_levels.specs.declared.frame.Reads.{Reads}
@@ -63,11 +63,11 @@ module _ (fs : List Frame) (xs ys : List ℕ) (ps qs : List Span) (now inforce :
 
   -- with these modes
   pub pushed_is : {K : Type 0} (ms : List K) → levels_of (pushed ∷ fs) ms ys qs inforce room most
-      ≡ deeper (source_of ys r (mode_of has ms)) (arguments_of ys qs inforce) charge (resume_of r (mode_of has ms)) (levels_of fs (modes_behind has ms) xs ps now room most)
+      ≡ deeper (source_of ys r (mode_of has ms)) (arguments_of ys qs inforce) charge (resume_of r (mode_of has ms)) (levels_of fs (modes_after has ms) xs ps now room most)
   pushed_is ms =
       let top = h.top in
       ap₂ (λ ls os. record { levels = record { source = source_of ys r (mode_of has ms); old = os; charge = charge; resume = resume_of r (mode_of has ms) } ∷ ls; arguments = arguments_of ys qs inforce; capacity = room; most = most })
-      (same_levels ys xs qs ps (length xs) (length ps) fs (modes_behind has ms) now (length xs) bytes places (omega arith) (omega arith) h.stacked)
+      (same_levels ys xs qs ps (length xs) (length ps) fs (modes_after has ms) now (length xs) bytes places (omega arith) (omega arith) h.stacked)
       (same_arguments ys xs qs ps (length xs) (length ps) now bytes places (omega arith) h.now)
 
   pub pushed_stands : length ys ≤ charge + length xs → length xs ≤ length ys → ReadsBelow (length ys) r → IsBare r now inforce (length xs) (length ys) → inforce.last ≡ length qs → AreBelow qs (length ys) inforce → length qs ≤ length ps + 9 * reader r → 16 * reader r ≤ charge

@@ -6,7 +6,7 @@ use Rattle.std.proofs.lemmas.Bool.{cases_lt}
 use Rattle.std.proofs.lemmas.List.Sums.{sum_by-cons}
 use Rattle.std.proofs.lemmas.Option.{get_or_from_slice_get}
 use Rattle.nr_levels.specs.Levels.{Source, Own, Mark, Open, Levels, total, front, front_of, marks, closed, HasNext, HasEnd}
-use Rattle.nr_levels.specs.Frame.{part, arguments_of, source_of, resume_of, open_of, opens_of, mode_of, modes_behind, modes_in, mode_count, levels_of, EndBy, AreBelow, ReadsBelow, reader, readers, IsStacked, AreLevels, MarkHasMode, AreModes}
+use Rattle.nr_levels.specs.Frame.{part, arguments_of, source_of, resume_of, open_of, opens_of, mode_of, modes_after, modes_in, mode_count, levels_of, EndBy, AreBelow, ReadsBelow, reader, readers, IsStacked, AreLevels, MarkHasMode, AreModes}
 use Rattle.nr_levels.specs.Windows.{left_in, rest_of}
 use Rattle.nr_levels.specs.declared.frame.Span.{Span}
 use Rattle.nr_levels.specs.declared.frame.Frame.{Frame}
@@ -75,7 +75,7 @@ same_levels xs ys ps qs n q (f ∷ fs) ms now h same_bytes same_places below top
     let here : open_of xs ps f mode ≡ open_of ys qs f mode = ap₂ (λ (s : Source _) o. record { source = s; old = o; charge = f.charge; resume = resume_of f.reads mode })
     (same_source xs ys h f.reads mode (same_front xs ys h n below same_bytes) on.reads)
     (same_arguments xs ys ps qs f.height q f.old (same_front xs ys f.height n (omega arith) same_bytes) same_places (omega arith) on.old) in
-    ap₂ (λ z zs. z ∷ zs) here (same_levels xs ys ps qs n q fs (modes_behind f.has_mode ms) f.old f.height same_bytes same_places (omega arith) (omega arith) stacked.1)
+    ap₂ (λ z zs. z ∷ zs) here (same_levels xs ys ps qs n q fs (modes_after f.has_mode ms) f.old f.height same_bytes same_places (omega arith) (omega arith) stacked.1)
 
 -- and they are stacked there too
 pub same_stack : (ps qs : List Span) (q : ℕ) (fs : List Frame) (now : Span) (h : ℕ) → take q ps ≡ take q qs → now.last ≤ q → q ≤ length ps → IsStacked qs fs now h → IsStacked ps fs now h
@@ -101,8 +101,8 @@ pub stacked_total : {K : Type 0} → (xs : List ℕ) (ps qs : List Span) (fs : L
 stacked_total xs ps qs [] ms now h stacked = let none = stacked.1 in omega arith
 stacked_total xs ps qs (f ∷ fs) ms now h stacked =
     let paid = stacked.0.paid in
-    let rest = stacked_total xs ps qs fs (modes_behind f.has_mode ms) f.old f.height stacked.1 in
-    let all = sum_by-cons (λ (l : Open _). l.charge) (open_of xs qs f (mode_of f.has_mode ms)) (opens_of xs qs fs (modes_behind f.has_mode ms)) in
+    let rest = stacked_total xs ps qs fs (modes_after f.has_mode ms) f.old f.height stacked.1 in
+    let all = sum_by-cons (λ (l : Open _). l.charge) (open_of xs qs f (mode_of f.has_mode ms)) (opens_of xs qs fs (modes_after f.has_mode ms)) in
     omega arith
 
 -- no more than nine arguments a level that reads
@@ -127,8 +127,8 @@ pub readers_total : {K : Type 0} → (xs : List ℕ) (ps qs : List Span) (fs : L
 readers_total xs ps qs [] ms now h stacked = omega arith
 readers_total xs ps qs (f ∷ fs) ms now h stacked =
     let costs = stacked.0.costs in
-    let rest = readers_total xs ps qs fs (modes_behind f.has_mode ms) f.old f.height stacked.1 in
-    let all = sum_by-cons (λ (l : Open _). l.charge) (open_of xs qs f (mode_of f.has_mode ms)) (opens_of xs qs fs (modes_behind f.has_mode ms)) in
+    let rest = readers_total xs ps qs fs (modes_after f.has_mode ms) f.old f.height stacked.1 in
+    let all = sum_by-cons (λ (l : Open _). l.charge) (open_of xs qs f (mode_of f.has_mode ms)) (opens_of xs qs fs (modes_after f.has_mode ms)) in
     omega arith
 
 pub modes_deep : (fs : List Frame) → mode_count fs ≤ length fs
@@ -141,7 +141,7 @@ modes_deep (f ∷ fs) = let rest = modes_deep fs in let one = one_mode f.has_mod
 
 pub length-opens_of : {K : Type 0} → (xs : List ℕ) (ps : List Span) (fs : List Frame) (ms : List K) → length (opens_of xs ps fs ms) ≡ length fs
 length-opens_of xs ps [] ms = refl
-length-opens_of xs ps (f ∷ fs) ms = ap suc (length-opens_of xs ps fs (modes_behind f.has_mode ms))
+length-opens_of xs ps (f ∷ fs) ms = ap suc (length-opens_of xs ps fs (modes_after f.has_mode ms))
 
 -- ---- the newest level
 
@@ -265,7 +265,7 @@ module _ (fs : List Frame) (xs : List ℕ) (ps : List Span) (now : Span) (room m
 
   -- what the newest level is, with the others
   whole : {K : Type 0} (ms : List K) (v : Levels K) → levels_of fs ms xs ps now room most ≡ v
-      → closed (open_of xs ps f (mode_of f.has_mode ms) ∷ opens_of xs ps (drop 1 fs) (modes_behind f.has_mode ms)) (levels_of fs ms xs ps now room most) ≡ closed v.levels v
+      → closed (open_of xs ps f (mode_of f.has_mode ms) ∷ opens_of xs ps (drop 1 fs) (modes_after f.has_mode ms)) (levels_of fs ms xs ps now room most) ≡ closed v.levels v
   whole ms v view =
       ap (λ ls. closed ls (levels_of fs ms xs ps now room most)) (sym (ap (λ gs. opens_of xs ps gs ms) (cons_of fs f top)))
       ∙ ap (λ (w : Levels _). closed w.levels w) view
@@ -275,7 +275,7 @@ module _ (fs : List Frame) (xs : List ℕ) (ps : List Span) (now : Span) (room m
   closed_is ms v view none =
       below_is ms
       ∙ sym (ap (λ o. record { levels = marks o (arguments_of xs ps f.old) ++ opens_of xs ps (drop 1 fs) ms; arguments = arguments_of xs ps f.old; capacity = room; most = most }) (no_resume _ f.reads))
-      ∙ sym (ap (λ has. record { levels = marks (resume_of f.reads (mode_of has ms)) (arguments_of xs ps f.old) ++ opens_of xs ps (drop 1 fs) (modes_behind has ms); arguments = arguments_of xs ps f.old; capacity = room; most = most }) none)
+      ∙ sym (ap (λ has. record { levels = marks (resume_of f.reads (mode_of has ms)) (arguments_of xs ps f.old) ++ opens_of xs ps (drop 1 fs) (modes_after has ms); arguments = arguments_of xs ps f.old; capacity = room; most = most }) none)
       ∙ whole ms v view
 
   -- with one
@@ -285,7 +285,7 @@ module _ (fs : List Frame) (xs : List ℕ) (ps : List Span) (now : Span) (room m
       let here = front_is fs (m ∷ ms) xs ps now room most v f f.reads view top refl ∙ ap (λ has. Some (front (source_of xs f.reads (mode_of has (m ∷ ms))))) some in
       marked_is m ms
       ∙ sym (ap (λ o. record { levels = marks o (arguments_of xs ps f.old) ++ opens_of xs ps (drop 1 fs) ms; arguments = arguments_of xs ps f.old; capacity = room; most = most }) (end_resumes xs f.reads m (subst HasEnd here end)))
-      ∙ sym (ap (λ has. record { levels = marks (resume_of f.reads (mode_of has (m ∷ ms))) (arguments_of xs ps f.old) ++ opens_of xs ps (drop 1 fs) (modes_behind has (m ∷ ms)); arguments = arguments_of xs ps f.old; capacity = room; most = most }) some)
+      ∙ sym (ap (λ has. record { levels = marks (resume_of f.reads (mode_of has (m ∷ ms))) (arguments_of xs ps f.old) ++ opens_of xs ps (drop 1 fs) (modes_after has (m ∷ ms)); arguments = arguments_of xs ps f.old; capacity = room; most = most }) some)
       ∙ whole (m ∷ ms) v view
 
 -- the modes of the frames below the newest, and of one whose end was taken

@@ -21,9 +21,9 @@ mode_of true modes = slice_get modes 0
 mode_of false modes = None
 
 -- the modes of the frames after it
-abbrev pub modes_behind : {K : Type 0} → Bool → List K → List K
-modes_behind true modes = drop 1 modes
-modes_behind false modes = modes
+abbrev pub modes_after : {K : Type 0} → Bool → List K → List K
+modes_after true modes = drop 1 modes
+modes_after false modes = modes
 
 -- what a frame reads; where its end was taken, its mode is still to be resumed
 abbrev pub source_of : {K : Type 0} → List ℕ → Reads → Option K → Source K
@@ -53,7 +53,7 @@ abbrev pub opens_of : {K : Type 0} → List ℕ → List Span → List Frame →
 opens_of bytes places [] modes = []
 opens_of bytes places (f ∷ fs) modes =
     open_of bytes places f (mode_of f.has_mode modes) ∷ opens_of bytes places fs
-    (modes_behind f.has_mode modes)
+    (modes_after f.has_mode modes)
 
 -- the levels of a row of frames
 abbrev pub levels_of : {K : Type 0} → List Frame → List K → List ℕ → List Span → Span → ℕ → ℕ → Levels K

@@ -1,7 +1,7 @@
 //! The levels that are open, and the bytes and arguments that they keep.
 ghost use Rattle.std.specs.Prelude.{◌≡◌, ◌+◌, ◌*◌, ◌/◌, ◌^◌, ◌<◌, ◌≤◌, [], length, min, sum, nat_le, Some, None, IfOk};
 ghost use Rattle.nr_levels.specs.Levels.{Text, Own, total, front_of, advanced, HasNext, HasEnd, HasMark, deeper, closed, charge_of_newest, resumed, argument, cut};
-ghost use Rattle.nr_levels.specs.Frame.{mode_of, modes_behind, modes_in};
+ghost use Rattle.nr_levels.specs.Frame.{mode_of, modes_after, modes_in};
 ghost use Rattle.nr_levels.specs.Further.{further_on, NewestReaches};
 ghost use Rattle.nr_levels.specs.Windows.{source_in, rest_of};
 ghost use Rattle.nr_levels.specs.Moving.{Comes};
@@ -51,7 +51,7 @@ impl<K: Copy> Model for Levels<K> {
 fn keep<K: Copy>(modes: &mut Stack<K>, mode: Option<K>) -> bool
     requires { length modes.old.items < modes.old.capacity }
     ensures mode { mode_of result modes.new.items ≡ mode }
-    ensures rest { modes_behind result modes.new.items ≡ modes.old.items }
+    ensures rest { modes_after result modes.new.items ≡ modes.old.items }
     ensures count { length modes.new.items ≡ modes_in result + length modes.old.items }
     ensures room { modes.new.capacity ≡ modes.old.capacity }
 {

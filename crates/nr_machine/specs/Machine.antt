@@ -29,7 +29,7 @@ use Rattle.nr_formatter.specs.declared.tasks.Then.{Then}
 use Rattle.nr_symbol_tables.specs.declared.trap.Trap.{Trap}
 use Rattle.nr_formatter.specs.Access.{collected, spacing, done}
 use Rattle.nr_formatter.specs.Places.{outlet, to_read}
-use Rattle.nr_formatter.specs.Lines.{flow_line, break_line, row_going, behind_line, flow_done, break_word_end, break_done}
+use Rattle.nr_formatter.specs.Lines.{flow_line, break_line, row_going, after_line, flow_done, break_word_end, break_done}
 use Rattle.nr_formatter.specs.Pages.{begins_first_page, place_behind, line_placed, page_begun, page_ended, is_ejecting, task_ejected, next_springing}
 use Rattle.nr_formatter.specs.Spacing.{is_spaceless, spaced}
 use Rattle.nr_formatter.specs.Diversions.{divert_line, divert_title, with_diverted_space, with_diverted_cell, with_diverted_end}
@@ -115,7 +115,7 @@ offset f = f.settings.indents.page_offset.value / 24
 abbrev pub put_line_to : Outlet → Going → State → State
 put_line_to outlets.Diversion g s = plainly (divert_line g) s
 put_line_to outlets.Room g s =
-    place (row_going g (offset s.formatter) s.formatter) (spacing s.formatter) (behind_line g s.formatter) s
+    place (row_going g (offset s.formatter) s.formatter) (spacing s.formatter) (after_line g s.formatter) s
 put_line_to o g s = turn_page o s
 
 -- the line that goes out is diverted, or finds room and is placed

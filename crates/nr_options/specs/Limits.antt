@@ -1,4 +1,4 @@
--- The five limits: what they bound, and between which numbers each may lie.
+-- The limits: what they bound, and between which numbers each may lie.
 use Rattle.std.specs.Prelude.{ℕ, ◌≤◌, ◌-◌, ◌^◌}
 use Rattle.nr_options.specs.declared.limits.Limit.{Limit}
 use Rattle.nr_options.specs.declared.limits.Limit.TheVariants.{Stored, Depth, Cells, Expansions, Moves}

@@ -1,4 +1,4 @@
-//! What a run is given beside its input: the five limits, the first page's number, registers, and which pages
+//! What a run is given beside its input: the limits, the first page's number, registers, and which pages
 //! are printed.
 //!
 //! It stands on nr_units and nr_page. To read: `limits`, `options`.

@@ -1,10 +1,10 @@
-//! The five limits under which a text is formatted.
+//! The limits under which a text is formatted.
 ghost use Rattle.std.specs.Prelude.{◌≡◌, ◌^◌, ◌≤◌, ◌↔◌, IsTrue, IsSome, IfSome};
 ghost use Rattle.nr_options.specs.Limits.{AreLimits, IsInRange, with_bound};
 
 use std::marker::Model;
 
-/// One of the five limits.
+/// One of the limits.
 #[derive(Clone, Copy)]
 pub enum Limit {
     /// The bytes stored: texts under names, registers, traps, open levels. 64 to 2^24.

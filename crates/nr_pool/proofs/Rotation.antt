@@ -6,7 +6,7 @@ use Rattle.std.proofs.lemmas.List.Sums.{sum-map}
 use Rattle.std.proofs.lemmas.Bool.{cases_lt, cases_Bool, cond-true, cond-false, and_parts, and_cases, ltb-true, ltb-false, leb-true, leb-false}
 use borrow.Rule.Slice.PartMut.{put_mid}
 use Rattle.nr_pool.specs.Texts.{Held}
-use Rattle.nr_pool.specs.Slot.{blank_slot, slot_at, held_of, texts_of, is_behind, shifted, IsPacked}
+use Rattle.nr_pool.specs.Slot.{blank_slot, slot_at, held_of, texts_of, is_after, shifted, IsPacked}
 use Rattle.nr_pool.specs.Spares.{HasSpares}
 use Rattle.nr_pool.specs.declared.slot.Slot.{Slot}
 use Rattle.nr_pool.proofs.Places.{same_map, same_part, same_slot, written_at}
@@ -21,14 +21,14 @@ pub record IsMoved (e n : ℕ) (s t : Slot) : Type 0 where
   pub high : 0 < s.len → e ≤ s.start → t.start ≡ s.start - n
 
 moved_by_shift : (e n : ℕ) (s : Slot) → IsMoved e n s (shifted e n s)
-moved_by_shift e n s = elim (cases_Bool (is_behind e s)) [
+moved_by_shift e n s = elim (cases_Bool (is_after e s)) [
   | inl behind ↦
       let parts = and_parts (ltb 0 s.len) (leb e s.start) behind in
       let some = ltb-true 0 s.len parts.0 in
       let high = leb-true e s.start parts.1 in
-      rw (cond-true (is_behind e s) (record s { start = s.start - n }) s behind) record { len = refl; holders = refl; nothing = λ h. absurd (omega arith); low = λ h. absurd (omega arith); high = λ _ _. refl }
+      rw (cond-true (is_after e s) (record s { start = s.start - n }) s behind) record { len = refl; holders = refl; nothing = λ h. absurd (omega arith); low = λ h. absurd (omega arith); high = λ _ _. refl }
   | inr before ↦
-      rw (cond-false (is_behind e s) (record s { start = s.start - n }) s before) record {
+      rw (cond-false (is_after e s) (record s { start = s.start - n }) s before) record {
         len = refl;
         holders = refl;
         nothing = λ _. refl;
@@ -245,13 +245,13 @@ shift_step e n k slots now within lengths is =
     map_over_more (shifted e n) slots now k (slot_at now k) within is (get_or_default now k blank_slot (slot_at now k) (omega arith))
 
 pub shift_step_moves : (e n k : ℕ) (slots now after : List Slot) → k < length slots → length now ≡ length slots → now ≡ map (shifted e n) (take k slots) ++ drop k slots
-    → is_behind e (slot_at now k) ≡ true → after ≡ set now k (record (slot_at now k) { start = (slot_at now k).start - n }) → after ≡ map (shifted e n) (take (k + 1) slots) ++ drop (k + 1) slots
+    → is_after e (slot_at now k) ≡ true → after ≡ set now k (record (slot_at now k) { start = (slot_at now k).start - n }) → after ≡ map (shifted e n) (take (k + 1) slots) ++ drop (k + 1) slots
 shift_step_moves e n k slots now after within lengths is behind written =
     let o = slot_at now k in
-    written ∙ ap (set now k) (sym (cond-true (is_behind e o) (record o { start = o.start - n }) o behind)) ∙ shift_step e n k slots now within lengths is
+    written ∙ ap (set now k) (sym (cond-true (is_after e o) (record o { start = o.start - n }) o behind)) ∙ shift_step e n k slots now within lengths is
 
 pub shift_step_keeps : (e n k : ℕ) (slots now after : List Slot) → k < length slots → length now ≡ length slots → now ≡ map (shifted e n) (take k slots) ++ drop k slots
-    → is_behind e (slot_at now k) ≡ false → after ≡ set now k (slot_at now k) → after ≡ map (shifted e n) (take (k + 1) slots) ++ drop (k + 1) slots
+    → is_after e (slot_at now k) ≡ false → after ≡ set now k (slot_at now k) → after ≡ map (shifted e n) (take (k + 1) slots) ++ drop (k + 1) slots
 shift_step_keeps e n k slots now after within lengths is before written =
     let o = slot_at now k in
-    written ∙ ap (set now k) (sym (cond-false (is_behind e o) (record o { start = o.start - n }) o before)) ∙ shift_step e n k slots now within lengths is
+    written ∙ ap (set now k) (sym (cond-false (is_after e o) (record o { start = o.start - n }) o before)) ∙ shift_step e n k slots now within lengths is

@@ -20,12 +20,12 @@ abbrev pub texts_of : {T : Type 0} → List T → List Slot → Texts T
 texts_of elements slots = record { capacity = length elements; texts = map (held_of elements) slots }
 
 -- the text of a slot has elements, and begins at an end or after it
-abbrev pub is_behind : ℕ → Slot → Bool
-is_behind end s = nat_lt 0 s.len && nat_le end s.start
+abbrev pub is_after : ℕ → Slot → Bool
+is_after end s = nat_lt 0 s.len && nat_le end s.start
 
 -- a slot, n further down if its text has elements and begins at an end or after it
 abbrev pub shifted : ℕ → ℕ → Slot → Slot
-shifted end n s = if is_behind end s then record s { start = s.start - n } else s
+shifted end n s = if is_after end s then record s { start = s.start - n } else s
 
 -- the texts lie in the first `used` elements, apart from one another, and fill them
 pub record IsPacked (capacity : ℕ) (slots : List Slot) (used : ℕ) : Type 0 where

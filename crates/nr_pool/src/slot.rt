@@ -1,6 +1,6 @@
 //! Where the texts of a pool lie.
 ghost use Rattle.std.specs.Prelude.{◌≡◌, ◌≢◌, ℕ, ◌+◌, ◌-◌, ◌^◌, ◌<◌, ◌≤◌, ◌⊎◌, [], ◌∷◌, ◌++◌, length, map, take, drop, IfSome, None};
-ghost use Rattle.nr_pool.specs.Slot.{texts_of, slot_at, blank_slot, is_behind, shifted, IsPacked};
+ghost use Rattle.nr_pool.specs.Slot.{texts_of, slot_at, blank_slot, is_after, shifted, IsPacked};
 ghost use Rattle.nr_pool.specs.Spares.{HasSpares};
 ghost use Rattle.nr_pool.specs.Exchange.{LiesAt, IsSwapped, IsExchanged};
 ghost use Rattle.nr_pool.specs.Removal.{spare_before, IsRemoved};
@@ -51,8 +51,8 @@ impl Slot {
     }
 
     // Whether the text has elements and begins at `end` or after it.
-    fn is_behind(&self, end: u32) -> bool
-        ensures { result ≡ is_behind end self.now }
+    fn is_after(&self, end: u32) -> bool
+        ensures { result ≡ is_after end self.now }
     {
         self.len > 0 && self.start >= end
     }
@@ -147,13 +147,13 @@ fn rotate<T: Copy>(part: &mut [T], n: usize)
 
 // The texts with elements that begin at `end` or after it begin n further down.
 #[inline(always)]
-fn shift_behind(slots: &mut [Slot], end: u32, n: u32)
+fn shift_after(slots: &mut [Slot], end: u32, n: u32)
     requires { n ≤ end }
     ensures { slots.new ≡ map (shifted end n) slots.old }
 {
     for i in 0..slots.len() {
         let slot = &mut slots[i];
-        if slot.is_behind(end) {
+        if slot.is_after(end) {
             slot.start -= n;
         }
     }
@@ -179,7 +179,7 @@ fn rotate_last<T: Copy>(elements: &mut [T], slots: &mut [Slot], used: u32, index
         return;
     }
     rotate(&mut elements[start as usize..used as usize], len as usize);
-    shift_behind(slots, end, len);
+    shift_after(slots, end, len);
     slots[index].start = used - len;
 }
 
@@ -265,7 +265,7 @@ fn remove_before_others<T: Copy>(
     }
     slots[index] = Slot::spare(next);
     elements.copy_within(end as usize..used as usize, start as usize);
-    shift_behind(slots, end, len);
+    shift_after(slots, end, len);
 }
 
 // The same in vectors, at once where no others lie after it or it has no elements. It gives how many it had.

@@ -58,5 +58,5 @@ meet-quoted_byte b h mode next plain quote =
     let apart : (c : ℕ) → is_plain c ≡ false → (b == c) ≡ false = λ c. apart_from is_plain b c plain in
     subst (λ (k : Half). MeetsByte b k (record k { reading = record k.reading { due = dues.Put b } }) events.Nothing true) (sym (standing modes.Quoted h mode next)) (rw (apart (code "\\") refl, apart (code "\n") refl, quote) refl)
 
-pub meet-behind_quote : (b : ℕ) (h : Half) → h.reading.mode ≡ modes.Quote → reads_next h ≡ true → (b == code "\\") ≡ false → (b == code "\"") ≡ false → MeetsByte b h (with_due modes.MacroGap dues.EndArgument h) events.Nothing false
-meet-behind_quote b h mode next plain quote = subst (λ (k : Half). MeetsByte b k (with_due modes.MacroGap dues.EndArgument k) events.Nothing false) (sym (standing modes.Quote h mode next)) (rw (plain, quote) refl)
+pub meet-after_quote : (b : ℕ) (h : Half) → h.reading.mode ≡ modes.Quote → reads_next h ≡ true → (b == code "\\") ≡ false → (b == code "\"") ≡ false → MeetsByte b h (with_due modes.MacroGap dues.EndArgument h) events.Nothing false
+meet-after_quote b h mode next plain quote = subst (λ (k : Half). MeetsByte b k (with_due modes.MacroGap dues.EndArgument k) events.Nothing false) (sym (standing modes.Quote h mode next)) (rw (plain, quote) refl)

@@ -15,10 +15,10 @@ use Rattle.nr_reading.specs.declared.mode.Signs.{Signs}
 use Rattle.nr_reading.specs.Step.{Step}
 use Rattle.nr_reading.specs.Ask.{first_stage}
 use Rattle.nr_reading.specs.Mode.{is_direct}
-use Rattle.nr_reading.specs.Reader.{unescaped, behind_backslash, direct}
+use Rattle.nr_reading.specs.Reader.{unescaped, after_backslash, direct}
 use Rattle.nr_reading.specs.Skipping.{accepted_escape, skip_escape}
 use Rattle.nr_reading.specs.Step.{to, tell}
-use Rattle.nr_reading.specs.TextEscape.{plain, interpolated, asked_in_text, is_nothing, is_plain, event_behind, escape_in_text, escape_by, spliced_or, lone_escape, escaped}
+use Rattle.nr_reading.specs.TextEscape.{plain, interpolated, asked_in_text, is_nothing, is_plain, event_after, escape_in_text, escape_by, spliced_or, lone_escape, escaped}
 use Rattle.nr_reading.specs.Weights.{worth_of_front, is_lead}
 use Rattle.nr_reading.proofs.Unescaped.{unescaped_pays}
 use Rattle.nr_reading.proofs.Weighing.{at, Pays, either, cost_of_event-le, weight_of_stage-le, weight_of_backslash-ge}
@@ -38,8 +38,8 @@ one_of : (b : Bool) {x y : Event} → Tells x → Tells y → Tells (if b then x
 one_of true p q = p
 one_of false p q = q
 
-event_behind-tells : (b : ℕ) (titled : Bool) → Tells (event_behind b titled)
-event_behind-tells b titled =
+event_after-tells : (b : ℕ) (titled : Bool) → Tells (event_after b titled)
+event_after-tells b titled =
     one_of ((b == code "\\") || (b == code "e")) (record { tells = refl })
     (one_of (b == code "&") (record { tells = refl })
     (one_of ((b == code " ") || (b == code "0")) (record { tells = refl })
@@ -57,7 +57,7 @@ event_behind-tells b titled =
 
 text_escape_pays : (b : ℕ) (o : Option Ask) (c n : Bool) → Pays (at modes.Text escapes.Begun c n) 256 (escape_in_text b o (at modes.Text escapes.Begun c n))
 text_escape_pays b (Some a) c n = record { pays = omega (arith, weight_of_stage-le a.stage); tells = refl }
-text_escape_pays b None c n = last (b == code "c") (event_behind b false) (event_behind-tells b false).tells
+text_escape_pays b None c n = last (b == code "c") (event_after b false) (event_after-tells b false).tells
   where
     last : (t : Bool) (e : Event) → is_lead e ≡ false → Pays (at modes.Text escapes.Begun c n) 256 (tell e (plain (to (if t then modes.Interrupted else modes.Text) (at modes.Text escapes.Begun c n))))
     last true e unled = record { pays = omega (arith, cost_of_event-le e); tells = unled }
@@ -65,15 +65,15 @@ text_escape_pays b None c n = last (b == code "c") (event_behind b false) (event
 
 before_title_escape_pays : (b : ℕ) (o : Option Ask) (c n : Bool) → Pays (at modes.TitleBefore escapes.Begun c n) 256 (escape_in_text b o (at modes.TitleBefore escapes.Begun c n))
 before_title_escape_pays b (Some a) c n = record { pays = omega (arith, weight_of_stage-le a.stage); tells = refl }
-before_title_escape_pays b None c n = record { pays = omega (arith, cost_of_event-le (event_behind b true)); tells = (event_behind-tells b true).tells }
+before_title_escape_pays b None c n = record { pays = omega (arith, cost_of_event-le (event_after b true)); tells = (event_after-tells b true).tells }
 
 title_escape_pays : (b d k : ℕ) (o : Option Ask) (c n : Bool) → Pays (at (modes.Title d k) escapes.Begun c n) 256 (escape_in_text b o (at (modes.Title d k) escapes.Begun c n))
 title_escape_pays b d k (Some a) c n = record { pays = omega (arith, weight_of_stage-le a.stage); tells = refl }
-title_escape_pays b d k None c n = record { pays = omega (arith, cost_of_event-le (event_behind b true)); tells = (event_behind-tells b true).tells }
+title_escape_pays b d k None c n = record { pays = omega (arith, cost_of_event-le (event_after b true)); tells = (event_after-tells b true).tells }
 
 diverted_escape_pays : (b : ℕ) (o : Option Ask) (c n : Bool) → Pays (at modes.Diverted escapes.Begun c n) 256 (escape_in_text b o (at modes.Diverted escapes.Begun c n))
 diverted_escape_pays b (Some a) c n = record { pays = omega (arith, weight_of_stage-le a.stage); tells = refl }
-diverted_escape_pays b None c n = record { pays = omega (arith, cost_of_event-le (event_behind b false)); tells = (event_behind-tells b false).tells }
+diverted_escape_pays b None c n = record { pays = omega (arith, cost_of_event-le (event_after b false)); tells = (event_after-tells b false).tells }
 
 -- ---- by the mode
 
@@ -130,7 +130,7 @@ skip_escape_pays (fronts.LineEnd h) k c n = record { pays = omega arith; tells =
 skip_escape_pays fronts.Resume k c n = record { pays = omega arith; tells = refl }
 skip_escape_pays fronts.Over k c n = record { pays = omega arith; tells = refl }
 
-behind_backslash_pays : (m : Mode) (f : Front) (s : Signs) (c n : Bool) → is_direct m ≡ true → Pays (at m escapes.Begun c n) (worth_of_front f) (behind_backslash m f s (at m escapes.Begun c n))
+behind_backslash_pays : (m : Mode) (f : Front) (s : Signs) (c n : Bool) → is_direct m ≡ true → Pays (at m escapes.Begun c n) (worth_of_front f) (after_backslash m f s (at m escapes.Begun c n))
 behind_backslash_pays modes.Accepted f s c n is = accepted_escape_pays f c n
 behind_backslash_pays (modes.Skip k) f s c n is = skip_escape_pays f k c n
 behind_backslash_pays m f s c n is = escaped_pays f s.long m c n is refl

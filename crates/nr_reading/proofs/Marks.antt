@@ -13,7 +13,7 @@ use Rattle.nr_reading.specs.Ask.{is_size, reads_argument}
 use Rattle.nr_reading.specs.Escape.{offer, raw_offer}
 use Rattle.nr_reading.specs.Half.{meet, meet_by, met_directly, offered, silent}
 use Rattle.nr_reading.specs.Mode.{is_direct, reads_arguments}
-use Rattle.nr_reading.specs.Reader.{unescaped, behind_backslash, direct, direct_by}
+use Rattle.nr_reading.specs.Reader.{unescaped, after_backslash, direct, direct_by}
 use Rattle.nr_reading.specs.Step.{go}
 
 unescaped-mark : (m : Mode) (s : Signs) (r : Reading) → unescaped m fronts.Mark s r ≡ go r
@@ -29,14 +29,14 @@ unescaped-mark modes.Accepted s r = refl
 unescaped-mark (modes.Skip n) s r = refl
 unescaped-mark m s r = refl
 
-behind_backslash-mark : (m : Mode) (s : Signs) (r : Reading) → behind_backslash m fronts.Mark s r ≡ go r
-behind_backslash-mark modes.Accepted s r = refl
-behind_backslash-mark (modes.Skip n) s r = refl
-behind_backslash-mark m s r = refl
+after_backslash-mark : (m : Mode) (s : Signs) (r : Reading) → after_backslash m fronts.Mark s r ≡ go r
+after_backslash-mark modes.Accepted s r = refl
+after_backslash-mark (modes.Skip n) s r = refl
+after_backslash-mark m s r = refl
 
 direct-mark : (e : Escape) (s : Signs) (r : Reading) → direct_by e fronts.Mark s r ≡ go r
 direct-mark escapes.Plain s r = unescaped-mark r.mode s r
-direct-mark escapes.Begun s r = behind_backslash-mark r.mode s r
+direct-mark escapes.Begun s r = after_backslash-mark r.mode s r
 direct-mark escapes.Comment s r = refl
 
 asked-mark : (size : Bool) (argument : Bool) (e : Escape) (h : Half) → h.reading.escape ≡ e → offered (if size then raw_offer fronts.Mark e else offer fronts.Mark e argument) h ≡ silent h

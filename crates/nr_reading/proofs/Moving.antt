@@ -9,7 +9,7 @@ use Rattle.nr_reading.specs.declared.half.Seen.{Seen}
 use Rattle.nr_reading.specs.declared.mode.Due.TheVariants as dues
 use Rattle.nr_reading.specs.Half.{Met, met, meet}
 use Rattle.nr_reading.specs.Many.Passing.{quiet}
-use Rattle.nr_reading.specs.Many.Runs.{Spot, one_if, behind_met, behind, spot_after, MayGoOn, HasMet}
+use Rattle.nr_reading.specs.Many.Runs.{Spot, one_if, after_met, behind, spot_after, MayGoOn, HasMet}
 use Rattle.nr_reading.specs.Weights.{weight_of_half, cost_of_event, blanks_owed, worth_of_front, paid_by, PaysFor}
 
 one_if-le : (b : Bool) → one_if b ≤ 1
@@ -30,13 +30,13 @@ paid_on first middle last cost n taken more owed owing owes old new = omega arit
 -- an item that is met is one move more
 pub met_more : (n : ℕ) (fs : List Front) (h : Half) (p : Spot) (f : Front) (k : Half) (seen : Seen)
     → HasMet n fs h p → MayGoOn fs p → slice_get fs p.taken ≡ Some f → worth_of_front f ≡ 256
-    → met k seen ≡ meet f p.half → PaysFor f p.half k seen → HasMet (n + 1) fs h (behind_met (met k seen) p.taken)
+    → met k seen ≡ meet f p.half → PaysFor f p.half k seen → HasMet (n + 1) fs h (after_met (met k seen) p.taken)
 met_more n fs h p f k seen has may some text is paid = record {
   leads =
       ap (λ j. spot_after j fs h) (add-one n)
       ∙ ap (λ (q : Spot). behind (slice_get fs q.taken) q) has.leads
       ∙ ap (λ (o : Option Front). behind o p) some
-      ∙ ap (λ (m : Met). behind_met m p.taken) (sym is);
+      ∙ ap (λ (m : Met). after_met m p.taken) (sym is);
   goes = below_more _ _ has.goes (subst (λ (q : Spot). MayGoOn fs q) (sym has.leads) may);
   within = let one = one_if-le seen.takes in let room = may.some in omega arith;
   pays =

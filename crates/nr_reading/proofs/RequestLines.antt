@@ -27,7 +27,7 @@ use Rattle.nr_reading.specs.Many.InArgument.{IsPlain}
 use Rattle.nr_reading.specs.Kept.{kept}
 use Rattle.nr_reading.specs.Half.{meet, reads_next, reads_next_at}
 use Rattle.nr_reading.specs.Many.Passing.{quiet}
-use Rattle.nr_reading.specs.Many.RequestLines.{behind_request_line}
+use Rattle.nr_reading.specs.Many.RequestLines.{after_request_line}
 use Rattle.nr_reading.specs.Many.Runs.{HasMet}
 use Rattle.nr_reading.specs.Spelled.{is_blank}
 use Rattle.nr_reading.proofs.Asked.{half_at}
@@ -174,13 +174,13 @@ begins h blanks next = by h.reading.due h.asks h.reading.escape h.reading.mode n
 pub request-line-met : (bs : List ℕ) (k : ℕ) (line : List ℕ) (h : Half) → h.reading.mode ≡ modes.RequestBlanks → reads_next h ≡ true → k + length line < length bs
     → ((i : ℕ) → i < k → is_blank (get_or bs i 0) ≡ true) → is_blank (get_or bs k 0) ≡ false
     → ((i : ℕ) → i < length line → get_or bs (k + i) 0 ≡ get_or line i 0) → ((i : ℕ) → i < length line → IsPlain (code "\n") (get_or line i 0)) → get_or bs (k + length line) 0 ≡ code "\n"
-    → HasMet (k + length line + 2) (map fronts.Byte bs) h (record { taken = k + length line + 1; half = behind_request_line line h; event = events.Request })
+    → HasMet (k + length line + 2) (map fronts.Byte bs) h (record { taken = k + length line + 1; half = after_request_line line h; event = events.Request })
 request-line-met bs k line h blanks next less all other same plain newline =
     let c = h.reading.continued in
     let n = h.reading.no_break in
     let is_h = begins h blanks next in
     let apart : (get_or bs k 0 == code "\\") ≡ false = ne_eqb (get_or bs k 0) (code "\\") (first line same plain newline) in
-    subst (λ (j : Half). HasMet (k + length line + 2) (map fronts.Byte bs) j (record { taken = k + length line + 1; half = behind_request_line line j; event = events.Request })) (sym is_h)
+    subst (λ (j : Half). HasMet (k + length line + 2) (map fronts.Byte bs) j (record { taken = k + length line + 1; half = after_request_line line j; event = events.Request })) (sym is_h)
     (ended bs c n h.signs h.delimited h.notes k line (begun bs c n h.signs h.delimited h.notes k (omega (arith, less)) all other apart) (omega (arith, less)) same plain less newline)
   where
     first : (l : List ℕ) → ((i : ℕ) → i < length l → get_or bs (k + i) 0 ≡ get_or l i 0) → ((i : ℕ) → i < length l → IsPlain (code "\n") (get_or l i 0)) → get_or bs (k + length l) 0 ≡ code "\n" → get_or bs k 0 ≡ code "\\" → ⊥
@@ -195,7 +195,7 @@ request-line-met bs k line h blanks next less all other same plain newline =
 pub line-at-hand : (bs rest : List ℕ) (m k count : ℕ) (h : Half) → rest ≡ drop k (take m bs) → h.reading.mode ≡ modes.RequestBlanks → reads_next h ≡ true → k ≤ length (take m bs)
     → All (λ b. is_blank b ≡ true) (take k (take m bs)) → (k < length (take m bs) → is_blank (get_or (take m bs) k 0) ≡ false)
     → All (IsPlain (code "\n")) (take count rest) → count < length rest → get_or rest count 0 ≡ code "\n"
-    → HasMet (k + count + 2) (map fronts.Byte bs) h (record { taken = k + count + 1; half = behind_request_line (take count rest) h; event = events.Request })
+    → HasMet (k + count + 2) (map fronts.Byte bs) h (record { taken = k + count + 1; half = after_request_line (take count rest) h; event = events.Request })
 line-at-hand bs rest m k count h is blanks next front all stops plain inside newline =
     let near = take m bs in
     let line = take count rest in
@@ -206,7 +206,7 @@ line-at-hand bs rest m k count h is blanks next front all stops plain inside new
     let in_rest : (i : ℕ) → i < length rest → get_or rest i 0 ≡ get_or bs (k + i) 0 =
     λ i less. ap (λ ys. get_or ys i 0) is ∙ get_or-drop k near i 0 ∙ in_near (k + i) (omega (arith, less, rest_length, front)) in
     let below : k < length near = omega (arith, inside, rest_length) in
-    subst (λ n. HasMet (k + n + 2) (map fronts.Byte bs) h (record { taken = k + n + 1; half = behind_request_line line h; event = events.Request })) long
+    subst (λ n. HasMet (k + n + 2) (map fronts.Byte bs) h (record { taken = k + n + 1; half = after_request_line line h; event = events.Request })) long
     (request-line-met bs k line h blanks next (omega (arith, long, inside, rest_length, near_length))
     (λ i less.
     subst (λ b. is_blank b ≡ true) (get_or-take k near i 0 less ∙ in_near i (omega (arith, less, below)))

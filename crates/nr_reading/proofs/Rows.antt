@@ -99,8 +99,8 @@ module _ (fs : List Front) (from made : ℕ) where
       })
 
   -- one place is led to from another
-  pub leads_behind : (to moves to' moves' : ℕ) (old mid new : Half) → LeadsOn fs from made old to moves mid → LeadsOn fs to moves mid to' moves' new → LeadsOn fs from made old to' moves' new
-  leads_behind to moves to' moves' old mid new leads more = record { met = λ h has. more.met h (leads.met h has) }
+  pub leads_after : (to moves to' moves' : ℕ) (old mid new : Half) → LeadsOn fs from made old to moves mid → LeadsOn fs to moves mid to' moves' new → LeadsOn fs from made old to' moves' new
+  leads_after to moves to' moves' old mid new leads more = record { met = λ h has. more.met h (leads.met h has) }
 
   -- a byte that was met leads on, where it tells nothing
   pub leads_met : (to moves more b : ℕ) (old mid now new : Half) (seen : Seen) → LeadsOn fs from made old to moves mid → now ≡ mid → to < length fs → mid.reading.due ≡ dues.Look → slice_get fs to ≡ Some (fronts.Byte b)

@@ -77,10 +77,10 @@ unescaped (modes.Skip n) f s r = skip f n r
 unescaped m f s r = start f s r
 
 -- after a `\`
-abbrev pub behind_backslash : Mode → Front → Signs → Reading → Step
-behind_backslash modes.Accepted f s r = accepted_escape f r
-behind_backslash (modes.Skip n) f s r = skip_escape f n r
-behind_backslash m f s r = escaped f s.long r
+abbrev pub after_backslash : Mode → Front → Signs → Reading → Step
+after_backslash modes.Accepted f s r = accepted_escape f r
+after_backslash (modes.Skip n) f s r = skip_escape f n r
+after_backslash m f s r = escaped f s.long r
 
 -- a comment vanishes up to the newline, or what acts as one
 abbrev pub ends_comment : Front → Bool
@@ -91,7 +91,7 @@ ends_comment f = true
 
 abbrev pub direct_by : Escape → Front → Signs → Reading → Step
 direct_by escapes.Plain f s r = unescaped r.mode f s r
-direct_by escapes.Begun f s r = behind_backslash r.mode f s r
+direct_by escapes.Begun f s r = after_backslash r.mode f s r
 direct_by escapes.Comment f s r = if ends_comment f then unescaped r.mode f s (plain r) else go r
 
 abbrev pub direct : Front → Signs → Reading → Step

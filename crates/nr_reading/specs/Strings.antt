@@ -15,13 +15,13 @@ abbrev pub read_string_before : ℕ → Reading → Step
 read_string_before b r = if is_blank b then go r else leave_noting notes.NewName (to modes.StringName r)
 
 -- without a name the line does nothing
-abbrev pub behind_string_name : Spelled → Reading → Reading
-behind_string_name name r = if is_empty (name_of name) then to modes.Drop r else to modes.StringBlanks r
+abbrev pub after_string_name : Spelled → Reading → Reading
+after_string_name name r = if is_empty (name_of name) then to modes.Drop r else to modes.StringBlanks r
 
 -- A name that is an argument is read the same way as a control line's.
 abbrev pub read_string_name : ℕ → Bool → Spelled → Reading → Step
 read_string_name b long name r =
-    if ends_name b then leave (behind_string_name name r)
+    if ends_name b then leave (after_string_name name r)
     else (if completes long name then noting (notes.Name b) (to modes.StringBlanks r)
     else noting (notes.Name b) r)
 

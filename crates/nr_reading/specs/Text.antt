@@ -70,19 +70,19 @@ abbrev pub one_blank_more : ℕ → ℕ
 one_blank_more n = min (2 ^ 32 - 1) (n + 1)
 
 -- The line isn't blank: its blanks become cells of the first word.
-abbrev pub text_behind_blanks : ℕ → Reading → Step
-text_behind_blanks n r = leave (due (dues.Lead n) (to modes.Text r))
+abbrev pub text_after_blanks : ℕ → Reading → Step
+text_after_blanks n r = leave (due (dues.Lead n) (to modes.Text r))
 
 abbrev pub leading_byte : ℕ → ℕ → Reading → Step
 leading_byte b n r =
     if b == code "\n" then tell events.Empty (to modes.Start r)
     else (if b == code " " then go (to (modes.Leading (one_blank_more n)) r)
-    else (if b == code "\\" then begin_escape r else text_behind_blanks n r))
+    else (if b == code "\\" then begin_escape r else text_after_blanks n r))
 
 abbrev pub leading : Front → ℕ → Reading → Step
 leading fronts.Mark n r = go r
 leading (fronts.Byte b) n r = leading_byte b n r
-leading (fronts.Cell c) n r = text_behind_blanks n r
+leading (fronts.Cell c) n r = text_after_blanks n r
 leading (fronts.LineEnd h) n r = tell events.Empty (to modes.Start r)
 leading fronts.Resume n r = leave_telling events.Empty (to modes.Start r)
 leading fronts.Over n r = leave_telling events.Empty (to modes.Start r)

@@ -17,7 +17,7 @@ use Rattle.nr_reading.specs.Notes as notes
 use Rattle.nr_reading.specs.Step.{Step}
 use Rattle.nr_reading.specs.Ask.{begun_ask, bracketed_ask}
 use Rattle.nr_reading.specs.Step.{to, escaping, go, leave, tell, noting}
-use Rattle.nr_reading.specs.Text.{continuing, text_behind_blanks}
+use Rattle.nr_reading.specs.Text.{continuing, text_after_blanks}
 
 -- the escape has ended
 abbrev pub plain : Reading → Reading
@@ -66,8 +66,8 @@ other_byte titled b =
     else (if titled then events.Plain b else events.Byte b))
 
 -- what an escape without an argument tells
-abbrev pub event_behind : ℕ → Bool → Event
-event_behind b titled =
+abbrev pub event_after : ℕ → Bool → Event
+event_after b titled =
     if (b == code "\\") || (b == code "e") then events.Plain (code "\\")
     else (if b == code "&" then events.Zero
     else (if (b == code " ") || (b == code "0") then events.Fixed
@@ -84,14 +84,14 @@ is_titled (modes.Title d n) = true
 is_titled m = false
 
 -- `\c` comes last in a text line
-abbrev pub behind_escape : ℕ → Mode → Mode
-behind_escape b modes.Text = if b == code "c" then modes.Interrupted else modes.Text
-behind_escape b m = m
+abbrev pub after_escape : ℕ → Mode → Mode
+after_escape b modes.Text = if b == code "c" then modes.Interrupted else modes.Text
+after_escape b m = m
 
 -- an escape in the text itself
 abbrev pub escape_in_text : ℕ → Option Ask → Reading → Step
 escape_in_text b (Some a) r = noting (notes.Begin a) (plain r)
-escape_in_text b None r = tell (event_behind b (is_titled r.mode)) (plain (to (behind_escape b r.mode) r))
+escape_in_text b None r = tell (event_after b (is_titled r.mode)) (plain (to (after_escape b r.mode) r))
 
 -- `\!` at the beginning of a line passes the rest of it on.
 abbrev pub escape_at_start : ℕ → Reading → Step
@@ -102,7 +102,7 @@ escape_at_start b r =
 abbrev pub escape_by : ℕ → Bool → Mode → Reading → Step
 escape_by b long modes.Start r = escape_at_start b r
 escape_by b long modes.Diverting r = escape_at_start b r
-escape_by b long (modes.Leading n) r = text_behind_blanks n r
+escape_by b long (modes.Leading n) r = text_after_blanks n r
 escape_by b long modes.Continued r = leave (continuing false (to modes.Text r))
 escape_by b long modes.Interrupted r = leave (to modes.Text r)
 escape_by b long m r = escape_in_text b (asked_in_text b long) r
@@ -121,7 +121,7 @@ escaped_byte b long r = spliced_or b (interpolated b) long r
 abbrev pub lone_escape : Mode → Reading → Step
 lone_escape modes.Start r = leave (plain (continuing false (to modes.Text r)))
 lone_escape modes.Diverting r = leave (plain (continuing false (to modes.Text r)))
-lone_escape (modes.Leading n) r = text_behind_blanks n (plain r)
+lone_escape (modes.Leading n) r = text_after_blanks n (plain r)
 lone_escape modes.Continued r = leave (plain (continuing false (to modes.Text r)))
 lone_escape modes.Interrupted r = leave (plain (to modes.Text r))
 lone_escape m r = leave (plain r)

@@ -1,7 +1,7 @@
 //! What the reader does with an item, by its mode.
 ghost use Rattle.std.specs.Prelude.{◌≡◌};
 ghost use Rattle.nr_reading.specs.Step.{joined};
-ghost use Rattle.nr_reading.specs.Reader.{read, read_over, unescaped, behind_backslash, ends_comment, direct};
+ghost use Rattle.nr_reading.specs.Reader.{read, read_over, unescaped, after_backslash, ends_comment, direct};
 
 use super::conditions::{read_condition, read_first, read_number, read_second};
 use super::control::{
@@ -84,8 +84,8 @@ pub(crate) fn unescaped(front: Front, signs: Signs, reading: &mut Reading) -> Sa
 }
 
 // An item after a `\`.
-fn behind_backslash(front: Front, signs: Signs, reading: &mut Reading) -> Said
-    ensures { joined reading.new result ≡ behind_backslash reading.old.mode front signs reading.old }
+fn after_backslash(front: Front, signs: Signs, reading: &mut Reading) -> Said
+    ensures { joined reading.new result ≡ after_backslash reading.old.mode front signs reading.old }
 {
     match reading.mode {
         Mode::Accepted => accepted_escape(front, reading),
@@ -111,7 +111,7 @@ pub(crate) fn direct(front: Front, signs: Signs, reading: &mut Reading) -> Said
 {
     match reading.escape {
         Escape::Plain => unescaped(front, signs, reading),
-        Escape::Begun => behind_backslash(front, signs, reading),
+        Escape::Begun => after_backslash(front, signs, reading),
         Escape::Comment => {
             if ends_comment(front) {
                 reading.escape = Escape::Plain;

@@ -1,7 +1,7 @@
 //! Definitions of strings, and transparent lines.
 ghost use Rattle.std.specs.Prelude.{◌≡◌};
 ghost use Rattle.nr_reading.specs.Step.{joined};
-ghost use Rattle.nr_reading.specs.Strings.{read_string_before, behind_string_name, read_string_name, read_string_blanks, read_string_text, read_transparent};
+ghost use Rattle.nr_reading.specs.Strings.{read_string_before, after_string_name, read_string_name, read_string_blanks, read_string_text, read_transparent};
 
 use super::control::completes;
 use super::mode::{Due, Mode, Reading};
@@ -22,7 +22,7 @@ pub(crate) fn read_string_before(byte: u8, reading: &mut Reading) -> Said
 
 // A string's name ends.
 fn end_string_name(name: &Spelled, reading: &mut Reading)
-    ensures { reading.new ≡ behind_string_name name.now reading.old }
+    ensures { reading.new ≡ after_string_name name.now reading.old }
 {
     if name.name().is_empty() {
         reading.mode = Mode::Drop;

@@ -1,7 +1,7 @@
 //! Text lines.
 ghost use Rattle.std.specs.Prelude.{◌≡◌};
 ghost use Rattle.nr_reading.specs.Step.{joined};
-ghost use Rattle.nr_reading.specs.Text.{begin_escape, in_text, start_blank, start_newline, start_control, start_byte, start, one_blank_more, text_behind_blanks, leading_byte, leading, continued_byte, continued, is_interrupted, ended, end_event, text_byte, text};
+ghost use Rattle.nr_reading.specs.Text.{begin_escape, in_text, start_blank, start_newline, start_control, start_byte, start, one_blank_more, text_after_blanks, leading_byte, leading, continued_byte, continued, is_interrupted, ended, end_event, text_byte, text};
 
 use super::event::Event;
 use super::front::Front;
@@ -135,8 +135,8 @@ fn one_blank_more(count: u32) -> u32
 
 /// The text after leading blanks.
 #[inline(always)]
-pub(crate) fn text_behind_blanks(count: u32, reading: &mut Reading) -> Said
-    ensures { joined reading.new result ≡ text_behind_blanks count reading.old }
+pub(crate) fn text_after_blanks(count: u32, reading: &mut Reading) -> Said
+    ensures { joined reading.new result ≡ text_after_blanks count reading.old }
 {
     reading.mode = Mode::Text;
     reading.due = Due::Lead(count);
@@ -159,7 +159,7 @@ fn leading_byte(byte: u8, count: u32, reading: &mut Reading) -> Said
     if byte == b'\\' {
         return begin_escape(reading);
     }
-    text_behind_blanks(count, reading)
+    text_after_blanks(count, reading)
 }
 
 /// After leading blanks.
@@ -170,7 +170,7 @@ pub(crate) fn leading(front: Front, count: u32, reading: &mut Reading) -> Said
     match front {
         Front::Mark => go(),
         Front::Byte(byte) => leading_byte(byte, count, reading),
-        Front::Cell(_) => text_behind_blanks(count, reading),
+        Front::Cell(_) => text_after_blanks(count, reading),
         Front::LineEnd(_) => {
             reading.mode = Mode::Start;
             tell(Event::Empty)

@@ -2,14 +2,14 @@
 ghost use Rattle.std.specs.Prelude.{◌≡◌};
 ghost use Rattle.nr_reading.specs.Step.{ask_of, joined};
 ghost use Rattle.std.specs.Option.{option_map};
-ghost use Rattle.nr_reading.specs.TextEscape.{interpolated, asked_in_text, is_nothing, is_plain, other_byte, event_behind, is_titled, behind_escape, escape_in_text, escape_at_start, escape_by, escaped_byte, lone_escape, escaped};
+ghost use Rattle.nr_reading.specs.TextEscape.{interpolated, asked_in_text, is_nothing, is_plain, other_byte, event_after, is_titled, after_escape, escape_in_text, escape_at_start, escape_by, escaped_byte, lone_escape, escaped};
 
 use super::ask::{Begun, Kind, Sign};
 use super::event::Event;
 use super::front::Front;
 use super::mode::{Escape, Mode, Reading};
 use super::step::{Jot, Said, go, leave, noting, tell};
-use super::text::text_behind_blanks;
+use super::text::text_after_blanks;
 
 // What is interpolated, by the byte after `\`.
 fn interpolated(byte: u8) -> Option<Kind>
@@ -75,8 +75,8 @@ fn other_byte(titled: bool, byte: u8) -> Event
 }
 
 // What an escape without an argument tells.
-fn event_behind(byte: u8, titled: bool) -> Event
-    ensures { result ≡ event_behind byte titled }
+fn event_after(byte: u8, titled: bool) -> Event
+    ensures { result ≡ event_after byte titled }
 {
     if byte == b'\\' || byte == b'e' {
         return Event::Plain(b'\\');
@@ -110,8 +110,8 @@ fn is_titled(mode: Mode) -> bool
 }
 
 // The mode after an escape.
-fn behind_escape(byte: u8, mode: Mode) -> Mode
-    ensures { result ≡ behind_escape byte mode }
+fn after_escape(byte: u8, mode: Mode) -> Mode
+    ensures { result ≡ after_escape byte mode }
 {
     match mode {
         Mode::Text => {
@@ -129,8 +129,8 @@ fn escape_in_text(byte: u8, asked: Option<Begun>, reading: &mut Reading) -> Said
     ensures { joined reading.new result ≡ escape_in_text byte (option_map ask_of asked) reading.old }
 {
     let Some(begun) = asked else {
-        let event = event_behind(byte, is_titled(reading.mode));
-        reading.mode = behind_escape(byte, reading.mode);
+        let event = event_after(byte, is_titled(reading.mode));
+        reading.mode = after_escape(byte, reading.mode);
         reading.escape = Escape::Plain;
         return tell(event);
     };
@@ -158,7 +158,7 @@ fn escape_by(byte: u8, long: bool, reading: &mut Reading) -> Said
 {
     match reading.mode {
         Mode::Start | Mode::Diverting => escape_at_start(byte, reading),
-        Mode::Leading(count) => text_behind_blanks(count, reading),
+        Mode::Leading(count) => text_after_blanks(count, reading),
         Mode::Continued => {
             reading.mode = Mode::Text;
             reading.continued = false;
@@ -204,7 +204,7 @@ fn lone_escape(reading: &mut Reading) -> Said
         }
         Mode::Leading(count) => {
             reading.escape = Escape::Plain;
-            text_behind_blanks(count, reading)
+            text_after_blanks(count, reading)
         }
         Mode::Interrupted => {
             reading.mode = Mode::Text;

@@ -10,7 +10,7 @@ use Rattle.std.proofs.lemmas.List.{drop_all}
 use Rattle.std.proofs.lemmas.Nat.{div-mul-add, mul-le}
 use Rattle.nr_units.specs.Expression.{truth}
 use Rattle.nr_units.specs.Grammar.{letter}
-use Rattle.nr_units.specs.LongestFront.{nothing_read, read_of, read_on}
+use Rattle.nr_units.specs.LongestPrefix.{nothing_read, read_of, read_on}
 use Rattle.nr_units.specs.Prefix.{no_prefix, prefixed}
 use Rattle.nr_units.specs.Scan.{Scan, after_byte, capped, in_mode, more_whole, nothing_waits, number_value, outermost, start}
 use Rattle.nr_units.specs.Units.{denominator, in_range, nearest, numerator, scaled, with_sign_of}

@@ -15,12 +15,12 @@ abbrev pub word_len : List ℕ → ℕ
 word_len text = prefix_len (λ b. not (is_blank b)) text
 
 -- a number to a blank outside parentheses, so many being open; a `)` without `(` closes none.
-abbrev pub depth_behind : ℕ → ℕ → ℕ
-depth_behind depth b = if b == code "(" then depth + 1 else if b == code ")" then depth - 1 else depth
+abbrev pub depth_after : ℕ → ℕ → ℕ
+depth_after depth b = if b == code "(" then depth + 1 else if b == code ")" then depth - 1 else depth
 
 abbrev pub number_len : ℕ → List ℕ → ℕ
 number_len depth [] = 0
-number_len depth (b ∷ bs) = if is_blank b && depth == 0 then 0 else 1 + number_len (depth_behind depth b) bs
+number_len depth (b ∷ bs) = if is_blank b && depth == 0 then 0 else 1 + number_len (depth_after depth b) bs
 
 -- A name has bytes that are no blanks and no control bytes: two at most, or with long names as many as there are.
 abbrev pub is_name_byte : ℕ → Bool
@@ -37,14 +37,14 @@ name_of bytes = if length bytes == 0 || nat_lt 32 (length bytes) then None else 
 abbrev pub word_in : List ℕ → List ℕ
 word_in line = take (word_len (behind_blanks line)) (behind_blanks line)
 
-abbrev pub behind_word : List ℕ → List ℕ
-behind_word line = drop (word_len (behind_blanks line)) (behind_blanks line)
+abbrev pub after_word : List ℕ → List ℕ
+after_word line = drop (word_len (behind_blanks line)) (behind_blanks line)
 
 abbrev pub number_in : List ℕ → List ℕ
 number_in line = take (number_len 0 (behind_blanks line)) (behind_blanks line)
 
-abbrev pub behind_number : List ℕ → List ℕ
-behind_number line = drop (number_len 0 (behind_blanks line)) (behind_blanks line)
+abbrev pub after_number : List ℕ → List ℕ
+after_number line = drop (number_len 0 (behind_blanks line)) (behind_blanks line)
 
 abbrev pub name_in : Bool → List ℕ → Option (List ℕ)
 name_in long line = name_of (take (name_len long (behind_blanks line)) (behind_blanks line))

@@ -38,8 +38,8 @@ abbrev pub ce : List ℕ → ℕ → Filling → Filling
 ce line v s = record s { centred = counted_lines line v }
 
 -- one text line is counted
-abbrev pub behind_centred_line : Filling → Filling
-behind_centred_line s = record s { centred = s.centred - 1 }
+abbrev pub after_centred_line : Filling → Filling
+after_centred_line s = record s { centred = s.centred - 1 }
 
 -- Lines are filled in fill mode, while none is to be centred.
 abbrev pub is_filling : Filling → Bool

@@ -46,8 +46,8 @@ abbrev pub ul : List ℕ → ℕ → Fonts → Fonts
 ul line v s = record s { underlined = counted_lines line v }
 
 -- one text line is counted
-abbrev pub behind_underlined_line : Fonts → Fonts
-behind_underlined_line s = record s { underlined = s.underlined - 1 }
+abbrev pub after_underlined_line : Fonts → Fonts
+after_underlined_line s = record s { underlined = s.underlined - 1 }
 
 -- a terminal shows italics by underlining
 abbrev pub look_of : Font → Look

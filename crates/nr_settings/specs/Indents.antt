@@ -50,8 +50,8 @@ abbrev pub margins_of : Indents → Margins
 margins_of s = record { indent = line_indent s / 24; length = (s.line_length.value - line_indent s) / 24 }
 
 -- a line has begun, so `.ti` is used up
-abbrev pub behind_line_begun : Indents → Indents
-behind_line_begun s = record s { next_indent = None }
+abbrev pub after_line_begun : Indents → Indents
+after_line_begun s = record s { next_indent = None }
 
 -- those at first: lines and titles of 6.5 inches
 abbrev pub steady : ℕ → Kept

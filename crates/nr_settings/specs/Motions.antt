@@ -2,7 +2,7 @@
 use Prim.Native.Char.{code}
 use Rattle.std.specs.Prelude.{ℕ, ◌/◌, List, [], ◌∷◌, ◌==◌, drop, Option, Some, None, ℤ, pos, int_lt, unwrap_or, if◌then◌else◌}
 use Rattle.nr_units.specs.Units.{nearest_multiple}
-use Rattle.nr_units.specs.LongestFront.{read_of}
+use Rattle.nr_units.specs.LongestPrefix.{read_of}
 use Rattle.nr_units.specs.declared.units.Scale.TheVariants.{Em}
 use Rattle.nr_units.specs.declared.expression.Read.{Read}
 use Rattle.nr_settings.specs.Characters.{prints}
@@ -26,13 +26,13 @@ abbrev pub first_printing : List ℕ → ℕ
 first_printing [] = code "_"
 first_printing (b ∷ bs) = if b == code "\\" then code "_" else if prints b then b else code "_"
 
-abbrev pub behind_ampersand : List ℕ → ℕ
-behind_ampersand [] = code "_"
-behind_ampersand (b ∷ bs) = if b == code "&" then first_printing bs else code "_"
+abbrev pub after_ampersand : List ℕ → ℕ
+after_ampersand [] = code "_"
+after_ampersand (b ∷ bs) = if b == code "&" then first_printing bs else code "_"
 
 abbrev pub rule_byte : List ℕ → ℕ
 rule_byte [] = code "_"
-rule_byte (b ∷ bs) = if b == code "\\" then behind_ampersand bs else first_printing (b ∷ bs)
+rule_byte (b ∷ bs) = if b == code "\\" then after_ampersand bs else first_printing (b ∷ bs)
 
 abbrev pub rule_read : List ℕ → Read → Repeated
 rule_read argument read =

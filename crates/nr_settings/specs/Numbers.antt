@@ -3,7 +3,7 @@ use Prim.Native.Char.{code}
 use Rattle.std.specs.Prelude.{ℕ, Bool, false, List, [], ◌∷◌, ◌==◌, Option, Some, None, ℤ, pos, negsuc, neg_ℤ, ◌+ℤ◌, int_lt, if◌then◌else◌}
 use Rattle.std.specs.Option.{option_map}
 use Rattle.std.specs.Ordering.{int_eq}
-use Rattle.nr_units.specs.LongestFront.{read_of}
+use Rattle.nr_units.specs.LongestPrefix.{read_of}
 use Rattle.nr_units.specs.declared.units.Scale.{Scale}
 use Rattle.nr_units.specs.declared.units.Scale.TheVariants.{Unit as OneUnit}
 use Rattle.nr_units.specs.declared.expression.Ctx.{Ctx}

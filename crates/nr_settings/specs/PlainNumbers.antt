@@ -1,7 +1,7 @@
 -- Numbers of few digits, with the letter of a scale or none.
 use Prim.Native.Char.{code}
 use Rattle.std.specs.Prelude.{◌≡◌, ℕ, zero, suc, ◌+◌, ◌-◌, ◌≤◌, List, ◌∷◌, drop, pos}
-use Rattle.nr_units.specs.LongestFront.{read_on}
+use Rattle.nr_units.specs.LongestPrefix.{read_on}
 use Rattle.nr_units.specs.Scan.{Scan, in_mode, more_whole, outermost}
 use Rattle.nr_units.specs.Units.{denominator, numerator}
 use Rattle.nr_units.specs.declared.expression.Ctx.{Ctx}

@@ -6,7 +6,7 @@ use Rattle.std.specs.Option.{option_map}
 use Rattle.nr_units.specs.declared.number_text.Format.{Format}
 use Rattle.nr_units.specs.declared.number_text.Format.TheVariants.{Arabic, LowerRoman, UpperRoman, LowerAlphabetic, UpperAlphabetic}
 use Rattle.nr_units.specs.declared.units.Scale.TheVariants.{Unit as OneUnit}
-use Rattle.nr_settings.specs.Arguments.{word_in, behind_number, name_in, behind_name}
+use Rattle.nr_settings.specs.Arguments.{word_in, after_number, name_in, behind_name}
 use Rattle.nr_settings.specs.Numbers.{first_value, first_change}
 use Rattle.nr_settings.specs.declared.numbers.Change.{Change}
 use Rattle.nr_settings.specs.declared.registers.RegisterChange.{RegisterChange}
@@ -20,7 +20,7 @@ register_change name step (Some change) = Some (record { name = name; change = c
 abbrev pub nr_named : ℕ → List ℕ → Option (List ℕ) → Option RegisterChange
 nr_named v rest None = None
 nr_named v rest (Some name) =
-    register_change name (first_value OneUnit v (pos 0) (behind_number rest))
+    register_change name (first_value OneUnit v (pos 0) (after_number rest))
     (first_change OneUnit v (pos 0) rest)
 
 abbrev pub nr : List ℕ → Bool → ℕ → Option RegisterChange

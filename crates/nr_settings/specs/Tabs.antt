@@ -2,10 +2,10 @@
 use Prim.Native.Char.{code}
 use Rattle.std.specs.Prelude.{ℕ, zero, suc, ◌*◌, ◌/◌, Bool, false, List, [], ◌∷◌, ◌++◌, length, ◌==◌, nat_le, Option, Some, None, slice_get, ℤ, pos, negsuc, ◌+ℤ◌, if◌then◌else◌}
 use Rattle.nr_units.specs.Units.{nearest_multiple}
-use Rattle.nr_units.specs.LongestFront.{read_of}
+use Rattle.nr_units.specs.LongestPrefix.{read_of}
 use Rattle.nr_units.specs.declared.units.Scale.TheVariants.{Em}
 use Rattle.nr_units.specs.declared.expression.Read.{Read}
-use Rattle.nr_settings.specs.Arguments.{number_in, behind_number, byte_in}
+use Rattle.nr_settings.specs.Arguments.{number_in, after_number, byte_in}
 use Rattle.nr_settings.specs.Characters.{printing}
 use Rattle.nr_settings.specs.Numbers.{context}
 use Rattle.nr_settings.specs.declared.stops.StopKind.{StopKind}
@@ -18,16 +18,16 @@ use Rattle.nr_settings.specs.declared.tabs.Tabs.{Tabs}
 abbrev pub numbers_in : ℕ → List ℕ → List (List ℕ)
 numbers_in zero line = []
 numbers_in (suc n) line =
-    if length (number_in line) == 0 then [] else number_in line ∷ numbers_in n (behind_number line)
+    if length (number_in line) == 0 then [] else number_in line ∷ numbers_in n (after_number line)
 
 -- `+N` counts from the stop before.
 abbrev pub is_relative : List ℕ → Bool
 is_relative [] = false
 is_relative (b ∷ bs) = b == code "+"
 
-abbrev pub behind_plus : List ℕ → List ℕ
-behind_plus [] = []
-behind_plus (b ∷ bs) = if b == code "+" then bs else b ∷ bs
+abbrev pub after_plus : List ℕ → List ℕ
+after_plus [] = []
+after_plus (b ∷ bs) = if b == code "+" then bs else b ∷ bs
 
 -- right after the number, R is a right stop and C a centre stop; any other is a left one
 abbrev pub kind_of : Option ℕ → StopKind
@@ -56,8 +56,8 @@ with_read relative number read r = with_place relative (kind_of (slice_get numbe
 
 abbrev pub with_stop : ℕ → List ℕ → Ruler → Ruler
 with_stop v argument r =
-    with_read (is_relative argument) (behind_plus argument)
-    (read_of (context Em v (pos 0)) (behind_plus argument)) r
+    with_read (is_relative argument) (after_plus argument)
+    (read_of (context Em v (pos 0)) (after_plus argument)) r
 
 abbrev pub with_stops : ℕ → List (List ℕ) → Ruler → Ruler
 with_stops v [] r = r

@@ -3,7 +3,7 @@ use Rattle.std.specs.Prelude.{ℕ, zero, suc, Bool, List, Option, Some, None, �
 use Rattle.std.specs.Option.{option_map}
 use Rattle.nr_units.specs.Units.{nearest_multiple}
 use Rattle.nr_units.specs.declared.units.Scale.TheVariants.{VerticalSpace, Unit as OneUnit}
-use Rattle.nr_settings.specs.Arguments.{name_in, behind_name, behind_number}
+use Rattle.nr_settings.specs.Arguments.{name_in, behind_name, after_number}
 use Rattle.nr_settings.specs.Numbers.{first_value}
 use Rattle.nr_settings.specs.declared.traps.PageTrap.{PageTrap}
 use Rattle.nr_settings.specs.declared.traps.PageTrap.TheVariants.{Plant, Remove, Nothing}
@@ -24,7 +24,7 @@ page_trap (Some place) None = Remove place
 page_trap (Some place) (Some name) = Plant place name
 
 abbrev pub wh : List ℕ → Bool → ℕ → ℤ → PageTrap
-wh line long v here = page_trap (place_in v here line) (name_in long (behind_number line))
+wh line long v here = page_trap (place_in v here line) (name_in long (after_number line))
 
 -- `.ch xx N`: the trap for xx goes to N, or without N away. Without xx nothing changes.
 abbrev pub trap_move : Option ℤ → Option (List ℕ) → Option TrapMove
@@ -42,7 +42,7 @@ diversion_trap (Some place) None = NoTrap
 diversion_trap (Some place) (Some name) = SetTrap place name
 
 abbrev pub dt : List ℕ → Bool → ℕ → ℤ → DiversionTrap
-dt line long v here = diversion_trap (place_in v here line) (name_in long (behind_number line))
+dt line long v here = diversion_trap (place_in v here line) (name_in long (after_number line))
 
 -- `.it N xx`: xx after N text lines; off without both, or where N is below 1. With one of them nothing changes.
 abbrev pub line_trap : Option ℤ → Option (List ℕ) → LineTrap
@@ -54,4 +54,4 @@ line_trap (Some (pos (suc n))) (Some name) = After (suc n) name
 line_trap (Some (negsuc n)) name = Off
 
 abbrev pub it : List ℕ → Bool → ℕ → LineTrap
-it line long v = line_trap (first_value OneUnit v (pos 0) line) (name_in long (behind_number line))
+it line long v = line_trap (first_value OneUnit v (pos 0) line) (name_in long (after_number line))

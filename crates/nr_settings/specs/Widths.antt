@@ -39,13 +39,13 @@ escaped long v c text Delimited = of_width (1 + delimited_len text) 0
 escaped long v c text Size = of_width (1 + size_len text) 0
 escaped long v c text Plain = of_width 1 (byte_width c)
 
-abbrev pub behind_backslash : Bool → ℕ → List ℕ → Element
-behind_backslash long v [] = of_width 0 0
-behind_backslash long v (c ∷ text) = escaped long v c text (escape_of long c)
+abbrev pub after_backslash : Bool → ℕ → List ℕ → Element
+after_backslash long v [] = of_width 0 0
+after_backslash long v (c ∷ text) = escaped long v c text (escape_of long c)
 
 -- the element that a text begins with
 abbrev pub element_of : Bool → ℕ → ℕ → List ℕ → Element
-element_of long v b text = if b == code "\\" then behind_backslash long v text else of_width 0 (byte_width b)
+element_of long v b text = if b == code "\\" then after_backslash long v text else of_width 0 (byte_width b)
 
 -- the sum of the elements' widths, where so many bytes still belong to the element before
 abbrev pub widths : Bool → ℕ → ℕ → List ℕ → ℕ

@@ -1,7 +1,7 @@
 //! The arguments of a request's line.
 ghost use Rattle.std.specs.Prelude.{◌≡◌, ◌≤◌, length};
 ghost use Rattle.std.specs.List.{prefix_len};
-ghost use Rattle.nr_settings.specs.Arguments.{is_blank, is_name_byte, behind_blanks, word_len, number_len, name_len, word_in, behind_word, number_in, behind_number, name_in, behind_name, byte_in};
+ghost use Rattle.nr_settings.specs.Arguments.{is_blank, is_name_byte, behind_blanks, word_len, number_len, name_len, word_in, after_word, number_in, after_number, name_in, behind_name, byte_in};
 
 use nr_units::Name;
 
@@ -113,7 +113,7 @@ impl<'a> Arguments<'a> {
     /// The next argument as a number's bytes, which go to a blank outside parentheses. Empty where there is none.
     pub fn number(&mut self) -> &'a [u8]
         ensures number { result.now ≡ number_in self.old.rest.now }
-        ensures rest { self.new.rest.now ≡ behind_number self.old.rest.now }
+        ensures rest { self.new.rest.now ≡ after_number self.old.rest.now }
     {
         let text = behind_blanks(self.rest);
         let len = number_len(text);
@@ -124,7 +124,7 @@ impl<'a> Arguments<'a> {
     /// The next argument, which goes to a blank. Empty where there is none.
     pub fn word(&mut self) -> &'a [u8]
         ensures word { result.now ≡ word_in self.old.rest.now }
-        ensures rest { self.new.rest.now ≡ behind_word self.old.rest.now }
+        ensures rest { self.new.rest.now ≡ after_word self.old.rest.now }
     {
         let text = behind_blanks(self.rest);
         let len = word_len(text);

@@ -36,7 +36,7 @@ pub struct Filling {
 
 impl Filling {
     ghost use Rattle.std.specs.Prelude.{◌≡◌};
-    ghost use Rattle.nr_settings.specs.Filling.{fi, nf, ad, na, ce, behind_centred_line, is_filling, align_of, first_filling};
+    ghost use Rattle.nr_settings.specs.Filling.{fi, nf, ad, na, ce, after_centred_line, is_filling, align_of, first_filling};
 
     /// Those at first: lines are filled, and adjusted at both sides.
     pub fn new() -> Self
@@ -98,7 +98,7 @@ impl Filling {
     /// Counts one text line.
     #[inline]
     pub fn count_line(&mut self)
-        ensures { self.new ≡ behind_centred_line self.old }
+        ensures { self.new ≡ after_centred_line self.old }
     {
         self.centred = self.centred.saturating_sub(1);
     }

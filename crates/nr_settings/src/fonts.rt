@@ -41,7 +41,7 @@ pub struct Fonts {
 
 impl Fonts {
     ghost use Rattle.std.specs.Prelude.{◌≡◌};
-    ghost use Rattle.nr_settings.specs.Fonts.{font_by, font_named, with_named, ft, ul, behind_underlined_line, present_look, cell_of, first_fonts};
+    ghost use Rattle.nr_settings.specs.Fonts.{font_by, font_named, with_named, ft, ul, after_underlined_line, present_look, cell_of, first_fonts};
 
     /// Roman, and nothing underlined.
     pub fn new() -> Self
@@ -114,7 +114,7 @@ impl Fonts {
     /// Counts one text line.
     #[inline]
     pub fn count_line(&mut self)
-        ensures { self.new ≡ behind_underlined_line self.old }
+        ensures { self.new ≡ after_underlined_line self.old }
     {
         self.underlined = self.underlined.saturating_sub(1);
     }

@@ -56,7 +56,7 @@ impl Kept {
 
 impl Indents {
     ghost use Rattle.std.specs.Prelude.{◌≡◌};
-    ghost use Rattle.nr_settings.specs.Indents.{new_width, in_, ti, po, ll, lt, line_indent, margins_of, behind_line_begun, first_indents};
+    ghost use Rattle.nr_settings.specs.Indents.{new_width, in_, ti, po, ll, lt, line_indent, margins_of, after_line_begun, first_indents};
 
     /// Those at first: no indent and no offset, lines and titles of 6.5 inches.
     pub fn new() -> Self
@@ -154,7 +154,7 @@ impl Indents {
     /// The margins of the line that begins now; the indent of the next line alone is used up.
     pub fn take_margins(&mut self) -> Margins
         ensures margins { result ≡ margins_of self.old }
-        ensures used { self.new ≡ behind_line_begun self.old }
+        ensures used { self.new ≡ after_line_begun self.old }
     {
         let margins = self.margins();
         self.next_indent = None;

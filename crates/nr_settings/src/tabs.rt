@@ -1,7 +1,7 @@
 //! Tab stops, and what tabs and leaders repeat (CSTR 54, tabs, leaders, and fields).
 ghost use Rattle.std.specs.Prelude.{◌≡◌, ◌+◌, ◌*◌, ◌<◌, ◌≤◌, ◌+ℤ◌, length, slice_get, unsigned_abs, if◌then◌else◌};
 ghost use Rattle.nr_units.specs.Units.{nearest_multiple};
-ghost use Rattle.nr_settings.specs.Tabs.{is_relative, behind_plus, kind_of, column_of, planted, with_place, with_stop, ta, tc, lc, every_eighth, first_tabs};
+ghost use Rattle.nr_settings.specs.Tabs.{is_relative, after_plus, kind_of, column_of, planted, with_place, with_stop, ta, tc, lc, every_eighth, first_tabs};
 
 use crate::arguments::Arguments;
 use crate::characters::printing_byte;
@@ -35,8 +35,8 @@ fn is_relative(argument: &[u8]) -> bool
 }
 
 /// The argument without the `+` in front.
-fn behind_plus(argument: &[u8]) -> &[u8]
-    ensures { result.now ≡ behind_plus argument.now }
+fn after_plus(argument: &[u8]) -> &[u8]
+    ensures { result.now ≡ after_plus argument.now }
 {
     match argument.split_first() {
         Some((b'+', rest)) => rest,
@@ -78,7 +78,7 @@ fn place_of(before: i64, n: i64, relative: bool) -> i64
 }
 
 /// The kind of the stop of a number, by the byte after what was read of it.
-fn kind_behind(number: &[u8], used: usize) -> StopKind
+fn kind_after(number: &[u8], used: usize) -> StopKind
     ensures { result ≡ kind_of (slice_get number.now used) }
 {
     kind_of(number.get(used).copied())
@@ -118,14 +118,14 @@ impl Ruler {
         ensures added { self.new ≡ with_stop v argument.now self.old }
         ensures range { unsigned_abs self.new.place ≤ 2147483660 * length self.new.stops }
     {
-        let number = behind_plus(argument);
+        let number = after_plus(argument);
         let ctx = Ctx {
             v: i64::from(v.units()),
             here: 0,
             default: Scale::Em,
         };
         let read = read_expr(number, &ctx);
-        let kind = kind_behind(number, read.used);
+        let kind = kind_after(number, read.used);
         if let Some(n) = read.value {
             self.add_place(is_relative(argument), kind, n);
         }

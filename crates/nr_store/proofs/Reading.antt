@@ -44,10 +44,10 @@ rest_more xs place x is = drop_more xs place x (slice_get_within xs place x is) 
 
 -- ---- an element is taken
 
-behind_text : {K : Type 0} (p : Texts Element) (names : List (Named Sense)) (older : List ℕ) (s : Source K) → text_in p names older (behind s) ≡ text_in p names older s
-behind_text p names older (Text id place) = refl
-behind_text p names older (Own bytes) = refl
-behind_text p names older (Marked mode) = refl
+after_text : {K : Type 0} (p : Texts Element) (names : List (Named Sense)) (older : List ℕ) (s : Source K) → text_in p names older (behind s) ≡ text_in p names older s
+after_text p names older (Text id place) = refl
+after_text p names older (Own bytes) = refl
+after_text p names older (Marked mode) = refl
 
 module _ {K : Type 0} (p : Texts Element) (names : List (Named Sense)) (drafts : List Draft) (levels : Levels K) (beside : Beside) (limit : ℕ) (s : Source K) (n : Newest levels.levels s) where
   abbrev with : List (Open K) → Stored K
@@ -63,7 +63,7 @@ module _ {K : Type 0} (p : Texts Element) (names : List (Named Sense)) (drafts :
   advanced_is =
       ap (λ ks. with (advanced ks)) n.first
       ∙ ap₂ (λ k ts. record (with (n.level ∷ drop 1 levels.levels)) { levels = k ∷ map (level_of p) (drop 1 levels.levels); texts = ts ++ texts_in p names (drop 1 levels.levels) }) (ap (λ t. level_in p (behind t) (record n.level { source = behind t })) n.reads)
-      (behind_text p names (ids_of (drop 1 levels.levels)) n.level.source)
+      (after_text p names (ids_of (drop 1 levels.levels)) n.level.source)
 
   pub after_is : after levels.levels ≡ left_in (level_in p s n.level) (map (level_of p) (drop 1 levels.levels)) (with (n.level ∷ drop 1 levels.levels))
   after_is = ap after n.first ∙ ap (λ t. left_in (level_in p t n.level) (map (level_of p) (drop 1 levels.levels)) (with (n.level ∷ drop 1 levels.levels))) n.reads

@@ -13,7 +13,7 @@ use Rattle.nr_store.specs.declared.element.Element.{Element}
 use Rattle.nr_store.specs.declared.element.Element.TheVariants.{Byte}
 use Rattle.nr_store.specs.declared.element.Draft.{Draft}
 use Rattle.nr_store.specs.Store.{Read, level_charge, text_charge, charge_of}
-use Rattle.nr_store.specs.Windows.{rest_in, rest_of, level_behind, levels_behind, run_left}
+use Rattle.nr_store.specs.Windows.{rest_in, rest_of, level_behind, levels_after, run_left}
 use Rattle.nr_store.proofs.Keeping.{text_small, charged_once}
 use Rattle.nr_store.specs.Holders.{Beside, level_in, level_of, stored_of, ids_of_source, ids_of, values, draft_ids, text_in, texts_in, IsHeld, Pays, AllPay, IsStore}
 
@@ -24,7 +24,7 @@ source_behind p n (Text id place) l = ap (λ xs. Read (record { rest = xs; old =
 source_behind p n (Own bytes) l = ap (λ xs. Read (record { rest = xs; old = l.old; charge = l.charge; resume = l.resume })) (sym (drop-map Byte n bytes))
 source_behind p n (Marked mode) l = refl
 
-newest_behind : {K : Type 0} (p : Texts Element) (n : ℕ) (ls : List (Open K)) → map (level_of p) (further_on n ls) ≡ levels_behind n (map (level_of p) ls)
+newest_behind : {K : Type 0} (p : Texts Element) (n : ℕ) (ls : List (Open K)) → map (level_of p) (further_on n ls) ≡ levels_after n (map (level_of p) ls)
 newest_behind p n [] = refl
 newest_behind p n (l ∷ ls) = ap (λ k. k ∷ map (level_of p) ls) (source_behind p n l.source l)
 

@@ -32,9 +32,9 @@ level_behind n (Read l) = Read (record l { rest = drop n l.rest })
 level_behind n (Mark mode) = Mark mode
 
 -- with the newest level after so many elements of its text
-abbrev pub levels_behind : {K : Type 0} → ℕ → List (Level K) → List (Level K)
-levels_behind n [] = []
-levels_behind n (l ∷ ls) = level_behind n l ∷ ls
+abbrev pub levels_after : {K : Type 0} → ℕ → List (Level K) → List (Level K)
+levels_after n [] = []
+levels_after n (l ∷ ls) = level_behind n l ∷ ls
 
 abbrev pub run_left : {K : Type 0} → ℕ → Stored K → Stored K
-run_left n v = record v { levels = levels_behind n v.levels }
+run_left n v = record v { levels = levels_after n v.levels }

@@ -6,7 +6,7 @@ use Rattle.std.proofs.lemmas.Bool.Decides.{nat_tests}
 use Rattle.nr_units.specs.Expression.{IsAnswer, Longest, Nothing as NoFront, TooDeep as Deep}
 use Rattle.nr_units.specs.Scan.{Scan, symbol_of, after_symbol, start, whole_value}
 use Rattle.nr_units.specs.Scanner.{read_at, noted, Steps}
-use Rattle.nr_units.specs.LongestFront.{is_one_too_many, read_step, read_symbol, read_on, read_of, nothing_read}
+use Rattle.nr_units.specs.LongestPrefix.{is_one_too_many, read_step, read_symbol, read_on, read_of, nothing_read}
 use Rattle.nr_units.specs.declared.symbols.Symbol.{Symbol}
 use Rattle.nr_units.specs.declared.symbols.Symbol.TheVariants.{Digit, Point, Letter, Mark, Bar, Open, Close, Blank}
 use Rattle.nr_units.specs.declared.scanner.Step.TheVariants.{Taken}

@@ -3,7 +3,7 @@ use Prim.Native.Char.{code}
 use Rattle.std.proofs.Common.{◌≡◌, ℕ, Bool, true, false, Some, List, [], ◌∷◌, ◌++◌, refl, ap, append_assoc, append-nil, ◌∙◌}
 use Rattle.nr_units.specs.Grammar.{Operand, Expression, Plus, Minus, Past, Parentheses, Single, Joined, blanks, operator_text, operand_text, expression_text}
 use Rattle.nr_units.specs.Expression.{operand_value, expression_value}
-use Rattle.nr_units.specs.Prefix.{no_prefix, behind_minus, behind_bar}
+use Rattle.nr_units.specs.Prefix.{no_prefix, after_minus, after_bar}
 use Rattle.nr_units.specs.Scan.{nothing_waits, joined_left, finished}
 use Rattle.nr_units.specs.declared.operators.Operator.{Operator}
 use Rattle.nr_units.specs.declared.level.Waiting.{Waiting}
@@ -55,8 +55,8 @@ abbrev pub waiting : Ctx → Place → Waiting
 waiting c (First k) = nothing_waits
 waiting c (Next k e n o m) = record { left = Some (record { value = expression_value c e; operator = o }); prefix = no_prefix }
 waiting c (BehindPlus p) = waiting c p
-waiting c (BehindMinus p) = record { left = (waiting c p).left; prefix = behind_minus (waiting c p).prefix }
-waiting c (BehindBar p n) = record { left = (waiting c p).left; prefix = behind_bar c.here (waiting c p).prefix }
+waiting c (BehindMinus p) = record { left = (waiting c p).left; prefix = after_minus (waiting c p).prefix }
+waiting c (BehindBar p n) = record { left = (waiting c p).left; prefix = after_bar c.here (waiting c p).prefix }
 
 abbrev mutual
   pub outer_slot : Ctx → Slot → List Waiting

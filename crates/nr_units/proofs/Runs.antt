@@ -7,8 +7,8 @@ use Rattle.nr_units.proofs.Rounding.{scaled-capped}
 use Rattle.nr_units.specs.Units.{scaled}
 use Rattle.nr_units.specs.Grammar.{Number, IsNumber, AreDigits, Operand, Expression, Numeral, Plus, Minus, Past, Parentheses, Single, Joined, blanks, operator_text, letter, digits_text, fraction_digits, fraction_text, scale_text, number_text, operand_text, expression_text}
 use Rattle.nr_units.specs.Expression.{joined, past, operand_value, expression_value, whole_after, fraction_by}
-use Rattle.nr_units.specs.Prefix.{no_prefix, behind_minus, behind_bar}
-use Rattle.nr_units.specs.Scan.{symbol_of, nothing_waits, joined_left, finished, number_of, number_value, value_in, level_value, completed, in_mode, capped, more_fraction, with_digit, behind_operator, mark_in, blank_in, with_mark, with_close, Scan, on_level, after_symbol, after_byte, run}
+use Rattle.nr_units.specs.Prefix.{no_prefix, after_minus, after_bar}
+use Rattle.nr_units.specs.Scan.{symbol_of, nothing_waits, joined_left, finished, number_of, number_value, value_in, level_value, completed, in_mode, capped, more_fraction, with_digit, after_operator, mark_in, blank_in, with_mark, with_close, Scan, on_level, after_symbol, after_byte, run}
 use Rattle.nr_units.specs.declared.units.Scale.{Scale}
 use Rattle.nr_units.specs.declared.units.Scale.TheVariants.{Inch, Centimetre, Pica, VerticalSpace, Em, En, Point as PointScale, Unit as OneUnit}
 use Rattle.nr_units.specs.declared.operators.Operator.{Operator}
@@ -74,12 +74,12 @@ blank_in-value c w (Whole n) v h = ap (option_map completed) h
 blank_in-value c w (Fraction n f p) v h = ap (option_map completed) h
 blank_in-value c w (Complete x) v h = ap (option_map completed) h
 
-pub mark_in-value : (c : Ctx) (o : Operator) (w : Waiting) (m : Mode) (v : Option ℤ) → value_in c w m ≡ Some v → mark_in c o w m ≡ Some (behind_operator o v)
+pub mark_in-value : (c : Ctx) (o : Operator) (w : Waiting) (m : Mode) (v : Option ℤ) → value_in c w m ≡ Some v → mark_in c o w m ≡ Some (after_operator o v)
 mark_in-value c o w (Before b) v h = cc
 mark_in-value c o w LonePoint v h = cc
-mark_in-value c o w (Whole n) v h = ap (option_map (behind_operator o)) h
-mark_in-value c o w (Fraction n f p) v h = ap (option_map (behind_operator o)) h
-mark_in-value c o w (Complete x) v h = ap (option_map (behind_operator o)) h
+mark_in-value c o w (Whole n) v h = ap (option_map (after_operator o)) h
+mark_in-value c o w (Fraction n f p) v h = ap (option_map (after_operator o)) h
+mark_in-value c o w (Complete x) v h = ap (option_map (after_operator o)) h
 
 -- Blanks stand only where a parenthesis is open.
 abbrev pub IsOpen : Bool → List Waiting → Type 0
@@ -105,7 +105,7 @@ closes c t v w ws h k =
     ap (with_close c t.level) k ∙ ap (option_map (λ x. record { level = completed (finished w x); outer = ws })) h
 
 -- an operator there
-pub marks : (c : Ctx) (t : Scan) (o : Operator) (v : Option ℤ) (ws : List Waiting) → level_value c t.level ≡ Some v → t.outer ≡ ws → after_symbol c t (Mark o) ≡ Some (record { level = behind_operator o v; outer = ws })
+pub marks : (c : Ctx) (t : Scan) (o : Operator) (v : Option ℤ) (ws : List Waiting) → level_value c t.level ≡ Some v → t.outer ≡ ws → after_symbol c t (Mark o) ≡ Some (record { level = after_operator o v; outer = ws })
 marks c t o v ws h k =
     ap (λ x. option_map (λ l. record { level = l; outer = x }) (with_mark c o t.level)) k
     ∙ ap (option_map (λ l. record { level = l; outer = ws })) (mark_in-value c o t.level.waiting t.level.mode v h)
@@ -321,12 +321,12 @@ mutual
   operand_runs c (Plus o) inside b w ws open_is =
       ends-cons c (before b w ws) (before ASign w ws) (code "+") (operand_text inside o) _ ws refl (operand_runs c o inside ASign w ws open_is)
   operand_runs c (Minus o) inside b w ws open_is =
-      let next : Waiting = record { left = w.left; prefix = behind_minus w.prefix } in
+      let next : Waiting = record { left = w.left; prefix = after_minus w.prefix } in
       ends-cons c (before b w ws) (before ASign next ws) (code "-") (operand_text inside o) _ ws refl
       (ends-value c (before ASign next ws) (operand_text inside o) (finished next (operand_value c o)) (finished w (option_map neg_ℤ (operand_value c o))) ws (ap (joined_left w.left) (prefixed-minus w.prefix (operand_value c o)))
       (operand_runs c o inside ASign next ws open_is))
   operand_runs c (Past n o) inside b w ws open_is =
-      let next : Waiting = record { left = w.left; prefix = behind_bar c.here w.prefix } in
+      let next : Waiting = record { left = w.left; prefix = after_bar c.here w.prefix } in
       ends-cons c (before b w ws) (before Nothing next ws) (code "|") (blanks inside n ++ operand_text inside o) _ ws refl
       (ends-value c (before Nothing next ws) (blanks inside n ++ operand_text inside o) (finished next (operand_value c o)) (finished w (past c.here (operand_value c o))) ws (ap (joined_left w.left) (prefixed-bar c.here w.prefix (operand_value c o) (operand_in_range c o)))
       (blanks_before c inside n Nothing next ws (operand_text inside o) (finished next (operand_value c o)) open_is tt (λ b. operand_runs c o inside b next ws open_is)))

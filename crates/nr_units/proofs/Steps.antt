@@ -5,7 +5,7 @@ use Rattle.std.specs.Option.{option_map}
 use Rattle.nr_units.specs.Grammar.{AreDigits, Operand, Expression, Numeral, Parentheses, blanks, operator_text, letter, digits_text, fraction_digits, operand_text, expression_text}
 use Rattle.nr_units.specs.Expression.{expression_value, whole_after, fraction_by}
 use Rattle.nr_units.specs.Prefix.{no_prefix}
-use Rattle.nr_units.specs.Scan.{finished, number_value, level_value, completed, capped, behind_operator, blank_in, with_mark, with_close, with_blank, on_level, Scan, after_symbol}
+use Rattle.nr_units.specs.Scan.{finished, number_value, level_value, completed, capped, after_operator, blank_in, with_mark, with_close, with_blank, on_level, Scan, after_symbol}
 use Rattle.nr_units.specs.declared.units.Scale.{Scale}
 use Rattle.nr_units.specs.declared.operators.Operator.{Operator}
 use Rattle.nr_units.specs.declared.symbols.Symbol.TheVariants.{Digit, Point, Letter, Mark, Bar, Open, Close, Blank}
@@ -179,7 +179,7 @@ mark_ends c z e o s one h =
     ∙ ap (λ v. v ++ operator_text o) (sym e.text) in
     goes_to c z (operator_text o) (on_level (shown c z).outer (with_mark c o l)) s to text
     (ap (on_level (shown c z).outer) (mark_in-value c o l.waiting l.mode v e.value)
-    ∙ ap (λ ws. on_level ws (Some (behind_operator o v))) e.outer
+    ∙ ap (λ ws. on_level ws (Some (after_operator o v))) e.outer
     ∙ ap (λ b. Some (record { level = record { mode = Before b; waiting = record { left = Some (record { value = v; operator = o }); prefix = no_prefix } }; outer = outer_slot c e.slot })) (sym one)) h
 
 close_ends_at : (c : Ctx) (z : State) (k : Slot) (x : Expression) (n : ℕ) (s : Scan) → state_text z ≡ state_text (After k x n) → level_value c (shown c z).level ≡ Some (expression_value c x) → (shown c z).outer ≡ outer_slot c k → after_symbol c (shown c z) Close ≡ Some s → Goes c z (code ")" ∷ []) s

@@ -12,7 +12,7 @@ use Rattle.nr_units.specs.Units.{in_range, scaled, numerator, denominator, neare
 use Rattle.nr_units.specs.declared.units.Scale.{Scale}
 use Rattle.nr_units.specs.Grammar.{Operand, Expression, Numeral, Plus, Minus, Past, Parentheses, Single, Joined}
 use Rattle.nr_units.specs.Expression.{applied, quotient, remainder, truth, joined, past, operand_value, expression_value}
-use Rattle.nr_units.specs.Prefix.{prefixed, shifted, checked, no_prefix, behind_minus, behind_bar}
+use Rattle.nr_units.specs.Prefix.{prefixed, shifted, checked, no_prefix, after_minus, after_bar}
 use Rattle.nr_units.specs.declared.expression.Ctx.{Ctx}
 use Rattle.nr_units.specs.declared.prefix.Prefix.{Prefix}
 use Rattle.nr_units.specs.declared.operators.Operator.{Operator}
@@ -128,11 +128,11 @@ prefixed-none (Some x) h =
     ∙ checked-yes no_prefix x (omega (arith, ints, b.0)) (omega (arith, ints, b.1))
 
 -- a minus sign, and a bar, in front of a value
-prefixed-minus_at : (negated : Bool) (p : Prefix) (x : ℤ) → p.negated ≡ negated → shifted (behind_minus p) x ≡ shifted p (neg_ℤ x)
+prefixed-minus_at : (negated : Bool) (p : Prefix) (x : ℤ) → p.negated ≡ negated → shifted (after_minus p) x ≡ shifted p (neg_ℤ x)
 prefixed-minus_at true p x e = rw e (omega (arith, ints))
 prefixed-minus_at false p x e = rw e (omega (arith, ints))
 
-pub prefixed-minus : (p : Prefix) (v : Option ℤ) → prefixed (behind_minus p) v ≡ prefixed p (option_map neg_ℤ v)
+pub prefixed-minus : (p : Prefix) (v : Option ℤ) → prefixed (after_minus p) v ≡ prefixed p (option_map neg_ℤ v)
 prefixed-minus p None = refl
 prefixed-minus p (Some x) = ap (λ z. option_and_then (checked p) (in_range z)) (prefixed-minus_at p.negated p x refl)
 
@@ -171,23 +171,23 @@ in_range-saturated (negsuc n) x h =
     ]
 
 -- where y is in range a bar asks nothing more, and else it fails
-bar_near : (here : ℤ) (p : Prefix) (r : ℤ) → (p.shift -ℤ pos 2147483647) ≤ℤ r → r ≤ℤ (p.shift +ℤ pos 2147483647) → checked (behind_bar here p) r ≡ checked p r
+bar_near : (here : ℤ) (p : Prefix) (r : ℤ) → (p.shift -ℤ pos 2147483647) ≤ℤ r → r ≤ℤ (p.shift +ℤ pos 2147483647) → checked (after_bar here p) r ≡ checked p r
 bar_near here p r low high =
     let most = int_max_is p.greatest p.shift in
     let least = int_min_is p.least p.shift in
     by_lt_z (r +ℤ pos 2147483647) p.greatest
-    (λ h. checked-below (behind_bar here p) r (omega (arith, ints)) ∙ sym (checked-below p r h))
+    (λ h. checked-below (after_bar here p) r (omega (arith, ints)) ∙ sym (checked-below p r h))
     (λ h. by_lt_z p.least (r -ℤ pos 2147483647)
-    (λ k. checked-above (behind_bar here p) r (omega (arith, ints)) ∙ sym (checked-above p r k))
-    (λ k. checked-yes (behind_bar here p) r (omega (arith, ints)) (omega (arith, ints)) ∙ sym (checked-yes p r h k)))
+    (λ k. checked-above (after_bar here p) r (omega (arith, ints)) ∙ sym (checked-above p r k))
+    (λ k. checked-yes (after_bar here p) r (omega (arith, ints)) (omega (arith, ints)) ∙ sym (checked-yes p r h k)))
 
-bar_far : (here : ℤ) (p : Prefix) (r : ℤ) → ((p.shift +ℤ pos 2147483647) <ℤ r) ⊎ (r <ℤ (p.shift -ℤ pos 2147483647)) → checked (behind_bar here p) r ≡ None
+bar_far : (here : ℤ) (p : Prefix) (r : ℤ) → ((p.shift +ℤ pos 2147483647) <ℤ r) ⊎ (r <ℤ (p.shift -ℤ pos 2147483647)) → checked (after_bar here p) r ≡ None
 bar_far here p r (inl h) =
     let least = int_min_is p.least p.shift in
-    checked-above (behind_bar here p) r (omega (arith, ints))
+    checked-above (after_bar here p) r (omega (arith, ints))
 bar_far here p r (inr h) =
     let most = int_max_is p.greatest p.shift in
-    checked-below (behind_bar here p) r (omega (arith, ints))
+    checked-below (after_bar here p) r (omega (arith, ints))
 
 near_shift : (s y r : ℤ) → unsigned_abs y ≤ 2147483647 → (r ≡ s +ℤ y) ⊎ (r ≡ s -ℤ y) → ((s -ℤ pos 2147483647) ≤ℤ r) × (r ≤ℤ (s +ℤ pos 2147483647))
 near_shift s y r h (inl e) = let b = near_bounds y h in (omega (arith, ints, e, b.0), omega (arith, ints, e, b.1))
@@ -198,7 +198,7 @@ far_shift s y r h (inl e) = elim (far_tells y h) [ inl k ↦ inl (omega (arith, 
 far_shift s y r h (inr e) = elim (far_tells y h) [ inl k ↦ inr (omega (arith, ints)) | inr k ↦ inl (omega (arith, ints)) ]
 
 -- the result with a bar in front, but for what is out of range
-shifted-bar : (negated : Bool) (here : ℤ) (p : Prefix) (x : ℤ) → p.negated ≡ negated → unsigned_abs x ≤ 2147483647 → in_range (shifted (behind_bar here p) x) ≡ in_range (shifted p (x -ℤ here))
+shifted-bar : (negated : Bool) (here : ℤ) (p : Prefix) (x : ℤ) → p.negated ≡ negated → unsigned_abs x ≤ 2147483647 → in_range (shifted (after_bar here p) x) ≡ in_range (shifted p (x -ℤ here))
 shifted-bar true here p x e h =
     let same : (p.shift +ℤ here) +ℤ neg_ℤ x ≡ p.shift -ℤ (x -ℤ here) = omega (arith, ints) in
     rw e (in_range-saturated (p.shift +ℤ here) (neg_ℤ x) (neg_near x h) ∙ ap in_range same)
@@ -217,19 +217,19 @@ same_checked f g z e = by_range z (λ low high is. rw is e) (λ low is. rw is re
 none_checked : (f : ℤ → Option ℤ) (z : ℤ) → f z ≡ None → option_and_then f (in_range z) ≡ None
 none_checked f z e = by_range z (λ low high is. rw is e) (λ low is. rw is refl) (λ high is. rw is refl)
 
-pub prefixed-bar : (here : ℤ) (p : Prefix) (v : Option ℤ) → IsInRange v → prefixed (behind_bar here p) v ≡ prefixed p (past here v)
+pub prefixed-bar : (here : ℤ) (p : Prefix) (v : Option ℤ) → IsInRange v → prefixed (after_bar here p) v ≡ prefixed p (past here v)
 prefixed-bar here p None h = refl
 prefixed-bar here p (Some x) h =
     let y : ℤ = x -ℤ here in
-    let first : prefixed (behind_bar here p) (Some x) ≡ option_and_then (checked (behind_bar here p)) (in_range (shifted p y)) =
-    ap (option_and_then (checked (behind_bar here p))) (shifted-bar p.negated here p x refl h) in
+    let first : prefixed (after_bar here p) (Some x) ≡ option_and_then (checked (after_bar here p)) (in_range (shifted p y)) =
+    ap (option_and_then (checked (after_bar here p))) (shifted-bar p.negated here p x refl h) in
     let is = shifted_is p.negated p y refl in
     elim (leb_tells (unsigned_abs y) 2147483647) [
       | inl w ↦
-          first ∙ same_checked (checked (behind_bar here p)) (checked p) (shifted p y) (let b = near_shift p.shift y (shifted p y) w.1 is in bar_near here p (shifted p y) b.0 b.1)
+          first ∙ same_checked (checked (after_bar here p)) (checked p) (shifted p y) (let b = near_shift p.shift y (shifted p y) w.1 is in bar_near here p (shifted p y) b.0 b.1)
           ∙ ap (prefixed p) (sym (in_range-near y w.1))
       | inr w ↦
-          first ∙ none_checked (checked (behind_bar here p)) (shifted p y) (bar_far here p (shifted p y) (far_shift p.shift y (shifted p y) w.1 is))
+          first ∙ none_checked (checked (after_bar here p)) (shifted p y) (bar_far here p (shifted p y) (far_shift p.shift y (shifted p y) w.1 is))
           ∙ ap (prefixed p) (sym (in_range-far y w.1))
     ]
 

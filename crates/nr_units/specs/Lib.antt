@@ -3,7 +3,7 @@ pub mod Expression
 pub mod Failures
 pub mod Grammar
 pub mod Sink
-pub mod LongestFront
+pub mod LongestPrefix
 pub mod Name
 pub mod NumberText
 pub mod Padding

@@ -19,16 +19,16 @@ prefixed p v = option_and_then (λ x. option_and_then (checked p) (in_range (shi
 abbrev pub no_prefix : Prefix
 no_prefix = record { negated = false; shift = pos 0; least = pos 0; greatest = pos 0 }
 
-abbrev pub behind_minus : Prefix → Prefix
-behind_minus p = record { negated = not p.negated; shift = p.shift; least = p.least; greatest = p.greatest }
+abbrev pub after_minus : Prefix → Prefix
+after_minus p = record { negated = not p.negated; shift = p.shift; least = p.least; greatest = p.greatest }
 
-abbrev pub shift_behind_bar : ℤ → Prefix → ℤ
-shift_behind_bar here p = saturate_signed w64 (if p.negated then p.shift +ℤ here else p.shift -ℤ here)
+abbrev pub shift_after_bar : ℤ → Prefix → ℤ
+shift_after_bar here p = saturate_signed w64 (if p.negated then p.shift +ℤ here else p.shift -ℤ here)
 
-abbrev pub behind_bar : ℤ → Prefix → Prefix
-behind_bar here p = record {
+abbrev pub after_bar : ℤ → Prefix → Prefix
+after_bar here p = record {
   negated = p.negated;
-  shift = shift_behind_bar here p;
+  shift = shift_after_bar here p;
   least = int_min p.least p.shift;
   greatest = int_max p.greatest p.shift;
 }

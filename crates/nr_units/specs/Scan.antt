@@ -2,7 +2,7 @@
 use Prim.Native.Char.{code}
 use Rattle.std.specs.Prelude.{ℕ, ◌+◌, ◌-◌, ◌*◌, ◌/◌, ◌^◌, min, Bool, ◌&&◌, List, [], ◌∷◌, Option, Some, None, ℤ, if◌then◌else◌, nat_le, ◌==◌}
 use Rattle.std.specs.Option.{option_map, option_and_then}
-use Rattle.nr_units.specs.Prefix.{prefixed, no_prefix, behind_minus, behind_bar}
+use Rattle.nr_units.specs.Prefix.{prefixed, no_prefix, after_minus, after_bar}
 use Rattle.nr_units.specs.Units.{scaled}
 use Rattle.nr_units.specs.Expression.{joined}
 use Rattle.nr_units.specs.declared.units.Scale.{Scale}
@@ -139,7 +139,7 @@ with_equal ASign w = None
 abbrev pub with_sign : Behind → Operator → Waiting → Option Level
 with_sign b Add w = Some (record { mode = Before ASign; waiting = w })
 with_sign b Subtract w =
-    Some (record { mode = Before ASign; waiting = record { left = w.left; prefix = behind_minus w.prefix } })
+    Some (record { mode = Before ASign; waiting = record { left = w.left; prefix = after_minus w.prefix } })
 with_sign b Equal w = with_equal b w
 with_sign b Multiply w = None
 with_sign b Divide w = None
@@ -152,8 +152,8 @@ with_sign b DoubleEqual w = None
 with_sign b And w = None
 with_sign b Or w = None
 
-abbrev pub behind_operator : Operator → Option ℤ → Level
-behind_operator o v =
+abbrev pub after_operator : Operator → Option ℤ → Level
+after_operator o v =
     record {
       mode = Before AnOperator;
       waiting = record {
@@ -165,9 +165,9 @@ behind_operator o v =
 abbrev pub mark_in : Ctx → Operator → Waiting → Mode → Option Level
 mark_in c o w (Before b) = with_sign b o w
 mark_in c o w LonePoint = None
-mark_in c o w (Whole n) = Some (behind_operator o (number_value c c.default w (10000 * n)))
-mark_in c o w (Fraction n f p) = Some (behind_operator o (number_value c c.default w (10000 * n + f)))
-mark_in c o w (Complete v) = Some (behind_operator o v)
+mark_in c o w (Whole n) = Some (after_operator o (number_value c c.default w (10000 * n)))
+mark_in c o w (Fraction n f p) = Some (after_operator o (number_value c c.default w (10000 * n + f)))
+mark_in c o w (Complete v) = Some (after_operator o v)
 
 abbrev pub with_mark : Ctx → Operator → Level → Option Level
 with_mark c o l = mark_in c o l.waiting l.mode
@@ -176,7 +176,7 @@ abbrev pub bar_in : ℤ → Waiting → Mode → Option Level
 bar_in here w (Before b) =
     Some (record {
       mode = Before Nothing;
-      waiting = record { left = w.left; prefix = behind_bar here w.prefix };
+      waiting = record { left = w.left; prefix = after_bar here w.prefix };
     })
 bar_in here w LonePoint = None
 bar_in here w (Whole n) = None

@@ -111,7 +111,7 @@ impl Mode {
 
     /// After the byte, if it is a digit of a whole number.
     #[inline(always)]
-    pub(crate) fn behind_digit(self, byte: u8) -> Option<Self>
+    pub(crate) fn after_digit(self, byte: u8) -> Option<Self>
         ensures { IfSome result (λ mode. (symbol_of byte ≡ Some (Digit (byte - code "0")))
             × (with_digit (byte - code "0") self ≡ Some mode)) }
     {
@@ -168,7 +168,7 @@ impl Mode {
 }
 
 impl Level {
-    ghost use Rattle.nr_units.specs.Scan.{fresh, completed, level_value, in_mode, with_point, with_letter, with_mark, bar_in, blank_in, with_sign, widened_left, behind_operator};
+    ghost use Rattle.nr_units.specs.Scan.{fresh, completed, level_value, in_mode, with_point, with_letter, with_mark, bar_in, blank_in, with_sign, widened_left, after_operator};
 
     /// Where an expression begins.
     pub(crate) fn fresh() -> Self
@@ -243,7 +243,7 @@ impl Level {
             let Waiting { left, prefix } = self.waiting;
             let waiting = Waiting {
                 left,
-                prefix: prefix.behind_bar(here),
+                prefix: prefix.after_bar(here),
             };
             return Some(Level {
                 mode: Mode::Before(Behind::Nothing),
@@ -397,7 +397,7 @@ impl Waiting {
             (Operator::Subtract, _) => {
                 let waiting = Waiting {
                     left: self.left,
-                    prefix: self.prefix.behind_minus(),
+                    prefix: self.prefix.after_minus(),
                 };
                 Some(Level { mode, waiting })
             }

@@ -16,7 +16,7 @@ pub(crate) struct Prefix {
 }
 
 impl Prefix {
-    ghost use Rattle.nr_units.specs.Prefix.{no_prefix, behind_minus, behind_bar, shift_behind_bar, prefixed, shifted, checked};
+    ghost use Rattle.nr_units.specs.Prefix.{no_prefix, after_minus, after_bar, shift_after_bar, prefixed, shifted, checked};
     ghost use Rattle.nr_units.specs.Units.{in_range};
 
     /// No sign and no bar.
@@ -32,8 +32,8 @@ impl Prefix {
     }
 
     /// With a minus sign after it.
-    pub(crate) fn behind_minus(self) -> Self
-        ensures { result ≡ behind_minus self }
+    pub(crate) fn after_minus(self) -> Self
+        ensures { result ≡ after_minus self }
     {
         Prefix {
             negated: !self.negated,
@@ -42,8 +42,8 @@ impl Prefix {
     }
 
     /// The shift with a bar after, as near as it fits: one so far makes every value out of range.
-    fn shift_behind_bar(self, here: i64) -> i64
-        ensures { result ≡ shift_behind_bar here self }
+    fn shift_after_bar(self, here: i64) -> i64
+        ensures { result ≡ shift_after_bar here self }
     {
         if self.negated {
             self.shift.saturating_add(here)
@@ -53,12 +53,12 @@ impl Prefix {
     }
 
     /// With a bar after it.
-    pub(crate) fn behind_bar(self, here: i64) -> Self
-        ensures { result ≡ behind_bar here self }
+    pub(crate) fn after_bar(self, here: i64) -> Self
+        ensures { result ≡ after_bar here self }
     {
         Prefix {
             negated: self.negated,
-            shift: self.shift_behind_bar(here),
+            shift: self.shift_after_bar(here),
             least: self.least.min(self.shift),
             greatest: self.greatest.max(self.shift),
         }

@@ -191,7 +191,7 @@ impl<T: Copy> FixedVec<T> {
     /// Adds copies of an item, and after them the first n of these items. A few more of both are written than are added where
     /// there are places for them, as with `extend_front`.
     #[inline(always)]
-    pub fn extend_behind_copies(&mut self, item: T, copies: usize, more: &[T], n: usize)
+    pub fn extend_after_copies(&mut self, item: T, copies: usize, more: &[T], n: usize)
         requires front { n ≤ length more.now }
         requires room { length self.old.items + copies + n ≤ self.old.capacity }
         ensures items { self.new.items ≡ self.old.items ++ replicate copies item ++ take n more.now }

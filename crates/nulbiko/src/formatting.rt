@@ -13,7 +13,7 @@ use super::told::{
 use nr_engine::{CountedAlloc, Desk, Faces, Limits, Measure, Options, Outcome, format};
 use std::alloc::{AllocError, Global};
 
-/// The five limits.
+/// The limits.
 #[repr(C)]
 #[derive(Clone, Copy)]
 pub struct TextLimits {

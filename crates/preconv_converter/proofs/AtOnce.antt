@@ -20,7 +20,7 @@ use Rattle.preconv_converter.specs.declared.words.Place.{Place}
 use Rattle.preconv_converter.specs.declared.words.Place.TheVariants.{Quoted}
 use Rattle.preconv_converter.specs.declared.words.Class.{Class}
 use Rattle.preconv_converter.specs.declared.words.Class.TheVariants.{Space, Quote, Other as AnyClass}
-use Rattle.preconv_converter.specs.Words.{class_of, goes_on_at, goes_on_with, goes_on_with_space, spaced_at, behind_space, is_ninth, words_at}
+use Rattle.preconv_converter.specs.Words.{class_of, goes_on_at, goes_on_with, goes_on_with_space, spaced_at, after_space, is_ninth, words_at}
 use Rattle.preconv_converter.specs.Meeting.{is_raw, may_pass, is_as_is, is_as_is_at, line_on, line_taken, taken_as_is}
 use Rattle.preconv_converter.specs.Reading.{told, with_half, read}
 use Rattle.preconv_converter.specs.Passing.{Passes}
@@ -77,7 +77,7 @@ not_raw lines.Stored b p = refl
 not_raw (lines.Words words) b p = refl
 not_raw line b p = absurd (let no : false ≡ true = p in cc)
 
-space_stays : (x : Bool) (y : Class) (words : Words) → goes_on_at words.place (if x then Space else y) ≡ true → (if x then words_at (behind_space words.place) words else words) ≡ words
+space_stays : (x : Bool) (y : Class) (words : Words) → goes_on_at words.place (if x then Space else y) ≡ true → (if x then words_at (after_space words.place) words else words) ≡ words
 space_stays true y words p = ap (λ (q : Place). words_at q words) (quoted_space words.place p)
 space_stays false y words p = refl
 

@@ -16,7 +16,7 @@ use Rattle.preconv_converter.specs.Saying.{bytes_of}
 use Rattle.preconv_converter.specs.Escapes.{in_escape}
 use Rattle.preconv_converter.specs.Meeting.{meet, plain_byte}
 use Rattle.preconv_converter.specs.Reading.{Told, told, behind, then_told, heard, heard_in, with_half, read, fed}
-use Rattle.preconv_converter.specs.Runs.{begins_comment, behind_comment}
+use Rattle.preconv_converter.specs.Runs.{begins_comment, after_comment}
 use Rattle.preconv_converter.proofs.Plain.{and-first, and-second, nothing_pending}
 use Rattle.preconv_converter.proofs.AtOnce.{placed_as, placed_escape}
 use Rattle.preconv_converter.proofs.PlainEscapes.{meets, is_one}
@@ -57,21 +57,21 @@ backslash_read r none plain =
 
 -- ---- after the quote
 
-comment_by : (m : Bool) (h : Half) → record (without_escape (record (placed_as m Stop h) { conditional = false; name = []; line = lines.Request; escape = escapes.Begun; kept = code "\\" ∷ []; spelled = [] })) { before = Character Other; line = lines.Comment } ≡ behind_comment h
+comment_by : (m : Bool) (h : Half) → record (without_escape (record (placed_as m Stop h) { conditional = false; name = []; line = lines.Request; escape = escapes.Begun; kept = code "\\" ∷ []; spelled = [] })) { before = Character Other; line = lines.Comment } ≡ after_comment h
 comment_by true h = refl
 comment_by false h = refl
 
-quote_met : (h : Half) → meet (comings.Byte (code "\"")) (escaped h) ≡ taken (says.Kept (code "\\" ∷ code "\"" ∷ [])) (behind_comment h)
+quote_met : (h : Half) → meet (comings.Byte (code "\"")) (escaped h) ≡ taken (says.Kept (code "\\" ∷ code "\"" ∷ [])) (after_comment h)
 unfolding escaped
 quote_met h = ap (taken (says.Kept (code "\\" ∷ code "\"" ∷ []))) (comment_by h.manual h)
 
-quote_read : (r : Reader) → r.pending ≡ Nothing → read (code "\"") (with_half (escaped r.half) r) ≡ told (with_half (behind_comment r.half) r) (code "\\" ∷ code "\"" ∷ []) 1
+quote_read : (r : Reader) → r.pending ≡ Nothing → read (code "\"") (with_half (escaped r.half) r) ≡ told (with_half (after_comment r.half) r) (code "\\" ∷ code "\"" ∷ []) 1
 unfolding escaped
 quote_read r none =
-    meets (code "\"") (with_half (escaped r.half) r) (says.Kept (code "\\" ∷ code "\"" ∷ [])) (behind_comment r.half) none refl refl (quote_met r.half)
+    meets (code "\"") (with_half (escaped r.half) r) (says.Kept (code "\\" ∷ code "\"" ∷ [])) (after_comment r.half) none refl refl (quote_met r.half)
 
 comment_fed : (r : Reader) → r.pending ≡ Nothing → is_plain r.half.escape ≡ true → r.half.line ≡ lines.Start
-    → fed r (code "." ∷ code "\\" ∷ code "\"" ∷ []) ≡ told (with_half (behind_comment r.half) r) (code "." ∷ code "\\" ∷ code "\"" ∷ []) 4
+    → fed r (code "." ∷ code "\\" ∷ code "\"" ∷ []) ≡ told (with_half (after_comment r.half) r) (code "." ∷ code "\\" ∷ code "\"" ∷ []) 4
 comment_fed r none plain start =
     let dot = code "." ∷ [] in
     ap (λ (t : Told). then_told t (λ s. fed s (code "\\" ∷ code "\"" ∷ []))) (dot_read r none plain start)
@@ -79,13 +79,13 @@ comment_fed r none plain start =
     ∙ ap (λ (t : Told). behind dot 1 (behind [] 2 (then_told t (λ s. told s [] 0)))) (quote_read r none)
 
 pub comment_begun : (bs : List ℕ) (r : Reader) → r.pending ≡ Nothing → is_plain r.half.escape ≡ true → r.half.line ≡ lines.Start → begins_comment bs ≡ true
-    → fed r (take 3 bs) ≡ told (with_half (behind_comment r.half) r) (take 3 bs) 4
+    → fed r (take 3 bs) ≡ told (with_half (after_comment r.half) r) (take 3 bs) 4
 comment_begun [] r none plain start is = absurd (let no : false ≡ true = is in cc)
 comment_begun (a ∷ []) r none plain start is = absurd (let no : false ≡ true = is in cc)
 comment_begun (a ∷ b ∷ []) r none plain start is = absurd (let no : false ≡ true = is in cc)
 comment_begun (a ∷ b ∷ c ∷ bs) r none plain start is =
     let front = and-first ((a == code ".") && (b == code "\\")) (c == code "\"") is in
-    let P : ℕ → ℕ → ℕ → Type 0 = λ x y z. fed r (x ∷ y ∷ z ∷ []) ≡ told (with_half (behind_comment r.half) r) (x ∷ y ∷ z ∷ []) 4 in
+    let P : ℕ → ℕ → ℕ → Type 0 = λ x y z. fed r (x ∷ y ∷ z ∷ []) ≡ told (with_half (after_comment r.half) r) (x ∷ y ∷ z ∷ []) 4 in
     let whole : P (code ".") (code "\\") (code "\"") = comment_fed r none plain start in
     let one : P a (code "\\") (code "\"") = subst (λ (x : ℕ). P x (code "\\") (code "\"")) (sym (is_one a (code ".") (and-first (a == code ".") (b == code "\\") front))) whole in
     let two : P a b (code "\"") = subst (λ (y : ℕ). P a y (code "\"")) (sym (is_one b (code "\\") (and-second (a == code ".") (b == code "\\") front))) one in

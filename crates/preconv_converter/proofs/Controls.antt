@@ -21,7 +21,7 @@ use Rattle.preconv_converter.specs.Escapes.{in_escape}
 use Rattle.preconv_converter.specs.Lines.{ends_name, line_of, manual_by, opening, named_line, in_line}
 use Rattle.preconv_converter.specs.Meeting.{meet, plain_byte, beginning, is_as_is, is_as_is_at}
 use Rattle.preconv_converter.specs.Reading.{Told, told, behind, then_told, heard, heard_in, with_half, read, fed}
-use Rattle.preconv_converter.specs.Runs.{goes_on_name, dotted_len, is_start, name_len, behind_name, behind_control, is_end}
+use Rattle.preconv_converter.specs.Runs.{goes_on_name, dotted_len, is_start, name_len, behind_name, after_control, is_end}
 use Rattle.preconv_converter.proofs.Plain.{is_not, nothing_pending, heard_as_is}
 use Rattle.preconv_converter.proofs.Reading.{fed-append}
 use Rattle.preconv_converter.proofs.AtOnce.{placed_escape, placed_open}
@@ -85,7 +85,7 @@ opening_same o b name h =
 -- ---- what ends the name
 
 Ends : ℕ → List ℕ → Reader → Type 0
-Ends b name r = read b (with_half (behind_name name r.half) r) ≡ told (with_half (behind_control (opened name) b r.half) r) (name ++ b ∷ []) 2
+Ends b name r = read b (with_half (behind_name name r.half) r) ≡ told (with_half (after_control (opened name) b r.half) r) (name ++ b ∷ []) 2
 
 end_met : (b : ℕ) (name : List ℕ) (h : Half) → (b == code "\\") ≡ false → ends_name b ≡ true → is_plain h.escape ≡ true
     → meet (comings.Byte b) (behind_name name h) ≡ named_line b (behind_name name h)
@@ -97,7 +97,7 @@ end_met b name h back ends plain =
 
 end_heard : (b : ℕ) (name : List ℕ) (r : Reader) → (b == code "\\") ≡ false → ends_name b ≡ true → is_plain r.half.escape ≡ true
     → goes_out (opened name) (length name) ≡ true → all_sent r.table name ≡ name → is_as_is b (opening (opened name) b (behind_name [] r.half)) ≡ true
-    → heard (comings.Byte b) (with_half (behind_name name r.half) r) ≡ told (with_half (behind_control (opened name) b r.half) r) (name ++ b ∷ []) 2
+    → heard (comings.Byte b) (with_half (behind_name name r.half) r) ≡ told (with_half (after_control (opened name) b r.half) r) (name ++ b ∷ []) 2
 unfolding heard
 end_heard b name r back ends plain goes sends is =
     let c = comings.Byte b in
@@ -135,7 +135,7 @@ by_end P p q b true y e f is = subst P (sym (is_one b (code " ") e)) p
 by_end P p q b false true e f is = subst P (sym (is_one b (code "\n") f)) q
 by_end P p q b false false e f is = absurd (let no : false ≡ true = is in cc)
 
-ends_of : (b : ℕ) (name : List ℕ) (r : Reader) → Ends b name r → read b (with_half (behind_name name r.half) r) ≡ told (with_half (behind_control (opened name) b r.half) r) (name ++ b ∷ []) 2
+ends_of : (b : ℕ) (name : List ℕ) (r : Reader) → Ends b name r → read b (with_half (behind_name name r.half) r) ≡ told (with_half (after_control (opened name) b r.half) r) (name ++ b ∷ []) 2
 unfolding Ends
 ends_of b name r p = p
 
@@ -160,7 +160,7 @@ dotted n (dot ∷ first ∷ more) is some =
 
 pub control_fed : (n : ℕ) (bs : List ℕ) (r : Reader) (b : ℕ) → r.pending ≡ Nothing → is_open r.half ≡ true → n ≡ name_len bs r.half → 0 < n → n + 1 < length bs → b ≡ get_or bs (n + 1) 0
     → is_end b ≡ true → goes_out (opened (take n (drop 1 bs))) n ≡ true
-    → fed r (take (n + 2) bs) ≡ told (with_half (behind_control (opened (take n (drop 1 bs))) b r.half) r) (take (n + 2) bs) (n + 3)
+    → fed r (take (n + 2) bs) ≡ told (with_half (after_control (opened (take n (drop 1 bs))) b r.half) r) (take (n + 2) bs) (n + 3)
 control_fed n bs r b none free is some more last ends goes =
     let x = is_plain r.half.escape in
     let y = is_start r.half.line in
@@ -183,4 +183,4 @@ control_fed n bs r b none free is some more last ends goes =
     ∙ fed-append r (take (n + 1) bs) (b ∷ [])
     ∙ ap (λ (t : Told). then_told t (λ v. fed v (b ∷ []))) (name_fed n bs r none is some)
     ∙ ap (λ (t : Told). behind (code "." ∷ []) (n + 1) (then_told t (λ v. told v [] 0))) (ends_of b name r end)
-    ∙ control_told (with_half (behind_control (opened name) b r.half) r) ((code "." ∷ []) ++ ((name ++ b ∷ []) ++ [])) (take (n + 2) bs) (n + 1 + 2) (n + 3) out (omega arith)
+    ∙ control_told (with_half (after_control (opened name) b r.half) r) ((code "." ∷ []) ++ ((name ++ b ∷ []) ++ [])) (take (n + 2) bs) (n + 1 + 2) (n + 3) out (omega arith)

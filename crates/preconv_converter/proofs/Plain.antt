@@ -26,13 +26,13 @@ use Rattle.preconv_converter.specs.declared.reader.Pending.TheVariants as pendin
 use Rattle.preconv_converter.specs.Half.{Met, taken, left, next_line, is_plain, is_open}
 use Rattle.preconv_converter.specs.Translations.{translated}
 use Rattle.preconv_converter.specs.Hyphens.{mark_of, followed, gone_by, saying, hyphen, turns_hyphens, carriage_return, is_moved, moved, closes, newline_held, in_text}
-use Rattle.preconv_converter.specs.Words.{goes_on_at, goes_on_with, goes_on_with_space, spaced_at, behind_space, begins_word, is_ninth, class_of, words_at, blank_by, met_at}
+use Rattle.preconv_converter.specs.Words.{goes_on_at, goes_on_with, goes_on_with_space, spaced_at, after_space, begins_word, is_ninth, class_of, words_at, blank_by, met_at}
 use Rattle.preconv_converter.specs.Words.{is_as_is as word_as_is, taken_as_is as word_taken}
 use Rattle.preconv_converter.specs.Saying.{bytes_of, sent}
 use Rattle.preconv_converter.specs.Escapes.{in_escape}
-use Rattle.preconv_converter.specs.Lines.{is_control, control, as_met, among_words, follows_tag, begins_apart, breaking, at_start, behind_fonts, word_moved, in_words, in_rest, in_line_at, in_line, takes_escape, passing}
+use Rattle.preconv_converter.specs.Lines.{is_control, control, as_met, among_words, follows_tag, begins_apart, breaking, at_start, after_fonts, word_moved, in_words, in_rest, in_line_at, in_line, takes_escape, passing}
 use Rattle.preconv_converter.specs.Meeting.{meet, plain_byte, beginning, is_raw, may_pass, is_text_as_is, is_as_is_at, is_as_is, line_taken, taken_as_is}
-use Rattle.preconv_converter.specs.Reading.{Told, told, behind, then_told, heard, heard_in, with_half, pending_with, strays, fresh, heard_behind, heard_byte, read, fed, is_lead, stray}
+use Rattle.preconv_converter.specs.Reading.{Told, told, behind, then_told, heard, heard_in, with_half, pending_with, strays, fresh, heard_after, heard_byte, read, fed, is_lead, stray}
 use Rattle.preconv_converter.specs.Passing.{Passes}
 use Rattle.preconv_converter.proofs.Reading.{behind-none, fed-append}
 use Rattle.preconv_converter.proofs.Sent.{sent_is, ascii-goes}
@@ -105,7 +105,7 @@ start_met b h still p =
     (is_not (is_control b) (and-first plain whole two)) (is_not behind (and-second (plain && whole) (not behind) p)) (text_met b h still (and-second plain whole two))
 
 fonts_met : (b : ℕ) (h : Half) → is_moved b h ≡ false → (not (b == code " ") && is_text_as_is b h) ≡ true
-    → behind_fonts b h ≡ goes b (if b == code "\n" then lines.Start else lines.Text) h
+    → after_fonts b h ≡ goes b (if b == code "\n" then lines.Start else lines.Text) h
 fonts_met b h still p =
     let blank = not (b == code " ") in
     let whole = is_text_as_is b h in
@@ -130,7 +130,7 @@ blank_kept Tag said = refl
 
 -- up to the eighth word
 space_told : (place : Place) (said : Said) (w : Words) → spaced_at place ≡ true → is_ninth w ≡ false
-    → met_at place Space said w ≡ record { words = words_at (behind_space place) w; said = said; takes = true }
+    → met_at place Space said w ≡ record { words = words_at (after_space place) w; said = said; takes = true }
 space_told Between said w p q =
     ap (λ (x : Bool). record { words = words_at Between w; said = blank_by w.fonts x said; takes = true }) q
     ∙ ap (λ (s : Said). record { words = words_at Between w; said = s; takes = true }) (blank_kept w.fonts said)
@@ -140,19 +140,19 @@ space_told Inside said w p q =
 space_told Quoted said w p q = refl
 space_told place said w p q = absurd (let no : false ≡ true = p in cc)
 
-pub quoted_space : (place : Place) → goes_on_at place Space ≡ true → behind_space place ≡ place
+pub quoted_space : (place : Place) → goes_on_at place Space ≡ true → after_space place ≡ place
 quoted_space Quoted p = refl
 quoted_space place p = absurd (let no : false ≡ true = p in cc)
 
 space_by : (ninth : Bool) (said : Said) (w : Words) → is_ninth w ≡ ninth → (if ninth then goes_on_at w.place Space else spaced_at w.place) ≡ true
-    → met_at w.place Space said w ≡ record { words = words_at (behind_space w.place) w; said = said; takes = true }
+    → met_at w.place Space said w ≡ record { words = words_at (after_space w.place) w; said = said; takes = true }
 space_by true said w e p =
     words_told w.place Space said w p
     ∙ ap (λ (q : Place). record { words = words_at q w; said = said; takes = true }) (sym (quoted_space w.place p))
 space_by false said w e p = space_told w.place said w p e
 
 WordTold : Bool → ℕ → Words → Type 0
-WordTold s b w = met_at w.place (class_of b) (says.Byte b) w ≡ record { words = if s then words_at (behind_space w.place) w else w; said = says.Byte b; takes = true }
+WordTold s b w = met_at w.place (class_of b) (says.Byte b) w ≡ record { words = if s then words_at (after_space w.place) w else w; said = says.Byte b; takes = true }
 
 word_by : (s : Bool) (b : ℕ) (w : Words) → (b == code " ") ≡ s → (if s then goes_on_with_space w else not (b == code "-") && goes_on_with (class_of b) w) ≡ true
     → WordTold s b w
@@ -265,7 +265,7 @@ none_heard p r e is = ap (λ (q : Pending). pending_with q r) (sym (is ∙ e))
 pub nothing_pending : (b : ℕ) (r : Reader) → r.pending ≡ pendings.Nothing → heard_byte b r ≡ fresh b r
 nothing_pending b r e =
     let same : pending_with pendings.Nothing r ≡ r = none_heard r.pending r e refl in
-    ap (λ (p : Pending). heard_behind p b r) e
+    ap (λ (p : Pending). heard_after p b r) e
     ∙ ap (λ (p : Pending). then_told (strays p (pending_with pendings.Nothing r)) (λ s. fresh b s)) e
     ∙ ap (λ (s : Reader). behind [] 0 (fresh b s)) same
     ∙ behind-none (fresh b r)

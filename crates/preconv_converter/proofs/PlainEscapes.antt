@@ -24,7 +24,7 @@ use Rattle.preconv_converter.specs.Lines.{in_line, takes_escape, passing}
 use Rattle.preconv_converter.specs.Meeting.{meet, plain_byte, beginning, is_raw}
 use Rattle.preconv_converter.specs.Reading.{Told, told, behind, then_told, heard, heard_in, heard_byte, with_half, pending_with, read, fed, is_lead, stray}
 use Rattle.preconv_converter.specs.Passing.{Passes}
-use Rattle.preconv_converter.specs.Runs.{takes_plain_at, takes_plain_escape, is_kept, begins_kept, begins_font, is_font, behind_font, behind_kept}
+use Rattle.preconv_converter.specs.Runs.{takes_plain_at, takes_plain_escape, is_kept, begins_kept, begins_font, is_font, after_font, after_kept}
 use Rattle.preconv_converter.proofs.Plain.{and-first, and-second, is_not, nothing_pending}
 use Rattle.preconv_converter.proofs.AtOnce.{placed_as}
 
@@ -88,11 +88,11 @@ forgotten_by : (m : Bool) (h : Half) (e : Escape) (k s : List ℕ)
 forgotten_by true h e k s = refl
 forgotten_by false h e k s = refl
 
-kept_half : (b : ℕ) (h : Half) → in_text (without_escape (placed Other (record h { escape = escapes.Begun; kept = code "\\" ∷ b ∷ []; spelled = [] }))) ≡ behind_kept h
+kept_half : (b : ℕ) (h : Half) → in_text (without_escape (placed Other (record h { escape = escapes.Begun; kept = code "\\" ∷ b ∷ []; spelled = [] }))) ≡ after_kept h
 kept_half b h = ap in_text (forgotten_by h.manual h escapes.Begun (code "\\" ∷ b ∷ []) [])
 
 KeptRead : Reader → ℕ → Type 0
-KeptRead r b = read b (with_half (begun r.half) r) ≡ told (with_half (behind_kept r.half) r) (code "\\" ∷ b ∷ []) 1
+KeptRead r b = read b (with_half (begun r.half) r) ≡ told (with_half (after_kept r.half) r) (code "\\" ∷ b ∷ []) 1
 
 -- where its letter ends it
 kept_by : (r : Reader) → r.pending ≡ Nothing → takes_plain_at r.half.line ≡ true → (b : ℕ) → nat_lt b 127 ≡ true
@@ -103,11 +103,11 @@ unfolding KeptRead begun
 kept_by r none at b ascii sends ends =
     let h = record r.half { escape = escapes.Begun; kept = code "\\" ∷ []; spelled = [] } in
     let k = in_text (without_escape (placed Other (record r.half { escape = escapes.Begun; kept = code "\\" ∷ b ∷ []; spelled = [] }))) in
-    meets b (with_half h r) (says.Kept (code "\\" ∷ b ∷ [])) (behind_kept r.half) none (cooked_at r.half.line at) ascii
+    meets b (with_half h r) (says.Kept (code "\\" ∷ b ∷ [])) (after_kept r.half) none (cooked_at r.half.line at) ascii
     (ends
     ∙ ap (λ (x : Bool). if x then made_way r.half.line h else taken (says.Kept (code "\\" ∷ b ∷ [])) k) (ready_at r.half.line at)
     ∙ ap (taken (says.Kept (code "\\" ∷ b ∷ []))) (kept_half b r.half))
-    ∙ ap (λ (xs : List ℕ). told (with_half (behind_kept r.half) r) (xs ++ []) 1) sends
+    ∙ ap (λ (xs : List ℕ). told (with_half (after_kept r.half) r) (xs ++ []) 1) sends
 
 -- ---- a font
 
@@ -153,26 +153,26 @@ kept_read r none at b p =
     b (b == code "-") (b == code "&") (b == code "|") (b == code "c") (b == code "e") refl refl refl refl refl p
 
 kept_fed : (r : Reader) (b : ℕ) → r.pending ≡ Nothing → is_plain r.half.escape ≡ true → takes_plain_at r.half.line ≡ true → is_kept b ≡ true
-    → fed r (code "\\" ∷ b ∷ []) ≡ told (with_half (behind_kept r.half) r) (code "\\" ∷ b ∷ []) 2
+    → fed r (code "\\" ∷ b ∷ []) ≡ told (with_half (after_kept r.half) r) (code "\\" ∷ b ∷ []) 2
 unfolding KeptRead
 kept_fed r b none plain at p =
     ap (λ (t : Told). then_told t (λ s. fed s (b ∷ []))) (backslash_read r none plain at)
     ∙ ap (λ (t : Told). behind [] 1 (then_told t (λ s. told s [] 0))) (kept_read r none at b p)
 
 FontRead : Reader → ℕ → Type 0
-FontRead r c = read c (with_half (named r.half) r) ≡ told (with_half (behind_font c r.half) r) (code "\\" ∷ code "f" ∷ c ∷ []) 1
+FontRead r c = read c (with_half (named r.half) r) ≡ told (with_half (after_font c r.half) r) (code "\\" ∷ code "f" ∷ c ∷ []) 1
 
 font_read : (r : Reader) → r.pending ≡ Nothing → takes_plain_at r.half.line ≡ true → (c : ℕ) → is_font c ≡ true → FontRead r c
 unfolding FontRead named
 font_read r none at c p =
     let s = with_half (named r.half) r in
     let cooked = cooked_at r.half.line at in
-    by_letter (FontRead r) (meets (code "B") s (says.Font (code "B")) (behind_font (code "B") r.half) none cooked refl refl) (meets (code "I") s (says.Font (code "I")) (behind_font (code "I") r.half) none cooked refl refl)
-    (meets (code "P") s (says.Font (code "P")) (behind_font (code "P") r.half) none cooked refl refl) (meets (code "R") s (says.Font (code "R")) (behind_font (code "R") r.half) none cooked refl refl)
+    by_letter (FontRead r) (meets (code "B") s (says.Font (code "B")) (after_font (code "B") r.half) none cooked refl refl) (meets (code "I") s (says.Font (code "I")) (after_font (code "I") r.half) none cooked refl refl)
+    (meets (code "P") s (says.Font (code "P")) (after_font (code "P") r.half) none cooked refl refl) (meets (code "R") s (says.Font (code "R")) (after_font (code "R") r.half) none cooked refl refl)
     c (c == code "B") (c == code "I") (c == code "P") (c == code "R") refl refl refl refl p
 
 font_fed : (r : Reader) (c : ℕ) → r.pending ≡ Nothing → is_plain r.half.escape ≡ true → takes_plain_at r.half.line ≡ true → is_font c ≡ true
-    → fed r (code "\\" ∷ code "f" ∷ c ∷ []) ≡ told (with_half (behind_font c r.half) r) (code "\\" ∷ code "f" ∷ c ∷ []) 3
+    → fed r (code "\\" ∷ code "f" ∷ c ∷ []) ≡ told (with_half (after_font c r.half) r) (code "\\" ∷ code "f" ∷ c ∷ []) 3
 unfolding FontRead
 font_fed r c none plain at p =
     ap (λ (t : Told). then_told t (λ s. fed s (code "f" ∷ c ∷ []))) (backslash_read r none plain at)
@@ -190,24 +190,24 @@ plain_second true y p = p
 plain_second false y p = absurd (let no : false ≡ true = p in cc)
 
 pub kept_passes : (bs : List ℕ) (r : Reader) → r.pending ≡ Nothing → takes_plain_escape r.half ≡ true → begins_kept bs ≡ true
-    → Passes 2 bs r (with_half (behind_kept r.half) r)
+    → Passes 2 bs r (with_half (after_kept r.half) r)
 kept_passes [] r none may is = absurd (let no : false ≡ true = is in cc)
 kept_passes (a ∷ []) r none may is = absurd (let no : false ≡ true = is in cc)
 kept_passes (a ∷ b ∷ bs) r none may is =
-    let P : ℕ → Type 0 = λ x. fed r (x ∷ b ∷ []) ≡ told (with_half (behind_kept r.half) r) (x ∷ b ∷ []) 2 in
+    let P : ℕ → Type 0 = λ x. fed r (x ∷ b ∷ []) ≡ told (with_half (after_kept r.half) r) (x ∷ b ∷ []) 2 in
     let whole : P (code "\\") =
     kept_fed r b none (plain_first (is_plain r.half.escape) (takes_plain_at r.half.line) may) (plain_second (is_plain r.half.escape) (takes_plain_at r.half.line) may)
     (and-second (a == code "\\") (is_kept b) is) in
     subst P (sym (is_one a (code "\\") (and-first (a == code "\\") (is_kept b) is))) whole
 
 pub font_passes : (bs : List ℕ) (r : Reader) → r.pending ≡ Nothing → takes_plain_escape r.half ≡ true → begins_font bs ≡ true
-    → Passes 3 bs r (with_half (behind_font (get_or bs 2 0) r.half) r)
+    → Passes 3 bs r (with_half (after_font (get_or bs 2 0) r.half) r)
 font_passes [] r none may is = absurd (let no : false ≡ true = is in cc)
 font_passes (a ∷ []) r none may is = absurd (let no : false ≡ true = is in cc)
 font_passes (a ∷ b ∷ []) r none may is = absurd (let no : false ≡ true = is in cc)
 font_passes (a ∷ b ∷ c ∷ bs) r none may is =
     let front = and-first ((a == code "\\") && (b == code "f")) (is_font c) is in
-    let P : ℕ → ℕ → Type 0 = λ x y. fed r (x ∷ y ∷ c ∷ []) ≡ told (with_half (behind_font c r.half) r) (x ∷ y ∷ c ∷ []) 3 in
+    let P : ℕ → ℕ → Type 0 = λ x y. fed r (x ∷ y ∷ c ∷ []) ≡ told (with_half (after_font c r.half) r) (x ∷ y ∷ c ∷ []) 3 in
     let whole : P (code "\\") (code "f") =
     font_fed r c none (plain_first (is_plain r.half.escape) (takes_plain_at r.half.line) may) (plain_second (is_plain r.half.escape) (takes_plain_at r.half.line) may)
     (and-second ((a == code "\\") && (b == code "f")) (is_font c) is) in

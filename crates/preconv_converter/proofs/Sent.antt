@@ -12,7 +12,7 @@ use Rattle.preconv_converter.specs.declared.reader.Pending.TheVariants.{Nothing,
 use Rattle.preconv_converter.specs.Saying.{has_byte, may_go_out, sent, all_sent, bytes_of, text_of}
 use Rattle.preconv_converter.specs.Meeting.{meet, is_raw}
 use Rattle.preconv_converter.specs.Lines.{passing}
-use Rattle.preconv_converter.specs.Reading.{Told, is_lead, is_tail, is_second, told, behind, then_told, with_half, pending_with, heard_in, heard, stray, strays, pending_heard, fresh, apart, whole, heard_behind, read, name_left, ended, finished, fed, first_reader, converted}
+use Rattle.preconv_converter.specs.Reading.{Told, is_lead, is_tail, is_second, told, behind, then_told, with_half, pending_with, heard_in, heard, stray, strays, pending_heard, fresh, apart, whole, heard_after, read, name_left, ended, finished, fed, first_reader, converted}
 
 GoesOut : Option Table → ℕ → Type 0
 GoesOut e b = may_go_out e b ≡ true
@@ -92,13 +92,13 @@ apart-shows e b r same = Shows-then e (pending_heard r) (λ s. fresh b s) (pendi
 whole-shows : (e : Option Table) (c : ℕ) (r : Reader) → r.table ≡ e → Shows e (whole c r)
 whole-shows e c r same = heard-shows e (Wide c) (pending_with Nothing r) same
 
-heard_behind-shows : (e : Option Table) (p : Pending) (b : ℕ) (r : Reader) → r.table ≡ e → Shows e (heard_behind p b r)
-heard_behind-shows e Nothing b r same = apart-shows e b r same
-heard_behind-shows e (One a) b r same =
+heard_after-shows : (e : Option Table) (p : Pending) (b : ℕ) (r : Reader) → r.table ≡ e → Shows e (heard_after p b r)
+heard_after-shows e Nothing b r same = apart-shows e b r same
+heard_after-shows e (One a) b r same =
     Shows-if (is_second a b) (Shows-if (nat_lt a 224) (whole-shows e _ r same) (shows_nothing e (pending_with (Two a b) r) same)) (apart-shows e b r same)
-heard_behind-shows e (Two a b) c r same =
+heard_after-shows e (Two a b) c r same =
     Shows-if (is_tail c) (Shows-if (nat_lt a 240) (whole-shows e _ r same) (shows_nothing e (pending_with (Three a b c) r) same)) (apart-shows e c r same)
-heard_behind-shows e (Three a b c) d r same = Shows-if (is_tail d) (whole-shows e _ r same) (apart-shows e d r same)
+heard_after-shows e (Three a b c) d r same = Shows-if (is_tail d) (whole-shows e _ r same) (apart-shows e d r same)
 
 passed-shows : (e : Option Table) (b : ℕ) (r : Reader) → r.table ≡ e → Shows e (told (with_half (passing b r.half) r) (sent r.table b ∷ []) 1)
 unfolding GoesOut
@@ -109,7 +109,7 @@ passed-shows e b r same = record {
 }
 
 read-shows : (e : Option Table) (b : ℕ) (r : Reader) → r.table ≡ e → Shows e (read b r)
-read-shows e b r same = Shows-if (is_raw r.half.line) (passed-shows e b r same) (heard_behind-shows e r.pending b r same)
+read-shows e b r same = Shows-if (is_raw r.half.line) (passed-shows e b r same) (heard_after-shows e r.pending b r same)
 
 fed-shows : (e : Option Table) (bs : List ℕ) (r : Reader) → r.table ≡ e → Shows e (fed r bs)
 fed-shows e [] r same = shows_nothing e r same

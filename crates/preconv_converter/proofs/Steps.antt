@@ -8,7 +8,7 @@ use Rattle.preconv_converter.specs.declared.reader.Pending.{Pending}
 use Rattle.preconv_converter.specs.declared.reader.Pending.TheVariants.{Nothing, One, Two, Three}
 use Rattle.preconv_converter.specs.Saying.{bytes_of, sent}
 use Rattle.preconv_converter.specs.Meeting.{meet, is_raw}
-use Rattle.preconv_converter.specs.Reading.{Told, is_lead, is_tail, is_second, told, behind, then_told, with_half, pending_with, heard_in, heard, stray, strays, pending_heard, fresh, apart, whole, heard_behind, read, fed, first_reader, steps_of}
+use Rattle.preconv_converter.specs.Reading.{Told, is_lead, is_tail, is_second, told, behind, then_told, with_half, pending_with, heard_in, heard, stray, strays, pending_heard, fresh, apart, whole, heard_after, read, fed, first_reader, steps_of}
 
 -- ---- a character is heard in so many steps at most, and what is pending stays
 
@@ -105,18 +105,18 @@ whole-pays code r =
 kept-pays : (p : Pending) (r : Reader) → count p ≤ count r.pending + 1 → Paid r (told (pending_with p r) [] 0)
 kept-pays p r l = pays (6 * count r.pending + 6) (told (pending_with p r) [] 0) (omega (arith, l))
 
-heard_behind-pays : (p : Pending) (b : ℕ) (r : Reader) → r.pending ≡ p → Paid r (heard_behind p b r)
-heard_behind-pays Nothing b r e = apart-pays b r
-heard_behind-pays (One a) b r e =
+heard_after-pays : (p : Pending) (b : ℕ) (r : Reader) → r.pending ≡ p → Paid r (heard_after p b r)
+heard_after-pays Nothing b r e = apart-pays b r
+heard_after-pays (One a) b r e =
     let same : count r.pending ≡ 1 = ap count e in
     Pays-split (is_second a b) (Pays-split (nat_lt a 224) (whole-pays _ r) (kept-pays (Two a b) r (omega (arith, same)))) (apart-pays b r)
-heard_behind-pays (Two a b) c r e =
+heard_after-pays (Two a b) c r e =
     let same : count r.pending ≡ 2 = ap count e in
     Pays-split (is_tail c) (Pays-split (nat_lt a 240) (whole-pays _ r) (kept-pays (Three a b c) r (omega (arith, same)))) (apart-pays c r)
-heard_behind-pays (Three a b c) d r e = Pays-split (is_tail d) (whole-pays _ r) (apart-pays d r)
+heard_after-pays (Three a b c) d r e = Pays-split (is_tail d) (whole-pays _ r) (apart-pays d r)
 
 read-pays : (b : ℕ) (r : Reader) → Paid r (read b r)
-read-pays b r = Pays-split (is_raw r.half.line) (pays (6 * count r.pending + 6) (told _ (sent r.table b ∷ []) 1) (omega arith)) (heard_behind-pays r.pending b r refl)
+read-pays b r = Pays-split (is_raw r.half.line) (pays (6 * count r.pending + 6) (told _ (sent r.table b ∷ []) 1) (omega arith)) (heard_after-pays r.pending b r refl)
 
 -- ---- many bytes
 

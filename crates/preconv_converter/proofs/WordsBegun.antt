@@ -26,7 +26,7 @@ use Rattle.preconv_converter.specs.Escapes.{in_escape}
 use Rattle.preconv_converter.specs.Lines.{as_met, among_words, word_moved, in_words, passing}
 use Rattle.preconv_converter.specs.Meeting.{meet, plain_byte, beginning, is_raw}
 use Rattle.preconv_converter.specs.Reading.{told, behind, heard, heard_in, heard_byte, with_half, pending_with, read, is_lead, stray}
-use Rattle.preconv_converter.specs.Runs.{goes_on_text, is_between, begins_word_with, behind_word}
+use Rattle.preconv_converter.specs.Runs.{goes_on_text, is_between, begins_word_with, after_word}
 use Rattle.preconv_converter.proofs.Plain.{and-first, and-second, is_not, stays, nothing_pending}
 use Rattle.preconv_converter.proofs.AtOnce.{placed_as, placed_open, placed_twice, is_ascii, no_return, no_closer, no_backslash, no_hyphen, no_newline}
 use Rattle.preconv_converter.proofs.Sent.{sent_is, ascii-goes}
@@ -119,7 +119,7 @@ thrice : (m : Mark) (h : Half) → is_closer m ≡ false → placed m (placed m 
 thrice m h last = placed_twice m m (placed m h) last ∙ placed_twice m m h last
 
 word_heard : (b : ℕ) (w : Words) (r : Reader) → is_open r.half ≡ true → r.half.line ≡ lines.Words w → goes_on_text b ≡ true → class_of b ≡ Other
-    → w.place ≡ Between → nat_lt w.count 8 ≡ true → heard (comings.Byte b) r ≡ told (with_half (behind_word w b r.half) r) (b ∷ []) 3
+    → w.place ≡ Between → nat_lt w.count 8 ≡ true → heard (comings.Byte b) r ≡ told (with_half (after_word w b r.half) r) (b ∷ []) 3
 unfolding heard at
 word_heard b w r free line text class between few =
     let c = comings.Byte b in
@@ -137,14 +137,14 @@ word_heard b w r free line text class between few =
     ∙ ap (λ (n : Met). behind [] 1 (behind [] 1 (behind (bytes_of e n.said) 1 (if n.takes then told (with_half n.half r) [] 0 else heard_in 3 c (with_half n.half r))))) (third_met b w q text class open_q)
     ∙ ap (λ (k : Half). told (with_half (record k { line = lines.Words (inside w) }) r) (sent e b ∷ []) 3) (thrice m h (no_closer b text))
     ∙ ap (λ (x : Bool). told (with_half (record (if x then record h { before = Character marks.Other; tag = next_line h.tag } else placed m h) { line = lines.Words (inside w) }) r) (sent e b ∷ []) 3) (sym (no_newline b text))
-    ∙ ap (λ (x : ℕ). told (with_half (behind_word w b h) r) (x ∷ []) 3) (sent_is e b (ascii-goes e b (is_ascii b text)))
+    ∙ ap (λ (x : ℕ). told (with_half (after_word w b h) r) (x ∷ []) 3) (sent_is e b (ascii-goes e b (is_ascii b text)))
 
 between_is : (place : Place) → is_between place ≡ true → place ≡ Between
 between_is Between p = refl
 between_is place p = absurd (let no : false ≡ true = p in cc)
 
 pub word_read : (b : ℕ) (w : Words) (r : Reader) → r.pending ≡ Nothing → is_open r.half ≡ true → r.half.line ≡ lines.Words w → begins_word_with w b ≡ true
-    → read b r ≡ told (with_half (behind_word w b r.half) r) (b ∷ []) 3
+    → read b r ≡ told (with_half (after_word w b r.half) r) (b ∷ []) 3
 word_read b w r none free line p =
     let text = goes_on_text b in
     let space = not (b == code " ") in

@@ -8,10 +8,10 @@ use Rattle.preconv_converter.specs.declared.half.Escape.{Escape}
 use Rattle.preconv_converter.specs.declared.half.Escape.TheVariants as escapes
 use Rattle.preconv_converter.specs.declared.half.Mark.TheVariants.{Other}
 use Rattle.preconv_converter.specs.Half.{Met, taken, abandoned}
-use Rattle.preconv_converter.specs.Hyphens.{placed, behind_hyphen, behind_sentence}
+use Rattle.preconv_converter.specs.Hyphens.{placed, after_hyphen, after_sentence}
 use Rattle.preconv_converter.specs.Endings.{ended, ends_with}
 use Rattle.preconv_converter.specs.Skipping.{skip_from, skipped, embedded}
-use Rattle.preconv_converter.specs.Letters.{newline_hidden, behind_backslash}
+use Rattle.preconv_converter.specs.Letters.{newline_hidden, after_backslash}
 use Rattle.preconv_converter.specs.Spelling.{target, pair, spelled_up_to, delimiter, bracketed, nested}
 
 abbrev pub argument : ℕ → Half → Met
@@ -25,7 +25,7 @@ noted b h = if b == code "\n" then newline_hidden h else taken says.Nothing h
 
 abbrev pub in_part : Escape → ℕ → Half → Met
 in_part escapes.Plain b h = abandoned h
-in_part escapes.Begun b h = behind_backslash b h
+in_part escapes.Begun b h = after_backslash b h
 in_part escapes.Argument b h = argument b h
 in_part (escapes.Target kind) b h = target kind b h
 in_part (escapes.Pair kind) b h = pair kind b h
@@ -37,8 +37,8 @@ in_part escapes.Skip b h = skip_from b h
 in_part (escapes.Skipped end) b h = skipped end b h
 in_part (escapes.Embedded backslash) b h = embedded backslash b h
 in_part escapes.Note b h = noted b h
-in_part escapes.Hyphen b h = behind_hyphen b h
-in_part escapes.Sentence b h = behind_sentence b h
+in_part escapes.Hyphen b h = after_hyphen b h
+in_part escapes.Sentence b h = after_sentence b h
 
 -- an escape that is longer than what is kept goes out
 abbrev pub in_escape : ℕ → Half → Met

@@ -87,8 +87,8 @@ is_begun (Character Opening) = true
 is_begun (Character Quote) = true
 is_begun before = false
 
-abbrev pub begins_behind : Half → Bool
-begins_behind h = is_begun h.before
+abbrev pub begins_after : Half → Bool
+begins_after h = is_begun h.before
 
 -- After an escape with a number or a text hyphens may stand in its argument: up to the end of the line they stay as they are.
 abbrev pub leaving_hyphens : Half → Half
@@ -121,8 +121,8 @@ hyphen line h =
     else hyphen_by h.before (record h { line = line })
 
 -- between letters it stays, and so does one before an escape, which may be that of a font
-abbrev pub behind_hyphen : ℕ → Half → Met
-behind_hyphen b h =
+abbrev pub after_hyphen : ℕ → Half → Met
+after_hyphen b h =
     if is_ascii_letter b || (b == code "\\") then abandoned h
     else left (says.Escape (code "-")) (without_escape h)
 
@@ -160,8 +160,8 @@ newline_held h =
     { line = lines.Start; escape = escapes.Sentence; kept = code "\n" ∷ [] })
 
 -- a blank or an empty line breaks
-abbrev pub behind_sentence : ℕ → Half → Met
-behind_sentence b h =
+abbrev pub after_sentence : ℕ → Half → Met
+after_sentence b h =
     left (says.Kept (if (b == code " ") || (b == code "\n") then code "\n" ∷ [] else codes "\\*(.\\n(.u\n"))
     (without_escape h)
 

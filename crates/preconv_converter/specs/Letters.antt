@@ -14,7 +14,7 @@ use Rattle.preconv_converter.specs.declared.half.Kind.TheVariants as kinds
 use Rattle.preconv_converter.specs.declared.words.Class.TheVariants as classes
 use Rattle.preconv_converter.specs.declared.words.Told.{Told}
 use Rattle.preconv_converter.specs.Half.{Met, taken, left, is_text, takes_brace, without_escape}
-use Rattle.preconv_converter.specs.Hyphens.{placed, begins_behind, leaving_hyphens, may_hang}
+use Rattle.preconv_converter.specs.Hyphens.{placed, begins_after, leaving_hyphens, may_hang}
 use Rattle.preconv_converter.specs.Words.{met_words, begins_word}
 use Rattle.preconv_converter.specs.Endings.{with_byte, keeping, going_on, ended, ends_with, dropped, kept_or}
 use Rattle.preconv_converter.specs.Skipping.{skip, embed}
@@ -107,7 +107,7 @@ letter b h =
     if b == code "\\" then backslash h else
     if b == code "?" then embed h else
     if (b == code ",") || (b == code "/") || (b == code ")") || (b == code ":") then dropped h else
-    if (b == code "%") && begins_behind h then dropped h else
+    if (b == code "%") && begins_after h then dropped h else
     if (b == code " ") || (b == code "~") then blank h else
     if b == code "$" then going_on b escapes.Argument h else
     if b == code "{" then brace h else
@@ -141,8 +141,8 @@ is_text_line lines.Fonts = true
 is_text_line line = false
 
 -- In a definition, and in the text of a string, an escape may have several backslashes. In a text line a note hides its newline.
-abbrev pub behind_backslash : ℕ → Half → Met
-behind_backslash b h =
+abbrev pub after_backslash : ℕ → Half → Met
+after_backslash b h =
     if b == code "\n" then newline_hidden h else
     if (b == code "\\") && (h.defining || is_stored h.line) then going_on b escapes.Begun h else
     if b == code "\"" then comment (says.Kept (with_byte b h.kept)) h else

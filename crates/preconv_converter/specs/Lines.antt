@@ -59,8 +59,8 @@ at_start b h =
     if b == code "\n" then saying b lines.Start h else in_text b h
 
 -- Blanks before the first word of a filled line are dropped. After fonts they are printed, as are those between words.
-abbrev pub behind_fonts : ℕ → Half → Met
-behind_fonts b h =
+abbrev pub after_fonts : ℕ → Half → Met
+after_fonts b h =
     if (b == code " ") && not h.table then left (Escape (code "&")) (record h { line = lines.Text })
     else in_text b h
 
@@ -80,8 +80,8 @@ abbrev pub blanks_said : Line → Half → Met
 blanks_said line h = left (Kept h.name) (record h { name = []; line = line })
 
 -- Blanks after the control character are kept. In a definition they are dropped before a second one, which ends it.
-abbrev pub behind_control : ℕ → Half → Met
-behind_control b h =
+abbrev pub after_control : ℕ → Half → Met
+after_control b h =
     if (b == code ".") && h.defining then naming (code "." ∷ []) lines.Name h else
     if is_gap b && not (is_full h.name) then naming (h.name ++ b ∷ []) lines.Control h else
     if not (length h.name == 0) then blanks_said lines.Control h else
@@ -229,7 +229,7 @@ passing b h = record h { line = line_passed h.line b }
 
 abbrev pub in_line_at : Line → ℕ → Half → Met
 in_line_at lines.Start b h = at_start b h
-in_line_at lines.Control b h = behind_control b h
+in_line_at lines.Control b h = after_control b h
 in_line_at lines.Name b h = in_name b h
 in_line_at (lines.Words words) b h = in_words words b h
 in_line_at (lines.Translation pair) b h = in_translation pair b h
@@ -243,7 +243,7 @@ in_line_at lines.Braced b h = at_part b h
 in_line_at lines.Comment b h = taken (Byte b) (passing b h)
 in_line_at (lines.Ignored d) b h = taken (Byte b) (passing b h)
 in_line_at lines.Text b h = in_text b h
-in_line_at lines.Fonts b h = behind_fonts b h
+in_line_at lines.Fonts b h = after_fonts b h
 in_line_at line b h = in_rest b h
 
 abbrev pub in_line : ℕ → Half → Met

@@ -100,23 +100,23 @@ abbrev pub whole : ℕ → Reader → Told
 whole c r = heard (Wide c) (pending_with Nothing r)
 
 -- by what is pending
-abbrev pub heard_behind : Pending → ℕ → Reader → Told
-heard_behind Nothing b r = apart b r
-heard_behind (One a) b r =
+abbrev pub heard_after : Pending → ℕ → Reader → Told
+heard_after Nothing b r = apart b r
+heard_after (One a) b r =
     if is_second a b
     then (if nat_lt a 224 then whole ((a % 32) * 64 + low_six b) r else told (pending_with (Two a b) r) [] 0)
     else apart b r
-heard_behind (Two a b) c r =
+heard_after (Two a b) c r =
     if is_tail c
     then (if nat_lt a 240 then whole ((a % 16) * 4096 + low_six b * 64 + low_six c) r
     else told (pending_with (Three a b c) r) [] 0)
     else apart c r
-heard_behind (Three a b c) d r =
+heard_after (Three a b c) d r =
     if is_tail d then whole ((a % 8) * 262144 + low_six b * 4096 + low_six c * 64 + low_six d) r
     else apart d r
 
 abbrev pub heard_byte : ℕ → Reader → Told
-heard_byte b r = heard_behind r.pending b r
+heard_byte b r = heard_after r.pending b r
 
 -- ---- a byte, and the end
 

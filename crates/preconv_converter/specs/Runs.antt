@@ -86,8 +86,8 @@ abbrev pub is_end : ℕ → Bool
 is_end b = (b == code " ") || (b == code "\n")
 
 -- the dot, a name that opens so, and what ended it
-abbrev pub behind_control : Opens → ℕ → Half → Half
-behind_control o b h = taken_as_is b (opening o b (behind_name [] h))
+abbrev pub after_control : Opens → ℕ → Half → Half
+after_control o b h = taken_as_is b (opening o b (behind_name [] h))
 
 -- ---- comments that begin a line
 
@@ -97,8 +97,8 @@ begins_comment (a ∷ []) = false
 begins_comment (a ∷ b ∷ []) = false
 begins_comment (a ∷ b ∷ c ∷ bs) = (a == code ".") && (b == code "\\") && (c == code "\"")
 
-abbrev pub behind_comment : Half → Half
-behind_comment h = record (without_escape h) {
+abbrev pub after_comment : Half → Half
+after_comment h = record (without_escape h) {
   name = [];
   conditional = false;
   before = Character Other;
@@ -116,8 +116,8 @@ abbrev pub begins_word_with : Words → ℕ → Bool
 begins_word_with w b =
     goes_on_text b && not (b == code " ") && not (b == code "\"") && is_between w.place && nat_lt w.count 8
 
-abbrev pub behind_word : Words → ℕ → Half → Half
-behind_word w b h = record (gone_by b h) { line = lines.Words (inside w) }
+abbrev pub after_word : Words → ℕ → Half → Half
+after_word w b h = record (gone_by b h) { line = lines.Words (inside w) }
 
 -- ---- escapes that go out as they are: those of two bytes, and fonts
 
@@ -153,8 +153,8 @@ begins_font (a ∷ b ∷ []) = false
 begins_font (a ∷ b ∷ c ∷ bs) = (a == code "\\") && (b == code "f") && is_font c
 
 -- what is half read then
-abbrev pub behind_font : ℕ → Half → Half
-behind_font letter h = in_fonts (without_escape (faced letter h))
+abbrev pub after_font : ℕ → Half → Half
+after_font letter h = in_fonts (without_escape (faced letter h))
 
-abbrev pub behind_kept : Half → Half
-behind_kept h = in_text (without_escape (placed Other h))
+abbrev pub after_kept : Half → Half
+after_kept h = in_text (without_escape (placed Other h))

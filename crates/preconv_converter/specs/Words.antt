@@ -81,12 +81,12 @@ abbrev pub words_at : Place → Words → Words
 words_at place w = record { fonts = w.fonts; count = w.count; second = w.second; place = place }
 
 -- a space ends a word
-abbrev pub behind_space : Place → Place
-behind_space Inside = Between
-behind_space place = place
+abbrev pub after_space : Place → Place
+after_space Inside = Between
+after_space place = place
 
 abbrev pub taken_as_is : ℕ → Words → Words
-taken_as_is b w = if b == code " " then words_at (behind_space w.place) w else w
+taken_as_is b w = if b == code " " then words_at (after_space w.place) w else w
 
 abbrev pub told : Place → Said → Bool → Words → Told
 told place said takes w = record { words = words_at place w; said = said; takes = takes }
@@ -142,14 +142,14 @@ met_closing Other said w = told Between (blank_said (Byte (code " ")) w) false w
 
 -- After a quote with which a word begins. Blanks before the first word of a filled line are dropped: after the first quote
 -- they are printed, as are those between words.
-abbrev pub behind_quote : Words → Place
-behind_quote w = if w.count == 1 then Opened else Quoted
+abbrev pub after_quote : Words → Place
+after_quote w = if w.count == 1 then Opened else Quoted
 
 -- by where it comes, and what it is
 abbrev pub met_at : Place → Class → Said → Words → Told
 met_at Between Space said w = told Between (blank_said said w) true w
 met_at Between class said w = begun w
-met_at Begun Quote said w = told (behind_quote w) (quoted_said said Nothing w) true w
+met_at Begun Quote said w = told (after_quote w) (quoted_said said Nothing w) true w
 met_at Begun class said w = told Inside Nothing false w
 met_at Inside Space said w = told Between (blank_said said w) true w
 met_at Inside Quote said w = told Inside (quoted_said said Quotes w) true w

@@ -45,7 +45,7 @@ impl Half {
         }
         match self.escape {
             Escape::Plain => self.abandoned(),
-            Escape::Begun => self.behind_backslash(byte),
+            Escape::Begun => self.after_backslash(byte),
             Escape::Argument => self.argument(byte),
             Escape::Target(kind) => self.target(kind, byte),
             Escape::Pair(kind) => self.pair(kind, byte),
@@ -57,8 +57,8 @@ impl Half {
             Escape::Skipped(end) => self.skipped(end, byte),
             Escape::Embedded(backslash) => self.embedded(backslash, byte),
             Escape::Note => self.noted(byte),
-            Escape::Hyphen => self.behind_hyphen(byte),
-            Escape::Sentence => self.behind_sentence(byte),
+            Escape::Hyphen => self.after_hyphen(byte),
+            Escape::Sentence => self.after_sentence(byte),
         }
     }
 }

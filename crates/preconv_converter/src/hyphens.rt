@@ -151,8 +151,8 @@ impl Half {
     }
 
     /// Whether an opening bracket or a quote stands before the next character.
-    pub(crate) fn begins_behind(&self) -> bool
-        ensures { result ≡ specs.begins_behind self.now }
+    pub(crate) fn begins_after(&self) -> bool
+        ensures { result ≡ specs.begins_after self.now }
     {
         matches!(self.before, Before::Character(Mark::Opening | Mark::Quote))
     }
@@ -202,8 +202,8 @@ impl Half {
     }
 
     /// A byte after a letter and a hyphen. After an escape, which may be that of a font, it stays as well.
-    pub(crate) fn behind_hyphen(&mut self, byte: u8) -> Seen
-        ensures { met self.new result ≡ specs.behind_hyphen byte self.old }
+    pub(crate) fn after_hyphen(&mut self, byte: u8) -> Seen
+        ensures { met self.new result ≡ specs.after_hyphen byte self.old }
     {
         if is_ascii_letter(byte) || byte == b'\\' {
             return self.abandoned();

@@ -149,7 +149,7 @@ impl Half {
             b'\\' => self.backslash(),
             b'?' => self.embed(),
             b',' | b'/' | b')' | b':' => self.dropped(),
-            b'%' if self.begins_behind() => self.dropped(),
+            b'%' if self.begins_after() => self.dropped(),
             b' ' | b'~' => self.blank(),
             b'$' => self.goes_on(byte, Escape::Argument),
             b'{' => self.brace(),
@@ -192,8 +192,8 @@ impl Half {
     }
 
     /// A byte after one backslash or more.
-    pub(crate) fn behind_backslash(&mut self, byte: u8) -> Seen
-        ensures { met self.new result ≡ specs.behind_backslash byte self.old }
+    pub(crate) fn after_backslash(&mut self, byte: u8) -> Seen
+        ensures { met self.new result ≡ specs.after_backslash byte self.old }
     {
         match byte {
             b'\n' => self.newline_hidden(),

@@ -94,8 +94,8 @@ impl Half {
 
     /// A byte after a control character and blanks. In a definition these are dropped before another
     /// control character, which ends it.
-    fn behind_control(&mut self, byte: u8) -> Seen
-        ensures { met self.new result ≡ specs.behind_control byte self.old }
+    fn after_control(&mut self, byte: u8) -> Seen
+        ensures { met self.new result ≡ specs.after_control byte self.old }
     {
         if byte == b'.' && self.defining {
             return self.names(Name::of(b"."), Line::Name);
@@ -194,8 +194,8 @@ impl Half {
     }
 
     /// A byte of a text line of which only fonts were read. Blanks there are printed, as are those between words.
-    fn behind_fonts(&mut self, byte: u8) -> Seen
-        ensures { met self.new result ≡ specs.behind_fonts byte self.old }
+    fn after_fonts(&mut self, byte: u8) -> Seen
+        ensures { met self.new result ≡ specs.after_fonts byte self.old }
     {
         if byte == b' ' && !self.table {
             self.line = Line::Text;
@@ -275,7 +275,7 @@ impl Half {
     {
         match self.line {
             Line::Start => self.at_start(byte),
-            Line::Control => self.behind_control(byte),
+            Line::Control => self.after_control(byte),
             Line::Name => self.in_name(byte),
             Line::Words(words) => self.in_words(words, byte),
             Line::Condition => self.before_condition(byte),
@@ -287,7 +287,7 @@ impl Half {
             Line::Request | Line::Stored => self.in_rest(byte),
             Line::Translation(pair) => self.in_translation(pair, byte),
             Line::Face => self.in_face(byte),
-            Line::Fonts => self.behind_fonts(byte),
+            Line::Fonts => self.after_fonts(byte),
             Line::Comment | Line::Ignored(_) => {
                 self.passes(byte);
                 Seen::taken(Said::Byte(byte))

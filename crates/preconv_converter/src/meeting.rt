@@ -56,7 +56,7 @@ impl Half {
             Escape::Skip | Escape::Skipped(_) | Escape::Embedded(_) | Escape::Note => {
                 Seen::taken(Said::Nothing)
             }
-            Escape::Sentence => self.behind_sentence(b'?'),
+            Escape::Sentence => self.after_sentence(b'?'),
             _ => self.abandoned(),
         }
     }

@@ -131,7 +131,7 @@ impl Half {
     /// Takes the dot, a name that opens so, and the blank or newline after it.
     #[inline(always)]
     pub(crate) fn takes_control(&mut self, opens: Opens, byte: u8)
-        ensures { self.new ≡ specs.behind_control opens byte self.old }
+        ensures { self.new ≡ specs.after_control opens byte self.old }
     {
         self.takes_name(Name::new());
         self.opens(opens, byte);
@@ -141,7 +141,7 @@ impl Half {
     /// Takes the beginning of a comment that is a line of its own.
     #[inline(always)]
     pub(crate) fn takes_comment(&mut self)
-        ensures { self.new ≡ specs.behind_comment self.old }
+        ensures { self.new ≡ specs.after_comment self.old }
     {
         self.forget();
         self.name = Name::new();
@@ -154,7 +154,7 @@ impl Half {
     #[inline(always)]
     pub(crate) fn takes_word(&mut self, words: Words, byte: u8)
         requires { words.count < 8 }
-        ensures { self.new ≡ specs.behind_word words byte self.old }
+        ensures { self.new ≡ specs.after_word words byte self.old }
     {
         self.goes_by(byte);
         self.line = Line::Words(words.inside());
@@ -176,7 +176,7 @@ impl Half {
 
     /// Takes a font, as `\\fB`.
     pub(crate) fn takes_font(&mut self, letter: u8)
-        ensures { self.new ≡ specs.behind_font letter self.old }
+        ensures { self.new ≡ specs.after_font letter self.old }
     {
         self.faces(letter);
         self.forget();
@@ -185,7 +185,7 @@ impl Half {
 
     /// Takes an escape of two bytes that goes out as it is.
     pub(crate) fn takes_kept(&mut self)
-        ensures { self.new ≡ specs.behind_kept self.old }
+        ensures { self.new ≡ specs.after_kept self.old }
     {
         self.places(Mark::Other);
         self.forget();

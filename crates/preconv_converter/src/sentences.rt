@@ -60,8 +60,8 @@ impl Half {
     }
 
     /// The first byte of the line after it. A blank or an empty line breaks, and else what comes stands two blanks apart.
-    pub(crate) fn behind_sentence(&mut self, byte: u8) -> Seen
-        ensures { met self.new result ≡ specs.behind_sentence byte self.old }
+    pub(crate) fn after_sentence(&mut self, byte: u8) -> Seen
+        ensures { met self.new result ≡ specs.after_sentence byte self.old }
     {
         let said = match byte {
             b' ' | b'\n' => Name::of(b"\n"),

@@ -1,7 +1,7 @@
 //! The words of a font macro's line. After the eighth all that follows is one word in quotes, since no
 //! more than nine are taken.
 ghost use Rattle.std.specs.Prelude.{◌≡◌, ◌<◌};
-ghost use Rattle.preconv_converter.specs.Words.{begun, begins_word, behind_quote, blank_said, class_of, first_words, font_said, goes_on_with, goes_on_with_space, has_hyphens, inside, is_as_is, is_ninth, met_closing, met_words, quoted_said, taken_as_is, told, word_face, words_at};
+ghost use Rattle.preconv_converter.specs.Words.{begun, begins_word, after_quote, blank_said, class_of, first_words, font_said, goes_on_with, goes_on_with_space, has_hyphens, inside, is_as_is, is_ninth, met_closing, met_words, quoted_said, taken_as_is, told, word_face, words_at};
 
 use super::said::Said;
 
@@ -209,8 +209,8 @@ impl Words {
     }
 
     /// After a quote with which a word begins. Blanks there are printed, as are those between words.
-    fn behind_quote(self) -> Place
-        ensures { result ≡ behind_quote self }
+    fn after_quote(self) -> Place
+        ensures { result ≡ after_quote self }
     {
         if self.count == 1 {
             Place::Opened
@@ -308,7 +308,7 @@ impl Words {
             ),
             (Place::Between, _) => self.begun(),
             (Place::Begun, Class::Quote) => self.told(
-                self.behind_quote(),
+                self.after_quote(),
                 self.quoted_said(said, Said::Nothing),
                 true,
             ),

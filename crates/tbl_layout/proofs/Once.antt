@@ -19,7 +19,7 @@ use Rattle.tbl_layout.specs.declared.table.Table.{Table}
 use Rattle.tbl_layout.specs.Held.{cell_number, cell_of, is_boxed, is_double, item, no_row, no_step, row, text_of}
 use Rattle.tbl_layout.specs.Lists.{added, in_turn}
 use Rattle.tbl_layout.specs.Places.{sum}
-use Rattle.tbl_layout.specs.Requests.{open_behind}
+use Rattle.tbl_layout.specs.Requests.{open_after}
 use Rattle.tbl_layout.specs.Steps.{Walking, asked, asked_in, beyond_stepped, closed_box, closed_rule, closes_rule, has_beyond, on_step, released, row_asked, row_beside, row_stepped, ruled, space_in, step_at, stepped, walk_begun, walk_ended, walked, walked_at, walked_item, walked_line, walked_own_row, walked_request, walking_on, with_next, with_open, with_rule, without_steps}
 use Rattle.tbl_layout.proofs.Turns.{set_same}
 
@@ -338,7 +338,7 @@ request_met : (t : Table) (k lines : ℕ) (s : Span) (w : Walking) → suc lines
     → Met t k (suc (suc lines)) (walked_request s w)
 request_met t k lines s w h m =
     let v : Walking = asked_in (space_in w.table w.walk s) s w in
-    walked_as t k (suc (suc lines)) v (with_open (open_behind (text_of v.table s) v.walk.opened) v.walk) refl
+    walked_as t k (suc (suc lines)) v (with_open (open_after (text_of v.table s) v.walk.opened) v.walk) refl
     (asked_met t k lines (space_in w.table w.walk s) (row_asked w.table (space_in w.table w.walk s) w.walk) s w h m)
 
 own_met : (t : Table) (k lines n : ℕ) (r : Row) (w : Walking) → r.own ≡ (row t n).own → IsPlaced t → k < length t.items.items → item t k ≡ items.Row n

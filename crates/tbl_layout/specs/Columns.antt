@@ -4,7 +4,7 @@
 -- them. Columns of e are as wide as the widest of them.
 use Rattle.std.specs.Prelude.{ℕ, zero, suc, ◌+◌, ◌-◌, ◌*◌, ◌/◌, min, max, Bool, true, false, ◌==◌, ◌&&◌, ◌||◌, not, nat_le, nat_lt, List, [], ◌∷◌, length, Option, None, Some, ℤ, pos, negsuc, if◌then◌else◌}
 use Prim.Native.Char.{code}
-use Rattle.nr_units.specs.LongestFront.{read_of}
+use Rattle.nr_units.specs.LongestPrefix.{read_of}
 use Rattle.nr_units.specs.declared.expression.Ctx.{Ctx}
 use Rattle.nr_units.specs.declared.expression.Read.{Read}
 use Rattle.nr_units.specs.declared.units.Scale.TheVariants.{En}
@@ -223,6 +223,6 @@ equal_column width c t =
 abbrev pub made_equal : Table → Table
 made_equal t = in_turn (columns t) (equal_column (widest_equal t)) t
 
--- by their fields; what spans lack is dealt out to columns of e as wide as they are then, and e holds behind it
+-- by their fields; what spans lack is dealt out to columns of e as wide as they are then, and e holds after it
 abbrev pub measured_all : Table → Table
 measured_all t = made_equal (measured_spans (made_equal (measured_fields t)))

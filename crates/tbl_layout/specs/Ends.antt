@@ -11,7 +11,7 @@ use Rattle.tbl_layout.specs.Held.{columns}
 use Rattle.tbl_layout.specs.Pens.{Stroke, Start, after_all, first}
 use Rattle.tbl_layout.specs.Places.{is_same_mark}
 
--- where a line stands behind strokes
+-- where a line stands after strokes
 abbrev pub end_of : List Stroke → Option Place
 end_of strokes = (after_all (Start ∷ strokes) first).at
 

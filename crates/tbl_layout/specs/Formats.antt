@@ -104,7 +104,7 @@ byte_in (opens.Gap gap) b t = opening (opens.Gap (min (gap * 10 + (b - code "0")
 abbrev pub byte_added : ℕ → Table → Table
 byte_added b t = byte_in t.«open» b t
 
--- ---- formats, at first or behind .T&
+-- ---- formats, at first or after .T&
 
 abbrev pub formats_begun : Table → Table
 formats_begun t = record t { next_line = length t.lines.items }

@@ -45,7 +45,7 @@ pub record IsRead (t : Table) : Type 0 where
   pub order : (i j r s : ℕ) → i < j → j < length t.items.items → item t i ≡ items.Row r
       → item t j ≡ items.Row s → r < s
 
--- so they are read: what is read next keeps them so, and nothing is held where a table begins and behind a part of it that went out
+-- so they are read: what is read next keeps them so, and nothing is held where a table begins and after a part of it that went out
 abbrev pub RowsAdded : Type 0
 RowsAdded = (t : Table) → IsRead t → IsRead (row_ended t)
 

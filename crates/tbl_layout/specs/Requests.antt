@@ -35,7 +35,7 @@ abbrev pub is_asked : List ℕ → Bool
 is_asked [] = false
 is_asked (b ∷ bs) = is_control b
 
--- what stands behind the control character
+-- what stands after the control character
 abbrev pub behind : List ℕ → List ℕ
 behind [] = []
 behind (b ∷ bs) = bs
@@ -86,7 +86,7 @@ abbrev pub begins_blank : List ℕ → Bool
 begins_blank [] = false
 begins_blank (b ∷ bs) = is_blank b
 
--- words stand behind the name
+-- words stand after the name
 abbrev pub has_words : List ℕ → Bool
 has_words text = begins_blank text && not (is_empty (after_blanks text))
 
@@ -144,7 +144,7 @@ begins_text (b ∷ bs) = not (is_control b || (b == code "\\"))
 abbrev pub prints : List ℕ → Bool
 prints line = sets line || (begins_text line && not (is_empty (after_blanks line)))
 
--- ---- .sp with a number of lines, or without one: `v` may stand behind it, and a fraction, of which half a line and more is one
+-- ---- .sp with a number of lines, or without one: `v` may stand after it, and a fraction, of which half a line and more is one
 
 abbrev pub is_digit : ℕ → Bool
 is_digit b = nat_le (code "0") b && nat_le b (code "9")
@@ -152,9 +152,9 @@ is_digit b = nat_le (code "0") b && nat_le b (code "9")
 abbrev pub if_blank : ℕ → List ℕ → Option ℕ
 if_blank lines text = if is_empty (after_blanks text) then Some lines else None
 
-abbrev pub behind_v : List ℕ → List ℕ
-behind_v [] = []
-behind_v (b ∷ bs) = if b == code "v" then bs else b ∷ bs
+abbrev pub after_v : List ℕ → List ℕ
+after_v [] = []
+after_v (b ∷ bs) = if b == code "v" then bs else b ∷ bs
 
 abbrev pub after_digits : List ℕ → List ℕ
 after_digits [] = []
@@ -166,14 +166,14 @@ is_half (b ∷ bs) = is_digit b && nat_le (code "5") b
 
 abbrev pub rounded : ℕ → List ℕ → Option ℕ
 rounded lines text =
-    if_blank (if is_half text then min (lines + 1) 10000 else lines) (behind_v (after_digits text))
+    if_blank (if is_half text then min (lines + 1) 10000 else lines) (after_v (after_digits text))
 
 -- 10,000 at most
 abbrev pub lines_from : ℕ → List ℕ → Option ℕ
 lines_from lines [] = Some lines
 lines_from lines (b ∷ bs) =
     if is_digit b then lines_from (min (lines * 10 + (b - code "0")) 10000) bs else
-    if b == code "." then rounded lines bs else if_blank lines (behind_v (b ∷ bs))
+    if b == code "." then rounded lines bs else if_blank lines (after_v (b ∷ bs))
 
 abbrev pub lines_in : List ℕ → Option ℕ
 lines_in text = lines_from 0 text
@@ -189,19 +189,19 @@ abbrev pub space_asked : List ℕ → Option ℕ
 space_asked line = if is_asked line then space_in (after_blanks (behind line)) else None
 
 -- a condition that always holds
-abbrev pub behind_n : List ℕ → List ℕ
-behind_n [] = []
-behind_n (b ∷ bs) = if b == code "n" then after_blanks bs else []
+abbrev pub after_n : List ℕ → List ℕ
+after_n [] = []
+after_n (b ∷ bs) = if b == code "n" then after_blanks bs else []
 
-abbrev pub behind_if : List ℕ → List ℕ
-behind_if (a ∷ b ∷ bs) =
-    if (a == code "i") && (b == code "f") then behind_n (after_blanks bs) else []
-behind_if text = []
+abbrev pub after_if : List ℕ → List ℕ
+after_if (a ∷ b ∷ bs) =
+    if (a == code "i") && (b == code "f") then after_n (after_blanks bs) else []
+after_if text = []
 
 -- the request that `.if n` asks for, or the line itself
 abbrev pub line_asked : List ℕ → List ℕ
 line_asked line =
-    if is_asked (behind_if (after_blanks (behind line))) then behind_if (after_blanks (behind line)) else line
+    if is_asked (after_if (after_blanks (behind line))) then after_if (after_blanks (behind line)) else line
 
 -- how many lines a request of space asks for
 abbrev pub space_of : List ℕ → Option ℕ
@@ -219,14 +219,14 @@ has_brace brace [] = false
 has_brace brace (b ∷ bs) = ((b == code "\\") && begins_with brace bs) || has_brace brace bs
 
 abbrev pub always_holds : List ℕ → Bool
-always_holds line = not (is_empty (behind_if (after_blanks (behind line))))
+always_holds line = not (is_empty (after_if (after_blanks (behind line))))
 
 -- one that always holds, and stands in no other, is none
 abbrev pub one_opened : List ℕ → ℕ → ℕ
 one_opened line before = if (before == 0) && always_holds line then 0 else min (before + 1) 10000
 
--- how many are open behind a request
-abbrev pub open_behind : List ℕ → ℕ → ℕ
-open_behind line before =
+-- how many are open after a request
+abbrev pub open_after : List ℕ → ℕ → ℕ
+open_after line before =
     if has_brace (code "{") line then (if has_brace (code "}") line then before else one_opened line before) else
     if has_brace (code "}") line then before - 1 else before

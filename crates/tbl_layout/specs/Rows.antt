@@ -105,8 +105,8 @@ abbrev pub rules_skipped : Table → Table
 rules_skipped t = rules_in (length t.lines.items - 1 - t.next_line) t
 
 -- the last line of formats serves all rows below it
-abbrev pub line_behind : Table → ℕ
-line_behind t = if nat_lt (sum t.next_line 1) (length t.lines.items) then sum t.next_line 1 else t.next_line
+abbrev pub line_after : Table → ℕ
+line_after t = if nat_lt (sum t.next_line 1) (length t.lines.items) then sum t.next_line 1 else t.next_line
 
 -- the row that is read
 abbrev pub row_read : Table → Row
@@ -123,7 +123,7 @@ row_added t = record t {
   rows = with_one (row_read t) t.rows;
   items = with_one (items.Row (length t.rows.items)) t.items;
   row_from = length t.fields.items;
-  next_line = line_behind t;
+  next_line = line_after t;
 }
 
 -- there is room for no other row

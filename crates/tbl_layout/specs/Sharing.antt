@@ -34,7 +34,7 @@ wide_text t = joined (columns t) (wide_column t)
 abbrev pub share_of : ℕ → List ℕ
 share_of left = line (codes ".nr *t \\n(*S+" ∷ decimal ((left - 1) / 2) ∷ codes "/" ∷ decimal left ∷ [])
 
--- among how many that is behind the first columns
+-- among how many that is after the first columns
 abbrev pub one_less : Bool → ℕ → ℕ
 one_less counts n = if counts then n - 1 else n
 

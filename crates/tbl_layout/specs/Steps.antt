@@ -18,7 +18,7 @@ use Rattle.tbl_layout.specs.Frames.{has_bars, is_covered, is_rule_item}
 use Rattle.tbl_layout.specs.Held.{cell_number, cell_of, columns, is_all, is_boxed, is_double, item, none_of, row, some_print, step, text_of}
 use Rattle.tbl_layout.specs.Lists.{added, in_turn, put}
 use Rattle.tbl_layout.specs.Places.{sum}
-use Rattle.tbl_layout.specs.Requests.{open_behind, space_of}
+use Rattle.tbl_layout.specs.Requests.{open_after, space_of}
 
 -- ---- a walk over what stands below one another: its table, the last row that takes room, which row is the next, whether a rule waits for
 -- the row below, how many conditions over several lines are open, and the lines so far
@@ -103,7 +103,7 @@ abbrev pub asked_in : Option ℕ → Span → Walking → Walking
 asked_in space s w = asked space (row_asked w.table space w.walk) s w
 
 abbrev pub opened_in : Span → Walking → Walking
-opened_in s w = record w { walk = with_open (open_behind (text_of w.table s) w.walk.opened) w.walk }
+opened_in s w = record w { walk = with_open (open_after (text_of w.table s) w.walk.opened) w.walk }
 
 abbrev pub walked_request : Span → Walking → Walking
 walked_request s w = opened_in s (asked_in (space_in w.table w.walk s) s w)

@@ -146,7 +146,7 @@ fn block_told(cell: Cell, told: Told) -> Told
     }
 }
 
-/// The columns for which the line's length stands behind a block.
+/// The columns for which the line's length stands after a block.
 fn lined_columns(cell: Cell) -> Option<(usize, usize)>
     ensures { result ≡ specs.lined_columns cell }
 {

@@ -142,7 +142,7 @@ fn is_font_macro(name: &[u8]) -> bool
         || is_one(name, b'S', b'B')
 }
 
-/// Whether words stand behind a name.
+/// Whether words stand after a name.
 fn has_words(text: &[u8]) -> bool
     ensures { result ≡ specs.has_words text.now }
 {
@@ -219,7 +219,7 @@ fn is_harmless_name(name: &[u8], text: &[u8]) -> bool
     is_harmless_pair(name[0], name[1])
 }
 
-/// Whether what stands behind a control character leaves filling and indent.
+/// Whether what stands after a control character leaves filling and indent.
 fn leaves_filling(text: &[u8]) -> bool
     ensures { result ≡ specs.leaves_filling text.now }
 {
@@ -258,9 +258,9 @@ fn if_blank(lines: usize, text: &[u8]) -> Option<usize>
     }
 }
 
-/// What stands behind `v`, if it begins with that.
-fn behind_v(text: &[u8]) -> &[u8]
-    ensures { result.now ≡ specs.behind_v text.now }
+/// What stands after `v`, if it begins with that.
+fn after_v(text: &[u8]) -> &[u8]
+    ensures { result.now ≡ specs.after_v text.now }
 {
     if text.is_empty() || text[0] != b'v' {
         return text;
@@ -268,7 +268,7 @@ fn behind_v(text: &[u8]) -> &[u8]
     &text[1..]
 }
 
-/// What stands behind digits.
+/// What stands after digits.
 fn after_digits(text: &[u8]) -> &[u8]
     ensures { result.now ≡ specs.after_digits text.now }
 {
@@ -297,7 +297,7 @@ fn rounded(lines: usize, text: &[u8]) -> Option<usize>
     } else {
         lines
     };
-    if_blank(whole, behind_v(after_digits(text)))
+    if_blank(whole, after_v(after_digits(text)))
 }
 
 /// The lines that a number asks for, after which only blanks may stand.
@@ -315,13 +315,13 @@ fn lines_in(text: &[u8]) -> Option<usize>
                     .min(MOST_SPACE);
             }
             b'.' => return rounded(lines, &text[at + 1..]),
-            _ => return if_blank(lines, behind_v(&text[at..])),
+            _ => return if_blank(lines, after_v(&text[at..])),
         }
     }
     Some(lines)
 }
 
-/// How many lines a request of space asks for by this text behind its name.
+/// How many lines a request of space asks for by this text after its name.
 fn lines_asked(text: &[u8]) -> Option<usize>
     ensures { result ≡ specs.lines_asked text.now }
 {
@@ -353,9 +353,9 @@ fn space_asked(line: &[u8]) -> Option<usize>
     }
 }
 
-/// What stands behind the condition `n`, or nothing.
-fn behind_n(text: &[u8]) -> &[u8]
-    ensures { result.now ≡ specs.behind_n text.now }
+/// What stands after the condition `n`, or nothing.
+fn after_n(text: &[u8]) -> &[u8]
+    ensures { result.now ≡ specs.after_n text.now }
 {
     if text.is_empty() || text[0] != b'n' {
         return b"";
@@ -363,21 +363,21 @@ fn behind_n(text: &[u8]) -> &[u8]
     after_blanks(&text[1..])
 }
 
-/// What stands behind `if n`, or nothing.
-fn behind_if(text: &[u8]) -> &[u8]
-    ensures { result.now ≡ specs.behind_if text.now }
+/// What stands after `if n`, or nothing.
+fn after_if(text: &[u8]) -> &[u8]
+    ensures { result.now ≡ specs.after_if text.now }
 {
     if text.len() < 2 || text[0] != b'i' || text[1] != b'f' {
         return b"";
     }
-    behind_n(after_blanks(&text[2..]))
+    after_n(after_blanks(&text[2..]))
 }
 
 /// The request that a line asks for where `.if n` stands before it, or the line.
 fn line_asked(line: &[u8]) -> &[u8]
     ensures { result.now ≡ specs.line_asked line.now }
 {
-    let asked = behind_if(after_blanks(behind(line)));
+    let asked = after_if(after_blanks(behind(line)));
     if is_asked(asked) { asked } else { line }
 }
 
@@ -409,12 +409,12 @@ fn has_brace(text: &[u8], brace: u8) -> bool
 fn always_holds(line: &[u8]) -> bool
     ensures { result ≡ specs.always_holds line.now }
 {
-    !behind_if(after_blanks(behind(line))).is_empty()
+    !after_if(after_blanks(behind(line))).is_empty()
 }
 
-/// How many conditions over several lines are open behind a request, of which so many were before it.
-pub(crate) fn open_behind(line: &[u8], before: usize) -> usize
-    ensures { result ≡ specs.open_behind line.now before }
+/// How many conditions over several lines are open after a request, of which so many were before it.
+pub(crate) fn open_after(line: &[u8], before: usize) -> usize
+    ensures { result ≡ specs.open_after line.now before }
 {
     match (has_brace(line, b'{'), has_brace(line, b'}')) {
         (true, true) | (false, false) => before,

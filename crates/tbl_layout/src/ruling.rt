@@ -281,7 +281,7 @@ impl Table {
         out.bars(self.crossing_of(above, below, columns, up, down), 1);
     }
 
-    /// The rule goes on to where the table ends, but behind such a field.
+    /// The rule goes on to where the table ends, but after such a field.
     fn go_end<W: Sink>(&self, above: Option<usize>, below: Option<usize>, out: &mut Out<'_, W>)
         ensures { Draws out.old out.new
             (specs.go self.now (not (specs.ends_covered self.now above below)) (frames.table_end self.now)) }

@@ -5,7 +5,7 @@ ghost use Rattle.tbl_layout.specs.Held as held;
 ghost use Rattle.tbl_layout.specs.Steps as specs;
 
 use super::lists::{add_item, set_item};
-use super::requests::{open_behind, space_of};
+use super::requests::{open_after, space_of};
 use super::table::{Cell, Item, Row, Span, Stand, Step, StepKind, Table};
 
 /// What a walk over the items of a table has met.
@@ -163,7 +163,7 @@ impl Table {
     {
         let space = self.space_in(walk, span);
         let walk = self.walk_asked(space, span, walk);
-        let opened = open_behind(self.bytes(span), walk.opened);
+        let opened = open_after(self.bytes(span), walk.opened);
         Walk { opened, ..walk }
     }
 

@@ -71,7 +71,7 @@ impl Told {
         }
     }
 
-    /// Roman behind a block that may have changed the font.
+    /// Roman after a block that may have changed the font.
     pub(crate) fn set_font_back<W: Sink>(self, out: &mut Out<'_, W>)
         ensures { Draws out.old out.new (Bytes (specs.font_text self) ∷ []) }
     {

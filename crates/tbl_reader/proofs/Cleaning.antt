@@ -2,7 +2,7 @@
 use Rattle.std.proofs.Common.{◌≡◌, ℕ, zero, suc, ◌+◌, ◌-◌, ◌<◌, List, [], ◌∷◌, ◌++◌, length, get_or, take, drop, Bool, true, false, ◌==◌, ◌&&◌, not, Option, None, Some, if◌then◌else◌, refl, sym, ◌∙◌, ap, arith}
 use Prim.Native.Char.{code}
 use Rattle.std.proofs.lemmas.List.{take-append-drop, take_all, drop_more, length-drop}
-use Rattle.tbl_reader.specs.Fields.{before_comment, behind, cleaned, comment_in, continues, cut, has_comment, is_comment, open_behind, paired, place_of}
+use Rattle.tbl_reader.specs.Fields.{before_comment, behind, cleaned, comment_in, continues, cut, has_comment, is_comment, open_after, paired, place_of}
 use Rattle.tbl_reader.proofs.Finding.{moved}
 
 -- a line without a backslash stays
@@ -11,13 +11,13 @@ no_first true r none = absurd (cc)
 no_first false None none = (refl, refl)
 no_first false (Some n) none = absurd (cc)
 
-unpaired : (xs : List ℕ) → place_of (code "\\") xs ≡ None → (paired false xs ≡ xs) × (open_behind false xs ≡ false)
+unpaired : (xs : List ℕ) → place_of (code "\\") xs ≡ None → (paired false xs ≡ xs) × (open_after false xs ≡ false)
 unpaired [] none = (refl, refl)
 unpaired (b ∷ bs) none =
     let first = no_first (b == code "\\") (place_of (code "\\") bs) none in
     let rest = unpaired bs first.1 in (
       ap (λ (e : Bool). b ∷ paired (e && true) bs) first.0 ∙ ap (λ (ys : List ℕ). b ∷ ys) rest.0,
-      ap (λ (e : Bool). open_behind (e && true) bs) first.0 ∙ rest.1,
+      ap (λ (e : Bool). open_after (e && true) bs) first.0 ∙ rest.1,
     )
 
 no_comment : (b : ℕ) (bs : List ℕ) → (b == code "\\") ≡ false → is_comment (b ∷ bs) ≡ false
@@ -48,24 +48,24 @@ front_stays zero xs = refl
 front_stays (suc n) [] = refl
 front_stays (suc n) (x ∷ xs) = ap (λ (ys : List ℕ). x ∷ ys) (front_stays n xs)
 
-line_behind : (start : ℕ) (xs : List ℕ) → drop start (take start xs ++ paired false (drop start xs)) ≡ paired false (drop start xs)
-line_behind zero xs = refl
-line_behind (suc n) [] = refl
-line_behind (suc n) (x ∷ xs) = line_behind n xs
+line_after : (start : ℕ) (xs : List ℕ) → drop start (take start xs ++ paired false (drop start xs)) ≡ paired false (drop start xs)
+line_after zero xs = refl
+line_after (suc n) [] = refl
+line_after (suc n) (x ∷ xs) = line_after n xs
 
 pub cleaned_then : (start : ℕ) (old pairs now : List ℕ) → pairs ≡ take start old ++ paired false (drop start old)
     → now ≡ take start pairs ++ before_comment (drop start pairs) → now ≡ take start old ++ cleaned (drop start old)
 cleaned_then start old pairs now p n =
     n ∙ ap (λ (xs : List ℕ). take start xs ++ before_comment (drop start xs)) p
     ∙ ap (λ (xs : List ℕ). xs ++ before_comment (drop start (take start old ++ paired false (drop start old)))) (front_stays start old)
-    ∙ ap (λ (xs : List ℕ). take start old ++ before_comment xs) (line_behind start old)
+    ∙ ap (λ (xs : List ℕ). take start old ++ before_comment xs) (line_after start old)
 
 pub goes_then : (start : ℕ) (old pairs : List ℕ) (alone cut : Bool) → pairs ≡ take start old ++ paired false (drop start old)
-    → alone ≡ open_behind false (drop start old) → cut ≡ has_comment (drop start pairs) → (alone && not cut) ≡ continues (drop start old)
+    → alone ≡ open_after false (drop start old) → cut ≡ has_comment (drop start pairs) → (alone && not cut) ≡ continues (drop start old)
 goes_then start old pairs alone cut p a c =
     ap (λ (x : Bool). x && not cut) a
-    ∙ ap (λ (x : Bool). open_behind false (drop start old) && not x)
-    (c ∙ ap (λ (xs : List ℕ). has_comment (drop start xs)) p ∙ ap has_comment (line_behind start old))
+    ∙ ap (λ (x : Bool). open_after false (drop start old) && not x)
+    (c ∙ ap (λ (xs : List ℕ). has_comment (drop start xs)) p ∙ ap has_comment (line_after start old))
 
 -- ---- a comment is found
 

@@ -257,7 +257,7 @@ formats_length (b ∷ bs) f = ap suc (formats_length bs (read_format b f).format
 formats_light : (p : Page) → Light (2 * length p.kept + 5) (heads.formats_ended p)
 formats_light p =
     let text = heads.with_newline (rest_of p) in
-    let f = heads.formats_behind p.state.formats text in
+    let f = heads.formats_after p.state.formats text in
     let q = heads.formats_taken f p in
     let said = heads.formats_said p.state.formats text in
     let x = formats_length text p.state.formats in

@@ -2,7 +2,7 @@
 use Rattle.std.proofs.Common.{◌≡◌, ℕ, zero, suc, ◌+◌, ◌-◌, ◌≤◌, List, [], ◌++◌, Option, None, Some, refl, sym, ◌∙◌, ap, subst, append_assoc, append-nil, arith}
 use Rattle.tbl_reader.specs.Fields.{place_of}
 use Rattle.tbl_reader.specs.Pages.{Page, Effect, effect, and_then, line_of}
-use Rattle.tbl_reader.specs.RowLines.{next_said, behind_field, ended_at, fields_ended}
+use Rattle.tbl_reader.specs.RowLines.{next_said, after_field, ended_at, fields_ended}
 use Rattle.tbl_reader.specs.Telling.{Piece, Tells}
 use Rattle.tbl_reader.proofs.Hearing.{tells_then}
 
@@ -24,7 +24,7 @@ split_at : (place : Option ℕ) (k m : ℕ) (p : Page) → next_end p ≡ place 
     → ended_at place (fields_ended (k + m)) p ≡ and_then (ended_at place (fields_ended k) p) (fields_ended m)
 split_at None k m p e more = sym (none_more m p e)
 split_at (Some len) k m p e more =
-    let q = behind_field len p in
+    let q = after_field len p in
     let said = next_said len p in
     let f = fields_ended k q in
     let g = fields_ended m f.page in
@@ -47,10 +47,10 @@ ended_here k n p q few page e =
     ∙ ap (λ (x : Effect). effect x.page (f.pieces ++ x.pieces)) (none_more m f.page (ap next_end (sym page) ∙ e))
     ∙ ap (λ (ps : List Piece). effect f.page ps) (append-nil f.pieces)
 
-one_more : (len : ℕ) (p : Page) → next_end p ≡ Some len → fields_ended 1 p ≡ effect (behind_field len p) (next_said len p).pieces
+one_more : (len : ℕ) (p : Page) → next_end p ≡ Some len → fields_ended 1 p ≡ effect (after_field len p) (next_said len p).pieces
 one_more len p e =
     ap (λ (x : Option ℕ). ended_at x (fields_ended 0) p) e
-    ∙ ap (λ (ps : List Piece). effect (behind_field len p) ps) (append-nil (next_said len p).pieces)
+    ∙ ap (λ (ps : List Piece). effect (after_field len p) ps) (append-nil (next_said len p).pieces)
 
 -- one field more ends
 pub record Told {A S : Type 0} (shows : A → S → Type 0) (hears : Piece → S → S) (k : ℕ) (p q : Page) (a b : A) : Type 0 where
@@ -61,7 +61,7 @@ pub told_first : {A S : Type 0} (shows : A → S → Type 0) (hears : Piece → 
 told_first shows hears p a = record { page = refl; told = λ s h. h }
 
 pub told_more : {A S : Type 0} (shows : A → S → Type 0) (hears : Piece → S → S) (k len : ℕ) (p q r : Page) (a b c : A)
-    → Told shows hears k p q a b → next_end q ≡ Some len → r ≡ behind_field len q → Tells shows hears (next_said len q).pieces b c
+    → Told shows hears k p q a b → next_end q ≡ Some len → r ≡ after_field len q → Tells shows hears (next_said len q).pieces b c
     → Told shows hears (k + 1) p r a c
 told_more shows hears k len p q r a b c before e page told =
     let f = fields_ended k p in

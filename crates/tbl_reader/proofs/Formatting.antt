@@ -4,7 +4,7 @@ use Rattle.tbl_reader.specs.declared.formats.Called.{Called}
 use Rattle.tbl_reader.specs.declared.formats.Formats.{Formats}
 use Rattle.tbl_reader.specs.declared.telling.Tell.TheVariants as tells
 use Rattle.tbl_reader.specs.Formats.{Told, told, read}
-use Rattle.tbl_reader.specs.HeadLines.{formats_behind, formats_said}
+use Rattle.tbl_reader.specs.HeadLines.{formats_after, formats_said}
 use Rattle.tbl_reader.specs.Telling.{Piece, Tells, piece}
 
 -- one byte and then others
@@ -14,5 +14,5 @@ pub said_then : {A S : Type 0} (shows : A → S → Type 0) (hears : Piece → S
 said_then shows hears f g called b bs x y z e h k =
     subst (λ (t : Told). Tells shows hears (piece (tells.Format t.called) [] ∷ formats_said t.formats bs) x z) e (λ s w. k _ (h s w))
 
-pub behind_then : (f g : Formats) (called : Called) (b : ℕ) (bs : List ℕ) → told g called ≡ read b f → formats_behind f (b ∷ bs) ≡ formats_behind g bs
-behind_then f g called b bs e = ap (λ (t : Told). formats_behind t.formats bs) (sym e)
+pub behind_then : (f g : Formats) (called : Called) (b : ℕ) (bs : List ℕ) → told g called ≡ read b f → formats_after f (b ∷ bs) ≡ formats_after g bs
+behind_then f g called b bs e = ap (λ (t : Told). formats_after t.formats bs) (sym e)

@@ -3,13 +3,13 @@ use Rattle.std.proofs.Common.{◌≡◌, ℕ, zero, suc, ◌+◌, ◌<◌, ◌�
 use Rattle.std.proofs.lemmas.List.{take_all, drop_all, drop_more, take_more_set, drop-set-lt}
 use Rattle.std.proofs.Math.ListN.{set, length-set}
 use Rattle.std.specs.List.{slice_get}
-use Rattle.tbl_reader.specs.Fields.{second_of, is_alone, paired, open_behind}
+use Rattle.tbl_reader.specs.Fields.{second_of, is_alone, paired, open_after}
 
 -- the bytes up to a place were read
 pub record Paired (start at : ℕ) (alone : Bool) (old now : List ℕ) : Type 0 where
   pub front : take at now ++ paired alone (drop at now) ≡ take start old ++ paired false (drop start old)
   pub rest : drop at now ≡ drop at old
-  pub opens : open_behind alone (drop at old) ≡ open_behind false (drop start old)
+  pub opens : open_after alone (drop at old) ≡ open_after false (drop start old)
   pub same : length now ≡ length old
 
 pub paired_first : (start : ℕ) (old : List ℕ) → Paired start start false old old
@@ -46,14 +46,14 @@ paired_more start at b alone old now within got_b h =
           ∙ ap (λ (xs : List ℕ). take at now ++ paired alone xs) (sym here)
           ∙ h.front;
       rest = kept ∙ tails;
-      opens = ap (λ (xs : List ℕ). open_behind next xs) (sym tails) ∙ ap (open_behind alone) (sym here ∙ h.rest) ∙ h.opens;
+      opens = ap (λ (xs : List ℕ). open_after next xs) (sym tails) ∙ ap (open_after alone) (sym here ∙ h.rest) ∙ h.opens;
       same = length-set now at d ∙ h.same;
     }
 
 pub paired_all : (start at : ℕ) (alone : Bool) (old now : List ℕ) → length now ≤ at → Paired start at alone old now
-    → (now ≡ take start old ++ paired false (drop start old)) × (alone ≡ open_behind false (drop start old))
+    → (now ≡ take start old ++ paired false (drop start old)) × (alone ≡ open_after false (drop start old))
 paired_all start at alone old now all h =
     let none : drop at now ≡ [] = drop_all at now all in (
       sym (append-nil now) ∙ ap (λ (xs : List ℕ). xs ++ []) (sym (take_all at now all)) ∙ ap (λ (xs : List ℕ). take at now ++ paired alone xs) (sym none) ∙ h.front,
-      ap (open_behind alone) (sym (sym h.rest ∙ none)) ∙ h.opens,
+      ap (open_after alone) (sym (sym h.rest ∙ none)) ∙ h.opens,
     )

@@ -4,7 +4,7 @@ use Prim.Native.Char.{code}
 use Rattle.tbl_reader.specs.Commands.{is_command}
 use Rattle.tbl_reader.specs.Ending.{is_begin, is_open_in, line_closed, closed, finished, wrong_at_end}
 use Rattle.tbl_reader.specs.Fields.{continues}
-use Rattle.tbl_reader.specs.HeadLines.{head_line, head_ended, options_line, formats_line, formats_behind, formats_said, formats_judged, formats_taken, formats_ended, wrong_in, with_newline}
+use Rattle.tbl_reader.specs.HeadLines.{head_line, head_ended, options_line, formats_line, formats_after, formats_said, formats_judged, formats_taken, formats_ended, wrong_in, with_newline}
 use Rattle.tbl_reader.specs.Pages.{Page, Effect, effect, and_then, line_of, rest_of}
 use Rattle.tbl_reader.specs.Reading.{read}
 use Rattle.tbl_reader.specs.RowLines.{all_ended, line_cleaned, line_continued, row_line}
@@ -62,14 +62,14 @@ line_closes shows hears p q a b e h =
 
 -- formats were read, and judged
 pub formats_come : {A S : Type 0} (shows : A → S → Type 0) (hears : Piece → S → S) (p : Page) (first f : Formats) (text : List ℕ) (kind : Option Kind) (q r : Page) (a b d e : A)
-    → first ≡ p.state.formats → text ≡ rest_of p → f ≡ formats_behind first (with_newline text) → Tells shows hears (formats_said first (with_newline text)) a b
+    → first ≡ p.state.formats → text ≡ rest_of p → f ≡ formats_after first (with_newline text) → Tells shows hears (formats_said first (with_newline text)) a b
     → Tells shows hears (piece tells.FormatsEnd [] ∷ []) b d → kind ≡ wrong_in f p → q ≡ formats_taken f p
     → r ≡ (formats_judged kind q).page → Tells shows hears (formats_judged kind q).pieces d e → Comes shows hears (formats_ended p) r a e
 formats_come shows hears p first f text kind q r a b d e same_first same_text read_is told end kind_is q_is r_is judged =
     let whole = with_newline (rest_of p) in
-    let g = formats_behind p.state.formats whole in
+    let g = formats_after p.state.formats whole in
     let f_is : f ≡ g =
-    read_is ∙ ap (λ (x : Formats). formats_behind x (with_newline text)) same_first ∙ ap (λ (xs : List ℕ). formats_behind p.state.formats (with_newline xs)) same_text in
+    read_is ∙ ap (λ (x : Formats). formats_after x (with_newline text)) same_first ∙ ap (λ (xs : List ℕ). formats_after p.state.formats (with_newline xs)) same_text in
     let said : Tells shows hears (formats_said p.state.formats whole) a b =
     subst (λ (xs : List ℕ). Tells shows hears (formats_said p.state.formats (with_newline xs)) a b) same_text
     (subst (λ (x : Formats). Tells shows hears (formats_said x (with_newline text)) a b) same_first told) in

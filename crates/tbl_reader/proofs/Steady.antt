@@ -219,7 +219,7 @@ fitting_judged (Some kinds.TooWide) p = forgets p (with_state (states.row_begun 
 
 fitting_formats : (p : Page) → Fitting p (heads.formats_ended p).page
 fitting_formats p =
-    let f = heads.formats_behind p.state.formats (heads.with_newline (rest_of p)) in
+    let f = heads.formats_after p.state.formats (heads.with_newline (rest_of p)) in
     let q = heads.formats_taken f p in
     fitting_then p q (heads.formats_judged (heads.wrong_in f p) q).page refl (same_formats f (heads.widths_in p) (rest_of p) p.state) (fitting_judged (heads.wrong_in f p) q)
 

@@ -5,7 +5,7 @@ use Rattle.tbl_reader.specs.declared.command.Start.{Start}
 use Rattle.tbl_reader.specs.declared.command.Start.TheVariants as starts
 use Rattle.tbl_reader.specs.declared.state.Mode.TheVariants as modes
 use Rattle.tbl_reader.specs.declared.telling.Tell.TheVariants as tells
-use Rattle.tbl_reader.specs.Commands.{is_command, ends_name, start_with, start_if, start_behind, begins_command}
+use Rattle.tbl_reader.specs.Commands.{is_command, ends_name, start_with, start_if, start_after, begins_command}
 use Rattle.tbl_reader.specs.HeadLines.{with_newline}
 use Rattle.tbl_reader.specs.Outside.{line_passed}
 use Rattle.tbl_reader.specs.Pages.{Page, Effect, effect, and_then, at_mode}
@@ -16,16 +16,16 @@ use Rattle.tbl_reader.proofs.Runs.{and_first, and_second, alone, read_at, then_m
 
 -- ---- a line outside of tables
 
-other_stays : (letter : ℕ) (bytes : List ℕ) → start_behind letter bytes starts.Other ≡ starts.Other
+other_stays : (letter : ℕ) (bytes : List ℕ) → start_after letter bytes starts.Other ≡ starts.Other
 other_stays letter [] = refl
 other_stays letter (b ∷ bs) = other_stays letter bs
 
-command_stays : (letter : ℕ) (bytes : List ℕ) → start_behind letter bytes starts.Command ≡ starts.Command
+command_stays : (letter : ℕ) (bytes : List ℕ) → start_after letter bytes starts.Command ≡ starts.Command
 command_stays letter [] = refl
 command_stays letter (b ∷ bs) = command_stays letter bs
 
-begins_if : (letter : ℕ) (here : Bool) (s : Start) (bytes : List ℕ) (whole : Bool) → begins_command (start_behind letter bytes s) ≡ whole
-    → begins_command (start_behind letter bytes (start_if here s)) ≡ (here && whole)
+begins_if : (letter : ℕ) (here : Bool) (s : Start) (bytes : List ℕ) (whole : Bool) → begins_command (start_after letter bytes s) ≡ whole
+    → begins_command (start_after letter bytes (start_if here s)) ≡ (here && whole)
 begins_if letter true s bytes whole h = h
 begins_if letter false s bytes whole h = ap begins_command (other_stays letter bytes)
 
@@ -41,7 +41,7 @@ and_then_and : (x y z : Bool) → (x && (y && z)) ≡ ((x && y) && z)
 and_then_and true y z = refl
 and_then_and false y z = refl
 
-begins : (letter : ℕ) (line : List ℕ) → begins_command (start_behind letter line starts.Nothing) ≡ is_command letter line
+begins : (letter : ℕ) (line : List ℕ) → begins_command (start_after letter line starts.Nothing) ≡ is_command letter line
 begins letter [] = refl
 begins letter (a ∷ []) = begins_if letter (a == code ".") starts.Dot [] false refl ∙ and_false (a == code ".")
 begins letter (a ∷ b ∷ []) =
@@ -62,12 +62,12 @@ begins letter (a ∷ b ∷ c ∷ d ∷ rest) =
     ∙ and_then_and ((a == code ".") && (b == code "T")) (c == letter) (ends_name d)
 
 fed_passes : (bytes : List ℕ) (s : Start) (p : Page) → is_line bytes ≡ true
-    → fed bytes (at_mode (modes.Passing s) p) ≡ effect (at_mode (modes.Passing (start_behind (code "S") bytes s)) p) (each tells.Pass bytes)
+    → fed bytes (at_mode (modes.Passing s) p) ≡ effect (at_mode (modes.Passing (start_after (code "S") bytes s)) p) (each tells.Pass bytes)
 fed_passes [] s p h = refl
 fed_passes (b ∷ bs) s p h =
     let next = start_with (code "S") b s in
     then_more b bs (at_mode (modes.Passing s) p) (at_mode (modes.Passing next) p)
-    (effect (at_mode (modes.Passing (start_behind (code "S") bs next)) p) (each tells.Pass bs))
+    (effect (at_mode (modes.Passing (start_after (code "S") bs next)) p) (each tells.Pass bs))
     (read_at b s p (and_first (b == code "\n") (is_line bs) h)) (fed_passes bs next p (and_second (b == code "\n") (is_line bs) h))
 
 -- the line behind
@@ -81,7 +81,7 @@ passed_from false s p = refl
 pub lines_pass : LinesPass
 unfolding behind
 lines_pass line p h =
-    let s = start_behind (code "S") line starts.Nothing in
+    let s = start_after (code "S") line starts.Nothing in
     let q = at_mode (modes.Passing s) p in
     let said = each tells.Pass line in
     let e = line_passed (begins_command s) q in

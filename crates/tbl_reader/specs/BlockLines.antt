@@ -1,4 +1,4 @@
--- Text blocks (Tbl, "Data"; tbl(1), "Text blocks"): lines from a field `T{` to a line that begins with `T}`, behind which the row goes on.
+-- Text blocks (Tbl, "Data"; tbl(1), "Text blocks"): lines from a field `T{` to a line that begins with `T}`, after which the row goes on.
 use Rattle.std.specs.Prelude.{ℕ, ◌+◌, ◌-◌, List, [], ◌∷◌, ◌++◌, length, drop, Bool, false, ◌==◌, ◌&&◌, if◌then◌else◌, nat_lt}
 use Rattle.std.specs.Prelude.{get_or}
 use Prim.Native.Char.{code}
@@ -17,20 +17,20 @@ ends_block [] = false
 ends_block (a ∷ []) = false
 ends_block (a ∷ b ∷ rest) = (a == code "T") && (b == code "}")
 
--- where the row goes on behind `T}`: behind the blanks there
+-- where the row goes on after `T}`: after the blanks there
 abbrev pub rest_at : List ℕ → ℕ
 rest_at line = length line - length (without_blanks_before (drop 2 line))
 
--- something stands behind it
+-- something stands after it
 abbrev pub goes_on : Page → Bool
 goes_on p = nat_lt (rest_at p.kept) (length p.kept)
 
--- behind what separates fields, or where the row goes on
+-- after what separates fields, or where the row goes on
 abbrev pub field_at : Page → ℕ
 field_at p = let rest = rest_at p.kept in
     if get_or p.kept rest 0 == p.state.options.tab then rest + 1 else rest
 
--- a text block has ended: the row goes on behind it, or ends
+-- a text block has ended: the row goes on after it, or ends
 abbrev pub block_left : Page → Effect
 block_left p =
     effect (if goes_on p then record p {

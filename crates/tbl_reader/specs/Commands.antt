@@ -30,12 +30,12 @@ start_with letter b Name = start_if (ends_name b) Command
 start_with letter b Command = Command
 start_with letter b Other = Other
 
-abbrev pub start_behind : ℕ → List ℕ → Start → Start
-start_behind letter [] s = s
-start_behind letter (b ∷ bs) s = start_behind letter bs (start_with letter b s)
+abbrev pub start_after : ℕ → List ℕ → Start → Start
+start_after letter [] s = s
+start_after letter (b ∷ bs) s = start_after letter bs (start_with letter b s)
 
 abbrev pub start_of : ℕ → List ℕ → Start
-start_of letter bytes = start_behind letter bytes Nothing
+start_of letter bytes = start_after letter bytes Nothing
 
 abbrev pub begins_command : Start → Bool
 begins_command Name = true

@@ -43,12 +43,12 @@ is_comment (a ∷ b ∷ rest) = (a == code "\\") && (b == code "\"")
 
 -- ---- where a number is aligned
 
-abbrev pub marks_behind : ℕ → ℕ → List ℕ → Marks → Marks
-marks_behind point place [] m = m
-marks_behind point place (b ∷ bs) m = marks_behind point (place + 1) bs (marks_with b place point m)
+abbrev pub marks_after : ℕ → ℕ → List ℕ → Marks → Marks
+marks_after point place [] m = m
+marks_after point place (b ∷ bs) m = marks_after point (place + 1) bs (marks_with b place point m)
 
 abbrev pub marks_of : ℕ → List ℕ → Marks
-marks_of point text = marks_behind point 0 text first_marks
+marks_of point text = marks_after point 0 text first_marks
 
 -- ---- lines
 
@@ -79,9 +79,9 @@ paired alone [] = []
 paired alone (b ∷ bs) = second_of alone b ∷ paired (is_alone alone b) bs
 
 -- whether the last one stands alone
-abbrev pub open_behind : Bool → List ℕ → Bool
-open_behind alone [] = alone
-open_behind alone (b ∷ bs) = open_behind (is_alone alone b) bs
+abbrev pub open_after : Bool → List ℕ → Bool
+open_after alone [] = alone
+open_after alone (b ∷ bs) = open_after (is_alone alone b) bs
 
 -- a line ends with a comment
 abbrev pub comment_in : List ℕ → Option ℕ
@@ -107,4 +107,4 @@ abbrev pub cleaned : List ℕ → List ℕ
 cleaned line = before_comment (paired false line)
 
 abbrev pub continues : List ℕ → Bool
-continues line = open_behind false line && not (has_comment (paired false line))
+continues line = open_after false line && not (has_comment (paired false line))

@@ -64,9 +64,9 @@ abbrev pub with_newline : List ℕ → List ℕ
 with_newline text = text ++ code "\n" ∷ []
 
 -- what formats say, byte by byte
-abbrev pub formats_behind : Formats → List ℕ → Formats
-formats_behind f [] = f
-formats_behind f (b ∷ bs) = formats_behind (read b f).formats bs
+abbrev pub formats_after : Formats → List ℕ → Formats
+formats_after f [] = f
+formats_after f (b ∷ bs) = formats_after (read b f).formats bs
 
 abbrev pub formats_said : Formats → List ℕ → List Piece
 formats_said f [] = []
@@ -97,7 +97,7 @@ formats_taken f p = with_state (with_formats f (widths_in p) (measured_with (res
 abbrev pub formats_ended : Page → Effect
 formats_ended p =
     let text = with_newline (rest_of p) in
-    let f = formats_behind p.state.formats text in
+    let f = formats_after p.state.formats text in
     and_then (effect p (formats_said p.state.formats text ++ piece tells.FormatsEnd [] ∷ []))
     (λ q. formats_judged (wrong_in f q) (formats_taken f q))
 

@@ -3,7 +3,7 @@ use Rattle.std.specs.Prelude.{ℕ, List, [], ◌∷◌, Bool, false, ◌==◌, �
 use Prim.Native.Char.{code}
 use Rattle.tbl_reader.specs.Fields.{behind}
 
--- where the semicolon stands that ends the options: none does right behind a parenthesis that opens
+-- where the semicolon stands that ends the options: none does right after a parenthesis that opens
 abbrev pub options_end_in : Bool → List ℕ → Option ℕ
 options_end_in opened [] = None
 options_end_in opened (b ∷ bs) =
@@ -16,9 +16,9 @@ abbrev pub is_blank : ℕ → Bool
 is_blank b = (b == code " ") || (b == code "\t")
 
 -- a line ends with a point, and blanks
-abbrev pub dotted_behind : Bool → List ℕ → Bool
-dotted_behind dotted [] = dotted
-dotted_behind dotted (b ∷ bs) = dotted_behind ((b == code ".") || (dotted && is_blank b)) bs
+abbrev pub dotted_after : Bool → List ℕ → Bool
+dotted_after dotted [] = dotted
+dotted_after dotted (b ∷ bs) = dotted_after ((b == code ".") || (dotted && is_blank b)) bs
 
 abbrev pub is_dotted : List ℕ → Bool
-is_dotted line = dotted_behind false line
+is_dotted line = dotted_after false line

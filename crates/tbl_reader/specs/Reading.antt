@@ -102,7 +102,7 @@ pub record Took {A S : Type 0} (shows : A → S → Type 0) (hears : Piece → S
 
 -- ---- whole lines
 
--- the page behind so many lines that passed
+-- the page after so many lines that passed
 abbrev pub lines_on : ℕ → Page → Page
 lines_on n p = with_state (record p.state { line = p.state.line + n; mode = modes.Passing Nothing }) p
 

@@ -1,5 +1,5 @@
 -- What stands between rows, and the fields of rows (Tbl, "Data"; tbl(1), "Table data"), line by line: fields are separated by the
--- byte that the options say, behind the last column it is text; a line that ends with a backslash goes on in the next.
+-- byte that the options say, after the last column it is text; a line that ends with a backslash goes on in the next.
 use Rattle.std.specs.Prelude.{ℕ, zero, suc, ◌+◌, ◌-◌, List, [], ◌∷◌, ◌++◌, length, take, drop, Bool, true, not, ◌==◌, ◌&&◌, if◌then◌else◌, nat_lt, Option, None, Some}
 use Prim.Native.Char.{code}
 use Rattle.tbl_reader.specs.declared.command.Start.TheVariants.{Nothing, Other}
@@ -32,7 +32,7 @@ saying s pieces = record { state = s; pieces = pieces }
 abbrev pub trimmed : State → List ℕ → List ℕ
 trimmed s text = if s.options.nospaces then without_blanks_before text else text
 
--- and without those behind it
+-- and without those after it
 abbrev pub solid : State → List ℕ → List ℕ
 solid s text = if s.options.nospaces then take (marks_of s.options.point text).solid text else text
 
@@ -43,7 +43,7 @@ front_of s text = if s.formats.numeric then front (marks_of s.options.point text
 abbrev pub widths_wrong : Bool → State → List Piece
 widths_wrong wide s = if wide then wrong TooWide s ∷ [] else []
 
--- a field of text; one behind the columns takes no room of the line
+-- a field of text; one after the columns takes no room of the line
 abbrev pub text_said : State → List ℕ → Said
 text_said s text =
     let cells = cells_of (solid s text) in
@@ -68,7 +68,7 @@ abbrev pub are_empty : ℕ → List ℕ → Bool
 are_empty tab [] = true
 are_empty tab (b ∷ bs) = (b == tab) && are_empty tab bs
 
--- the last field of a row: behind the columns it is text, or nothing where only empty fields stand there
+-- the last field of a row: after the columns it is text, or nothing where only empty fields stand there
 abbrev pub last_said : State → List ℕ → Said
 last_said s text =
     if not (is_beyond s) then field_said s text else
@@ -78,18 +78,18 @@ last_said s text =
 
 -- ---- the fields of a line that something ends that separates them, of so many columns
 
--- the field that ends so far behind the beginning of the line
+-- the field that ends so far after the beginning of the line
 abbrev pub next_said : ℕ → Page → Said
 next_said len p = field_said p.state (drop p.from (take (p.start + len) p.kept))
 
--- the page behind it
-abbrev pub behind_field : ℕ → Page → Page
-behind_field len p =
+-- the page after it
+abbrev pub after_field : ℕ → Page → Page
+after_field len p =
     record p { state = (next_said len p).state; from = p.start + len + 1; start = p.start + len + 1 }
 
 abbrev pub ended_at : Option ℕ → (Page → Effect) → Page → Effect
 ended_at None more p = effect p []
-ended_at (Some len) more p = and_then (effect (behind_field len p) (next_said len p).pieces) more
+ended_at (Some len) more p = and_then (effect (after_field len p) (next_said len p).pieces) more
 
 abbrev pub fields_ended : ℕ → Page → Effect
 fields_ended zero p = effect p []
@@ -115,7 +115,7 @@ last_field p = let said = last_said p.state (rest_of p) in effect (with_state sa
 abbrev pub last_ended : Page → Effect
 last_ended p = and_then (last_field p) row_ended
 
--- a text block begins, which may stand behind the columns
+-- a text block begins, which may stand after the columns
 abbrev pub block_begun : State → List Piece
 block_begun s =
     if is_beyond s then wrong TooManyFields s ∷ piece tells.Block [] ∷ [] else piece tells.Block [] ∷ []

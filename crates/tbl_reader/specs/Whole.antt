@@ -16,7 +16,7 @@ abbrev pub is_line : List ℕ → Bool
 is_line [] = true
 is_line (b ∷ bs) = not (b == code "\n") && is_line bs
 
--- outside of tables a line passes, and behind one that is `.TS` a table begins
+-- outside of tables a line passes, and after one that is `.TS` a table begins
 abbrev pub LinesPass : Type 0
 LinesPass =
     (line : List ℕ) (p : Page) → is_line line ≡ true

@@ -17,7 +17,7 @@ fn ends_block(line: &[u8]) -> bool
     line.len() > 1 && line[0] == b'T' && line[1] == b'}'
 }
 
-/// Where the row goes on behind `T}`: behind the blanks there.
+/// Where the row goes on after `T}`: after the blanks there.
 fn rest_at(line: &[u8]) -> usize
     ensures value { result ≡ specs.rest_at line.now }
     ensures within { result ≤ length line.now }
@@ -51,7 +51,7 @@ impl Reader {
         self.forgets();
     }
 
-    /// A text block has ended: what stands behind `T}` belongs to the row.
+    /// A text block has ended: what stands after `T}` belongs to the row.
     fn leaves_block<S: Setter>(&mut self, setter: &mut S) -> bool
         ensures page { self.new ≡ (specs.block_left self.old).page }
         ensures told { Tells S.shows S.hears (specs.block_left self.old).pieces setter.old setter.new }

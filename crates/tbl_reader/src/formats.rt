@@ -32,7 +32,7 @@ pub(crate) enum Part {
     Size(u8),
     /// Digits of that number.
     SizeDigits,
-    /// It stands in parentheses behind this letter.
+    /// It stands in parentheses after this letter.
     SizeIn(u8),
 }
 

@@ -15,7 +15,7 @@ use super::state::Mode;
 use super::telling::{Setter, Tell};
 use super::widths::widths_of;
 
-/// Where the semicolon stands that ends the options: none does behind an opening parenthesis.
+/// Where the semicolon stands that ends the options: none does after an opening parenthesis.
 fn options_end(line: &[u8]) -> Option<usize>
     ensures value { result ≡ specs.options_end line.now }
     ensures within { IfSome result (λ place. place < length line.now) }
@@ -41,9 +41,9 @@ fn is_dotted(line: &[u8]) -> bool
     dotted
 }
 
-/// Tells what formats say, and gives what was read of them with the newline behind them.
+/// Tells what formats say, and gives what was read of them with the newline after them.
 fn tell_formats<S: Setter>(first: Formats, text: &[u8], setter: &mut S) -> Formats
-    ensures formats { result ≡ lines.formats_behind first (lines.with_newline text.now) }
+    ensures formats { result ≡ lines.formats_after first (lines.with_newline text.now) }
     ensures told { Tells S.shows S.hears (lines.formats_said first (lines.with_newline text.now))
         setter.old setter.new }
 {
@@ -85,7 +85,7 @@ impl Reader {
         }
     }
 
-    /// Options up to a semicolon: the formats begin behind it.
+    /// Options up to a semicolon: the formats begin after it.
     fn options_end_at<S: Setter>(&mut self, end: usize, setter: &mut S)
         requires { end < length self.old.kept }
         ensures page { self.new ≡ (lines.options_split (Some end) self.old).page }

@@ -408,7 +408,7 @@ impl Reader {
     }
 }
 
-/// What stands behind so many bytes.
+/// What stands after so many bytes.
 pub(crate) fn behind(bytes: &[u8], from: usize) -> &[u8]
     ensures { result.now ≡ drop from bytes.now }
 {

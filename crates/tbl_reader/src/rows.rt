@@ -67,7 +67,7 @@ fn is_alone(alone: bool, byte: u8) -> bool
 fn pair_backslashes(kept: &mut FixedVec<u8>, start: usize) -> bool
     ensures items { kept.new.items ≡ take start kept.old.items
         ++ specs.paired false (drop start kept.old.items) }
-    ensures alone { result ≡ specs.open_behind false (drop start kept.old.items) }
+    ensures alone { result ≡ specs.open_after false (drop start kept.old.items) }
     ensures room { kept.new.capacity ≡ kept.old.capacity }
 {
     let mut alone = false;
@@ -144,7 +144,7 @@ impl State {
         }
     }
 
-    /// A field without the blanks behind it, where that was said.
+    /// A field without the blanks after it, where that was said.
     fn solid<'t>(&self, text: &'t [u8]) -> &'t [u8]
         ensures { result.now ≡ lines.solid self.now text.now }
     {
@@ -265,10 +265,10 @@ impl Reader {
         }
     }
 
-    /// The field is told that ends so far behind the beginning of the line.
+    /// The field is told that ends so far after the beginning of the line.
     fn tell_ended_at<S: Setter>(&mut self, len: usize, setter: &mut S)
         requires { self.old.start + len < length self.old.kept }
-        ensures page { self.new ≡ lines.behind_field len self.old }
+        ensures page { self.new ≡ lines.after_field len self.old }
         ensures told { Tells S.shows S.hears (lines.next_said len self.old).pieces setter.old setter.new }
     {
         let kept = self.kept.as_slice();
@@ -313,7 +313,7 @@ impl Reader {
         self.state.mode = Mode::Row;
     }
 
-    /// What stands behind the last field that was told: a rule, a text block that begins, or a field, and the row ends.
+    /// What stands after the last field that was told: a rule, a text block that begins, or a field, and the row ends.
     fn tell_rest<S: Setter>(&mut self, setter: &mut S)
         ensures page { self.new ≡ (lines.rest_told self.old).page }
         ensures told { Tells S.shows S.hears (lines.rest_told self.old).pieces setter.old setter.new }

@@ -343,7 +343,7 @@ fn rows(rt: HostRuntime) {
 }
 
 /// The same where so many calls for memory are met and the next is refused, and how many were refused.
-fn meets_behind(alloc: Global, before: usize, row: &Row) -> (bool, u64) {
+fn meets_after(alloc: Global, before: usize, row: &Row) -> (bool, u64) {
     let mut memory = Scarce {
         alloc,
         before,
@@ -365,7 +365,7 @@ fn tells_memory_that_is_refused(rt: HostRuntime) {
             opened,
         };
         assert!(rt;
-            meets_behind(rt.alloc(), before, &row) == (true, 1),
+            meets_after(rt.alloc(), before, &row) == (true, 1),
             "behind {before}"
         );
     }
@@ -376,5 +376,5 @@ fn tells_memory_that_is_refused(rt: HostRuntime) {
         line: b"",
         opened: 2,
     };
-    assert!(rt; meets_behind(rt.alloc(), 3, &row) == (true, 0));
+    assert!(rt; meets_after(rt.alloc(), 3, &row) == (true, 0));
 }

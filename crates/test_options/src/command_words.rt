@@ -20,7 +20,7 @@ fn are_four(read: &[String], long: &[u8]) -> bool {
 }
 
 #[test]
-fn reads_each_word_behind_the_name(rt: HostRuntime) -> Result<(), AllocError> {
+fn reads_each_word_after_the_name(rt: HostRuntime) -> Result<(), AllocError> {
     let long = [b'x'; 1000];
     let read = words_in(&[b"nroff", b"-i", b"", &long, b"a\xffb"], rt.alloc())?;
     assert!(rt; are_four(&read, &long));

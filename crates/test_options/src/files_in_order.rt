@@ -141,7 +141,7 @@ fn comes<S: Source>(source: &mut S, byte: u8, at_hand: &[u8]) -> bool {
     source.next() == Ok(Some(byte)) && source.window() == at_hand
 }
 
-/// Whether a `b` behind two bytes of a window comes once they are skipped, and then a newline that is added.
+/// Whether a `b` after two bytes of a window comes once they are skipped, and then a newline that is added.
 fn skips_to_b<S: Source>(source: &mut S) -> bool {
     if source.window().len() == 3 {
         source.skip(2);

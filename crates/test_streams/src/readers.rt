@@ -109,7 +109,7 @@ fn ends_after<S: Source>(source: &mut S, used: usize) -> bool {
     read_all(source, &mut bytes) == (used, 0) && source.next() == Ok(None)
 }
 
-/// Whether a buffer sees the end behind two bytes, and how often its reader was called.
+/// Whether a buffer sees the end after two bytes, and how often its reader was called.
 fn end_by_buffer(turns: &[Turn]) -> (bool, usize) {
     let mut room = [0; 4];
     let mut reader = Uneven::new(TEXT, turns);
@@ -117,7 +117,7 @@ fn end_by_buffer(turns: &[Turn]) -> (bool, usize) {
     (ends, reader.calls)
 }
 
-/// Whether a source sees the end behind one byte, and how often its reader was called.
+/// Whether a source sees the end after one byte, and how often its reader was called.
 fn end_by_byte(turns: &[Turn]) -> (bool, usize) {
     let mut reader = Uneven::new(TEXT, turns);
     let ends = ends_after(&mut FromReader::over(&mut reader), 1);

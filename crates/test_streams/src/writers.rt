@@ -41,7 +41,7 @@ fn leaves(turns: &[Turn], calls: usize, bytes: &[u8]) -> bool {
 }
 
 #[test]
-fn a_write_that_fails_leaves_a_front(rt: HostRuntime) {
+fn a_write_that_fails_leaves_a_prefix(rt: HostRuntime) {
     for turn in [Turn::Broken, Turn::AtMost(0)] {
         for place in 0..7 {
             let mut turns = [Turn::AtMost(1); 7];
@@ -78,7 +78,7 @@ fn an_interrupted_flush_is_tried_again(rt: HostRuntime) {
     assert!(rt; flush(&[Turn::Interrupted; 65]) == (Err(Fault), (0, 1), 0));
 }
 
-/// Whether the flush behind the text fails, that is counted, and the one after it is none that fails.
+/// Whether the flush after the text fails, that is counted, and the one after it is none that fails.
 fn fails_at_a_flush(writer: &mut Narrow<'_>) -> bool {
     let mut sink = ToWriter::over(writer);
     sink.put(TEXT) == Ok(())

@@ -11,7 +11,7 @@ use Rattle.utf8_converter.specs.declared.reader.Reader.{Reader}
 use Rattle.utf8_converter.specs.declared.spelling.Spelling.{Spelling}
 use Rattle.utf8_converter.specs.Cells.{Over, drawn, goes_out, shows, strikes, text, turning}
 use Rattle.utf8_converter.specs.Reading.{Told, behind, fed, out, released, told, turned, with_half}
-use Rattle.utf8_converter.specs.Spelling.{Fills, Goes, IsFresh, Makes, Puts, Reads, Serves, Spells, begins, byte_of, half_behind, half_text, is_shut, owed}
+use Rattle.utf8_converter.specs.Spelling.{Fills, Goes, IsFresh, Makes, Puts, Reads, Serves, Spells, begins, byte_of, half_after, half_text, is_shut, owed}
 use Rattle.utf8_converter.proofs.Held.{Makes-half, Makes-held, Makes-table, begins-released, fed-begins, goes-no_back}
 use Rattle.utf8_converter.proofs.Makes.{Makes-gap, Makes-none, Makes-once, Makes-struck, Makes-then, shut_turning, turned-shut}
 use Rattle.utf8_converter.proofs.Spelled.{Puts-then, byte-text}
@@ -173,8 +173,8 @@ cut_off new xs ys end l e =
     }
 
 record Front (r0 s : Reader) (bs : List ℕ) (n : ℕ) (new : List ℕ) (end : ℕ) : Type 0 where
-  reads : Reads r0 (with_half (half_behind s.table (take n bs)) s) bs n new (end - length (half_text s.table (half_behind s.table (take n bs))))
-  few : length (half_text s.table (half_behind s.table (take n bs))) ≤ end
+  reads : Reads r0 (with_half (half_after s.table (take n bs)) s) bs n new (end - length (half_text s.table (half_after s.table (take n bs))))
+  few : length (half_text s.table (half_after s.table (take n bs))) ≤ end
 
 fronts : (r0 r s : Reader) (xs : List ℕ) (bs : List ℕ) (n : ℕ) (room mid new : List ℕ) (begin end m : ℕ) → take n bs ≡ xs → 0 < length xs → begins r0 (get_or xs 0 0) ≡ true
     → Fills (released r0.half r0) r room 0 mid begin m → Goes r s bs n mid begin new end → end ≤ length new → Front r0 s bs n new end
@@ -185,9 +185,9 @@ fronts r0 r s (b ∷ rest) bs n room mid new begin end m is some begin_is fills 
     let half : r.half ≡ Nothing = ap (λ (q : Reader). q.half) fills.reader ∙ (begins-released r0.half b r0 refl begin_is).1 in
     let held = Makes-held r s b rest g.out half (subst P is g.makes) in
     let table = Goes-table r s bs n mid new begin end g in
-    let H = half_behind r.table (b ∷ rest) in
-    let same : half_behind s.table (take n bs) ≡ H = ap (λ (t : Table). half_behind t (take n bs)) table ∙ ap (λ (ys : List ℕ). half_behind r.table ys) is in
-    let text_same : half_text s.table (half_behind s.table (take n bs)) ≡ half_text r.table H = ap (λ (t : Table). half_text t (half_behind s.table (take n bs))) table ∙ ap (λ (h : Half). half_text r.table h) same in
+    let H = half_after r.table (b ∷ rest) in
+    let same : half_after s.table (take n bs) ≡ H = ap (λ (t : Table). half_after t (take n bs)) table ∙ ap (λ (ys : List ℕ). half_after r.table ys) is in
+    let text_same : half_text s.table (half_after s.table (take n bs)) ≡ half_text r.table H = ap (λ (t : Table). half_text t (half_after s.table (take n bs))) table ∙ ap (λ (h : Half). half_text r.table h) same in
     let all : take end new ≡ (B ++ held.front) ++ half_text r.table H =
     g.put ∙ ap (λ (ys : List ℕ). ys ++ g.out) fills.put ∙ ap (λ (ys : List ℕ). B ++ ys) held.split ∙ sym (append_assoc B held.front (half_text r.table H)) in
     let cut = cut_off new (B ++ held.front) (half_text r.table H) end l all in
@@ -197,10 +197,10 @@ fronts r0 r s (b ∷ rest) bs n room mid new begin end m is some begin_is fills 
     let front : fed r0 (take n bs) ≡ told (with_half H s) (take (end - length (half_text r.table H)) new) 0 = subst Q (sym is) (fed_is ∙ ap (λ (ys : List ℕ). told (with_half H s) ys 0) (sym cut.front)) in
     record {
       reads = record {
-        all = front ∙ ap (λ (h : Half). told (with_half h s) (take (end - length (half_text r.table H)) new) 0) (sym same) ∙ ap (λ (ys : List ℕ). told (with_half (half_behind s.table (take n bs)) s) (take (end - length ys) new) 0) (sym text_same);
+        all = front ∙ ap (λ (h : Half). told (with_half h s) (take (end - length (half_text r.table H)) new) 0) (sym same) ∙ ap (λ (ys : List ℕ). told (with_half (half_after s.table (take n bs)) s) (take (end - length ys) new) 0) (sym text_same);
         within = g.within;
       };
-      few = (let size : length (half_text s.table (half_behind s.table (take n bs))) ≡ length (half_text r.table H) = ap length text_same in let far = cut.few in omega (arith, size, far));
+      few = (let size : length (half_text s.table (half_after s.table (take n bs))) ≡ length (half_text r.table H) = ap length text_same in let far = cut.few in omega (arith, size, far));
     }
 
 first_of_front : (bs : List ℕ) (n : ℕ) → 0 < n → 0 < length bs → get_or (take n bs) 0 0 ≡ get_or bs 0 0
@@ -209,7 +209,7 @@ first_of_front bs n some more = get_or-take n bs 0 0 some
 -- what stands at the front of a room once what was half read, cells, and what is half read then were taken out
 pub Reads-front : (r0 r s : Reader) (bs : List ℕ) (n : ℕ) (room mid new : List ℕ) (begin end m : ℕ) → 0 < n → 0 < length bs → begins r0 (get_or bs 0 0) ≡ true
     → Fills (released r0.half r0) r room 0 mid begin m → Goes r s bs n mid begin new end → end ≤ length new
-    → Reads r0 (with_half (half_behind s.table (take n bs)) s) bs n new (end - length (half_text s.table (half_behind s.table (take n bs))))
+    → Reads r0 (with_half (half_after s.table (take n bs)) s) bs n new (end - length (half_text s.table (half_after s.table (take n bs))))
 Reads-front r0 r s bs n room mid new begin end m some more begin_is fills g l =
     let within : n ≤ length bs = g.within in
     let cut = length-take-le n bs within in
@@ -217,7 +217,7 @@ Reads-front r0 r s bs n room mid new begin end m some more begin_is fills g l =
     (fronts r0 r s (take n bs) bs n room mid new begin end m refl (omega (arith, cut, some)) (subst P (sym (first_of_front bs n some more)) begin_is) fills g l).reads
 
 pub Reads-few : (r0 r s : Reader) (bs : List ℕ) (n : ℕ) (room mid new : List ℕ) (begin end m : ℕ) → 0 < n → 0 < length bs → begins r0 (get_or bs 0 0) ≡ true
-    → Fills (released r0.half r0) r room 0 mid begin m → Goes r s bs n mid begin new end → end ≤ length new → length (half_text s.table (half_behind s.table (take n bs))) ≤ end
+    → Fills (released r0.half r0) r room 0 mid begin m → Goes r s bs n mid begin new end → end ≤ length new → length (half_text s.table (half_after s.table (take n bs))) ≤ end
 Reads-few r0 r s bs n room mid new begin end m some more begin_is fills g l =
     let within : n ≤ length bs = g.within in
     let cut = length-take-le n bs within in

@@ -8,8 +8,8 @@ use Rattle.utf8_converter.specs.declared.reader.Half.TheVariants.{Nothing, Byte,
 use Rattle.utf8_converter.specs.declared.reader.Reader.{Reader}
 use Rattle.utf8_converter.specs.declared.spelling.Spelling.{Spelling}
 use Rattle.utf8_converter.specs.Cells.{Once, Over, goes_out, shows, strikes, text}
-use Rattle.utf8_converter.specs.Reading.{Told, behind, ended, fed, fresh, out, put_alone, read, read_behind, released, released_and_fresh, then_told, told, with_half}
-use Rattle.utf8_converter.specs.Spelling.{Makes, Reads, Serves, Spells, begins_by, half_behind, half_text, let_go, let_go_by, rests, rests_by}
+use Rattle.utf8_converter.specs.Reading.{Told, behind, ended, fed, fresh, out, put_alone, read, read_after, released, released_and_fresh, then_told, told, with_half}
+use Rattle.utf8_converter.specs.Spelling.{Makes, Reads, Serves, Spells, begins_by, half_after, half_text, let_go, let_go_by, rests, rests_by}
 use Rattle.utf8_converter.proofs.Makes.{more_strays, put_alone-half, read-fresh, shut_to, shut_turning, then-then, told-if, told-not, with-same}
 use Rattle.utf8_converter.proofs.Reading.{behind-none, told-eq}
 use Rattle.utf8_converter.proofs.Spelled.{byte-text}
@@ -34,7 +34,7 @@ released-table (Backspaced a) r = alone_table a (with_half Nothing r)
 apart_table : (b : ℕ) (r : Reader) → (released_and_fresh b r).reader.table ≡ r.table
 apart_table b r = fresh_table b (released r.half r).reader ∙ released-table r.half r
 
-behind_table : (h : Half) (b : ℕ) (r : Reader) → (read_behind h b r).reader.table ≡ r.table
+behind_table : (h : Half) (b : ℕ) (r : Reader) → (read_after h b r).reader.table ≡ r.table
 behind_table Nothing b r = fresh_table b r
 behind_table (Byte a) b r = table_if (b == 8) (told (with_half (Backspaced a) r) [] 0) (released_and_fresh b r) r.table refl (apart_table b r)
 behind_table (Backspaced a) b r = table_if (strikes r.table a b) (out (Over a b) (with_half Nothing r)) (released_and_fresh b r) r.table refl (apart_table b r)
@@ -102,8 +102,8 @@ by_strike false a b r e half none =
     let count : (released_and_fresh b r).strays ≡ 0 = sym (ap (λ (t : Told). t.strays) here) ∙ none in
     absurd (omega (arith, some, count))
 
-last_by : (h : Half) (b : ℕ) (r : Reader) → r.half ≡ h → (read_behind h b r).strays ≡ 0 → rests (read_behind h b r).reader ≡ true
-    → (read_behind h b r).reader.half ≡ half_by (is_backed h) (shows r.table b) b
+last_by : (h : Half) (b : ℕ) (r : Reader) → r.half ≡ h → (read_after h b r).strays ≡ 0 → rests (read_after h b r).reader ≡ true
+    → (read_after h b r).reader.half ≡ half_by (is_backed h) (shows r.table b) b
 unfolding is_backed
 last_by Nothing b r e none rested = fresh-half b r e
 last_by (Byte a) b r e none rested = by_back (b == 8) a b r refl none rested
@@ -142,7 +142,7 @@ backed_back false a b r e half none =
     let count : (released_and_fresh b r).strays ≡ 0 = sym (ap (λ (t : Told). t.strays) here) ∙ none in
     absurd (omega (arith, some, count))
 
-back_by : (x : Bool) (h : Half) (b : ℕ) (r : Reader) → (b == 8) ≡ x → r.half ≡ h → (read_behind h b r).strays ≡ 0 → is_backed (read_behind h b r).reader.half ≡ (b == 8)
+back_by : (x : Bool) (h : Half) (b : ℕ) (r : Reader) → (b == 8) ≡ x → r.half ≡ h → (read_after h b r).strays ≡ 0 → is_backed (read_after h b r).reader.half ≡ (b == 8)
 unfolding is_backed
 back_by true Nothing b r e half none =
     let same : b ≡ 8 = grind (arith, nat_tests) in
@@ -211,7 +211,7 @@ and_true false = refl
 two_more : (n : ℕ) → nat_lt 1 (suc (suc n)) ≡ true
 two_more n = grind (arith, nat_tests)
 
-half_places : (t : Table) (b : ℕ) (bs : List ℕ) → half_last t false (b ∷ bs) ≡ half_behind t (b ∷ bs)
+half_places : (t : Table) (b : ℕ) (bs : List ℕ) → half_last t false (b ∷ bs) ≡ half_after t (b ∷ bs)
 half_places t b [] = ap (λ (x : Bool). half_by x (shows t b) b) (sym (and_last (b == 8)))
 half_places t b (c ∷ cs) =
     let bytes = b ∷ c ∷ cs in
@@ -230,8 +230,8 @@ half_places t b (c ∷ cs) =
 -- what was read is told, and what may still be struck over is half read
 pub record Held (r s : Reader) (xs bytes : List ℕ) : Type 0 where
   pub front : List ℕ
-  pub all : fed r xs ≡ told (with_half (half_behind r.table xs) s) front 0
-  pub split : bytes ≡ front ++ half_text r.table (half_behind r.table xs)
+  pub all : fed r xs ≡ told (with_half (half_after r.table xs) s) front 0
+  pub split : bytes ≡ front ++ half_text r.table (half_after r.table xs)
 
 record HeldBy (h : Half) (t : Told) (s : Reader) (bytes : List ℕ) (table : Table) : Type 0 where
   front : List ℕ
@@ -290,14 +290,14 @@ Makes-held r s b bs bytes none m =
     let end : (let_go t).strays ≡ 0 = ap (λ (u : Told). u.strays) m.all in
     let most = more_strays t.reader.half t in
     let strays : t.strays ≡ 0 = omega (arith, end, most) in
-    let half : t.reader.half ≡ half_behind r.table xs =
+    let half : t.reader.half ≡ half_after r.table xs =
     last-half r b bs strays m.rested ∙ ap (λ (h : Half). half_last r.table (is_backed h) xs) none ∙ half_places r.table b bs in
     let h = held_by t.reader.half t s bytes refl m.all m.rested strays in
     let table = fed-table r xs in
     record {
       front = h.front;
       all = h.all ∙ ap (λ (x : Half). told (with_half x s) h.front 0) half;
-      split = h.split ∙ ap (λ (x : Half). h.front ++ half_text t.reader.table x) half ∙ ap (λ (x : Table). h.front ++ half_text x (half_behind r.table xs)) table;
+      split = h.split ∙ ap (λ (x : Half). h.front ++ half_text t.reader.table x) half ∙ ap (λ (x : Table). h.front ++ half_text x (half_after r.table xs)) table;
     }
 
 not_true : (x : Bool) → not x ≡ true → x ≡ false
@@ -335,7 +335,7 @@ begins-fed (Byte a) b bs r e begins =
     let A : Told = put_alone a (with_half Nothing r) in
     let none : A.reader.half ≡ Nothing = put_alone-half a (with_half Nothing r) in
     let first : read b r ≡ then_told A (λ s. fresh b s) =
-    ap (λ (h : Half). read_behind h b r) e ∙ told-not (b == 8) (told (with_half (Backspaced a) r) [] 0) (released_and_fresh b r) (not_true (b == 8) (and_first (not (b == 8)) (goes_out r.table a) begins))
+    ap (λ (h : Half). read_after h b r) e ∙ told-not (b == 8) (told (with_half (Backspaced a) r) [] 0) (released_and_fresh b r) (not_true (b == 8) (and_first (not (b == 8)) (goes_out r.table a) begins))
     ∙ ap (λ (h : Half). then_told (released h r) (λ s. fresh b s)) e in
     ap (λ (v : Told). then_told v (λ u. fed u bs)) first ∙ then-then A (λ s. fresh b s) (λ u. fed u bs)
     ∙ ap (λ (v : Told). behind A.bytes A.strays (then_told v (λ u. fed u bs))) (sym (read-fresh b A.reader none))

@@ -8,35 +8,35 @@ use Rattle.utf8_converter.specs.declared.reader.Half.{Half}
 use Rattle.utf8_converter.specs.declared.reader.Half.TheVariants.{Nothing, Byte, Backspaced}
 use Rattle.utf8_converter.specs.declared.reader.Way.{Way}
 use Rattle.utf8_converter.specs.declared.reader.Reader.{Reader}
-use Rattle.utf8_converter.specs.Cells.{Cell, Once, Over, alone, cells, converted, drawn, goes_out, printed, shows, size, sizes, strays_of, strikes, turning, way_behind}
-use Rattle.utf8_converter.specs.Reading.{Told, behind, ended, fed, first_reader, fresh, out, put_alone, read, read_behind, released, released_and_fresh, shut, then_told, told, with_half}
+use Rattle.utf8_converter.specs.Cells.{Cell, Once, Over, alone, cells, converted, drawn, goes_out, printed, shows, size, sizes, strays_of, strikes, turning, way_after}
+use Rattle.utf8_converter.specs.Reading.{Told, behind, ended, fed, first_reader, fresh, out, put_alone, read, read_after, released, released_and_fresh, shut, then_told, told, with_half}
 
 -- ---- cells behind one another
 
 -- what they come to, and the way behind them
 abbrev pub drawn_all : Table → Way → List Cell → List ℕ
 drawn_all table way [] = []
-drawn_all table way (c ∷ cs) = drawn table way c ++ drawn_all table (way_behind way c) cs
+drawn_all table way (c ∷ cs) = drawn table way c ++ drawn_all table (way_after way c) cs
 
 abbrev pub ways_behind : Way → List Cell → Way
 ways_behind way [] = way
-ways_behind way (c ∷ cs) = ways_behind (way_behind way c) cs
+ways_behind way (c ∷ cs) = ways_behind (way_after way c) cs
 
 drawn-append : (t : Table) (w : Way) (cs ds : List Cell) → drawn_all t w (cs ++ ds) ≡ drawn_all t w cs ++ drawn_all t (ways_behind w cs) ds
 drawn-append t w [] ds = refl
 drawn-append t w (c ∷ cs) ds =
-    ap (λ (xs : List ℕ). drawn t w c ++ xs) (drawn-append t (way_behind w c) cs ds)
-    ∙ sym (append_assoc (drawn t w c) (drawn_all t (way_behind w c) cs) (drawn_all t (ways_behind (way_behind w c) cs) ds))
+    ap (λ (xs : List ℕ). drawn t w c ++ xs) (drawn-append t (way_after w c) cs ds)
+    ∙ sym (append_assoc (drawn t w c) (drawn_all t (way_after w c) cs) (drawn_all t (ways_behind (way_after w c) cs) ds))
 
 ways-append : (w : Way) (cs ds : List Cell) → ways_behind w (cs ++ ds) ≡ ways_behind (ways_behind w cs) ds
 ways-append w [] ds = refl
-ways-append w (c ∷ cs) ds = ways-append (way_behind w c) cs ds
+ways-append w (c ∷ cs) ds = ways-append (way_after w c) cs ds
 
 printed-append : (t : Table) (w : Way) (cs ds : List Cell) → printed t w (cs ++ ds) ≡ drawn_all t w cs ++ printed t (ways_behind w cs) ds
 printed-append t w [] ds = refl
 printed-append t w (c ∷ cs) ds =
-    ap (λ (xs : List ℕ). drawn t w c ++ xs) (printed-append t (way_behind w c) cs ds)
-    ∙ sym (append_assoc (drawn t w c) (drawn_all t (way_behind w c) cs) (printed t (ways_behind (way_behind w c) cs) ds))
+    ap (λ (xs : List ℕ). drawn t w c ++ xs) (printed-append t (way_after w c) cs ds)
+    ∙ sym (append_assoc (drawn t w c) (drawn_all t (way_after w c) cs) (printed t (ways_behind (way_after w c) cs) ds))
 
 more : (n a b : ℕ) → n + (a + b) ≡ n + a + b
 more n a b = omega arith
@@ -228,7 +228,7 @@ half_as h b r e k =
     let P : Half → Type 0 = λ x. Kept r h b (then_told (released x r) (λ s. fresh b s)) in
     subst P (sym e) k
 
-kept-read : (h : Half) (b : ℕ) (r : Reader) → r.half ≡ h → Kept r h b (read_behind h b r)
+kept-read : (h : Half) (b : ℕ) (r : Reader) → r.half ≡ h → Kept r h b (read_after h b r)
 kept-read Nothing b r e = kept-fresh b r e
 kept-read (Byte a) b r e =
     kept-if r (Byte a) b (b == 8) (told (with_half (Backspaced a) r) [] 0) (released_and_fresh b r)

@@ -16,8 +16,8 @@ use Rattle.utf8_converter.specs.declared.reader.Half.TheVariants.{Nothing, Byte,
 use Rattle.utf8_converter.specs.declared.reader.Way.{Way}
 use Rattle.utf8_converter.specs.declared.reader.Way.TheVariants.{Backspaces, Escapes}
 use Rattle.utf8_converter.specs.declared.reader.Reader.{Reader}
-use Rattle.utf8_converter.specs.Cells.{Cell, Once, Over, drawn, goes_out, if_spelled, is_shown, look_of, shows, size, strikes, text, turning, way_behind, way_to}
-use Rattle.utf8_converter.specs.Reading.{Told, behind, fed, fresh, out, put_alone, read, read_behind, released, released_and_fresh, then_told, told, turned, with_half}
+use Rattle.utf8_converter.specs.Cells.{Cell, Once, Over, drawn, goes_out, if_spelled, is_shown, look_of, shows, size, strikes, text, turning, way_after, way_to}
+use Rattle.utf8_converter.specs.Reading.{Told, behind, fed, fresh, out, put_alone, read, read_after, released, released_and_fresh, then_told, told, turned, with_half}
 use Rattle.utf8_converter.specs.Spelling.{IsFresh, Makes, is_shut, let_go, let_go_by, owed, rests, rests_by}
 use Rattle.utf8_converter.proofs.Reading.{fed-append, told-eq}
 
@@ -60,7 +60,7 @@ pub put_alone-half : (b : ℕ) (r : Reader) → (put_alone b r).reader.half ≡ 
 put_alone-half b r = alone_half (goes_out r.table b) b r
 
 pub read-fresh : (b : ℕ) (r : Reader) → r.half ≡ Nothing → read b r ≡ fresh b r
-read-fresh b r e = ap (λ (h : Half). read_behind h b r) e
+read-fresh b r e = ap (λ (h : Half). read_after h b r) e
 
 pub with-same : (r : Reader) → r.half ≡ Nothing → with_half Nothing r ≡ r
 with-same r e = ap (λ (h : Half). with_half h r) (sym e)
@@ -77,7 +77,7 @@ release_by (Byte a) y ys t e rested isnt =
     let A : Told = put_alone a (with_half Nothing q) in
     let none : A.reader.half ≡ Nothing = put_alone-half a (with_half Nothing q) in
     let first : read y q ≡ then_told A (λ s. fresh y s) =
-    ap (λ (h : Half). read_behind h y q) e ∙ told-not (y == 8) (told (with_half (Backspaced a) q) [] 0) (released_and_fresh y q) isnt
+    ap (λ (h : Half). read_after h y q) e ∙ told-not (y == 8) (told (with_half (Backspaced a) q) [] 0) (released_and_fresh y q) isnt
     ∙ ap (λ (h : Half). then_told (released h q) (λ s. fresh y s)) e in
     let rest : fed q (y ∷ ys) ≡ then_told A (λ s. then_told (fresh y s) (λ u. fed u ys)) =
     ap (λ (v : Told). then_told v (λ u. fed u ys)) first ∙ then-then A (λ s. fresh y s) (λ u. fed u ys) in
@@ -218,7 +218,7 @@ few_turned Bold Plain = omega arith
 few_turned Bold Under = omega arith
 few_turned Bold Bold = omega arith
 
-few_struck : (t : Table) (w : Way) (a b : ℕ) → length (drawn t w (Over a b)) + owed (way_behind w (Over a b)) ≤ 12 + owed w
+few_struck : (t : Table) (w : Way) (a b : ℕ) → length (drawn t w (Over a b)) + owed (way_after w (Over a b)) ≤ 12 + owed w
 few_struck t Backspaces a b =
     let first = few-text t a in
     let second = few-text t b in
@@ -231,7 +231,7 @@ few_struck t (Escapes before) a b =
     let long = length-append (turning (Escapes before) look) (text t b) in
     omega (arith, turn, second, long)
 
-pub few-drawn : (t : Table) (w : Way) (c : Cell) → length (drawn t w c) + owed (way_behind w c) ≤ 4 * size c + owed w
+pub few-drawn : (t : Table) (w : Way) (c : Cell) → length (drawn t w c) + owed (way_after w c) ≤ 4 * size c + owed w
 few-drawn t w (Once b) =
     let long = length-append (turning w Plain) (text t b) in
     let few = few-text t b in
@@ -327,7 +327,7 @@ Makes-struck r a b none is =
     let few = few_struck r.table r.way a b in
     record {
       all = ap let_go all ∙ let_go-same (told (out (Over a b) r).reader d 0) none;
-      rested = ap (λ (t : Told). rests t.reader) all ∙ ap (λ (h : Half). rests_by h (way_behind r.way (Over a b))) none;
+      rested = ap (λ (t : Told). rests t.reader) all ∙ ap (λ (h : Half). rests_by h (way_after r.way (Over a b))) none;
       few = omega (arith, few);
     }
 

@@ -10,7 +10,7 @@ use Rattle.utf8_converter.specs.declared.reader.Reader.{Reader}
 use Rattle.utf8_converter.specs.declared.reader.Way.{Way}
 use Rattle.utf8_converter.specs.declared.reader.Way.TheVariants.{Backspaces, Escapes}
 use Rattle.utf8_converter.specs.declared.spelling.Spelling.{Spelling}
-use Rattle.utf8_converter.specs.Cells.{Over, drawn, goes_out, is_shown, shows, strikes, text, way_behind}
+use Rattle.utf8_converter.specs.Cells.{Over, drawn, goes_out, is_shown, shows, strikes, text, way_after}
 use Rattle.utf8_converter.specs.Reading.{out}
 use Rattle.utf8_converter.specs.Shapes.{Shapes, StandAll, is_shaped, may_stand}
 use Rattle.utf8_converter.specs.Spelling.{AllLow, Cuts, Goes, IsChunk, IsFresh, IsShaped, Makes, Puts, Spells, byte_of, bytes_of, keeps_backspaces}
@@ -106,7 +106,7 @@ struck_bytes t b d ds p q =
 Makes-three : (r : Reader) (b d : ℕ) → IsFresh r → r.way ≡ Backspaces → strikes r.table b d ≡ true → Makes r r (b ∷ 8 ∷ d ∷ []) (text r.table b ++ 8 ∷ text r.table d)
 Makes-three r b d fresh way is =
     let same : (out (Over b d) r).reader ≡ r =
-    ap (λ (w : Way). record r { way = w }) (ap (λ (w : Way). way_behind w (Over b d)) way ∙ sym way) in
+    ap (λ (w : Way). record r { way = w }) (ap (λ (w : Way). way_after w (Over b d)) way ∙ sym way) in
     let bytes : drawn r.table r.way (Over b d) ≡ text r.table b ++ 8 ∷ text r.table d = ap (λ (w : Way). drawn r.table w (Over b d)) way in
     let P : Reader → Type 0 = λ s. Makes r s (b ∷ 8 ∷ d ∷ []) (drawn r.table r.way (Over b d)) in
     let Q : List ℕ → Type 0 = λ xs. Makes r r (b ∷ 8 ∷ d ∷ []) xs in

@@ -17,7 +17,7 @@ use Rattle.utf8_characters.specs.declared.table.Table.{Table}
 use Rattle.utf8_characters.proofs.Laws.{character_fits, character_scalar}
 use Rattle.utf8_converter.specs.declared.reader.Way.{Way}
 use Rattle.utf8_converter.specs.declared.reader.Way.TheVariants.{Backspaces, Escapes}
-use Rattle.utf8_converter.specs.Cells.{Cell, Once, Over, alone, cells, character_for, closing, converted, drawn, first_way, goes_out, if_spelled, is_same, is_shown, look_of, opening, printed, shows, size, sizes, strikes, text, turning, way_behind, way_to}
+use Rattle.utf8_converter.specs.Cells.{Cell, Once, Over, alone, cells, character_for, closing, converted, drawn, first_way, goes_out, if_spelled, is_same, is_shown, look_of, opening, printed, shows, size, sizes, strikes, text, turning, way_after, way_to}
 use Rattle.utf8_converter.specs.Lines.{KeepsLines, bare, bare_of, cells_of_lines, characters_in, listed}
 use Rattle.utf8_converter.specs.Reading.{fed, first_reader}
 use Rattle.utf8_converter.specs.Spelling.{owed}
@@ -146,7 +146,7 @@ unfolding uses_escapes
 to_same Backspaces look = refl
 to_same (Escapes before) look = refl
 
-behind_same : (w : Way) (c : Cell) → uses_escapes (way_behind w c) ≡ uses_escapes w
+behind_same : (w : Way) (c : Cell) → uses_escapes (way_after w c) ≡ uses_escapes w
 unfolding uses_escapes
 behind_same w (Once b) = to_same w Plain
 behind_same Backspaces (Over a b) = refl
@@ -243,17 +243,17 @@ text-drawn : (t : Table) (w : Way) (cs : List Cell) → all_cells t cs ≡ true 
 unfolding all_cells
 text-drawn t w [] p = text-nil (uses_escapes w)
 text-drawn t w (c ∷ cs) p =
-    let P : Bool → Type 0 = λ e. Marked e (characters_in t cs) (drawn_all t (way_behind w c) cs) in
-    text-append (uses_escapes w) _ (characters_in t cs) (drawn t w c) (drawn_all t (way_behind w c) cs)
-    (drawn-text t w c (and_first (is_cell t c) (all_cells t cs) p)) (subst P (behind_same w c) (text-drawn t (way_behind w c) cs (and_second (is_cell t c) (all_cells t cs) p)))
+    let P : Bool → Type 0 = λ e. Marked e (characters_in t cs) (drawn_all t (way_after w c) cs) in
+    text-append (uses_escapes w) _ (characters_in t cs) (drawn t w c) (drawn_all t (way_after w c) cs)
+    (drawn-text t w c (and_first (is_cell t c) (all_cells t cs) p)) (subst P (behind_same w c) (text-drawn t (way_after w c) cs (and_second (is_cell t c) (all_cells t cs) p)))
 
 text-all : (t : Table) (w : Way) (cs : List Cell) → all_cells t cs ≡ true → Marked (uses_escapes w) (characters_in t cs) (printed t w cs)
 unfolding all_cells
 text-all t w [] p = text-turning w Plain
 text-all t w (c ∷ cs) p =
-    let P : Bool → Type 0 = λ e. Marked e (characters_in t cs) (printed t (way_behind w c) cs) in
-    text-append (uses_escapes w) _ (characters_in t cs) (drawn t w c) (printed t (way_behind w c) cs)
-    (drawn-text t w c (and_first (is_cell t c) (all_cells t cs) p)) (subst P (behind_same w c) (text-all t (way_behind w c) cs (and_second (is_cell t c) (all_cells t cs) p)))
+    let P : Bool → Type 0 = λ e. Marked e (characters_in t cs) (printed t (way_after w c) cs) in
+    text-append (uses_escapes w) _ (characters_in t cs) (drawn t w c) (printed t (way_after w c) cs)
+    (drawn-text t w c (and_first (is_cell t c) (all_cells t cs) p)) (subst P (behind_same w c) (text-all t (way_after w c) cs (and_second (is_cell t c) (all_cells t cs) p)))
 
 -- ---- the cells of bytes
 
@@ -321,8 +321,8 @@ few-printed : (t : Table) (w : Way) (cs : List Cell) → length (printed t w cs)
 few-printed t w [] = omega arith
 few-printed t w (c ∷ cs) =
     let one = few-drawn t w c in
-    let rest = few-printed t (way_behind w c) cs in
-    let both : length (printed t w (c ∷ cs)) ≡ length (drawn t w c) + length (printed t (way_behind w c) cs) = length-append (drawn t w c) (printed t (way_behind w c) cs) in
+    let rest = few-printed t (way_after w c) cs in
+    let both : length (printed t w (c ∷ cs)) ≡ length (drawn t w c) + length (printed t (way_after w c) cs) = length-append (drawn t w c) (printed t (way_after w c) cs) in
     let split : sizes (c ∷ cs) ≡ size c + sizes cs = refl in
     omega (arith, one, rest, both, split)
 

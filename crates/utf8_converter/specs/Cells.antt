@@ -41,7 +41,7 @@ strikes table a b = ((a == b) || (a == code "_")) && shows table b
 abbrev pub alone : Table → ℕ → List Cell
 alone table b = if goes_out table b then Once b ∷ [] else []
 
--- a backspace strikes the byte behind it over that before it, or is dropped
+-- a backspace strikes the byte after it over that before it, or is dropped
 abbrev pub cells : Table → List ℕ → List Cell
 cells table [] = []
 cells table (a ∷ []) = alone table a
@@ -57,7 +57,7 @@ abbrev pub top : Cell → ℕ
 top (Once b) = b
 top (Over a b) = b
 
--- How a cell looks behind one that looks so: a byte over itself is bold, but `_` behind what is underlined.
+-- How a cell looks after one that looks so: a byte over itself is bold, but `_` after what is underlined.
 abbrev pub look_of : Look → Cell → Look
 look_of before (Once b) = Plain
 look_of before (Over a b) =
@@ -103,15 +103,15 @@ abbrev pub way_to : Way → Look → Way
 way_to Backspaces look = Backspaces
 way_to (Escapes before) look = Escapes look
 
-abbrev pub way_behind : Way → Cell → Way
-way_behind way (Once b) = way_to way Plain
-way_behind Backspaces (Over a b) = Backspaces
-way_behind (Escapes before) (Over a b) = Escapes (look_of before (Over a b))
+abbrev pub way_after : Way → Cell → Way
+way_after way (Once b) = way_to way Plain
+way_after Backspaces (Over a b) = Backspaces
+way_after (Escapes before) (Over a b) = Escapes (look_of before (Over a b))
 
--- a look that is open ends behind all cells
+-- a look that is open ends after all cells
 abbrev pub printed : Table → Way → List Cell → List ℕ
 printed table way [] = turning way Plain
-printed table way (c ∷ cs) = drawn table way c ++ printed table (way_behind way c) cs
+printed table way (c ∷ cs) = drawn table way c ++ printed table (way_after way c) cs
 
 -- ---- the definition: what comes of all bytes of an input
 

@@ -31,7 +31,7 @@ abbrev pub character_named : List (ℕ × ℕ × ℕ) → ℕ → ℕ → ℕ
 character_named [] a b = 0
 character_named (n ∷ ns) a b = if (n.0 == a) && (n.1 == b) then n.2 else character_named ns a b
 
--- the character that is named behind a backslash: `\'`, `\(xx` or `\[xx]`
+-- the character that is named after a backslash: `\'`, `\(xx` or `\[xx]`
 abbrev pub named_at : List (ℕ × ℕ × ℕ) → List ℕ → ℕ → ℕ
 named_at names page at =
     if get_or page at 0 == code "'" then 0xB4 else

@@ -3,7 +3,7 @@ use Rattle.std.specs.Prelude.{ℕ, ◌+◌, List, [], ◌∷◌, ◌++◌, Bool,
 use Rattle.nr_vectors.specs.declared.cell.Look.{Look}
 use Rattle.nr_vectors.specs.declared.cell.Look.TheVariants.{Plain}
 use Rattle.utf8_characters.specs.declared.table.Table.{Table}
-use Rattle.utf8_converter.specs.Cells.{Cell, Once, Over, drawn, first_way, goes_out, shows, strikes, turning, way_behind, way_to}
+use Rattle.utf8_converter.specs.Cells.{Cell, Once, Over, drawn, first_way, goes_out, shows, strikes, turning, way_after, way_to}
 use Rattle.utf8_converter.specs.declared.reader.Half.{Half}
 use Rattle.utf8_converter.specs.declared.reader.Half.TheVariants.{Nothing, Byte, Backspaced}
 use Rattle.utf8_converter.specs.declared.reader.Reader.{Reader}
@@ -35,7 +35,7 @@ with_half h r = record r { half = h }
 -- ---- cells go out
 
 abbrev pub out : Cell → Reader → Told
-out c r = told (record r { way = way_behind r.way c }) (drawn r.table r.way c) 0
+out c r = told (record r { way = way_after r.way c }) (drawn r.table r.way c) 0
 
 -- a byte goes out by itself, or is dropped
 abbrev pub put_alone : ℕ → Reader → Told
@@ -63,15 +63,15 @@ released (Backspaced a) r = behind [] 1 (put_alone a (with_half Nothing r))
 abbrev pub released_and_fresh : ℕ → Reader → Told
 released_and_fresh b r = then_told (released r.half r) (λ s. fresh b s)
 
-abbrev pub read_behind : Half → ℕ → Reader → Told
-read_behind Nothing b r = fresh b r
-read_behind (Byte a) b r =
+abbrev pub read_after : Half → ℕ → Reader → Told
+read_after Nothing b r = fresh b r
+read_after (Byte a) b r =
     if b == 8 then told (with_half (Backspaced a) r) [] 0 else released_and_fresh b r
-read_behind (Backspaced a) b r =
+read_after (Backspaced a) b r =
     if strikes r.table a b then out (Over a b) (with_half Nothing r) else released_and_fresh b r
 
 abbrev pub read : ℕ → Reader → Told
-read b r = read_behind r.half b r
+read b r = read_after r.half b r
 
 -- the end comes
 abbrev pub ended : Reader → Told

@@ -32,7 +32,7 @@ abbrev pub FrontAtErr : {T E : Type 0} → Result T E → Option (List ℕ) → 
 FrontAtErr (Ok x) old new bytes = Unit {0}
 FrontAtErr (Err e) old new bytes = AppendsFront old new bytes
 
--- a front of what is pending went out, and the rest is left
+-- a prefix of what is pending went out, and the rest is left
 pub record Flushes (held new : Option (List ℕ)) (pending left : List ℕ) : Type 0 where
   pub out : List ℕ
   pub went_out : Appends held new out
@@ -101,7 +101,7 @@ pub record IsCut (table : Table) (escapes : Bool) (first last : Option Supply) (
   pub text : IsText escapes (fed (first_reader table escapes) bytes).bytes
   pub made : strays ≡ (fed (first_reader table escapes) bytes).strays
 
--- some bytes came, and a front of what they come to went out
+-- some bytes came, and a prefix of what they come to went out
 pub record IsBroken (table : Table) (escapes : Bool) (first last : Option Supply) (held new : Option (List ℕ))
     (strays : ℕ) : Type 0 where
   pub bytes : List ℕ

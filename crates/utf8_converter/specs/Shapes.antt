@@ -12,7 +12,7 @@ abbrev pub is_backed : ℕ → ℕ → ℕ → Bool
 is_backed before b behind =
     (b == 8) && ((before == behind) || (before == code "_")) && nat_lt (code " ") behind
 
--- what may stand between these two: no backspace stands behind one of another cell
+-- what may stand between these two: no backspace stands after one of another cell
 abbrev pub is_shaped : ℕ → ℕ → ℕ → Bool
 is_shaped before b behind =
     (may_stand b || is_backed before b behind) && not ((before == behind) && (behind == 8))
@@ -20,7 +20,7 @@ is_shaped before b behind =
 abbrev pub StandAll : ℕ → List ℕ → Type 0
 StandAll n bytes = (k : ℕ) → k < n → may_stand (get_or bytes k 0) ≡ true
 
--- the first may stand anywhere, and each of the n behind it where it stands
+-- the first may stand anywhere, and each of the n after it where it stands
 pub record Shapes (n : ℕ) (bytes : List ℕ) : Type 0 where
   pub first : may_stand (get_or bytes 0 0) ≡ true
   pub each : (k : ℕ) → k < n

@@ -27,12 +27,12 @@ number_of Cyrillic = 3
 number_of Greek = 4
 number_of Latin1 = 5
 
--- known bytes behind a number that says how many there are
+-- known bytes after a number that says how many there are
 abbrev pub counted_bytes : Option (List ℕ) → List ℕ
 counted_bytes None = 0 ∷ []
 counted_bytes (Some xs) = (length xs + 1) ∷ xs
 
--- What it holds before a byte came says how it was made, and no other begins so: whatever is held behind is what came.
+-- What it holds before a byte came says how it was made, and no other begins so: whatever is held after is what came.
 abbrev pub made_of : Making → List ℕ
 made_of m = number_of m.table ∷ (if m.escapes then 1 else 0) ∷ m.failed ∷ counted_bytes m.begun
 
@@ -44,13 +44,13 @@ pub record Told : Type 0 where
 
 -- ---- what the other sink holds
 
--- what it held and a front of a text, of which the rest waits
+-- what it held and a prefix of a text, of which the rest waits
 abbrev pub Sends : Option (List ℕ) → Option (List ℕ) → List ℕ → List ℕ → Type 0
 Sends None held waits text = ⊤
 Sends (Some xs) None waits text = ⊥
 Sends (Some xs) (Some ys) waits text = (ys ++ waits ≡ xs ++ text) × (length xs ≤ length ys)
 
--- what it held and a front of a text
+-- what it held and a prefix of a text
 abbrev pub Fronts : Option (List ℕ) → Option (List ℕ) → List ℕ → Type 0
 Fronts None held text = ⊤
 Fronts (Some xs) None text = ⊥
@@ -109,7 +109,7 @@ pub record IsShown (m : Making) (came : List ℕ) (held : Option (List ℕ)) (fa
   pub made : strays ≡ at_most (strays_of m.table came)
   pub none : failed ≡ m.failed
 
--- it got a front of that, and failed once
+-- it got a prefix of that, and failed once
 pub record IsCutOff (m : Making) (came : List ℕ) (held : Option (List ℕ)) (failed : ℕ) : Type 0 where
   pub went_out : AppendsFront m.begun held (converted m.table m.escapes came)
   pub one : failed ≡ next_count m.failed

@@ -56,7 +56,7 @@ AllSpelled all bytes = (k : ℕ) → k < length bytes → 0 < count_of (get_or a
 
 -- ---- what is put into a room
 
--- these bytes stand there behind what stood at its front
+-- these bytes stand there after what stood at its front
 abbrev pub Puts : List ℕ → ℕ → List ℕ → ℕ → List ℕ → Type 0
 Puts old from new end bytes = take end new ≡ take from old ++ bytes
 
@@ -93,7 +93,7 @@ let_go_by (Backspaced b) t = t
 abbrev pub let_go : Told → Told
 let_go t = let_go_by t.reader.half t
 
--- These come of bytes that are whole cells: a byte that is half read behind them is none with what comes.
+-- These come of bytes that are whole cells: a byte that is half read after them is none with what comes.
 pub record Makes (r s : Reader) (bytes out : List ℕ) : Type 0 where
   pub all : let_go (fed r bytes) ≡ told s out 0
   pub rested : rests (fed r bytes).reader ≡ true
@@ -113,9 +113,9 @@ pub record IsFresh (r : Reader) : Type 0 where
   pub half : r.half ≡ Nothing
   pub shut : is_shut r.way ≡ true
 
--- what is half read behind cells: their last byte, if it may still be struck over
-abbrev pub half_behind : Table → List ℕ → Half
-half_behind table bytes =
+-- what is half read after cells: their last byte, if it may still be struck over
+abbrev pub half_after : Table → List ℕ → Half
+half_after table bytes =
     if ((get_or bytes (length bytes - 2) 0 == 8) && nat_lt 1 (length bytes))
     || not (shows table (get_or bytes (length bytes - 1) 0))
     then Nothing else Byte (get_or bytes (length bytes - 1) 0)
@@ -170,7 +170,7 @@ pub record IsChunk (s : Spelling) (r : Reader) (bytes : List ℕ) : Type 0 where
   pub way : (k : ℕ) → k < 32 → get_or bytes k 0 ≡ 8 → r.way ≡ Backspaces
   pub some : AllSpelled s.all (take 32 bytes)
 
--- a front of a chunk that was put up to here: it ends in a whole cell, and what is left of the chunk is taken out
+-- a prefix of a chunk that was put up to here: it ends in a whole cell, and what is left of the chunk is taken out
 pub record Cuts (table : Table) (bytes : List ℕ) (to taken end : ℕ) : Type 0 where
   pub few : taken ≤ 32
   pub last : (k : ℕ) → k + 1 ≡ taken → (get_or bytes k 0 == 8) ≡ false

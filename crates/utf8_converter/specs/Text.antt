@@ -6,7 +6,7 @@ use Rattle.nr_vectors.specs.declared.cell.Look.{Look}
 use Rattle.utf8_characters.specs.OneCell.{is_one_cell}
 use Rattle.utf8_converter.specs.Cells.{closing, is_shown, opening}
 
--- What is written at once: a character; one behind another and a backspace; the escape sequences that begin and end a look.
+-- What is written at once: a character; one after another and a backspace; the escape sequences that begin and end a look.
 pub data Part : Type 0 where
   Printed : ℕ → Part
   Overstruck : ℕ → ℕ → Part

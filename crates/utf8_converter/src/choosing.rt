@@ -18,7 +18,7 @@ pub const CHARACTERS: usize = 10_240;
 /// The acute accent, which a backslash and an apostrophe name.
 const ACUTE: usize = 0xB4;
 
-/// The byte at a place of a page, or 0 behind its end.
+/// The byte at a place of a page, or 0 after its end.
 #[inline]
 fn byte_at(page: &[u8], place: usize) -> u8
     ensures { result ≡ get_or page.now place 0 }
@@ -62,7 +62,7 @@ fn character_named(names: &[Name], first: u8, second: u8) -> usize
     0
 }
 
-/// The character that is named behind a backslash, at a place of a page, or 0.
+/// The character that is named after a backslash, at a place of a page, or 0.
 fn named_at(page: &[u8], place: usize) -> usize
     requires { place ≤ length page.now }
     ensures { result ≡ specs.named_at NAMES page.now place }

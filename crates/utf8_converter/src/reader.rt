@@ -78,7 +78,7 @@ fn is_same(first: Look, second: Look) -> bool
     }
 }
 
-/// How a byte looks that is struck over another, behind a cell that looks so.
+/// How a byte looks that is struck over another, after a cell that looks so.
 pub(crate) fn struck_look(before: Look, over: u8, byte: u8) -> Look
     ensures { result ≡ look_of before (Over over byte) }
 {

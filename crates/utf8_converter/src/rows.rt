@@ -153,11 +153,11 @@ impl Spelling {
         }
     }
 
-    /// What is half read behind these bytes, which are cells: the last, if another may be struck over it.
-    fn half_behind(&self, reader: &Reader, bytes: &[u8]) -> Half
+    /// What is half read after these bytes, which are cells: the last, if another may be struck over it.
+    fn half_after(&self, reader: &Reader, bytes: &[u8]) -> Half
         requires serves { specs.Serves self.now reader.now }
         requires some { 0 < length bytes.now }
-        ensures { result ≡ specs.half_behind reader.now.table bytes.now }
+        ensures { result ≡ specs.half_after reader.now.table bytes.now }
     {
         let last = bytes[bytes.len() - 1];
         let struck = bytes.len() > 1 && bytes[bytes.len() - 2] == b'\x08';
@@ -168,7 +168,7 @@ impl Spelling {
         }
     }
 
-    /// How many bytes go out of what is half read behind cells.
+    /// How many bytes go out of what is half read after cells.
     fn count_half(&self, reader: &Reader, half: Half) -> usize
         requires serves { specs.Serves self.now reader.now }
         ensures { result ≡ length (specs.half_text reader.now.table half) }
@@ -196,7 +196,7 @@ impl Spelling {
             *reader = before;
             return Reached { taken: 0, end: 0 };
         }
-        let half = self.half_behind(reader, &bytes[..reached.taken]);
+        let half = self.half_after(reader, &bytes[..reached.taken]);
         reader.half = half;
         Reached {
             taken: reached.taken,

@@ -23,7 +23,7 @@ const MOST: usize = 1536;
 pub enum Outcome {
     /// All was turned and went out.
     Done,
-    /// The input failed behind so many bytes.
+    /// The input failed after so many bytes.
     ReadFault {
         /// How many.
         at: u64,
@@ -237,7 +237,7 @@ fn run<R: Source, W: Sink>(
 /// at least, holds what goes out; what it held is of no account. Nothing is allocated.
 ///
 /// What goes out is one function of the bytes that came, however they came. At a read fault, and where the input is
-/// too long, it is that of the bytes before, but for a cell that is half read; at a write fault a front of it.
+/// too long, it is that of the bytes before, but for a cell that is half read; at a write fault a prefix of it.
 ///
 /// `strays` is set to the number of bytes that were dropped: control characters but newline, backspaces that strike no byte
 /// over another, and bytes that the table lacks.

@@ -58,7 +58,7 @@ pub(crate) fn are_low(piece: &[u8; 8]) -> bool
     u64::from_le_bytes(*piece) & HIGH == 0
 }
 
-/// Whether a byte may stand between these two: a backspace only in a struck cell, and none two places behind another.
+/// Whether a byte may stand between these two: a backspace only in a struck cell, and none two places after another.
 fn is_shaped(before: u8, byte: u8, behind: u8) -> bool
     ensures { result ≡ specs.is_shaped before byte behind }
 {

@@ -94,7 +94,7 @@ impl<'a, W: Sink> Shown<'a, W> {
         // What it holds says how it was made and what came, and the other sink got what that comes to.
         ensures shown { (m : Making) (came : List ℕ) → self.entry.bytes ≡ made_of m ++ came →
             Finishes m came (W.held result.0) (W.failures result.0).puts result.1 }
-        // Once a put failed, it got a front of what these bytes come to and any that would have followed.
+        // Once a put failed, it got a prefix of what these bytes come to and any that would have followed.
         ensures broke { (m : Making) (came more : List ℕ) → self.entry.bytes ≡ made_of m ++ came →
             self.entry.failures.puts ≢ 0 →
             AppendsFront m.begun (W.held result.0) (converted m.table m.escapes (came ++ more)) }

@@ -28,7 +28,7 @@ pub(crate) struct Turner<'a> {
     ghost counts: { strays < 2 ^ 64 },
 }
 
-/// These bytes go out behind those that wait, or wait with them.
+/// These bytes go out after those that wait, or wait with them.
 fn emit<W: Sink>(bytes: &[u8], out: &mut SliceVec<'_, u8>, output: &mut W) -> Result<(), Fault>
     ensures ok { OnOk result (Flushes (W.held output.old) (W.held output.new) (out.old.items ++ bytes.now)
         out.new.items) }

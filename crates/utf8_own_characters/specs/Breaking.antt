@@ -12,7 +12,7 @@ opens class.PrefixNumeric = true
 opens class.Quotation = true
 opens _ = false
 
--- brackets that close, stops, small kana, marks of repetition and of length, signs behind numbers
+-- brackets that close, stops, small kana, marks of repetition and of length, signs after numbers
 abbrev pub closes : LineBreak → Bool
 closes class.ClosePunctuation = true
 closes class.CloseParenthesis = true

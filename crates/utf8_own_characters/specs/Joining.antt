@@ -7,7 +7,7 @@ use Rattle.utf8_own_characters.specs.declared.joining.Heard.{Heard}
 use Rattle.utf8_own_characters.specs.Cluster.{single, blank, is_mark}
 use Rattle.utf8_own_characters.specs.Reading.{list_of}
 
--- a mark behind others, as far as there is room
+-- a mark after others, as far as there is room
 abbrev pub marked : Cluster → ℕ → Cluster
 marked c m =
     if c.first_mark == 0 then record c { first_mark = m }

@@ -5,7 +5,7 @@ use Rattle.utf8_own_characters.specs.Cluster.{columns}
 use Rattle.utf8_own_characters.specs.Table.{Characters, Good, bytes, covers, is_lead, is_trail}
 use Rattle.utf8_own_characters.specs.Reading.{decode}
 
--- the bytes of clusters are read back as these clusters, whatever comes behind
+-- the bytes of clusters are read back as these clusters, whatever comes after
 abbrev pub Inverse : Type 0
 Inverse = (t : Characters) (cs : List Cluster) (rest : List ℕ) → Good t → covers t cs ≡ true
     → decode t (flat_map (bytes t) cs ++ rest) ≡ cs ++ decode t rest

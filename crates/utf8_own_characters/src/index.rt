@@ -21,7 +21,7 @@ pub(crate) fn slot_of(cluster: &Cluster, slots: usize) -> usize
     (mixed / 65_536) as usize % slots
 }
 
-/// The slot behind one.
+/// The slot after one.
 pub(crate) fn next(slot: usize, slots: usize) -> usize
     requires { slot < slots }
     ensures { result < slots }

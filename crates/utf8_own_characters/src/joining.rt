@@ -15,7 +15,7 @@ pub struct Heard {
     pub held: Option<Cluster>,
 }
 
-/// A mark behind others. A fourth one is dropped.
+/// A mark after others. A fourth one is dropped.
 fn marked(cluster: Cluster, mark: char) -> Cluster
     ensures { result ≡ specs.marked cluster mark }
 {

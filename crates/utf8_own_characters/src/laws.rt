@@ -3,9 +3,9 @@ ghost use Rattle.utf8_own_characters.specs.Choosing.{ChoiceIsGood, NoneIsLost, A
 ghost use Rattle.utf8_own_characters.specs.Fixed.{SameBytes, SameCharacters};
 ghost use Rattle.utf8_own_characters.specs.Laws.{Inverse, InverseWhole, OneWay, ColumnsAreBytes, ColumnsStay, HalvesAreApart};
 
-/// The bytes of clusters that have a code are read back as these clusters, also where other bytes come behind.
+/// The bytes of clusters that have a code are read back as these clusters, also where other bytes come after.
 ///
-/// Proved: The bytes of clusters that have a code are read back as these clusters, whatever comes behind, and no two
+/// Proved: The bytes of clusters that have a code are read back as these clusters, whatever comes after, and no two
 /// texts have the same bytes. (`bytes_are_read_back`, `rows_are_read_in_one_way`)
 pub fn bytes_are_read_back()
     ensures behind { Inverse }

@@ -76,15 +76,15 @@ abbrev pub breaks_idly : Formatter → Bool
 breaks_idly f = begins_line (collected f) && not (begins_first_page (thens.Act f.reader.request) f)
 
 -- its line was heard, and the break is done if it has one
-abbrev pub behind_break : Formatter → Formatter
-behind_break f =
+abbrev pub after_break : Formatter → Formatter
+after_break f =
     if breaks_first f
     then break_done (thens.Act f.reader.request) (heard_for (tasks.Break (thens.Act f.reader.request)) f)
     else heard_for (tasks.Act f.reader.request) f
 
 -- and it took effect; space that it asks for is still to be made
 abbrev pub acted : Formatter → Formatter
-acted f = act f.reader.request (behind_break f)
+acted f = act f.reader.request (after_break f)
 
 -- space is to be made, and there is none or the open page has room
 abbrev pub may_space : Task → Formatter → Bool
@@ -96,8 +96,8 @@ space_made (tasks.Space n) f = if is_spaceless n f then to_read f else spaced n 
 space_made t f = f
 
 -- after such space; any other is not made yet
-abbrev pub behind_space : Formatter → Formatter
-behind_space f = if may_space f.task f then space_made f.task f else f
+abbrev pub after_space : Formatter → Formatter
+after_space f = if may_space f.task f then space_made f.task f else f
 
 -- how many moves that is
 abbrev pub moves_spacing : Formatter → ℕ
@@ -107,11 +107,11 @@ moves_spacing f = if may_space f.task f then 1 else 0
 abbrev pub may_obey : Formatter → Bool
 may_obey f =
     is_none f.springs
-    && (may_act f.reader.request (behind_break f) && (not (breaks_first f) || breaks_idly f))
+    && (may_act f.reader.request (after_break f) && (not (breaks_first f) || breaks_idly f))
 
 -- after such a request; any other is not obeyed yet
 abbrev pub obeyed : Formatter → Formatter
-obeyed f = if may_obey f then behind_space (acted f) else f
+obeyed f = if may_obey f then after_space (acted f) else f
 
 -- how many moves that is
 abbrev pub moves_obeying : Formatter → ℕ

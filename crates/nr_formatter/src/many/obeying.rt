@@ -1,6 +1,6 @@
 //! Requests that only set or make space, acted on as soon as their line was read: many moves at once.
 ghost use Rattle.std.specs.Prelude.{◌≡◌, ◌≤◌, true, false};
-ghost use Rattle.nr_formatter.specs.Many.Obeying.{sets_or_spaces, is_nr, breaks_first, breaks_idly, behind_space, moves_spacing, may_obey, obeyed, moves_obeying};
+ghost use Rattle.nr_formatter.specs.Many.Obeying.{sets_or_spaces, is_nr, breaks_first, breaks_idly, after_space, moves_spacing, may_obey, obeyed, moves_obeying};
 ghost use Rattle.nr_formatter.specs.Requests.{act};
 
 use crate::formatter::Formatter;
@@ -59,7 +59,7 @@ impl Formatter {
     #[inline(always)]
     fn make_space(&mut self) -> u32
         ensures moves { result ≡ moves_spacing self.old }
-        ensures is { self.new ≡ behind_space self.old }
+        ensures is { self.new ≡ after_space self.old }
         ensures few { result ≤ 1 }
     {
         let Task::Space(distance) = self.task else {
@@ -82,7 +82,7 @@ impl Formatter {
     fn set_or_space(&mut self, request: Request) -> u32
         requires { sets_or_spaces request ≡ true }
         ensures moves { result ≡ moves_spacing (act request self.old) }
-        ensures is { self.new ≡ behind_space (act request self.old) }
+        ensures is { self.new ≡ after_space (act request self.old) }
         ensures few { result ≤ 1 }
     {
         match request {

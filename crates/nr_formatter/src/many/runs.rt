@@ -117,7 +117,7 @@ impl Formatter {
             return Gap::Left;
         }
         self.line.widen_gap();
-        self.flow_behind()
+        self.flow_after()
     }
 
     /// Reads the newline that ends a text line, where it does nothing but end the word and widen the gap, and passes no limit.
@@ -173,7 +173,7 @@ impl Formatter {
         if run.ended {
             return WordPut {
                 count,
-                gap: self.flow_behind(),
+                gap: self.flow_after(),
             };
         }
         let gap = if count < bytes.len() && bytes[count] == b' ' {
@@ -186,7 +186,7 @@ impl Formatter {
 
     /// After a word: full lines go out next where the pieces do not fit the line.
     #[inline]
-    fn flow_behind(&mut self) -> Gap
+    fn flow_after(&mut self) -> Gap
         ensures { BehindWord self.old result self.new }
     {
         if self.line.fits() {

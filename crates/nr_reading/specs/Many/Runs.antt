@@ -23,13 +23,13 @@ abbrev pub one_if : Bool → ℕ
 one_if true = 1
 one_if false = 0
 
-abbrev pub behind_met : Met → ℕ → Spot
-behind_met m taken = record { taken = taken + one_if m.takes; half = m.half; event = m.event }
+abbrev pub after_met : Met → ℕ → Spot
+after_met m taken = record { taken = taken + one_if m.takes; half = m.half; event = m.event }
 
 -- the item in front, if there is one, has met what is half read
 abbrev pub behind : Option Front → Spot → Spot
 behind None p = p
-behind (Some f) p = behind_met (meet f p.half) p.taken
+behind (Some f) p = after_met (meet f p.half) p.taken
 
 -- after n moves
 abbrev pub spot_after : ℕ → List Front → Half → Spot

@@ -1,7 +1,7 @@
 //! The line of a request, met at once.
 ghost use Rattle.std.specs.Prelude.{◌≡◌, ◌<◌, ◌≤◌, All, length, map, take, slice_index, true, false};
 ghost use Rattle.nr_reading.specs.declared.front.Front.TheVariants as variants;
-ghost use Rattle.nr_reading.specs.Many.RequestLines.{behind_request_line};
+ghost use Rattle.nr_reading.specs.Many.RequestLines.{after_request_line};
 ghost use Rattle.nr_reading.specs.Many.Runs.{HasMet, spot};
 ghost use Rattle.nr_reading.specs.Spelled.{is_blank};
 
@@ -36,7 +36,7 @@ impl Half {
     // The line has ended.
     #[inline(always)]
     fn end_request_line(&mut self, line: &[u8])
-        ensures { self.new ≡ behind_request_line line.now self.old }
+        ensures { self.new ≡ after_request_line line.now self.old }
     {
         self.notes.line.set(line);
         self.reading.mode = Mode::Start;

@@ -119,8 +119,8 @@ pub fn format(limits: &Limits, first: i64, bold: bool, text: &[u8]) -> Result<Ma
         .map(plain)
 }
 
-/// Turns bytes of a table into its characters, in UTF-8, behind [`format()`]. With `escapes` underlined text stands between the
-/// terminal's escape sequences, and else behind `_` and a backspace. Whatever comes, no other control character goes out but
+/// Turns bytes of a table into its characters, in UTF-8, after [`format()`]. With `escapes` underlined text stands between the
+/// terminal's escape sequences, and else after `_` and a backspace. Whatever comes, no other control character goes out but
 /// newline.
 ///
 /// # Errors

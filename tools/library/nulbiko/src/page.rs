@@ -11,7 +11,7 @@ pub const MAN: &[u8] = include_bytes!("../../../tmac/tmac.an");
 pub const WIDTHS: RangeInclusive<usize> = 10..=1000;
 
 /// Formats a manual page, of man(7) or mdoc(7), as one long page of this width, to UTF-8, under [`Limits::OF_STRANGERS`].
-/// Underlined characters stand behind `_` and a backspace.
+/// Underlined characters stand after `_` and a backspace.
 ///
 /// # Errors
 ///

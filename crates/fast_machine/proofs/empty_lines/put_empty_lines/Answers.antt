@@ -1,7 +1,7 @@
 use Rattle.std.proofs.lemmas.Grind.{common_steps}
 use Prim.Native.Char.{code}
 use Rattle.std.proofs.Common.{◌≡◌, ◌+◌, ◌*◌, ◌<◌, ◌≤◌, refl, ap, ◌∙◌, subst, sym, arith}
-use Rattle.fast_input.specs.AtHand.{behind_last}
+use Rattle.fast_input.specs.AtHand.{after_last}
 use Rattle.nr_input.specs.Place.{HoldsComing}
 use Rattle.nr_formatter.specs.Many.EmptyLines.{gone_down, lines_below}
 use Rattle.nr_formatter.proofs.EmptyLines.{lines_gone, room_below}
@@ -40,7 +40,7 @@ returns-clause-reads g c =
       makes = rw (taken.reader, taken.place, is)
           (subst (λ k. Makes k e (lines_shape n (down_shape e)) old new) moves
           (makes_more n e old new c.requires.empty some (room_below (1 + n) f (omega arith) fits) (c.newlines_next-count.ensures.next.next some)
-          (λ k h. subst (λ q. HoldsComing (behind_last (code "\n") n k) q new) taken.place (taken.coming k h))));
+          (λ k h. subst (λ q. HoldsComing (after_last (code "\n") n k) q new) taken.place (taken.coming k h))));
       failures = taken.failures;
       unfailed = λ u. rw taken.place refl;
     }

@@ -35,5 +35,5 @@ returns-clause-reads g c =
 
 pub returns-then-text-gt0-clause-reads : goal.returns-then-text-gt0-clause-reads
 returns-then-text-gt0-clause-reads g c =
-    reading-add c.put_text-text.result c.read_behind.result (shape c.args.engine.now) (shape c.put_text-text.new.engine) (shape c.read_behind.new.engine)
-    _ _ _ _ _ _ c.put_text-text.ensures.reads c.read_behind.ensures.reads
+    reading-add c.put_text-text.result c.read_after.result (shape c.args.engine.now) (shape c.put_text-text.new.engine) (shape c.read_after.new.engine)
+    _ _ _ _ _ _ c.put_text-text.ensures.reads c.read_after.ensures.reads

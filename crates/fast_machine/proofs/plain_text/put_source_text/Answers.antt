@@ -1,6 +1,6 @@
 use Rattle.std.proofs.Common.{◌≡◌, ◌+◌, ◌-◌, ◌<◌, length, refl, sym, ap, ◌∙◌, subst, arith}
 use Rattle.std.specs.Prelude.{slice_index}
-use Rattle.fast_input.specs.AtHand.{behind_last}
+use Rattle.fast_input.specs.AtHand.{after_last}
 use Rattle.nr_input.specs.Place.{HoldsComing}
 use Rattle.nr_fill.specs.Piece.{text_cells}
 use Rattle.nr_formatter.specs.Access.{collected}
@@ -32,7 +32,7 @@ returns-clause-reads g c =
     record {
       makes = rw (taken.reader, taken.place) (makes_taken words.taken words.moves c.front_at_hand-bytes.result.now (shape c.args.engine.now) (g.R.Source.supply c.args.input.now) new
           c.put_words-words.new.formatter c.put_words-words.ensures.puts (some g h) (has g h)
-          (λ k q. subst (λ p. HoldsComing (behind_last (slice_index c.front_at_hand-bytes.result.now (words.taken - 1)) words.taken k) p new) taken.place (taken.coming k q)));
+          (λ k q. subst (λ p. HoldsComing (after_last (slice_index c.front_at_hand-bytes.result.now (words.taken - 1)) words.taken k) p new) taken.place (taken.coming k q)));
       failures = taken.failures;
       unfailed = λ u. rw taken.place refl;
     }

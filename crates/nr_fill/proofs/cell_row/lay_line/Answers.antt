@@ -11,11 +11,11 @@ add_front-requires-clause-room g c = grind (arith, common_steps)
 pub loop-slot-init : goal.loop-slot-init
 loop-slot-init g c = grind (arith, common_steps)
 
-pub add_behind_copies-requires-clause-front : goal.add_behind_copies-requires-clause-front
-add_behind_copies-requires-clause-front g c = grind (arith, common_steps)
+pub add_after_copies-requires-clause-front : goal.add_after_copies-requires-clause-front
+add_after_copies-requires-clause-front g c = grind (arith, common_steps)
 
-pub add_behind_copies-requires-clause-room : goal.add_behind_copies-requires-clause-room
-add_behind_copies-requires-clause-room g c = grind (arith, common_steps)
+pub add_after_copies-requires-clause-room : goal.add_after_copies-requires-clause-room
+add_after_copies-requires-clause-room g c = grind (arith, common_steps)
 
 pub loop-slot-preserved : goal.loop-slot-preserved
 loop-slot-preserved g c = grind (arith, common_steps)

@@ -66,7 +66,7 @@ loop-slot-preserved g c =
     let piece = take slot.len (drop loop.taken cells) in
     let set_piece = take ((loop.taken + slot.len) - loop.taken) (drop loop.taken cells) in
     record {
-      gap = omega (arith, c.gap_behind-gap.ensures.near);
+      gap = omega (arith, c.gap_after-gap.ensures.near);
       taken = omega arith;
       set =
           let old = loop.invariant.set in
@@ -77,7 +77,7 @@ loop-slot-preserved g c =
           ap (λ n. (old.0 ++ replicate n blank) ++ set_piece) c.blanks_of-blanks.ensures ∙ ap (λ n. (old.0 ++ blanks) ++ take n (drop loop.taken cells)) part ∙ append_assoc old.0 blanks piece in (
             old.0 ++ (blanks ++ piece),
             subst (λ zs. g.S.CellSink.Adds c.args.out.now zs c.extend-in-loop-slot.new.self) same longer,
-            rw c.gap_behind-gap.ensures.next (set_more x loop.gap others i blank_slot cells loop.taken old.0 (cells_in_line x (pieces_of slots cells)) c.loop-slot-test.true old.2),
+            rw c.gap_after-gap.ensures.next (set_more x loop.gap others i blank_slot cells loop.taken old.0 (cells_in_line x (pieces_of slots cells)) c.loop-slot-test.true old.2),
             subst (λ zs. IsExtent zs c.with_cells-extent-in-loop-slot.result.count c.with_cells-extent-in-loop-slot.result.written) same extent,
           );
     }

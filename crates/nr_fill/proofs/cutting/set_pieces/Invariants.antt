@@ -2,7 +2,7 @@ use Rattle.std.proofs.Common.{◌≡◌, ◌+◌, ◌≤◌, List, ◌++◌, dro
 use Rattle.nr_vectors.specs.declared.cell.Cell.{Cell}
 use Rattle.nr_fill.specs.Extents.{IsExtent}
 use Rattle.nr_fill.specs.Slots.{pieces_of, cells_in_slots}
-use Rattle.nr_fill.specs.Spreading.{cells_behind, cells_in_line}
+use Rattle.nr_fill.specs.Spreading.{cells_after, cells_in_line}
 use Rattle.nr_fill.proofs.cutting.set_pieces.Given as goal
 
 abbrev pub invariant-loop-slot : goal.invariant-loop-slot
@@ -10,6 +10,6 @@ invariant-loop-slot g l = record {
   gap : l.gap ≤ l.slot-index + 1;
   taken : l.taken + cells_in_slots (drop l.slot-index l.others) ≡ cells_in_slots l.slots;
   set : (done : List Cell) × g.S.CellSink.Adds l.fn.out done l.out
-      × (done ++ cells_behind l.extra l.gap (pieces_of (drop l.slot-index l.others) (drop l.taken l.cells)) ≡ cells_in_line l.extra (pieces_of l.slots l.cells))
+      × (done ++ cells_after l.extra l.gap (pieces_of (drop l.slot-index l.others) (drop l.taken l.cells)) ≡ cells_in_line l.extra (pieces_of l.slots l.cells))
       × IsExtent done l.extent.count l.extent.written;
 }

@@ -20,9 +20,9 @@ pub returns-clause-pays : goal.returns-clause-pays
 returns-clause-pays g c =
     let seen = c.meet-seen.result in
     let q = c.look.new.self in
-    look_takes c.args.store.now c.take-sight.new.store c.args.place.now q c.take-sight.new.self c.args.reader.now c.in_ok-front.front c.meet-seen.new.self seen c.burst_behind-reader.result (told_as c.take-sight.new.mode c.heard_of.result)
+    look_takes c.args.store.now c.take-sight.new.store c.args.place.now q c.take-sight.new.self c.args.reader.now c.in_ok-front.front c.meet-seen.new.self seen c.burst_after-reader.result (told_as c.take-sight.new.mode c.heard_of.result)
     c.requires c.look.ensures.stays c.in_ok-front.ensures.front c.meet-seen.ensures.pays (not-false seen.takes c.if-not-seen.false) c.take-sight.ensures.store c.take-sight.ensures.place
-    (c.burst_behind-reader.ensures ∙ ap₂ (λ (a b : ℕ). burst_past a b c.args.reader.now.burst) c.taken-before.ensures.value c.taken.ensures.value)
+    (c.burst_after-reader.ensures ∙ ap₂ (λ (a b : ℕ). burst_past a b c.args.reader.now.burst) c.taken-before.ensures.value c.taken.ensures.value)
     (ap (told_as c.take-sight.new.mode) c.heard_of.ensures ∙ heard_is c.take-sight.result c.take-sight.new.mode seen.event ∙ ap (λ (s : Shown g.row.K.Denot). told_of s seen.event) c.take-sight.ensures.was)
 
 pub returns-clause-moved : goal.returns-clause-moved
@@ -34,9 +34,9 @@ returns-clause-moved g c = λ coming holds.
     let looked = c.in_ok-front.ensures.looks coming holds in
     let takes = not-false seen.takes c.if-not-seen.false in
     let meets : record { half = k; event = seen.event; takes = true } ≡ meet c.in_ok-front.front r.half = ap (λ (b : Bool). record { half = k; event = seen.event; takes = b }) (sym takes) ∙ c.meet-seen.ensures.meets in
-    taken_moves v r coming k seen.event c.look.new.self c.take-sight.new.self c.in_ok-front.front c.take-sight.new.store _ c.burst_behind-reader.result _ _ c.requires
+    taken_moves v r coming k seen.event c.look.new.self c.take-sight.new.self c.in_ok-front.front c.take-sight.new.store _ c.burst_after-reader.result _ _ c.requires
     looked.0 looked.1 looked.2 meets c.take-sight.ensures.store (c.take-sight.ensures.takes coming _ looked.1)
-    (c.burst_behind-reader.ensures ∙ ap₂ (λ (a b : ℕ). burst_past a b r.burst) c.taken-before.ensures.value c.taken.ensures.value)
+    (c.burst_after-reader.ensures ∙ ap₂ (λ (a b : ℕ). burst_past a b r.burst) c.taken-before.ensures.value c.taken.ensures.value)
     (ap (told_as c.take-sight.new.mode) c.heard_of.ensures ∙ heard_is c.take-sight.result c.take-sight.new.mode seen.event ∙ ap (λ (s : Shown g.row.K.Denot). told_of s seen.event) c.take-sight.ensures.was)
 
 pub returns-clause-limits : goal.returns-clause-limits

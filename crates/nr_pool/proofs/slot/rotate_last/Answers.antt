@@ -13,15 +13,15 @@ returns-then-len-eq0-clause-same g c = emptied c.args.elements.now c.args.slots.
 
 pub returns-clause-packed : goal.returns-clause-packed
 returns-clause-packed g c =
-    (brought_last _ _ _ _ _ _ _ _ _ _ c.requires.packed c.requires.within c.requires.held refl refl (omega arith) refl c.rotate.ensures.after c.shift_behind.ensures refl).packed
+    (brought_last _ _ _ _ _ _ _ _ _ _ c.requires.packed c.requires.within c.requires.held refl refl (omega arith) refl c.rotate.ensures.after c.shift_after.ensures refl).packed
 
 pub returns-clause-same : goal.returns-clause-same
 returns-clause-same g c =
-    (brought_last _ _ _ _ _ _ _ _ _ _ c.requires.packed c.requires.within c.requires.held refl refl (omega arith) refl c.rotate.ensures.after c.shift_behind.ensures refl).same
+    (brought_last _ _ _ _ _ _ _ _ _ _ c.requires.packed c.requires.within c.requires.held refl refl (omega arith) refl c.rotate.ensures.after c.shift_after.ensures refl).same
 
 pub returns-clause-spares : goal.returns-clause-spares
 returns-clause-spares g c =
-    (brought_last _ _ _ _ _ _ _ _ _ _ c.requires.packed c.requires.within c.requires.held refl refl (omega arith) refl c.rotate.ensures.after c.shift_behind.ensures refl).spares
+    (brought_last _ _ _ _ _ _ _ _ _ _ c.requires.packed c.requires.within c.requires.held refl refl (omega arith) refl c.rotate.ensures.after c.shift_after.ensures refl).spares
 
 pub returns-then-len-eq0-clause-packed : goal.returns-then-len-eq0-clause-packed
 returns-then-len-eq0-clause-packed g c = grind (arith, common_steps)

@@ -17,8 +17,8 @@ use Rattle.nr_fill.proofs.line.Line.join_word.Goals as goal
 pub invariant_of-self-then-matches : goal.invariant_of-self-then-matches
 invariant_of-self-then-matches c = let h = rw c.in-Some.is at (is_line_untitled c.self.invariant) in rw c.clear_title.ensures h
 
-pub open_behind-requires-clause-cells : goal.open_behind-requires-clause-cells
-open_behind-requires-clause-cells c =
+pub open_after-requires-clause-cells : goal.open_after-requires-clause-cells
+open_after-requires-clause-cells c =
     let h = rw c.in-Some.is at c.self.invariant in
     let iw = the_word h in
     rw c.clear_title.ensures (sym iw.parted_is)
@@ -45,7 +45,7 @@ invariant_of-self-2 c =
       join_within = rw join_is within;
       needed = omega (arith, length-append (flat_map (λ (p : Piece). p.cells) (drop s.pieces ps)) s.row.last);
     } in
-    rw (c.open_behind.ensures, c.clear_title.ensures) (is_line_opened_behind v s.pieces h (omega arith) h.pieces_within hw)
+    rw (c.open_after.ensures, c.clear_title.ensures) (is_line_opened_behind v s.pieces h (omega arith) h.pieces_within hw)
 
 pub returns : goal.returns
 returns c = grind (arith, common_steps)

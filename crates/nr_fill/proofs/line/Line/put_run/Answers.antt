@@ -5,7 +5,7 @@ use Rattle.std.proofs.lemmas.List.{get_or-take, length-take, length-take-le, tak
 use Rattle.nr_fill.specs.Line.{Lined}
 use Rattle.nr_fill.specs.Piece.{Collected, ended, ends_sentence, in_word, line_cells, text_cells, with_word}
 use Rattle.nr_fill.specs.Plain.{run_cell}
-use Rattle.nr_fill.specs.Runs.{run_behind}
+use Rattle.nr_fill.specs.Runs.{run_after}
 use Rattle.nr_fill.proofs.Measures.{measured_run}
 use Rattle.nr_fill.proofs.RunLemmas.{add_run-run}
 use Rattle.nr_fill.proofs.line.Line.put_run.Goals as goal
@@ -28,9 +28,9 @@ returns-clause-cells c =
     let last_is : get_or (take m bytes) (count - 1) 0 ≡ get_or run (length run - 1) 0 =
     get_or-take m bytes (count - 1) 0 (omega arith) ∙ sym (get_or-take count bytes (count - 1) 0 (omega arith)) ∙ ap (λ k. get_or run k 0) size in
     c.push_plain.ensures.cells
-    ∙ ap (λ (v : Lined). record v { collected = record (in_word (run_behind look (take count (take m bytes))) v.collected) { sentence = ends_sentence (run_cell look (get_or (take m bytes) (count - 1) 0)) } })
+    ∙ ap (λ (v : Lined). record v { collected = record (in_word (run_after look (take count (take m bytes))) v.collected) { sentence = ends_sentence (run_cell look (get_or (take m bytes) (count - 1) 0)) } })
     (c.end_piece.ensures ∙ ap (λ (v : Lined). record v { collected = in_word ended v.collected }) c.open_word.ensures.opened)
-    ∙ ap₂ (λ (zs : List ℕ) (b : ℕ). record now { collected = record (in_word (run_behind look zs) (in_word ended (with_word margins now.collected))) { sentence = ends_sentence (run_cell look b) } }) run_is last_is
+    ∙ ap₂ (λ (zs : List ℕ) (b : ℕ). record now { collected = record (in_word (run_after look zs) (in_word ended (with_word margins now.collected))) { sentence = ends_sentence (run_cell look b) } }) run_is last_is
     ∙ ap (λ (k : Collected). record now { collected = k }) (sym (add_run-run margins look run now.collected (omega arith)))
 
 pub returns-clause-within : goal.returns-clause-within

@@ -37,7 +37,7 @@ returns c =
     let nil = is_nil_left c.args.n s.pieces s.row.pieces within low in
     let none = none_of s.word c.is_none.result c.is_none.ensures in
     let wordless = is_none_word s.word (drop s.pieces s.row.pieces) s.row.last in
-    rw (c.remove_front.ensures, c.behind-self-inside.ensures, c.margins_behind-self-inside.ensures, none, behind.0, behind.1, ← c.self.view_is, nil, wordless) refl
+    rw (c.remove_front.ensures, c.behind-self-inside.ensures, c.margins_after-self-inside.ensures, none, behind.0, behind.1, ← c.self.view_is, nil, wordless) refl
 
 pub remove_front-requires-clause-cells : goal.remove_front-requires-clause-cells
 remove_front-requires-clause-cells c = grind (arith, common_steps)

@@ -4,8 +4,8 @@ use Rattle.nr_fill.specs.Piece.{Piece}
 use Rattle.std.proofs.lemmas.List.Sums.{sum_by-take-drop}
 use Rattle.nr_fill.proofs.line.Line.word_cells.Goals as goal
 
-pub cells_behind-requires : goal.cells_behind-requires
-cells_behind-requires c =
+pub cells_after-requires : goal.cells_after-requires
+cells_after-requires c =
     let h = rw c.in-Some.is at c.self.invariant in
     let iw = the_word h in
     let parts = sum_by-take-drop (λ (p : Piece). length p.cells) c.self.inside.row.pieces c.self.inside.pieces in
@@ -15,4 +15,4 @@ pub returns-in-Some : goal.returns-in-Some
 returns-in-Some c =
     let h = rw c.in-Some.is at c.self.invariant in
     let iw = the_word h in
-    c.cells_behind.ensures c.self.inside.pieces iw.parted_is ∙ rw (← c.self.view_is, c.in-Some.is) refl
+    c.cells_after.ensures c.self.inside.pieces iw.parted_is ∙ rw (← c.self.view_is, c.in-Some.is) refl

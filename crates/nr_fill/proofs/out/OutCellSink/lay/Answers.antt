@@ -2,7 +2,7 @@ use Rattle.std.proofs.Common.{◌≡◌, ◌+◌, ◌-◌, ◌≤◌, ◌++◌, 
 use Rattle.std.proofs.lemmas.Grind.{common_steps}
 use Rattle.std.proofs.Math.Seq.{drop-append_seam}
 use Rattle.std.proofs.lemmas.List.{take_rest}
-use Rattle.nr_fill.specs.Extents.{IsExtent, written_behind}
+use Rattle.nr_fill.specs.Extents.{IsExtent, written_after}
 use Rattle.nr_fill.specs.CellRow.{Row, row_of}
 use Rattle.nr_fill.specs.Slots.{pieces_of}
 use Rattle.nr_fill.specs.Spreading.{cells_in_line}
@@ -30,7 +30,7 @@ returns c =
             let room_is : c.lay_line.new.row.capacity ≡ room = c.lay_line.ensures.room ∙ ap (λ (v : Row). v.capacity) e in
             let own : c.self.inside.cells.capacity ≡ room = ap (λ (v : Row). v.capacity) e in
             same_row c.lay_line.ensures.items (ap (λ k. k + n) c.len-start.ensures.value)
-            (c.written_behind-self-inside.ensures ∙ ap (λ k. written_behind c.self.inside.written k w) c.len-start.ensures.value) room_is
+            (c.written_after-self-inside.ensures ∙ ap (λ k. written_after c.self.inside.written k w) c.len-start.ensures.value) room_is
             ∙ row_laid cells line n w (ap (λ (v : Row). v.kept) e) (ap (λ (v : Row). v.count) e) (ap (λ (v : Row). v.written) e) (omega (arith, c.self.invariant)) (omega (arith, c.if-self-start.false, c.len-start.ensures.value))
             (omega (arith, c.requires.most, c.if-most-capacity.false, c.capacity.ensures.value, c.len-start.ensures.value)) extent.0 extent.1
             ∙ ap (λ k. row_of k (cells ++ line)) (sym room_is),

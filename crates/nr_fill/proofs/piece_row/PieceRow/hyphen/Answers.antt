@@ -3,7 +3,7 @@ use Rattle.std.proofs.lemmas.List.{get_or-take, length-take-le}
 use Rattle.nr_fill.specs.declared.piece.PieceSlot.{PieceSlot}
 use Rattle.nr_fill.specs.Cutting.{hyphen_before, hyphen_width}
 use Rattle.nr_fill.specs.Slots.{blank_slot}
-use Rattle.nr_fill.proofs.LongestFront.{hyphen_at}
+use Rattle.nr_fill.proofs.LongestPrefix.{hyphen_at}
 use Rattle.nr_fill.proofs.Laying.{slots_are, front_is}
 use Rattle.nr_fill.proofs.piece_row.PieceRow.hyphen.Goals as goal
 

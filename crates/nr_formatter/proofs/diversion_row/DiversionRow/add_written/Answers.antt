@@ -19,8 +19,8 @@ returns-in-Ok-clause-adds c =
     let old = c.args.self.now in
     let cells = c.args.cells.now in
     let held = subst (λ (r : Bool). HoldsRow before row old.store.now old.blanks r) c.if-self.false h in
-    subst (λ (r : Bool). HoldsRow before (row ++ cells) c.add_behind.new.store 0 r) (sym c.if-self.false)
-    (holds_some cells c.requires held c.add_behind.new.store c.in-Ok.ensures.ok c.in-Ok.ensures.small)
+    subst (λ (r : Bool). HoldsRow before (row ++ cells) c.add_after.new.store 0 r) (sym c.if-self.false)
+    (holds_some cells c.requires held c.add_after.new.store c.in-Ok.ensures.ok c.in-Ok.ensures.small)
 
 pub returns-in-Err-clause-adds : goal.returns-in-Err-clause-adds
 returns-in-Err-clause-adds c =
@@ -29,4 +29,4 @@ returns-in-Err-clause-adds c =
     let cells = c.args.cells.now in
     let held = subst (λ (r : Bool). HoldsRow before row old.store.now old.blanks r) c.if-self.false h in
     let more = with_cells (replicate old.blanks blank ++ cells) old.store.now in
-    holds_no_more cells c.requires held c.add_behind.new.store old.blanks c.add_behind.ensures.limits (refused_by more (charge_of more) c.in-Err.field-0 c.in-Err.ensures.result)
+    holds_no_more cells c.requires held c.add_after.new.store old.blanks c.add_after.ensures.limits (refused_by more (charge_of more) c.in-Err.field-0 c.in-Err.ensures.result)

@@ -2,7 +2,7 @@ use Rattle.std.proofs.Common.{◌≡◌, ◌+◌, ◌-◌, ◌≤◌, length, re
 use Rattle.std.proofs.lemmas.Bool.{false≢true}
 use Rattle.std.proofs.lemmas.Option.{slice_get_past}
 use Rattle.nr_reading.specs.declared.event.Event.TheVariants as events
-use Rattle.nr_reading.proofs.Rows.{leads_behind, leads_met}
+use Rattle.nr_reading.proofs.Rows.{leads_after, leads_met}
 use Rattle.nr_reading.proofs.half.Half.meet_more.Goals as goal
 use Rattle.nr_reading.proofs.half.Half.meet_more.Goals.{in-Nothing, in_default-matches, in-Look, in_default-matches-2}
 
@@ -16,7 +16,7 @@ loop-taken-preserved g c =
     i.leads (c.in_default-meet_whole.ensures.left refl) (omega arith) i.due c.in-Some.ensures.value c.meet_byte-seen.ensures.meets c.from.ensures silent in
     record {
       leads =
-          leads_behind fs c.args.from c.args.made at (c.loop-taken.moves + 1) c.pass_comment-end.result (c.loop-taken.moves + 1 + (c.pass_comment-end.result - at)) c.args.self.now c.meet_byte-seen.new.self c.meet_byte-seen.new.self
+          leads_after fs c.args.from c.args.made at (c.loop-taken.moves + 1) c.pass_comment-end.result (c.loop-taken.moves + 1 + (c.pass_comment-end.result - at)) c.args.self.now c.meet_byte-seen.new.self c.meet_byte-seen.new.self
           met (c.pass_comment-end.ensures.leads (c.loop-taken.moves + 1));
       due = elim c.match-matches-2.branch [ in-Look b ↦ b.in-Look.is | in_default-matches-2 b ↦ absurd (false≢true (sym b.matches-is ∙ c.if-not-matches-2.false)) ];
       few = omega arith;

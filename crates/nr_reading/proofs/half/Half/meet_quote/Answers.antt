@@ -4,7 +4,7 @@ use Rattle.std.proofs.lemmas.Bool.{ne_eqb}
 use Rattle.nr_reading.specs.declared.event.Event.TheVariants as events
 use Rattle.nr_reading.specs.declared.mode.Due.TheVariants as dues
 use Rattle.nr_reading.specs.declared.mode.Mode.TheVariants as modes
-use Rattle.nr_reading.proofs.ArgumentRows.{with_due, meet-behind_quote}
+use Rattle.nr_reading.proofs.ArgumentRows.{with_due, meet-after_quote}
 use Rattle.nr_reading.proofs.Rows.{stays, left_last, looks}
 use Rattle.nr_reading.proofs.half.Half.meet_quote.Goals as goal
 
@@ -13,4 +13,4 @@ returns g c =
     let fs = g.I.Items.fronts c.args.items.now in
     let h = c.args.self.now in
     left_last fs c.args.from c.args.made c.args.from c.args.made c.in-Some.byte h h (with_due modes.MacroGap dues.EndArgument h) events.Nothing (stays fs c.args.from c.args.made h) c.in-Some.ensures.within (looks h c.requires.next) c.in-Some.ensures.value
-    (meet-behind_quote c.in-Some.byte h c.requires.mode c.requires.next (ne_eqb c.in-Some.byte (code "\\") c.if-byte-eq92.false) (ne_eqb c.in-Some.byte (code "\"") c.if-byte-eq34.false)) (omega arith) (λ silent due. let wrong : ⊥ = cc in wrong)
+    (meet-after_quote c.in-Some.byte h c.requires.mode c.requires.next (ne_eqb c.in-Some.byte (code "\\") c.if-byte-eq92.false) (ne_eqb c.in-Some.byte (code "\"") c.if-byte-eq34.false)) (omega arith) (λ silent due. let wrong : ⊥ = cc in wrong)

@@ -8,6 +8,6 @@ pub returns-in-Begun : goal.returns-in-Begun
 returns-in-Begun c =
     let b = c.args.byte in
     let h = c.args.self.now in
-    c.behind_backslash.ensures
+    c.after_backslash.ensures
     ∙ ap (λ (e : Escape). in_part e b h) (sym c.in-Begun.is)
     ∙ ap (λ (x : Bool). if x then abandoned h else in_part h.escape b h) (sym (sym c.is_full.ensures.value ∙ c.if-is_full.false))

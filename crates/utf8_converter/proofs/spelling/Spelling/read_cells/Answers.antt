@@ -8,8 +8,8 @@ use Rattle.utf8_converter.proofs.Goes.{Goes-serves, Reads-few, Reads-front}
 use Rattle.utf8_converter.proofs.Held.{released-table}
 use Rattle.utf8_converter.proofs.spelling.Spelling.read_cells.Goals as goal
 
-pub half_behind-half-requires-clause-serves : goal.half_behind-half-requires-clause-serves
-half_behind-half-requires-clause-serves c =
+pub half_after-half-requires-clause-serves : goal.half_after-half-requires-clause-serves
+half_after-half-requires-clause-serves c =
     let P : Table → Type 0 = λ t. Spells t 256 c.args.self.now.all c.args.self.now.whole in
     let before = subst P (sym (ap (λ (q : Reader). q.table) c.release-begun.ensures.fills.reader ∙ released-table c.args.reader.now.half c.args.reader.now)) c.requires.serves in
     Goes-serves c.release-begun.new.reader c.put_all-reached.new.reader c.args.bytes.now c.put_all-reached.result.taken c.release-begun.new.room c.put_all-reached.new.room c.release-begun.result.end
@@ -36,7 +36,7 @@ overflow_sub-result c =
     c.release-begun.result.end c.put_all-reached.result.end c.release-begun.result.strays (omega arith) some (sym c.begins.ensures ∙ c.if-not-begins.false) c.release-begun.ensures.fills
     c.put_all-reached.ensures.goes (omega (arith, room, few, long, same)) in
     let P : ℕ → Type 0 = λ n. n ≤ c.put_all-reached.result.end in
-    subst P (sym (c.count_half.ensures ∙ ap (λ (h : Half). length (half_text s.table h)) c.half_behind-half.ensures)) fits
+    subst P (sym (c.count_half.ensures ∙ ap (λ (h : Half). length (half_text s.table h)) c.half_after-half.ensures)) fits
 
 pub returns-clause-reads : goal.returns-clause-reads
 returns-clause-reads c =
@@ -50,5 +50,5 @@ returns-clause-reads c =
     c.release-begun.result.end c.put_all-reached.result.end c.release-begun.result.strays (omega arith) some (sym c.begins.ensures ∙ c.if-not-begins.false) c.release-begun.ensures.fills
     c.put_all-reached.ensures.goes (omega (arith, room, few, long, same)) in
     let P : Half → Type 0 = λ h. Reads c.args.reader.now (with_half h s) c.args.bytes.now c.put_all-reached.result.taken c.put_all-reached.new.room (c.put_all-reached.result.end - length (half_text s.table h)) in
-    let Q : ℕ → Type 0 = λ n. Reads c.args.reader.now (with_half c.half_behind-half.result s) c.args.bytes.now c.put_all-reached.result.taken c.put_all-reached.new.room (c.put_all-reached.result.end - n) in
-    subst Q (sym c.count_half.ensures) (subst P (sym c.half_behind-half.ensures) reads)
+    let Q : ℕ → Type 0 = λ n. Reads c.args.reader.now (with_half c.half_after-half.result s) c.args.bytes.now c.put_all-reached.result.taken c.put_all-reached.new.room (c.put_all-reached.result.end - n) in
+    subst Q (sym c.count_half.ensures) (subst P (sym c.half_after-half.ensures) reads)

@@ -1,6 +1,0 @@
-use Rattle.nr_machine.specs.Holding.{shape}
-use Rattle.fast_machine.proofs.Running.{reading_in_place}
-use Rattle.fast_machine.proofs.plain_text.read_behind.Goals as goal
-
-pub returns-then-is_reading-clause-reads : goal.returns-then-is_reading-clause-reads
-returns-then-is_reading-clause-reads g c = reading_in_place c.answer_behind.result (shape c.args.engine.now) (shape c.answer_behind.new.engine) _ _ c.answer_behind.ensures.answers
