@@ -26,6 +26,7 @@ pub mod PlainStates
 pub mod PlainWorks
 pub mod PrintedLaw
 pub mod PrintedLines
+pub mod PrintedDirect
 pub mod PrintedReads
 pub mod PrintedRests
 pub mod PrintedStates

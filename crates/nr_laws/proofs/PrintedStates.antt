@@ -61,7 +61,8 @@ use Rattle.nr_machine.specs.State.{State, Ended, Choice, First, Register, plainl
 use Rattle.nr_machine.specs.Machine.{begin_page, end_page, page_of, turn_page, placed as placed_line, place, put_line_to, put_or, break_part, continues_none, break_out, room_in, title_to, with_cell, margin_in, indent, offset, cell_to, width, line_to, space_to, put_space, eject_to, eject, act, work, hear, spring_or, choose, choose_or, step, state_after, situation_of, told, read}
 use Rattle.nr_laws.proofs.PrintedLines.{IsPrinted, ArePrinted, IsSet, either, join, blanks, trim}
 use Rattle.nr_laws.proofs.PrintedStores.{AreStored, front-printed, left-stored, act-stored, no_levels, no_building, request_names-stored}
-use Rattle.nr_laws.proofs.PrintedReads.{IsHeard, meet-heard}
+use Rattle.nr_laws.proofs.PrintedDirect.{IsHeard}
+use Rattle.nr_laws.proofs.PrintedReads.{meet-heard}
 use Rattle.nr_laws.proofs.PrintedWorks.{IsKept, Hearing, heard-hearing, break-word-end}
 use Rattle.nr_laws.proofs.PrintedRests.{Resting, row-printed, line-behind, title-row, title-behind, line-diverted, title-diverted, space-diverted, end-diverted, cell-diverted, sprung-resting, ejected-resting, tasked, worked-resting}
 

@@ -50,7 +50,7 @@ use Rattle.nr_formatter.specs.Text as texts
 use Rattle.nr_formatter.specs.Titles as titles
 use Rattle.nr_laws.proofs.PrintedLines.{IsPrinted, ArePrinted, IsLined, Lined, either, add_cell-lined, add_cells-lined, add_blank-lined, marked-lined, barred-lined, hyphenated-lined, joined-lined, without_blanks-lined, end_word-lined, tabbed-lined, filled-lined, with_title_cell-lined, with_title-lined, with_part_ended-lined}
 use Rattle.nr_laws.proofs.PrintedStores.{Stores, bytes-stored}
-use Rattle.nr_laws.proofs.PrintedReads.{IsByte, IsHeard}
+use Rattle.nr_laws.proofs.PrintedDirect.{IsByte, IsHeard}
 
 -- ---- bytes
 
