@@ -40,7 +40,7 @@ use Rattle.fast_machine.proofs.Gliding.{glides-by}
 use Rattle.fast_machine.proofs.LevelText.{made_glided}
 use Rattle.nr_machine.proofs.NextMoves.{kind-hear, step-hear}
 use Rattle.fast_machine.proofs.ReadRuns.{makes_reading, read_shape}
-use Rattle.nr_machine.proofs.Spending.{told_all}
+use Rattle.fast_machine.proofs.Spending.{told_all}
 use Rattle.fast_machine.proofs.Running.{makes-add}
 
 -- ---- the move that sets the font

@@ -18,4 +18,5 @@ mod PlainText
 mod ReadRuns
 mod RereadCells
 pub mod Running
+mod Spending
 mod TextAtHand

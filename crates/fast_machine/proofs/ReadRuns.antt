@@ -25,7 +25,7 @@ use Rattle.nr_machine.proofs.Bursts.{move-short}
 use Rattle.nr_machine.proofs.LimitsStay.{formatter-limits}
 use Rattle.nr_machine.proofs.NextMoves.{step-read, kind-read}
 use Rattle.fast_machine.proofs.Gliding.{Glides}
-use Rattle.nr_machine.proofs.Spending.{told_all}
+use Rattle.fast_machine.proofs.Spending.{told_all}
 use Rattle.nr_machine.proofs.Standing.{wrote_nothing}
 use Rattle.nr_machine.proofs.Working.{holds_of}
 

@@ -85,7 +85,7 @@ fn put_gathered(formatter: &mut Formatter, bytes: &[u8], gathered: &Gathered) ->
 /// Reads and puts the words that come next of levels, in a text line that has begun, with the blanks after them and the newline, and
 /// tells how many moves that was.
 #[inline(always)]
-fn put_level_line(engine: &mut Engine) -> u128
+fn put_level_line(engine: &mut Engine, gathered: &mut Gathered) -> u128
     requires line { is_in_line engine.old.formatter ≡ true }
     ensures puts { MakesInPlace result (shape engine.old) (shape engine.new) }
     ensures few { result ≤ 711 }
@@ -98,23 +98,23 @@ fn put_level_line(engine: &mut Engine) -> u128
         &mut formatter.reader,
         &formatter.store,
         &mut bytes,
-        &mut engine.gathered,
+        gathered,
     );
-    let count = engine.gathered.count;
-    put_gathered(&mut engine.formatter, &bytes[..count], &engine.gathered) as u128
+    let count = gathered.count;
+    put_gathered(&mut engine.formatter, &bytes[..count], gathered) as u128
 }
 
 /// Reads and puts the text of levels, in a text line that has begun, as long as it is in such a line, and tells how many moves
 /// that was.
 #[inline(never)]
-pub(crate) fn put_level_text(engine: &mut Engine) -> u128
+pub(crate) fn put_level_text(engine: &mut Engine, gathered: &mut Gathered) -> u128
     requires line { is_in_line engine.old.formatter ≡ true }
     ensures puts { MakesInPlace result (shape engine.old) (shape engine.new) }
     ensures few { result ≤ 525004 }
 {
     let mut moves = 0u128;
     for _ in 0..MOST_PARTS {
-        let next = put_level_line(engine) + read_levels_once(engine);
+        let next = put_level_line(engine, gathered) + read_levels_once(engine);
         moves += next;
         if next == 0 || !engine.formatter.is_in_line() || moves > ENOUGH_MOVES {
             return moves;

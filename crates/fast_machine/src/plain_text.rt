@@ -13,6 +13,7 @@ use crate::level_text::put_level_text;
 use crate::obeying::answer_after;
 use crate::reading::reads_next;
 use crate::rereading::put_row;
+use fast_input::Gathered;
 use nr_formatter::formatter::Formatter;
 use nr_formatter::many::runs::Gap;
 use nr_machine::Engine;
@@ -186,7 +187,7 @@ fn begin_text<R: Source>(engine: &mut Engine, input: &R) -> bool
 /// Reads and puts the plain bytes of a text line that are at hand, those of the newest level if there is one, and the
 /// blanks after them, and tells how many moves that was. At the beginning of a line only the source's are read.
 #[inline(always)]
-fn put_text<R: Source>(engine: &mut Engine, input: &mut R) -> u128
+fn put_text<R: Source>(engine: &mut Engine, input: &mut R, gathered: &mut Gathered) -> u128
     requires at_text { is_at_text engine.old.formatter ≡ true }
     ensures reads { MakesReading result (shape engine.old) (shape engine.new) (R.supply input.old)
         (R.supply input.new) (R.failures input.old) (R.failures input.new) }
@@ -197,7 +198,7 @@ fn put_text<R: Source>(engine: &mut Engine, input: &mut R) -> u128
         if !in_line {
             return 0;
         }
-        return put_level_text(engine);
+        return put_level_text(engine, gathered);
     }
     if !in_line && !begin_text(engine, input) {
         return 0;
@@ -222,13 +223,13 @@ fn read_after<R: Source>(engine: &mut Engine, input: &mut R) -> u128
 /// Reads and puts what is at hand, and tells how many moves that was: plain text, else cells of a diverted line, else what
 /// can be read without anything being done, and empty lines after it.
 #[inline(always)]
-fn put_next<R: Source>(engine: &mut Engine, input: &mut R) -> u128
+fn put_next<R: Source>(engine: &mut Engine, input: &mut R, gathered: &mut Gathered) -> u128
     ensures reads { MakesReading result (shape engine.old) (shape engine.new) (R.supply input.old)
         (R.supply input.new) (R.failures input.old) (R.failures input.new) }
     ensures few { result ≤ 1049305 }
 {
     if engine.formatter.is_at_text() {
-        let text = put_text(engine, input);
+        let text = put_text(engine, input, gathered);
         if text > 0 {
             return text + read_after(engine, input);
         }
@@ -241,11 +242,16 @@ fn put_next<R: Source>(engine: &mut Engine, input: &mut R) -> u128
 }
 
 /// Reads and puts what is at hand, where the input is read next and so many moves are left that there can't be more. Tells how many
-/// moves that was.
+/// moves that was. What is gathered of levels stands in `gathered`, and nothing of it is read in a later call.
 ///
 /// Proved: Many moves in one call are so many moves of the machine, and no call of the source fails in them.
 #[inline(always)]
-pub fn put_at_hand<R: Source>(engine: &mut Engine, input: &mut R, left: u64) -> u64
+pub fn put_at_hand<R: Source>(
+    engine: &mut Engine,
+    input: &mut R,
+    left: u64,
+    gathered: &mut Gathered,
+) -> u64
     ensures reads { MakesReading result (shape engine.old) (shape engine.new) (R.supply input.old)
         (R.supply input.new) (R.failures input.old) (R.failures input.new) }
     ensures few { result ≤ left }
@@ -253,5 +259,5 @@ pub fn put_at_hand<R: Source>(engine: &mut Engine, input: &mut R, left: u64) -> 
     if left < MOST_MOVES || !reads_next(engine) {
         return 0;
     }
-    put_next(engine, input) as u64
+    put_next(engine, input, gathered) as u64
 }

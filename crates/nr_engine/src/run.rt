@@ -9,6 +9,7 @@ ghost use Rattle.nr_machine.specs.Limits.{limits_of, limits_under};
 ghost use Rattle.nr_engine.specs.Travelling.{Travels, outcome_when_spent};
 
 use crate::desk::Work;
+use fast_input::Gathered;
 use fast_machine::{put_at_hand, reads_on};
 use nr_formatter::tasks::Task;
 use nr_input::Event;
@@ -58,8 +59,9 @@ fn run<R: Source, W: Sink>(
         (W.failures output.old) (W.failures output.new) }
 {
     let mut left = most - *moves as u64;
+    let mut gathered = Gathered::new();
     loop {
-        let many = put_at_hand(engine, input, left);
+        let many = put_at_hand(engine, input, left, &mut gathered);
         left -= many;
         if many > 0 && reads_on(engine) {
             continue;

@@ -39,6 +39,7 @@ pub mod SourceFaults
 pub mod StepLimits
 pub mod Stopping
 pub mod StoreLimits
+pub mod SplicesAllowed
 pub mod TrapTexts
 pub mod Wider
 pub mod WithinRun

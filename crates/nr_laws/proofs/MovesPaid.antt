@@ -23,7 +23,6 @@ use Rattle.nr_input.specs.Refusal.{called_by, splicing_answer}
 use Rattle.nr_input.specs.Splicing.{sprung_reader, springing_text}
 use Rattle.nr_input.specs.Weights.{Splices}
 use Rattle.nr_input.proofs.Costs.{bytes_splice, springing_springs}
-use Rattle.fast_input.proofs.Interpolated.{splicing-fits}
 use Rattle.nr_formatter.specs.declared.formatter.Formatter.{Formatter}
 use Rattle.nr_formatter.specs.declared.built_in.BuiltInRegister.{BuiltInRegister}
 use Rattle.nr_formatter.specs.declared.built_in.BuiltInRegister.TheVariants as given
@@ -70,6 +69,7 @@ use Rattle.nr_machine.specs.Run.{kind_of_task, kind_of_event, kind_of_springs, k
 use Rattle.nr_machine.specs.declared.outcome.Measure.TheVariants as measures
 use Rattle.nr_laws.proofs.PageLengths.{HasHeight}
 use Rattle.nr_laws.proofs.ReadsPaid.{Paid, reached, worth, read-paid}
+use Rattle.nr_laws.proofs.SplicesAllowed.{splicing-allowed}
 use Rattle.nr_laws.proofs.TrapTexts.{springing_named}
 
 -- ---- a move that takes no byte
@@ -137,7 +137,7 @@ spliced-pays bytes f fit =
     let r = f.reader in
     let w = reading_bytes bytes v in
     let burst = fit.burst in
-    let allowed : splicing_answer true w r ≡ Ok tt = splicing-fits w r fit.stored fit.depth (omega (arith, burst)) in
+    let allowed : splicing_answer true w r ≡ Ok tt = splicing-allowed w r fit.stored fit.depth (omega (arith, burst)) in
     bytes_splice bytes v w r (expanded r) (ap (λ x. called_by x w (expanded r) tt v r) (sym allowed))
 
 sprung-falls : (name : List ℕ) (text : Option (List Element)) (f : Formatter) → words (find name f.store.names) ≡ text → is_some text ≡ true → Fits (sprung_text name text f)
@@ -149,7 +149,7 @@ sprung-falls name (Some text) f is some fit =
     let mode = interrupted f in
     let w = entered name (Some text) (Some mode) v in
     let burst = fit.burst in
-    let allowed : splicing_answer true w r ≡ Ok tt = splicing-fits w r fit.stored fit.depth (omega (arith, burst)) in
+    let allowed : splicing_answer true w r ≡ Ok tt = splicing-allowed w r fit.stored fit.depth (omega (arith, burst)) in
     let called = ap (λ x. called_by x w (sprung_reader true r) true v r) (sym allowed) in
     let named = ap (λ (t : Option (List Element)). springing_text (is_some t) (entered name t (Some mode) v) v r) (sym is) in
     let pays = springing_springs name mode v w r (sprung_reader true r) (Ok true) (called ∙ named) in

@@ -7,7 +7,6 @@ use Rattle.nr_reading.specs.declared.event.Event.TheVariants as events
 use Rattle.nr_reading.specs.Weights.{cost_of_event, blanks_owed, is_lead}
 use Rattle.nr_store.specs.Store.{Stored, Built}
 use Rattle.nr_input.specs.Place.{Reached, ended}
-use Rattle.fast_input.specs.Runs.{PaysMany}
 use Rattle.nr_input.specs.Weights.{byte_worth, weight_before_byte, risen, Pays, IfLead, diversions_in, diversions_of, count_of_diversion}
 use Rattle.nr_input.specs.declared.reader.Reader.{Reader}
 use Rattle.nr_input.specs.declared.told.Told.TheVariants as tells
@@ -120,11 +119,12 @@ no_lead : (e : Event) → is_lead e ≡ false → lead_of e ≡ 0
 no_lead events.Lead is = absurd (let wrong : true ≡ false = is in cc)
 no_lead e is = refl
 
--- many moves read, and the last of them told this
-pub told_all : (n : ℕ) (p q : Reached) (f : Formatter) (v : Stored Resume) (r : Reader) (e : Event) → f.event ≡ events.Nothing → f.task ≡ tasks.Read
-    → PaysMany n f.store p f.reader e v q r
+-- so many moves read, and the last of them told this, which is no blank of a line's beginning
+pub told_no_lead : (n : ℕ) (p q : Reached) (f : Formatter) (v : Stored Resume) (r : Reader) (e : Event) → f.event ≡ events.Nothing → f.task ≡ tasks.Read
+    → weight_before_byte v q r + cost_of_event e + n + 178 * risen f.reader.half r.half + byte_worth f.reader.most f.store.limit * p.taken
+    ≤ weight_before_byte f.store p f.reader + 1 + byte_worth f.reader.most f.store.limit * q.taken
+    → is_lead e ≡ false → diversions_in v.building ≤ diversions_in f.store.building
     → weight q (record f { store = v; reader = r; event = e }) + n + byte_worth f.reader.most f.store.limit * p.taken
     ≤ weight p f + byte_worth f.reader.most f.store.limit * q.taken
-told_all n p q f v r e idle task pays =
-    told_paid n p q f v r e idle task (pays.pays (byte_worth f.reader.most f.store.limit) (omega arith))
-    (let none = no_lead e pays.tells in omega arith) (omega (arith, pays.diversions))
+told_no_lead n p q f v r e idle task paid tells fewer =
+    told_paid n p q f v r e idle task paid (let none = no_lead e tells in omega arith) fewer

@@ -7,7 +7,6 @@ ghost use Rattle.nr_machine.specs.Limits.{limits_of, limits_under};
 
 use crate::engine::Engine;
 use crate::lengths::Sizes;
-use fast_input::Gathered;
 use nr_fill::line::Line;
 use nr_fill::out::Out;
 use nr_formatter::formatter::Formatter;
@@ -80,7 +79,6 @@ impl Engine {
             select: Select::all(),
             faces: Faces::Letters,
             resumed: Resume::blank(),
-            gathered: Gathered::new(),
         })
     }
 
@@ -103,6 +101,5 @@ impl Engine {
         self.select = options.select.copied();
         self.faces = options.faces;
         self.resumed = Resume::blank();
-        self.gathered = Gathered::new();
     }
 }

@@ -3,7 +3,6 @@ ghost use Rattle.std.specs.Prelude.{◌≡◌, ◌+◌};
 
 use crate::lengths::Sizes;
 use crate::outcome::{Measure, Outcome, Stop};
-use fast_input::Gathered;
 use nr_fill::out::Out;
 use nr_formatter::formatter::Formatter;
 use nr_formatter::tasks::{Resume, Task};
@@ -32,8 +31,6 @@ pub struct Engine {
     pub faces: Faces,
     /// What was under way where the text was sprung whose mark was taken last.
     pub resumed: Resume,
-    /// What was gathered of levels last.
-    pub gathered: Gathered,
     ghost has_row: { row.capacity ≡ page.limit + 4096 },
 }
 

@@ -1,6 +1,6 @@
 //! The machine: the state of a run, in the memory that its limits allow, and its moves, one at a time.
 //!
-//! It stands on nr_formatter, fast_input, nr_page, nr_options and the crates below them. To read: `outcome`,
+//! It stands on nr_formatter, nr_page, nr_options and the crates below them. To read: `outcome`,
 //! `lengths`; `engine`, `beginning`, `choosing`; its moves in `pages`, `lines`, `breaks`, `titles`, `rooms`,
 //! `diverted`, `spacing`, `ejecting`.
 #![tactic(auto)]
