@@ -1,3 +1,5 @@
+pub mod ChargedOnce
+pub mod ExactRuns
 pub mod FacesLaws
 pub mod FacesStates
 pub mod FilledLines
@@ -35,6 +37,7 @@ pub mod PrintedWorks
 pub mod ReadMoves
 pub mod ReadsPaid
 pub mod RefusedMoves
+pub mod SingleMoves
 pub mod SourceFaults
 pub mod StepLimits
 pub mod Stopping

@@ -40,7 +40,7 @@ use Rattle.nr_machine.specs.Run.{Kind, Reads, Works, Over, kind, IsRefusal, Pass
 use Rattle.nr_machine.specs.declared.outcome.Measure.{Measure}
 use Rattle.nr_machine.specs.declared.outcome.Measure.TheVariants as measures
 use Rattle.nr_input.specs.declared.refusal.Refusal.TheVariants as refusals
-use Rattle.nr_laws.specs.Moves.{AboveIsRefused, IsChargedOnce, charge_after, charge_under, names_text}
+use Rattle.nr_laws.proofs.SingleMoves.{AboveIsRefused, IsChargedOnce, charge_after, charge_under, names_text}
 use Rattle.nr_laws.proofs.Over.{over-step}
 use Rattle.nr_laws.proofs.ReadMoves.{reads-step}
 use Rattle.nr_laws.proofs.RefusedMoves.{refused_is_above, text_answer, text_same}

@@ -1,20 +1,15 @@
 -- What is read directly: a cell that is read was stored, and another byte that is told as a cell prints, or stands in a title.
 use Prim.Native.Char.{code}
-use Rattle.std.specs.Prelude.{nat_le, nat_lt, not, slice_index, length, ◌||◌, ◌&&◌}
+use Rattle.std.specs.Prelude.{◌||◌}
 use Rattle.std.proofs.lemmas.Bool.{eqb-true}
-use Rattle.std.proofs.Common.{◌≡◌, ℕ, ◌==◌, Bool, true, false, if◌then◌else◌, List, [], ◌∷◌, Option, None, Some, refl, ap}
+use Rattle.std.proofs.Common.{◌≡◌, ℕ, ◌==◌, Bool, true, false, if◌then◌else◌, Option, None, Some, refl, ap}
 use Rattle.nr_reading.specs.declared.ask.Ask.{Ask}
 use Rattle.nr_reading.specs.declared.ask.Kind.{Kind}
-use Rattle.nr_reading.specs.declared.ask.Kind.TheVariants as kinds
-use Rattle.nr_reading.specs.declared.ask.Stage.{Stage}
-use Rattle.nr_reading.specs.declared.ask.Stage.TheVariants as stages
-use Rattle.nr_reading.specs.declared.notes.Defining.{Defining}
 use Rattle.nr_reading.specs.declared.event.Event.{Event}
 use Rattle.nr_reading.specs.declared.event.Event.TheVariants as events
-use Rattle.nr_reading.specs.declared.event.Question.TheVariants as questions
 use Rattle.nr_reading.specs.declared.front.Front.{Front}
 use Rattle.nr_reading.specs.declared.front.Front.TheVariants as fronts
-use Rattle.nr_reading.specs.declared.half.Half.{Half}
+use Rattle.nr_reading.specs.declared.mode.Due.{Due}
 use Rattle.nr_reading.specs.declared.mode.Due.TheVariants as dues
 use Rattle.nr_reading.specs.declared.mode.Escape.{Escape}
 use Rattle.nr_reading.specs.declared.mode.Escape.TheVariants as escapes
@@ -22,24 +17,10 @@ use Rattle.nr_reading.specs.declared.mode.Mode.{Mode}
 use Rattle.nr_reading.specs.declared.mode.Mode.TheVariants as modes
 use Rattle.nr_reading.specs.declared.mode.Reading.{Reading}
 use Rattle.nr_reading.specs.declared.mode.Signs.{Signs}
-use Rattle.nr_reading.specs.declared.spelled.Spelled.{Spelled}
-use Rattle.nr_reading.specs.Ask.{answer, answer_byte, argument_asked, answer_first, answer_two, answer_bracket, answer_digit, cut, is_argument, is_digit, is_given, is_unsigned, reads_argument}
-use Rattle.nr_reading.specs.Conditions.{begins_number, read_condition_byte, read_condition, parentheses}
-use Rattle.nr_reading.specs.Control.{completes, read_name, read_macro_gap}
-use Rattle.nr_reading.specs.Definitions.{last_line, kept_byte, released, in_body, not_last, nearer_last, read_body_start, over_body_start}
-use Rattle.nr_reading.specs.Ended.{event_of}
-use Rattle.nr_reading.specs.Half.{Met, meet, met_directly, met_copied, answered, offered, hear_by, over_by, offer_to, meet_by}
-use Rattle.nr_reading.specs.Mode.{is_direct, reads_arguments}
-use Rattle.nr_reading.specs.Escape.{offer, offer_byte, raw_offer, escaped as copied_escape}
-use Rattle.nr_reading.specs.Notes.{Note}
-use Rattle.nr_reading.specs.Notes as notes
-use Rattle.nr_reading.specs.declared.notes.Notes.{Notes}
-use Rattle.nr_reading.specs.Noting.{are_equal}
-use Rattle.nr_reading.specs.Reader.{read_by, read, read_over_by, read_over, unescaped, after_backslash, ends_comment, direct_by, direct}
+use Rattle.nr_reading.specs.Reader.{unescaped, after_backslash, ends_comment, direct_by}
 use Rattle.nr_reading.specs.Skipping.{accepted, accepted_escape, behind_newline, skip, skip_escape, diverted, diverting}
-use Rattle.nr_reading.specs.Spelled.{is_blank, is_empty, ends_name, name_of, spelled}
-use Rattle.nr_reading.specs.Step.{Step, to, escaping, due, go, leave, tell, noting, leave_telling, leave_noting}
-use Rattle.nr_reading.specs.Strings.{after_string_name, read_string_name}
+use Rattle.nr_reading.specs.Spelled.{is_blank}
+use Rattle.nr_reading.specs.Step.{Step, to, escaping, go, leave, tell}
 use Rattle.nr_reading.specs.Text.{continuing, begin_escape, in_text, start_blank, start_newline, start_control, start_byte, start, one_blank_more, text_after_blanks, leading, end_continued, continued, is_interrupted, ended, end_event, text}
 use Rattle.nr_reading.specs.TextEscape.{plain, interpolated, asked_in_text, is_nothing, is_plain, other_byte, event_after, is_titled, after_escape, escape_in_text, escape_at_start, escape_by, spliced_or, lone_escape, escaped}
 use Rattle.nr_reading.specs.Titles.{ended_title, before_title, next_part, title}
@@ -59,8 +40,14 @@ IsHeard (events.DivertedCell x) m = IsPrinted x
 IsHeard (events.Plain b) m = IsByte (is_titled m) b
 IsHeard e m = Unit {0}
 
+-- a splice that was refused is never due
+abbrev pub IsDue : Due → Type 0
+IsDue dues.Expanded = ⊥
+IsDue d = Unit {0}
+
 pub record Tells (s : Step) : Type 0 where
-  heard : IsHeard s.event s.reading.mode
+  pub heard : IsHeard s.event s.reading.mode
+  pub due : IsDue s.reading.due
 
 pub choose : (c : Bool) (x y : Step) → Tells x → Tells y → Tells (if c then x else y)
 choose true x y first second = first
@@ -126,196 +113,204 @@ behind-titled : (b : ℕ) (m : Mode) → is_titled (after_escape b m) ≡ is_tit
 behind-titled b modes.Text = text-behind (b == code "c")
 behind-titled b m = refl
 
-in-text : (b : ℕ) (a : Option Ask) (r : Reading) → Tells (escape_in_text b a r)
-in-text b (Some a) r = record { heard = tt }
-in-text b None r = record { heard = behind-heard (after_escape b r.mode) (is_titled r.mode) b (behind-titled b r.mode) }
+in-text : (b : ℕ) (a : Option Ask) (r : Reading) → IsDue r.due → Tells (escape_in_text b a r)
+in-text b (Some a) r h = record { heard = tt; due = assumption }
+in-text b None r h = record { heard = behind-heard (after_escape b r.mode) (is_titled r.mode) b (behind-titled b r.mode); due = assumption }
 
-at-start : (b : ℕ) (r : Reading) → Tells (escape_at_start b r)
-at-start b r = choose (b == code "!") (go (plain (to modes.Transparent r))) (leave (continuing false (to modes.Text r))) (record { heard = tt }) (record { heard = tt })
+at-start : (b : ℕ) (r : Reading) → IsDue r.due → Tells (escape_at_start b r)
+at-start b r h = choose (b == code "!") (go (plain (to modes.Transparent r))) (leave (continuing false (to modes.Text r))) (record { heard = tt; due = assumption }) (record { heard = tt; due = assumption })
 
-by-mode : (b : ℕ) (long : Bool) (m : Mode) (r : Reading) → Tells (escape_by b long m r)
-by-mode b long modes.Start r = at-start b r
-by-mode b long modes.Diverting r = at-start b r
-by-mode b long (modes.Leading n) r = record { heard = tt }
-by-mode b long modes.Continued r = record { heard = tt }
-by-mode b long modes.Interrupted r = record { heard = tt }
-by-mode b long m r = in-text b (asked_in_text b long) r
+by-mode : (b : ℕ) (long : Bool) (m : Mode) (r : Reading) → IsDue r.due → Tells (escape_by b long m r)
+by-mode b long modes.Start r h = at-start b r h
+by-mode b long modes.Diverting r h = at-start b r h
+by-mode b long (modes.Leading n) r h = record { heard = tt; due = assumption }
+by-mode b long modes.Continued r h = record { heard = tt; due = assumption }
+by-mode b long modes.Interrupted r h = record { heard = tt; due = assumption }
+by-mode b long m r h = in-text b (asked_in_text b long) r h
 
-spliced-or : (b : ℕ) (k : Option Kind) (long : Bool) (r : Reading) → Tells (spliced_or b k long r)
-spliced-or b (Some k) long r = record { heard = tt }
-spliced-or b None long r =
-    choose (b == code "\n") (go (plain r)) (if b == code "\"" then go (escaping escapes.Comment r) else escape_by b long r.mode r) (record { heard = tt })
-    (choose (b == code "\"") (go (escaping escapes.Comment r)) (escape_by b long r.mode r) (record { heard = tt }) (by-mode b long r.mode r))
+spliced-or : (b : ℕ) (k : Option Kind) (long : Bool) (r : Reading) → IsDue r.due → Tells (spliced_or b k long r)
+spliced-or b (Some k) long r h = record { heard = tt; due = assumption }
+spliced-or b None long r h =
+    choose (b == code "\n") (go (plain r)) (if b == code "\"" then go (escaping escapes.Comment r) else escape_by b long r.mode r) (record { heard = tt; due = assumption })
+    (choose (b == code "\"") (go (escaping escapes.Comment r)) (escape_by b long r.mode r) (record { heard = tt; due = assumption }) (by-mode b long r.mode r h))
 
-lone : (m : Mode) (r : Reading) → Tells (lone_escape m r)
-lone modes.Start r = record { heard = tt }
-lone modes.Diverting r = record { heard = tt }
-lone (modes.Leading n) r = record { heard = tt }
-lone modes.Continued r = record { heard = tt }
-lone modes.Interrupted r = record { heard = tt }
-lone m r = record { heard = tt }
+lone : (m : Mode) (r : Reading) → IsDue r.due → Tells (lone_escape m r)
+lone modes.Start r h = record { heard = tt; due = assumption }
+lone modes.Diverting r h = record { heard = tt; due = assumption }
+lone (modes.Leading n) r h = record { heard = tt; due = assumption }
+lone modes.Continued r h = record { heard = tt; due = assumption }
+lone modes.Interrupted r h = record { heard = tt; due = assumption }
+lone m r h = record { heard = tt; due = assumption }
 
-escaped-tells : (f : Front) (long : Bool) (r : Reading) → Tells (escaped f long r)
-escaped-tells fronts.Mark long r = record { heard = tt }
-escaped-tells (fronts.Byte b) long r = spliced-or b (interpolated b) long r
-escaped-tells f long r = lone r.mode r
+escaped-tells : (f : Front) (long : Bool) (r : Reading) → IsDue r.due → Tells (escaped f long r)
+escaped-tells fronts.Mark long r h = record { heard = tt; due = assumption }
+escaped-tells (fronts.Byte b) long r h = spliced-or b (interpolated b) long r h
+escaped-tells f long r h = lone r.mode r h
 
 -- ---- items as they are
 
-start_byte-tells : (b : ℕ) (s : Signs) (r : Reading) → Tells (start_byte b s r)
-start_byte-tells b s r =
+start_byte-tells : (b : ℕ) (s : Signs) (r : Reading) → IsDue r.due → Tells (start_byte b s r)
+start_byte-tells b s r h =
     let c5 : Step = if b == code " " then start_blank r else in_text (events.Byte b) r in
     let c4 : Step = if b == code "\\" then begin_escape r else c5 in
     let c3 : Step = if b == code "\n" then start_newline r else c4 in
     let c2 : Step = if b == s.no_break then start_control true r else c3 in
-    choose (b == s.control) (start_control false r) c2 (record { heard = tt })
-    (choose (b == s.no_break) (start_control true r) c3 (record { heard = tt })
-    (choose (b == code "\n") (start_newline r) c4 (choose r.continued (tell events.EndContinued (continuing false r)) (tell events.Empty r) (record { heard = tt }) (record { heard = tt }))
-    (choose (b == code "\\") (begin_escape r) c5 (record { heard = tt })
+    choose (b == s.control) (start_control false r) c2 (record { heard = tt; due = assumption })
+    (choose (b == s.no_break) (start_control true r) c3 (record { heard = tt; due = assumption })
+    (choose (b == code "\n") (start_newline r) c4 (choose r.continued (tell events.EndContinued (continuing false r)) (tell events.Empty r) (record { heard = tt; due = assumption }) (record { heard = tt; due = assumption }))
+    (choose (b == code "\\") (begin_escape r) c5 (record { heard = tt; due = assumption })
     (choose (b == code " ") (start_blank r) (in_text (events.Byte b) r)
-    (choose r.continued (tell (events.Byte (code " ")) (continuing false (to modes.Continued r))) (tell events.Leading (to (modes.Leading 1) r)) (record { heard = tt }) (record { heard = tt }))
-    (record { heard = tt })))))
+    (choose r.continued (tell (events.Byte (code " ")) (continuing false (to modes.Continued r))) (tell events.Leading (to (modes.Leading 1) r)) (record { heard = tt; due = assumption }) (record { heard = tt; due = assumption }))
+    (record { heard = tt; due = assumption })))))
 
-start-tells : (f : Front) (s : Signs) (r : Reading) → Tells (start f s r)
-start-tells fronts.Mark s r = record { heard = tt }
-start-tells (fronts.Byte b) s r = start_byte-tells b s r
-start-tells (fronts.Cell x) s r = record { heard = tt }
-start-tells (fronts.LineEnd n) s r = record { heard = tt }
-start-tells fronts.Resume s r = record { heard = tt }
-start-tells fronts.Over s r = record { heard = tt }
+start-tells : (f : Front) (s : Signs) (r : Reading) → IsDue r.due → Tells (start f s r)
+start-tells fronts.Mark s r h = record { heard = tt; due = assumption }
+start-tells (fronts.Byte b) s r h = start_byte-tells b s r h
+start-tells (fronts.Cell x) s r h = record { heard = tt; due = assumption }
+start-tells (fronts.LineEnd n) s r h = record { heard = tt; due = assumption }
+start-tells fronts.Resume s r h = record { heard = tt; due = assumption }
+start-tells fronts.Over s r h = record { heard = tt; due = assumption }
 
-leading-tells : (f : Front) (n : ℕ) (r : Reading) → Tells (leading f n r)
-leading-tells fronts.Mark n r = record { heard = tt }
-leading-tells (fronts.Byte b) n r =
+leading-tells : (f : Front) (n : ℕ) (r : Reading) → IsDue r.due → Tells (leading f n r)
+leading-tells fronts.Mark n r h = record { heard = tt; due = assumption }
+leading-tells (fronts.Byte b) n r h =
     let c3 : Step = if b == code "\\" then begin_escape r else text_after_blanks n r in
     let c2 : Step = if b == code " " then go (to (modes.Leading (one_blank_more n)) r) else c3 in
-    choose (b == code "\n") (tell events.Empty (to modes.Start r)) c2 (record { heard = tt })
-    (choose (b == code " ") (go (to (modes.Leading (one_blank_more n)) r)) c3 (record { heard = tt })
-    (choose (b == code "\\") (begin_escape r) (text_after_blanks n r) (record { heard = tt }) (record { heard = tt })))
-leading-tells (fronts.Cell x) n r = record { heard = tt }
-leading-tells (fronts.LineEnd k) n r = record { heard = tt }
-leading-tells fronts.Resume n r = record { heard = tt }
-leading-tells fronts.Over n r = record { heard = tt }
+    choose (b == code "\n") (tell events.Empty (to modes.Start r)) c2 (record { heard = tt; due = assumption })
+    (choose (b == code " ") (go (to (modes.Leading (one_blank_more n)) r)) c3 (record { heard = tt; due = assumption })
+    (choose (b == code "\\") (begin_escape r) (text_after_blanks n r) (record { heard = tt; due = assumption }) (record { heard = tt; due = assumption })))
+leading-tells (fronts.Cell x) n r h = record { heard = tt; due = assumption }
+leading-tells (fronts.LineEnd k) n r h = record { heard = tt; due = assumption }
+leading-tells fronts.Resume n r h = record { heard = tt; due = assumption }
+leading-tells fronts.Over n r h = record { heard = tt; due = assumption }
 
-continued-tells : (f : Front) (r : Reading) → IsFront f → Tells (continued f r)
-continued-tells fronts.Mark r is = record { heard = tt }
-continued-tells (fronts.Byte b) r is =
+continued-tells : (f : Front) (r : Reading) → IsDue r.due → IsFront f → Tells (continued f r)
+continued-tells fronts.Mark r h is = record { heard = tt; due = assumption }
+continued-tells (fronts.Byte b) r h is =
     let c3 : Step = if b == code "\\" then begin_escape r else in_text (events.Byte b) r in
     let c2 : Step = if b == code " " then tell (events.Byte (code " ")) r else c3 in
-    choose (b == code "\n") (tell events.EndContinued (end_continued r)) c2 (record { heard = tt })
-    (choose (b == code " ") (tell (events.Byte (code " ")) r) c3 (record { heard = tt })
-    (choose (b == code "\\") (begin_escape r) (in_text (events.Byte b) r) (record { heard = tt }) (record { heard = tt })))
-continued-tells (fronts.Cell x) r is = record { heard = is }
-continued-tells (fronts.LineEnd k) r is = record { heard = tt }
-continued-tells fronts.Resume r is = record { heard = tt }
-continued-tells fronts.Over r is = record { heard = tt }
+    choose (b == code "\n") (tell events.EndContinued (end_continued r)) c2 (record { heard = tt; due = assumption })
+    (choose (b == code " ") (tell (events.Byte (code " ")) r) c3 (record { heard = tt; due = assumption })
+    (choose (b == code "\\") (begin_escape r) (in_text (events.Byte b) r) (record { heard = tt; due = assumption }) (record { heard = tt; due = assumption })))
+continued-tells (fronts.Cell x) r h is = record { heard = is; due = assumption }
+continued-tells (fronts.LineEnd k) r h is = record { heard = tt; due = assumption }
+continued-tells fronts.Resume r h is = record { heard = tt; due = assumption }
+continued-tells fronts.Over r h is = record { heard = tt; due = assumption }
 
 -- an end of a text line
 end-heard : (c : Bool) (m : Mode) → IsHeard (if c then events.EndInterrupted else events.EndLine) m
 end-heard true m = tt
 end-heard false m = tt
 
-text-tells : (f : Front) (r : Reading) → IsFront f → Tells (text f r)
-text-tells fronts.Mark r is = record { heard = tt }
-text-tells (fronts.Byte b) r is =
-    choose (b == code "\n") (tell (end_event r) (ended r)) (if b == code "\\" then begin_escape r else tell (events.Byte b) (to modes.Text r)) (record { heard = end-heard (is_interrupted r.mode) modes.Start })
-    (choose (b == code "\\") (begin_escape r) (tell (events.Byte b) (to modes.Text r)) (record { heard = tt }) (record { heard = tt }))
-text-tells (fronts.Cell x) r is = record { heard = is }
-text-tells (fronts.LineEnd k) r is = record { heard = end-heard (is_interrupted r.mode) modes.Start }
-text-tells fronts.Resume r is = record { heard = end-heard (is_interrupted r.mode) modes.Start }
-text-tells fronts.Over r is = record { heard = end-heard (is_interrupted r.mode) modes.Start }
+text-tells : (f : Front) (r : Reading) → IsDue r.due → IsFront f → Tells (text f r)
+text-tells fronts.Mark r h is = record { heard = tt; due = assumption }
+text-tells (fronts.Byte b) r h is =
+    choose (b == code "\n") (tell (end_event r) (ended r)) (if b == code "\\" then begin_escape r else tell (events.Byte b) (to modes.Text r)) (record { heard = end-heard (is_interrupted r.mode) modes.Start; due = assumption })
+    (choose (b == code "\\") (begin_escape r) (tell (events.Byte b) (to modes.Text r)) (record { heard = tt; due = assumption }) (record { heard = tt; due = assumption }))
+text-tells (fronts.Cell x) r h is = record { heard = is; due = assumption }
+text-tells (fronts.LineEnd k) r h is = record { heard = end-heard (is_interrupted r.mode) modes.Start; due = assumption }
+text-tells fronts.Resume r h is = record { heard = end-heard (is_interrupted r.mode) modes.Start; due = assumption }
+text-tells fronts.Over r h is = record { heard = end-heard (is_interrupted r.mode) modes.Start; due = assumption }
 
-before_title-tells : (f : Front) (r : Reading) → Tells (before_title f r)
-before_title-tells fronts.Mark r = record { heard = tt }
-before_title-tells (fronts.Byte b) r =
+before_title-tells : (f : Front) (r : Reading) → IsDue r.due → Tells (before_title f r)
+before_title-tells fronts.Mark r h = record { heard = tt; due = assumption }
+before_title-tells (fronts.Byte b) r h =
     let c3 : Step = if is_blank b then go r else tell events.TitlePart (to (modes.Title b 0) r) in
     let c2 : Step = if b == code "\\" then begin_escape r else c3 in
-    choose (b == code "\n") (tell events.TitleEnd (ended_title r)) c2 (record { heard = tt })
-    (choose (b == code "\\") (begin_escape r) c3 (record { heard = tt })
-    (choose (is_blank b) (go r) (tell events.TitlePart (to (modes.Title b 0) r)) (record { heard = tt }) (record { heard = tt })))
-before_title-tells (fronts.Cell x) r = record { heard = tt }
-before_title-tells (fronts.LineEnd k) r = record { heard = tt }
-before_title-tells fronts.Resume r = record { heard = tt }
-before_title-tells fronts.Over r = record { heard = tt }
+    choose (b == code "\n") (tell events.TitleEnd (ended_title r)) c2 (record { heard = tt; due = assumption })
+    (choose (b == code "\\") (begin_escape r) c3 (record { heard = tt; due = assumption })
+    (choose (is_blank b) (go r) (tell events.TitlePart (to (modes.Title b 0) r)) (record { heard = tt; due = assumption }) (record { heard = tt; due = assumption })))
+before_title-tells (fronts.Cell x) r h = record { heard = tt; due = assumption }
+before_title-tells (fronts.LineEnd k) r h = record { heard = tt; due = assumption }
+before_title-tells fronts.Resume r h = record { heard = tt; due = assumption }
+before_title-tells fronts.Over r h = record { heard = tt; due = assumption }
 
-title-tells : (f : Front) (d n : ℕ) (r : Reading) → IsFront f → Tells (title f d n r)
-title-tells fronts.Mark d n r is = record { heard = tt }
-title-tells (fronts.Byte b) d n r is =
+next_part-due : (d n : ℕ) (r : Reading) → IsDue r.due → IsDue (next_part d n r).due
+next_part-due d n r h = by (n == 0) (n == 1)
+  where
+    by : (x y : Bool) → IsDue (if x then to (modes.Title d 1) r else (if y then to (modes.Title d 2) r else to modes.TitleRest r)).due
+    by true y = h
+    by false true = h
+    by false false = h
+
+title-tells : (f : Front) (d n : ℕ) (r : Reading) → IsDue r.due → IsFront f → Tells (title f d n r)
+title-tells fronts.Mark d n r h is = record { heard = tt; due = assumption }
+title-tells (fronts.Byte b) d n r h is =
     let c3 : Step = if b == d then tell events.TitlePart (next_part d n r) else tell (events.Byte b) r in
     let c2 : Step = if b == code "\\" then begin_escape r else c3 in
-    choose (b == code "\n") (tell events.TitleEnd (ended_title r)) c2 (record { heard = tt })
-    (choose (b == code "\\") (begin_escape r) c3 (record { heard = tt })
-    (choose (b == d) (tell events.TitlePart (next_part d n r)) (tell (events.Byte b) r) (record { heard = tt }) (record { heard = tt })))
-title-tells (fronts.Cell x) d n r is = record { heard = is }
-title-tells (fronts.LineEnd k) d n r is = record { heard = tt }
-title-tells fronts.Resume d n r is = record { heard = tt }
-title-tells fronts.Over d n r is = record { heard = tt }
+    choose (b == code "\n") (tell events.TitleEnd (ended_title r)) c2 (record { heard = tt; due = assumption })
+    (choose (b == code "\\") (begin_escape r) c3 (record { heard = tt; due = assumption })
+    (choose (b == d) (tell events.TitlePart (next_part d n r)) (tell (events.Byte b) r) (record { heard = tt; due = next_part-due d n r h }) (record { heard = tt; due = assumption })))
+title-tells (fronts.Cell x) d n r h is = record { heard = is; due = assumption }
+title-tells (fronts.LineEnd k) d n r h is = record { heard = tt; due = assumption }
+title-tells fronts.Resume d n r h is = record { heard = tt; due = assumption }
+title-tells fronts.Over d n r h is = record { heard = tt; due = assumption }
 
-diverted-tells : (f : Front) (r : Reading) → IsFront f → Tells (diverted f r)
-diverted-tells fronts.Mark r is = record { heard = tt }
-diverted-tells (fronts.Cell x) r is = record { heard = is }
-diverted-tells (fronts.LineEnd k) r is = record { heard = tt }
-diverted-tells f r is = record { heard = tt }
+diverted-tells : (f : Front) (r : Reading) → IsDue r.due → IsFront f → Tells (diverted f r)
+diverted-tells fronts.Mark r h is = record { heard = tt; due = assumption }
+diverted-tells (fronts.Cell x) r h is = record { heard = is; due = assumption }
+diverted-tells (fronts.LineEnd k) r h is = record { heard = tt; due = assumption }
+diverted-tells f r h is = record { heard = tt; due = assumption }
 
-diverting-tells : (f : Front) (s : Signs) (r : Reading) → IsFront f → Tells (diverting f s r)
-diverting-tells (fronts.Cell x) s r is = record { heard = is }
-diverting-tells (fronts.LineEnd k) s r is = record { heard = tt }
-diverting-tells f s r is = start-tells f s r
+diverting-tells : (f : Front) (s : Signs) (r : Reading) → IsDue r.due → IsFront f → Tells (diverting f s r)
+diverting-tells (fronts.Cell x) s r h is = record { heard = is; due = assumption }
+diverting-tells (fronts.LineEnd k) s r h is = record { heard = tt; due = assumption }
+diverting-tells f s r h is = start-tells f s r h
 
-accepted-tells : (f : Front) (r : Reading) → Tells (accepted f r)
-accepted-tells fronts.Mark r = record { heard = tt }
-accepted-tells (fronts.Byte b) r =
+accepted-tells : (f : Front) (r : Reading) → IsDue r.due → Tells (accepted f r)
+accepted-tells fronts.Mark r h = record { heard = tt; due = assumption }
+accepted-tells (fronts.Byte b) r h =
     let c3 : Step = if b == code "\\" then begin_escape r else leave (to modes.Start r) in
     let c2 : Step = if b == code "\n" then go (to modes.Start r) else c3 in
-    choose (is_blank b) (go r) c2 (record { heard = tt })
-    (choose (b == code "\n") (go (to modes.Start r)) c3 (record { heard = tt })
-    (choose (b == code "\\") (begin_escape r) (leave (to modes.Start r)) (record { heard = tt }) (record { heard = tt })))
-accepted-tells f r = record { heard = tt }
+    choose (is_blank b) (go r) c2 (record { heard = tt; due = assumption })
+    (choose (b == code "\n") (go (to modes.Start r)) c3 (record { heard = tt; due = assumption })
+    (choose (b == code "\\") (begin_escape r) (leave (to modes.Start r)) (record { heard = tt; due = assumption }) (record { heard = tt; due = assumption })))
+accepted-tells f r h = record { heard = tt; due = assumption }
 
-accepted_escape-tells : (f : Front) (r : Reading) → Tells (accepted_escape f r)
-accepted_escape-tells fronts.Mark r = record { heard = tt }
-accepted_escape-tells (fronts.Byte b) r = choose (b == code "{") (go (plain r)) (leave (to modes.Start r)) (record { heard = tt }) (record { heard = tt })
-accepted_escape-tells f r = record { heard = tt }
+accepted_escape-tells : (f : Front) (r : Reading) → IsDue r.due → Tells (accepted_escape f r)
+accepted_escape-tells fronts.Mark r h = record { heard = tt; due = assumption }
+accepted_escape-tells (fronts.Byte b) r h = choose (b == code "{") (go (plain r)) (leave (to modes.Start r)) (record { heard = tt; due = assumption }) (record { heard = tt; due = assumption })
+accepted_escape-tells f r h = record { heard = tt; due = assumption }
 
-newline-tells : (n : ℕ) (r : Reading) → Tells (behind_newline n r)
-newline-tells n r = choose (n == 0) (go (to modes.Start r)) (go r) (record { heard = tt }) (record { heard = tt })
+newline-tells : (n : ℕ) (r : Reading) → IsDue r.due → Tells (behind_newline n r)
+newline-tells n r h = choose (n == 0) (go (to modes.Start r)) (go r) (record { heard = tt; due = assumption }) (record { heard = tt; due = assumption })
 
-skip-tells : (f : Front) (n : ℕ) (r : Reading) → Tells (skip f n r)
-skip-tells (fronts.Byte b) n r =
-    choose (b == code "\n") (behind_newline n r) (if b == code "\\" then begin_escape r else go r) (newline-tells n r)
-    (choose (b == code "\\") (begin_escape r) (go r) (record { heard = tt }) (record { heard = tt }))
-skip-tells (fronts.LineEnd k) n r = newline-tells n r
-skip-tells fronts.Resume n r = record { heard = tt }
-skip-tells fronts.Over n r = record { heard = tt }
-skip-tells f n r = record { heard = tt }
+skip-tells : (f : Front) (n : ℕ) (r : Reading) → IsDue r.due → Tells (skip f n r)
+skip-tells (fronts.Byte b) n r h =
+    choose (b == code "\n") (behind_newline n r) (if b == code "\\" then begin_escape r else go r) (newline-tells n r h)
+    (choose (b == code "\\") (begin_escape r) (go r) (record { heard = tt; due = assumption }) (record { heard = tt; due = assumption }))
+skip-tells (fronts.LineEnd k) n r h = newline-tells n r h
+skip-tells fronts.Resume n r h = record { heard = tt; due = assumption }
+skip-tells fronts.Over n r h = record { heard = tt; due = assumption }
+skip-tells f n r h = record { heard = tt; due = assumption }
 
-skip_escape-tells : (f : Front) (n : ℕ) (r : Reading) → Tells (skip_escape f n r)
-skip_escape-tells fronts.Mark n r = record { heard = tt }
-skip_escape-tells (fronts.Byte b) n r = record { heard = tt }
-skip_escape-tells fronts.Resume n r = record { heard = tt }
-skip_escape-tells fronts.Over n r = record { heard = tt }
-skip_escape-tells f n r = record { heard = tt }
+skip_escape-tells : (f : Front) (n : ℕ) (r : Reading) → IsDue r.due → Tells (skip_escape f n r)
+skip_escape-tells fronts.Mark n r h = record { heard = tt; due = assumption }
+skip_escape-tells (fronts.Byte b) n r h = record { heard = tt; due = assumption }
+skip_escape-tells fronts.Resume n r h = record { heard = tt; due = assumption }
+skip_escape-tells fronts.Over n r h = record { heard = tt; due = assumption }
+skip_escape-tells f n r h = record { heard = tt; due = assumption }
 
-unescaped-tells : (m : Mode) (f : Front) (s : Signs) (r : Reading) → IsFront f → Tells (unescaped m f s r)
-unescaped-tells modes.Diverting f s r is = diverting-tells f s r is
-unescaped-tells (modes.Leading n) f s r is = leading-tells f n r
-unescaped-tells modes.Continued f s r is = continued-tells f r is
-unescaped-tells modes.Text f s r is = text-tells f r is
-unescaped-tells modes.Interrupted f s r is = text-tells f r is
-unescaped-tells modes.TitleBefore f s r is = before_title-tells f r
-unescaped-tells (modes.Title d n) f s r is = title-tells f d n r is
-unescaped-tells modes.Diverted f s r is = diverted-tells f r is
-unescaped-tells modes.Accepted f s r is = accepted-tells f r
-unescaped-tells (modes.Skip n) f s r is = skip-tells f n r
-unescaped-tells m f s r is = start-tells f s r
+unescaped-tells : (m : Mode) (f : Front) (s : Signs) (r : Reading) → IsDue r.due → IsFront f → Tells (unescaped m f s r)
+unescaped-tells modes.Diverting f s r h is = diverting-tells f s r h is
+unescaped-tells (modes.Leading n) f s r h is = leading-tells f n r h
+unescaped-tells modes.Continued f s r h is = continued-tells f r h is
+unescaped-tells modes.Text f s r h is = text-tells f r h is
+unescaped-tells modes.Interrupted f s r h is = text-tells f r h is
+unescaped-tells modes.TitleBefore f s r h is = before_title-tells f r h
+unescaped-tells (modes.Title d n) f s r h is = title-tells f d n r h is
+unescaped-tells modes.Diverted f s r h is = diverted-tells f r h is
+unescaped-tells modes.Accepted f s r h is = accepted-tells f r h
+unescaped-tells (modes.Skip n) f s r h is = skip-tells f n r h
+unescaped-tells m f s r h is = start-tells f s r h
 
-backslash-tells : (m : Mode) (f : Front) (s : Signs) (r : Reading) → Tells (after_backslash m f s r)
-backslash-tells modes.Accepted f s r = accepted_escape-tells f r
-backslash-tells (modes.Skip n) f s r = skip_escape-tells f n r
-backslash-tells m f s r = escaped-tells f s.long r
+backslash-tells : (m : Mode) (f : Front) (s : Signs) (r : Reading) → IsDue r.due → Tells (after_backslash m f s r)
+backslash-tells modes.Accepted f s r h = accepted_escape-tells f r h
+backslash-tells (modes.Skip n) f s r h = skip_escape-tells f n r h
+backslash-tells m f s r h = escaped-tells f s.long r h
 
-pub direct-tells : (e : Escape) (f : Front) (s : Signs) (r : Reading) → IsFront f → Tells (direct_by e f s r)
-direct-tells escapes.Plain f s r is = unescaped-tells r.mode f s r is
-direct-tells escapes.Begun f s r is = backslash-tells r.mode f s r
-direct-tells escapes.Comment f s r is =
-    choose (ends_comment f) (unescaped r.mode f s (plain r)) (go r) (unescaped-tells r.mode f s (plain r) is) (record { heard = tt })
+pub direct-tells : (e : Escape) (f : Front) (s : Signs) (r : Reading) → IsDue r.due → IsFront f → Tells (direct_by e f s r)
+direct-tells escapes.Plain f s r h is = unescaped-tells r.mode f s r h is
+direct-tells escapes.Begun f s r h is = backslash-tells r.mode f s r h
+direct-tells escapes.Comment f s r h is =
+    choose (ends_comment f) (unescaped r.mode f s (plain r)) (go r) (unescaped-tells r.mode f s (plain r) h is) (record { heard = tt; due = assumption })

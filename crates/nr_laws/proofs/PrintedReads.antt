@@ -1,15 +1,15 @@
 -- What is read while a text is copied, and what either way of reading tells.
 use Prim.Native.Char.{code}
 use Rattle.std.specs.Prelude.{nat_le, nat_lt, not, slice_index, length, ◌||◌, ◌&&◌}
-use Rattle.std.proofs.lemmas.Bool.{eqb-true}
-use Rattle.std.proofs.Common.{◌≡◌, ℕ, ◌==◌, Bool, true, false, if◌then◌else◌, List, [], ◌∷◌, Option, None, Some, refl, ap}
+use Rattle.std.proofs.Common.{◌≡◌, ℕ, ◌==◌, Bool, true, false, if◌then◌else◌, List, [], ◌∷◌, Option, None, Some, refl}
 use Rattle.nr_reading.specs.declared.ask.Ask.{Ask}
 use Rattle.nr_reading.specs.declared.ask.Kind.{Kind}
+use Rattle.nr_reading.specs.declared.ask.Sign.{Sign}
+use Rattle.nr_reading.specs.declared.ask.Sign.TheVariants as signs
 use Rattle.nr_reading.specs.declared.ask.Kind.TheVariants as kinds
 use Rattle.nr_reading.specs.declared.ask.Stage.{Stage}
 use Rattle.nr_reading.specs.declared.ask.Stage.TheVariants as stages
 use Rattle.nr_reading.specs.declared.notes.Defining.{Defining}
-use Rattle.nr_reading.specs.declared.event.Event.{Event}
 use Rattle.nr_reading.specs.declared.event.Event.TheVariants as events
 use Rattle.nr_reading.specs.declared.event.Question.TheVariants as questions
 use Rattle.nr_reading.specs.declared.front.Front.{Front}
@@ -23,146 +23,156 @@ use Rattle.nr_reading.specs.declared.mode.Mode.TheVariants as modes
 use Rattle.nr_reading.specs.declared.mode.Reading.{Reading}
 use Rattle.nr_reading.specs.declared.mode.Signs.{Signs}
 use Rattle.nr_reading.specs.declared.spelled.Spelled.{Spelled}
-use Rattle.nr_reading.specs.Ask.{answer, answer_byte, argument_asked, answer_first, answer_two, answer_bracket, answer_digit, cut, is_argument, is_digit, is_given, is_unsigned, reads_argument}
+use Rattle.nr_reading.specs.Ask.{begun_ask, answer, answer_byte, argument_asked, answer_first, answer_two, answer_bracket, answer_digit, cut, is_argument, is_digit, is_given, is_unsigned, reads_argument}
 use Rattle.nr_reading.specs.Conditions.{begins_number, read_condition_byte, read_condition, parentheses}
 use Rattle.nr_reading.specs.Control.{completes, read_name, read_macro_gap}
 use Rattle.nr_reading.specs.Definitions.{last_line, kept_byte, released, in_body, not_last, nearer_last, read_body_start, over_body_start}
-use Rattle.nr_reading.specs.Ended.{event_of}
-use Rattle.nr_reading.specs.Half.{Met, meet, met_directly, met_copied, answered, offered, hear_by, over_by, offer_to, meet_by}
+use Rattle.nr_reading.specs.Ended.{due_of, event_of}
+use Rattle.nr_reading.specs.Half.{Met, meet, met_directly, met_copied, answered, offered, hear_by, over_by, offer_to, meet_by, asking, too_deep, escaping as escaping_half}
 use Rattle.nr_reading.specs.Mode.{is_direct, reads_arguments}
 use Rattle.nr_reading.specs.Escape.{offer, offer_byte, raw_offer, escaped as copied_escape}
+use Rattle.nr_reading.specs.Nesting.{may_nest}
 use Rattle.nr_reading.specs.Notes.{Note}
 use Rattle.nr_reading.specs.Notes as notes
 use Rattle.nr_reading.specs.declared.notes.Notes.{Notes}
 use Rattle.nr_reading.specs.Noting.{are_equal}
-use Rattle.nr_reading.specs.Reader.{read_by, read, read_over_by, read_over, unescaped, after_backslash, ends_comment, direct_by, direct}
-use Rattle.nr_reading.specs.Skipping.{accepted, accepted_escape, behind_newline, skip, skip_escape, diverted, diverting}
+use Rattle.nr_reading.specs.Reader.{read_by, read, read_over_by, read_over, direct}
 use Rattle.nr_reading.specs.Spelled.{is_blank, is_empty, ends_name, name_of, spelled}
-use Rattle.nr_reading.specs.Step.{Step, to, escaping, due, go, leave, tell, noting, leave_telling, leave_noting}
+use Rattle.nr_reading.specs.Step.{Step, to, due, go, leave, tell, noting, leave_telling, leave_noting}
 use Rattle.nr_reading.specs.Strings.{after_string_name, read_string_name}
-use Rattle.nr_reading.specs.Text.{continuing, begin_escape, in_text, start_blank, start_newline, start_control, start_byte, start, one_blank_more, text_after_blanks, leading, end_continued, continued, is_interrupted, ended, end_event, text}
-use Rattle.nr_reading.specs.TextEscape.{plain, interpolated, asked_in_text, is_nothing, is_plain, other_byte, event_after, is_titled, after_escape, escape_in_text, escape_at_start, escape_by, spliced_or, lone_escape, escaped}
-use Rattle.nr_reading.specs.Titles.{ended_title, before_title, next_part, title}
-use Rattle.nr_settings.specs.Characters.{prints}
-use Rattle.nr_laws.proofs.PrintedLines.{IsPrinted}
+use Rattle.nr_reading.specs.Titles.{ended_title}
 use Rattle.nr_laws.proofs.PrintedStores.{IsFront}
-use Rattle.nr_laws.proofs.PrintedDirect.{IsHeard, Tells, choose, direct-tells}
+use Rattle.nr_laws.proofs.PrintedDirect.{IsHeard, IsDue, Tells, choose, direct-tells}
 
 -- ---- copied elements
 
-condition_byte-tells : (b : ℕ) (r : Reading) → Tells (read_condition_byte b r)
-condition_byte-tells b r =
+condition_byte-tells : (b : ℕ) (r : Reading) → IsDue r.due → Tells (read_condition_byte b r)
+condition_byte-tells b r h =
     let c5 : Step = if begins_number b then leave_noting notes.NewLine (to (modes.Number 0) r) else noting notes.Strings (to (modes.First b) r) in
     let c4 : Step = if b == code "n" then go (due (dues.Judge true) r) else c5 in
     let c3 : Step = if b == code "t" then go (due (dues.Judge false) r) else c4 in
     let c2 : Step = if b == code "e" then tell (events.Judge questions.Even) (to (modes.Skip 0) r) else c3 in
-    choose (b == code "o") (tell (events.Judge questions.Odd) (to (modes.Skip 0) r)) c2 (record { heard = tt })
-    (choose (b == code "e") (tell (events.Judge questions.Even) (to (modes.Skip 0) r)) c3 (record { heard = tt })
-    (choose (b == code "t") (go (due (dues.Judge false) r)) c4 (record { heard = tt })
-    (choose (b == code "n") (go (due (dues.Judge true) r)) c5 (record { heard = tt })
-    (choose (begins_number b) (leave_noting notes.NewLine (to (modes.Number 0) r)) (noting notes.Strings (to (modes.First b) r)) (record { heard = tt }) (record { heard = tt })))))
+    choose (b == code "o") (tell (events.Judge questions.Odd) (to (modes.Skip 0) r)) c2 (record { heard = tt; due = assumption })
+    (choose (b == code "e") (tell (events.Judge questions.Even) (to (modes.Skip 0) r)) c3 (record { heard = tt; due = assumption })
+    (choose (b == code "t") (go (due (dues.Judge false) r)) c4 (record { heard = tt; due = assumption })
+    (choose (b == code "n") (go (due (dues.Judge true) r)) c5 (record { heard = tt; due = assumption })
+    (choose (begins_number b) (leave_noting notes.NewLine (to (modes.Number 0) r)) (noting notes.Strings (to (modes.First b) r)) (record { heard = tt; due = assumption }) (record { heard = tt; due = assumption })))))
 
-condition-tells : (b : ℕ) (negated : Bool) (r : Reading) → Tells (read_condition b negated r)
-condition-tells b negated r =
+condition-tells : (b : ℕ) (negated : Bool) (r : Reading) → IsDue r.due → Tells (read_condition b negated r)
+condition-tells b negated r h =
     let blank : Step = if negated then leave (due (dues.Judge false) r) else go r in
     let c3 : Step = if (b == code "!") && not negated then noting notes.Negated r else read_condition_byte b r in
     let c2 : Step = if is_blank b then blank else c3 in
-    choose (b == code "\n") (leave (due (dues.Judge false) r)) c2 (record { heard = tt })
-    (choose (is_blank b) blank c3 (choose negated (leave (due (dues.Judge false) r)) (go r) (record { heard = tt }) (record { heard = tt }))
-    (choose ((b == code "!") && not negated) (noting notes.Negated r) (read_condition_byte b r) (record { heard = tt }) (condition_byte-tells b r)))
+    choose (b == code "\n") (leave (due (dues.Judge false) r)) c2 (record { heard = tt; due = assumption })
+    (choose (is_blank b) blank c3 (choose negated (leave (due (dues.Judge false) r)) (go r) (record { heard = tt; due = assumption }) (record { heard = tt; due = assumption }))
+    (choose ((b == code "!") && not negated) (noting notes.Negated r) (read_condition_byte b r) (record { heard = tt; due = assumption }) (condition_byte-tells b r h)))
 
-not_last-tells : (b : ℕ) (d : Defining) (held : ℕ) (r : Reading) → Tells (not_last b d held r)
-not_last-tells b d held r =
-    choose (held == 0) (go (due (kept_byte d b) (to (in_body b) r))) (go (due (released d held (Some b)) (to (in_body b) r))) (record { heard = tt }) (record { heard = tt })
+kept-due : (c : Bool) (b : ℕ) → IsDue (if c then dues.Add b else dues.Look)
+kept-due true b = tt
+kept-due false b = tt
 
-body_start-tells : (b : ℕ) (d : Defining) (held : ℕ) (r : Reading) → Tells (read_body_start b d held r)
-body_start-tells b d held r =
+released-due : (c : Bool) (held : ℕ) (b : Option ℕ) → IsDue (if c then dues.Release held 0 b else dues.Look)
+released-due true held b = tt
+released-due false held b = tt
+
+name-due : (c : Bool) (r : Reading) → IsDue r.due → IsDue (if c then to modes.Drop r else to modes.StringBlanks r).due
+name-due true r h = h
+name-due false r h = h
+
+not_last-tells : (b : ℕ) (d : Defining) (held : ℕ) (r : Reading) → IsDue r.due → Tells (not_last b d held r)
+not_last-tells b d held r h =
+    choose (held == 0) (go (due (kept_byte d b) (to (in_body b) r))) (go (due (released d held (Some b)) (to (in_body b) r))) (record { heard = tt; due = kept-due d.keeps b }) (record { heard = tt; due = released-due d.keeps held (Some b) })
+
+body_start-tells : (b : ℕ) (d : Defining) (held : ℕ) (r : Reading) → IsDue r.due → Tells (read_body_start b d held r)
+body_start-tells b d held r h =
     choose (nat_lt held (length (last_line d)))
     (if b == slice_index (last_line d) held then go (to (nearer_last d held) r) else not_last b d held r)
     (if (b == code "\n") || is_blank b then leave (to modes.BodyEnd r) else not_last b d held r)
-    (choose (b == slice_index (last_line d) held) (go (to (nearer_last d held) r)) (not_last b d held r) (record { heard = tt }) (not_last-tells b d held r))
-    (choose ((b == code "\n") || is_blank b) (leave (to modes.BodyEnd r)) (not_last b d held r) (record { heard = tt }) (not_last-tells b d held r))
+    (choose (b == slice_index (last_line d) held) (go (to (nearer_last d held) r)) (not_last b d held r) (record { heard = tt; due = assumption }) (not_last-tells b d held r h))
+    (choose ((b == code "\n") || is_blank b) (leave (to modes.BodyEnd r)) (not_last b d held r) (record { heard = tt; due = assumption }) (not_last-tells b d held r h))
 
-body_over-tells : (d : Defining) (held : ℕ) (r : Reading) → Tells (over_body_start d held r)
-body_over-tells d held r =
+body_over-tells : (d : Defining) (held : ℕ) (r : Reading) → IsDue r.due → Tells (over_body_start d held r)
+body_over-tells d held r h =
     choose (held == 0) (leave (due dues.Define (to modes.Start r)))
-    (if nat_lt held (length (last_line d)) then leave (due (released d held None) (to modes.Body r)) else leave (to modes.BodyEnd r)) (record { heard = tt })
-    (choose (nat_lt held (length (last_line d))) (leave (due (released d held None) (to modes.Body r))) (leave (to modes.BodyEnd r)) (record { heard = tt }) (record { heard = tt }))
+    (if nat_lt held (length (last_line d)) then leave (due (released d held None) (to modes.Body r)) else leave (to modes.BodyEnd r)) (record { heard = tt; due = assumption })
+    (choose (nat_lt held (length (last_line d))) (leave (due (released d held None) (to modes.Body r))) (leave (to modes.BodyEnd r)) (record { heard = tt; due = released-due d.keeps held None }) (record { heard = tt; due = assumption }))
 
-name-tells : (b : ℕ) (long : Bool) (name : Spelled) (r : Reading) → Tells (read_name b long name r)
-name-tells b long name r =
-    choose (ends_name b) (leave (due dues.Seek r)) (if completes long name then noting (notes.Name b) (due dues.Seek r) else noting (notes.Name b) r) (record { heard = tt })
-    (choose (completes long name) (noting (notes.Name b) (due dues.Seek r)) (noting (notes.Name b) r) (record { heard = tt }) (record { heard = tt }))
+name-tells : (b : ℕ) (long : Bool) (name : Spelled) (r : Reading) → IsDue r.due → Tells (read_name b long name r)
+name-tells b long name r h =
+    choose (ends_name b) (leave (due dues.Seek r)) (if completes long name then noting (notes.Name b) (due dues.Seek r) else noting (notes.Name b) r) (record { heard = tt; due = assumption })
+    (choose (completes long name) (noting (notes.Name b) (due dues.Seek r)) (noting (notes.Name b) r) (record { heard = tt; due = assumption }) (record { heard = tt; due = assumption }))
 
-gap-tells : (b : ℕ) (r : Reading) → Tells (read_macro_gap b r)
-gap-tells b r =
+gap-tells : (b : ℕ) (r : Reading) → IsDue r.due → Tells (read_macro_gap b r)
+gap-tells b r h =
     let c3 : Step = if b == code "\"" then go (to modes.Quoted r) else go (due (dues.Put b) (to modes.Word r)) in
-    choose (b == code "\n") (go (due dues.Call (to modes.Start r))) (if b == code " " then go r else c3) (record { heard = tt })
-    (choose (b == code " ") (go r) c3 (record { heard = tt })
-    (choose (b == code "\"") (go (to modes.Quoted r)) (go (due (dues.Put b) (to modes.Word r))) (record { heard = tt }) (record { heard = tt })))
+    choose (b == code "\n") (go (due dues.Call (to modes.Start r))) (if b == code " " then go r else c3) (record { heard = tt; due = assumption })
+    (choose (b == code " ") (go r) c3 (record { heard = tt; due = assumption })
+    (choose (b == code "\"") (go (to modes.Quoted r)) (go (due (dues.Put b) (to modes.Word r))) (record { heard = tt; due = assumption }) (record { heard = tt; due = assumption })))
 
-string_name-tells : (b : ℕ) (long : Bool) (name : Spelled) (r : Reading) → Tells (read_string_name b long name r)
-string_name-tells b long name r =
-    choose (ends_name b) (leave (after_string_name name r)) (if completes long name then noting (notes.Name b) (to modes.StringBlanks r) else noting (notes.Name b) r) (record { heard = tt })
-    (choose (completes long name) (noting (notes.Name b) (to modes.StringBlanks r)) (noting (notes.Name b) r) (record { heard = tt }) (record { heard = tt }))
+string_name-tells : (b : ℕ) (long : Bool) (name : Spelled) (r : Reading) → IsDue r.due → Tells (read_string_name b long name r)
+string_name-tells b long name r h =
+    choose (ends_name b) (leave (after_string_name name r)) (if completes long name then noting (notes.Name b) (to modes.StringBlanks r) else noting (notes.Name b) r)
+    (record { heard = tt; due = name-due (is_empty (name_of name)) r h })
+    (choose (completes long name) (noting (notes.Name b) (to modes.StringBlanks r)) (noting (notes.Name b) r) (record { heard = tt; due = assumption }) (record { heard = tt; due = assumption }))
 
 two-tell : (c d : Bool) (x y z : Step) → Tells x → Tells y → Tells z → Tells (if c then x else (if d then y else z))
 two-tell c d x y z a b e = choose c x (if d then y else z) a (choose d y z b e)
 
-read-tells : (m : Mode) (b : ℕ) (s : Signs) (n : Notes) (r : Reading) → Tells (read_by m b s n r)
-read-tells modes.Control b s n r = choose (is_blank b) (go r) (leave (to modes.Name r)) (record { heard = tt }) (record { heard = tt })
-read-tells modes.Name b s n r = name-tells b s.long n.name r
-read-tells modes.Drop b s n r = choose (b == code "\n") (go (to modes.Start r)) (go r) (record { heard = tt }) (record { heard = tt })
-read-tells modes.TitleRest b s n r = choose (b == code "\n") (tell events.TitleEnd (ended_title r)) (go r) (record { heard = tt }) (record { heard = tt })
-read-tells modes.RequestBlanks b s n r = choose (is_blank b) (go r) (leave_noting notes.NewLine (to modes.RequestLine r)) (record { heard = tt }) (record { heard = tt })
-read-tells modes.RequestLine b s n r = choose (b == code "\n") (tell events.Request (to modes.Start r)) (noting (notes.Line b) r) (record { heard = tt }) (record { heard = tt })
-read-tells modes.MacroBlanks b s n r = choose (is_blank b) (go r) (leave (to modes.MacroGap r)) (record { heard = tt }) (record { heard = tt })
-read-tells modes.MacroGap b s n r = gap-tells b r
-read-tells modes.Word b s n r =
-    two-tell (b == code "\n") (b == code " ") (leave (due dues.EndArgument (to modes.MacroGap r))) (go (due dues.EndArgument (to modes.MacroGap r))) (go (due (dues.Put b) r)) (record { heard = tt }) (record { heard = tt }) (record { heard = tt })
-read-tells modes.Quoted b s n r =
-    two-tell (b == code "\n") (b == code "\"") (leave (due dues.EndArgument (to modes.MacroGap r))) (go (to modes.Quote r)) (go (due (dues.Put b) r)) (record { heard = tt }) (record { heard = tt }) (record { heard = tt })
-read-tells modes.Quote b s n r =
-    choose (b == code "\"") (go (due (dues.Put (code "\"")) (to modes.Quoted r))) (leave (due dues.EndArgument (to modes.MacroGap r))) (record { heard = tt }) (record { heard = tt })
-read-tells modes.StringBefore b s n r = choose (is_blank b) (go r) (leave_noting notes.NewName (to modes.StringName r)) (record { heard = tt }) (record { heard = tt })
-read-tells modes.StringName b s n r = string_name-tells b s.long n.name r
-read-tells modes.StringBlanks b s n r =
-    two-tell (is_blank b) (b == code "\"") (go r) (go (due dues.Begin (to modes.StringText r))) (leave (due dues.Begin (to modes.StringText r))) (record { heard = tt }) (record { heard = tt }) (record { heard = tt })
-read-tells modes.StringText b s n r = choose (b == code "\n") (go (due dues.Define (to modes.Start r))) (go (due (dues.Add b) r)) (record { heard = tt }) (record { heard = tt })
-read-tells (modes.BodyStart held) b s n r = body_start-tells b n.defining held r
-read-tells modes.Body b s n r = record { heard = tt }
-read-tells modes.BodyEnd b s n r = choose (b == code "\n") (go (due dues.DefineAndCall (to modes.Start r))) (go r) (record { heard = tt }) (record { heard = tt })
-read-tells modes.Condition b s n r = condition-tells b n.condition.negated r
-read-tells (modes.Number depth) b s n r =
+read-tells : (m : Mode) (b : ℕ) (s : Signs) (n : Notes) (r : Reading) → IsDue r.due → Tells (read_by m b s n r)
+read-tells modes.Control b s n r h = choose (is_blank b) (go r) (leave (to modes.Name r)) (record { heard = tt; due = assumption }) (record { heard = tt; due = assumption })
+read-tells modes.Name b s n r h = name-tells b s.long n.name r h
+read-tells modes.Drop b s n r h = choose (b == code "\n") (go (to modes.Start r)) (go r) (record { heard = tt; due = assumption }) (record { heard = tt; due = assumption })
+read-tells modes.TitleRest b s n r h = choose (b == code "\n") (tell events.TitleEnd (ended_title r)) (go r) (record { heard = tt; due = assumption }) (record { heard = tt; due = assumption })
+read-tells modes.RequestBlanks b s n r h = choose (is_blank b) (go r) (leave_noting notes.NewLine (to modes.RequestLine r)) (record { heard = tt; due = assumption }) (record { heard = tt; due = assumption })
+read-tells modes.RequestLine b s n r h = choose (b == code "\n") (tell events.Request (to modes.Start r)) (noting (notes.Line b) r) (record { heard = tt; due = assumption }) (record { heard = tt; due = assumption })
+read-tells modes.MacroBlanks b s n r h = choose (is_blank b) (go r) (leave (to modes.MacroGap r)) (record { heard = tt; due = assumption }) (record { heard = tt; due = assumption })
+read-tells modes.MacroGap b s n r h = gap-tells b r h
+read-tells modes.Word b s n r h =
+    two-tell (b == code "\n") (b == code " ") (leave (due dues.EndArgument (to modes.MacroGap r))) (go (due dues.EndArgument (to modes.MacroGap r))) (go (due (dues.Put b) r)) (record { heard = tt; due = assumption }) (record { heard = tt; due = assumption }) (record { heard = tt; due = assumption })
+read-tells modes.Quoted b s n r h =
+    two-tell (b == code "\n") (b == code "\"") (leave (due dues.EndArgument (to modes.MacroGap r))) (go (to modes.Quote r)) (go (due (dues.Put b) r)) (record { heard = tt; due = assumption }) (record { heard = tt; due = assumption }) (record { heard = tt; due = assumption })
+read-tells modes.Quote b s n r h =
+    choose (b == code "\"") (go (due (dues.Put (code "\"")) (to modes.Quoted r))) (leave (due dues.EndArgument (to modes.MacroGap r))) (record { heard = tt; due = assumption }) (record { heard = tt; due = assumption })
+read-tells modes.StringBefore b s n r h = choose (is_blank b) (go r) (leave_noting notes.NewName (to modes.StringName r)) (record { heard = tt; due = assumption }) (record { heard = tt; due = assumption })
+read-tells modes.StringName b s n r h = string_name-tells b s.long n.name r h
+read-tells modes.StringBlanks b s n r h =
+    two-tell (is_blank b) (b == code "\"") (go r) (go (due dues.Begin (to modes.StringText r))) (leave (due dues.Begin (to modes.StringText r))) (record { heard = tt; due = assumption }) (record { heard = tt; due = assumption }) (record { heard = tt; due = assumption })
+read-tells modes.StringText b s n r h = choose (b == code "\n") (go (due dues.Define (to modes.Start r))) (go (due (dues.Add b) r)) (record { heard = tt; due = assumption }) (record { heard = tt; due = assumption })
+read-tells (modes.BodyStart held) b s n r h = body_start-tells b n.defining held r h
+read-tells modes.Body b s n r h = record { heard = tt; due = kept-due n.defining.keeps b }
+read-tells modes.BodyEnd b s n r h = choose (b == code "\n") (go (due dues.DefineAndCall (to modes.Start r))) (go r) (record { heard = tt; due = assumption }) (record { heard = tt; due = assumption })
+read-tells modes.Condition b s n r h = condition-tells b n.condition.negated r h
+read-tells (modes.Number depth) b s n r h =
     choose ((b == code "\n") || ((depth == 0) && (is_blank b || (b == code "\\")))) (leave_telling (events.Judge questions.Number) (to (modes.Skip 0) r))
-    (noting (notes.Line b) (to (modes.Number (parentheses b depth)) r)) (record { heard = tt }) (record { heard = tt })
-read-tells (modes.First d) b s n r =
-    two-tell (b == code "\n") (b == d) (leave (due (dues.Judge (are_equal n.condition)) r)) (go (to (modes.Second d) r)) (noting (notes.First b) r) (record { heard = tt }) (record { heard = tt }) (record { heard = tt })
-read-tells (modes.Second d) b s n r =
-    two-tell (b == code "\n") (b == d) (leave (due (dues.Judge (are_equal n.condition)) r)) (go (due (dues.Judge (are_equal n.condition)) r)) (noting (notes.Second b) r) (record { heard = tt }) (record { heard = tt }) (record { heard = tt })
-read-tells modes.Transparent b s n r =
-    choose (b == code "\n") (go (due (dues.Add (code "\n")) (to modes.Start r))) (go (due (dues.Add b) r)) (record { heard = tt }) (record { heard = tt })
-read-tells m b s n r = record { heard = tt }
+    (noting (notes.Line b) (to (modes.Number (parentheses b depth)) r)) (record { heard = tt; due = assumption }) (record { heard = tt; due = assumption })
+read-tells (modes.First d) b s n r h =
+    two-tell (b == code "\n") (b == d) (leave (due (dues.Judge (are_equal n.condition)) r)) (go (to (modes.Second d) r)) (noting (notes.First b) r) (record { heard = tt; due = assumption }) (record { heard = tt; due = assumption }) (record { heard = tt; due = assumption })
+read-tells (modes.Second d) b s n r h =
+    two-tell (b == code "\n") (b == d) (leave (due (dues.Judge (are_equal n.condition)) r)) (go (due (dues.Judge (are_equal n.condition)) r)) (noting (notes.Second b) r) (record { heard = tt; due = assumption }) (record { heard = tt; due = assumption }) (record { heard = tt; due = assumption })
+read-tells modes.Transparent b s n r h =
+    choose (b == code "\n") (go (due (dues.Add (code "\n")) (to modes.Start r))) (go (due (dues.Add b) r)) (record { heard = tt; due = assumption }) (record { heard = tt; due = assumption })
+read-tells m b s n r h = record { heard = tt; due = assumption }
 
-over-tells : (m : Mode) (s : Signs) (n : Notes) (r : Reading) → Tells (read_over_by m s n r)
-over-tells (modes.BodyStart held) s n r = body_over-tells n.defining held r
-over-tells m s n r = read-tells m (code "\n") s n r
+over-tells : (m : Mode) (s : Signs) (n : Notes) (r : Reading) → IsDue r.due → Tells (read_over_by m s n r)
+over-tells (modes.BodyStart held) s n r h = body_over-tells n.defining held r h
+over-tells m s n r h = read-tells m (code "\n") s n r h
 
 -- ---- the item in front
 
 pub record Meets (m : Met) : Type 0 where
   pub heard : IsHeard m.event m.half.reading.mode
+  pub due : IsDue m.half.reading.due
 
 directly-by : (n : Note) (s : Step) (h : Half) → Tells s → Meets (met_directly (record s { note = n }) h)
-directly-by (notes.Begin a) s h told = record { heard = told.heard }
-directly-by n s h told = record { heard = told.heard }
+directly-by (notes.Begin a) s h told = record { heard = told.heard; due = told.due }
+directly-by n s h told = record { heard = told.heard; due = told.due }
 
 directly : (s : Step) (h : Half) → Tells s → Meets (met_directly s h)
 directly s h told = directly-by s.note s h told
 
 copied-by : (n : Note) (front : Bool) (s : Step) (h : Half) → Tells s → Meets (met_copied front (record s { note = n }) h)
-copied-by (notes.Begin a) front s h told = record { heard = told.heard }
-copied-by n front s h told = record { heard = told.heard }
+copied-by (notes.Begin a) front s h told = record { heard = told.heard; due = told.due }
+copied-by n front s h told = record { heard = told.heard; due = told.due }
 
 copied : (front : Bool) (s : Step) (h : Half) → Tells s → Meets (met_copied front s h)
 copied front s h told = copied-by s.note front s h told
@@ -170,6 +180,23 @@ copied front s h told = copied-by s.note front s h told
 given : (c : Bool) (m : Mode) → IsHeard (if c then events.Given else events.Nothing) m
 given true m = tt
 given false m = tt
+
+register-due : (c : Bool) (s : Sign) → IsDue (if c then dues.Look else dues.Register s)
+register-due true s = tt
+register-due false s = tt
+
+ended-due : (k : Kind) (name : List ℕ) → IsDue (due_of k name)
+ended-due kinds.String name = tt
+ended-due (kinds.Register s) name = register-due (is_given name) s
+ended-due k name = tt
+
+deep-due : (k : Kind) (h : Half) → IsDue h.reading.due → IsDue (too_deep k h).reading.due
+deep-due (kinds.Register s) h is = tt
+deep-due k h is = is
+
+begins-due : (c : Bool) (k : Kind) (h : Half) → IsDue h.reading.due → IsDue (if c then asking (begun_ask k) h else too_deep k h).reading.due
+begins-due true k h is = is
+begins-due false k h is = deep-due k h is
 
 ended-heard : (k : Kind) (name : List ℕ) (m : Mode) → IsHeard (event_of k name) m
 ended-heard (kinds.Register s) name m = given (is_given name) m
@@ -184,158 +211,158 @@ ended-heard k name m = tt
 ends : (k : Kind) (name : List ℕ) (m : Mode) → IsHeard (event_of k name) m
 ends k name m = ended-heard k name m
 
-argument-meets : (front : Bool) (b : ℕ) (a : Ask) (h : Half) → Meets (answered front (argument_asked b a) h)
-argument-meets front b a h = by (nat_le (code "1") b && nat_le b (code "9")) refl
+argument-meets : (front : Bool) (b : ℕ) (a : Ask) (h : Half) → IsDue h.reading.due → Meets (answered front (argument_asked b a) h)
+argument-meets front b a h owed = by (nat_le (code "1") b && nat_le b (code "9")) refl
   where
     by : (c : Bool) → (nat_le (code "1") b && nat_le b (code "9")) ≡ c → Meets (answered front (argument_asked b a) h)
-    by true e = rw e (record { heard = tt })
-    by false e = rw e (record { heard = ends a.kind (name_of a.name) h.reading.mode })
+    by true e = rw e (record { heard = tt; due = assumption })
+    by false e = rw e (record { heard = ends a.kind (name_of a.name) h.reading.mode; due = ended-due a.kind (name_of a.name) })
 
-first-meets : (front : Bool) (b : ℕ) (long : Bool) (a : Ask) (h : Half) → Meets (answered front (answer_first b long a) h)
-first-meets front b long a h = by (b == code "(") ((b == code "[") && long) ((b == code "+") && is_unsigned a.kind) ((b == code "-") && is_unsigned a.kind) refl refl refl refl
+first-meets : (front : Bool) (b : ℕ) (long : Bool) (a : Ask) (h : Half) → IsDue h.reading.due → Meets (answered front (answer_first b long a) h)
+first-meets front b long a h owed = by (b == code "(") ((b == code "[") && long) ((b == code "+") && is_unsigned a.kind) ((b == code "-") && is_unsigned a.kind) refl refl refl refl
   where
     by : (c d e f : Bool) → (b == code "(") ≡ c → ((b == code "[") && long) ≡ d → ((b == code "+") && is_unsigned a.kind) ≡ e → ((b == code "-") && is_unsigned a.kind) ≡ f
         → Meets (answered front (answer_first b long a) h)
-    by true d e f c-is d-is e-is f-is = rw c-is (record { heard = tt })
-    by false true e f c-is d-is e-is f-is = rw (c-is, d-is) (record { heard = tt })
-    by false false true f c-is d-is e-is f-is = rw (c-is, d-is, e-is) (record { heard = tt })
-    by false false false true c-is d-is e-is f-is = rw (c-is, d-is, e-is, f-is) (record { heard = tt })
-    by false false false false c-is d-is e-is f-is = rw (c-is, d-is, e-is, f-is) (record { heard = ends a.kind (name_of (spelled b a.name)) h.reading.mode })
+    by true d e f c-is d-is e-is f-is = rw c-is (record { heard = tt; due = assumption })
+    by false true e f c-is d-is e-is f-is = rw (c-is, d-is) (record { heard = tt; due = assumption })
+    by false false true f c-is d-is e-is f-is = rw (c-is, d-is, e-is) (record { heard = tt; due = assumption })
+    by false false false true c-is d-is e-is f-is = rw (c-is, d-is, e-is, f-is) (record { heard = tt; due = assumption })
+    by false false false false c-is d-is e-is f-is = rw (c-is, d-is, e-is, f-is) (record { heard = ends a.kind (name_of (spelled b a.name)) h.reading.mode; due = ended-due a.kind (name_of (spelled b a.name)) })
 
-two-meets : (front : Bool) (b : ℕ) (a : Ask) (h : Half) → Meets (answered front (answer_two b a) h)
-two-meets front b a h = by (is_empty a.name.bytes) refl
+two-meets : (front : Bool) (b : ℕ) (a : Ask) (h : Half) → IsDue h.reading.due → Meets (answered front (answer_two b a) h)
+two-meets front b a h owed = by (is_empty a.name.bytes) refl
   where
     by : (c : Bool) → is_empty a.name.bytes ≡ c → Meets (answered front (answer_two b a) h)
-    by true e = rw e (record { heard = tt })
-    by false e = rw e (record { heard = ends a.kind (name_of (spelled b a.name)) h.reading.mode })
+    by true e = rw e (record { heard = tt; due = assumption })
+    by false e = rw e (record { heard = ends a.kind (name_of (spelled b a.name)) h.reading.mode; due = ended-due a.kind (name_of (spelled b a.name)) })
 
-bracket-meets : (front : Bool) (b : ℕ) (a : Ask) (h : Half) → Meets (answered front (answer_bracket b a) h)
-bracket-meets front b a h = by (b == code "]") (is_blank b) refl refl
+bracket-meets : (front : Bool) (b : ℕ) (a : Ask) (h : Half) → IsDue h.reading.due → Meets (answered front (answer_bracket b a) h)
+bracket-meets front b a h owed = by (b == code "]") (is_blank b) refl refl
   where
     by : (c d : Bool) → (b == code "]") ≡ c → is_blank b ≡ d → Meets (answered front (answer_bracket b a) h)
-    by true d c-is d-is = rw c-is (record { heard = ends a.kind (name_of a.name) h.reading.mode })
-    by false true c-is d-is = rw (c-is, d-is) (record { heard = tt })
-    by false false c-is d-is = rw (c-is, d-is) (record { heard = tt })
+    by true d c-is d-is = rw c-is (record { heard = ends a.kind (name_of a.name) h.reading.mode; due = ended-due a.kind (name_of a.name) })
+    by false true c-is d-is = rw (c-is, d-is) (record { heard = tt; due = assumption })
+    by false false c-is d-is = rw (c-is, d-is) (record { heard = tt; due = assumption })
 
-digit-meets : (front : Bool) (b : ℕ) (signed : Bool) (a : Ask) (h : Half) → Meets (answered front (answer_digit b signed a) h)
-digit-meets front b signed a h = by (is_digit b) (not signed && nat_le (code "1") b && nat_le b (code "3")) refl refl
+digit-meets : (front : Bool) (b : ℕ) (signed : Bool) (a : Ask) (h : Half) → IsDue h.reading.due → Meets (answered front (answer_digit b signed a) h)
+digit-meets front b signed a h owed = by (is_digit b) (not signed && nat_le (code "1") b && nat_le b (code "3")) refl refl
   where
     by : (c d : Bool) → is_digit b ≡ c → (not signed && nat_le (code "1") b && nat_le b (code "3")) ≡ d → Meets (answered front (answer_digit b signed a) h)
-    by false d c-is d-is = rw c-is (record { heard = ends a.kind (name_of a.name) h.reading.mode })
-    by true true c-is d-is = rw (c-is, d-is) (record { heard = tt })
-    by true false c-is d-is = rw (c-is, d-is) (record { heard = ends a.kind (name_of a.name) h.reading.mode })
+    by false d c-is d-is = rw c-is (record { heard = ends a.kind (name_of a.name) h.reading.mode; due = ended-due a.kind (name_of a.name) })
+    by true true c-is d-is = rw (c-is, d-is) (record { heard = tt; due = assumption })
+    by true false c-is d-is = rw (c-is, d-is) (record { heard = ends a.kind (name_of a.name) h.reading.mode; due = ended-due a.kind (name_of a.name) })
 
-of-kind : (front : Bool) (b : ℕ) (long : Bool) (a : Ask) (h : Half) → Meets (answered front (answer_byte b long stages.First a) h)
-of-kind front b long a h = by (is_argument a.kind) refl
+of-kind : (front : Bool) (b : ℕ) (long : Bool) (a : Ask) (h : Half) → IsDue h.reading.due → Meets (answered front (answer_byte b long stages.First a) h)
+of-kind front b long a h owed = by (is_argument a.kind) refl
   where
     by : (c : Bool) → is_argument a.kind ≡ c → Meets (answered front (answer_byte b long stages.First a) h)
-    by true e = rw e (argument-meets front b a h)
-    by false e = rw e (first-meets front b long a h)
+    by true e = rw e (argument-meets front b a h owed)
+    by false e = rw e (first-meets front b long a h owed)
 
-stage-meets : (front : Bool) (b : ℕ) (long : Bool) (s : Stage) (a : Ask) (h : Half) → Meets (answered front (answer_byte b long s a) h)
-stage-meets front b long stages.First a h = of-kind front b long a h
-stage-meets front b long stages.Two a h = two-meets front b a h
-stage-meets front b long stages.Bracket a h = bracket-meets front b a h
-stage-meets front b long stages.Delimiter a h = record { heard = tt }
-stage-meets front b long (stages.Inside d) a h = by (b == d) refl
+stage-meets : (front : Bool) (b : ℕ) (long : Bool) (s : Stage) (a : Ask) (h : Half) → IsDue h.reading.due → Meets (answered front (answer_byte b long s a) h)
+stage-meets front b long stages.First a h owed = of-kind front b long a h owed
+stage-meets front b long stages.Two a h owed = two-meets front b a h owed
+stage-meets front b long stages.Bracket a h owed = bracket-meets front b a h owed
+stage-meets front b long stages.Delimiter a h owed = record { heard = tt; due = assumption }
+stage-meets front b long (stages.Inside d) a h owed = by (b == d) refl
   where
     by : (c : Bool) → (b == d) ≡ c → Meets (answered front (answer_byte b long (stages.Inside d) a) h)
-    by true e = rw e (record { heard = ends a.kind (name_of a.name) h.reading.mode })
-    by false e = rw e (record { heard = tt })
-stage-meets front b long stages.Sign a h = by ((b == code "+") || (b == code "-")) refl
+    by true e = rw e (record { heard = ends a.kind (name_of a.name) h.reading.mode; due = ended-due a.kind (name_of a.name) })
+    by false e = rw e (record { heard = tt; due = assumption })
+stage-meets front b long stages.Sign a h owed = by ((b == code "+") || (b == code "-")) refl
   where
     by : (c : Bool) → ((b == code "+") || (b == code "-")) ≡ c → Meets (answered front (answer_byte b long stages.Sign a) h)
-    by true e = rw e (record { heard = tt })
-    by false e = rw e (record { heard = tt })
-stage-meets front b long (stages.Digit signed) a h = digit-meets front b signed a h
-stage-meets front b long stages.Second a h = by (is_digit b) refl
+    by true e = rw e (record { heard = tt; due = assumption })
+    by false e = rw e (record { heard = tt; due = assumption })
+stage-meets front b long (stages.Digit signed) a h owed = digit-meets front b signed a h owed
+stage-meets front b long stages.Second a h owed = by (is_digit b) refl
   where
     by : (c : Bool) → is_digit b ≡ c → Meets (answered front (answer_byte b long stages.Second a) h)
-    by true e = rw e (record { heard = ends a.kind (name_of a.name) h.reading.mode })
-    by false e = rw e (record { heard = ends a.kind (name_of a.name) h.reading.mode })
+    by true e = rw e (record { heard = ends a.kind (name_of a.name) h.reading.mode; due = ended-due a.kind (name_of a.name) })
+    by false e = rw e (record { heard = ends a.kind (name_of a.name) h.reading.mode; due = ended-due a.kind (name_of a.name) })
 
-answered-meets : (front : Bool) (b : ℕ) (long : Bool) (a : Ask) (h : Half) → Meets (answered front (answer b long a) h)
-answered-meets front b long a h = by (b == code "\n") refl
+answered-meets : (front : Bool) (b : ℕ) (long : Bool) (a : Ask) (h : Half) → IsDue h.reading.due → Meets (answered front (answer b long a) h)
+answered-meets front b long a h owed = by (b == code "\n") refl
   where
     by : (c : Bool) → (b == code "\n") ≡ c → Meets (answered front (answer b long a) h)
-    by true e = rw e (record { heard = ends (cut a.stage a).kind (name_of (cut a.stage a).name) h.reading.mode })
-    by false e = rw e (stage-meets front b long a.stage a h)
+    by true e = rw e (record { heard = ends (cut a.stage a).kind (name_of (cut a.stage a).name) h.reading.mode; due = ended-due (cut a.stage a).kind (name_of (cut a.stage a).name) })
+    by false e = rw e (stage-meets front b long a.stage a h owed)
 
-hear-meets : (asks : List Ask) (front : Bool) (b : ℕ) (h : Half) → Meets (hear_by asks front b h)
-hear-meets [] front b h = copied front (read b h.signs h.notes h.reading) h (read-tells h.reading.mode b h.signs h.notes h.reading)
-hear-meets (a ∷ asks) front b h = answered-meets front b h.signs.long a h
+hear-meets : (asks : List Ask) (front : Bool) (b : ℕ) (h : Half) → IsDue h.reading.due → Meets (hear_by asks front b h)
+hear-meets [] front b h owed = copied front (read b h.signs h.notes h.reading) h (read-tells h.reading.mode b h.signs h.notes h.reading owed)
+hear-meets (a ∷ asks) front b h owed = answered-meets front b h.signs.long a h owed
 
-over-meets : (asks : List Ask) (h : Half) → Meets (over_by asks h)
-over-meets [] h = copied false (read_over h.signs h.notes h.reading) h (over-tells h.reading.mode h.signs h.notes h.reading)
-over-meets (a ∷ asks) h = answered-meets false (code "\n") h.signs.long a h
+over-meets : (asks : List Ask) (h : Half) → IsDue h.reading.due → Meets (over_by asks h)
+over-meets [] h owed = copied false (read_over h.signs h.notes h.reading) h (over-tells h.reading.mode h.signs h.notes h.reading owed)
+over-meets (a ∷ asks) h owed = answered-meets false (code "\n") h.signs.long a h owed
 
 -- a byte after `\`
-begun-meets : (b : ℕ) (argument : Bool) (h : Half) → Meets (offered (copied_escape b argument) h)
-begun-meets b argument h =
+begun-meets : (b : ℕ) (argument : Bool) (h : Half) → IsDue h.reading.due → Meets (offered (copied_escape b argument) h)
+begun-meets b argument h owed =
     by (b == code "\\") (b == code ".") (b == code "t") (b == code "a") (b == code "\n") (b == code "\"") (b == code "*") (b == code "$") (b == code "n") ((b == code "w") && argument)
     refl refl refl refl refl refl refl refl refl refl
   where
     by : (c1 c2 c3 c4 c5 c6 c7 c8 c9 c10 : Bool) → (b == code "\\") ≡ c1 → (b == code ".") ≡ c2 → (b == code "t") ≡ c3 → (b == code "a") ≡ c4 → (b == code "\n") ≡ c5 → (b == code "\"") ≡ c6
         → (b == code "*") ≡ c7 → (b == code "$") ≡ c8 → (b == code "n") ≡ c9 → ((b == code "w") && argument) ≡ c10 → Meets (offered (copied_escape b argument) h)
-    by true c2 c3 c4 c5 c6 c7 c8 c9 c10 e1 e2 e3 e4 e5 e6 e7 e8 e9 e10 = rw e1 (hear-meets h.asks true (code "\\") h)
-    by false true c3 c4 c5 c6 c7 c8 c9 c10 e1 e2 e3 e4 e5 e6 e7 e8 e9 e10 = rw (e1, e2) (hear-meets h.asks true (code ".") h)
-    by false false true c4 c5 c6 c7 c8 c9 c10 e1 e2 e3 e4 e5 e6 e7 e8 e9 e10 = rw (e1, e2, e3) (hear-meets h.asks true (code "\t") h)
-    by false false false true c5 c6 c7 c8 c9 c10 e1 e2 e3 e4 e5 e6 e7 e8 e9 e10 = rw (e1, e2, e3, e4) (hear-meets h.asks true 1 h)
-    by false false false false true c6 c7 c8 c9 c10 e1 e2 e3 e4 e5 e6 e7 e8 e9 e10 = rw (e1, e2, e3, e4, e5) (record { heard = tt })
-    by false false false false false true c7 c8 c9 c10 e1 e2 e3 e4 e5 e6 e7 e8 e9 e10 = rw (e1, e2, e3, e4, e5, e6) (record { heard = tt })
-    by false false false false false false true c8 c9 c10 e1 e2 e3 e4 e5 e6 e7 e8 e9 e10 = rw (e1, e2, e3, e4, e5, e6, e7) (record { heard = tt })
-    by false false false false false false false true c9 c10 e1 e2 e3 e4 e5 e6 e7 e8 e9 e10 = rw (e1, e2, e3, e4, e5, e6, e7, e8) (record { heard = tt })
-    by false false false false false false false false true c10 e1 e2 e3 e4 e5 e6 e7 e8 e9 e10 = rw (e1, e2, e3, e4, e5, e6, e7, e8, e9) (record { heard = tt })
-    by false false false false false false false false false true e1 e2 e3 e4 e5 e6 e7 e8 e9 e10 = rw (e1, e2, e3, e4, e5, e6, e7, e8, e9, e10) (record { heard = tt })
-    by false false false false false false false false false false e1 e2 e3 e4 e5 e6 e7 e8 e9 e10 = rw (e1, e2, e3, e4, e5, e6, e7, e8, e9, e10) (hear-meets h.asks false (code "\\") h)
+    by true c2 c3 c4 c5 c6 c7 c8 c9 c10 e1 e2 e3 e4 e5 e6 e7 e8 e9 e10 = rw e1 (hear-meets h.asks true (code "\\") h owed)
+    by false true c3 c4 c5 c6 c7 c8 c9 c10 e1 e2 e3 e4 e5 e6 e7 e8 e9 e10 = rw (e1, e2) (hear-meets h.asks true (code ".") h owed)
+    by false false true c4 c5 c6 c7 c8 c9 c10 e1 e2 e3 e4 e5 e6 e7 e8 e9 e10 = rw (e1, e2, e3) (hear-meets h.asks true (code "\t") h owed)
+    by false false false true c5 c6 c7 c8 c9 c10 e1 e2 e3 e4 e5 e6 e7 e8 e9 e10 = rw (e1, e2, e3, e4) (hear-meets h.asks true 1 h owed)
+    by false false false false true c6 c7 c8 c9 c10 e1 e2 e3 e4 e5 e6 e7 e8 e9 e10 = rw (e1, e2, e3, e4, e5) (record { heard = tt; due = assumption })
+    by false false false false false true c7 c8 c9 c10 e1 e2 e3 e4 e5 e6 e7 e8 e9 e10 = rw (e1, e2, e3, e4, e5, e6) (record { heard = tt; due = assumption })
+    by false false false false false false true c8 c9 c10 e1 e2 e3 e4 e5 e6 e7 e8 e9 e10 = rw (e1, e2, e3, e4, e5, e6, e7) (record { heard = tt; due = begins-due (may_nest h.reading.mode h.asks) kinds.String (escaping_half escapes.Plain h) owed })
+    by false false false false false false false true c9 c10 e1 e2 e3 e4 e5 e6 e7 e8 e9 e10 = rw (e1, e2, e3, e4, e5, e6, e7, e8) (record { heard = tt; due = begins-due (may_nest h.reading.mode h.asks) kinds.Argument (escaping_half escapes.Plain h) owed })
+    by false false false false false false false false true c10 e1 e2 e3 e4 e5 e6 e7 e8 e9 e10 = rw (e1, e2, e3, e4, e5, e6, e7, e8, e9) (record { heard = tt; due = begins-due (may_nest h.reading.mode h.asks) (kinds.Register signs.None) (escaping_half escapes.Plain h) owed })
+    by false false false false false false false false false true e1 e2 e3 e4 e5 e6 e7 e8 e9 e10 = rw (e1, e2, e3, e4, e5, e6, e7, e8, e9, e10) (record { heard = tt; due = begins-due (may_nest h.reading.mode h.asks) kinds.Width (escaping_half escapes.Plain h) owed })
+    by false false false false false false false false false false e1 e2 e3 e4 e5 e6 e7 e8 e9 e10 = rw (e1, e2, e3, e4, e5, e6, e7, e8, e9, e10) (hear-meets h.asks false (code "\\") h owed)
 
-byte-meets : (b : ℕ) (e : Escape) (argument : Bool) (h : Half) → Meets (offered (offer_byte b e argument) h)
-byte-meets b escapes.Plain argument h = by (b == code "\\") refl
+byte-meets : (b : ℕ) (e : Escape) (argument : Bool) (h : Half) → IsDue h.reading.due → Meets (offered (offer_byte b e argument) h)
+byte-meets b escapes.Plain argument h owed = by (b == code "\\") refl
   where
     by : (c : Bool) → (b == code "\\") ≡ c → Meets (offered (offer_byte b escapes.Plain argument) h)
-    by true e = rw e (record { heard = tt })
-    by false e = rw e (hear-meets h.asks true b h)
-byte-meets b escapes.Begun argument h = begun-meets b argument h
-byte-meets b escapes.Comment argument h = by (b == code "\n") refl
+    by true e = rw e (record { heard = tt; due = assumption })
+    by false e = rw e (hear-meets h.asks true b h owed)
+byte-meets b escapes.Begun argument h owed = begun-meets b argument h owed
+byte-meets b escapes.Comment argument h owed = by (b == code "\n") refl
   where
     by : (c : Bool) → (b == code "\n") ≡ c → Meets (offered (offer_byte b escapes.Comment argument) h)
-    by true e = rw e (hear-meets h.asks true (code "\n") h)
-    by false e = rw e (record { heard = tt })
+    by true e = rw e (hear-meets h.asks true (code "\n") h owed)
+    by false e = rw e (record { heard = tt; due = assumption })
 
-offered-meets : (f : Front) (e : Escape) (argument : Bool) (h : Half) → Meets (offered (offer f e argument) h)
-offered-meets fronts.Mark e argument h = record { heard = tt }
-offered-meets (fronts.Byte b) e argument h = byte-meets b e argument h
-offered-meets (fronts.Cell x) escapes.Plain argument h = hear-meets h.asks true x.byte h
-offered-meets (fronts.Cell x) escapes.Begun argument h = hear-meets h.asks false (code "\\") h
-offered-meets (fronts.Cell x) escapes.Comment argument h = record { heard = tt }
-offered-meets (fronts.LineEnd n) escapes.Begun argument h = hear-meets h.asks false (code "\\") h
-offered-meets (fronts.LineEnd n) escapes.Plain argument h = hear-meets h.asks true (code "\n") h
-offered-meets (fronts.LineEnd n) escapes.Comment argument h = hear-meets h.asks true (code "\n") h
-offered-meets fronts.Resume escapes.Begun argument h = hear-meets h.asks false (code "\\") h
-offered-meets fronts.Resume escapes.Plain argument h = over-meets h.asks h
-offered-meets fronts.Resume escapes.Comment argument h = over-meets h.asks h
-offered-meets fronts.Over escapes.Begun argument h = hear-meets h.asks false (code "\\") h
-offered-meets fronts.Over escapes.Plain argument h = over-meets h.asks h
-offered-meets fronts.Over escapes.Comment argument h = over-meets h.asks h
+offered-meets : (f : Front) (e : Escape) (argument : Bool) (h : Half) → IsDue h.reading.due → Meets (offered (offer f e argument) h)
+offered-meets fronts.Mark e argument h owed = record { heard = tt; due = assumption }
+offered-meets (fronts.Byte b) e argument h owed = byte-meets b e argument h owed
+offered-meets (fronts.Cell x) escapes.Plain argument h owed = hear-meets h.asks true x.byte h owed
+offered-meets (fronts.Cell x) escapes.Begun argument h owed = hear-meets h.asks false (code "\\") h owed
+offered-meets (fronts.Cell x) escapes.Comment argument h owed = record { heard = tt; due = assumption }
+offered-meets (fronts.LineEnd n) escapes.Begun argument h owed = hear-meets h.asks false (code "\\") h owed
+offered-meets (fronts.LineEnd n) escapes.Plain argument h owed = hear-meets h.asks true (code "\n") h owed
+offered-meets (fronts.LineEnd n) escapes.Comment argument h owed = hear-meets h.asks true (code "\n") h owed
+offered-meets fronts.Resume escapes.Begun argument h owed = hear-meets h.asks false (code "\\") h owed
+offered-meets fronts.Resume escapes.Plain argument h owed = over-meets h.asks h owed
+offered-meets fronts.Resume escapes.Comment argument h owed = over-meets h.asks h owed
+offered-meets fronts.Over escapes.Begun argument h owed = hear-meets h.asks false (code "\\") h owed
+offered-meets fronts.Over escapes.Plain argument h owed = over-meets h.asks h owed
+offered-meets fronts.Over escapes.Comment argument h owed = over-meets h.asks h owed
 
-raw-meets : (f : Front) (e : Escape) (h : Half) → Meets (offered (raw_offer f e) h)
-raw-meets fronts.Mark e h = record { heard = tt }
-raw-meets (fronts.Byte b) e h = hear-meets h.asks true b h
-raw-meets f e h = over-meets h.asks h
+raw-meets : (f : Front) (e : Escape) (h : Half) → IsDue h.reading.due → Meets (offered (raw_offer f e) h)
+raw-meets fronts.Mark e h owed = record { heard = tt; due = assumption }
+raw-meets (fronts.Byte b) e h owed = hear-meets h.asks true b h owed
+raw-meets f e h owed = over-meets h.asks h owed
 
-to-meets : (k : Kind) (f : Front) (e : Escape) (h : Half) → Meets (offered (offer_to k f e) h)
-to-meets kinds.Size f e h = raw-meets f e h
-to-meets k f e h = offered-meets f e (reads_argument k) h
+to-meets : (k : Kind) (f : Front) (e : Escape) (h : Half) → IsDue h.reading.due → Meets (offered (offer_to k f e) h)
+to-meets kinds.Size f e h owed = raw-meets f e h owed
+to-meets k f e h owed = offered-meets f e (reads_argument k) h owed
 
 meets : (c : Bool) (x y : Met) → Meets x → Meets y → Meets (if c then x else y)
 meets true x y first second = first
 meets false x y first second = second
 
-by-asks : (asks : List Ask) (f : Front) (h : Half) → IsFront f → Meets (meet_by asks f h)
-by-asks [] f h is =
+by-asks : (asks : List Ask) (f : Front) (h : Half) → IsDue h.reading.due → IsFront f → Meets (meet_by asks f h)
+by-asks [] f h owed is =
     meets (is_direct h.reading.mode) (met_directly (direct f h.signs h.reading) h) (offered (offer f h.reading.escape (reads_arguments h.reading.mode)) h)
-    (directly (direct f h.signs h.reading) h (direct-tells h.reading.escape f h.signs h.reading is)) (offered-meets f h.reading.escape (reads_arguments h.reading.mode) h)
-by-asks (a ∷ asks) f h is = to-meets a.kind f h.reading.escape h
+    (directly (direct f h.signs h.reading) h (direct-tells h.reading.escape f h.signs h.reading owed is)) (offered-meets f h.reading.escape (reads_arguments h.reading.mode) h owed)
+by-asks (a ∷ asks) f h owed is = to-meets a.kind f h.reading.escape h owed
 
-pub meet-heard : (f : Front) (h : Half) → IsFront f → IsHeard (meet f h).event (meet f h).half.reading.mode
-meet-heard f h is = (by-asks h.asks f h is).heard
+pub meet-told : (f : Front) (h : Half) → IsDue h.reading.due → IsFront f → Meets (meet f h)
+meet-told f h owed is = by-asks h.asks f h owed is

@@ -61,6 +61,7 @@ use Rattle.nr_formatter.specs.Titles as titles
 use Rattle.nr_formatter.specs.Traps as traps
 use Rattle.nr_fill.specs.Piece.{add_cell, with_title_cell}
 use Rattle.nr_fill.specs.declared.piece.Behind.TheVariants.{Dash}
+use Rattle.nr_laws.proofs.ChargedOnce.{once-none}
 use Rattle.nr_laws.proofs.PrintedLines.{IsPrinted, ArePrinted, IsLined, IsSet, either, trim, line_row-printed, titled_row-printed, add_cell-lined, with_title_cell-lined}
 use Rattle.nr_laws.proofs.PrintedStores.{AreStored, IfText, begun-stored, begun_empty, text_of-stored, diverted-stored, diverted_end-stored, diversion_ended-stored, removed-stored, renamed-stored, entered-stored, named-words, added-stored, blanks_and, no_levels, trapped-stored}
 use Rattle.nr_laws.proofs.PrintedWorks.{IsKept, printing-filler}
@@ -78,7 +79,7 @@ pub tasked : (t : Task) (f : Formatter) → Resting f → Resting (record f { ta
 tasked t f h = record { kept = h.kept; idle = h.idle }
 
 stored-in : (v : Stored Resume) (f : Formatter) → AreStored v → Resting f → Resting (record f { store = v })
-stored-in v f is h = record { kept = record { stored = is; lined = h.kept.lined; tab = h.kept.tab; leader = h.kept.leader }; idle = h.idle }
+stored-in v f is h = record { kept = record { stored = is; lined = h.kept.lined; tab = h.kept.tab; leader = h.kept.leader; due = h.kept.due }; idle = h.idle }
 
 -- ---- lines that go out
 
@@ -101,6 +102,7 @@ line-behind g f h =
         lined = record { pieces = All-drop IsSet (lines.pieces_going g (collected f)) (collected f).pieces h.kept.lined.pieces; word = h.kept.lined.word; title = h.kept.lined.title };
         tab = h.kept.tab;
         leader = h.kept.leader;
+        due = h.kept.due;
       };
       idle = h.idle;
     }
@@ -111,13 +113,13 @@ title-row offset f h = titled_row-printed offset (f.settings.indents.title_lengt
 pub title-behind : (f : Formatter) → Resting f → Resting (titles.title_set f)
 title-behind f h =
     record {
-      kept = record { stored = h.kept.stored; lined = record { pieces = h.kept.lined.pieces; word = h.kept.lined.word; title = tt }; tab = h.kept.tab; leader = h.kept.leader };
+      kept = record { stored = h.kept.stored; lined = record { pieces = h.kept.lined.pieces; word = h.kept.lined.word; title = tt }; tab = h.kept.tab; leader = h.kept.leader; due = h.kept.due };
       idle = h.idle;
     }
 
 diverted-with : (indent : ℕ) (xs : List Cell) (height : ℕ) (f : Formatter) → ArePrinted xs → Resting f → Resting (diversions.with_diverted indent xs height f)
 diverted-with indent xs height f is h =
-    record { kept = record { stored = diverted-stored indent xs height f.store is h.kept.stored; lined = h.kept.lined; tab = h.kept.tab; leader = h.kept.leader }; idle = h.idle }
+    record { kept = record { stored = diverted-stored indent xs height f.store is h.kept.stored; lined = h.kept.lined; tab = h.kept.tab; leader = h.kept.leader; due = h.kept.due }; idle = h.idle }
 
 row-diverted : (xs : List Cell) (f : Formatter) → ArePrinted xs → Resting f → Resting (diversions.with_diverted_row xs f)
 row-diverted xs f is h = diverted-with 0 xs (spacing f) (pages.without_no_space f) is (record { kept = h.kept; idle = h.idle })
@@ -134,20 +136,20 @@ space-diverted n f h =
 
 pub end-diverted : (width height : ℕ) (f : Formatter) → Resting f → Resting (diversions.with_diverted_end width height f)
 end-diverted width height f h =
-    record { kept = record { stored = diverted_end-stored width height f.store h.kept.stored; lined = h.kept.lined; tab = h.kept.tab; leader = h.kept.leader }; idle = h.idle }
+    record { kept = record { stored = diverted_end-stored width height f.store h.kept.stored; lined = h.kept.lined; tab = h.kept.tab; leader = h.kept.leader; due = h.kept.due }; idle = h.idle }
 
 pub cell-diverted : (indent : ℕ) (x : Cell) (f : Formatter) → IsPrinted x → IsKept f → IsKept (diversions.with_diverted_cell indent x f)
-cell-diverted indent x f is h = record { stored = added-stored _ f.store (blanks_and indent x is) h.stored; lined = h.lined; tab = h.tab; leader = h.leader }
+cell-diverted indent x f is h = record { stored = added-stored _ f.store (blanks_and indent x is) h.stored; lined = h.lined; tab = h.tab; leader = h.leader; due = h.due }
 
 -- ---- springing
 
-pub text-sprung : (name : List ℕ) (text : Option (List Element)) (f : Formatter) → IfText text → IsKept f → IsKept (springing.sprung_text name text f)
-text-sprung name None f is h = h
-text-sprung name (Some text) f is h =
-    record { stored = entered-stored name (Some text) (Some (springing.interrupted f)) f.store is h.stored; lined = h.lined; tab = h.tab; leader = h.leader }
+pub text-sprung : (name : List ℕ) (text : Option (List Element)) (f : Formatter) → words (find name f.store.names) ≡ text → IfText text → IsKept f → IsKept (springing.sprung_text name text f)
+text-sprung name None f has is h = h
+text-sprung name (Some text) f has is h =
+    record { stored = entered-stored name (Some text) (Some (springing.interrupted f)) f.store has is h.stored; lined = h.lined; tab = h.tab; leader = h.leader; due = tt }
 
 pub sprung-kept : (name : List ℕ) (f : Formatter) → IsKept f → IsKept (springing.sprung name f)
-sprung-kept name f h = text-sprung name (words (find name f.store.names)) f (named-words name f.store h.stored) h
+sprung-kept name f h = text-sprung name (words (find name f.store.names)) f refl (named-words name f.store h.stored) h
 
 sprung-idle : (name : List ℕ) (text : Option (List Element)) (f : Formatter) → f.event ≡ events.Nothing → (springing.sprung_text name text f).event ≡ events.Nothing
 sprung-idle name None f is = is
@@ -246,10 +248,10 @@ finished-at s f h = record { kept = h.kept; idle = h.idle }
 
 with-lines : (d : Definition) (name : List ℕ) (end : Option (List ℕ)) (f : Formatter) → Resting f → Resting (naming.with_lines d name end f)
 with-lines definitions.De name end f h =
-    record { kept = record { stored = begun_empty None f.store h.kept.stored; lined = h.kept.lined; tab = h.kept.tab; leader = h.kept.leader }; idle = h.idle }
+    record { kept = record { stored = begun_empty None f.store h.kept.stored; lined = h.kept.lined; tab = h.kept.tab; leader = h.kept.leader; due = h.kept.due }; idle = h.idle }
 with-lines definitions.Am name end f h =
     record {
-      kept = record { stored = begun-stored (text_of name f.store) None f.store (text_of-stored name f.store h.kept.stored) h.kept.stored; lined = h.kept.lined; tab = h.kept.tab; leader = h.kept.leader };
+      kept = record { stored = begun-stored (text_of name f.store) None f.store (text_of-stored name f.store h.kept.stored) h.kept.stored; lined = h.kept.lined; tab = h.kept.tab; leader = h.kept.leader; due = h.kept.due };
       idle = h.idle;
     }
 with-lines definitions.Ig name end f h = record { kept = h.kept; idle = h.idle }
@@ -268,7 +270,7 @@ with-renamed (Some from) None f h = h
 with-renamed (Some from) (Some to) f h = stored-in (renamed from to f.store) f (renamed-stored from to f.store h.kept.stored) h
 
 worded-stored : (word : List ℕ) (v : Stored Resume) → AreStored v → AreStored (worded word v)
-worded-stored word v h = either AreStored (nat_lt 64 (length word)) v (record v { words = word_of word ∷ v.words }) h (record { names = h.names; building = h.building; levels = h.levels })
+worded-stored word v h = either AreStored (nat_lt 64 (length word)) v (record v { words = word_of word ∷ v.words }) h (record { names = h.names; building = h.building; levels = h.levels; once = h.once })
 
 words-stored : (n : ℕ) (l : List ℕ) (v : Stored Resume) → AreStored v → AreStored (naming.with_words n l v)
 words-stored zero l v h = h
@@ -327,10 +329,10 @@ acted requests.De f h = to-read (naming.defined_as definitions.De (naming.first_
 acted requests.Di f h = tasked tasks.Read (diversions.divert_to (name_in (long f) (line f)) f) (diverted-to (name_in (long f) (line f)) f h)
 acted requests.Dt f h = let t = trap_lines.dt (line f) (long f) (spacing f) (present_place f) in tasked tasks.Read (diversions.with_diversion_trap t f) (diversion-trap t f h)
 acted requests.Ex f h =
-    record { kept = record { stored = record { names = h.kept.stored.names; building = h.kept.stored.building; levels = no_levels }; lined = h.kept.lined; tab = h.kept.tab; leader = h.kept.leader }; idle = refl }
+    record { kept = record { stored = record { names = h.kept.stored.names; building = h.kept.stored.building; levels = no_levels; once = once-none f.store.names }; lined = h.kept.lined; tab = h.kept.tab; leader = h.kept.leader; due = h.kept.due }; idle = refl }
 acted requests.Hw f h = let v = naming.with_words (length (line f)) (line f) f.store in to-read (record f { store = v }) (stored-in v f (words-stored (length (line f)) (line f) f.store h.kept.stored) h)
 acted requests.Ig f h = to-read (naming.with_lines definitions.Ig [] (naming.first_name f) f) (with-lines definitions.Ig [] (naming.first_name f) f h)
-acted requests.Lc f h = record { kept = record { stored = h.kept.stored; lined = h.kept.lined; tab = h.kept.tab; leader = printing-filler (byte_in (line f)) }; idle = h.idle }
+acted requests.Lc f h = record { kept = record { stored = h.kept.stored; lined = h.kept.lined; tab = h.kept.tab; leader = printing-filler (byte_in (line f)); due = h.kept.due }; idle = h.idle }
 acted requests.Mk f h = place-marked (name_in (long f) (line f)) (to_read f) (to-read f h)
 acted requests.Ne f h = let n = space_lines.ne (line f) (spacing f) (present_place f) in
     let below = distance_below f.paper.place f in
@@ -342,7 +344,7 @@ acted requests.Rn f h = to-read (naming.with_renamed (naming.first_name f) (nami
 acted requests.Rr f h = register-removed (name_in (long f) (line f)) (to_read f) (to-read f h)
 acted requests.Rt f h = let z = space_lines.rt (line f) (spacing f) (page_place f.paper) f.settings.pages.mark in tasked tasks.Read (spaces.returned z f) (returned-to z f h)
 acted requests.Sp f h = spaced-by (space_lines.sp (line f) (spacing f) (present_place f)) f h
-acted requests.Tc f h = record { kept = record { stored = h.kept.stored; lined = h.kept.lined; tab = printing-filler (byte_in (line f)); leader = h.kept.leader }; idle = h.idle }
+acted requests.Tc f h = record { kept = record { stored = h.kept.stored; lined = h.kept.lined; tab = printing-filler (byte_in (line f)); leader = h.kept.leader; due = h.kept.due }; idle = h.idle }
 acted requests.Wh f h = let t = trap_lines.wh (line f) (long f) (spacing f) (present_place f) in tasked tasks.Read (traps.with_page_trap t f) (trap-planted t f h)
 acted r f h = record { kept = h.kept; idle = h.idle }
 
@@ -352,8 +354,8 @@ acted r f h = record { kept = h.kept; idle = h.idle }
 dash-ended : (f : Formatter) → Resting f → Resting (texts.finish_dash f)
 dash-ended f h =
     resting-if (titles.reads_title f) (titles.title_dash_end f) (texts.dash_end f)
-    (record { kept = record { stored = h.kept.stored; lined = title h; tab = h.kept.tab; leader = h.kept.leader }; idle = refl })
-    (record { kept = record { stored = h.kept.stored; lined = word h; tab = h.kept.tab; leader = h.kept.leader }; idle = refl })
+    (record { kept = record { stored = h.kept.stored; lined = title h; tab = h.kept.tab; leader = h.kept.leader; due = h.kept.due }; idle = refl })
+    (record { kept = record { stored = h.kept.stored; lined = word h; tab = h.kept.tab; leader = h.kept.leader; due = h.kept.due }; idle = refl })
   where
     title : Resting f → IsLined (with_title_cell (cell 45 f) (collected f))
     title h = with_title_cell-lined (cell 45 f) (collected f) refl h.kept.lined

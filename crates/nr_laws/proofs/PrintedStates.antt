@@ -1,8 +1,8 @@
 -- No move makes a cell of a control byte.
-use Rattle.std.specs.Prelude.{is_none, not, replicate}
+use Rattle.std.specs.Prelude.{is_none, nat_le, nat_lt, not, replicate}
 use Rattle.std.specs.List.{All}
 use Rattle.std.proofs.lemmas.List.Elements.{All-nil, All-cons, All-push}
-use Rattle.std.proofs.Common.{◌≡◌, ℕ, zero, suc, ◌+◌, Bool, true, false, if◌then◌else◌, List, [], ◌∷◌, ◌++◌, Option, None, Some, ℤ, refl, subst, sym, ◌∙◌}
+use Rattle.std.proofs.Common.{◌≡◌, ℕ, zero, suc, ◌+◌, ◌-◌, Bool, true, false, if◌then◌else◌, List, [], ◌∷◌, ◌++◌, Option, None, Some, ℤ, refl, subst, sym, ◌∙◌}
 use Rattle.nr_units.specs.Source.{Supply}
 use Rattle.nr_vectors.specs.Cell.{blank}
 use Rattle.nr_vectors.specs.declared.cell.Cell.{Cell}
@@ -10,7 +10,7 @@ use Rattle.nr_fill.specs.Piece.{is_nil}
 use Rattle.nr_page.specs.Grid.{Placed}
 use Rattle.nr_symbol_tables.specs.declared.trap.Trap.{Trap}
 use Rattle.nr_symbol_tables.specs.Table.{find}
-use Rattle.nr_store.specs.Store.{Stored, is_held, shown, written, set_to, register_of}
+use Rattle.nr_store.specs.Store.{Stored, called, entered, is_held, shown, words, written, set_to, register_of}
 use Rattle.nr_store.specs.declared.register.Register.{Register as Numbered}
 use Rattle.nr_store.specs.declared.shown.Shown.{Shown}
 use Rattle.nr_store.specs.declared.shown.Shown.TheVariants as shows
@@ -24,12 +24,14 @@ use Rattle.nr_reading.specs.declared.mode.Calls.TheVariants as calls
 use Rattle.nr_reading.specs.declared.mode.Due.{Due}
 use Rattle.nr_reading.specs.declared.mode.Due.TheVariants as dues
 use Rattle.nr_reading.specs.declared.mode.Mode.{Mode}
-use Rattle.nr_reading.specs.Seeking.{sought_event}
+use Rattle.nr_reading.specs.Seeking.{sought, sought_event}
+use Rattle.nr_reading.specs.Spelled.{is_empty}
+use Rattle.nr_reading.specs.declared.half.Half.{Half}
 use Rattle.nr_input.specs.declared.reader.Reader.{Reader}
 use Rattle.nr_reading.specs.Half.{Met, meet}
 use Rattle.nr_reading.specs.Mode.{mode_of}
 use Rattle.nr_input.specs.Moving.{Situation, Move, look, looks, taken_at, stays_at, acted_at, told_of, move as input_move}
-use Rattle.nr_input.specs.Acting.{act as act_due, calls_of, meaning_in}
+use Rattle.nr_input.specs.Acting.{act as act_due, after_held, calls_of, has_text, meaning_in, name_in, next, splicing}
 use Rattle.nr_input.specs.Place.{front}
 use Rattle.nr_input.specs.declared.told.Told.{Told}
 use Rattle.nr_input.specs.declared.told.Told.TheVariants as tells
@@ -59,10 +61,12 @@ use Rattle.nr_formatter.specs.declared.tasks.Task.TheVariants as tasks
 use Rattle.nr_formatter.specs.declared.tasks.Then.{Then}
 use Rattle.nr_machine.specs.State.{State, Ended, Choice, First, Register, plainly, start}
 use Rattle.nr_machine.specs.Machine.{begin_page, end_page, page_of, turn_page, placed as placed_line, place, put_line_to, put_or, break_part, continues_none, break_out, room_in, title_to, with_cell, margin_in, indent, offset, cell_to, width, line_to, space_to, put_space, eject_to, eject, act, work, hear, spring_or, choose, choose_or, step, state_after, situation_of, told, read}
+use Rattle.nr_store.specs.Request.{request_names}
+use Rattle.nr_laws.proofs.ChargedOnce.{once-none}
 use Rattle.nr_laws.proofs.PrintedLines.{IsPrinted, ArePrinted, IsSet, either, join, blanks, trim}
 use Rattle.nr_laws.proofs.PrintedStores.{AreStored, front-printed, left-stored, act-stored, no_levels, no_building, request_names-stored}
-use Rattle.nr_laws.proofs.PrintedDirect.{IsHeard}
-use Rattle.nr_laws.proofs.PrintedReads.{meet-heard}
+use Rattle.nr_laws.proofs.PrintedDirect.{IsHeard, IsDue}
+use Rattle.nr_laws.proofs.PrintedReads.{meet-told}
 use Rattle.nr_laws.proofs.PrintedWorks.{IsKept, Hearing, heard-hearing, break-word-end}
 use Rattle.nr_laws.proofs.PrintedRests.{Resting, row-printed, line-behind, title-row, title-behind, line-diverted, title-diverted, space-diverted, end-diverted, cell-diverted, sprung-resting, ejected-resting, tasked, worked-resting}
 
@@ -267,12 +271,71 @@ acted-told dues.Seek v r m = sought-told (calls_of (meaning_in v r)) m
 acted-told (dues.Lead n) v r m = tt
 acted-told d v r m = tt
 
-moved-told : (c : Bool) (q : Situation Resume) → AreStored q.stored → IsTold (if c then look q else acted_at q)
-moved-told true q h =
+moved-told : (c : Bool) (q : Situation Resume) → AreStored q.stored → IsDue q.reader.half.reading.due → IsTold (if c then look q else acted_at q)
+moved-told true q h due =
     let f = front (shown q.stored.levels) q.coming in
     let m = meet f q.reader.half in
-    looked-told m.takes m q (meet-heard f q.reader.half (front-printed q.stored.levels q.coming h.levels))
-moved-told false q h = acted-told q.reader.half.reading.due q.stored q.reader (act_due q.reader.half.reading.due q.stored q.reader).reader.half.reading.mode
+    looked-told m.takes m q (meet-told f q.reader.half due (front-printed q.stored.levels q.coming h.levels)).heard
+moved-told false q h due = acted-told q.reader.half.reading.due q.stored q.reader (act_due q.reader.half.reading.due q.stored q.reader).reader.half.reading.mode
+
+met-due : (c : Bool) (m : Met) (q : Situation Resume) → IsDue m.half.reading.due → IsDue (if c then taken_at m q else stays_at m q).situation.reader.half.reading.due
+met-due true m q h = h
+met-due false m q h = h
+
+test-due : (c : Bool) (x y : Due) → IsDue x → IsDue y → IsDue (if c then x else y)
+test-due true x y first second = first
+test-due false x y first second = second
+
+held-due : (held n : ℕ) (b : Option ℕ) → IsDue (after_held held n b)
+held-due held n (Some b) = test-due (nat_lt (n + 1) held) (dues.Release held (n + 1) (Some b)) (dues.Add b) tt tt
+held-due held n None = test-due (nat_lt (n + 1) held) (dues.Release held (n + 1) None) dues.Look tt tt
+
+sought-due : (c : Calls) (h : Half) → h.reading.due ≡ dues.Look → IsDue (sought c h).reading.due
+sought-due calls.Nothing h is = subst IsDue (sym is) tt
+sought-due calls.Macro h is = subst IsDue (sym is) tt
+sought-due calls.Request h is = subst IsDue (sym is) tt
+sought-due calls.NewString h is = subst IsDue (sym is) tt
+sought-due calls.MoreString h is = subst IsDue (sym is) tt
+sought-due calls.If h is = subst IsDue (sym is) tt
+sought-due calls.IfElse h is = subst IsDue (sym is) tt
+sought-due calls.Else h is = subst IsDue (sym is) tt
+sought-due calls.Title h is = subst IsDue (sym is) tt
+
+spliced-due : (c : Bool) (v : Stored Resume) (r : Reader) → IsDue (splicing c v r).reader.half.reading.due
+spliced-due true v r = tt
+spliced-due false v r = tt
+
+acted-due : (d : Due) (v : Stored Resume) (r : Reader) → r.half.reading.due ≡ d → IsDue d → IsDue (act_due d v r).reader.half.reading.due
+acted-due dues.Look v r is h = subst IsDue (sym is) tt
+acted-due dues.Begin v r is h = tt
+acted-due (dues.Add b) v r is h = tt
+acted-due (dues.Release held n b) v r is h = held-due held n b
+acted-due dues.Define v r is h = tt
+acted-due dues.DefineAndCall v r is h = test-due (is_empty r.half.notes.defining.ending) dues.Look dues.CallEnding tt tt
+acted-due dues.CallEnding v r is h =
+    let name = r.half.notes.defining.ending in
+    spliced-due (has_text name v) (entered name (words (find name v.names)) None v) r
+acted-due dues.Splice v r is h =
+    let name = r.half.notes.asked in
+    spliced-due (has_text name v) (entered name (words (find name v.names)) None v) r
+acted-due (dues.Register signs.None) v r is h = tt
+acted-due (dues.Register signs.Plus) v r is h = tt
+acted-due (dues.Register signs.Minus) v r is h = tt
+acted-due (dues.Argument n) v r is h = tt
+acted-due (dues.Put b) v r is h = tt
+acted-due dues.EndArgument v r is h = tt
+acted-due dues.Call v r is h = spliced-due (has_text (name_in r) v) (called (name_in r) (words (find (name_in r) v.names)) v) r
+acted-due dues.Seek v r is h = sought-due (calls_of (meaning_in v r)) (next dues.Look r.half) refl
+acted-due (dues.Judge b) v r is h = tt
+acted-due (dues.Lead n) v r is h = test-due (nat_le n 1) dues.Look (dues.Lead (n - 1)) tt tt
+acted-due dues.Expanded v r is h = absurd h
+
+moved-due : (c : Bool) (q : Situation Resume) → AreStored q.stored → IsDue q.reader.half.reading.due → IsDue (if c then look q else acted_at q).situation.reader.half.reading.due
+moved-due true q h due =
+    let f = front (shown q.stored.levels) q.coming in
+    let m = meet f q.reader.half in
+    met-due m.takes m q (meet-told f q.reader.half due (front-printed q.stored.levels q.coming h.levels)).due
+moved-due false q h due = acted-due q.reader.half.reading.due q.stored q.reader refl due
 
 record IsClear (f : Formatter) : Type 0 where
   kept : IsKept f
@@ -280,9 +343,9 @@ record IsClear (f : Formatter) : Type 0 where
 
 told-clear : (t : Told Resume) (f : Formatter) → IsKept f → f.springs ≡ None → IsToldIn f.reader.half.reading.mode t → IsClear (told t f)
 told-clear (tells.Event e) f h calm is =
-    record { kept = record { stored = h.stored; lined = h.lined; tab = h.tab; leader = h.leader }; awaited = awaits f.springs e f.reader.half.reading.mode calm is }
+    record { kept = record { stored = h.stored; lined = h.lined; tab = h.tab; leader = h.leader; due = h.due }; awaited = awaits f.springs e f.reader.half.reading.mode calm is }
 told-clear (tells.Resume k) f h calm is =
-    record { kept = record { stored = h.stored; lined = h.lined; tab = h.tab; leader = h.leader }; awaited = quiet f.springs events.Nothing (mode_of k.standing) refl }
+    record { kept = record { stored = h.stored; lined = h.lined; tab = h.tab; leader = h.leader; due = h.due }; awaited = quiet f.springs events.Nothing (mode_of k.standing) refl }
 
 with-formatter : (s t : State) → IsClean s → t.row ≡ s.row → t.lines ≡ s.lines → t.pages ≡ s.pages → IsClear t.formatter → AreClear t
 with-formatter s t clean row lines pages h =
@@ -299,7 +362,7 @@ reads s clean h calm =
     let stored : AreStored m.situation.stored = moved-stored (looks q) q h.stored in
     with-formatter s (read s) clean refl refl refl
     (told-clear m.told (record s.formatter { store = m.situation.stored; reader = m.situation.reader })
-    (record { stored = stored; lined = h.lined; tab = h.tab; leader = h.leader }) calm (moved-told (looks q) q h.stored))
+    (record { stored = stored; lined = h.lined; tab = h.tab; leader = h.leader; due = moved-due (looks q) q h.stored h.due }) calm (moved-told (looks q) q h.stored h.due))
 
 -- ---- a move
 
@@ -313,13 +376,13 @@ cell-goes outlets.Diversion x s is clean h calm =
     let there = cell-diverted (margin_in (indent s.formatter) s.row) x s.formatter is h in
     record {
       clean = record { row = celled (indent s.formatter) x s.row is clean.row; lines = clean.lines; pages = clean.pages };
-      kept = record { stored = there.stored; lined = there.lined; tab = there.tab; leader = there.leader };
+      kept = record { stored = there.stored; lined = there.lined; tab = there.tab; leader = there.leader; due = there.due };
       awaited = awaits s.formatter.springs events.Nothing s.formatter.reader.half.reading.mode calm tt;
     }
 cell-goes o x s is clean h calm =
     record {
       clean = record { row = celled (offset s.formatter + indent s.formatter) x s.row is clean.row; lines = clean.lines; pages = clean.pages };
-      kept = record { stored = h.stored; lined = h.lined; tab = h.tab; leader = h.leader };
+      kept = record { stored = h.stored; lined = h.lined; tab = h.tab; leader = h.leader; due = h.due };
       awaited = awaits s.formatter.springs events.Nothing s.formatter.reader.half.reading.mode calm tt;
     }
 
@@ -398,10 +461,11 @@ starts-clear b options supply =
     record {
       clean = record { row = All-nil IsPrinted; lines = All-nil IsPlaced; pages = All-nil IsClosed };
       kept = record {
-        stored = record { names = request_names-stored; building = no_building; levels = no_levels };
+        stored = record { names = request_names-stored; building = no_building; levels = no_levels; once = once-none request_names };
         lined = record { pieces = All-nil IsSet; word = tt; title = tt };
         tab = tt;
         leader = refl;
+        due = tt;
       };
       awaited = tt;
     }

@@ -3,7 +3,7 @@ use Rattle.std.specs.Prelude.{map, replicate, is_some, slice_index}
 use Rattle.std.specs.Option.{option_map, option_and_then, unwrap_or}
 use Rattle.std.specs.List.{All}
 use Rattle.std.proofs.lemmas.List.Elements.{All-nil, All-cons, All-head, All-tail, All-append, All-replicate}
-use Rattle.std.proofs.Common.{ℕ, ◌+◌, Bool, true, false, if◌then◌else◌, List, [], ◌∷◌, ◌++◌, length, Option, None, Some, refl}
+use Rattle.std.proofs.Common.{◌≡◌, ℕ, ◌+◌, Bool, true, false, if◌then◌else◌, List, [], ◌∷◌, ◌++◌, length, Option, None, Some, refl}
 use Rattle.nr_vectors.specs.declared.cell.Cell.{Cell}
 use Rattle.nr_symbol_tables.specs.declared.trap.Trap.{Trap}
 use Rattle.nr_symbol_tables.specs.Table.{Named, find, is_same, is_before, put, replaced, inserted, without}
@@ -16,7 +16,7 @@ use Rattle.nr_store.specs.declared.register.Register.{Register}
 use Rattle.nr_store.specs.Request.{request_names, with_acts, name_of}
 use Rattle.nr_store.specs.declared.request.TheConstants.{REQUESTS}
 use Rattle.nr_store.specs.declared.request.Request.{Request}
-use Rattle.nr_store.specs.Store.{Stored, Means, Act, Words, Built, Level, Read, Mark, Reading, words, text_of, begun, on_newest, longer, added, blank_cell, line_of, diverted, diverted_end, taken, named_newest, defined, ended_by, diversion_ended, newest_diversion, trapped, removed, moved, renamed, entered, called, reading_bytes, shown, left, left_of, mark_of, register_of, written, gone_on}
+use Rattle.nr_store.specs.Store.{Stored, Means, Act, Words, Built, Level, Read, Mark, Reading, words, text_of, begun, on_newest, longer, added, blank_cell, line_of, diverted, diverted_end, taken, Shared, named_newest, defined, ended_by, diversion_ended, newest_diversion, trapped, removed, moved, renamed, entered, called, reading_bytes, shown, left, left_of, mark_of, register_of, written, gone_on}
 use Rattle.nr_levels.specs.Gathering.{bytes_in}
 use Rattle.nr_levels.specs.Levels.{argument}
 use Rattle.nr_reading.specs.Definitions.{last_line}
@@ -29,6 +29,7 @@ use Rattle.nr_input.specs.Acting.{act, name_in, after_meaning, meaning_in, regis
 use Rattle.nr_input.specs.Place.{Coming, front, front_of, element_front}
 use Rattle.nr_input.specs.declared.reader.Reader.{Reader}
 use Rattle.nr_formatter.specs.declared.tasks.Resume.{Resume}
+use Rattle.nr_laws.proofs.ChargedOnce.{AreOnce, once-removed, once-named, once-moved, once-read, once-own, once-dropped}
 use Rattle.nr_laws.proofs.PrintedLines.{IsPrinted, ArePrinted, either}
 
 abbrev pub IsElement : Element → Type 0
@@ -61,13 +62,14 @@ IsLevel (Mark k) = Unit {0}
 abbrev pub AreLevels : List (Level Resume) → Type 0
 AreLevels ls = All IsLevel ls
 
-pub record Stores (ns : List (Named Means)) (bs : List Built) (ls : List (Level Resume)) : Type 0 where
+pub record Stores (ns : List (Named Means)) (bs : List Built) (ls : List (Level Resume)) (ts : List Shared) : Type 0 where
   pub names : AreNames ns
   pub building : AreBuilt bs
   pub levels : AreLevels ls
+  pub once : AreOnce ns ts
 
 abbrev pub AreStored : Stored Resume → Type 0
-AreStored v = Stores v.names v.building v.levels
+AreStored v = Stores v.names v.building v.levels v.texts
 
 -- ---- texts
 
@@ -142,16 +144,25 @@ pub text_of-stored : (name : List ℕ) (v : Stored Resume) → AreStored v → I
 text_of-stored name v h = or-empty (words (find name v.names)) (named-words name v h)
 
 pub removed-stored : (name : List ℕ) (v : Stored Resume) → AreStored v → AreStored (removed name v)
-removed-stored name v h = record { names = without-names name v.names h.names; building = h.building; levels = h.levels }
+removed-stored name v h =
+    record { names = without-names name v.names h.names; building = h.building; levels = h.levels; once = once-removed name v.names v.texts h.once }
 
-moved-stored : (o : Option Means) (from to : List ℕ) (v : Stored Resume) → IfMeant o → AreStored v → AreStored (moved o from to v)
-moved-stored None from to v is h = h
-moved-stored (Some m) from to v is h =
-    record { names = put-names to m (without from v.names) is (without-names from v.names h.names); building = h.building; levels = h.levels }
+moved-stored : (o : Option Means) (from to : List ℕ) (v : Stored Resume) → find from v.names ≡ o → is_same from to ≡ false → IfMeant o → AreStored v → AreStored (moved o from to v)
+moved-stored None from to v has apart is h = h
+moved-stored (Some m) from to v has apart is h =
+    record {
+      names = put-names to m (without from v.names) is (without-names from v.names h.names);
+      building = h.building;
+      levels = h.levels;
+      once = once-moved from to m v.names v.texts apart has h.once;
+    }
 
 pub renamed-stored : (from to : List ℕ) (v : Stored Resume) → AreStored v → AreStored (renamed from to v)
-renamed-stored from to v h =
-    either AreStored (is_same from to) v (moved (find from v.names) from to v) h (moved-stored (find from v.names) from to v (found from v.names h.names) h)
+renamed-stored from to v h = by (is_same from to) refl
+  where
+    by : (c : Bool) → is_same from to ≡ c → AreStored (if c then v else moved (find from v.names) from to v)
+    by true is = h
+    by false is = moved-stored (find from v.names) from to v refl is (found from v.names h.names) h
 
 -- ---- texts being built
 
@@ -162,14 +173,14 @@ newest f (b ∷ bs) each h = All-cons IsBuilt (f b) bs (each b (All-head IsBuilt
 pub begun-stored : (text : List Element) (d : Option Diversion) (v : Stored Resume) → IsText text → AreStored v → AreStored (begun text d v)
 begun-stored text d v is h =
     let b : Built = record { text = text; diversion = d } in
-    record { names = h.names; building = All-cons IsBuilt b v.building is h.building; levels = h.levels }
+    record { names = h.names; building = All-cons IsBuilt b v.building is h.building; levels = h.levels; once = h.once }
 
 pub begun_empty : (d : Option Diversion) (v : Stored Resume) → AreStored v → AreStored (begun [] d v)
 begun_empty d v h = begun-stored [] d v no_text h
 
 pub added-stored : (xs : List Element) (v : Stored Resume) → IsText xs → AreStored v → AreStored (added xs v)
 added-stored xs v is h =
-    record { names = h.names; building = newest (longer xs) v.building (λ b k. both b.text xs k is) h.building; levels = h.levels }
+    record { names = h.names; building = newest (longer xs) v.building (λ b k. both b.text xs k is) h.building; levels = h.levels; once = h.once }
 
 ends : (height : ℕ) → IsText (elements.LineEnd height ∷ [])
 ends height = All-cons IsElement (elements.LineEnd height) [] tt no_text
@@ -194,6 +205,7 @@ diverted-stored indent xs height v is h =
         diversion = option_map (taken (indent + length xs) height) b.diversion;
       }) v.building (λ b k. both b.text (line_of indent xs height) k (line-text indent xs height is)) h.building;
       levels = h.levels;
+      once = h.once;
     }
 
 pub diverted_end-stored : (cells height : ℕ) (v : Stored Resume) → AreStored v → AreStored (diverted_end cells height v)
@@ -203,6 +215,7 @@ diverted_end-stored cells height v h =
       building = newest (λ (b : Built). record { text = b.text ++ elements.LineEnd height ∷ []; diversion = option_map (taken cells height) b.diversion })
           v.building (λ b k. both b.text (elements.LineEnd height ∷ []) k (ends height)) h.building;
       levels = h.levels;
+      once = h.once;
     }
 
 pub trapped-stored : (trap : Option Trap) (v : Stored Resume) → AreStored v → AreStored (trapped trap v)
@@ -211,6 +224,7 @@ trapped-stored trap v h =
       names = h.names;
       building = newest (λ (b : Built). record b { diversion = option_map (λ (d : Diversion). record d { trap = trap }) b.diversion }) v.building (λ b k. k) h.building;
       levels = h.levels;
+      once = h.once;
     }
 
 acts-stored : (es : List (ℕ × ℕ × Request)) (ns : List (Named Means)) → AreNames ns → AreNames (with_acts es ns)
@@ -229,7 +243,12 @@ no_levels = All-nil IsLevel
 named-newest : (bs : List Built) (name : List ℕ) (v : Stored Resume) → AreBuilt bs → AreStored v → AreStored (named_newest bs name v)
 named-newest [] name v is h = h
 named-newest (b ∷ bs) name v is h =
-    record { names = put-names name (Words b.text) v.names (All-head IsBuilt b bs is) h.names; building = All-tail IsBuilt b bs is; levels = h.levels }
+    record {
+      names = put-names name (Words b.text) v.names (All-head IsBuilt b bs is) h.names;
+      building = All-tail IsBuilt b bs is;
+      levels = h.levels;
+      once = once-named name (Words b.text) v.names v.texts h.once;
+    }
 
 pub defined-stored : (name : List ℕ) (v : Stored Resume) → AreStored v → AreStored (defined name v)
 defined-stored name v h = named-newest v.building name v h.building h
@@ -246,10 +265,10 @@ diversion_ended-stored v h = ended-by (newest_diversion v.building) v h
 opened : (l : Reading Resume) (ls : List (Level Resume)) → IsText l.rest → AreLevels ls → AreLevels (Read l ∷ ls)
 opened l ls is h = All-cons IsLevel (Read l) ls is h
 
-pub entered-stored : (name : List ℕ) (text : Option (List Element)) (k : Option Resume) (v : Stored Resume) → IfText text → AreStored v → AreStored (entered name text k v)
-entered-stored name None k v is h = h
-entered-stored name (Some text) k v is h =
-    record { names = h.names; building = h.building; levels = opened (record { rest = text; old = v.arguments; charge = 16; resume = k }) v.levels is h.levels }
+pub entered-stored : (name : List ℕ) (text : Option (List Element)) (k : Option Resume) (v : Stored Resume) → words (find name v.names) ≡ text → IfText text → AreStored v → AreStored (entered name text k v)
+entered-stored name None k v has is h = h
+entered-stored name (Some text) k v has is h =
+    record { names = h.names; building = h.building; levels = opened (record { rest = text; old = v.arguments; charge = 16; resume = k }) v.levels is h.levels; once = once-read name text v.names v.texts has h.once }
 
 pub bytes-stored : (bs : List ℕ) (v : Stored Resume) → AreStored v → AreStored (reading_bytes bs v)
 bytes-stored bs v h =
@@ -257,15 +276,17 @@ bytes-stored bs v h =
       names = h.names;
       building = h.building;
       levels = opened (record { rest = map elements.Byte bs; old = v.arguments; charge = 32 + length bs; resume = None }) v.levels (byte-texts bs) h.levels;
+      once = once-own 0 v.names v.texts h.once;
     }
 
-called-stored : (name : List ℕ) (text : Option (List Element)) (v : Stored Resume) → IfText text → AreStored v → AreStored (called name text v)
-called-stored name None v is h = h
-called-stored name (Some text) v is h =
+called-stored : (name : List ℕ) (text : Option (List Element)) (v : Stored Resume) → words (find name v.names) ≡ text → IfText text → AreStored v → AreStored (called name text v)
+called-stored name None v has is h = h
+called-stored name (Some text) v has is h =
     record {
       names = h.names;
       building = h.building;
       levels = opened (record { rest = text; old = v.arguments; charge = 16 + bytes_in v.gathered.kept; resume = None }) v.levels is h.levels;
+      once = once-read name text v.names v.texts has h.once;
     }
 
 marks : (k : Option Resume) (ls : List (Level Resume)) → AreLevels ls → AreLevels (mark_of k ++ ls)
@@ -273,15 +294,15 @@ marks None ls h = h
 marks (Some k) ls h = let mark : Level Resume = Mark k in All-cons IsLevel mark ls tt h
 
 text-left : (xs : List Element) (l : Reading Resume) (ls : List (Level Resume)) (v : Stored Resume) → IsText xs → AreLevels ls → AreStored v → AreStored (left_of xs l ls v)
-text-left [] l ls v is rest h = record { names = h.names; building = h.building; levels = marks l.resume ls rest }
+text-left [] l ls v is rest h = record { names = h.names; building = h.building; levels = marks l.resume ls rest; once = once-dropped v.names v.texts h.once }
 text-left (x ∷ xs) l ls v is rest h =
-    record { names = h.names; building = h.building; levels = opened (record l { rest = xs }) ls (All-tail IsElement x xs is) rest }
+    record { names = h.names; building = h.building; levels = opened (record l { rest = xs }) ls (All-tail IsElement x xs is) rest; once = h.once }
 
 pub left-stored : (ls : List (Level Resume)) (v : Stored Resume) → AreLevels ls → AreStored v → AreStored (left ls v)
 left-stored [] v is h = h
 left-stored (Read l ∷ ls) v is h = let level : Level Resume = Read l in text-left l.rest l ls v (All-head IsLevel level ls is) (All-tail IsLevel level ls is) h
 left-stored (Mark k ∷ ls) v is h =
-    let mark : Level Resume = Mark k in record { names = h.names; building = h.building; levels = All-tail IsLevel mark ls is }
+    let mark : Level Resume = Mark k in record { names = h.names; building = h.building; levels = All-tail IsLevel mark ls is; once = h.once }
 
 -- ---- the item in front
 
@@ -332,12 +353,12 @@ act-stored (dues.Release held n b) v r h =
 act-stored dues.Define v r h = naming-stored r.half.notes.defining.keeps (name_in r) v h
 act-stored dues.DefineAndCall v r h = naming-stored r.half.notes.defining.keeps (name_in r) v h
 act-stored dues.CallEnding v r h =
-    let name = r.half.notes.defining.ending in entered-stored name (words (find name v.names)) None v (named-words name v h) h
-act-stored dues.Splice v r h = let name = r.half.notes.asked in entered-stored name (words (find name v.names)) None v (named-words name v h) h
+    let name = r.half.notes.defining.ending in entered-stored name (words (find name v.names)) None v refl (named-words name v h) h
+act-stored dues.Splice v r h = let name = r.half.notes.asked in entered-stored name (words (find name v.names)) None v refl (named-words name v h) h
 act-stored (dues.Register signs.None) v r h = bytes-stored (register_text (register_of (find r.half.notes.asked v.registers))) v h
 act-stored (dues.Register signs.Plus) v r h = set (option_and_then (gone_on true) (find r.half.notes.asked v.registers)) r.half.notes.asked v h
 act-stored (dues.Register signs.Minus) v r h = set (option_and_then (gone_on false) (find r.half.notes.asked v.registers)) r.half.notes.asked v h
 act-stored (dues.Argument n) v r h = bytes-stored (argument v.arguments n) v h
-act-stored dues.Call v r h = called-stored (name_in r) (words (find (name_in r) v.names)) v (named-words (name_in r) v h) h
+act-stored dues.Call v r h = called-stored (name_in r) (words (find (name_in r) v.names)) v refl (named-words (name_in r) v h) h
 act-stored dues.Seek v r h = meant (meaning_in v r) v h
 act-stored d v r h = h

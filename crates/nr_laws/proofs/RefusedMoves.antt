@@ -24,7 +24,7 @@ use Rattle.nr_machine.specs.Measures.{IsWithin, passed}
 use Rattle.nr_machine.specs.Run.{Kind, Reads, Works, Over, kind, IsRefusal, PassesBy}
 use Rattle.nr_machine.specs.declared.outcome.Measure.{Measure}
 use Rattle.nr_machine.specs.declared.outcome.Measure.TheVariants as measures
-use Rattle.nr_laws.specs.Moves.{RefusedIsAbove}
+use Rattle.nr_laws.proofs.SingleMoves.{RefusedIsAbove}
 use Rattle.nr_laws.proofs.ReadMoves.{reads-step}
 use Rattle.nr_laws.proofs.Stopping.{for_limit, no_sight}
 

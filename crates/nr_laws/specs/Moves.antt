@@ -1,13 +1,8 @@
 -- Laws of single moves: at which limit one is refused, and how many there may be.
-use Rattle.std.specs.Prelude.{◌≡◌, ◌≢◌, ℕ, zero, suc, ◌+◌, ◌-◌, ◌*◌, ◌≤◌, Bool, true, false, if◌then◌else◌, List, sum_by, length, Option, None, Some}
+use Rattle.std.specs.Prelude.{◌≡◌, ◌≢◌, ◌↔◌, ℕ, zero, suc, ◌+◌, ◌-◌, ◌*◌, ◌≤◌, length, Option, None, Some}
 use Rattle.nr_units.specs.Source.{Supply}
 use Rattle.nr_fill.specs.Piece.{Word}
-use Rattle.nr_symbol_tables.specs.Table.{find}
-use Rattle.nr_store.specs.Store.{Stored, Means, Shared, is_named, weight_of}
 use Rattle.nr_reading.specs.Weights.{item_worth, cost_of_text, cost_of_special, weight_of_text, weight_of_argument, blanks_owed}
-use Rattle.nr_reading.specs.declared.mode.Due.{Due}
-use Rattle.nr_reading.specs.declared.mode.Due.TheVariants as dues
-use Rattle.nr_input.specs.Acting.{name_in}
 use Rattle.nr_input.specs.Laws.{most_of_reading, held_back}
 use Rattle.nr_input.specs.Weights.{items_left}
 use Rattle.nr_options.specs.Limits.{Bounds, AreLimits}
@@ -15,49 +10,21 @@ use Rattle.nr_options.specs.declared.options.Options.{Options}
 use Rattle.nr_formatter.specs.Weights.{cost_of_piece, cost_of_word, weight_of_dash}
 use Rattle.nr_formatter.specs.Access.{collected}
 use Rattle.nr_formatter.specs.declared.formatter.Formatter.{Formatter}
-use Rattle.nr_formatter.specs.declared.tasks.Resume.{Resume}
 use Rattle.nr_machine.specs.State.{State, start}
 use Rattle.nr_machine.specs.Machine.{step, state_after}
-use Rattle.nr_machine.specs.Measures.{IsWithin, passed}
+use Rattle.nr_machine.specs.Measures.{passed}
 use Rattle.nr_machine.specs.Run.{Passes, Runs, moves_a_byte}
 use Rattle.nr_machine.specs.declared.outcome.Measure.{Measure}
 
 -- ---- where a move is refused
 
--- A move is refused at a limit only where the state that it would lead to is above that limit, and above no limit that is asked before
--- it: also a move that reads. It sets out from a state within all limits, in which no splice was refused.
-abbrev pub RefusedIsAbove : Type 0
-RefusedIsAbove =
-    (s : State) (which : Measure) → IsWithin s → s.formatter.reader.half.reading.due ≢ dues.Expanded
-    → Passes s which → passed (step s) ≡ Some which
-
--- what is due gives the text of a definition its name
-abbrev pub names_text : Due → Bool
-names_text dues.Define = true
-names_text dues.DefineAndCall = true
-names_text d = false
-
--- what a name is charged, if anything has it
-abbrev pub charge_under : Option Means → ℕ
-charge_under None = 0
-charge_under (Some m) = weight_of m
-
--- what levels that read the text of a name are charged for it once another text has the name
-abbrev pub charge_after : List ℕ → List Shared → ℕ
-charge_after name texts = sum_by (λ (t : Shared). if is_named name t.name then t.share else 0) texts
-
--- a text that gives way to another under its name is charged no more then than it was with the name
-abbrev pub IsChargedOnce : List ℕ → Stored Resume → Type 0
-IsChargedOnce name v = charge_after name v.texts ≤ charge_under (find name v.names)
-
--- And it is refused wherever that state is above a limit, at the first that it is above. A move that gives a definition its name asks for
--- nothing, since its text was charged while it was built: there the text that gives way has to be charged once.
-abbrev pub AboveIsRefused : Type 0
-AboveIsRefused =
-    (s : State) (which : Measure) → IsWithin s → s.formatter.reader.half.reading.due ≢ dues.Expanded
-    → (names_text s.formatter.reader.half.reading.due ≡ true
-    → IsChargedOnce (name_in s.formatter.reader) s.formatter.store) → passed (step s) ≡ Some which
-    → Passes s which
+-- In a run a move is refused at a limit exactly where the state that it would lead to is above that limit, and above no limit that is
+-- asked before it: also a move that reads.
+abbrev pub LimitsAreExact : Type 0
+LimitsAreExact =
+    (b : Bounds) (options : Options) (supply : Supply) (n : ℕ) (which : Measure)
+    → Runs n (start b options supply)
+    → let s = state_after n (start b options supply) in Passes s which ↔ (passed (step s) ≡ Some which)
 
 -- ---- how many moves there are
 

@@ -1,6 +1,6 @@
 //! Laws of the output, each the contract of a function that does nothing: they speak of the definitions alone, over an empty sink.
 ghost use Rattle.nr_laws.specs.Laws.{LimitsOnlyStop, NoLimitAsked, LimitsCut, LimitsCutOutput, DoneIsWhole, OneWhole, WiderLimits, LimitsUnmet, OneAnswer};
-ghost use Rattle.nr_laws.specs.Moves.{RefusedIsAbove, AboveIsRefused, MovesAreFew, MovesBeforeByte, MovesBetween};
+ghost use Rattle.nr_laws.specs.Moves.{LimitsAreExact, MovesAreFew, MovesBeforeByte, MovesBetween};
 ghost use Rattle.nr_laws.specs.PlainText.{PlainTextStays};
 ghost use Rattle.nr_laws.specs.Printed.{NoControlGoesOut, BackspaceStrikes};
 ghost use Rattle.nr_laws.specs.Faces.{FacesOnlyShow, StruckOutIsSame, LettersAreLeft};
@@ -61,16 +61,13 @@ pub fn one_answer()
     ensures { OneAnswer }
 {}
 
-/// A move is refused at a limit only where it would lead to a state above that limit, also a move that reads; it is the first limit
-/// that the state is above. And it is refused wherever that state is above one; where it gives a definition its name, the text that
-/// gives way has to be charged once.
+/// In a run a move is refused at a limit exactly where it would lead to a state above that limit, also a move that reads; it is the
+/// first limit that the state is above.
 ///
-/// Proved: A move is refused at a limit exactly where the state that it would lead to is above that limit, the first
-/// such, for a state within all limits in which no splice was refused, and in which the text that gives way to a
-/// definition is charged once.
+/// Proved: In a run a move is refused at a limit exactly where the state that it would lead to is above that limit,
+/// the first such.
 pub fn limits_are_exact()
-    ensures refused { RefusedIsAbove }
-    ensures above { AboveIsRefused }
+    ensures { LimitsAreExact }
 {}
 
 /// Each beginning of a run keeps the bound on moves that the whole of it keeps. From each state of a run there are so many moves at
