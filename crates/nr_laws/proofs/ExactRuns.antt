@@ -71,7 +71,7 @@ due-not d h is = (let wrong : ⊥ = cc in wrong)
 
 module _ (s : State) (within : IsWithin s) (clear : AreClear s) where
   refuses : s.formatter.reader.half.reading.due ≢ dues.Expanded
-  refuses = due-not s.formatter.reader.half.reading.due clear.kept.due
+  refuses = due-not s.formatter.reader.half.reading.due clear.kept.half.due
 
   above : (m : Measure) → passed (step s) ≡ Some m → Passes s m
   above m is = above_is_refused s m within refuses (λ names. clear.kept.stored.once (name_in s.formatter.reader)) is

@@ -4,7 +4,7 @@ use Rattle.std.proofs.lemmas.List.Sums.{sum_by-cons}
 use Rattle.std.proofs.lemmas.Nat.{mul-le}
 use Rattle.std.proofs.Common.{◌≡◌, ℕ, zero, suc, ◌+◌, ◌-◌, ◌*◌, ◌≤◌, Bool, true, false, List, [], ◌∷◌, length, sum_by, Option, None, Some, ℤ, refl, ap, sym, subst, ◌∙◌, arith}
 use Rattle.nr_units.specs.Source.{Supply}
-use Rattle.nr_fill.specs.Piece.{Piece, Word}
+use Rattle.nr_fill.specs.Piece.{Piece, Word, Collected, line_cells, word_cells}
 use Rattle.nr_fill.specs.declared.stops.Pending.{Pending}
 use Rattle.nr_fill.specs.declared.stops.Pending.TheVariants as pendings
 use Rattle.nr_store.specs.Store.{Built}
@@ -12,8 +12,13 @@ use Rattle.nr_store.specs.declared.element.Diversion.{Diversion}
 use Rattle.nr_reading.specs.declared.event.Event.{Event}
 use Rattle.nr_reading.specs.declared.event.Event.TheVariants as events
 use Rattle.nr_reading.specs.declared.half.Half.{Half}
+use Rattle.nr_reading.specs.declared.mode.Due.{Due}
+use Rattle.nr_reading.specs.declared.mode.Due.TheVariants as dues
+use Rattle.nr_reading.specs.declared.mode.Mode.{Mode}
+use Rattle.nr_reading.specs.declared.mode.Mode.TheVariants as modes
+use Rattle.nr_reading.specs.Weights.{held_by_mode}
 use Rattle.nr_reading.proofs.Weighing.{cost_of_event-le}
-use Rattle.nr_input.specs.Laws.{weight_of_half-le}
+use Rattle.nr_input.specs.Laws.{weight_of_half-le, held_by_due, held_back}
 use Rattle.nr_input.specs.Place.{whole}
 use Rattle.nr_input.specs.Weights.{byte_worth, expansions_worth, items_left, newline_left}
 use Rattle.nr_input.proofs.Costs.{title_costs}
@@ -39,6 +44,9 @@ use Rattle.nr_laws.specs.Laws.{nothing_allowed}
 use Rattle.nr_laws.proofs.Growing.{state_after-add}
 use Rattle.nr_laws.proofs.MovesPaid.{step-paid}
 use Rattle.nr_laws.proofs.PageLengths.{HasHeight, height-after}
+use Rattle.nr_laws.proofs.PrintedLines.{IsLined, IsRead, parts-le}
+use Rattle.nr_laws.proofs.PrintedDirect.{IsDue, IsHeld, IsHalf}
+use Rattle.nr_laws.proofs.PrintedStates.{clear-after, starts-clear}
 use Rattle.nr_laws.proofs.ReadsPaid.{Paid, reached, worth, may_come}
 use Rattle.nr_laws.proofs.StepLimits.{state_after-under}
 use Rattle.nr_laws.proofs.WithinRun.{IsKept, kept-after}
@@ -230,12 +238,32 @@ pieces-le : (ps : List Piece) → length ps ≤ sum_by (λ (p : Piece). 1 + leng
 pieces-le [] = omega arith
 pieces-le (p ∷ ps) = omega (arith, pieces-le ps, sum_by-cons (λ (q : Piece). 1 + length q.cells) p ps)
 
+parts_of-le : (w : Option Word) → IsRead w → parts_of w ≤ word_cells w
+parts_of-le None h = omega arith
+parts_of-le (Some w) h = parts-le w h
+
+-- each part of the word has a cell
+collected-le : (c : Collected) → IsLined c → length c.pieces + parts_of c.word ≤ line_cells c
+collected-le c h = omega (arith, pieces-le c.pieces, parts_of-le c.word h.word)
+
+mode-le : (m : Mode) → IsHeld m → held_by_mode m ≤ 33
+mode-le (modes.BodyStart held) h = h
+mode-le m h = omega arith
+
+due-le : (d : Due) → IsDue d → held_by_due d ≤ 33
+due-le (dues.Release held n b) h = h
+due-le d h = omega arith
+
+-- so many bytes are held back, and are still to be added
+held_back-le : (h : Half) → IsHalf h → held_back h ≤ 66
+held_back-le h is = omega (arith, mode-le h.reading.mode is.held, due-le h.reading.due is.due)
+
 kept : (b : Bounds) (options : Options) (supply : Supply) (m : ℕ) → Runs m (start b options supply) → IsKept (state_after m (start b options supply)).formatter
 kept b options supply m runs =
     kept-after m (start b options supply) runs (record { line = omega arith; few = omega arith })
 
 -- the rest of the number for a byte
-enough : (x s p d : ℕ) → 64 ≤ s → 256 * (x * (s + 3)) + 183 * p + s + 5110 ≤ 256 * (x + 1) * (s + p + d + 4)
+enough : (x s p d : ℕ) → 64 ≤ s → 256 * (x * (s + 3)) + 183 * p + s + 5176 ≤ 256 * (x + 1) * (s + p + d + 4)
 enough x s p d large =
     let more = mul-le x (s + 3) x (s + p + d + 4) (omega arith) (omega arith) in
     let b : 256 * (x + 1) * (s + p + d + 4) ≡ 256 * (x * (s + p + d + 4)) + 256 * (s + p + d + 4) = grind arith in
@@ -252,6 +280,8 @@ moves_between b options supply m n limits registers runs taken same =
     let keeps = kept b options supply m so_far in
     let line = keeps.line in
     let few = keeps.few in
+    let clear = (clear-after m (start b options supply) (starts-clear b options supply)).kept in
+    let asks = clear.half.few in
     let cells : f.line.limit ≡ b.cells = ap (λ (t : State). t.formatter.line.limit) (state_after-under b m (start nothing_allowed options supply)) in
     omega (
       arith,
@@ -262,6 +292,8 @@ moves_between b options supply m n limits registers runs taken same =
       few,
       cells,
       all.limit,
-      pieces-le (collected f).pieces,
+      asks,
+      held_back-le f.reader.half clear.half,
+      collected-le (collected f) clear.lined,
       enough b.expansions b.stored b.cells b.depth limits.0,
     )

@@ -1,14 +1,16 @@
--- What is read directly: a cell that is read was stored, and another byte that is told as a cell prints, or stands in a title.
+-- What is read directly: a cell that is read was stored, and another byte that is told as a cell prints, or stands in a title. What is
+-- half read then is bounded.
 use Prim.Native.Char.{code}
 use Rattle.std.specs.Prelude.{◌||◌}
 use Rattle.std.proofs.lemmas.Bool.{eqb-true}
-use Rattle.std.proofs.Common.{◌≡◌, ℕ, ◌==◌, Bool, true, false, if◌then◌else◌, Option, None, Some, refl, ap}
+use Rattle.std.proofs.Common.{◌≡◌, ℕ, ◌≤◌, ◌==◌, Bool, true, false, if◌then◌else◌, List, length, Option, None, Some, refl, ap}
 use Rattle.nr_reading.specs.declared.ask.Ask.{Ask}
 use Rattle.nr_reading.specs.declared.ask.Kind.{Kind}
 use Rattle.nr_reading.specs.declared.event.Event.{Event}
 use Rattle.nr_reading.specs.declared.event.Event.TheVariants as events
 use Rattle.nr_reading.specs.declared.front.Front.{Front}
 use Rattle.nr_reading.specs.declared.front.Front.TheVariants as fronts
+use Rattle.nr_reading.specs.declared.half.Half.{Half}
 use Rattle.nr_reading.specs.declared.mode.Due.{Due}
 use Rattle.nr_reading.specs.declared.mode.Due.TheVariants as dues
 use Rattle.nr_reading.specs.declared.mode.Escape.{Escape}
@@ -40,14 +42,30 @@ IsHeard (events.DivertedCell x) m = IsPrinted x
 IsHeard (events.Plain b) m = IsByte (is_titled m) b
 IsHeard e m = Unit {0}
 
--- a splice that was refused is never due
+-- A splice that was refused is never due. No more bytes are held back, and released then, than a name has with the `.` before it.
 abbrev pub IsDue : Due → Type 0
 IsDue dues.Expanded = ⊥
+IsDue (dues.Release held n b) = held ≤ 33
 IsDue d = Unit {0}
+
+abbrev pub IsHeld : Mode → Type 0
+IsHeld (modes.BodyStart held) = held ≤ 33
+IsHeld m = Unit {0}
 
 pub record Tells (s : Step) : Type 0 where
   pub heard : IsHeard s.event s.reading.mode
   pub due : IsDue s.reading.due
+  pub held : IsHeld s.reading.mode
+
+-- What is half read: ten escapes at most, and a definition that a name of 32 bytes at most ends.
+pub record Halved (d : Due) (m : Mode) (asks : List Ask) (name : List ℕ) : Type 0 where
+  pub due : IsDue d
+  pub held : IsHeld m
+  pub few : length asks ≤ 10
+  pub ending : length name ≤ 32
+
+abbrev pub IsHalf : Half → Type 0
+IsHalf h = Halved h.reading.due h.reading.mode h.asks h.notes.defining.ending
 
 pub choose : (c : Bool) (x y : Step) → Tells x → Tells y → Tells (if c then x else y)
 choose true x y first second = first
@@ -113,117 +131,125 @@ behind-titled : (b : ℕ) (m : Mode) → is_titled (after_escape b m) ≡ is_tit
 behind-titled b modes.Text = text-behind (b == code "c")
 behind-titled b m = refl
 
-in-text : (b : ℕ) (a : Option Ask) (r : Reading) → IsDue r.due → Tells (escape_in_text b a r)
-in-text b (Some a) r h = record { heard = tt; due = assumption }
-in-text b None r h = record { heard = behind-heard (after_escape b r.mode) (is_titled r.mode) b (behind-titled b r.mode); due = assumption }
+text-held : (c : Bool) → IsHeld (if c then modes.Interrupted else modes.Text)
+text-held true = tt
+text-held false = tt
 
-at-start : (b : ℕ) (r : Reading) → IsDue r.due → Tells (escape_at_start b r)
-at-start b r h = choose (b == code "!") (go (plain (to modes.Transparent r))) (leave (continuing false (to modes.Text r))) (record { heard = tt; due = assumption }) (record { heard = tt; due = assumption })
+behind-held : (b : ℕ) (m : Mode) → IsHeld m → IsHeld (after_escape b m)
+behind-held b modes.Text k = text-held (b == code "c")
+behind-held b m k = k
 
-by-mode : (b : ℕ) (long : Bool) (m : Mode) (r : Reading) → IsDue r.due → Tells (escape_by b long m r)
-by-mode b long modes.Start r h = at-start b r h
-by-mode b long modes.Diverting r h = at-start b r h
-by-mode b long (modes.Leading n) r h = record { heard = tt; due = assumption }
-by-mode b long modes.Continued r h = record { heard = tt; due = assumption }
-by-mode b long modes.Interrupted r h = record { heard = tt; due = assumption }
-by-mode b long m r h = in-text b (asked_in_text b long) r h
+in-text : (b : ℕ) (a : Option Ask) (r : Reading) → IsDue r.due → IsHeld r.mode → Tells (escape_in_text b a r)
+in-text b (Some a) r h j = record { heard = tt; due = assumption; held = assumption }
+in-text b None r h j = record { heard = behind-heard (after_escape b r.mode) (is_titled r.mode) b (behind-titled b r.mode); due = assumption; held = behind-held b r.mode j }
 
-spliced-or : (b : ℕ) (k : Option Kind) (long : Bool) (r : Reading) → IsDue r.due → Tells (spliced_or b k long r)
-spliced-or b (Some k) long r h = record { heard = tt; due = assumption }
-spliced-or b None long r h =
-    choose (b == code "\n") (go (plain r)) (if b == code "\"" then go (escaping escapes.Comment r) else escape_by b long r.mode r) (record { heard = tt; due = assumption })
-    (choose (b == code "\"") (go (escaping escapes.Comment r)) (escape_by b long r.mode r) (record { heard = tt; due = assumption }) (by-mode b long r.mode r h))
+at-start : (b : ℕ) (r : Reading) → IsDue r.due → IsHeld r.mode → Tells (escape_at_start b r)
+at-start b r h j = choose (b == code "!") (go (plain (to modes.Transparent r))) (leave (continuing false (to modes.Text r))) (record { heard = tt; due = assumption; held = assumption }) (record { heard = tt; due = assumption; held = assumption })
 
-lone : (m : Mode) (r : Reading) → IsDue r.due → Tells (lone_escape m r)
-lone modes.Start r h = record { heard = tt; due = assumption }
-lone modes.Diverting r h = record { heard = tt; due = assumption }
-lone (modes.Leading n) r h = record { heard = tt; due = assumption }
-lone modes.Continued r h = record { heard = tt; due = assumption }
-lone modes.Interrupted r h = record { heard = tt; due = assumption }
-lone m r h = record { heard = tt; due = assumption }
+by-mode : (b : ℕ) (long : Bool) (m : Mode) (r : Reading) → IsDue r.due → IsHeld r.mode → Tells (escape_by b long m r)
+by-mode b long modes.Start r h j = at-start b r h j
+by-mode b long modes.Diverting r h j = at-start b r h j
+by-mode b long (modes.Leading n) r h j = record { heard = tt; due = assumption; held = assumption }
+by-mode b long modes.Continued r h j = record { heard = tt; due = assumption; held = assumption }
+by-mode b long modes.Interrupted r h j = record { heard = tt; due = assumption; held = assumption }
+by-mode b long m r h j = in-text b (asked_in_text b long) r h j
 
-escaped-tells : (f : Front) (long : Bool) (r : Reading) → IsDue r.due → Tells (escaped f long r)
-escaped-tells fronts.Mark long r h = record { heard = tt; due = assumption }
-escaped-tells (fronts.Byte b) long r h = spliced-or b (interpolated b) long r h
-escaped-tells f long r h = lone r.mode r h
+spliced-or : (b : ℕ) (k : Option Kind) (long : Bool) (r : Reading) → IsDue r.due → IsHeld r.mode → Tells (spliced_or b k long r)
+spliced-or b (Some k) long r h j = record { heard = tt; due = assumption; held = assumption }
+spliced-or b None long r h j =
+    choose (b == code "\n") (go (plain r)) (if b == code "\"" then go (escaping escapes.Comment r) else escape_by b long r.mode r) (record { heard = tt; due = assumption; held = assumption })
+    (choose (b == code "\"") (go (escaping escapes.Comment r)) (escape_by b long r.mode r) (record { heard = tt; due = assumption; held = assumption }) (by-mode b long r.mode r h j))
+
+lone : (m : Mode) (r : Reading) → IsDue r.due → IsHeld r.mode → Tells (lone_escape m r)
+lone modes.Start r h j = record { heard = tt; due = assumption; held = assumption }
+lone modes.Diverting r h j = record { heard = tt; due = assumption; held = assumption }
+lone (modes.Leading n) r h j = record { heard = tt; due = assumption; held = assumption }
+lone modes.Continued r h j = record { heard = tt; due = assumption; held = assumption }
+lone modes.Interrupted r h j = record { heard = tt; due = assumption; held = assumption }
+lone m r h j = record { heard = tt; due = assumption; held = assumption }
+
+escaped-tells : (f : Front) (long : Bool) (r : Reading) → IsDue r.due → IsHeld r.mode → Tells (escaped f long r)
+escaped-tells fronts.Mark long r h j = record { heard = tt; due = assumption; held = assumption }
+escaped-tells (fronts.Byte b) long r h j = spliced-or b (interpolated b) long r h j
+escaped-tells f long r h j = lone r.mode r h j
 
 -- ---- items as they are
 
-start_byte-tells : (b : ℕ) (s : Signs) (r : Reading) → IsDue r.due → Tells (start_byte b s r)
-start_byte-tells b s r h =
+start_byte-tells : (b : ℕ) (s : Signs) (r : Reading) → IsDue r.due → IsHeld r.mode → Tells (start_byte b s r)
+start_byte-tells b s r h j =
     let c5 : Step = if b == code " " then start_blank r else in_text (events.Byte b) r in
     let c4 : Step = if b == code "\\" then begin_escape r else c5 in
     let c3 : Step = if b == code "\n" then start_newline r else c4 in
     let c2 : Step = if b == s.no_break then start_control true r else c3 in
-    choose (b == s.control) (start_control false r) c2 (record { heard = tt; due = assumption })
-    (choose (b == s.no_break) (start_control true r) c3 (record { heard = tt; due = assumption })
-    (choose (b == code "\n") (start_newline r) c4 (choose r.continued (tell events.EndContinued (continuing false r)) (tell events.Empty r) (record { heard = tt; due = assumption }) (record { heard = tt; due = assumption }))
-    (choose (b == code "\\") (begin_escape r) c5 (record { heard = tt; due = assumption })
+    choose (b == s.control) (start_control false r) c2 (record { heard = tt; due = assumption; held = assumption })
+    (choose (b == s.no_break) (start_control true r) c3 (record { heard = tt; due = assumption; held = assumption })
+    (choose (b == code "\n") (start_newline r) c4 (choose r.continued (tell events.EndContinued (continuing false r)) (tell events.Empty r) (record { heard = tt; due = assumption; held = assumption }) (record { heard = tt; due = assumption; held = assumption }))
+    (choose (b == code "\\") (begin_escape r) c5 (record { heard = tt; due = assumption; held = assumption })
     (choose (b == code " ") (start_blank r) (in_text (events.Byte b) r)
-    (choose r.continued (tell (events.Byte (code " ")) (continuing false (to modes.Continued r))) (tell events.Leading (to (modes.Leading 1) r)) (record { heard = tt; due = assumption }) (record { heard = tt; due = assumption }))
-    (record { heard = tt; due = assumption })))))
+    (choose r.continued (tell (events.Byte (code " ")) (continuing false (to modes.Continued r))) (tell events.Leading (to (modes.Leading 1) r)) (record { heard = tt; due = assumption; held = assumption }) (record { heard = tt; due = assumption; held = assumption }))
+    (record { heard = tt; due = assumption; held = assumption })))))
 
-start-tells : (f : Front) (s : Signs) (r : Reading) → IsDue r.due → Tells (start f s r)
-start-tells fronts.Mark s r h = record { heard = tt; due = assumption }
-start-tells (fronts.Byte b) s r h = start_byte-tells b s r h
-start-tells (fronts.Cell x) s r h = record { heard = tt; due = assumption }
-start-tells (fronts.LineEnd n) s r h = record { heard = tt; due = assumption }
-start-tells fronts.Resume s r h = record { heard = tt; due = assumption }
-start-tells fronts.Over s r h = record { heard = tt; due = assumption }
+start-tells : (f : Front) (s : Signs) (r : Reading) → IsDue r.due → IsHeld r.mode → Tells (start f s r)
+start-tells fronts.Mark s r h j = record { heard = tt; due = assumption; held = assumption }
+start-tells (fronts.Byte b) s r h j = start_byte-tells b s r h j
+start-tells (fronts.Cell x) s r h j = record { heard = tt; due = assumption; held = assumption }
+start-tells (fronts.LineEnd n) s r h j = record { heard = tt; due = assumption; held = assumption }
+start-tells fronts.Resume s r h j = record { heard = tt; due = assumption; held = assumption }
+start-tells fronts.Over s r h j = record { heard = tt; due = assumption; held = assumption }
 
-leading-tells : (f : Front) (n : ℕ) (r : Reading) → IsDue r.due → Tells (leading f n r)
-leading-tells fronts.Mark n r h = record { heard = tt; due = assumption }
-leading-tells (fronts.Byte b) n r h =
+leading-tells : (f : Front) (n : ℕ) (r : Reading) → IsDue r.due → IsHeld r.mode → Tells (leading f n r)
+leading-tells fronts.Mark n r h j = record { heard = tt; due = assumption; held = assumption }
+leading-tells (fronts.Byte b) n r h j =
     let c3 : Step = if b == code "\\" then begin_escape r else text_after_blanks n r in
     let c2 : Step = if b == code " " then go (to (modes.Leading (one_blank_more n)) r) else c3 in
-    choose (b == code "\n") (tell events.Empty (to modes.Start r)) c2 (record { heard = tt; due = assumption })
-    (choose (b == code " ") (go (to (modes.Leading (one_blank_more n)) r)) c3 (record { heard = tt; due = assumption })
-    (choose (b == code "\\") (begin_escape r) (text_after_blanks n r) (record { heard = tt; due = assumption }) (record { heard = tt; due = assumption })))
-leading-tells (fronts.Cell x) n r h = record { heard = tt; due = assumption }
-leading-tells (fronts.LineEnd k) n r h = record { heard = tt; due = assumption }
-leading-tells fronts.Resume n r h = record { heard = tt; due = assumption }
-leading-tells fronts.Over n r h = record { heard = tt; due = assumption }
+    choose (b == code "\n") (tell events.Empty (to modes.Start r)) c2 (record { heard = tt; due = assumption; held = assumption })
+    (choose (b == code " ") (go (to (modes.Leading (one_blank_more n)) r)) c3 (record { heard = tt; due = assumption; held = assumption })
+    (choose (b == code "\\") (begin_escape r) (text_after_blanks n r) (record { heard = tt; due = assumption; held = assumption }) (record { heard = tt; due = assumption; held = assumption })))
+leading-tells (fronts.Cell x) n r h j = record { heard = tt; due = assumption; held = assumption }
+leading-tells (fronts.LineEnd k) n r h j = record { heard = tt; due = assumption; held = assumption }
+leading-tells fronts.Resume n r h j = record { heard = tt; due = assumption; held = assumption }
+leading-tells fronts.Over n r h j = record { heard = tt; due = assumption; held = assumption }
 
-continued-tells : (f : Front) (r : Reading) → IsDue r.due → IsFront f → Tells (continued f r)
-continued-tells fronts.Mark r h is = record { heard = tt; due = assumption }
-continued-tells (fronts.Byte b) r h is =
+continued-tells : (f : Front) (r : Reading) → IsDue r.due → IsHeld r.mode → IsFront f → Tells (continued f r)
+continued-tells fronts.Mark r h j is = record { heard = tt; due = assumption; held = assumption }
+continued-tells (fronts.Byte b) r h j is =
     let c3 : Step = if b == code "\\" then begin_escape r else in_text (events.Byte b) r in
     let c2 : Step = if b == code " " then tell (events.Byte (code " ")) r else c3 in
-    choose (b == code "\n") (tell events.EndContinued (end_continued r)) c2 (record { heard = tt; due = assumption })
-    (choose (b == code " ") (tell (events.Byte (code " ")) r) c3 (record { heard = tt; due = assumption })
-    (choose (b == code "\\") (begin_escape r) (in_text (events.Byte b) r) (record { heard = tt; due = assumption }) (record { heard = tt; due = assumption })))
-continued-tells (fronts.Cell x) r h is = record { heard = is; due = assumption }
-continued-tells (fronts.LineEnd k) r h is = record { heard = tt; due = assumption }
-continued-tells fronts.Resume r h is = record { heard = tt; due = assumption }
-continued-tells fronts.Over r h is = record { heard = tt; due = assumption }
+    choose (b == code "\n") (tell events.EndContinued (end_continued r)) c2 (record { heard = tt; due = assumption; held = assumption })
+    (choose (b == code " ") (tell (events.Byte (code " ")) r) c3 (record { heard = tt; due = assumption; held = assumption })
+    (choose (b == code "\\") (begin_escape r) (in_text (events.Byte b) r) (record { heard = tt; due = assumption; held = assumption }) (record { heard = tt; due = assumption; held = assumption })))
+continued-tells (fronts.Cell x) r h j is = record { heard = is; due = assumption; held = assumption }
+continued-tells (fronts.LineEnd k) r h j is = record { heard = tt; due = assumption; held = assumption }
+continued-tells fronts.Resume r h j is = record { heard = tt; due = assumption; held = assumption }
+continued-tells fronts.Over r h j is = record { heard = tt; due = assumption; held = assumption }
 
 -- an end of a text line
 end-heard : (c : Bool) (m : Mode) → IsHeard (if c then events.EndInterrupted else events.EndLine) m
 end-heard true m = tt
 end-heard false m = tt
 
-text-tells : (f : Front) (r : Reading) → IsDue r.due → IsFront f → Tells (text f r)
-text-tells fronts.Mark r h is = record { heard = tt; due = assumption }
-text-tells (fronts.Byte b) r h is =
-    choose (b == code "\n") (tell (end_event r) (ended r)) (if b == code "\\" then begin_escape r else tell (events.Byte b) (to modes.Text r)) (record { heard = end-heard (is_interrupted r.mode) modes.Start; due = assumption })
-    (choose (b == code "\\") (begin_escape r) (tell (events.Byte b) (to modes.Text r)) (record { heard = tt; due = assumption }) (record { heard = tt; due = assumption }))
-text-tells (fronts.Cell x) r h is = record { heard = is; due = assumption }
-text-tells (fronts.LineEnd k) r h is = record { heard = end-heard (is_interrupted r.mode) modes.Start; due = assumption }
-text-tells fronts.Resume r h is = record { heard = end-heard (is_interrupted r.mode) modes.Start; due = assumption }
-text-tells fronts.Over r h is = record { heard = end-heard (is_interrupted r.mode) modes.Start; due = assumption }
+text-tells : (f : Front) (r : Reading) → IsDue r.due → IsHeld r.mode → IsFront f → Tells (text f r)
+text-tells fronts.Mark r h j is = record { heard = tt; due = assumption; held = assumption }
+text-tells (fronts.Byte b) r h j is =
+    choose (b == code "\n") (tell (end_event r) (ended r)) (if b == code "\\" then begin_escape r else tell (events.Byte b) (to modes.Text r)) (record { heard = end-heard (is_interrupted r.mode) modes.Start; due = assumption; held = assumption })
+    (choose (b == code "\\") (begin_escape r) (tell (events.Byte b) (to modes.Text r)) (record { heard = tt; due = assumption; held = assumption }) (record { heard = tt; due = assumption; held = assumption }))
+text-tells (fronts.Cell x) r h j is = record { heard = is; due = assumption; held = assumption }
+text-tells (fronts.LineEnd k) r h j is = record { heard = end-heard (is_interrupted r.mode) modes.Start; due = assumption; held = assumption }
+text-tells fronts.Resume r h j is = record { heard = end-heard (is_interrupted r.mode) modes.Start; due = assumption; held = assumption }
+text-tells fronts.Over r h j is = record { heard = end-heard (is_interrupted r.mode) modes.Start; due = assumption; held = assumption }
 
-before_title-tells : (f : Front) (r : Reading) → IsDue r.due → Tells (before_title f r)
-before_title-tells fronts.Mark r h = record { heard = tt; due = assumption }
-before_title-tells (fronts.Byte b) r h =
+before_title-tells : (f : Front) (r : Reading) → IsDue r.due → IsHeld r.mode → Tells (before_title f r)
+before_title-tells fronts.Mark r h j = record { heard = tt; due = assumption; held = assumption }
+before_title-tells (fronts.Byte b) r h j =
     let c3 : Step = if is_blank b then go r else tell events.TitlePart (to (modes.Title b 0) r) in
     let c2 : Step = if b == code "\\" then begin_escape r else c3 in
-    choose (b == code "\n") (tell events.TitleEnd (ended_title r)) c2 (record { heard = tt; due = assumption })
-    (choose (b == code "\\") (begin_escape r) c3 (record { heard = tt; due = assumption })
-    (choose (is_blank b) (go r) (tell events.TitlePart (to (modes.Title b 0) r)) (record { heard = tt; due = assumption }) (record { heard = tt; due = assumption })))
-before_title-tells (fronts.Cell x) r h = record { heard = tt; due = assumption }
-before_title-tells (fronts.LineEnd k) r h = record { heard = tt; due = assumption }
-before_title-tells fronts.Resume r h = record { heard = tt; due = assumption }
-before_title-tells fronts.Over r h = record { heard = tt; due = assumption }
+    choose (b == code "\n") (tell events.TitleEnd (ended_title r)) c2 (record { heard = tt; due = assumption; held = assumption })
+    (choose (b == code "\\") (begin_escape r) c3 (record { heard = tt; due = assumption; held = assumption })
+    (choose (is_blank b) (go r) (tell events.TitlePart (to (modes.Title b 0) r)) (record { heard = tt; due = assumption; held = assumption }) (record { heard = tt; due = assumption; held = assumption })))
+before_title-tells (fronts.Cell x) r h j = record { heard = tt; due = assumption; held = assumption }
+before_title-tells (fronts.LineEnd k) r h j = record { heard = tt; due = assumption; held = assumption }
+before_title-tells fronts.Resume r h j = record { heard = tt; due = assumption; held = assumption }
+before_title-tells fronts.Over r h j = record { heard = tt; due = assumption; held = assumption }
 
 next_part-due : (d n : ℕ) (r : Reading) → IsDue r.due → IsDue (next_part d n r).due
 next_part-due d n r h = by (n == 0) (n == 1)
@@ -233,84 +259,92 @@ next_part-due d n r h = by (n == 0) (n == 1)
     by false true = h
     by false false = h
 
-title-tells : (f : Front) (d n : ℕ) (r : Reading) → IsDue r.due → IsFront f → Tells (title f d n r)
-title-tells fronts.Mark d n r h is = record { heard = tt; due = assumption }
-title-tells (fronts.Byte b) d n r h is =
+next_part-held : (d n : ℕ) (r : Reading) → IsHeld (next_part d n r).mode
+next_part-held d n r = by (n == 0) (n == 1)
+  where
+    by : (x y : Bool) → IsHeld (if x then to (modes.Title d 1) r else (if y then to (modes.Title d 2) r else to modes.TitleRest r)).mode
+    by true y = tt
+    by false true = tt
+    by false false = tt
+
+title-tells : (f : Front) (d n : ℕ) (r : Reading) → IsDue r.due → IsHeld r.mode → IsFront f → Tells (title f d n r)
+title-tells fronts.Mark d n r h j is = record { heard = tt; due = assumption; held = assumption }
+title-tells (fronts.Byte b) d n r h j is =
     let c3 : Step = if b == d then tell events.TitlePart (next_part d n r) else tell (events.Byte b) r in
     let c2 : Step = if b == code "\\" then begin_escape r else c3 in
-    choose (b == code "\n") (tell events.TitleEnd (ended_title r)) c2 (record { heard = tt; due = assumption })
-    (choose (b == code "\\") (begin_escape r) c3 (record { heard = tt; due = assumption })
-    (choose (b == d) (tell events.TitlePart (next_part d n r)) (tell (events.Byte b) r) (record { heard = tt; due = next_part-due d n r h }) (record { heard = tt; due = assumption })))
-title-tells (fronts.Cell x) d n r h is = record { heard = is; due = assumption }
-title-tells (fronts.LineEnd k) d n r h is = record { heard = tt; due = assumption }
-title-tells fronts.Resume d n r h is = record { heard = tt; due = assumption }
-title-tells fronts.Over d n r h is = record { heard = tt; due = assumption }
+    choose (b == code "\n") (tell events.TitleEnd (ended_title r)) c2 (record { heard = tt; due = assumption; held = assumption })
+    (choose (b == code "\\") (begin_escape r) c3 (record { heard = tt; due = assumption; held = assumption })
+    (choose (b == d) (tell events.TitlePart (next_part d n r)) (tell (events.Byte b) r) (record { heard = tt; due = next_part-due d n r h; held = next_part-held d n r }) (record { heard = tt; due = assumption; held = assumption })))
+title-tells (fronts.Cell x) d n r h j is = record { heard = is; due = assumption; held = assumption }
+title-tells (fronts.LineEnd k) d n r h j is = record { heard = tt; due = assumption; held = assumption }
+title-tells fronts.Resume d n r h j is = record { heard = tt; due = assumption; held = assumption }
+title-tells fronts.Over d n r h j is = record { heard = tt; due = assumption; held = assumption }
 
-diverted-tells : (f : Front) (r : Reading) → IsDue r.due → IsFront f → Tells (diverted f r)
-diverted-tells fronts.Mark r h is = record { heard = tt; due = assumption }
-diverted-tells (fronts.Cell x) r h is = record { heard = is; due = assumption }
-diverted-tells (fronts.LineEnd k) r h is = record { heard = tt; due = assumption }
-diverted-tells f r h is = record { heard = tt; due = assumption }
+diverted-tells : (f : Front) (r : Reading) → IsDue r.due → IsHeld r.mode → IsFront f → Tells (diverted f r)
+diverted-tells fronts.Mark r h j is = record { heard = tt; due = assumption; held = assumption }
+diverted-tells (fronts.Cell x) r h j is = record { heard = is; due = assumption; held = assumption }
+diverted-tells (fronts.LineEnd k) r h j is = record { heard = tt; due = assumption; held = assumption }
+diverted-tells f r h j is = record { heard = tt; due = assumption; held = assumption }
 
-diverting-tells : (f : Front) (s : Signs) (r : Reading) → IsDue r.due → IsFront f → Tells (diverting f s r)
-diverting-tells (fronts.Cell x) s r h is = record { heard = is; due = assumption }
-diverting-tells (fronts.LineEnd k) s r h is = record { heard = tt; due = assumption }
-diverting-tells f s r h is = start-tells f s r h
+diverting-tells : (f : Front) (s : Signs) (r : Reading) → IsDue r.due → IsHeld r.mode → IsFront f → Tells (diverting f s r)
+diverting-tells (fronts.Cell x) s r h j is = record { heard = is; due = assumption; held = assumption }
+diverting-tells (fronts.LineEnd k) s r h j is = record { heard = tt; due = assumption; held = assumption }
+diverting-tells f s r h j is = start-tells f s r h j
 
-accepted-tells : (f : Front) (r : Reading) → IsDue r.due → Tells (accepted f r)
-accepted-tells fronts.Mark r h = record { heard = tt; due = assumption }
-accepted-tells (fronts.Byte b) r h =
+accepted-tells : (f : Front) (r : Reading) → IsDue r.due → IsHeld r.mode → Tells (accepted f r)
+accepted-tells fronts.Mark r h j = record { heard = tt; due = assumption; held = assumption }
+accepted-tells (fronts.Byte b) r h j =
     let c3 : Step = if b == code "\\" then begin_escape r else leave (to modes.Start r) in
     let c2 : Step = if b == code "\n" then go (to modes.Start r) else c3 in
-    choose (is_blank b) (go r) c2 (record { heard = tt; due = assumption })
-    (choose (b == code "\n") (go (to modes.Start r)) c3 (record { heard = tt; due = assumption })
-    (choose (b == code "\\") (begin_escape r) (leave (to modes.Start r)) (record { heard = tt; due = assumption }) (record { heard = tt; due = assumption })))
-accepted-tells f r h = record { heard = tt; due = assumption }
+    choose (is_blank b) (go r) c2 (record { heard = tt; due = assumption; held = assumption })
+    (choose (b == code "\n") (go (to modes.Start r)) c3 (record { heard = tt; due = assumption; held = assumption })
+    (choose (b == code "\\") (begin_escape r) (leave (to modes.Start r)) (record { heard = tt; due = assumption; held = assumption }) (record { heard = tt; due = assumption; held = assumption })))
+accepted-tells f r h j = record { heard = tt; due = assumption; held = assumption }
 
-accepted_escape-tells : (f : Front) (r : Reading) → IsDue r.due → Tells (accepted_escape f r)
-accepted_escape-tells fronts.Mark r h = record { heard = tt; due = assumption }
-accepted_escape-tells (fronts.Byte b) r h = choose (b == code "{") (go (plain r)) (leave (to modes.Start r)) (record { heard = tt; due = assumption }) (record { heard = tt; due = assumption })
-accepted_escape-tells f r h = record { heard = tt; due = assumption }
+accepted_escape-tells : (f : Front) (r : Reading) → IsDue r.due → IsHeld r.mode → Tells (accepted_escape f r)
+accepted_escape-tells fronts.Mark r h j = record { heard = tt; due = assumption; held = assumption }
+accepted_escape-tells (fronts.Byte b) r h j = choose (b == code "{") (go (plain r)) (leave (to modes.Start r)) (record { heard = tt; due = assumption; held = assumption }) (record { heard = tt; due = assumption; held = assumption })
+accepted_escape-tells f r h j = record { heard = tt; due = assumption; held = assumption }
 
-newline-tells : (n : ℕ) (r : Reading) → IsDue r.due → Tells (behind_newline n r)
-newline-tells n r h = choose (n == 0) (go (to modes.Start r)) (go r) (record { heard = tt; due = assumption }) (record { heard = tt; due = assumption })
+newline-tells : (n : ℕ) (r : Reading) → IsDue r.due → IsHeld r.mode → Tells (behind_newline n r)
+newline-tells n r h j = choose (n == 0) (go (to modes.Start r)) (go r) (record { heard = tt; due = assumption; held = assumption }) (record { heard = tt; due = assumption; held = assumption })
 
-skip-tells : (f : Front) (n : ℕ) (r : Reading) → IsDue r.due → Tells (skip f n r)
-skip-tells (fronts.Byte b) n r h =
-    choose (b == code "\n") (behind_newline n r) (if b == code "\\" then begin_escape r else go r) (newline-tells n r h)
-    (choose (b == code "\\") (begin_escape r) (go r) (record { heard = tt; due = assumption }) (record { heard = tt; due = assumption }))
-skip-tells (fronts.LineEnd k) n r h = newline-tells n r h
-skip-tells fronts.Resume n r h = record { heard = tt; due = assumption }
-skip-tells fronts.Over n r h = record { heard = tt; due = assumption }
-skip-tells f n r h = record { heard = tt; due = assumption }
+skip-tells : (f : Front) (n : ℕ) (r : Reading) → IsDue r.due → IsHeld r.mode → Tells (skip f n r)
+skip-tells (fronts.Byte b) n r h j =
+    choose (b == code "\n") (behind_newline n r) (if b == code "\\" then begin_escape r else go r) (newline-tells n r h j)
+    (choose (b == code "\\") (begin_escape r) (go r) (record { heard = tt; due = assumption; held = assumption }) (record { heard = tt; due = assumption; held = assumption }))
+skip-tells (fronts.LineEnd k) n r h j = newline-tells n r h j
+skip-tells fronts.Resume n r h j = record { heard = tt; due = assumption; held = assumption }
+skip-tells fronts.Over n r h j = record { heard = tt; due = assumption; held = assumption }
+skip-tells f n r h j = record { heard = tt; due = assumption; held = assumption }
 
-skip_escape-tells : (f : Front) (n : ℕ) (r : Reading) → IsDue r.due → Tells (skip_escape f n r)
-skip_escape-tells fronts.Mark n r h = record { heard = tt; due = assumption }
-skip_escape-tells (fronts.Byte b) n r h = record { heard = tt; due = assumption }
-skip_escape-tells fronts.Resume n r h = record { heard = tt; due = assumption }
-skip_escape-tells fronts.Over n r h = record { heard = tt; due = assumption }
-skip_escape-tells f n r h = record { heard = tt; due = assumption }
+skip_escape-tells : (f : Front) (n : ℕ) (r : Reading) → IsDue r.due → IsHeld r.mode → Tells (skip_escape f n r)
+skip_escape-tells fronts.Mark n r h j = record { heard = tt; due = assumption; held = assumption }
+skip_escape-tells (fronts.Byte b) n r h j = record { heard = tt; due = assumption; held = assumption }
+skip_escape-tells fronts.Resume n r h j = record { heard = tt; due = assumption; held = assumption }
+skip_escape-tells fronts.Over n r h j = record { heard = tt; due = assumption; held = assumption }
+skip_escape-tells f n r h j = record { heard = tt; due = assumption; held = assumption }
 
-unescaped-tells : (m : Mode) (f : Front) (s : Signs) (r : Reading) → IsDue r.due → IsFront f → Tells (unescaped m f s r)
-unescaped-tells modes.Diverting f s r h is = diverting-tells f s r h is
-unescaped-tells (modes.Leading n) f s r h is = leading-tells f n r h
-unescaped-tells modes.Continued f s r h is = continued-tells f r h is
-unescaped-tells modes.Text f s r h is = text-tells f r h is
-unescaped-tells modes.Interrupted f s r h is = text-tells f r h is
-unescaped-tells modes.TitleBefore f s r h is = before_title-tells f r h
-unescaped-tells (modes.Title d n) f s r h is = title-tells f d n r h is
-unescaped-tells modes.Diverted f s r h is = diverted-tells f r h is
-unescaped-tells modes.Accepted f s r h is = accepted-tells f r h
-unescaped-tells (modes.Skip n) f s r h is = skip-tells f n r h
-unescaped-tells m f s r h is = start-tells f s r h
+unescaped-tells : (m : Mode) (f : Front) (s : Signs) (r : Reading) → IsDue r.due → IsHeld r.mode → IsFront f → Tells (unescaped m f s r)
+unescaped-tells modes.Diverting f s r h j is = diverting-tells f s r h j is
+unescaped-tells (modes.Leading n) f s r h j is = leading-tells f n r h j
+unescaped-tells modes.Continued f s r h j is = continued-tells f r h j is
+unescaped-tells modes.Text f s r h j is = text-tells f r h j is
+unescaped-tells modes.Interrupted f s r h j is = text-tells f r h j is
+unescaped-tells modes.TitleBefore f s r h j is = before_title-tells f r h j
+unescaped-tells (modes.Title d n) f s r h j is = title-tells f d n r h j is
+unescaped-tells modes.Diverted f s r h j is = diverted-tells f r h j is
+unescaped-tells modes.Accepted f s r h j is = accepted-tells f r h j
+unescaped-tells (modes.Skip n) f s r h j is = skip-tells f n r h j
+unescaped-tells m f s r h j is = start-tells f s r h j
 
-backslash-tells : (m : Mode) (f : Front) (s : Signs) (r : Reading) → IsDue r.due → Tells (after_backslash m f s r)
-backslash-tells modes.Accepted f s r h = accepted_escape-tells f r h
-backslash-tells (modes.Skip n) f s r h = skip_escape-tells f n r h
-backslash-tells m f s r h = escaped-tells f s.long r h
+backslash-tells : (m : Mode) (f : Front) (s : Signs) (r : Reading) → IsDue r.due → IsHeld r.mode → Tells (after_backslash m f s r)
+backslash-tells modes.Accepted f s r h j = accepted_escape-tells f r h j
+backslash-tells (modes.Skip n) f s r h j = skip_escape-tells f n r h j
+backslash-tells m f s r h j = escaped-tells f s.long r h j
 
-pub direct-tells : (e : Escape) (f : Front) (s : Signs) (r : Reading) → IsDue r.due → IsFront f → Tells (direct_by e f s r)
-direct-tells escapes.Plain f s r h is = unescaped-tells r.mode f s r h is
-direct-tells escapes.Begun f s r h is = backslash-tells r.mode f s r h
-direct-tells escapes.Comment f s r h is =
-    choose (ends_comment f) (unescaped r.mode f s (plain r)) (go r) (unescaped-tells r.mode f s (plain r) h is) (record { heard = tt; due = assumption })
+pub direct-tells : (e : Escape) (f : Front) (s : Signs) (r : Reading) → IsDue r.due → IsHeld r.mode → IsFront f → Tells (direct_by e f s r)
+direct-tells escapes.Plain f s r h j is = unescaped-tells r.mode f s r h j is
+direct-tells escapes.Begun f s r h j is = backslash-tells r.mode f s r h j
+direct-tells escapes.Comment f s r h j is =
+    choose (ends_comment f) (unescaped r.mode f s (plain r)) (go r) (unescaped-tells r.mode f s (plain r) h j is) (record { heard = tt; due = assumption; held = assumption })

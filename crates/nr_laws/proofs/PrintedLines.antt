@@ -1,9 +1,12 @@
--- What is collected has no control byte: pieces, the word that is being read, and the title.
-use Rattle.std.specs.Prelude.{take, drop, replicate, map, nat_lt, slice_index_or}
+-- What is collected has no control byte: pieces, the word that is being read, and the title. The word has no more parts than cells.
+use Rattle.std.specs.Prelude.{take, drop, replicate, map, nat_lt, slice_index_or, not, ◌&&◌}
 use Rattle.std.specs.Option.{option_map}
 use Rattle.std.specs.List.{All, flat_map, range_with_len, suffix_len}
+use Rattle.std.proofs.lemmas.Bool.{ltb-true}
+use Rattle.std.proofs.lemmas.List.{length-append, length-take, length-drop}
 use Rattle.std.proofs.lemmas.List.Elements.{All-nil, All-cons, All-head, All-tail, All-append, All-push, All-take, All-drop, All-replicate}
-use Rattle.std.proofs.Common.{◌≡◌, ℕ, zero, suc, ◌+◌, ◌-◌, ◌==◌, Bool, true, false, if◌then◌else◌, List, [], ◌∷◌, ◌++◌, length, Option, None, Some, refl}
+use Rattle.std.proofs.lemmas.List.Sums.{sum_by-append, sum_by-cons}
+use Rattle.std.proofs.Common.{◌≡◌, ℕ, zero, suc, ◌+◌, ◌-◌, ◌<◌, ◌≤◌, ◌==◌, Bool, true, false, if◌then◌else◌, List, [], ◌∷◌, ◌++◌, length, Option, None, Some, refl, subst, arith}
 use Rattle.nr_vectors.specs.Cell.{blank, is_blank, trimmed}
 use Rattle.nr_vectors.specs.declared.cell.Cell.{Cell}
 use Rattle.nr_settings.specs.declared.indents.Margins.{Margins}
@@ -19,7 +22,7 @@ use Rattle.nr_fill.specs.declared.stops.Pending.{Pending}
 use Rattle.nr_fill.specs.declared.stops.Pending.TheVariants as pendings
 use Rattle.nr_fill.specs.declared.title.TitlePart.{TitlePart}
 use Rattle.nr_fill.specs.declared.title.TitlePart.TheVariants as parts
-use Rattle.nr_fill.specs.Piece.{Piece, Word, Collected, word_or_new, with_word, in_word, ended_at, ended, pending_after, pending_soft, with_soft_point, pending_without_point, barred_here, is_inside, point_at, hyphenated, append, add_cell_after, add_cell, ends_sentence, add_blank_to, add_blank, with_blanks_kept, add_cells, marked, joined_at, joined, shortened, without_blanks, word_pieces, end_word, word_length, with_title, with_title_cell, with_part_ended, cells_in}
+use Rattle.nr_fill.specs.Piece.{Piece, Word, Collected, word_or_new, with_word, in_word, ended_at, ended, pending_after, pending_soft, with_soft_point, pending_without_point, barred_here, is_for_stop, is_inside, point_at, hyphenated, append, add_cell_after, add_cell, ends_sentence, add_blank_to, add_blank, with_blanks_kept, add_cells, marked, joined_at, joined, shortened, without_blanks, word_pieces, end_word, word_length, with_title, with_title_cell, with_part_ended, cells_in}
 use Rattle.nr_fill.specs.Cutting.{hyphen_before}
 use Rattle.nr_fill.specs.Setting.{hyphens, hyphen, text_of, extra_of, left_over, shift, line_row}
 use Rattle.nr_fill.specs.Spreading.{blanks_before, next_gap, cells_after, cells_in_line}
@@ -69,10 +72,18 @@ abbrev pub IsFilled : Pending → Type 0
 IsFilled (pendings.ForStop f) = IsPrinted f.fill
 IsFilled p = Unit {0}
 
+-- a break point that waits stands after a cell
+abbrev pub IsPointed : Pending → ℕ → Type 0
+IsPointed (pendings.AtPoint p) n = 0 < n
+IsPointed p n = Unit {0}
+
+-- a word has no more parts than cells in them
 pub record IsWord (w : Word) : Type 0 where
   pub parts : AreSet w.parts
   pub last : ArePrinted w.last.cells
   pub pending : IsFilled w.pending
+  pub few : length w.parts ≤ cells_in w.parts
+  pub pointed : IsPointed w.pending (length w.last.cells)
 
 abbrev pub IsRead : Option Word → Type 0
 IsRead None = Unit {0}
@@ -105,19 +116,25 @@ pub changed : (g : Word → Word) (c : Collected) → ((w : Word) → IsWord w �
 changed g c each h = record { pieces = h.pieces; word = mapped g each c.word h.word; title = tt }
 
 opened : (gap : ℕ) (o : Option Word) → IsRead o → IsWord (word_or_new gap o)
-opened gap None h = record { parts = All-nil IsSet; last = All-nil IsPrinted; pending = tt }
+opened gap None h = record { parts = All-nil IsSet; last = All-nil IsPrinted; pending = tt; few = omega arith; pointed = tt }
 opened gap (Some w) h = h
 
 pub worded : (m : Margins) (c : Collected) → IsLined c → IsLined (with_word m c)
 worded m c h = record { pieces = h.pieces; word = opened c.gap c.word h.word; title = tt }
 
-ended-at : (p : Pending) (w : Word) → IsWord w → IsWord (ended_at p w)
-ended-at (pendings.AtPoint p) w h = record { parts = All-push IsSet w.parts w.last h.parts h.last; last = All-nil IsPrinted; pending = tt }
-ended-at pendings.Nothing w h = h
-ended-at (pendings.ForStop f) w h = h
+-- one part more, of cells
+more : (ps : List Piece) (p : Piece) → 0 < length p.cells → length ps ≤ cells_in ps → length (ps ++ p ∷ []) ≤ cells_in (ps ++ p ∷ [])
+more ps p some few = omega (arith, some, few, length-append ps (p ∷ []), sum_by-append (λ (q : Piece). length q.cells) ps (p ∷ []), sum_by-cons (λ (q : Piece). length q.cells) p [])
+
+ended-at : (p : Pending) (w : Word) → w.pending ≡ p → IsWord w → IsWord (ended_at p w)
+ended-at (pendings.AtPoint p) w is h =
+    let some : IsPointed (pendings.AtPoint p) (length w.last.cells) = subst (λ q. IsPointed q (length w.last.cells)) is h.pointed in
+    record { parts = All-push IsSet w.parts w.last h.parts h.last; last = All-nil IsPrinted; pending = tt; few = more w.parts w.last some h.few; pointed = tt }
+ended-at pendings.Nothing w is h = h
+ended-at (pendings.ForStop f) w is h = h
 
 ended-word : (m : Margins) (c : Collected) → IsLined c → IsLined (in_word ended (with_word m c))
-ended-word m c h = changed ended (with_word m c) (λ w k. ended-at w.pending w k) (worded m c h)
+ended-word m c h = changed ended (with_word m c) (λ w k. ended-at w.pending w refl k) (worded m c h)
 
 pended : (m : Behind) (n : ℕ) (p : Pending) → IsFilled p → IsFilled (pending_after m n p)
 pended m n (pendings.ForStop f) h = h
@@ -128,8 +145,27 @@ pended Hyphen n (pendings.AtPoint p) h = either IsFilled (nat_lt 1 n) (pendings.
 pended Dash n pendings.Nothing h = either IsFilled (nat_lt 2 n) (pendings.AtPoint points.Hard) pendings.Nothing tt tt
 pended Dash n (pendings.AtPoint p) h = either IsFilled (nat_lt 2 n) (pendings.AtPoint points.Hard) pendings.Nothing tt tt
 
+longer-pointed : (p : Pending) (n m : ℕ) → n ≤ m → IsPointed p n → IsPointed p m
+longer-pointed (pendings.AtPoint p) n m less h = omega (arith, less, h)
+longer-pointed pendings.Nothing n m less h = tt
+longer-pointed (pendings.ForStop f) n m less h = tt
+
+-- where there is a cell any point may wait
+any-pointed : (p : Pending) (n : ℕ) → 0 < n → IsPointed p n
+any-pointed (pendings.AtPoint p) n some = some
+any-pointed pendings.Nothing n some = tt
+any-pointed (pendings.ForStop f) n some = tt
+
 appended : (xs : List Cell) (w : Word) → ArePrinted xs → IsWord w → IsWord (append xs w)
-appended xs w more h = record { parts = h.parts; last = join w.last.cells xs h.last more; pending = h.pending }
+appended xs w are h =
+    let longer = length-append w.last.cells xs in
+    record {
+      parts = h.parts;
+      last = join w.last.cells xs h.last are;
+      pending = h.pending;
+      few = h.few;
+      pointed = longer-pointed w.pending (length w.last.cells) (length (w.last.cells ++ xs)) (omega (arith, longer)) h.pointed;
+    }
 
 one : (x : Cell) → IsPrinted x → ArePrinted (x ∷ [])
 one x h = All-cons IsPrinted x [] h (All-nil IsPrinted)
@@ -137,19 +173,35 @@ one x h = All-cons IsPrinted x [] h (All-nil IsPrinted)
 celled : (b : Behind) (x : Cell) (w : Word) → IsPrinted x → IsWord w → IsWord (add_cell_after b x w)
 celled b x w is h =
     let longer = appended (x ∷ []) w (one x is) h in
-    record { parts = longer.parts; last = longer.last; pending = pended b (word_length (append (x ∷ []) w)) w.pending h.pending }
+    let n = word_length (append (x ∷ []) w) in
+    let one-more = length-append w.last.cells (x ∷ []) in
+    record {
+      parts = longer.parts;
+      last = longer.last;
+      pending = pended b n w.pending h.pending;
+      few = h.few;
+      pointed = any-pointed (pending_after b n w.pending) (length (w.last.cells ++ x ∷ [])) (omega (arith, one-more));
+    }
 
 pub add_cell-lined : (m : Margins) (b : Behind) (x : Cell) (c : Collected) → IsPrinted x → IsLined c → IsLined (add_cell m b x c)
 add_cell-lined m b x c is h = changed (add_cell_after b x) (in_word ended (with_word m c)) (λ w k. celled b x w is k) (ended-word m c h)
 
 blanked : (w : Word) → IsWord w → IsWord (add_blank_to w)
-blanked w h = record { parts = h.parts; last = join w.last.cells (blank ∷ []) h.last (one blank refl); pending = h.pending }
+blanked w h =
+    let longer = length-append w.last.cells (blank ∷ []) in
+    record {
+      parts = h.parts;
+      last = join w.last.cells (blank ∷ []) h.last (one blank refl);
+      pending = h.pending;
+      few = h.few;
+      pointed = any-pointed w.pending (length (w.last.cells ++ blank ∷ [])) (omega (arith, longer));
+    }
 
 pub add_blank-lined : (m : Margins) (c : Collected) → IsLined c → IsLined (add_blank m c)
 add_blank-lined m c h = changed add_blank_to (in_word ended (with_word m c)) blanked (ended-word m c h)
 
 kept : (w : Word) → IsWord w → IsWord (with_blanks_kept w)
-kept w h = record { parts = h.parts; last = h.last; pending = h.pending }
+kept w h = record { parts = h.parts; last = h.last; pending = h.pending; few = h.few; pointed = h.pointed }
 
 pub add_cells-lined : (m : Margins) (x : Cell) (n : ℕ) (c : Collected) → IsPrinted x → IsLined c → IsLined (add_cells m x n c)
 add_cells-lined m x n c is h =
@@ -165,29 +217,62 @@ softened n pendings.Nothing h = either IsFilled (nat_lt 0 n) (pendings.AtPoint p
 softened n (pendings.AtPoint p) h = tt
 softened n (pendings.ForStop f) h = h
 
+soft-pointed : (n : ℕ) (p : Pending) → IsPointed p n → IsPointed (pending_soft n p) n
+soft-pointed n pendings.Nothing h = by (nat_lt 0 n) refl
+  where
+    by : (c : Bool) → nat_lt 0 n ≡ c → IsPointed (if c then pendings.AtPoint points.Soft else pendings.Nothing) n
+    by true some = ltb-true 0 n some
+    by false some = tt
+soft-pointed n (pendings.AtPoint p) h = h
+soft-pointed n (pendings.ForStop f) h = h
+
 soft : (w : Word) → IsWord w → IsWord (with_soft_point w)
-soft w h = record { parts = h.parts; last = h.last; pending = softened (length w.last.cells) w.pending h.pending }
+soft w h =
+    record {
+      parts = h.parts;
+      last = h.last;
+      pending = softened (length w.last.cells) w.pending h.pending;
+      few = h.few;
+      pointed = soft-pointed (length w.last.cells) w.pending h.pointed;
+    }
 
 pub barred-lined : (c : Collected) → IsLined c → IsLined (barred_here c)
 barred-lined c h = record { pieces = h.pieces; word = mapped with_soft_point soft c.word h.word; title = h.title }
 
 -- ---- a word's end
 
+-- a place inside of a piece has cells before it and after it
+inside : (at blanks n : ℕ) (p : Pending) → is_inside at blanks n p ≡ true → (0 < at) × (at < n)
+inside at blanks n p is = by (nat_lt 0 at) (nat_lt (at + blanks) n) (ltb-true 0 at) (ltb-true (at + blanks) n) is
+  where
+    by : (c d : Bool) → (c ≡ true → 0 < at) → (d ≡ true → at + blanks < n) → (c && d && not (is_for_stop p)) ≡ true → (0 < at) × (at < n)
+    by true true first second is = let few = second refl in (first refl, omega (arith, few))
+    by true false first second is = absurd (let wrong : false ≡ true = is in cc)
+    by false d first second is = absurd (let wrong : false ≡ true = is in cc)
+
 pointed-at : (place : ℕ) (w : Word) → IsWord w → IsWord (point_at place w)
-pointed-at place w h =
-    let n = place - cells_in w.parts in
-    either IsWord (is_inside n w.blanks (length w.last.cells) w.pending)
-    (record w {
-      parts = w.parts ++ record { join = w.last.join; cells = take n w.last.cells } ∷ [];
-      last = record { join = joins.Soft; cells = drop n w.last.cells };
-    })
-    w
-    (record {
-      parts = All-push IsSet w.parts (record { join = w.last.join; cells = take n w.last.cells }) h.parts (All-take IsPrinted n w.last.cells h.last);
-      last = All-drop IsPrinted n w.last.cells h.last;
-      pending = h.pending;
-    })
-    h
+pointed-at place w h = by (is_inside n w.blanks (length w.last.cells) w.pending) refl
+  where
+    n : ℕ
+    n = place - cells_in w.parts
+
+    front : Piece
+    front = record { join = w.last.join; cells = take n w.last.cells }
+
+    by : (c : Bool) → is_inside n w.blanks (length w.last.cells) w.pending ≡ c
+        → IsWord (if c then record w { parts = w.parts ++ front ∷ []; last = record { join = joins.Soft; cells = drop n w.last.cells } } else w)
+    by true is =
+        let between = inside n w.blanks (length w.last.cells) w.pending is in
+        let before : 0 < length (take n w.last.cells) = omega (arith, between.0, between.1, length-take n w.last.cells) in
+        let after : 0 < length (drop n w.last.cells) = omega (arith, between.0, between.1, length-drop n w.last.cells) in
+        record {
+          parts = All-push IsSet w.parts front h.parts (All-take IsPrinted n w.last.cells h.last);
+          last = All-drop IsPrinted n w.last.cells h.last;
+          pending = h.pending;
+          few = more w.parts front before h.few;
+          pointed = any-pointed w.pending (length (drop n w.last.cells)) after;
+        }
+    by false is = h
 
 pub hyphenated-lined : (place : ℕ) (c : Collected) → IsLined c → IsLined (hyphenated place c)
 hyphenated-lined place c h = changed (point_at place) c (pointed-at place) h
@@ -198,8 +283,8 @@ cells-of (p ∷ ps) h = join p.cells (flat_map (λ (q : Piece). q.cells) ps) (Al
 
 joined-at : (p : Pending) (w : Word) → IsWord w → IsWord (joined_at p w)
 joined-at (pendings.ForStop f) w h = h
-joined-at pendings.Nothing w h = record { parts = All-nil IsSet; last = join (flat_map (λ (p : Piece). p.cells) w.parts) w.last.cells (cells-of w.parts h.parts) h.last; pending = tt }
-joined-at (pendings.AtPoint p) w h = record { parts = All-nil IsSet; last = join (flat_map (λ (p : Piece). p.cells) w.parts) w.last.cells (cells-of w.parts h.parts) h.last; pending = tt }
+joined-at pendings.Nothing w h = record { parts = All-nil IsSet; last = join (flat_map (λ (p : Piece). p.cells) w.parts) w.last.cells (cells-of w.parts h.parts) h.last; pending = tt; few = omega arith; pointed = tt }
+joined-at (pendings.AtPoint p) w h = record { parts = All-nil IsSet; last = join (flat_map (λ (p : Piece). p.cells) w.parts) w.last.cells (cells-of w.parts h.parts) h.last; pending = tt; few = omega arith; pointed = tt }
 
 pub joined-lined : (c : Collected) → IsLined c → IsLined (joined c)
 joined-lined c h = changed (λ w. joined_at w.pending w) c (λ w k. joined-at w.pending w k) h
@@ -209,8 +294,13 @@ without-point (pendings.ForStop f) h = h
 without-point pendings.Nothing h = tt
 without-point (pendings.AtPoint p) h = tt
 
+no-point : (p : Pending) (n : ℕ) → IsPointed (pending_without_point p) n
+no-point (pendings.ForStop f) n = tt
+no-point pendings.Nothing n = tt
+no-point (pendings.AtPoint p) n = tt
+
 short : (w : Word) → IsWord w → IsWord (shortened w)
-short w h = record { parts = h.parts; last = All-take IsPrinted (length w.last.cells - w.blanks) w.last.cells h.last; pending = without-point w.pending h.pending }
+short w h = record { parts = h.parts; last = All-take IsPrinted (length w.last.cells - w.blanks) w.last.cells h.last; pending = without-point w.pending h.pending; few = h.few; pointed = no-point w.pending (length (take (length w.last.cells - w.blanks) w.last.cells)) }
 
 pub without_blanks-lined : (c : Collected) → IsLined c → IsLined (without_blanks c)
 without_blanks-lined c h = changed shortened (joined c) short (joined-lined c h)
@@ -222,10 +312,14 @@ pieces-of (Some w) h = All-push IsSet w.parts w.last h.parts h.last
 pub end_word-lined : (c : Collected) → IsLined c → IsLined (end_word c)
 end_word-lined c h = record { pieces = All-append IsSet c.pieces (word_pieces c.word) h.pieces (pieces-of c.word h.word); word = tt; title = h.title }
 
+-- a word has no more parts than cells
+pub parts-le : (w : Word) → IsWord w → length w.parts ≤ word_length w
+parts-le w h = omega (arith, h.few)
+
 -- ---- stops
 
 fielded : (width : ℕ) (kind : StopKind) (fill : Cell) (w : Word) → IsPrinted fill → IsWord w → IsWord (with_field width kind fill w)
-fielded width kind fill w is h = record { parts = h.parts; last = h.last; pending = is }
+fielded width kind fill w is h = record { parts = h.parts; last = h.last; pending = is; few = h.few; pointed = tt }
 
 to-stop : (m : Margins) (aligned : Bool) (fill : Cell) (c : Collected) (s : Option Stop) → IsPrinted fill → IsLined c → IsLined (to_stop m aligned fill c s)
 to-stop m aligned fill c None is h = worded m c h
@@ -246,6 +340,8 @@ filled-by (pendings.ForStop f) w is h =
           (join (take f.before w.last.cells) (replicate n f.fill) (All-take IsPrinted f.before w.last.cells h.last) (All-replicate IsPrinted n f.fill is))
           (All-drop IsPrinted f.before w.last.cells h.last);
       pending = tt;
+      few = h.few;
+      pointed = tt;
     }
 filled-by pendings.Nothing w is h = h
 filled-by (pendings.AtPoint p) w is h = h

@@ -1,7 +1,9 @@
 -- What is under way makes no cell of a control byte, and tells nothing.
-use Rattle.std.specs.Prelude.{is_none, is_some, not, int_lt, map, min, length, nat_lt, unsigned_abs, ◌/◌, ◌&&◌, ◌||◌}
+use Rattle.std.specs.Prelude.{is_none, is_some, not, int_lt, map, min, length, nat_lt, take, unsigned_abs, ◌/◌, ◌&&◌, ◌||◌}
+use Rattle.std.specs.Option.{unwrap_or}
+use Rattle.std.proofs.lemmas.Bool.{ltb-false}
 use Rattle.std.proofs.lemmas.List.Elements.{All-nil, All-cons, All-head, All-tail, All-drop}
-use Rattle.std.proofs.Common.{◌≡◌, ℕ, zero, suc, ◌+◌, ◌-◌, ◌==◌, Bool, true, false, if◌then◌else◌, List, [], ◌∷◌, Option, None, Some, ℤ, pos, negsuc, refl}
+use Rattle.std.proofs.Common.{◌≡◌, ℕ, zero, suc, ◌+◌, ◌-◌, ◌≤◌, ◌==◌, Bool, true, false, if◌then◌else◌, List, [], ◌∷◌, Option, None, Some, ℤ, pos, negsuc, refl, arith}
 use Rattle.nr_vectors.specs.Cell.{blank, is_blank}
 use Rattle.nr_vectors.specs.declared.cell.Cell.{Cell}
 use Rattle.nr_units.specs.declared.number_text.Format.{Format}
@@ -14,7 +16,7 @@ use Rattle.nr_store.specs.declared.request.Request.{Request}
 use Rattle.nr_store.specs.declared.request.Request.TheVariants as requests
 use Rattle.nr_symbol_tables.specs.Word.{word_of}
 use Rattle.nr_store.specs.Store.{Stored, words, newest_diversion, diversion_ended as ended_diversion, begun, fresh, text_of, trapped, removed, renamed, written, set_to, register_of, is_held, unregistered, worded}
-use Rattle.nr_settings.specs.Arguments.{name_in, byte_in, word_in, after_word}
+use Rattle.nr_settings.specs.Arguments.{name_in, name_of, name_len, behind_blanks, behind_name, byte_in, word_in, after_word}
 use Rattle.nr_settings.specs.Numbers.{applied}
 use Rattle.nr_settings.specs.Registers as register_lines
 use Rattle.nr_settings.specs.Spacing as space_lines
@@ -27,6 +29,7 @@ use Rattle.nr_settings.specs.declared.traps.PageTrap.{PageTrap}
 use Rattle.nr_settings.specs.declared.traps.PageTrap.TheVariants as page_traps
 use Rattle.nr_settings.specs.declared.traps.TrapMove.{TrapMove}
 use Rattle.nr_reading.specs.declared.event.Event.TheVariants as events
+use Rattle.nr_input.specs.Splicing.{base}
 use Rattle.nr_input.specs.declared.splicing.Definition.{Definition}
 use Rattle.nr_input.specs.declared.splicing.Definition.TheVariants as definitions
 use Rattle.nr_formatter.specs.declared.built_in.BuiltInRegister.{BuiltInRegister}
@@ -79,7 +82,7 @@ pub tasked : (t : Task) (f : Formatter) → Resting f → Resting (record f { ta
 tasked t f h = record { kept = h.kept; idle = h.idle }
 
 stored-in : (v : Stored Resume) (f : Formatter) → AreStored v → Resting f → Resting (record f { store = v })
-stored-in v f is h = record { kept = record { stored = is; lined = h.kept.lined; tab = h.kept.tab; leader = h.kept.leader; due = h.kept.due }; idle = h.idle }
+stored-in v f is h = record { kept = record { stored = is; lined = h.kept.lined; tab = h.kept.tab; leader = h.kept.leader; half = h.kept.half }; idle = h.idle }
 
 -- ---- lines that go out
 
@@ -102,7 +105,7 @@ line-behind g f h =
         lined = record { pieces = All-drop IsSet (lines.pieces_going g (collected f)) (collected f).pieces h.kept.lined.pieces; word = h.kept.lined.word; title = h.kept.lined.title };
         tab = h.kept.tab;
         leader = h.kept.leader;
-        due = h.kept.due;
+        half = h.kept.half;
       };
       idle = h.idle;
     }
@@ -113,13 +116,13 @@ title-row offset f h = titled_row-printed offset (f.settings.indents.title_lengt
 pub title-behind : (f : Formatter) → Resting f → Resting (titles.title_set f)
 title-behind f h =
     record {
-      kept = record { stored = h.kept.stored; lined = record { pieces = h.kept.lined.pieces; word = h.kept.lined.word; title = tt }; tab = h.kept.tab; leader = h.kept.leader; due = h.kept.due };
+      kept = record { stored = h.kept.stored; lined = record { pieces = h.kept.lined.pieces; word = h.kept.lined.word; title = tt }; tab = h.kept.tab; leader = h.kept.leader; half = h.kept.half };
       idle = h.idle;
     }
 
 diverted-with : (indent : ℕ) (xs : List Cell) (height : ℕ) (f : Formatter) → ArePrinted xs → Resting f → Resting (diversions.with_diverted indent xs height f)
 diverted-with indent xs height f is h =
-    record { kept = record { stored = diverted-stored indent xs height f.store is h.kept.stored; lined = h.kept.lined; tab = h.kept.tab; leader = h.kept.leader; due = h.kept.due }; idle = h.idle }
+    record { kept = record { stored = diverted-stored indent xs height f.store is h.kept.stored; lined = h.kept.lined; tab = h.kept.tab; leader = h.kept.leader; half = h.kept.half }; idle = h.idle }
 
 row-diverted : (xs : List Cell) (f : Formatter) → ArePrinted xs → Resting f → Resting (diversions.with_diverted_row xs f)
 row-diverted xs f is h = diverted-with 0 xs (spacing f) (pages.without_no_space f) is (record { kept = h.kept; idle = h.idle })
@@ -136,17 +139,17 @@ space-diverted n f h =
 
 pub end-diverted : (width height : ℕ) (f : Formatter) → Resting f → Resting (diversions.with_diverted_end width height f)
 end-diverted width height f h =
-    record { kept = record { stored = diverted_end-stored width height f.store h.kept.stored; lined = h.kept.lined; tab = h.kept.tab; leader = h.kept.leader; due = h.kept.due }; idle = h.idle }
+    record { kept = record { stored = diverted_end-stored width height f.store h.kept.stored; lined = h.kept.lined; tab = h.kept.tab; leader = h.kept.leader; half = h.kept.half }; idle = h.idle }
 
 pub cell-diverted : (indent : ℕ) (x : Cell) (f : Formatter) → IsPrinted x → IsKept f → IsKept (diversions.with_diverted_cell indent x f)
-cell-diverted indent x f is h = record { stored = added-stored _ f.store (blanks_and indent x is) h.stored; lined = h.lined; tab = h.tab; leader = h.leader; due = h.due }
+cell-diverted indent x f is h = record { stored = added-stored _ f.store (blanks_and indent x is) h.stored; lined = h.lined; tab = h.tab; leader = h.leader; half = h.half }
 
 -- ---- springing
 
 pub text-sprung : (name : List ℕ) (text : Option (List Element)) (f : Formatter) → words (find name f.store.names) ≡ text → IfText text → IsKept f → IsKept (springing.sprung_text name text f)
 text-sprung name None f has is h = h
 text-sprung name (Some text) f has is h =
-    record { stored = entered-stored name (Some text) (Some (springing.interrupted f)) f.store has is h.stored; lined = h.lined; tab = h.tab; leader = h.leader; due = tt }
+    record { stored = entered-stored name (Some text) (Some (springing.interrupted f)) f.store has is h.stored; lined = h.lined; tab = h.tab; leader = h.leader; half = record { due = tt; held = tt; few = omega arith; ending = h.half.ending } }
 
 pub sprung-kept : (name : List ℕ) (f : Formatter) → IsKept f → IsKept (springing.sprung name f)
 sprung-kept name f h = text-sprung name (words (find name f.store.names)) f refl (named-words name f.store h.stored) h
@@ -246,19 +249,39 @@ finished-at : (s : Step) (f : Formatter) → Resting f → Resting (ending.finis
 finished-at steps.Diversions f h = last-diversion f h
 finished-at s f h = record { kept = h.kept; idle = h.idle }
 
-with-lines : (d : Definition) (name : List ℕ) (end : Option (List ℕ)) (f : Formatter) → Resting f → Resting (naming.with_lines d name end f)
-with-lines definitions.De name end f h =
-    record { kept = record { stored = begun_empty None f.store h.kept.stored; lined = h.kept.lined; tab = h.kept.tab; leader = h.kept.leader; due = h.kept.due }; idle = h.idle }
-with-lines definitions.Am name end f h =
+-- a name has 32 bytes at most
+few-bytes : (bytes : List ℕ) → length (unwrap_or (name_of bytes) []) ≤ 32
+few-bytes bytes = by (length bytes == 0) (nat_lt 32 (length bytes)) (ltb-false 32 (length bytes))
+  where
+    by : (c d : Bool) → (d ≡ false → length bytes ≤ 32) → length (unwrap_or (if c || d then None else Some bytes) []) ≤ 32
+    by true d few = omega arith
+    by false true few = omega arith
+    by false false few = few refl
+
+few-named : (long : Bool) (text : List ℕ) → length (unwrap_or (name_in long text) []) ≤ 32
+few-named long text = few-bytes (take (name_len long (behind_blanks text)) (behind_blanks text))
+
+base-stored : (d : Definition) (name : List ℕ) (v : Stored Resume) → AreStored v → AreStored (base d name v)
+base-stored definitions.De name v h = begun_empty None v h
+base-stored definitions.Am name v h = begun-stored (text_of name v) None v (text_of-stored name v h) h
+base-stored definitions.Ig name v h = h
+
+with-lines : (d : Definition) (name : List ℕ) (end : Option (List ℕ)) (f : Formatter) → length (unwrap_or end []) ≤ 32 → Resting f → Resting (naming.with_lines d name end f)
+with-lines d name end f few h =
     record {
-      kept = record { stored = begun-stored (text_of name f.store) None f.store (text_of-stored name f.store h.kept.stored) h.kept.stored; lined = h.kept.lined; tab = h.kept.tab; leader = h.kept.leader; due = h.kept.due };
+      kept = record {
+        stored = base-stored d name f.store h.kept.stored;
+        lined = h.kept.lined;
+        tab = h.kept.tab;
+        leader = h.kept.leader;
+        half = record { due = h.kept.half.due; held = omega arith; few = h.kept.half.few; ending = few };
+      };
       idle = h.idle;
     }
-with-lines definitions.Ig name end f h = record { kept = h.kept; idle = h.idle }
 
 defined-as : (d : Definition) (name : Option (List ℕ)) (f : Formatter) → Resting f → Resting (naming.defined_as d name f)
 defined-as d None f h = h
-defined-as d (Some name) f h = with-lines d name (naming.second_name f) f h
+defined-as d (Some name) f h = with-lines d name (naming.second_name f) f (few-named (long f) (behind_name (long f) (line f))) h
 
 without-name : (name : Option (List ℕ)) (f : Formatter) → Resting f → Resting (naming.without_name name f)
 without-name None f h = h
@@ -329,10 +352,10 @@ acted requests.De f h = to-read (naming.defined_as definitions.De (naming.first_
 acted requests.Di f h = tasked tasks.Read (diversions.divert_to (name_in (long f) (line f)) f) (diverted-to (name_in (long f) (line f)) f h)
 acted requests.Dt f h = let t = trap_lines.dt (line f) (long f) (spacing f) (present_place f) in tasked tasks.Read (diversions.with_diversion_trap t f) (diversion-trap t f h)
 acted requests.Ex f h =
-    record { kept = record { stored = record { names = h.kept.stored.names; building = h.kept.stored.building; levels = no_levels; once = once-none f.store.names }; lined = h.kept.lined; tab = h.kept.tab; leader = h.kept.leader; due = h.kept.due }; idle = refl }
+    record { kept = record { stored = record { names = h.kept.stored.names; building = h.kept.stored.building; levels = no_levels; once = once-none f.store.names }; lined = h.kept.lined; tab = h.kept.tab; leader = h.kept.leader; half = h.kept.half }; idle = refl }
 acted requests.Hw f h = let v = naming.with_words (length (line f)) (line f) f.store in to-read (record f { store = v }) (stored-in v f (words-stored (length (line f)) (line f) f.store h.kept.stored) h)
-acted requests.Ig f h = to-read (naming.with_lines definitions.Ig [] (naming.first_name f) f) (with-lines definitions.Ig [] (naming.first_name f) f h)
-acted requests.Lc f h = record { kept = record { stored = h.kept.stored; lined = h.kept.lined; tab = h.kept.tab; leader = printing-filler (byte_in (line f)); due = h.kept.due }; idle = h.idle }
+acted requests.Ig f h = to-read (naming.with_lines definitions.Ig [] (naming.first_name f) f) (with-lines definitions.Ig [] (naming.first_name f) f (few-named (long f) (line f)) h)
+acted requests.Lc f h = record { kept = record { stored = h.kept.stored; lined = h.kept.lined; tab = h.kept.tab; leader = printing-filler (byte_in (line f)); half = h.kept.half }; idle = h.idle }
 acted requests.Mk f h = place-marked (name_in (long f) (line f)) (to_read f) (to-read f h)
 acted requests.Ne f h = let n = space_lines.ne (line f) (spacing f) (present_place f) in
     let below = distance_below f.paper.place f in
@@ -344,7 +367,7 @@ acted requests.Rn f h = to-read (naming.with_renamed (naming.first_name f) (nami
 acted requests.Rr f h = register-removed (name_in (long f) (line f)) (to_read f) (to-read f h)
 acted requests.Rt f h = let z = space_lines.rt (line f) (spacing f) (page_place f.paper) f.settings.pages.mark in tasked tasks.Read (spaces.returned z f) (returned-to z f h)
 acted requests.Sp f h = spaced-by (space_lines.sp (line f) (spacing f) (present_place f)) f h
-acted requests.Tc f h = record { kept = record { stored = h.kept.stored; lined = h.kept.lined; tab = printing-filler (byte_in (line f)); leader = h.kept.leader; due = h.kept.due }; idle = h.idle }
+acted requests.Tc f h = record { kept = record { stored = h.kept.stored; lined = h.kept.lined; tab = printing-filler (byte_in (line f)); leader = h.kept.leader; half = h.kept.half }; idle = h.idle }
 acted requests.Wh f h = let t = trap_lines.wh (line f) (long f) (spacing f) (present_place f) in tasked tasks.Read (traps.with_page_trap t f) (trap-planted t f h)
 acted r f h = record { kept = h.kept; idle = h.idle }
 
@@ -354,8 +377,8 @@ acted r f h = record { kept = h.kept; idle = h.idle }
 dash-ended : (f : Formatter) → Resting f → Resting (texts.finish_dash f)
 dash-ended f h =
     resting-if (titles.reads_title f) (titles.title_dash_end f) (texts.dash_end f)
-    (record { kept = record { stored = h.kept.stored; lined = title h; tab = h.kept.tab; leader = h.kept.leader; due = h.kept.due }; idle = refl })
-    (record { kept = record { stored = h.kept.stored; lined = word h; tab = h.kept.tab; leader = h.kept.leader; due = h.kept.due }; idle = refl })
+    (record { kept = record { stored = h.kept.stored; lined = title h; tab = h.kept.tab; leader = h.kept.leader; half = h.kept.half }; idle = refl })
+    (record { kept = record { stored = h.kept.stored; lined = word h; tab = h.kept.tab; leader = h.kept.leader; half = h.kept.half }; idle = refl })
   where
     title : Resting f → IsLined (with_title_cell (cell 45 f) (collected f))
     title h = with_title_cell-lined (cell 45 f) (collected f) refl h.kept.lined

@@ -1,8 +1,8 @@
 -- No move makes a cell of a control byte.
-use Rattle.std.specs.Prelude.{is_none, nat_le, nat_lt, not, replicate}
+use Rattle.std.specs.Prelude.{is_none, nat_le, nat_lt, not, replicate, slice_get}
 use Rattle.std.specs.List.{All}
 use Rattle.std.proofs.lemmas.List.Elements.{All-nil, All-cons, All-push}
-use Rattle.std.proofs.Common.{◌≡◌, ℕ, zero, suc, ◌+◌, ◌-◌, Bool, true, false, if◌then◌else◌, List, [], ◌∷◌, ◌++◌, Option, None, Some, ℤ, refl, subst, sym, ◌∙◌}
+use Rattle.std.proofs.Common.{◌≡◌, ℕ, zero, suc, ◌+◌, ◌-◌, ◌≤◌, Bool, true, false, if◌then◌else◌, List, [], ◌∷◌, ◌++◌, Option, None, Some, ℤ, refl, subst, sym, ◌∙◌, arith}
 use Rattle.nr_units.specs.Source.{Supply}
 use Rattle.nr_vectors.specs.Cell.{blank}
 use Rattle.nr_vectors.specs.declared.cell.Cell.{Cell}
@@ -18,17 +18,22 @@ use Rattle.nr_store.specs.declared.request.Request.{Request}
 use Rattle.nr_store.specs.declared.request.Request.TheVariants as requests
 use Rattle.nr_reading.specs.declared.event.Event.{Event}
 use Rattle.nr_reading.specs.declared.event.Event.TheVariants as events
+use Rattle.nr_reading.specs.declared.ask.Ask.{Ask}
 use Rattle.nr_reading.specs.declared.ask.Sign.TheVariants as signs
 use Rattle.nr_reading.specs.declared.mode.Calls.{Calls}
 use Rattle.nr_reading.specs.declared.mode.Calls.TheVariants as calls
 use Rattle.nr_reading.specs.declared.mode.Due.{Due}
 use Rattle.nr_reading.specs.declared.mode.Due.TheVariants as dues
 use Rattle.nr_reading.specs.declared.mode.Mode.{Mode}
+use Rattle.nr_reading.specs.declared.mode.Mode.TheVariants as modes
+use Rattle.nr_reading.specs.declared.mode.Standing.{Standing}
+use Rattle.nr_reading.specs.declared.mode.Standing.TheVariants as standings
 use Rattle.nr_reading.specs.Seeking.{sought, sought_event}
 use Rattle.nr_reading.specs.Spelled.{is_empty}
 use Rattle.nr_reading.specs.declared.half.Half.{Half}
 use Rattle.nr_input.specs.declared.reader.Reader.{Reader}
 use Rattle.nr_reading.specs.Half.{Met, meet}
+use Rattle.nr_reading.specs.Conditionals.{answer_of, else_mode}
 use Rattle.nr_reading.specs.Mode.{mode_of}
 use Rattle.nr_input.specs.Moving.{Situation, Move, look, looks, taken_at, stays_at, acted_at, told_of, move as input_move}
 use Rattle.nr_input.specs.Acting.{act as act_due, after_held, calls_of, has_text, meaning_in, name_in, next, splicing}
@@ -65,9 +70,9 @@ use Rattle.nr_store.specs.Request.{request_names}
 use Rattle.nr_laws.proofs.ChargedOnce.{once-none}
 use Rattle.nr_laws.proofs.PrintedLines.{IsPrinted, ArePrinted, IsSet, either, join, blanks, trim}
 use Rattle.nr_laws.proofs.PrintedStores.{AreStored, front-printed, left-stored, act-stored, no_levels, no_building, request_names-stored}
-use Rattle.nr_laws.proofs.PrintedDirect.{IsHeard, IsDue}
+use Rattle.nr_laws.proofs.PrintedDirect.{IsHeard, IsDue, IsHeld, Halved, IsHalf}
 use Rattle.nr_laws.proofs.PrintedReads.{meet-told}
-use Rattle.nr_laws.proofs.PrintedWorks.{IsKept, Hearing, heard-hearing, break-word-end}
+use Rattle.nr_laws.proofs.PrintedWorks.{IsKept, Hearing, part-held, heard-hearing, break-word-end}
 use Rattle.nr_laws.proofs.PrintedRests.{Resting, row-printed, line-behind, title-row, title-behind, line-diverted, title-diverted, space-diverted, end-diverted, cell-diverted, sprung-resting, ejected-resting, tasked, worked-resting}
 
 abbrev pub IsPlaced : Placed → Type 0
@@ -157,9 +162,16 @@ broken t s h = part-broken t (plainly continues_none s) (plain-rests s _ h.clean
 
 -- ---- titles, diverted lines and space
 
+in-mode : {d : Due} {m n : Mode} {asks : List Ask} {name : List ℕ} → Halved d m asks name → IsHeld n → Halved d n asks name
+in-mode h held = record { due = h.due; held = held; few = h.few; ending = h.ending }
+
 read-in : (r : Room) (f : Formatter) → Resting f → Resting (moves.read_in r f)
-read-in rooms.Title f h = record { kept = h.kept; idle = h.idle }
-read-in rooms.Line f h = record { kept = h.kept; idle = h.idle }
+read-in rooms.Title f h =
+    let half : Halved f.reader.half.reading.due modes.TitleBefore f.reader.half.asks f.reader.half.notes.defining.ending = in-mode h.kept.half tt in
+    record { kept = record { stored = h.kept.stored; lined = h.kept.lined; tab = h.kept.tab; leader = h.kept.leader; half = half }; idle = h.idle }
+read-in rooms.Line f h =
+    let half : Halved f.reader.half.reading.due modes.Diverting f.reader.half.asks f.reader.half.notes.defining.ending = in-mode h.kept.half tt in
+    record { kept = record { stored = h.kept.stored; lined = h.kept.lined; tab = h.kept.tab; leader = h.kept.leader; half = half }; idle = h.idle }
 
 room-made : (o : Outlet) (r : Room) (s : State) → Rests s → Rests (room_in o r s)
 room-made outlets.Diversion r s h = plain-rests s _ h.clean (read-in r s.formatter h.resting)
@@ -271,81 +283,88 @@ acted-told dues.Seek v r m = sought-told (calls_of (meaning_in v r)) m
 acted-told (dues.Lead n) v r m = tt
 acted-told d v r m = tt
 
-moved-told : (c : Bool) (q : Situation Resume) → AreStored q.stored → IsDue q.reader.half.reading.due → IsTold (if c then look q else acted_at q)
-moved-told true q h due =
+moved-told : (c : Bool) (q : Situation Resume) → AreStored q.stored → IsHalf q.reader.half → IsTold (if c then look q else acted_at q)
+moved-told true q h half =
     let f = front (shown q.stored.levels) q.coming in
     let m = meet f q.reader.half in
-    looked-told m.takes m q (meet-told f q.reader.half due (front-printed q.stored.levels q.coming h.levels)).heard
-moved-told false q h due = acted-told q.reader.half.reading.due q.stored q.reader (act_due q.reader.half.reading.due q.stored q.reader).reader.half.reading.mode
+    looked-told m.takes m q (meet-told f q.reader.half half (front-printed q.stored.levels q.coming h.levels)).heard
+moved-told false q h half = acted-told q.reader.half.reading.due q.stored q.reader (act_due q.reader.half.reading.due q.stored q.reader).reader.half.reading.mode
 
-met-due : (c : Bool) (m : Met) (q : Situation Resume) → IsDue m.half.reading.due → IsDue (if c then taken_at m q else stays_at m q).situation.reader.half.reading.due
-met-due true m q h = h
-met-due false m q h = h
+met-half : (c : Bool) (m : Met) (q : Situation Resume) → IsHalf m.half → IsHalf (if c then taken_at m q else stays_at m q).situation.reader.half
+met-half true m q h = h
+met-half false m q h = h
+
+next-half : (d : Due) (h : Half) → IsDue d → IsHalf h → IsHalf (next d h)
+next-half d h due is = record { due = due; held = is.held; few = is.few; ending = is.ending }
 
 test-due : (c : Bool) (x y : Due) → IsDue x → IsDue y → IsDue (if c then x else y)
 test-due true x y first second = first
 test-due false x y first second = second
 
-held-due : (held n : ℕ) (b : Option ℕ) → IsDue (after_held held n b)
-held-due held n (Some b) = test-due (nat_lt (n + 1) held) (dues.Release held (n + 1) (Some b)) (dues.Add b) tt tt
-held-due held n None = test-due (nat_lt (n + 1) held) (dues.Release held (n + 1) None) dues.Look tt tt
+held-due : (held n : ℕ) (b : Option ℕ) → held ≤ 33 → IsDue (after_held held n b)
+held-due held n (Some b) few = test-due (nat_lt (n + 1) held) (dues.Release held (n + 1) (Some b)) (dues.Add b) few tt
+held-due held n None few = test-due (nat_lt (n + 1) held) (dues.Release held (n + 1) None) dues.Look few tt
 
-sought-due : (c : Calls) (h : Half) → h.reading.due ≡ dues.Look → IsDue (sought c h).reading.due
-sought-due calls.Nothing h is = subst IsDue (sym is) tt
-sought-due calls.Macro h is = subst IsDue (sym is) tt
-sought-due calls.Request h is = subst IsDue (sym is) tt
-sought-due calls.NewString h is = subst IsDue (sym is) tt
-sought-due calls.MoreString h is = subst IsDue (sym is) tt
-sought-due calls.If h is = subst IsDue (sym is) tt
-sought-due calls.IfElse h is = subst IsDue (sym is) tt
-sought-due calls.Else h is = subst IsDue (sym is) tt
-sought-due calls.Title h is = subst IsDue (sym is) tt
+else-held : (answer : Option Bool) → IsHeld (else_mode answer)
+else-held None = tt
+else-held (Some answer) = part-held (not answer)
 
-spliced-due : (c : Bool) (v : Stored Resume) (r : Reader) → IsDue (splicing c v r).reader.half.reading.due
-spliced-due true v r = tt
-spliced-due false v r = tt
+sought-half : (c : Calls) (h : Half) → IsHalf h → IsHalf (sought c h)
+sought-half calls.Else h is = record { due = is.due; held = else-held (slice_get h.notes.answers 0); few = is.few; ending = is.ending }
+sought-half c h is = record { due = is.due; held = tt; few = is.few; ending = is.ending }
 
-acted-due : (d : Due) (v : Stored Resume) (r : Reader) → r.half.reading.due ≡ d → IsDue d → IsDue (act_due d v r).reader.half.reading.due
-acted-due dues.Look v r is h = subst IsDue (sym is) tt
-acted-due dues.Begin v r is h = tt
-acted-due (dues.Add b) v r is h = tt
-acted-due (dues.Release held n b) v r is h = held-due held n b
-acted-due dues.Define v r is h = tt
-acted-due dues.DefineAndCall v r is h = test-due (is_empty r.half.notes.defining.ending) dues.Look dues.CallEnding tt tt
-acted-due dues.CallEnding v r is h =
+spliced-half : (c : Bool) (v : Stored Resume) (r : Reader) → IsHalf r.half → IsHalf (splicing c v r).reader.half
+spliced-half true v r h = next-half dues.Look r.half tt h
+spliced-half false v r h = next-half dues.Look r.half tt h
+
+acted-half : (d : Due) (v : Stored Resume) (r : Reader) → r.half.reading.due ≡ d → IsHalf r.half → IsHalf (act_due d v r).reader.half
+acted-half dues.Look v r is h = h
+acted-half dues.Begin v r is h = next-half dues.Look r.half tt h
+acted-half (dues.Add b) v r is h = next-half dues.Look r.half tt h
+acted-half (dues.Release held n b) v r is h = next-half (after_held held n b) r.half (held-due held n b (subst IsDue is h.due)) h
+acted-half dues.Define v r is h = next-half dues.Look r.half tt h
+acted-half dues.DefineAndCall v r is h =
+    next-half (if is_empty r.half.notes.defining.ending then dues.Look else dues.CallEnding) r.half (test-due (is_empty r.half.notes.defining.ending) dues.Look dues.CallEnding tt tt) h
+acted-half dues.CallEnding v r is h =
     let name = r.half.notes.defining.ending in
-    spliced-due (has_text name v) (entered name (words (find name v.names)) None v) r
-acted-due dues.Splice v r is h =
+    spliced-half (has_text name v) (entered name (words (find name v.names)) None v) r h
+acted-half dues.Splice v r is h =
     let name = r.half.notes.asked in
-    spliced-due (has_text name v) (entered name (words (find name v.names)) None v) r
-acted-due (dues.Register signs.None) v r is h = tt
-acted-due (dues.Register signs.Plus) v r is h = tt
-acted-due (dues.Register signs.Minus) v r is h = tt
-acted-due (dues.Argument n) v r is h = tt
-acted-due (dues.Put b) v r is h = tt
-acted-due dues.EndArgument v r is h = tt
-acted-due dues.Call v r is h = spliced-due (has_text (name_in r) v) (called (name_in r) (words (find (name_in r) v.names)) v) r
-acted-due dues.Seek v r is h = sought-due (calls_of (meaning_in v r)) (next dues.Look r.half) refl
-acted-due (dues.Judge b) v r is h = tt
-acted-due (dues.Lead n) v r is h = test-due (nat_le n 1) dues.Look (dues.Lead (n - 1)) tt tt
-acted-due dues.Expanded v r is h = absurd h
+    spliced-half (has_text name v) (entered name (words (find name v.names)) None v) r h
+acted-half (dues.Register signs.None) v r is h = next-half dues.Look r.half tt h
+acted-half (dues.Register signs.Plus) v r is h = next-half (dues.Register signs.None) r.half tt h
+acted-half (dues.Register signs.Minus) v r is h = next-half (dues.Register signs.None) r.half tt h
+acted-half (dues.Argument n) v r is h = next-half dues.Look r.half tt h
+acted-half (dues.Put b) v r is h = next-half dues.Look r.half tt h
+acted-half dues.EndArgument v r is h = next-half dues.Look r.half tt h
+acted-half dues.Call v r is h = spliced-half (has_text (name_in r) v) (called (name_in r) (words (find (name_in r) v.names)) v) r h
+acted-half dues.Seek v r is h = sought-half (calls_of (meaning_in v r)) (next dues.Look r.half) (next-half dues.Look r.half tt h)
+acted-half (dues.Judge b) v r is h = record { due = tt; held = part-held (answer_of b r.half.notes); few = h.few; ending = h.ending }
+acted-half (dues.Lead n) v r is h = next-half (if nat_le n 1 then dues.Look else dues.Lead (n - 1)) r.half (test-due (nat_le n 1) dues.Look (dues.Lead (n - 1)) tt tt) h
+acted-half dues.Expanded v r is h = absurd (subst IsDue is h.due)
 
-moved-due : (c : Bool) (q : Situation Resume) → AreStored q.stored → IsDue q.reader.half.reading.due → IsDue (if c then look q else acted_at q).situation.reader.half.reading.due
-moved-due true q h due =
+moved-half : (c : Bool) (q : Situation Resume) → AreStored q.stored → IsHalf q.reader.half → IsHalf (if c then look q else acted_at q).situation.reader.half
+moved-half true q h half =
     let f = front (shown q.stored.levels) q.coming in
     let m = meet f q.reader.half in
-    met-due m.takes m q (meet-told f q.reader.half due (front-printed q.stored.levels q.coming h.levels)).due
-moved-due false q h due = acted-due q.reader.half.reading.due q.stored q.reader refl due
+    met-half m.takes m q (meet-told f q.reader.half half (front-printed q.stored.levels q.coming h.levels)).half
+moved-half false q h half = acted-half q.reader.half.reading.due q.stored q.reader refl half
 
 record IsClear (f : Formatter) : Type 0 where
   kept : IsKept f
   awaited : IsAwaited f.springs f.event f.reader.half.reading.mode
 
+standing-held : (s : Standing) → IsHeld (mode_of s)
+standing-held standings.Start = tt
+standing-held standings.Leading = tt
+standing-held standings.Text = tt
+standing-held standings.Continued = tt
+
 told-clear : (t : Told Resume) (f : Formatter) → IsKept f → f.springs ≡ None → IsToldIn f.reader.half.reading.mode t → IsClear (told t f)
 told-clear (tells.Event e) f h calm is =
-    record { kept = record { stored = h.stored; lined = h.lined; tab = h.tab; leader = h.leader; due = h.due }; awaited = awaits f.springs e f.reader.half.reading.mode calm is }
+    record { kept = record { stored = h.stored; lined = h.lined; tab = h.tab; leader = h.leader; half = h.half }; awaited = awaits f.springs e f.reader.half.reading.mode calm is }
 told-clear (tells.Resume k) f h calm is =
-    record { kept = record { stored = h.stored; lined = h.lined; tab = h.tab; leader = h.leader; due = h.due }; awaited = quiet f.springs events.Nothing (mode_of k.standing) refl }
+    record { kept = record { stored = h.stored; lined = h.lined; tab = h.tab; leader = h.leader; half = in-mode h.half (standing-held k.standing) }; awaited = quiet f.springs events.Nothing (mode_of k.standing) refl }
 
 with-formatter : (s t : State) → IsClean s → t.row ≡ s.row → t.lines ≡ s.lines → t.pages ≡ s.pages → IsClear t.formatter → AreClear t
 with-formatter s t clean row lines pages h =
@@ -362,7 +381,7 @@ reads s clean h calm =
     let stored : AreStored m.situation.stored = moved-stored (looks q) q h.stored in
     with-formatter s (read s) clean refl refl refl
     (told-clear m.told (record s.formatter { store = m.situation.stored; reader = m.situation.reader })
-    (record { stored = stored; lined = h.lined; tab = h.tab; leader = h.leader; due = moved-due (looks q) q h.stored h.due }) calm (moved-told (looks q) q h.stored h.due))
+    (record { stored = stored; lined = h.lined; tab = h.tab; leader = h.leader; half = moved-half (looks q) q h.stored h.half }) calm (moved-told (looks q) q h.stored h.half))
 
 -- ---- a move
 
@@ -376,13 +395,13 @@ cell-goes outlets.Diversion x s is clean h calm =
     let there = cell-diverted (margin_in (indent s.formatter) s.row) x s.formatter is h in
     record {
       clean = record { row = celled (indent s.formatter) x s.row is clean.row; lines = clean.lines; pages = clean.pages };
-      kept = record { stored = there.stored; lined = there.lined; tab = there.tab; leader = there.leader; due = there.due };
+      kept = record { stored = there.stored; lined = there.lined; tab = there.tab; leader = there.leader; half = there.half };
       awaited = awaits s.formatter.springs events.Nothing s.formatter.reader.half.reading.mode calm tt;
     }
 cell-goes o x s is clean h calm =
     record {
       clean = record { row = celled (offset s.formatter + indent s.formatter) x s.row is clean.row; lines = clean.lines; pages = clean.pages };
-      kept = record { stored = h.stored; lined = h.lined; tab = h.tab; leader = h.leader; due = h.due };
+      kept = record { stored = h.stored; lined = h.lined; tab = h.tab; leader = h.leader; half = h.half };
       awaited = awaits s.formatter.springs events.Nothing s.formatter.reader.half.reading.mode calm tt;
     }
 
@@ -465,7 +484,7 @@ starts-clear b options supply =
         lined = record { pieces = All-nil IsSet; word = tt; title = tt };
         tab = tt;
         leader = refl;
-        due = tt;
+        half = record { due = tt; held = tt; few = omega arith; ending = omega arith };
       };
       awaited = tt;
     }

@@ -27,7 +27,9 @@ use Rattle.nr_settings.specs.declared.indents.Margins.{Margins}
 use Rattle.nr_settings.specs.declared.specials.Special.{Special}
 use Rattle.nr_settings.specs.declared.specials.Special.TheVariants as specials
 use Rattle.nr_store.specs.Store.{Built, Level, Means, Shared}
+use Rattle.nr_reading.specs.declared.ask.Ask.{Ask}
 use Rattle.nr_reading.specs.declared.mode.Due.{Due}
+use Rattle.nr_reading.specs.declared.mode.Due.TheVariants as dues
 use Rattle.nr_symbol_tables.specs.Table.{Named}
 use Rattle.nr_reading.specs.declared.event.Event.{Event}
 use Rattle.nr_reading.specs.declared.event.Event.TheVariants as events
@@ -41,6 +43,8 @@ use Rattle.nr_formatter.specs.declared.tasks.Resume.{Resume}
 use Rattle.nr_formatter.specs.declared.tasks.Task.{Task}
 use Rattle.nr_formatter.specs.declared.tasks.Task.TheVariants as tasks
 use Rattle.nr_formatter.specs.Access.{done, collected, with_collected, is_filling, cell, margins, asked, argument, spacing, long}
+use Rattle.nr_reading.specs.Conditionals.{answer_of, part_mode}
+use Rattle.nr_formatter.specs.Conditions as conditions
 use Rattle.nr_formatter.specs.Lines as lines
 use Rattle.nr_formatter.specs.Moves as moves
 use Rattle.nr_formatter.specs.Motions.{motion_cells, next_place, rule_cells}
@@ -51,7 +55,7 @@ use Rattle.nr_formatter.specs.Text as texts
 use Rattle.nr_formatter.specs.Titles as titles
 use Rattle.nr_laws.proofs.PrintedLines.{IsPrinted, ArePrinted, IsLined, Lined, either, add_cell-lined, add_cells-lined, add_blank-lined, marked-lined, barred-lined, hyphenated-lined, joined-lined, without_blanks-lined, end_word-lined, tabbed-lined, filled-lined, with_title_cell-lined, with_title-lined, with_part_ended-lined}
 use Rattle.nr_laws.proofs.PrintedStores.{Stores, bytes-stored}
-use Rattle.nr_laws.proofs.PrintedDirect.{IsByte, IsHeard, IsDue}
+use Rattle.nr_laws.proofs.PrintedDirect.{IsByte, IsHeard, IsHeld, Halved}
 
 -- ---- bytes
 
@@ -228,17 +232,17 @@ filler-printed (Some b) h = h
 
 -- ---- a formatter
 
-pub record Kept (ns : List (Named Means)) (bs : List Built) (ls : List (Level Resume)) (ps : List Piece) (w : Option Word) (t : Option Title) (b l : Option ℕ) (ts : List Shared) (d : Due) : Type 0 where
+pub record Kept (ns : List (Named Means)) (bs : List Built) (ls : List (Level Resume)) (ps : List Piece) (w : Option Word) (t : Option Title) (b l : Option ℕ) (ts : List Shared) (d : Due) (m : Mode) (asks : List Ask) (name : List ℕ) : Type 0 where
   pub stored : Stores ns bs ls ts
   pub lined : Lined ps w t
   pub tab : IsFiller b
   pub leader : IsFiller l
-  pub due : IsDue d
+  pub half : Halved d m asks name
 
 abbrev pub IsKept : Formatter → Type 0
 IsKept f =
     Kept f.store.names f.store.building f.store.levels (collected f).pieces (collected f).word (collected f).title f.settings.tabs.tab f.settings.tabs.leader
-    f.store.texts f.reader.half.reading.due
+    f.store.texts f.reader.half.reading.due f.reader.half.reading.mode f.reader.half.asks f.reader.half.notes.defining.ending
 
 -- what was heard was put somewhere, or is still to be heard
 pub record Hearing (f : Formatter) : Type 0 where
@@ -246,15 +250,19 @@ pub record Hearing (f : Formatter) : Type 0 where
   pub heard : IsHeard f.event f.reader.half.reading.mode
   pub calm : f.springs ≡ None
 
+-- a text that is spliced is read next
+spliced-half : {d : Due} {m : Mode} {asks : List Ask} {name : List ℕ} → Halved d m asks name → Halved dues.Look m asks name
+spliced-half h = record { due = tt; held = h.held; few = h.few; ending = h.ending }
+
 kept-with : (f : Formatter) (c : Collected) → IsKept f → IsLined c → IsKept (with_collected c f)
-kept-with f c h is = record { stored = h.stored; lined = is; tab = h.tab; leader = h.leader; due = h.due }
+kept-with f c h is = record { stored = h.stored; lined = is; tab = h.tab; leader = h.leader; half = h.half }
 
 pub hearing-if : (c : Bool) (f g : Formatter) → Hearing f → Hearing g → Hearing (if c then f else g)
 hearing-if true f g first second = first
 hearing-if false f g first second = second
 
 put-word : (add : Margins → Collected → Collected) (f : Formatter) → Hearing f → IsLined (add (margins f) (collected f)) → Hearing (texts.to_word add f)
-put-word add f h is = record { kept = record { stored = h.kept.stored; lined = is; tab = h.kept.tab; leader = h.kept.leader; due = h.kept.due }; heard = tt; calm = h.calm }
+put-word add f h is = record { kept = record { stored = h.kept.stored; lined = is; tab = h.kept.tab; leader = h.kept.leader; half = h.kept.half }; heard = tt; calm = h.calm }
 
 put-cell : (x : Cell) (b : Behind) (f : Formatter) → IsPrinted x → Hearing f → Hearing (texts.put x b f)
 put-cell x b f is h = put-word (λ m. add_cell m b x) f h (add_cell-lined (margins f) b x (collected f) is h.kept.lined)
@@ -279,7 +287,7 @@ pointed-kept f h =
     (pointed-lined (lines.given_points f) (collected f) h.lined) h.lined)
 
 pub word-ended : (f : Formatter) → IsKept f → IsKept (lines.word_ended f)
-word-ended f h = record { stored = h.stored; lined = end_word-lined (lines.pointed f) (pointed-kept f h); tab = h.tab; leader = h.leader; due = h.due }
+word-ended f h = record { stored = h.stored; lined = end_word-lined (lines.pointed f) (pointed-kept f h); tab = h.tab; leader = h.leader; half = h.half }
 
 pub break-word-end : (f : Formatter) → IsKept f → IsKept (lines.break_word_end f)
 break-word-end f h =
@@ -288,7 +296,7 @@ break-word-end f h =
 -- ---- text
 
 gap-blank : (f : Formatter) → Hearing f → Hearing (texts.gap_blank f)
-gap-blank f h = let ended = word-ended f h.kept in record { kept = record { stored = ended.stored; lined = record { pieces = ended.lined.pieces; word = ended.lined.word; title = ended.lined.title }; tab = ended.tab; leader = ended.leader; due = ended.due }; heard = tt; calm = h.calm }
+gap-blank f h = let ended = word-ended f h.kept in record { kept = record { stored = ended.stored; lined = record { pieces = ended.lined.pieces; word = ended.lined.word; title = ended.lined.title }; tab = ended.tab; leader = ended.leader; half = ended.half }; heard = tt; calm = h.calm }
 
 blank-hearing : (f : Formatter) → Hearing f → Hearing (texts.blank f)
 unfolding texts.blank
@@ -342,7 +350,7 @@ blanks-dropped f h =
     (record { kept = kept-with f (without_blanks (collected f)) h.kept (without_blanks-lined (collected f) h.kept.lined); heard = h.heard; calm = h.calm }) h
 
 line-ended : (after : After) (f : Formatter) → Hearing f → Hearing (texts.word_line_ended after f)
-line-ended after f h = let ended = word-ended f h.kept in record { kept = record { stored = ended.stored; lined = record { pieces = ended.lined.pieces; word = ended.lined.word; title = ended.lined.title }; tab = ended.tab; leader = ended.leader; due = ended.due }; heard = tt; calm = h.calm }
+line-ended after f h = let ended = word-ended f h.kept in record { kept = record { stored = ended.stored; lined = record { pieces = ended.lined.pieces; word = ended.lined.word; title = ended.lined.title }; tab = ended.tab; leader = ended.leader; half = ended.half }; heard = tt; calm = h.calm }
 
 line_end-hearing : (after : After) (f : Formatter) → Hearing f → Hearing (texts.line_end after f)
 unfolding texts.line_end
@@ -439,18 +447,30 @@ title_part-lined (Some t) c h = with_part_ended-lined c h
 
 given-by : (r : Option BuiltInRegister) (f : Formatter) → IsKept f → IsKept (registers.given_by r f)
 given-by None f h = h
-given-by (Some r) f h = record { stored = bytes-stored (registers.given_text r f) f.store h.stored; lined = h.lined; tab = h.tab; leader = h.leader; due = tt }
+given-by (Some r) f h = record { stored = bytes-stored (registers.given_text r f) f.store h.stored; lined = h.lined; tab = h.tab; leader = h.leader; half = spliced-half h.half }
 
 given-calm : (r : Option BuiltInRegister) (f : Formatter) → f.springs ≡ None → (registers.given_by r f).springs ≡ None
 given-calm None f is = is
 given-calm (Some r) f is = is
 
+-- the part after a condition
+pub part-held : (c : Bool) → IsHeld (part_mode c)
+part-held true = tt
+part-held false = tt
+
 beside-hearing : (e : Event) (f : Formatter) → Hearing f → Hearing (moves.heard_beside e f)
 beside-hearing events.Given f h = record { kept = given-by (given_named (asked f)) f h.kept; heard = tt; calm = given-calm (given_named (asked f)) f h.calm }
-beside-hearing events.Width f h = record { kept = record { stored = bytes-stored (decimal (width_of (long f) (spacing f) (argument f))) f.store h.kept.stored; lined = h.kept.lined; tab = h.kept.tab; leader = h.kept.leader; due = tt }; heard = tt; calm = h.calm }
+beside-hearing events.Width f h = record { kept = record { stored = bytes-stored (decimal (width_of (long f) (spacing f) (argument f))) f.store h.kept.stored; lined = h.kept.lined; tab = h.kept.tab; leader = h.kept.leader; half = spliced-half h.kept.half }; heard = tt; calm = h.calm }
 beside-hearing (events.DivertedEnd None) f h = record { kept = h.kept; heard = tt; calm = h.calm }
 beside-hearing (events.DivertedEnd (Some height)) f h = record { kept = h.kept; heard = tt; calm = h.calm }
 beside-hearing events.TitlePart f h = record { kept = kept-with f (titles.with_delimiter (collected f).title (collected f)) h.kept (title_part-lined (collected f).title (collected f) h.kept.lined); heard = tt; calm = h.calm }
+beside-hearing (events.Judge q) f h =
+    let found = answer_of (conditions.holds q f) f.reader.half.notes in
+    record {
+      kept = record { stored = h.kept.stored; lined = h.kept.lined; tab = h.kept.tab; leader = h.kept.leader; half = record { due = h.kept.half.due; held = part-held found; few = h.kept.half.few; ending = h.kept.half.ending } };
+      heard = tt;
+      calm = h.calm;
+    }
 beside-hearing e f h = record { kept = h.kept; heard = tt; calm = h.calm }
 
 pub heard-hearing : (e : Event) (f : Formatter) → f.event ≡ e → Hearing f → Hearing (moves.heard e f)

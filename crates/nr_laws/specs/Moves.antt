@@ -79,12 +79,9 @@ MovesBeforeByte =
     → let s = state_after m (start b options supply) in
     n ≤ length s.chosen + moves_of_texts s.formatter + moves_of_rest s.formatter
 
--- what comes on top of the number of moves for a byte: blanks that the line begins with beyond those that a line may hold, bytes of a
--- definition's line that are held back, parts of the word, escapes that are half read beyond ten
+-- what comes on top of the number of moves for a byte: blanks that the line begins with beyond those that a line may hold
 abbrev pub moves_on_top : Bounds → Formatter → ℕ
-moves_on_top b f =
-    cost_of_text * (blanks_owed f.reader.half - b.cells) + held_back f.reader.half
-    + cost_of_piece * parts_of (collected f).word + weight_of_argument * (length f.reader.half.asks - 10)
+moves_on_top b f = cost_of_text * (blanks_owed f.reader.half - b.cells)
 
 -- Between the takings of two bytes, before the first and after the last there are no more moves than the number for a byte and what comes on
 -- top after the first of the two.

@@ -72,12 +72,12 @@ pub fn limits_are_exact()
 
 /// Each beginning of a run keeps the bound on moves that the whole of it keeps. From each state of a run there are so many moves at
 /// most before a byte is taken, by what is read, half read and collected. Between two takings that is the number for a byte, and on
-/// top of it moves for the blanks that the line begins with beyond those that a line may hold, and for what is half read there.
+/// top of it 178 for each blank that the line begins with beyond those that a line may hold.
 ///
 /// Proved: At every point of a run there were at most `256 · (X + 1) · (S + P + D + 4)` moves for each byte taken,
-/// and as many besides; between two takings at most that number once, with what comes on top for leading blanks
-/// beyond P and for what is half read; from any state at most so many before a byte as what is still to be read, half
-/// read and collected may bring.
+/// and as many besides; between two takings at most that number once, and 178 for each blank beyond P that the line
+/// begins with; from any state at most so many before a byte as what is still to be read, half read and collected may
+/// bring.
 pub fn moves_between()
     ensures few { MovesAreFew }
     ensures before { MovesBeforeByte }
