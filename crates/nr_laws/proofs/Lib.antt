@@ -1,3 +1,4 @@
+pub mod BlanksReads
 pub mod ChargedOnce
 pub mod ExactRuns
 pub mod FacesLaws
