@@ -1,4 +1,5 @@
 pub mod BlanksReads
+pub mod BlanksSaved
 pub mod ChargedOnce
 pub mod ExactRuns
 pub mod FacesLaws

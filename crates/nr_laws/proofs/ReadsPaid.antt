@@ -75,11 +75,11 @@ pub record Paid (s t : State) : Type 0 where
 -- ---- what is told is paid
 
 -- a blank of a line's beginning is told out of the blanks that are owed
-abbrev lead_of : Event → ℕ
+abbrev pub lead_of : Event → ℕ
 lead_of events.Lead = 178
 lead_of e = 0
 
-event_paid : (e : Event) (s : Step) → weight_of_agenda e tasks.Read s + owed_by_event e + 1 ≤ 4 + cost_of_event e + lead_of e
+pub event_paid : (e : Event) (s : Step) → weight_of_agenda e tasks.Read s + owed_by_event e + 1 ≤ 4 + cost_of_event e + lead_of e
 event_paid events.Nothing s = omega arith
 event_paid events.Over s = omega arith
 event_paid events.Lead s = omega arith
@@ -95,7 +95,7 @@ same_diversion : (d : Option Diversion) → weight_of_diversion d ≡ count_of_d
 same_diversion None = refl
 same_diversion (Some d) = refl
 
-same_count : (bs : List Built) → weight_of_diversions bs ≡ diversions_in bs
+pub same_count : (bs : List Built) → weight_of_diversions bs ≡ diversions_in bs
 same_count [] = refl
 same_count (b ∷ bs) = omega (arith, sum_by-cons weight_of_built b bs, sum_by-cons diversions_of b bs, same_diversion b.diversion, same_count bs)
 
@@ -168,19 +168,19 @@ front_bytes [] true = refl
 front_bytes [] false = refl
 front_bytes (b ∷ bs) inside = refl
 
-front_same : (sh : Shown Resume) (c : Coming) → front sh c ≡ front_seen sh (reached c)
+pub front_same : (sh : Shown Resume) (c : Coming) → front sh c ≡ front_seen sh (reached c)
 front_same shows.Nothing c = front_bytes c.supply.bytes c.inside
 front_same sh c = refl
 
 -- the place after it
-abbrev AreSame : Reached → Coming → Type 0
+abbrev pub AreSame : Reached → Coming → Type 0
 AreSame p c = (p.taken ≡ c.taken) × (p.inside ≡ c.inside)
 
 behind_bytes : (bs : List ℕ) (c : Coming) → AreSame (passed_by (ahead_of bs) (reached c)) (after_front_of bs c)
 behind_bytes [] c = (refl, refl)
 behind_bytes (b ∷ bs) c = (refl, refl)
 
-behind_same : (sh : Shown Resume) (c : Coming) → AreSame (passed_in sh (reached c)) (behind sh c)
+pub behind_same : (sh : Shown Resume) (c : Coming) → AreSame (passed_in sh (reached c)) (behind sh c)
 behind_same shows.Nothing c = behind_bytes c.supply.bytes c
 behind_same sh c = (refl, refl)
 
@@ -188,7 +188,7 @@ text_built : (xs : List Element) (l : Reading Resume) (ls : List (Level Resume))
 text_built [] l ls v = refl
 text_built (x ∷ xs) l ls v = refl
 
-left_built : (ls : List (Level Resume)) (v : Stored Resume) → (left ls v).building ≡ v.building
+pub left_built : (ls : List (Level Resume)) (v : Stored Resume) → (left ls v).building ≡ v.building
 left_built [] v = refl
 left_built (Read l ∷ ls) v = text_built l.rest l ls v
 left_built (Mark k ∷ ls) v = refl
@@ -207,7 +207,7 @@ no_burst : (same : Bool) (before taken burst : ℕ) → (taken == before) ≡ sa
 no_burst true before taken burst is other = absurd (other (eqb-true taken before is))
 no_burst false before taken burst is other = refl
 
-stays_there : (p : Reached) → StaysThere p p
+pub stays_there : (p : Reached) → StaysThere p p
 stays_there p = record { taken = refl; inside = refl }
 
 -- ---- a look
