@@ -1,5 +1,6 @@
 pub mod BlanksReads
 pub mod BlanksSaved
+pub mod BlanksTold
 pub mod ChargedOnce
 pub mod ExactRuns
 pub mod FacesLaws

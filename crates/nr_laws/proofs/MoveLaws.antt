@@ -43,6 +43,7 @@ use Rattle.nr_laws.specs.Moves.{IsBehindByte, NoneIsTaken, MovesAreFew, MovesBef
 use Rattle.nr_laws.specs.Laws.{nothing_allowed}
 use Rattle.nr_laws.proofs.BlanksReads.{IsQuiet}
 use Rattle.nr_laws.proofs.BlanksSaved.{Saves}
+use Rattle.nr_laws.proofs.BlanksTold.{Leads}
 use Rattle.nr_laws.proofs.Growing.{state_after-add}
 use Rattle.nr_laws.proofs.MovesPaid.{step-paid}
 use Rattle.nr_laws.proofs.PageLengths.{HasHeight, height-after}
