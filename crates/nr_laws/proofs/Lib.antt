@@ -1,3 +1,4 @@
+pub mod BlanksActs
 pub mod BlanksReads
 pub mod BlanksSaved
 pub mod BlanksTold

@@ -41,6 +41,7 @@ use Rattle.nr_machine.specs.Machine.{state_after}
 use Rattle.nr_machine.specs.Run.{Runs, Goes, moves_a_byte}
 use Rattle.nr_laws.specs.Moves.{IsBehindByte, NoneIsTaken, MovesAreFew, MovesBeforeByte, MovesBetween, moves_of_texts, moves_of_rest, parts_of}
 use Rattle.nr_laws.specs.Laws.{nothing_allowed}
+use Rattle.nr_laws.proofs.BlanksActs.{act-after}
 use Rattle.nr_laws.proofs.BlanksReads.{IsQuiet}
 use Rattle.nr_laws.proofs.BlanksSaved.{Saves}
 use Rattle.nr_laws.proofs.BlanksTold.{Leads}
