@@ -2,6 +2,7 @@ pub mod BlanksActs
 pub mod BlanksReads
 pub mod BlanksSaved
 pub mod BlanksTold
+pub mod BlanksWait
 pub mod ChargedOnce
 pub mod ExactRuns
 pub mod FacesLaws

@@ -45,6 +45,7 @@ use Rattle.nr_laws.proofs.BlanksActs.{act-after}
 use Rattle.nr_laws.proofs.BlanksReads.{IsQuiet}
 use Rattle.nr_laws.proofs.BlanksSaved.{Saves}
 use Rattle.nr_laws.proofs.BlanksTold.{Leads}
+use Rattle.nr_laws.proofs.BlanksWait.{Waits}
 use Rattle.nr_laws.proofs.Growing.{state_after-add}
 use Rattle.nr_laws.proofs.MovesPaid.{step-paid}
 use Rattle.nr_laws.proofs.PageLengths.{HasHeight, height-after}
