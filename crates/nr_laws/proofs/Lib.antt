@@ -1,4 +1,5 @@
 pub mod BlanksActs
+pub mod BlanksBetween
 pub mod BlanksReads
 pub mod BlanksSaved
 pub mod BlanksTold
@@ -22,6 +23,7 @@ pub mod OutputLaws
 pub mod Over
 pub mod PageLengths
 pub mod PageLists
+pub mod PaidMoves
 pub mod PlainFlows
 pub mod PlainHears
 pub mod PlainLaw

@@ -41,13 +41,10 @@ use Rattle.nr_machine.specs.Machine.{state_after}
 use Rattle.nr_machine.specs.Run.{Runs, Goes, moves_a_byte}
 use Rattle.nr_laws.specs.Moves.{IsBehindByte, NoneIsTaken, MovesAreFew, MovesBeforeByte, MovesBetween, moves_of_texts, moves_of_rest, parts_of}
 use Rattle.nr_laws.specs.Laws.{nothing_allowed}
-use Rattle.nr_laws.proofs.BlanksActs.{act-after}
-use Rattle.nr_laws.proofs.BlanksReads.{IsQuiet}
-use Rattle.nr_laws.proofs.BlanksSaved.{Saves}
-use Rattle.nr_laws.proofs.BlanksTold.{Leads}
-use Rattle.nr_laws.proofs.BlanksWait.{Waits}
+use Rattle.nr_laws.proofs.BlanksBetween.{byte-taken}
 use Rattle.nr_laws.proofs.Growing.{state_after-add}
 use Rattle.nr_laws.proofs.MovesPaid.{step-paid}
+use Rattle.nr_laws.proofs.PaidMoves.{AllPaid, all_paid}
 use Rattle.nr_laws.proofs.PageLengths.{HasHeight, height-after}
 use Rattle.nr_laws.proofs.PrintedLines.{IsLined, IsRead, parts-le}
 use Rattle.nr_laws.proofs.PrintedDirect.{IsDue, IsHeld, IsHalf}
@@ -55,27 +52,6 @@ use Rattle.nr_laws.proofs.PrintedStates.{clear-after, starts-clear}
 use Rattle.nr_laws.proofs.ReadsPaid.{Paid, reached, worth, may_come}
 use Rattle.nr_laws.proofs.StepLimits.{state_after-under}
 use Rattle.nr_laws.proofs.WithinRun.{IsKept, kept-after}
-
--- ---- many moves
-
-record AllPaid (n : ℕ) (s t : State) : Type 0 where
-  limit : t.formatter.store.limit ≡ s.formatter.store.limit
-  most : t.formatter.reader.most ≡ s.formatter.reader.most
-  pays : may_come t + n + worth s * s.coming.taken ≤ may_come s + worth s * t.coming.taken
-
-one_more : (n : ℕ) (s t u : State) → AllPaid n s t → Paid t u → AllPaid (suc n) s u
-one_more n s t u all one =
-    let same : worth t ≡ worth s = ap (λ m. byte_worth m t.formatter.store.limit) all.most ∙ ap (λ l. byte_worth s.formatter.reader.most l) all.limit in
-    let before = all.pays in
-    let next : may_come u + 1 + worth s * t.coming.taken ≤ may_come t + worth s * u.coming.taken =
-    subst (λ w. may_come u + 1 + w * t.coming.taken ≤ may_come t + w * u.coming.taken) same one.pays in
-    record { limit = one.limit ∙ all.limit; most = one.most ∙ all.most; pays = omega (arith, before, next) }
-
-all_paid : (n : ℕ) (s : State) → HasHeight s.formatter → Runs n s → AllPaid n s (state_after n s)
-all_paid zero s height runs = record { limit = refl; most = refl; pays = omega arith }
-all_paid (suc n) s height runs =
-    one_more n s (state_after n s) (state_after (suc n) s) (all_paid n s height (λ m less. runs m (omega arith)))
-    (step-paid (state_after n s) (height-after n s height) (runs n (omega arith)))
 
 -- ---- from the beginning
 

@@ -60,8 +60,10 @@ worth s = byte_worth s.formatter.reader.most s.formatter.store.limit
 abbrev pub may_come : State → ℕ
 may_come s = length s.chosen + weight (reached s.coming) s.formatter
 
--- a byte of the source was taken just now: there is no level, and nothing was spliced since
-pub record IsFresh (t : State) : Type 0 where
+-- a byte of the source was taken just now, by a move that read: there is no level, and nothing was spliced since
+pub record IsFresh (s t : State) : Type 0 where
+  pub idle : s.formatter.event ≡ events.Nothing
+  pub task : s.formatter.task ≡ tasks.Read
   pub chosen : t.chosen ≡ []
   pub levels : t.formatter.store.levels ≡ []
   pub burst : t.formatter.reader.burst ≡ 0
@@ -70,7 +72,7 @@ pub record Paid (s t : State) : Type 0 where
   pub limit : t.formatter.store.limit ≡ s.formatter.store.limit
   pub most : t.formatter.reader.most ≡ s.formatter.reader.most
   pub pays : may_come t + 1 + worth s * s.coming.taken ≤ may_come s + worth s * t.coming.taken
-  pub fresh : t.coming.taken ≢ s.coming.taken → IsFresh t
+  pub fresh : t.coming.taken ≢ s.coming.taken → IsFresh s t
 
 -- ---- what is told is paid
 
@@ -147,7 +149,7 @@ told_paid s (tells.Event e) v c q r chosen fresh idle task pays fewer taken insi
       let same = weight-inside (reached c) q (record s.formatter { store = v; reader = r; event = e }) inside in
       let bytes : worth s * q.taken ≡ worth s * c.taken = ap (λ n. worth s * n) taken in
       omega (arith, spent, same, bytes);
-  fresh = λ other. record { chosen = chosen; levels = (fresh other).0; burst = (fresh other).1 };
+  fresh = λ other. record { idle = idle; task = task; chosen = chosen; levels = (fresh other).0; burst = (fresh other).1 };
 }
 told_paid s (tells.Resume k) v c q r chosen fresh idle task pays fewer taken inside = record {
   limit = pays.limit;
@@ -158,7 +160,7 @@ told_paid s (tells.Resume k) v c q r chosen fresh idle task pays fewer taken ins
       let same = weight-inside (reached c) q (resumed k f) inside in
       let bytes : worth s * q.taken ≡ worth s * c.taken = ap (λ n. worth s * n) taken in
       omega (arith, spent, same, bytes);
-  fresh = λ other. record { chosen = chosen; levels = (fresh other).0; burst = (fresh other).1 };
+  fresh = λ other. record { idle = idle; task = task; chosen = chosen; levels = (fresh other).0; burst = (fresh other).1 };
 }
 
 -- ---- the item in front
