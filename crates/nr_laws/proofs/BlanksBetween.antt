@@ -22,16 +22,23 @@ use Rattle.nr_input.specs.Moving.{looks, look, taken_at, stays_at, acted_at, tol
 use Rattle.nr_input.specs.Place.{Coming, front, behind}
 use Rattle.nr_input.specs.declared.told.Told.TheVariants as tells
 use Rattle.nr_input.proofs.Taking.{due_look}
+use Rattle.nr_input.specs.Weights.{byte_worth}
+use Rattle.nr_formatter.specs.Weights.{weight}
 use Rattle.nr_formatter.specs.declared.tasks.Resume.{Resume}
 use Rattle.nr_formatter.specs.declared.tasks.Task.TheVariants as tasks
 use Rattle.nr_machine.specs.State.{State, Choice, plainly}
-use Rattle.nr_machine.specs.Machine.{choose_or, spring_or, situation_of, with_situation, step}
-use Rattle.nr_machine.specs.Run.{Reads, kind, Goes}
+use Rattle.nr_machine.specs.Machine.{choose_or, spring_or, situation_of, with_situation, step, state_after}
+use Rattle.nr_machine.specs.Run.{Reads, kind, Goes, Runs}
 use Rattle.nr_laws.proofs.BlanksSaved.{blanks_in}
-use Rattle.nr_laws.proofs.BlanksWait.{Stands, Has, Wait as Waiting, step-holds}
+use Rattle.nr_laws.proofs.BlanksTold.{Leads, cells_of, leads-stop}
+use Rattle.nr_laws.proofs.BlanksWait.{Stands, Has, Told, Wait as Waiting, step-holds}
+use Rattle.nr_laws.proofs.Growing.{state_after-add}
 use Rattle.nr_laws.proofs.MovesPaid.{step-paid}
-use Rattle.nr_laws.proofs.PageLengths.{HasHeight}
+use Rattle.nr_laws.proofs.PageLengths.{HasHeight, height-after}
+use Rattle.nr_laws.proofs.PaidMoves.{all_paid}
 use Rattle.nr_laws.proofs.ReadMoves.{reads-step}
+use Rattle.nr_laws.proofs.ReadsPaid.{worth, may_come}
+use Rattle.nr_laws.proofs.WithinRun.{IsKept, kept-after}
 
 -- ---- the move that takes a byte
 
@@ -113,3 +120,69 @@ byte-taken most s some height goes other = by (cases_lt most (blanks_in s))
         let none : blanks_of_due s.formatter.reader.half.reading.due ≡ 0 = ap blanks_of_due due in
         let m = leading s.formatter.reader.half.reading.mode (omega (arith, many, none, some)) in
         inl (step-holds most m.0 s some (record { chosen = first.0; springs = first.1; calm = rw (idle, task) tt; mode = m.1; none = none }) height goes).stands
+
+-- ---- the moves after it
+
+owes : (s : State) → 178 * blanks_in s ≤ may_come s
+unfolding weight
+owes s = omega arith
+
+one-first : (n : ℕ) (s : State) → state_after (suc n) s ≡ state_after n (step s)
+one-first n s = ap (λ m. state_after m s) (let e : suc n ≡ 1 + n = omega arith in e) ∙ state_after-add s 1 n
+
+-- a run from a state of its own, whose line may hold so many cells
+module _ (first : State) (most : ℕ) (some : 1 ≤ most) (height : HasHeight first.formatter) (kept : IsKept first.formatter) (limit : (m : ℕ) → (state_after m first).formatter.line.limit ≡ most) where
+  -- blanks aside so many moves are paid, and so many besides
+  abbrev AreEnough : ℕ → State → Type 0
+  AreEnough n s = n + 178 * blanks_in s + worth first * s.coming.taken ≤ may_come s + worth first * (state_after n s).coming.taken + 180 * most + 2
+
+  same-worth : (m : ℕ) → Runs m first → worth (state_after m first) ≡ worth first
+  same-worth m runs =
+      let all = all_paid m first height runs in
+      ap (λ k. byte_worth k (state_after m first).formatter.store.limit) all.most ∙ ap (λ l. byte_worth first.formatter.reader.most l) all.limit
+
+  front-runs : (m n : ℕ) → Runs (m + n) first → Runs m first
+  front-runs m n runs = λ k less. runs k (omega (arith, less))
+
+  later-runs : (m n : ℕ) → Runs (m + n) first → Runs n (state_after m first)
+  later-runs m n runs = λ k less. subst Goes (state_after-add first m k) (runs (m + k) (omega (arith, less)))
+
+  few-enough : (m n : ℕ) → Runs (m + n) first → blanks_in (state_after m first) ≤ most → AreEnough n (state_after m first)
+  few-enough m n runs few =
+      let s = state_after m first in
+      let paid = (all_paid n s (height-after m first height) (later-runs m n runs)).pays in
+      let same = same-worth m (front-runs m n runs) in
+      let before : worth s * s.coming.taken ≡ worth first * s.coming.taken = ap (λ w. w * s.coming.taken) same in
+      let after : worth s * (state_after n s).coming.taken ≡ worth first * (state_after n s).coming.taken = ap (λ w. w * (state_after n s).coming.taken) same in
+      omega (arith, paid, before, after, few)
+
+  told-enough : (m n k : ℕ) → Runs (m + n) first → Leads k (state_after m first) → AreEnough n (state_after m first)
+  told-enough m n k runs leads = by (cases_lt most (cells_of (state_after m first) + k))
+    where
+      by : (most < cells_of (state_after m first) + k) ⊎ (cells_of (state_after m first) + k ≤ most) → AreEnough n (state_after m first)
+      by (inl above) =
+          let s = state_after m first in
+          let line = limit m in
+          let stop = leads-stop n k s leads (later-runs m n runs) (kept-after m first (front-runs m n runs) kept) (omega (arith, above, line)) in
+          let bytes : worth first * (state_after n s).coming.taken ≡ worth first * s.coming.taken = ap (λ (c : Coming). worth first * c.taken) stop.1 in
+          omega (arith, stop.0, bytes, owes s, line)
+      by (inr within) =
+          let s = state_after m first in
+          let blanks : blanks_in s ≡ blanks_of_due (dues.Lead k) = rw (leads.mode, leads.due) (omega arith) in
+          few-enough m n runs (omega (arith, blanks, within, some))
+
+  pub stands-enough : (n m : ℕ) → Runs (m + n) first → Stands most (state_after m first) → AreEnough n (state_after m first)
+  stands-enough n m runs (Has few) = few-enough m n runs few
+  stands-enough n m runs (Told k leads) = told-enough m n k runs leads
+  stands-enough zero m runs (Waiting k waits) = omega (arith, owes (state_after m first))
+  stands-enough (suc n) m runs (Waiting k waits) =
+      let s = state_after m first in
+      let t = state_after (suc m) first in
+      let holds = step-holds most k s some waits (height-after m first height) (runs m (omega arith)) in
+      let rest = stands-enough n (suc m) (λ i less. runs i (omega (arith, less))) holds.stands in
+      let saves = holds.saves.pays in
+      let same = same-worth m (front-runs m (suc n) runs) in
+      let before : worth s * s.coming.taken ≡ worth first * s.coming.taken = ap (λ w. w * s.coming.taken) same in
+      let after : worth s * t.coming.taken ≡ worth first * t.coming.taken = ap (λ w. w * t.coming.taken) same in
+      let end : worth first * (state_after (suc n) s).coming.taken ≡ worth first * (state_after n t).coming.taken = ap (λ (u : State). worth first * u.coming.taken) (one-first n s) in
+      omega (arith, rest, saves, before, after, end)

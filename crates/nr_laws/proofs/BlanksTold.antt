@@ -105,18 +105,25 @@ leads-on c k s is more h = record {
   due = ap (λ (b : Bool). if b then dues.Look else dues.Lead (k - 1)) (is ∙ more);
 }
 
-pub leads-stop : (n k : ℕ) (s : State) → Leads k s → Runs n s → IsKept s.formatter → s.formatter.line.limit < cells_of s + k → n + 2 * cells_of s ≤ 2 * s.formatter.line.limit + 2
-leads-stop zero k s h runs kept above = let line = kept.line in omega (arith, line)
-leads-stop (suc zero) k s h runs kept above = let line = kept.line in omega (arith, line)
+-- so many moves are made at most, and no byte is taken
+abbrev pub Stop : ℕ → State → Type 0
+Stop n s = (n + 2 * cells_of s ≤ 2 * s.formatter.line.limit + 2) × ((state_after n s).coming ≡ s.coming)
+
+two-more : (n : ℕ) (s : State) → state_after (suc (suc n)) s ≡ state_after n (step (step s))
+two-more n s = ap (λ m. state_after m s) (let e : suc (suc n) ≡ 2 + n = omega arith in e) ∙ state_after-add s 2 n
+
+pub leads-stop : (n k : ℕ) (s : State) → Leads k s → Runs n s → IsKept s.formatter → s.formatter.line.limit < cells_of s + k → Stop n s
+leads-stop zero k s h runs kept above = let line = kept.line in (omega (arith, line), refl)
+leads-stop (suc zero) k s h runs kept above = let line = kept.line in (omega (arith, line), ap (λ (t : State). t.coming) (tells-one k s h))
 leads-stop (suc (suc n)) k s h runs kept above =
     let t = put k s in
     let next : IsKept t.formatter = subst (λ (u : State). IsKept u.formatter) (two-moves k s h) (kept-after 2 s (λ m less. runs m (omega (arith, less))) kept) in
     by (nat_le k 1) refl next.line (λ leads more. leads-stop n (k - 1) t leads (subst (λ (u : State). Runs n u) (two-moves k s h) (later n s runs)) next more)
   where
     by : (c : Bool) → nat_le k 1 ≡ c → line_cells (collected (put k s).formatter) ≤ s.formatter.line.limit
-        → (Leads (k - 1) (put k s) → s.formatter.line.limit < cells_of (put k s) + (k - 1) → n + 2 * cells_of (put k s) ≤ 2 * s.formatter.line.limit + 2)
-        → suc (suc n) + 2 * cells_of s ≤ 2 * s.formatter.line.limit + 2
-    by true is line rest = omega (arith, line, above, one-more k s, leb-true k 1 is)
+        → (Leads (k - 1) (put k s) → s.formatter.line.limit < cells_of (put k s) + (k - 1) → Stop n (put k s)) → Stop (suc (suc n)) s
+    by true is line rest = absurd (omega (arith, line, above, one-more k s, leb-true k 1 is))
     by false is line rest =
         let all = rest (leads-on false k s is refl h) (omega (arith, above, one-more k s, leb-false k 1 is)) in
-        omega (arith, all, one-more k s)
+        let same : state_after (suc (suc n)) s ≡ state_after n (put k s) = two-more n s ∙ ap (λ t. state_after n t) (two-moves k s h) in
+        (omega (arith, all.0, one-more k s), ap (λ (t : State). t.coming) same ∙ all.1)
