@@ -1,8 +1,9 @@
 -- How many moves a run makes, up to a byte of the input and between two.
+use Rattle.std.specs.Prelude.{◌⊎◌}
 use Rattle.std.proofs.lemmas.List.{length-map}
 use Rattle.std.proofs.lemmas.List.Sums.{sum_by-cons}
 use Rattle.std.proofs.lemmas.Nat.{mul-le}
-use Rattle.std.proofs.Common.{◌≡◌, ℕ, zero, suc, ◌+◌, ◌-◌, ◌*◌, ◌≤◌, Bool, true, false, List, [], ◌∷◌, length, sum_by, Option, None, Some, ℤ, refl, ap, sym, subst, ◌∙◌, arith}
+use Rattle.std.proofs.Common.{◌≡◌, ℕ, zero, suc, ◌+◌, ◌-◌, ◌*◌, ◌≤◌, Bool, true, false, List, [], ◌∷◌, length, sum_by, Option, None, Some, ℤ, refl, ap, sym, subst, ◌∙◌, inl, inr, arith}
 use Rattle.nr_units.specs.Source.{Supply}
 use Rattle.nr_fill.specs.Piece.{Piece, Word, Collected, line_cells, word_cells}
 use Rattle.nr_fill.specs.declared.stops.Pending.{Pending}
@@ -16,17 +17,17 @@ use Rattle.nr_reading.specs.declared.mode.Due.{Due}
 use Rattle.nr_reading.specs.declared.mode.Due.TheVariants as dues
 use Rattle.nr_reading.specs.declared.mode.Mode.{Mode}
 use Rattle.nr_reading.specs.declared.mode.Mode.TheVariants as modes
-use Rattle.nr_reading.specs.Weights.{held_by_mode}
+use Rattle.nr_reading.specs.Weights.{cost_of_text, weight_of_argument, weight_of_half, blanks_owed, held_by_mode}
 use Rattle.nr_reading.proofs.Weighing.{cost_of_event-le}
-use Rattle.nr_input.specs.Laws.{weight_of_half-le, held_by_due, held_back}
+use Rattle.nr_input.specs.Laws.{weight_of_half-le, held_by_due, held_back, most_of_reading}
 use Rattle.nr_input.specs.Place.{whole}
 use Rattle.nr_input.specs.Weights.{byte_worth, expansions_worth, items_left, newline_left}
 use Rattle.nr_input.proofs.Costs.{title_costs}
-use Rattle.nr_options.specs.Limits.{Bounds}
+use Rattle.nr_options.specs.Limits.{Bounds, AreLimits}
 use Rattle.nr_options.specs.declared.options.Options.{Options}
 use Rattle.nr_formatter.specs.Access.{collected}
 use Rattle.nr_formatter.specs.Places.{page_outlet}
-use Rattle.nr_formatter.specs.Weights.{weight, owed, steps_left, owed_by_event, owed_by_task, owed_by_then, weight_of_agenda, weight_of_task, weight_of_word, weight_of_pending, weight_of_diversion, weight_of_built, weight_of_diversions, weight_of_step}
+use Rattle.nr_formatter.specs.Weights.{cost_of_piece, weight, owed, steps_left, owed_by_event, owed_by_task, owed_by_then, weight_of_agenda, weight_of_task, weight_of_word, weight_of_pending, weight_of_diversion, weight_of_built, weight_of_diversions, weight_of_step}
 use Rattle.nr_formatter.specs.declared.formatter.Formatter.{Formatter}
 use Rattle.nr_formatter.specs.declared.tasks.Room.TheVariants as rooms
 use Rattle.nr_formatter.specs.declared.tasks.Step.{Step}
@@ -39,16 +40,17 @@ use Rattle.nr_formatter.proofs.Falling.{weight_of_name-le, weight_of_outlet-le, 
 use Rattle.nr_machine.specs.State.{State, Choice, Register, start, formatter_at_first}
 use Rattle.nr_machine.specs.Machine.{state_after}
 use Rattle.nr_machine.specs.Run.{Runs, Goes, moves_a_byte}
-use Rattle.nr_laws.specs.Moves.{IsBehindByte, NoneIsTaken, MovesAreFew, MovesBeforeByte, MovesBetween, moves_of_texts, moves_of_rest, parts_of}
+use Rattle.nr_laws.specs.Moves.{IsBehindByte, NoneIsTaken, MovesAreFew, MovesBeforeByte, MovesBetween, moves_of_texts, moves_of_rest, moves_at_most, parts_of}
 use Rattle.nr_laws.specs.Laws.{nothing_allowed}
-use Rattle.nr_laws.proofs.BlanksBetween.{byte-taken}
+use Rattle.nr_laws.proofs.BlanksBetween.{IsPaid, byte-taken, stands-enough}
+use Rattle.nr_laws.proofs.BlanksWait.{Stands, Has}
 use Rattle.nr_laws.proofs.Growing.{state_after-add}
 use Rattle.nr_laws.proofs.MovesPaid.{step-paid}
 use Rattle.nr_laws.proofs.PaidMoves.{AllPaid, all_paid}
 use Rattle.nr_laws.proofs.PageLengths.{HasHeight, height-after}
 use Rattle.nr_laws.proofs.PrintedLines.{IsLined, IsRead, parts-le}
 use Rattle.nr_laws.proofs.PrintedDirect.{IsDue, IsHeld, IsHalf}
-use Rattle.nr_laws.proofs.PrintedStates.{clear-after, starts-clear}
+use Rattle.nr_laws.proofs.PrintedStates.{AreClear, clear-after, starts-clear}
 use Rattle.nr_laws.proofs.ReadsPaid.{Paid, reached, worth, may_come}
 use Rattle.nr_laws.proofs.StepLimits.{state_after-under}
 use Rattle.nr_laws.proofs.WithinRun.{IsKept, kept-after}
@@ -147,16 +149,18 @@ splices-are : (most burst stored : ℕ) → expansions_worth most burst stored �
 unfolding expansions_worth
 splices-are most burst stored = let k = most - burst in let e : k * (256 * (stored + 3)) ≡ 256 * (k * (stored + 3)) = grind arith in e
 
--- and 33 less
-may_come-le : (s : State) → may_come s + 33 ≤ length s.chosen + moves_of_texts s.formatter + moves_of_rest s.formatter
+-- and 33 less, where so much is half read
+read-le : (s : State) → let f = s.formatter in
+    may_come s + 33 + most_of_reading
+    ≤ length s.chosen + moves_of_texts f + weight_of_half f.reader.half + cost_of_text * blanks_owed f.reader.half
+    + cost_of_piece * (length (collected f).pieces + parts_of (collected f).word) + length f.store.building + moves_at_most
 unfolding weight owed steps_left
-may_come-le s =
+read-le s =
     let f = s.formatter in
     omega (
       arith,
       newline-le s.coming.inside,
       splices-are f.reader.most f.reader.burst f.store.limit,
-      weight_of_half-le f.reader.half,
       owed_event-le f.event,
       owed_task-le f.task f.reader.half,
       event-le f.event f.task f.step,
@@ -167,6 +171,9 @@ may_come-le s =
       diversions-le f.store.building,
       step-le f.step,
     )
+
+may_come-le : (s : State) → may_come s + 33 ≤ length s.chosen + moves_of_texts s.formatter + moves_of_rest s.formatter
+may_come-le s = omega (arith, read-le s, weight_of_half-le s.formatter.reader.half)
 
 -- ---- from a state on
 
@@ -244,37 +251,83 @@ kept b options supply m runs =
     kept-after m (start b options supply) runs (record { line = omega arith; few = omega arith })
 
 -- the rest of the number for a byte
-enough : (x s p d : ℕ) → 64 ≤ s → 256 * (x * (s + 3)) + 183 * p + s + 5176 ≤ 256 * (x + 1) * (s + p + d + 4)
+enough : (x s p d : ℕ) → 64 ≤ s → 256 * (x * (s + 3)) + 185 * p + s + 5432 ≤ 256 * (x + 1) * (s + p + d + 4)
 enough x s p d large =
     let more = mul-le x (s + 3) x (s + p + d + 4) (omega arith) (omega arith) in
     let b : 256 * (x + 1) * (s + p + d + 4) ≡ 256 * (x * (s + p + d + 4)) + 256 * (s + p + d + 4) = grind arith in
     omega (arith, more, b, large)
 
+module _ (b : Bounds) (options : Options) (supply : Supply) (limits : AreLimits b) where
+  clear : (m : ℕ) → AreClear (state_after m (start b options supply))
+  clear m = clear-after m (start b options supply) (starts-clear b options supply)
+
+  cells : (m : ℕ) → (state_after m (start b options supply)).formatter.line.limit ≡ b.cells
+  cells m = ap (λ (t : State). t.formatter.line.limit) (state_after-under b m (start nothing_allowed options supply))
+
+  -- what is half read
+  half-le : (m : ℕ) → let h = (state_after m (start b options supply)).formatter.reader.half in weight_of_half h ≤ most_of_reading + 10 * weight_of_argument + 66
+  half-le m =
+      let h = (state_after m (start b options supply)).formatter.reader.half in
+      let half = (clear m).kept.half in
+      let few = half.few in
+      omega (arith, weight_of_half-le h, few, held_back-le h half)
+
+  -- what the moves after so many leave of the number for a byte, where what is half read and the blanks that are owed weigh this much
+  rest-le : (m n weighs : ℕ) → length options.registers.items ≤ 32 → Runs m (start b options supply) → IsBehindByte m (start b options supply)
+      → let s = state_after m (start b options supply) in
+      n + weight_of_half s.formatter.reader.half + cost_of_text * blanks_owed s.formatter.reader.half ≤ may_come s + weighs
+      → weighs ≤ most_of_reading + 10 * weight_of_argument + 66 + 180 * b.cells + 256 → n ≤ moves_a_byte b
+  rest-le m n weighs registers runs taken most few =
+      let s = state_after m (start b options supply) in
+      let keeps = kept b options supply m runs in
+      let line = keeps.line in
+      let built = keeps.few in
+      let all = all_paid m (start b options supply) (omega arith) runs in
+      omega (
+        arith,
+        most,
+        few,
+        behind b options supply m registers runs taken,
+        read-le s,
+        line,
+        built,
+        cells m,
+        all.limit,
+        collected-le (collected s.formatter) (clear m).kept.lined,
+        enough b.expansions b.stored b.cells b.depth limits.0,
+      )
+
+  -- where the blanks are few, due, or wait
+  stands-le : (m n : ℕ) → length options.registers.items ≤ 32 → Runs (m + n) (start b options supply) → IsBehindByte m (start b options supply) → NoneIsTaken m n (start b options supply)
+      → Stands b.cells (state_after m (start b options supply)) → n ≤ moves_a_byte b
+  stands-le m n registers runs taken same stands =
+      let first = start b options supply in
+      let s = state_after m first in
+      let most = stands-enough first b.cells limits.4 (omega arith) (record { line = omega arith; few = omega arith }) cells n m runs stands in
+      let byte : (state_after n s).coming.taken ≡ s.coming.taken = ap (λ (t : State). t.coming.taken) (sym (state_after-add first m n)) ∙ same in
+      let bytes : worth first * (state_after n s).coming.taken ≡ worth first * s.coming.taken = ap (λ k. worth first * k) byte in
+      let half = half-le m in
+      rest-le m n (weight_of_half s.formatter.reader.half + 180 * b.cells + 2) registers (λ k less. runs k (omega (arith, less))) taken (omega (arith, most, bytes)) (omega (arith, half))
+
+  -- where what is half read is paid by the byte and what was half read before it
+  paid-le : (m n : ℕ) → length options.registers.items ≤ 32 → Runs (suc m + n) (start b options supply) → IsBehindByte (suc m) (start b options supply)
+      → NoneIsTaken (suc m) n (start b options supply) → IsPaid b.cells (state_after m (start b options supply)) (state_after (suc m) (start b options supply)) → n ≤ moves_a_byte b
+  paid-le m n registers runs taken same paid =
+      let before = state_after m (start b options supply) in
+      let most = between b options supply (suc m) n runs same in
+      let half = half-le m in
+      rest-le (suc m) n (weight_of_half before.formatter.reader.half + 178 * b.cells + 256) registers (λ k less. runs k (omega (arith, less))) taken (omega (arith, most, paid)) (omega (arith, half))
+
+  either-le : (m n : ℕ) → length options.registers.items ≤ 32 → Runs (suc m + n) (start b options supply) → IsBehindByte (suc m) (start b options supply)
+      → NoneIsTaken (suc m) n (start b options supply)
+      → Stands b.cells (state_after (suc m) (start b options supply)) ⊎ IsPaid b.cells (state_after m (start b options supply)) (state_after (suc m) (start b options supply)) → n ≤ moves_a_byte b
+  either-le m n registers runs taken same (inl stands) = stands-le (suc m) n registers runs taken same stands
+  either-le m n registers runs taken same (inr paid) = paid-le m n registers runs taken same paid
+
 pub moves_between : MovesBetween
-moves_between b options supply m n limits registers runs taken same =
+moves_between b options supply zero n limits registers runs taken same =
+    stands-le b options supply limits zero n registers runs taken same (Has (omega arith))
+moves_between b options supply (suc m) n limits registers runs taken same =
     let s = state_after m (start b options supply) in
-    let f = s.formatter in
-    let so_far : Runs m (start b options supply) = λ k less. runs k (omega arith) in
-    let most = between b options supply m n runs same in
-    let before = behind b options supply m registers so_far taken in
-    let all = all_paid m (start b options supply) (omega arith) so_far in
-    let keeps = kept b options supply m so_far in
-    let line = keeps.line in
-    let few = keeps.few in
-    let clear = (clear-after m (start b options supply) (starts-clear b options supply)).kept in
-    let asks = clear.half.few in
-    let cells : f.line.limit ≡ b.cells = ap (λ (t : State). t.formatter.line.limit) (state_after-under b m (start nothing_allowed options supply)) in
-    omega (
-      arith,
-      most,
-      before,
-      may_come-le s,
-      line,
-      few,
-      cells,
-      all.limit,
-      asks,
-      held_back-le f.reader.half clear.half,
-      collected-le (collected f) clear.lined,
-      enough b.expansions b.stored b.cells b.depth limits.0,
-    )
+    either-le b options supply limits m n registers runs taken same
+    (byte-taken b.cells s limits.4 (height-after m (start b options supply) (omega arith)) (runs m (omega arith)) taken)

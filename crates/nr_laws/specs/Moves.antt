@@ -79,15 +79,10 @@ MovesBeforeByte =
     → let s = state_after m (start b options supply) in
     n ≤ length s.chosen + moves_of_texts s.formatter + moves_of_rest s.formatter
 
--- what comes on top of the number of moves for a byte: blanks that the line begins with beyond those that a line may hold
-abbrev pub moves_on_top : Bounds → Formatter → ℕ
-moves_on_top b f = cost_of_text * (blanks_owed f.reader.half - b.cells)
-
--- Between the takings of two bytes, before the first and after the last there are no more moves than the number for a byte and what comes on
--- top after the first of the two.
+-- Between the takings of two bytes, before the first and after the last there are no more moves than the number for a byte.
 abbrev pub MovesBetween : Type 0
 MovesBetween =
     (b : Bounds) (options : Options) (supply : Supply) (m n : ℕ) → AreLimits b
     → length options.registers.items ≤ 32 → Runs (m + n) (start b options supply)
     → IsBehindByte m (start b options supply) → NoneIsTaken m n (start b options supply)
-    → n ≤ moves_a_byte b + moves_on_top b (state_after m (start b options supply)).formatter
+    → n ≤ moves_a_byte b
