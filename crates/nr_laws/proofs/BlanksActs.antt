@@ -1,8 +1,7 @@
 -- What is due while blanks wait leaves them waiting, or there are none.
-use Rattle.std.specs.Prelude.{nat_lt, is_some, slice_get}
-use Rattle.std.proofs.Common.{◌≡◌, ℕ, ◌+◌, ◌≤◌, Bool, true, false, if◌then◌else◌, List, [], ◌∷◌, Option, None, Some, refl, arith}
-use Rattle.nr_symbol_tables.specs.Table.{find}
-use Rattle.nr_store.specs.Store.{Stored, words}
+use Rattle.std.specs.Prelude.{nat_lt, slice_get}
+use Rattle.std.proofs.Common.{◌≡◌, ℕ, ◌+◌, ◌≤◌, Bool, true, false, if◌then◌else◌, Option, None, Some, refl, arith}
+use Rattle.nr_store.specs.Store.{Stored}
 use Rattle.nr_reading.specs.declared.ask.Sign.TheVariants as signs
 use Rattle.nr_reading.specs.declared.event.Event.TheVariants as events
 use Rattle.nr_reading.specs.declared.half.Half.{Half}
@@ -10,16 +9,14 @@ use Rattle.nr_reading.specs.declared.mode.Calls.{Calls}
 use Rattle.nr_reading.specs.declared.mode.Calls.TheVariants as calls
 use Rattle.nr_reading.specs.declared.mode.Due.{Due}
 use Rattle.nr_reading.specs.declared.mode.Due.TheVariants as dues
-use Rattle.nr_reading.specs.declared.mode.Mode.{Mode}
 use Rattle.nr_reading.specs.declared.mode.Mode.TheVariants as modes
-use Rattle.nr_reading.specs.declared.mode.Reading.{Reading}
 use Rattle.nr_reading.specs.Conditionals.{part_mode, answer_of, else_mode}
 use Rattle.nr_reading.specs.Seeking.{sought, sought_event}
 use Rattle.nr_reading.specs.Spelled.{is_empty}
 use Rattle.nr_reading.specs.Weights.{blanks_of_mode, blanks_of_due, is_lead}
-use Rattle.nr_input.specs.Acting.{act, after_held, after_definition, has_text, next, idle, expanded, splicing, name_in, meaning_in, calls_of}
+use Rattle.nr_input.specs.Acting.{act, after_held, has_text, next, idle, expanded, name_in, meaning_in, calls_of}
 use Rattle.nr_input.specs.declared.reader.Reader.{Reader}
-use Rattle.nr_laws.proofs.BlanksReads.{IsQuiet, After, Wait, Few}
+use Rattle.nr_laws.proofs.BlanksReads.{After, Wait, Few}
 
 held-none : (held n : ℕ) (b : Option ℕ) → blanks_of_due (after_held held n b) ≡ 0
 held-none held n (Some b) = by (nat_lt (n + 1) held)

@@ -1,7 +1,7 @@
 -- Blanks that a line begins with bring no more moves than the line may hold, however many there are.
 use Rattle.std.specs.Prelude.{◌⊎◌}
 use Rattle.std.proofs.lemmas.Bool.{cases_lt}
-use Rattle.std.proofs.Common.{◌≡◌, ◌≢◌, ℕ, zero, suc, ◌+◌, ◌*◌, ◌<◌, ◌≤◌, Bool, true, false, if◌then◌else◌, List, [], ◌∷◌, length, Option, None, Some, refl, ap, sym, subst, ◌∙◌, inl, inr, arith}
+use Rattle.std.proofs.Common.{◌≡◌, ◌≢◌, ℕ, zero, suc, ◌+◌, ◌*◌, ◌<◌, ◌≤◌, Bool, true, false, if◌then◌else◌, List, [], ◌∷◌, Option, None, Some, refl, ap, sym, subst, ◌∙◌, inl, inr, arith}
 use Rattle.nr_store.specs.Store.{shown}
 use Rattle.nr_store.specs.declared.shown.Shown.{Shown}
 use Rattle.nr_store.specs.declared.shown.Shown.TheVariants as shows
@@ -12,12 +12,10 @@ use Rattle.nr_reading.specs.declared.event.Event.TheVariants as events
 use Rattle.nr_reading.specs.declared.front.Front.{Front}
 use Rattle.nr_reading.specs.declared.front.Front.TheVariants as fronts
 use Rattle.nr_reading.specs.declared.half.Half.{Half}
-use Rattle.nr_reading.specs.declared.mode.Due.{Due}
 use Rattle.nr_reading.specs.declared.mode.Due.TheVariants as dues
 use Rattle.nr_reading.specs.declared.mode.Mode.{Mode}
 use Rattle.nr_reading.specs.declared.mode.Mode.TheVariants as modes
 use Rattle.nr_reading.proofs.Paying.{pays_for}
-use Rattle.nr_input.specs.Acting.{is_look}
 use Rattle.nr_input.specs.Moving.{looks, look, taken_at, stays_at, acted_at, told_of}
 use Rattle.nr_input.specs.Place.{Coming, front, behind}
 use Rattle.nr_input.specs.declared.told.Told.TheVariants as tells
@@ -26,7 +24,7 @@ use Rattle.nr_input.specs.Weights.{byte_worth}
 use Rattle.nr_formatter.specs.Weights.{weight}
 use Rattle.nr_formatter.specs.declared.tasks.Resume.{Resume}
 use Rattle.nr_formatter.specs.declared.tasks.Task.TheVariants as tasks
-use Rattle.nr_machine.specs.State.{State, Choice, plainly}
+use Rattle.nr_machine.specs.State.{State, Choice}
 use Rattle.nr_machine.specs.Machine.{choose_or, spring_or, situation_of, with_situation, step, state_after}
 use Rattle.nr_machine.specs.Run.{Reads, kind, Goes, Runs}
 use Rattle.nr_laws.proofs.BlanksSaved.{blanks_in}
@@ -107,12 +105,16 @@ byte-taken most s some height goes other = by (cases_lt most (blanks_in s))
   where
     first : (s.chosen ≡ []) × (s.formatter.springs ≡ None)
     first = none-first s other
+
     idle : s.formatter.event ≡ events.Nothing
     idle = ((step-paid s height goes).fresh other).idle
+
     task : s.formatter.task ≡ tasks.Read
     task = ((step-paid s height goes).fresh other).task
+
     is : kind s ≡ Reads
     is = rw (first.0, first.1, idle, task) refl
+
     by : (most < blanks_in s) ⊎ (blanks_in s ≤ most) → Stands most (step s) ⊎ IsPaid most s (step s)
     by (inr few) = inr (subst (λ (t : State). IsPaid most s t) (sym (reads-step s is)) (reads-paid (looks (situation_of s)) most s refl few (subst (λ (t : State). t.coming.taken ≢ s.coming.taken) (reads-step s is) other)))
     by (inl many) =
@@ -130,7 +132,7 @@ owes s = omega arith
 one-first : (n : ℕ) (s : State) → state_after (suc n) s ≡ state_after n (step s)
 one-first n s = ap (λ m. state_after m s) (let e : suc n ≡ 1 + n = omega arith in e) ∙ state_after-add s 1 n
 
--- a run from a state of its own, whose line may hold so many cells
+-- of a run from a first state, whose line may hold so many cells
 module _ (first : State) (most : ℕ) (some : 1 ≤ most) (height : HasHeight first.formatter) (kept : IsKept first.formatter) (limit : (m : ℕ) → (state_after m first).formatter.line.limit ≡ most) where
   -- blanks aside so many moves are paid, and so many besides
   abbrev AreEnough : ℕ → State → Type 0

@@ -14,23 +14,21 @@ use Rattle.nr_reading.specs.declared.event.Event.TheVariants as events
 use Rattle.nr_reading.specs.declared.front.Front.{Front}
 use Rattle.nr_reading.specs.declared.front.Front.TheVariants as fronts
 use Rattle.nr_reading.specs.declared.half.Half.{Half}
-use Rattle.nr_reading.specs.declared.mode.Due.{Due}
 use Rattle.nr_reading.specs.declared.mode.Due.TheVariants as dues
 use Rattle.nr_reading.specs.declared.mode.Escape.{Escape}
 use Rattle.nr_reading.specs.declared.mode.Escape.TheVariants as escapes
-use Rattle.nr_reading.specs.declared.mode.Mode.{Mode}
 use Rattle.nr_reading.specs.declared.mode.Mode.TheVariants as modes
 use Rattle.nr_reading.specs.declared.mode.Reading.{Reading}
 use Rattle.nr_reading.specs.declared.mode.Signs.{Signs}
 use Rattle.nr_reading.specs.Ask.{begun_ask, answer, answer_byte, argument_asked, answer_first, answer_two, answer_bracket, answer_digit, cut, is_argument, is_digit, is_given, is_unsigned, reads_argument}
 use Rattle.nr_reading.specs.Ended.{due_of, event_of}
-use Rattle.nr_reading.specs.Escape.{offer, offer_byte, offer_over, raw_offer, escaped as copied_escape}
-use Rattle.nr_reading.specs.Half.{Met, meet, met_directly, met_copied, answered, offered, hear_by, over_by, offer_to, meet_by, asking, too_deep, beginning, silent, escaping as escaping_half}
+use Rattle.nr_reading.specs.Escape.{offer, offer_byte, raw_offer, escaped as copied_escape}
+use Rattle.nr_reading.specs.Half.{Met, meet, met_directly, answered, offered, hear_by, over_by, offer_to, meet_by, asking, too_deep, beginning, silent, escaping as escaping_half}
 use Rattle.nr_reading.specs.Mode.{is_direct, reads_arguments}
 use Rattle.nr_reading.specs.Nesting.{may_nest}
 use Rattle.nr_reading.specs.Notes.{Note}
 use Rattle.nr_reading.specs.Notes as notes
-use Rattle.nr_reading.specs.Reader.{read, read_over, unescaped, after_backslash, ends_comment, direct, direct_by}
+use Rattle.nr_reading.specs.Reader.{unescaped, after_backslash, ends_comment, direct, direct_by}
 use Rattle.nr_reading.specs.Spelled.{is_blank, is_empty, name_of, spelled}
 use Rattle.nr_reading.specs.Step.{Step, to, escaping, go, tell}
 use Rattle.nr_reading.specs.Text.{begin_escape, one_blank_more, text_after_blanks, leading}
@@ -265,6 +263,7 @@ module _ (n : ℕ) (h : Half) (mode : h.reading.mode ≡ modes.Leading n) (none 
       begins k =
           let new = escaping_half escapes.Plain h in
           record { mode = begins-mode (may_nest h.reading.mode h.asks) k new ∙ mode; none = begins-none (may_nest h.reading.mode h.asks) k new none; quiet = tt; stays = λ x. x }
+
       by : (c1 c2 c3 c4 c5 c6 c7 c8 c9 c10 : Bool) → (b == code "\\") ≡ c1 → (b == code ".") ≡ c2 → (b == code "t") ≡ c3 → (b == code "a") ≡ c4 → (b == code "\n") ≡ c5 → (b == code "\"") ≡ c6
           → (b == code "*") ≡ c7 → (b == code "$") ≡ c8 → (b == code "n") ≡ c9 → ((b == code "w") && argument) ≡ c10 → Asked n true (offered (copied_escape b argument) h)
       by true c2 c3 c4 c5 c6 c7 c8 c9 c10 e1 e2 e3 e4 e5 e6 e7 e8 e9 e10 = rw e1 (hear-asked h.asks true (code "\\"))

@@ -1,19 +1,17 @@
 -- A move that reads and tells no blank is paid without the blanks that are owed.
-use Rattle.std.proofs.Common.{◌≡◌, ℕ, ◌+◌, ◌*◌, ◌≤◌, Bool, true, false, if◌then◌else◌, List, [], ◌∷◌, Ok, refl, ap, sym, subst, ◌∙◌, arith}
+use Rattle.std.proofs.Common.{◌≡◌, ℕ, ◌+◌, ◌*◌, ◌≤◌, Bool, true, false, if◌then◌else◌, Ok, refl, ap, sym, ◌∙◌, arith}
 use Rattle.nr_store.specs.Store.{Stored, shown, left}
-use Rattle.nr_store.specs.declared.shown.Shown.{Shown}
 use Rattle.nr_reading.specs.Half.{Met, meet}
 use Rattle.nr_reading.specs.Weights.{PaysFor, blanks_owed, is_lead}
 use Rattle.nr_reading.specs.declared.event.Event.{Event}
 use Rattle.nr_reading.specs.declared.event.Event.TheVariants as events
 use Rattle.nr_reading.proofs.Paying.{pays_for}
 use Rattle.nr_input.specs.Acting.{is_look}
-use Rattle.nr_input.specs.Moving.{looks, look, taken_at, stays_at, acted_at, acting, answer_at, burst_past, told_of}
+use Rattle.nr_input.specs.Moving.{look, taken_at, stays_at, acted_at, acting, answer_at, burst_past, told_of}
 use Rattle.nr_input.specs.Place.{Coming, Reached, front, behind, passed_in}
 use Rattle.nr_input.specs.Refusal.{acted_by}
 use Rattle.nr_input.specs.Weights.{Pays, byte_worth, diversions_in}
 use Rattle.nr_input.specs.declared.reader.Reader.{Reader}
-use Rattle.nr_input.specs.declared.told.Told.{Told}
 use Rattle.nr_input.specs.declared.told.Told.TheVariants as tells
 use Rattle.nr_input.proofs.Spending.{act_pays}
 use Rattle.nr_input.proofs.Staying.{act_begins_none}
@@ -46,15 +44,15 @@ unfolding weight steps_left owed
 event_saves p q f v r e idle task none pays fewer =
     let before : weight_of_agenda f.event f.task f.step ≡ 4 = rw (idle, task) refl in
     let owed_before : owed_by_event f.event + owed_by_task f.task f.reader.half ≡ 0 = rw (idle, task) refl in
-    let behind_it : weight_of_agenda e f.task f.step ≡ weight_of_agenda e tasks.Read f.step = rw task refl in
-    let owed_behind : owed_by_task f.task r.half ≡ 0 = rw task refl in
+    let after_it : weight_of_agenda e f.task f.step ≡ weight_of_agenda e tasks.Read f.step = rw task refl in
+    let owed_after : owed_by_task f.task r.half ≡ 0 = rw task refl in
     let paid = pays.pays (byte_worth f.reader.most f.store.limit) (omega arith) in
     omega (
       arith,
       before,
       owed_before,
-      behind_it,
-      owed_behind,
+      after_it,
+      owed_after,
       paid,
       event_paid e f.step,
       no_lead e none,

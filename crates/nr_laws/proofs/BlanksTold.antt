@@ -1,8 +1,8 @@
 -- Blanks that are due are told one after another, and each is a cell of the line: there are soon as many as it may hold.
 use Rattle.std.specs.Prelude.{nat_le}
 use Rattle.std.proofs.lemmas.Bool.{leb-false, leb-true}
-use Rattle.std.proofs.Common.{◌≡◌, ℕ, zero, suc, ◌+◌, ◌-◌, ◌*◌, ◌<◌, ◌≤◌, Bool, true, false, if◌then◌else◌, List, [], ◌∷◌, Option, None, Some, refl, ap, sym, subst, ◌∙◌, arith}
-use Rattle.nr_fill.specs.Piece.{add_blank, line_cells, text_cells}
+use Rattle.std.proofs.Common.{◌≡◌, ℕ, zero, suc, ◌+◌, ◌-◌, ◌*◌, ◌<◌, ◌≤◌, Bool, true, false, if◌then◌else◌, List, [], ◌∷◌, Option, None, Some, refl, ap, subst, ◌∙◌, arith}
+use Rattle.nr_fill.specs.Piece.{line_cells, text_cells}
 use Rattle.nr_fill.proofs.Measures.{line_cells-add_blank}
 use Rattle.nr_reading.specs.declared.event.Event.{Event}
 use Rattle.nr_reading.specs.declared.event.Event.TheVariants as events
@@ -13,7 +13,6 @@ use Rattle.nr_input.specs.Acting.{act, after_lead, then_due, is_look}
 use Rattle.nr_input.specs.Moving.{look, situation}
 use Rattle.nr_input.specs.declared.told.Told.TheVariants as tells
 use Rattle.nr_formatter.specs.Access.{collected, margins}
-use Rattle.nr_formatter.specs.Moves.{heard}
 use Rattle.nr_formatter.specs.Text.{blank_cell, text}
 use Rattle.nr_formatter.specs.Titles.{reads_title, is_title, title}
 use Rattle.nr_formatter.specs.declared.formatter.Formatter.{Formatter}

@@ -1,5 +1,5 @@
 -- A state in which blanks of a line's beginning wait, and the moves from it.
-use Rattle.std.proofs.Common.{◌≡◌, ◌≢◌, ℕ, ◌+◌, ◌*◌, ◌≤◌, Bool, true, false, if◌then◌else◌, List, [], ◌∷◌, Option, None, Some, Ok, refl, ap, sym, subst, ◌∙◌, arith}
+use Rattle.std.proofs.Common.{◌≡◌, ◌≢◌, ℕ, ◌+◌, ◌≤◌, Bool, true, false, if◌then◌else◌, [], Option, None, Some, refl, ap, sym, subst, ◌∙◌, arith}
 use Rattle.nr_settings.specs.Specials.{special_of}
 use Rattle.nr_settings.specs.declared.specials.Special.{Special}
 use Rattle.nr_settings.specs.declared.specials.Special.TheVariants as specials
@@ -12,7 +12,6 @@ use Rattle.nr_reading.specs.declared.event.Event.{Event}
 use Rattle.nr_reading.specs.declared.event.Event.TheVariants as events
 use Rattle.nr_reading.specs.declared.half.Half.{Half}
 use Rattle.nr_reading.specs.declared.mode.Mode.TheVariants as modes
-use Rattle.nr_input.specs.Acting.{is_look}
 use Rattle.nr_input.specs.Moving.{looks, look, taken_at, stays_at, acted_at, acting, told_of}
 use Rattle.nr_input.specs.Moving as input
 use Rattle.nr_input.specs.Place.{Coming, front}
@@ -31,7 +30,7 @@ use Rattle.nr_formatter.specs.declared.tasks.Resume.{Resume}
 use Rattle.nr_formatter.specs.declared.tasks.Task.{Task}
 use Rattle.nr_formatter.specs.declared.tasks.Task.TheVariants as tasks
 use Rattle.nr_machine.specs.State.{State, plainly}
-use Rattle.nr_machine.specs.Machine.{read, work, hear, step, situation_of, with_situation}
+use Rattle.nr_machine.specs.Machine.{work, hear, step, situation_of, with_situation}
 use Rattle.nr_machine.specs.Run.{Reads, Kind, kind, Goes, GoesBy}
 use Rattle.nr_laws.proofs.BlanksActs.{act-after, act-silent}
 use Rattle.nr_laws.proofs.BlanksReads.{IsQuiet, After, Wait as Waiting, Tell, Few, meet-after, resume-stays}

@@ -21,7 +21,7 @@ use Rattle.nr_reading.specs.Weights.{cost_of_text, weight_of_argument, weight_of
 use Rattle.nr_reading.proofs.Weighing.{cost_of_event-le}
 use Rattle.nr_input.specs.Laws.{weight_of_half-le, held_by_due, held_back, most_of_reading}
 use Rattle.nr_input.specs.Place.{whole}
-use Rattle.nr_input.specs.Weights.{byte_worth, expansions_worth, items_left, newline_left}
+use Rattle.nr_input.specs.Weights.{expansions_worth, items_left, newline_left}
 use Rattle.nr_input.proofs.Costs.{title_costs}
 use Rattle.nr_options.specs.Limits.{Bounds, AreLimits}
 use Rattle.nr_options.specs.declared.options.Options.{Options}
@@ -46,12 +46,12 @@ use Rattle.nr_laws.proofs.BlanksBetween.{IsPaid, byte-taken, stands-enough}
 use Rattle.nr_laws.proofs.BlanksWait.{Stands, Has}
 use Rattle.nr_laws.proofs.Growing.{state_after-add}
 use Rattle.nr_laws.proofs.MovesPaid.{step-paid}
-use Rattle.nr_laws.proofs.PaidMoves.{AllPaid, all_paid}
+use Rattle.nr_laws.proofs.PaidMoves.{all_paid}
 use Rattle.nr_laws.proofs.PageLengths.{HasHeight, height-after}
 use Rattle.nr_laws.proofs.PrintedLines.{IsLined, IsRead, parts-le}
 use Rattle.nr_laws.proofs.PrintedDirect.{IsDue, IsHeld, IsHalf}
 use Rattle.nr_laws.proofs.PrintedStates.{AreClear, clear-after, starts-clear}
-use Rattle.nr_laws.proofs.ReadsPaid.{Paid, reached, worth, may_come}
+use Rattle.nr_laws.proofs.ReadsPaid.{reached, worth, may_come}
 use Rattle.nr_laws.proofs.StepLimits.{state_after-under}
 use Rattle.nr_laws.proofs.WithinRun.{IsKept, kept-after}
 

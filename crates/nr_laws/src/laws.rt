@@ -71,13 +71,12 @@ pub fn limits_are_exact()
 {}
 
 /// Each beginning of a run keeps the bound on moves that the whole of it keeps. From each state of a run there are so many moves at
-/// most before a byte is taken, by what is read, half read and collected. Between two takings that is the number for a byte, and on
-/// top of it 178 for each blank that the line begins with beyond those that a line may hold.
+/// most before a byte is taken, by what is read, half read and collected. Between two takings, before the first and after the last
+/// that is the number for a byte, whatever is read.
 ///
 /// Proved: At every point of a run there were at most `256 · (X + 1) · (S + P + D + 4)` moves for each byte taken,
-/// and as many besides; between two takings at most that number once, and 178 for each blank beyond P that the line
-/// begins with; from any state at most so many before a byte as what is still to be read, half read and collected may
-/// bring.
+/// and as many besides; between two takings, before the first and after the last at most that number once; from any
+/// state at most so many before a byte as what is still to be read, half read and collected may bring.
 pub fn moves_between()
     ensures few { MovesAreFew }
     ensures before { MovesBeforeByte }
