@@ -2,8 +2,9 @@
 #
 #   begins   how the names begin
 #   only     a section, or how it begins
-#   near     a name: in one line, at most three pages of the nearest names, which come of it where a letter becomes
-#            another, goes, is added, or changes places with the next, at most twice and for a third of the letters
+#   near     a name: asks in one line whether at most three pages of the nearest names were meant, which come of it where
+#            a letter becomes another, goes, is added, or changes places with the next, at most twice and for a third of
+#            the letters
 function least(a, b) { return a < b ? a : b }
 
 function distance(s, t,   i, j, m, n, other) {
@@ -34,7 +35,8 @@ BEGIN {
     section = substr($0, at + 1)
     page = name "(" section ")"
     if (!size) {
-        if (index(name, begins) == 1 && index(section, only) == 1) print page
+        if (index(name, begins) == 1 && index(section, only) == 1 && !(page in met)) print page
+        met[page]
         next
     }
     more = length(name) - size
@@ -47,7 +49,7 @@ BEGIN {
 END {
     for (far = 0; far <= most; far++)
         if (found[far]) {
-            print found[far]
+            print "; did you mean " found[far] "?"
             exit
         }
 }

@@ -1,24 +1,76 @@
-# Reads formatted pages, and prints them with blank rows side by side as one.
+# Reads formatted pages, in which bold characters are struck over themselves and underlined ones over `_`, and prints what
+# they say of something.
 #
-#   plain    1: what is underlined or bold is a letter alone
+#   faces    none: as plain text; on: with escape sequences; off: as they come
 #   option   a word: only the paragraphs of that option, each below its heading
 #   list     1: only the options, each as it stands before its paragraph
 #   links    1: addresses, and the pages below SEE ALSO, are links of the terminal (OSC 8)
-#   tags     a file that gets tags of less: of each heading its first word, of each option itself, with its dashes and
-#            without, of another word before a paragraph of its own that word
+#   tag      a word: the rows that it leads to, as tags of GNU Global: of headings, of options, with their dashes or
+#            without, and of other words before a paragraph of their own
 #
-# A character that could not be shown is named on standard error, as `lost <U+540D>`: the first one. It ends with 9 where
-# no option was found.
-# A row without what is struck over, each character before a backspace, of one byte or of several, and without escape sequences.
+# It ends with 9 where no option was found. A row that has bold words at its beginning goes before one that hasn't.
+
+# How many bytes the character at a place of a row has.
+function size(row, at,   first) {
+    first = substr(row, at, 1)
+    return first < "\300" ? 1 : first < "\340" ? 2 : first < "\360" ? 3 : 4
+}
+
+# A row without what is struck over.
 function text_of(row) {
-    if (index(row, "\033["))
-        gsub(/\033\[[0-9]+m/, "", row)
-    if (index(row, "\010"))
-        gsub(/([\001-\177]|[\300-\337].|[\340-\357]..|[\360-\367]...)\010/, "", row)
+    if (index(row, "\010")) gsub(/([\001-\177]|[\300-\337].|[\340-\357]..|[\360-\367]...)\010/, "", row)
     return row
 }
 
+# Where the characters end in a row that have so many bytes without what is struck over.
+function end_of(row, bytes,   at, next_at) {
+    for (at = 1; bytes > 0; at = next_at) {
+        next_at = at + size(row, at)
+        if (substr(row, next_at, 1) == "\010") next_at++
+        else bytes -= next_at - at
+    }
+    return at - 1
+}
+
+# A row with escape sequences.
+function escaped(row,   at, next_at, one, under, look, before, out) {
+    for (at = 1; at <= length(row); at = next_at) {
+        next_at = at + size(row, at)
+        one = substr(row, at, next_at - at)
+        look = 0
+        if (substr(row, next_at, 1) == "\010") {
+            under = one
+            at = next_at + 1
+            next_at = at + size(row, at)
+            one = substr(row, at, next_at - at)
+            look = under == one && !(one == "_" && before == 4) ? 1 : 4
+        }
+        if (look != before) out = out (before ? "\033[" (before == 1 ? 22 : 24) "m" : "") (look ? "\033[" look "m" : "")
+        before = look
+        out = out one
+    }
+    return out (before ? "\033[" (before == 1 ? 22 : 24) "m" : "")
+}
+
+# A row, or a part of it, with the faces that are asked for.
+function shown(row) { return faces == "none" ? text_of(row) : faces == "on" && index(row, "\010") ? escaped(row) : row }
+
+function put_row(row) { print shown(row) }
+
 function depth(row) { return match(row, /[^ ]/) - 1 }
+
+function head(row) {
+    sub(/^ +/, "", row)
+    sub(/  +.*/, "", row)
+    return row
+}
+
+# Whether a row begins with a bold character.
+function is_bold(at,   from, bytes) {
+    from = depth(row[at]) + 1
+    bytes = size(row[at], from)
+    return substr(row[at], from + bytes, bytes + 1) == "\010" substr(row[at], from, bytes)
+}
 
 # A row that stands above deeper ones or before a gap, or above such a row.
 function is_tag(at,   deep) {
@@ -29,62 +81,53 @@ function is_tag(at,   deep) {
     return depth(text[at + 1]) > deep
 }
 
-function head(row) {
-    sub(/^ +/, "", row)
-    sub(/  +.*/, "", row)
-    return row
-}
-
-# Adds the tag of a row.
-function put_tag(name, row) {
-    gsub(/[\\\/]/, "\\\\&", row)
-    if (name != "") printf "%s\t-\t/^%s/\n", name, row >>tags
-}
-
-# Adds the tags of a row, whose next one is known.
-function put_tags(row, next_row,   deep, words, n, i, text) {
-    text = text_of(row)
-    deep = depth(text)
-    if (deep == 0) put_tag(substr(text, 1, match(text " ", / /) - 1), row)
-    if (deep < 1 || depth(text_of(next_row)) <= deep && head(text) == substr(text, deep + 1) && !(text_of(next_row) text ~ /^ *-.* -/)) return
-    n = split(head(text), words, /[][ ,|=<>()]+/)
-    for (i = 1; i <= n; i++)
-        if (i == 1 || words[i] ~ /^-/) {
-            put_tag(words[i], row)
-            if (sub(/^--?/, "", words[i])) put_tag(words[i], row)
-        }
-    fflush(tags)
-}
-
-# What of a row matches is a link to its text.
-function linked_by(row, pattern, scheme,   before, found) {
-    while (match(row, pattern)) {
-        found = substr(row, RSTART, RLENGTH)
-        before = before substr(row, 1, RSTART - 1) "\033]8;;" scheme text_of(found) "\007" found "\033]8;;\007"
-        row = substr(row, RSTART + RLENGTH)
-    }
-    return before row
-}
-
-# A row whose addresses and pages are links.
-function linked(row) {
-    row = linked_by(row, address, "")
-    return below == "SEE ALSO" ? linked_by(row, reference, "man:") : row
-}
-
 function is_option(at) { return text[at] ~ /^ *[-+]/ }
 
-function has_option(at,   n, i, words) {
+# Whether a word is one of those before a paragraph: the first, or an option.
+function has_option(at, word,   n, i, words) {
     n = split(head(text[at]), words, /[][ ,|=<>()]+/)
-    for (i = 1; i <= n; i++) if (words[i] == option && (i == 1 || option ~ /^[-+]/)) return 1
+    for (i = 1; i <= n; i++) if (words[i] == word && (i == 1 || word ~ /^[-+]/)) return 1
     return 0
+}
+
+# Whether a word leads to a row.
+function has_tag(at,   n, i, words) {
+    if (text[at] ~ /^[^ ]/) return text[at] == tag || index(text[at], tag " ") == 1
+    if (!index(text[at], tag) || !is_tag(at)) return 0
+    return has_option(at, tag) || has_option(at, "-" tag) || has_option(at, "--" tag)
+}
+
+# Looks for what stands first in a text of all that is a link.
+function look_for(text, what, named) {
+    if (!match(text, what) || from && RSTART >= from) return
+    from = RSTART
+    bytes = RLENGTH
+    kind = named
+}
+
+# A row whose addresses, and the pages that it names below SEE ALSO, are links.
+function linked(row,   text, out, end) {
+    for (;;) {
+        text = text_of(row)
+        from = 0
+        look_for(text, "https?://[^][ <>\"()]*[^][ <>\"().,;:]", "")
+        look_for(text, "[A-Za-z0-9_.+-]+@[A-Za-z0-9-]+\\.[A-Za-z0-9.-]*[A-Za-z0-9]", "mailto:")
+        if (below == "SEE ALSO") look_for(text, "[A-Za-z0-9_.:+-]+\\([1-9][a-z]*\\)", "man:")
+        if (!from) return out shown(row)
+        end = end_of(row, from - 1)
+        out = out shown(substr(row, 1, end)) "\033]8;;" kind substr(text, from, bytes) "\007"
+        row = substr(row, end + 1)
+        end = end_of(row, bytes)
+        out = out shown(substr(row, 1, end)) "\033]8;;\007"
+        row = substr(row, end + 1)
+    }
 }
 
 # Prints a heading once.
 function put_heading() {
     if (heading == put) return
     if (put) print ""
-    print put = heading
+    put_row(put = heading)
 }
 
 # Prints the paragraph of the tag at a row, from the first of those that share it, and gives its last row.
@@ -92,61 +135,42 @@ function put_paragraph(at,   deep, last) {
     deep = depth(text[at])
     while (is_option(at - 1) && depth(text[at - 1]) == deep && is_tag(at - 1)) at--
     last = at
-    while (last < count && depth(text[last + 1]) == deep && is_option(last + 1) && is_tag(last + 1) && depth(text[last]) == deep)
+    while (last < NR && depth(text[last + 1]) == deep && is_option(last + 1) && is_tag(last + 1) && depth(text[last]) == deep)
         last++
-    while (last < count && (text[last + 1] == "" || depth(text[last + 1]) > deep)) last++
+    while (last < NR && (text[last + 1] == "" || depth(text[last + 1]) > deep)) last++
     for (end = last; text[end] == ""; ) end--
     if (heading == put) print ""
     else put_heading()
-    for (; at <= end; at++) print row[at]
+    for (; at <= end; at++) put_row(row[at])
     return last
 }
 
-BEGIN {
-    keeps = option != "" || list
-    # before a character that is bold or underlined
-    look = "(.\010|\033\\[[0-9]+m)?"
-    letter = look "[^][ <>\"()\010\033]"
-    address = look "h" look "t" look "t" look "p(" look "s)?" look ":" look "/" look "/(" letter ")*" look "[^][ <>\"()\010\033.,;:]"
-    reference = "(" look "[A-Za-z0-9_.:+-])+" look "\\(" look "[1-9](" look "[a-z])*" look "\\)"
-}
-
-/<U\+[0-9A-F]+>/ && !lost {
-    lost = text_of($0)
-    match(lost, /<U\+[0-9A-F]+>/)
-    print "lost " substr(lost, RSTART, RLENGTH) > "/dev/stderr"
-    lost = 1
+links {
+    if (/^[^ ]/) below = text_of($0)
+    print linked($0)
+    next
 }
 
 {
-    if (plain) $0 = text_of($0)
-    if (keeps) {
-        row[++count] = $0
-        text[count] = text_of($0)
-    } else if (NF || !blank) {
-        if (tags != "" && NR > 1) put_tags(last, $0)
-        last = $0
-        if (links) {
-            if (/^[^ ]/) below = text_of($0)
-            $0 = linked($0)
-        }
-        # The first screen goes out at once; the rest when the tags of all of it are there, since a pipe takes 64 kB.
-        if (tags == "" || NR < 200) print
-        else later[++held] = $0
-        if (NR == 199) fflush()
-    }
-    blank = !NF
+    row[NR] = $0
+    text[NR] = text_of($0)
 }
 
 END {
-    if (held) close(tags)
-    for (at = 1; at <= held; at++) print later[at]
-    for (at = 1; at <= count; at++) {
+    if (links) exit
+    for (at = 1; at <= NR; at++)
+        if (tag != "" ? has_tag(at) : is_tag(at) && (list ? is_option(at) : has_option(at, option))) {
+            found[at]
+            if (is_bold(at)) bold++
+        }
+    for (at = 1; at <= NR; at++) {
         if (text[at] ~ /^[^ ]/) heading = row[at]
-        else if (list && is_option(at) && is_tag(at)) {
+        if (!(at in found) || bold && !is_bold(at)) continue
+        if (tag != "") print tag, at, "-", text[at]
+        else if (list) {
             put_heading()
-            print "       " head(row[at])
-        } else if (!list && has_option(at) && is_tag(at)) at = put_paragraph(at)
+            put_row("       " head(row[at]))
+        } else at = put_paragraph(at)
     }
-    if (keeps && !put) exit 9
+    if (tag == "" && !put) exit 9
 }
