@@ -43,7 +43,7 @@ Opens-none may_come asked readings (CannotOpen input) unopened = absurd unopened
 Opens-none may_come asked readings (ReadFault place) unopened = absurd unopened
 Opens-none may_come asked readings WriteFault unopened = absurd unopened
 Opens-none may_come asked readings OutOfMemory unopened = absurd unopened
-Opens-none may_come asked readings (NeedsOthers name) unopened = absurd unopened
+Opens-none may_come asked readings NeedsOthers unopened = absurd unopened
 
 pub Opens-memory : (may_come : Reading → Opening → Type 0) (asked asked' : Option (List Reading)) (readings others : List Reading)
     → readings ≡ others → IsRefused may_come asked asked' readings not_run.OutOfMemory → Opens may_come asked asked' others OutOfMemory

@@ -21,7 +21,7 @@ status_of (NoMacros name) = 3
 status_of (ReadFault place) = 3
 status_of WriteFault = 4
 status_of OutOfMemory = 5
-status_of (NeedsOthers name) = 6
+status_of NeedsOthers = 6
 
 -- what is limited
 abbrev pub limit_text : Measure → List ℕ
@@ -44,7 +44,7 @@ placed name line what end =
 abbrev pub told_at : List ℕ → ℕ → List ℕ → List ℕ → List ℕ
 told_at name line what end = placed name (decimal line) what end
 
--- the line that reports how the program ended: nothing where all went out
+-- the line that reports how the program ended: nothing where all went out, or where other programs are needed
 abbrev pub line_of : Ending → List ℕ
 line_of Done = []
 line_of (Limit place which) = told_at place.name.now place.line (limit_text which) (codes " limit passed")
@@ -56,4 +56,4 @@ line_of (NoMacros name) = told (codes "no macros of the name ") name.now
 line_of (ReadFault place) = told_at place.name.now place.line (codes "read fault") []
 line_of WriteFault = told (codes "write fault") []
 line_of OutOfMemory = told (codes "out of memory") []
-line_of (NeedsOthers name) = told name.now (codes " needs other programs")
+line_of NeedsOthers = []

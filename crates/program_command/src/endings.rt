@@ -44,8 +44,8 @@ pub enum Ending<'a> {
     WriteFault,
     /// There was not enough memory.
     OutOfMemory,
-    /// The texts, of which the first has this name, ask for other programs. Nothing was printed.
-    NeedsOthers(&'a str),
+    /// The texts ask for other programs. Nothing was printed.
+    NeedsOthers,
 }
 
 /// The status of an ending.
@@ -59,7 +59,7 @@ fn status(ending: Ending<'_>) -> u8
         Ending::CannotOpen(_) | Ending::NoMacros(_) | Ending::ReadFault(_) => 3,
         Ending::WriteFault => 4,
         Ending::OutOfMemory => 5,
-        Ending::NeedsOthers(_) => 6,
+        Ending::NeedsOthers => 6,
     }
 }
 
@@ -141,7 +141,7 @@ fn put_path<E: Sink>(folder: &str, name: &str, errors: &mut E)
 }
 
 /// Reports how the program ended, as far as `errors` takes the line, and gives the status. Nothing is reported where all
-/// went out.
+/// went out, and where a text asks for other programs, which the status alone says.
 pub(crate) fn tell<E: Sink>(ending: Ending<'_>, errors: &mut E) -> u8
     ensures status { result ≡ status_of ending.entry }
     ensures told { Tells (E.held errors.old) (E.held errors.new) (E.failures errors.old)
@@ -157,7 +157,7 @@ fn put_ending<E: Sink>(ending: Ending<'_>, errors: &mut E)
         (line_of ending.entry) }
 {
     match ending {
-        Ending::Done => {}
+        Ending::Done | Ending::NeedsOthers => {}
         Ending::Limit(place, which) => {
             put_placed(place, limit_text(which), " limit passed", errors)
         }
@@ -171,6 +171,5 @@ fn put_ending<E: Sink>(ending: Ending<'_>, errors: &mut E)
         Ending::ReadFault(place) => put_placed(place, "read fault", "", errors),
         Ending::WriteFault => put_line("write fault", "", errors),
         Ending::OutOfMemory => put_line("out of memory", "", errors),
-        Ending::NeedsOthers(name) => put_line(name, " needs other programs", errors),
     }
 }

@@ -91,13 +91,13 @@ fn escapes(faces: Faces, shows: bool) -> bool {
     }
 }
 
-/// What the formatter is given.
-pub(crate) fn options_of(job: &Job<'_>, select: Select) -> Options {
+/// What the formatter is given. Bold shows where it is asked for, and between escape sequences.
+pub(crate) fn options_of(job: &Job<'_>, plan: &Plan, select: Select) -> Options {
     Options {
         first: job.plain.first.min(LAST_PAGE) as i64,
         registers: ArrayVec::new(),
         select,
-        faces: if job.plain.shows_bold {
+        faces: if job.plain.shows_bold || plan.escapes {
             Looks::All
         } else {
             Looks::Letters

@@ -92,11 +92,10 @@ fn run_all<'a, T: Source + Drop, W: Sink>(
 ) -> Result<Ending<'a>, AllocError>
     ensures { IfOk result IsOfRun }
 {
-    let name = first_name(job);
     let mut room = vec![in around.alloc; 0u8; LOOKED_AT]?;
     let front = hold(UnderCoding::over(chain(pages)), &mut room);
     if job.plain.is_alone && asks_for_others(front.first()) {
-        return Ok(Ending::NeedsOthers(name));
+        return Ok(Ending::NeedsOthers);
     }
     run_front(job, select, around, macros, front, output)
 }
@@ -121,7 +120,7 @@ fn run_front<'a, T: Source + Drop, R: Source + Drop, W: Sink>(
     let plan = plan_of(job, kind, around, front.first())?;
     let mut rooms = rooms_of(job, &plan, around.alloc)?;
     let mut desk = Desk::new(&mut CountedAlloc::new(around.alloc), job.limits)?;
-    let options = options_of(job, select);
+    let options = options_of(job, &plan, select);
     let setup = Setup {
         macros: &before,
         stages: plan.stages,

@@ -193,7 +193,7 @@ static REPORTED: [Row; 10] = [
         input: b".pl 1\na\n.so man1/b.1\n",
         output: b"",
         status: 6,
-        line: b"nulbiko: - needs other programs\n",
+        line: b"",
     },
     Row {
         words: &[b"nulbiko", b"-K"],

@@ -30,6 +30,3 @@ returns-in-WriteFault g c = Tells-at _ _ _ _ _ _ c.in-WriteFault.is c.put_line-i
 
 pub returns-in-OutOfMemory : goal.returns-in-OutOfMemory
 returns-in-OutOfMemory g c = Tells-at _ _ _ _ _ _ c.in-OutOfMemory.is c.put_line-in-OutOfMemory.ensures
-
-pub returns-in-NeedsOthers : goal.returns-in-NeedsOthers
-returns-in-NeedsOthers g c = Tells-at _ _ _ _ _ _ c.in-NeedsOthers.is c.put_line-in-NeedsOthers.ensures
