@@ -1,6 +1,7 @@
 # Reads a page, and prints it with the pages in it that its lines `.so` name, 64 and 64 MiB at most. These lie in the
 # folder of the page, NULBIKO_FOLDER, or, where that is man1, man3 or the like, in the folder above it; where there is no
-# folder, none is read. Only the first 64 KiB of each page are looked at.
+# folder, none is read. Only the first 64 KiB of each page are looked at. What `fold` cut is joined again: a line of 65521
+# bytes goes on in the next.
 #
 # What is wrong is told on standard error, by `clean` of say.awk. It ends with 2 where a page isn't there, and with 1 where
 # the page has equations or pictures that it doesn't define itself.
@@ -28,7 +29,7 @@ function is_there(path,   line, read) {
 function join_place(place,   end) {
     if (place in open || is_there(place)) return join(place, 0)
     if (place ~ /^.*\/man[^\/]*\/[A-Za-z0-9_.+:@%,=-]*$/ || name ~ /^[A-Za-z0-9_.+:@%,=\/-]*$/)
-        for (end in unpack) if (is_there(place end)) return join(unpack[end] " <" quoted(place end), 1)
+        for (end in unpack) if (is_there(place end)) return join(unpack[end] " <" quoted(place end) " | fold -b -w 65521", 1)
     return 0
 }
 
@@ -53,13 +54,20 @@ function join(source, is_command,   line, seen) {
     }
     close(source)
     delete open[source]
+    if (is_cut) put("")
     return 1
+}
+
+# Prints a line, or the next part of one.
+function put(line) {
+    is_cut = length(line) == 65521
+    printf "%s%s", line, is_cut ? "" : "\n"
 }
 
 # Prints a line of a page, of which so much was seen, and gives what is seen then.
 function pass(line, seen,   word) {
-    if (seen > 65536 || line !~ /^[.\047]/) {
-        print line
+    if (is_cut || seen > 65536 || line !~ /^[.\047]/) {
+        put(line)
         return seen + length(line) + 1
     }
     word = substr(line, 2)
@@ -69,7 +77,7 @@ function pass(line, seen,   word) {
         sub(/[ \t].*/, "", word)
         join_named(word)
     } else {
-        print line
+        put(line)
         if (word ~ /^de1?[ \t]+EQ/) own["EQ"]
         if (word ~ /^de1?[ \t]+PS/) own["PS"]
         if (word ~ /^EQ([ \t]|$)/ && !("EQ" in own)) equations = 1
@@ -94,6 +102,7 @@ BEGIN {
 { seen = pass($0, seen) }
 
 END {
+    if (is_cut) put("")
     if (equations) tell(1, "has equations (eqn), which are shown as they are written")
     if (pictures) tell(1, "has pictures (pic), which are shown as they are written")
     exit status

@@ -4,7 +4,7 @@
 #   faces    none: as plain text; on: with escape sequences; off: as they come
 #   option   a word: only the paragraphs of that option, each below its heading
 #   list     1: only the options, each as it stands before its paragraph
-#   links    1: addresses, and the pages below SEE ALSO, are links of the terminal (OSC 8)
+#   links    1: addresses, and pages that are named in bold, underlined or below SEE ALSO, are links of the terminal (OSC 8)
 #   tag      a word: the rows that it leads to, as tags of GNU Global: of headings, of options, with their dashes or
 #            without, and of other words before a paragraph of their own
 #
@@ -99,20 +99,40 @@ function has_tag(at,   n, i, words) {
 
 # Looks for what stands first in a text of all that is a link.
 function look_for(text, what, named) {
-    if (!match(text, what) || from && RSTART >= from) return
-    from = RSTART
-    bytes = RLENGTH
+    if (match(text, what)) note(RSTART, RLENGTH, named)
+}
+
+# Notes what stands at a place of a text, if nothing was found before it.
+function note(at, length_of, named) {
+    if (from && at >= from) return
+    from = at
+    bytes = length_of
     kind = named
 }
 
-# A row whose addresses, and the pages that it names below SEE ALSO, are links.
+# The same of a page's name with its section, which is bold or underlined, or stands below SEE ALSO.
+function look_for_page(row, text,   past, at) {
+    while (match(substr(text, past + 1), "[A-Za-z0-9_.:+-]+\\([1-9][a-z]*\\)")) {
+        at = past + RSTART
+        past += RSTART + RLENGTH - 1
+        if (below == "SEE ALSO" || is_struck(row, at)) return note(at, past - at + 1, "man:")
+    }
+}
+
+# Whether the character at a place of a row's text is struck over.
+function is_struck(row, at) {
+    at = end_of(row, at - 1) + 1
+    return substr(row, at + size(row, at), 1) == "\010"
+}
+
+# A row whose addresses, and the pages that it names, are links.
 function linked(row,   text, out, end) {
     for (;;) {
         text = text_of(row)
         from = 0
         look_for(text, "https?://[^][ <>\"()]*[^][ <>\"().,;:]", "")
         look_for(text, "[A-Za-z0-9_.+-]+@[A-Za-z0-9-]+\\.[A-Za-z0-9.-]*[A-Za-z0-9]", "mailto:")
-        if (below == "SEE ALSO") look_for(text, "[A-Za-z0-9_.:+-]+\\([1-9][a-z]*\\)", "man:")
+        look_for_page(row, text)
         if (!from) return out shown(row)
         end = end_of(row, from - 1)
         out = out shown(substr(row, 1, end)) "\033]8;;" kind substr(text, from, bytes) "\007"
