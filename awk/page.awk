@@ -8,7 +8,7 @@
 #   tag      a word: the rows that it leads to, as tags of GNU Global: of headings, of options, with their dashes or
 #            without, and of other words before a paragraph of their own
 #
-# It ends with 9 where no option was found. A row that has bold words at its beginning goes before one that hasn't.
+# It ends with 9 where no option was found. Where half of the rows of a section begin in bold the others don't count.
 
 # How many bytes the character at a place of a row has.
 function size(row, at,   first) {
@@ -72,21 +72,44 @@ function is_bold(at,   from, bytes) {
     return substr(row[at], from + bytes, bytes + 1) == "\010" substr(row[at], from, bytes)
 }
 
-# A row that stands above deeper ones or before a gap, or above such a row.
+# A row that stands above deeper ones or before a gap, or above such a row. A line that is spread has gaps, too; what goes
+# on after it is as deep.
 function is_tag(at,   deep) {
     deep = depth(text[at])
     if (deep < 1) return 0
-    if (head(text[at]) != substr(text[at], deep + 1)) return 1
+    if (head(text[at]) != substr(text[at], deep + 1))
+        return depth(text[at + 1]) != deep || is_option(at + 1) || is_bold(at + 1)
     if (depth(text[at + 1]) == deep) return is_option(at) && is_option(at + 1) && is_tag(at + 1)
     return depth(text[at + 1]) > deep
 }
 
-function is_option(at) { return text[at] ~ /^ *[-+]/ }
+function is_option(at) { return text[at] ~ /^ *[-+]+[^-+ ]/ }
 
-# Whether a word is one of those before a paragraph: the first, or an option.
-function has_option(at, word,   n, i, words) {
-    n = split(head(text[at]), words, /[][ ,|=<>()]+/)
-    for (i = 1; i <= n; i++) if (words[i] == word && (i == 1 || word ~ /^[-+]/)) return 1
+# A row without what is struck over, and with a byte 1 where bold or underlined characters begin or end.
+function cut_text(row,   at, next_at, over, one, look, before, out) {
+    for (at = 1; at <= length(row); at = next_at) {
+        next_at = at + size(row, at)
+        over = ""
+        if (substr(row, next_at, 1) == "\010") {
+            over = substr(row, at, next_at - at)
+            at = next_at + 1
+            next_at = at + size(row, at)
+        }
+        one = substr(row, at, next_at - at)
+        look = over == "" ? 0 : over == one ? 1 : 4
+        out = out (look == before ? "" : "\001") one
+        before = look
+    }
+    return out
+}
+
+# Whether a word is one of those before a paragraph: the first, or an option among options.
+function has_option(at, word,   cut, n, i, words) {
+    if (!index(text[at], word)) return 0
+    cut = head(cut_text(row[at]))
+    sub(/^\001/, "", cut)
+    n = split(cut, words, /[][ ,|=<>()\001]+/)
+    for (i = 1; i <= n; i++) if (words[i] == word && (i == 1 || word ~ /^[-+]/ && is_option(at))) return 1
     return 0
 }
 
@@ -179,13 +202,14 @@ links {
 END {
     if (links) exit
     for (at = 1; at <= NR; at++)
-        if (tag != "" ? has_tag(at) : is_tag(at) && (list ? is_option(at) : has_option(at, option))) {
+        if (text[at] ~ /^[^ ]/ && tag == "") section = at
+        else if (tag != "" ? has_tag(at) : is_tag(at) && (list ? is_option(at) : has_option(at, option))) {
             found[at]
-            if (is_bold(at)) bold++
+            bold[section] += is_bold(at) ? 1 : -1
         }
     for (at = 1; at <= NR; at++) {
-        if (text[at] ~ /^[^ ]/) heading = row[at]
-        if (!(at in found) || bold && !is_bold(at)) continue
+        if (text[at] ~ /^[^ ]/ && tag == "") heading = row[section = at]
+        if (!(at in found) || bold[section] >= 0 && !is_bold(at)) continue
         if (tag != "") print tag, at, "-", text[at]
         else if (list) {
             put_heading()
