@@ -1,2 +1,4 @@
 pub mod Carried
+pub mod Fronts
+pub mod Reached
 pub mod Whole

@@ -1,8 +1,9 @@
 -- What a page is to print: the composition of the stages' definitions.
-use Rattle.std.specs.Prelude.{◌≡◌, ℕ, suc, List, ◌++◌, Option, Bool, true, false}
+use Rattle.std.specs.Prelude.{◌≡◌, ◌≤◌, ℕ, suc, ◌+◌, ◌*◌, List, ◌++◌, Option, Bool, true, false, if◌then◌else◌}
 use Rattle.std.specs.Io.KnownBytes.{Appends}
+use Rattle.nr_units.specs.Failures.{next_count}
 use Rattle.nr_units.specs.Sink.{AppendsFront}
-use Rattle.nr_units.specs.Source.{Supply}
+use Rattle.nr_units.specs.Source.{Never, Supply}
 use Rattle.utf8_characters.specs.declared.table.Table.{Table}
 use Rattle.tbl_setting.specs.Running.{Bounds, set_page}
 use Rattle.tbl_reader.specs.declared.running.Outcome as tbl
@@ -11,11 +12,11 @@ use Rattle.nr_options.specs.Limits as limits
 use Rattle.nr_options.specs.declared.options.Options.{Options}
 use Rattle.nr_machine.specs.Machine.{state_after}
 use Rattle.nr_machine.specs.Printing.{text}
-use Rattle.nr_machine.specs.Run.{Ends}
+use Rattle.nr_machine.specs.Run.{Ends, Runs, moves_a_byte}
 use Rattle.nr_machine.specs.State.{State, start}
 use Rattle.nr_machine.specs.declared.outcome.Outcome as machine
 use Rattle.nr_machine.specs.declared.outcome.Outcome.TheVariants as machines
-use Rattle.document_stages.specs.Pulling.{broken_off, whole}
+use Rattle.document_stages.specs.Pulling.{broken_off}
 use Rattle.document_printing.specs.declared.setup.Outcome.{Outcome}
 use Rattle.document_printing.specs.declared.setup.Outcome.TheVariants as outcomes
 use Rattle.document_printing.specs.declared.setup.Setup.{Setup}
@@ -40,9 +41,12 @@ pub record Setting : Type 0 where
   pub limits : limits.Bounds
   pub options : Options
 
--- what the machine reads of a page
-abbrev pub source_of : Setting → List ℕ → Supply
-source_of s page = whole (s.macros ++ tables_of s.sets s.tables (plain_of s.stages s.characters page))
+-- what the machine reads of a page: it fails where the page does, but for a page whose tables are set, which is read before
+abbrev pub source_of : Setting → Supply → Supply
+source_of s page = record {
+  bytes = s.macros ++ tables_of s.sets s.tables (plain_of s.stages s.characters page.bytes);
+  faults = if s.sets then Never else page.faults;
+}
 
 -- the same of a page that breaks off after these bytes, where no tables are set: but for what is half read
 abbrev pub source_so_far : Setting → List ℕ → Supply
@@ -58,20 +62,35 @@ pages_of s source n = text (state_of s source n).pages
 
 -- ---- what goes out
 
--- the machine ends so after so many moves, and what it printed until then went out
+-- The machine makes so many moves, as many as are allowed and as the bytes that it took allow at most, and ends so.
+pub record Ran (s : Setting) (source : Supply) (n : ℕ) (ended : machine.Outcome) : Type 0 where
+  pub runs : Runs n (start s.limits s.options source)
+  pub allowed : n ≤ s.limits.moves
+  pub ends : Ends s.limits.moves n (state_of s source n) ended
+  pub bound : n ≤ moves_a_byte s.limits * ((state_of s source n).coming.taken + 1)
+
+-- and what it printed until then went out
 pub record GoesOut (s : Setting) (source : Supply) (n : ℕ) (ended : machine.Outcome) (held new : Option (List ℕ))
     : Type 0 where
-  pub ends : Ends s.limits.moves n (state_of s source n) ended
+  pub ran : Ran s source n ended
   pub out : Appends held new (pages_of s source n)
 
--- HOW A DOCUMENT ENDS. Where the output fails, a prefix of the pages that stand after one move more went out.
+-- HOW A DOCUMENT ENDS. Where the output fails, a prefix of the pages that stand after one move more went out; where the page
+-- breaks off and no tables are set, the pages until then did.
 abbrev pub Prints : Setting → Supply → ℕ → Outcome → Option (List ℕ) → Option (List ℕ) → Type 0
 Prints s source n outcomes.Done held new = GoesOut s source n machines.Done held new
 Prints s source n (outcomes.Limit which at) held new = GoesOut s source n (machines.Limit which at) held new
 Prints s source n outcomes.NoRoom held new = (s.sets ≡ true) × (new ≡ held)
-Prints s source n outcomes.ReadFault held new = Unit {0}
-Prints s source n outcomes.TooLong held new = Unit {0}
+Prints s source n outcomes.ReadFault held new = s.sets ≡ false → Appends held new (pages_of s source n)
+Prints s source n outcomes.TooLong held new = s.sets ≡ false → Appends held new (pages_of s source n)
 Prints s source n outcomes.WriteFault held new = AppendsFront held new (pages_of s source (suc n))
+
+-- One put failed where that is told, and none where all went out, by the counts of those that did.
+abbrev pub TellsWrites : Outcome → ℕ → ℕ → Type 0
+TellsWrites outcomes.WriteFault before after = after ≡ next_count before
+TellsWrites outcomes.ReadFault before after = Unit {0}
+TellsWrites outcomes.TooLong before after = Unit {0}
+TellsWrites outcome before after = after ≡ before
 
 -- ---- what the program holds of this
 

@@ -1,1 +1,3 @@
 pub mod Document
+pub mod Laws
+pub mod Showing

@@ -1,18 +1,25 @@
 //! A whole page in one program: what the formatter reads of it is formatted after macros.
 //!
-//! It stands on document_reader, document_stages, mdoc_converter, tbl_setting, tbl_reader, nr_engine, nr_machine, nr_options, utf8_characters, nr_vectors
-//! and nr_units. To read: `setup`, `rooms`, `front`; `pulling`, `setting`, `printing`.
+//! It stands on document_reader, document_stages, mdoc_converter, tbl_setting, tbl_reader, nr_engine, nr_machine, nr_options, utf8_converter, utf8_characters,
+//! nr_vectors and nr_units. To read: `setup`, `rooms`, `front`; `pulling`, `setting`, `printing`; `showing`, `laws`.
+//!
+//! Proved: A write fault is reported where a put failed, and none failed where all went out. (`write_faults` of
+//! `print` and `print_shown`)
 #![tactic(auto)]
 
 mod front;
+mod laws;
 mod printing;
 mod pulling;
 mod rooms;
 mod setting;
 mod setup;
+mod showing;
 
 pub use document_reader::Stages;
 pub use front::{Front, has_tables, hold};
+pub use laws::{lines_stay, reaches_terminal};
 pub use printing::print;
 pub use rooms::Rooms;
 pub use setup::{Outcome, PageLimits, Report, Setup};
+pub use showing::{Showing, Spelling, print_shown};

@@ -1,10 +1,10 @@
 //! A page is printed.
 ghost use Rattle.std.specs.Prelude.{◌≡◌, ◌≤◌, ℕ, Some, false, length, take, true};
-ghost use Rattle.nr_units.specs.Source.{After, Never, Supply};
+ghost use Rattle.nr_units.specs.Source.{After, Supply};
 ghost use Rattle.tbl_setting.specs.Running.{Bounds};
-ghost use Rattle.document_reader.specs.Page.{IsShort, man_of, man_so_far};
+ghost use Rattle.document_reader.specs.Page.{IsShort, breaks_off, man_of, man_so_far};
 ghost use Rattle.document_printing.specs.Document as specs;
-ghost use Rattle.document_printing.specs.Document.{Prints, setting_of, source_of, source_so_far};
+ghost use Rattle.document_printing.specs.Document.{Prints, TellsWrites, setting_of, source_of, source_so_far};
 ghost use Rattle.document_printing.specs.declared.setup.Outcome.TheVariants as outcomes;
 
 use super::pulling::{Pulled, pull};
@@ -83,11 +83,12 @@ fn run_set<R: Source + Drop, W: Sink>(
     output: &mut W,
 ) -> Report
     requires { setup.now.tables ≡ true }
-    ensures { (q : Supply) → R.supply input ≡ Some q → q.faults ≡ Never →
+    ensures whole { (q : Supply) → R.supply input ≡ Some q → breaks_off q.faults ≡ false →
         IsShort q.bytes (man_of setup.now.stages.mdoc q.bytes) →
         Prints (setting_of setup.now rooms.old.tables desk.old)
-        (source_of (setting_of setup.now rooms.old.tables desk.old) q.bytes)
+        (source_of (setting_of setup.now rooms.old.tables desk.old) q)
         result.moves result.outcome (W.held output.old) (W.held output.new) }
+    ensures write_faults { TellsWrites result.outcome (W.failures output.old).puts (W.failures output.new).puts }
 {
     let mut first = [0; LEAST_ROOM];
     let mut second = [0; LEAST_ROOM];
@@ -119,16 +120,17 @@ fn run_pull<R: Source + Drop, W: Sink>(
     output: &mut W,
 ) -> Report
     requires { setup.now.tables ≡ false }
-    ensures whole { (t : Bounds) → (q : Supply) → R.supply input ≡ Some q → q.faults ≡ Never →
+    ensures whole { (t : Bounds) → (q : Supply) → R.supply input ≡ Some q → breaks_off q.faults ≡ false →
         IsShort q.bytes (man_of setup.now.stages.mdoc q.bytes) →
         Prints (setting_of setup.now t desk.old)
-        (source_of (setting_of setup.now t desk.old) q.bytes)
+        (source_of (setting_of setup.now t desk.old) q)
         result.moves result.outcome (W.held output.old) (W.held output.new) }
     ensures cut { (t : Bounds) → (q : Supply) → (n : ℕ) → R.supply input ≡ Some q → q.faults ≡ After n → n ≤ length q.bytes →
         IsShort q.bytes (man_so_far setup.now.stages.mdoc (take n q.bytes)) →
         Prints (setting_of setup.now t desk.old)
         (source_so_far (setting_of setup.now t desk.old) (take n q.bytes))
         result.moves result.outcome (W.held output.old) (W.held output.new) }
+    ensures write_faults { TellsWrites result.outcome (W.failures output.old).puts (W.failures output.new).puts }
 {
     let mut first = [0; LEAST_ROOM];
     let mut second = [0; LEAST_ROOM];
@@ -166,10 +168,10 @@ pub fn print<R: Source + Drop, W: Sink>(
 ) -> Report
     // What goes out is the document: the pages of the machine over macros and what the stages make of the page, all of them
     // where it is done, and else those until then.
-    ensures whole { (q : Supply) → R.supply input ≡ Some q → q.faults ≡ Never →
+    ensures whole { (q : Supply) → R.supply input ≡ Some q → breaks_off q.faults ≡ false →
         IsShort q.bytes (man_of setup.now.stages.mdoc q.bytes) →
         Prints (setting_of setup.now rooms.old.tables desk.old)
-        (source_of (setting_of setup.now rooms.old.tables desk.old) q.bytes)
+        (source_of (setting_of setup.now rooms.old.tables desk.old) q)
         result.moves result.outcome (W.held output.old) (W.held output.new) }
     // Of a page that breaks off after so many bytes, where no tables are set, it is what the stages make of these.
     ensures cut { (q : Supply) → (n : ℕ) → R.supply input ≡ Some q → q.faults ≡ After n → n ≤ length q.bytes →
@@ -177,6 +179,8 @@ pub fn print<R: Source + Drop, W: Sink>(
         Prints (setting_of setup.now rooms.old.tables desk.old)
         (source_so_far (setting_of setup.now rooms.old.tables desk.old) (take n q.bytes))
         result.moves result.outcome (W.held output.old) (W.held output.new) }
+    // A write fault is told where a put failed, and nowhere else.
+    ensures write_faults { TellsWrites result.outcome (W.failures output.old).puts (W.failures output.new).puts }
 {
     if setup.tables {
         run_set(input, setup, rooms, complaints, desk, output)

@@ -1,10 +1,11 @@
 //! A page is formatted as it comes.
-ghost use Rattle.std.specs.Prelude.{◌≡◌, ◌≤◌, ◌++◌, ℕ, Some, length, take};
-ghost use Rattle.nr_units.specs.Source.{After, Never, Supply};
-ghost use Rattle.nr_machine.specs.Run.{Answers};
+ghost use Rattle.std.specs.Prelude.{◌≡◌, ◌≤◌, ◌++◌, ℕ, Some, false, length, take};
+ghost use Rattle.nr_units.specs.Failures.{put_counted_if};
+ghost use Rattle.nr_units.specs.Source.{After, Supply};
+ghost use Rattle.nr_machine.specs.Run.{Answers, is_write_fault};
 ghost use Rattle.nr_machine.specs.State.{start};
-ghost use Rattle.document_stages.specs.Pulling.{broken_off, whole};
-ghost use Rattle.document_reader.specs.Page.{IsShort, man_of, man_so_far, plain_of, plain_so_far};
+ghost use Rattle.document_stages.specs.Pulling.{broken_off};
+ghost use Rattle.document_reader.specs.Page.{IsShort, breaks_off, man_of, man_so_far, plain_of, plain_so_far};
 
 use super::setup::Setup;
 use document_reader::{Waits, read_page};
@@ -33,10 +34,12 @@ pub(crate) fn pull<R: Source + Drop, W: Sink>(
     requires second { 73984 ≤ length waits.second.now }
     requires blocks { 64 ≤ length waits.blocks.now }
     // What is formatted is the composition of the stages.
-    ensures whole { (q : Supply) → R.supply input ≡ Some q → q.faults ≡ Never →
+    ensures whole { (q : Supply) → R.supply input ≡ Some q → breaks_off q.faults ≡ false →
         IsShort q.bytes (man_of setup.now.stages.mdoc q.bytes) →
-        Answers desk.old (start desk.old setup.now.options.now
-        (whole (setup.now.macros.now ++ plain_of setup.now.stages setup.now.characters q.bytes)))
+        Answers desk.old (start desk.old setup.now.options.now (record {
+          bytes = setup.now.macros.now ++ plain_of setup.now.stages setup.now.characters q.bytes;
+          faults = q.faults;
+        }))
         result.moves result.outcome (W.held output.old) (W.held output.new) }
     // Where the source fails after so many bytes, it is that of these, but for what is half read.
     ensures cut { (q : Supply) → (n : ℕ) → R.supply input ≡ Some q → q.faults ≡ After n → n ≤ length q.bytes →
@@ -44,6 +47,7 @@ pub(crate) fn pull<R: Source + Drop, W: Sink>(
         Answers desk.old (start desk.old setup.now.options.now
         (broken_off (setup.now.macros.now ++ plain_so_far setup.now.stages setup.now.characters (take n q.bytes))))
         result.moves result.outcome (W.held output.old) (W.held output.new) }
+    ensures write_faults { W.failures output.new ≡ put_counted_if (is_write_fault result.outcome) (W.failures output.old) }
 {
     let page = read_page(input, setup.stages, setup.characters, waits);
     let mut all = Joined::over(setup.macros, page);

@@ -1,7 +1,8 @@
 //! A page whose tables are set is whole before it is formatted.
 ghost use Rattle.std.specs.Prelude.{◌≡◌, ◌++◌, Some};
+ghost use Rattle.nr_units.specs.Failures.{put_counted_if};
 ghost use Rattle.nr_units.specs.Source.{Supply};
-ghost use Rattle.nr_machine.specs.Run.{Answers};
+ghost use Rattle.nr_machine.specs.Run.{Answers, is_write_fault};
 ghost use Rattle.nr_machine.specs.State.{start};
 ghost use Rattle.document_stages.specs.Pulling.{whole};
 ghost use Rattle.tbl_setting.specs.Running.{set_page};
@@ -39,8 +40,9 @@ pub(crate) fn format_text<W: Sink>(
     desk: &mut Desk,
     output: &mut W,
 ) -> Pulled
-    ensures { Answers desk.old (start desk.old setup.now.options.now (whole (setup.now.macros.now ++ text.now)))
+    ensures answers { Answers desk.old (start desk.old setup.now.options.now (whole (setup.now.macros.now ++ text.now)))
         result.moves result.outcome (W.held output.old) (W.held output.new) }
+    ensures write_faults { W.failures output.new ≡ put_counted_if (is_write_fault result.outcome) (W.failures output.old) }
 {
     let rest = Text::over(text);
     let mut all = Joined::over(setup.macros, rest);

@@ -16,6 +16,7 @@ pub struct PageLimits {
 }
 
 /// How a page is set.
+#[derive(Clone, Copy)]
 pub struct Setup<'a> {
     /// What is read before it: macro files.
     pub macros: &'a [u8],

@@ -2,7 +2,7 @@
 use Rattle.std.proofs.Common.{◌≡◌, ℕ, ◌+◌, ◌<◌, ◌≤◌, List, [], length, take, Option, Some, Bool, true, false, nat_lt, nat_le, if◌then◌else◌, refl, ◌∙◌, ap, arith}
 use Rattle.std.proofs.lemmas.Grind.{common_steps}
 use Rattle.std.proofs.Math.Seq.{take-length}
-use Rattle.nr_units.specs.Source.{Faults, Never, After, Supply}
+use Rattle.nr_units.specs.Source.{Faults, Never, After, Anytime, Supply}
 use Rattle.utf8_characters.specs.declared.table.Table.{Table}
 use Rattle.mdoc_converter.specs.Reading as mdoc
 use Rattle.mdoc_converter.specs.Staged as mdoc_part
@@ -11,7 +11,7 @@ use Rattle.preconv_converter.specs.Staged as preconv_part
 use Rattle.document_stages.specs.Pulling.{all_of, broken_off, fits_always, pulled, pulled_from, whole}
 use Rattle.document_stages.specs.Switch.{fits_if, says_if, wants_if}
 use Rattle.document_reader.specs.declared.page.Stages.{Stages}
-use Rattle.document_reader.specs.Page.{IsShort, characters_of, characters_so_far, man_of, man_so_far, plain_of, plain_so_far}
+use Rattle.document_reader.specs.Page.{IsShort, breaks_off, characters_of, characters_so_far, man_of, man_so_far, plain_so_far, plain_supply}
 
 short : (n : ℕ) → n < 1099511627776 → nat_lt (0 + n) 1099511627776 ≡ true
 short n h = grind (arith, common_steps)
@@ -23,6 +23,13 @@ whole-pulled : (bytes : List ℕ) (says : Bool → List ℕ → List ℕ) (fits 
 whole-pulled bytes says fits h fitted =
     ap (λ (b : Bool). Some (pulled_from b false (whole bytes) says fits [])) (short (length bytes) h)
     ∙ ap (λ (b : Bool). Some (all_of b (says true bytes))) fitted
+
+-- so it is where each call may fail
+kept-pulled : (bytes : List ℕ) (f : Faults) (says : Bool → List ℕ → List ℕ) (fits : List ℕ → Bool) → breaks_off f ≡ false → length bytes < 1099511627776 → fits bytes ≡ true
+    → pulled (Some (record { bytes = bytes; faults = f })) true says fits [] 0 false ≡ Some (record { bytes = says true bytes; faults = f })
+kept-pulled bytes Never says fits whole h fitted = whole-pulled bytes says fits h fitted
+kept-pulled bytes (After n) says fits whole h fitted = absurd (let never : true ≡ false = whole in cc)
+kept-pulled bytes Anytime says fits whole h fitted = refl
 
 not-below : (n m : ℕ) → m ≤ n → nat_lt n m ≡ false
 not-below n m l = grind (arith, common_steps)
@@ -80,15 +87,14 @@ piped a stages table =
     pulled (pulled a true (says_if stages.mdoc (mdoc_part.said mdoc.first_state)) (fits_if stages.mdoc fits_always) [] 0 false) true
     (says_if stages.characters (preconv_part.said (preconv.first_reader table))) (fits_if stages.characters fits_always) [] 0 false
 
-pub piped-whole : (q : Supply) (stages : Stages) (table : Option Table) → q.faults ≡ Never → IsShort q.bytes (man_of stages.mdoc q.bytes)
-    → piped (Some q) stages table ≡ Some (whole (plain_of stages table q.bytes))
-piped-whole q stages table never h =
-    ap (λ (f : Faults). piped (Some (record { bytes = q.bytes; faults = f })) stages table) never
-    ∙ ap (λ (x : Option Supply). pulled x true (says_if stages.characters (preconv_part.said (preconv.first_reader table))) (fits_if stages.characters fits_always) [] 0 false)
-    (whole-pulled q.bytes (says_if stages.mdoc (mdoc_part.said mdoc.first_state)) (fits_if stages.mdoc fits_always) h.page_is (fits-if stages.mdoc q.bytes)
-    ∙ ap (λ (z : List ℕ). Some (whole z)) (man-whole stages.mdoc q.bytes))
-    ∙ whole-pulled (man_of stages.mdoc q.bytes) (says_if stages.characters (preconv_part.said (preconv.first_reader table))) (fits_if stages.characters fits_always) h.man_is (fits-if stages.characters (man_of stages.mdoc q.bytes))
-    ∙ ap (λ (z : List ℕ). Some (whole z)) (characters-whole stages.characters table (man_of stages.mdoc q.bytes))
+pub piped-whole : (q : Supply) (stages : Stages) (table : Option Table) → breaks_off q.faults ≡ false → IsShort q.bytes (man_of stages.mdoc q.bytes)
+    → piped (Some q) stages table ≡ Some (plain_supply stages table q)
+piped-whole q stages table kept h =
+    ap (λ (x : Option Supply). pulled x true (says_if stages.characters (preconv_part.said (preconv.first_reader table))) (fits_if stages.characters fits_always) [] 0 false)
+    (kept-pulled q.bytes q.faults (says_if stages.mdoc (mdoc_part.said mdoc.first_state)) (fits_if stages.mdoc fits_always) kept h.page_is (fits-if stages.mdoc q.bytes)
+    ∙ ap (λ (z : List ℕ). Some (record { bytes = z; faults = q.faults })) (man-whole stages.mdoc q.bytes))
+    ∙ kept-pulled (man_of stages.mdoc q.bytes) q.faults (says_if stages.characters (preconv_part.said (preconv.first_reader table))) (fits_if stages.characters fits_always) kept h.man_is (fits-if stages.characters (man_of stages.mdoc q.bytes))
+    ∙ ap (λ (z : List ℕ). Some (record { bytes = z; faults = q.faults })) (characters-whole stages.characters table (man_of stages.mdoc q.bytes))
 
 pub piped-cut : (q : Supply) (n : ℕ) (stages : Stages) (table : Option Table) → q.faults ≡ After n → n ≤ length q.bytes
     → IsShort q.bytes (man_so_far stages.mdoc (take n q.bytes))

@@ -1,5 +1,6 @@
 -- What the formatter is to read of a page: the composition of the stages' definitions.
 use Rattle.std.specs.Prelude.{ℕ, ◌<◌, List, length, Option, Bool, true, false}
+use Rattle.nr_units.specs.Source.{Faults, Never, After, Anytime, Supply}
 use Rattle.utf8_characters.specs.declared.table.Table.{Table}
 use Rattle.mdoc_converter.specs.Reading as mdoc
 use Rattle.mdoc_converter.specs.Staged as mdoc_part
@@ -18,6 +19,16 @@ characters_of false table page = page
 -- THE TEXT: characters (mdoc page)
 abbrev pub plain_of : Stages → Option Table → List ℕ → List ℕ
 plain_of stages table page = characters_of stages.characters table (man_of stages.mdoc page)
+
+-- a page breaks off: from some byte on each call fails
+abbrev pub breaks_off : Faults → Bool
+breaks_off Never = false
+breaks_off (After n) = true
+breaks_off Anytime = false
+
+-- the text of a page that doesn't, which fails where the page does
+abbrev pub plain_supply : Stages → Option Table → Supply → Supply
+plain_supply stages table q = record { bytes = plain_of stages table q.bytes; faults = q.faults }
 
 -- ---- of the first bytes of a page, where more are to come
 

@@ -1,8 +1,8 @@
 //! A page is read through the stages that stand before the formatter.
-ghost use Rattle.std.specs.Prelude.{◌≡◌, ◌≤◌, ℕ, Some, length, take};
-ghost use Rattle.nr_units.specs.Source.{After, Never, Supply};
-ghost use Rattle.document_stages.specs.Pulling.{broken_off, whole};
-ghost use Rattle.document_reader.specs.Page.{IsShort, man_of, man_so_far, plain_of, plain_so_far};
+ghost use Rattle.std.specs.Prelude.{◌≡◌, ◌≤◌, ℕ, Some, false, length, take};
+ghost use Rattle.nr_units.specs.Source.{After, Supply};
+ghost use Rattle.document_stages.specs.Pulling.{broken_off};
+ghost use Rattle.document_reader.specs.Page.{IsShort, breaks_off, man_of, man_so_far, plain_so_far, plain_supply};
 
 use document_stages::{Counted, Pull, Switch};
 use mdoc_converter::{Block, Turner as Mdoc};
@@ -38,8 +38,8 @@ pub type PageText<'a, R> = Pull<'a, Pull<'a, Counted<R>, Switch<Mdoc<'a>>>, Swit
 ///
 /// Proved: What the formatter reads of a page is what the stages make of it, one after the other: `characters (mdoc
 /// page)`, each word the definition of its crate, and each stage left out that is off. So it is however the bytes
-/// come, where the source never fails, and the page and what mdoc makes of it have less than 2^40 bytes. (`whole` of
-/// `read_page`)
+/// come, where the source never fails or may fail at any call, and the page and what mdoc makes of it have less than
+/// 2^40 bytes. (`whole` of `read_page`)
 /// Proved: Where the source fails after so many bytes, what the formatter reads is what the stages make of these, but
 /// for what is half read, and then each call fails. (`cut` of `read_page`)
 pub fn read_page<'a, R: Source + Drop>(
@@ -51,10 +51,10 @@ pub fn read_page<'a, R: Source + Drop>(
     requires first { 73984 ≤ length waits.first.now }
     requires second { 73984 ≤ length waits.second.now }
     requires blocks { 64 ≤ length waits.blocks.now }
-    // It gives what the stages make of the page, one after the other.
-    ensures whole { (q : Supply) → R.supply input ≡ Some q → q.faults ≡ Never →
+    // It gives what the stages make of the page, one after the other, and fails where the page does.
+    ensures whole { (q : Supply) → R.supply input ≡ Some q → breaks_off q.faults ≡ false →
         IsShort q.bytes (man_of stages.mdoc q.bytes) →
-        ⟦<PageText<'a, R> as Source>⟧.supply result ≡ Some (whole (plain_of stages characters q.bytes)) }
+        ⟦<PageText<'a, R> as Source>⟧.supply result ≡ Some (plain_supply stages characters q) }
     // Where the source fails after so many bytes, it gives what they make of these, but for what is half read, and fails.
     ensures cut { (q : Supply) → (n : ℕ) → R.supply input ≡ Some q → q.faults ≡ After n → n ≤ length q.bytes →
         IsShort q.bytes (man_so_far stages.mdoc (take n q.bytes)) →

@@ -4,7 +4,7 @@ use Rattle.std.proofs.lemmas.Bool.{eqb-true}
 use Rattle.std.proofs.lemmas.List.{nil_from_length}
 use Rattle.std.specs.Prelude.{⊤}
 use Rattle.std.specs.Char.{encode_utf8}
-use Rattle.nr_units.specs.Source.{Supply, Anytime, Gives, Offers, Skips}
+use Rattle.nr_units.specs.Source.{Faults, Never, After, Anytime, Supply, Gives, MayFail, MayGive, MayGiveAll, Offers, Skips, later, one_later}
 use Rattle.nr_units.specs.declared.source.Fault.{Fault}
 use Rattle.preconv_coding.specs.declared.part.Part.{Part}
 use Rattle.preconv_coding.specs.declared.part.Part.TheVariants.{Start, Mark, LongMark, Head, Plain, Unknown, Eight, Wide}
@@ -15,7 +15,7 @@ use Rattle.preconv_coding.specs.declared.wide.Units.{Units}
 use Rattle.preconv_coding.specs.declared.wide.Wide.{Wide as Wides}
 use Rattle.preconv_coding.specs.Wide.{replacement, character_of, is_high, is_low, pair_code, unit, first_wide, fresh, after_high, after_first}
 use Rattle.preconv_coding.specs.Part.{taken, is_marking, is_plain}
-use Rattle.preconv_coding.specs.UnderCoding.{text_from, supply_from, hand_of}
+use Rattle.preconv_coding.specs.UnderCoding.{text_from, text_faults, supply_from, hand_of}
 
 -- what was known is as it was
 abbrev pub Stays : Option Supply → Option Supply → Type 0
@@ -27,6 +27,33 @@ Stays-trans None b c p q = tt
 Stays-trans (Some x) None c p q = cc
 Stays-trans (Some x) (Some y) c p q = q ∙ p
 
+-- ---- when a call fails
+
+faults_later : (f : Faults) → text_faults (one_later f) ≡ text_faults f
+faults_later Never = refl
+faults_later (After n) = refl
+faults_later Anytime = refl
+
+faults_skipped : (f : Faults) (n : ℕ) → later n (text_faults f) ≡ text_faults (later n f)
+faults_skipped Never n = refl
+faults_skipped (After m) n = refl
+faults_skipped Anytime n = refl
+
+gives_all : (f : Faults) (n : ℕ) → MayGiveAll n (text_faults f)
+gives_all Never n = tt
+gives_all (After m) n = tt
+gives_all Anytime n = tt
+
+may_fail : (f : Faults) → MayFail f → MayFail (text_faults f)
+may_fail Never fails = fails
+may_fail (After n) fails = tt
+may_fail Anytime fails = tt
+
+may_give : (f : Faults) → MayGive (text_faults f)
+may_give Never = tt
+may_give (After n) = tt
+may_give Anytime = tt
+
 -- ---- one call
 
 -- a byte came
@@ -35,7 +62,8 @@ byte_came : (part : Part) (b : ℕ) (known new : Option Supply) → Gives {E = F
 byte_came part b None new gives = tt
 byte_came part b (Some q) None gives = absurd gives
 byte_came part b (Some q) (Some t) gives =
-    ap (λ (bytes : List ℕ). Some (record { bytes = text_from part bytes; faults = Anytime })) (sym gives.0)
+    ap (λ (faults : Faults). Some (record { bytes = text_from part (b ∷ t.bytes); faults = faults })) (ap text_faults gives.1 ∙ faults_later q.faults)
+    ∙ ap (λ (bytes : List ℕ). Some (record { bytes = text_from part bytes; faults = text_faults q.faults })) (sym gives.0)
 
 pub byte_stays : (a : Option Supply) (part : Part) (b : ℕ) (ready : List ℕ) (known new : Option Supply) → ready ≡ [] → Stays a (supply_from part ready known) → Gives {E = Fault} known (Ok (Some b)) new
     → Stays a (supply_from (taken b part).part (taken b part).text new)
@@ -65,13 +93,14 @@ as_it_is (Wide w) is bs = absurd (let no : false ≡ true = is in cc)
 
 pub plain_offers : (part : Part) → is_plain part ≡ true → (known : Option Supply) (bs : List ℕ) → Offers known bs → Offers (supply_from part [] known) bs
 plain_offers part is None bs offers = tt
-plain_offers part is (Some q) bs offers = (ap (take (length bs)) (as_it_is part is q.bytes) ∙ offers.0, tt)
+plain_offers part is (Some q) bs offers = (ap (take (length bs)) (as_it_is part is q.bytes) ∙ offers.0, gives_all q.faults (length bs))
 
 pub plain_skips : (part : Part) → is_plain part ≡ true → (known new : Option Supply) (n : ℕ) → Skips known n new → Skips (supply_from part [] known) n (supply_from part [] new)
 plain_skips part is None new n skips = tt
 plain_skips part is (Some q) new n skips =
     ap (supply_from part []) skips
-    ∙ ap (λ (bytes : List ℕ). Some (record { bytes = bytes; faults = Anytime })) (as_it_is part is (drop n q.bytes) ∙ ap (drop n) (sym (as_it_is part is q.bytes)))
+    ∙ ap (λ (bytes : List ℕ). Some (record { bytes = bytes; faults = text_faults (later n q.faults) })) (as_it_is part is (drop n q.bytes) ∙ ap (drop n) (sym (as_it_is part is q.bytes)))
+    ∙ ap (λ (faults : Faults). Some (record { bytes = drop n (text_from part q.bytes); faults = faults })) (sym (faults_skipped q.faults n))
 
 -- bytes are at hand only where nothing is ready, and they go out as they are
 hand_by : (x : Bool) (hand : List ℕ) → 0 < length (if x then hand else []) → x ≡ true

@@ -1,7 +1,7 @@
 -- The text of bytes, read as UTF-8.
 use Rattle.std.specs.Prelude.{ℕ, List, [], ◌∷◌, ◌++◌, if◌then◌else◌, Option, None, Some}
 use Rattle.std.specs.Option.{option_map}
-use Rattle.nr_units.specs.Source.{Supply, Anytime}
+use Rattle.nr_units.specs.Source.{Faults, Never, After, Anytime, Supply}
 use Rattle.preconv_coding.specs.declared.part.Part.{Part}
 use Rattle.preconv_coding.specs.declared.part.Part.TheVariants.{Start}
 use Rattle.preconv_coding.specs.declared.part.Part.TheVariants as parts
@@ -17,15 +17,20 @@ text_from part (b ∷ bs) = (taken b part).text ++ text_from (taken b part).part
 abbrev pub text_of : List ℕ → List ℕ
 text_of bs = text_from Start bs
 
--- it may fail at any call
+-- it fails at no call where its bytes come at each, and else it may at any
+abbrev pub text_faults : Faults → Faults
+text_faults Never = Never
+text_faults (After n) = Anytime
+text_faults Anytime = Anytime
+
 abbrev pub given : Part → List ℕ → Supply → Supply
-given part ready q = record { bytes = ready ++ text_from part q.bytes; faults = Anytime }
+given part ready q = record { bytes = ready ++ text_from part q.bytes; faults = text_faults q.faults }
 
 abbrev pub supply_from : Part → List ℕ → Option Supply → Option Supply
 supply_from part ready known = option_map (given part ready) known
 
 abbrev pub text_supply : Option Supply → Option Supply
-text_supply known = option_map (λ (q : Supply). record { bytes = text_of q.bytes; faults = Anytime }) known
+text_supply known = option_map (λ (q : Supply). record { bytes = text_of q.bytes; faults = text_faults q.faults }) known
 
 -- bytes that go out as they are may be taken many at once
 abbrev pub hand_of : Part → List ℕ → List ℕ → List ℕ

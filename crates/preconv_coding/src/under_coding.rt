@@ -16,8 +16,7 @@ pub struct Unknown {
 
 /// The text of a source in UTF-8. Where it begins with the mark of UTF-16 these are its characters, U+FFFD for what is none.
 /// Else they are its bytes, but for the mark of UTF-8; after the name of a set of eight bits in its first two lines, as
-/// `coding: koi8-r`, a byte is a character of the set. What it gives may fail at any call, where what is to come of the
-/// source is known.
+/// `coding: koi8-r`, a byte is a character of the set. It fails at no call where the source is known to fail at none.
 ///
 /// Proved: What a source gives under its coding is one function of the bytes that came, however they came: `text_of`,
 /// whose definition meets each byte with what is half read.

@@ -29,12 +29,21 @@ impl<W: Sink + Drop> Bare<W> {
         }
     }
 
-    /// The end comes, and the last byte goes out.
-    pub(crate) fn finish(&mut self) -> Result<(), Fault> {
-        if self.broken {
-            return Err(Fault);
+    /// The end comes, and the last byte goes out. Gives the sink back, and a fault where it failed.
+    pub(crate) fn finish(self) -> (W, Result<(), Fault>) {
+        let Bare {
+            mut output,
+            waiting,
+            broken,
+            flushed: _,
+            failed_puts: _,
+            failed_flushes: _,
+        } = self;
+        if broken {
+            return (output, Err(Fault));
         }
-        put_waiting(self.waiting, &mut self.output)
+        let end = put_waiting(waiting, &mut output);
+        (output, end)
     }
 }
 

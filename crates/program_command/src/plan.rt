@@ -2,7 +2,7 @@
 
 use crate::surroundings::Surroundings;
 use arrayvec::ArrayVec;
-use document_printing::{PageLimits, Rooms, Stages, has_tables};
+use document_printing::{PageLimits, Rooms, Spelling, Stages, has_tables};
 use document_stages::Text;
 use nr_engine::{Faces as Looks, Options};
 use nr_page::Select;
@@ -32,10 +32,8 @@ pub(crate) struct Plan {
     pub tables: bool,
     /// The table of its characters; none for ASCII.
     pub characters: Option<Table>,
-    /// Characters go out in UTF-8, and not as the bytes of their table.
-    pub spells: bool,
-    /// With these, what is underlined or bold stands between escape sequences.
-    pub escapes: bool,
+    /// How its bytes go out.
+    pub spelling: Spelling,
     /// What is underlined or bold is struck over.
     pub strikes: bool,
     /// Nothing is printed.
@@ -59,11 +57,18 @@ pub(crate) fn plan_of(
         },
         tables: front.len() == LOOKED_AT || has_tables(front),
         characters,
-        spells: device == Device::Utf8,
-        escapes: escapes(job.plain.faces, around.shows),
+        spelling: spelling_of(device, characters, escapes(job.plain.faces, around.shows)),
         strikes: job.plain.faces != Faces::None,
         checks: job.plain.checks,
     })
+}
+
+/// How bytes go out: in UTF-8, or as those of their table.
+fn spelling_of(device: Device, characters: Option<Table>, escapes: bool) -> Spelling {
+    match characters {
+        Some(table) if device == Device::Utf8 => Spelling::Utf8 { table, escapes },
+        _ => Spelling::Bytes,
+    }
 }
 
 /// The table of the characters of a text, by its first bytes: none where ASCII is printed.

@@ -1,13 +1,14 @@
-//! A page goes out: as bytes, as characters of its table, without what is struck over, or not at all.
+//! A page goes out: as a reader is shown it, without what is struck over, or not at all.
 ghost use Rattle.std.specs.Prelude.{◌≡◌, Some, false, true};
-ghost use Rattle.nr_units.specs.Source.{Never, Supply};
-ghost use Rattle.document_reader.specs.Page.{IsShort, man_of};
-ghost use Rattle.document_printing.specs.Document.{Prints, setting_of, source_of};
+ghost use Rattle.nr_units.specs.Source.{Supply};
+ghost use Rattle.document_reader.specs.Page.{IsShort, breaks_off, man_of};
+ghost use Rattle.document_printing.specs.Document.{setting_of, source_of};
+ghost use Rattle.document_printing.specs.Showing.{Shows};
 
 use crate::bare::Bare;
 use crate::nowhere::Nowhere;
 use crate::plan::Plan;
-use document_printing::{Outcome, Report, Rooms, Setup, print};
+use document_printing::{Outcome, Report, Rooms, Setup, Showing, Spelling, print, print_shown};
 use nr_engine::{Desk, Sink, Source};
 use nr_vectors::slice_vec::SliceVec;
 use tbl_setting::Complaint;
@@ -19,63 +20,72 @@ const ROOM: usize = 2_048;
 /// How many complaints are kept of tables.
 const MOST_COMPLAINTS: usize = 64;
 
-/// Prints a page by its plan. Nothing is flushed.
+/// Prints a page by its plan. Nothing is flushed. Gives the output back.
 ///
-/// Proved: Where no characters are spelled and nothing is left out, a page of a source that never fails is the
-/// document of document_printing, to each of its ends; where texts are only checked nothing is printed.
-pub(crate) fn print_page<R: Source + Drop, W: Sink>(
+/// Proved: Where what is struck over is printed, a reader gets the document of document_printing, in bytes, in UTF-8
+/// with backspaces or between escape sequences, and to each of its ends: of a page that may fail at any call, too.
+/// Where texts are only checked nothing is printed. (`print_page` in printing.rt)
+pub(crate) fn print_page<R: Source + Drop, W: Sink + Drop>(
     page: R,
-    setup: &Setup<'_>,
+    showing: &Showing<'_>,
     plan: &Plan,
     rooms: &mut Rooms,
     desk: &mut Desk,
-    output: &mut W,
-) -> Report
-    // Where characters go out as bytes, and with what is struck over, what goes out is the document.
-    ensures whole { plan.now.checks ≡ false → plan.now.spells ≡ false → plan.now.strikes ≡ true →
-        (q : Supply) → R.supply page ≡ Some q → q.faults ≡ Never →
-        IsShort q.bytes (man_of setup.now.stages.mdoc q.bytes) →
-        Prints (setting_of setup.now rooms.old.tables desk.old)
-        (source_of (setting_of setup.now rooms.old.tables desk.old) q.bytes)
-        result.moves result.outcome (W.held output.old) (W.held output.new) }
-    ensures checks { plan.now.checks ≡ true → output.new ≡ output.old }
+    output: W,
+) -> (W, Report)
+    // With what is struck over a reader gets the document.
+    ensures whole { plan.now.checks ≡ false → plan.now.strikes ≡ true →
+        (q : Supply) → R.supply page ≡ Some q → breaks_off q.faults ≡ false →
+        IsShort q.bytes (man_of showing.now.setup.stages.mdoc q.bytes) →
+        Shows (setting_of showing.now.setup rooms.old.tables desk.old) showing.now.spelling
+        (source_of (setting_of showing.now.setup rooms.old.tables desk.old) q)
+        result.1.moves result.1.outcome (W.held output) (W.held result.0) }
+    ensures checks { plan.now.checks ≡ true → result.0 ≡ output }
 {
     if plan.checks {
-        return print_bytes(page, setup, rooms, desk, &mut Nowhere::new());
+        let report = print_bytes(page, &showing.setup, rooms, desk, &mut Nowhere::new());
+        return (output, report);
     }
-    match plan.characters {
-        Some(table) if plan.spells => {
+    if !plan.strikes {
+        return print_bare(page, showing, rooms, desk, output);
+    }
+    let mut slots = [Complaint::NONE; MOST_COMPLAINTS];
+    let mut complaints = SliceVec::over(&mut slots);
+    print_shown(page, showing, rooms, &mut complaints, desk, output)
+}
+
+/// Prints a page without what is struck over.
+fn print_bare<R: Source + Drop, W: Sink + Drop>(
+    page: R,
+    showing: &Showing<'_>,
+    rooms: &mut Rooms,
+    desk: &mut Desk,
+    output: W,
+) -> (W, Report) {
+    match showing.spelling {
+        Spelling::Bytes => print_unstruck(page, &showing.setup, rooms, desk, output),
+        Spelling::Utf8 { table, escapes } => {
             let mut room = [0; ROOM];
-            let mut shown = Shown::over(output, table, plan.escapes, &mut room);
-            let report = print_faces(page, setup, plan.strikes, rooms, desk, &mut shown);
-            let (_output, strays) = shown.finish();
-            ended(report, strays.is_ok())
+            let shown = Shown::over(output, table, escapes, &mut room);
+            let (shown, report) = print_unstruck(page, &showing.setup, rooms, desk, shown);
+            let (output, strays) = shown.finish();
+            (output, ended(report, strays.is_ok()))
         }
-        _ => print_faces(page, setup, plan.strikes, rooms, desk, output),
     }
 }
 
-/// Prints a page with what is struck over, or without.
-fn print_faces<R: Source + Drop, W: Sink>(
+/// The same into an output that is given bytes.
+fn print_unstruck<R: Source + Drop, W: Sink + Drop>(
     page: R,
     setup: &Setup<'_>,
-    strikes: bool,
     rooms: &mut Rooms,
     desk: &mut Desk,
-    output: &mut W,
-) -> Report
-    ensures { strikes ≡ true → (q : Supply) → R.supply page ≡ Some q → q.faults ≡ Never →
-        IsShort q.bytes (man_of setup.now.stages.mdoc q.bytes) →
-        Prints (setting_of setup.now rooms.old.tables desk.old)
-        (source_of (setting_of setup.now rooms.old.tables desk.old) q.bytes)
-        result.moves result.outcome (W.held output.old) (W.held output.new) }
-{
-    if strikes {
-        return print_bytes(page, setup, rooms, desk, output);
-    }
+    output: W,
+) -> (W, Report) {
     let mut bare = Bare::over(output);
     let report = print_bytes(page, setup, rooms, desk, &mut bare);
-    ended(report, bare.finish().is_ok())
+    let (output, end) = bare.finish();
+    (output, ended(report, end.is_ok()))
 }
 
 /// The report of a page whose end went out, or didn't.
@@ -97,13 +107,7 @@ fn print_bytes<R: Source + Drop, W: Sink>(
     rooms: &mut Rooms,
     desk: &mut Desk,
     output: &mut W,
-) -> Report
-    ensures { (q : Supply) → R.supply page ≡ Some q → q.faults ≡ Never →
-        IsShort q.bytes (man_of setup.now.stages.mdoc q.bytes) →
-        Prints (setting_of setup.now rooms.old.tables desk.old)
-        (source_of (setting_of setup.now rooms.old.tables desk.old) q.bytes)
-        result.moves result.outcome (W.held output.old) (W.held output.new) }
-{
+) -> Report {
     let mut slots = [Complaint::NONE; MOST_COMPLAINTS];
     let mut complaints = SliceVec::over(&mut slots);
     print(page, setup, rooms, &mut complaints, desk, output)

@@ -6,7 +6,7 @@ use crate::endings::{Ending, Place};
 use crate::plan::{LOOKED_AT, options_of, plan_of, rooms_of};
 use crate::printing::print_page;
 use crate::surroundings::Surroundings;
-use document_printing::{Front, Outcome, Report, Setup, hold};
+use document_printing::{Front, Outcome, Report, Setup, Showing, hold};
 use nr_command_options::chain;
 use nr_engine::{CountedAlloc, Desk, Sink, Source};
 use nr_page::Select;
@@ -121,21 +121,17 @@ fn run_front<'a, T: Source + Drop, R: Source + Drop, W: Sink>(
     let mut rooms = rooms_of(job, &plan, around.alloc)?;
     let mut desk = Desk::new(&mut CountedAlloc::new(around.alloc), job.limits)?;
     let options = options_of(job, &plan, select);
-    let setup = Setup {
-        macros: &before,
-        stages: plan.stages,
-        tables: plan.tables,
-        characters: plan.characters,
-        options: &options,
+    let showing = Showing {
+        setup: Setup {
+            macros: &before,
+            stages: plan.stages,
+            tables: plan.tables,
+            characters: plan.characters,
+            options: &options,
+        },
+        spelling: plan.spelling,
     };
-    let report = print_page(front, &setup, &plan, &mut rooms, &mut desk, output);
-    let Setup {
-        macros: _,
-        stages: _,
-        tables: _,
-        characters: _,
-        options: _,
-    } = setup;
+    let (_output, report) = print_page(front, &showing, &plan, &mut rooms, &mut desk, output);
     Ok(ending_of(&report, name))
 }
 

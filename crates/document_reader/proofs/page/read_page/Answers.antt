@@ -5,7 +5,7 @@ use Rattle.document_reader.proofs.Pipes.{over-both, piped, piped-cut, piped-whol
 use Rattle.document_reader.proofs.page.read_page.Goals as goal
 
 pub returns-clause-whole : goal.returns-clause-whole
-returns-clause-whole g c q is never short =
+returns-clause-whole g c q is kept short =
     let stages = c.args.stages in
     let table = c.args.characters in
     let first = c.requires.first in
@@ -16,7 +16,7 @@ returns-clause-whole g c q is never short =
     c.over-mdoc.ensures.says c.over-turner.ensures.says c.over-switched.ensures.says c.new-converter.ensures.says
     c.over-mdoc.ensures.fits c.over-turner.ensures.fits c.over-switched.ensures.fits c.new-converter.ensures.fits
     ∙ ap (λ (x : Option Supply). piped x stages table) (c.over-lines.ensures.supply ∙ is)
-    ∙ piped-whole q stages table never short
+    ∙ piped-whole q stages table kept short
 
 pub returns-clause-cut : goal.returns-clause-cut
 returns-clause-cut g c q n is after few short =

@@ -1,0 +1,98 @@
+-- The laws of documents, by those of the formatter's output.
+use Rattle.std.specs.Prelude.{◌==◌, ◌||◌}
+use Rattle.std.specs.List.{All}
+use Rattle.std.proofs.Common.{◌≡◌, ℕ, List, [], Bool, true, false, Some, refl, sym, ◌∙◌, ap, subst}
+use Rattle.nr_units.specs.Source.{Supply}
+use Rattle.nr_machine.specs.declared.outcome.Outcome as machine
+use Rattle.nr_machine.specs.declared.outcome.Outcome.TheVariants as machines
+use Rattle.nr_laws.specs.Laws.{AnswersWith, IsFrontOf, is_settled}
+use Rattle.nr_laws.specs.Printed.{is_of_row}
+use Rattle.nr_laws.proofs.OutputLaws.{limits_unmet, one_answer, wider_limits}
+use Rattle.nr_laws.proofs.PrintedLaw.{no_control_goes_out}
+use Rattle.document_printing.specs.Document.{Ran, Setting, pages_of, state_of, told}
+use Rattle.document_printing.specs.Showing.{document, shown}
+use Rattle.document_printing.specs.declared.setup.Outcome.{Outcome}
+use Rattle.document_printing.specs.declared.setup.Outcome.TheVariants.{Done, Limit, NoRoom, ReadFault, TooLong, WriteFault}
+use Rattle.document_printing.specs.declared.showing.Spelling.{Spelling}
+use Rattle.document_printing.specs.declared.showing.Spelling.TheVariants.{Bytes, Utf8}
+use Rattle.document_laws.specs.Laws.{DoneStays, FewMoves, NoControlGoesOut, OneDocument, Reaches, WiderLimitsLengthen, under}
+use Rattle.document_laws.proofs.Lines.{AreLines, lines-front, pages-lines}
+
+-- what the formatter came to, of which that is shown
+record Came (s : Setting) (spelling : Spelling) (source : Supply) (n : ℕ) (outcome : Outcome) (out : List ℕ) : Type 0 where
+  end : machine.Outcome
+  told_so : told end ≡ outcome
+  settled : is_settled source.faults end ≡ true
+  ran : Ran s source n end
+  answers : AnswersWith s.limits s.options source n end (pages_of s source n)
+  out_is : out ≡ document s spelling source n
+
+came : (s : Setting) (spelling : Spelling) (source : Supply) (n : ℕ) (outcome : Outcome) (out : List ℕ) → Reaches s spelling source n outcome out → Came s spelling source n outcome out
+came s spelling source n Done out r =
+    let ran = r.shows.ran in
+    record {
+      end = machines.Done;
+      told_so = refl;
+      settled = refl;
+      ran = ran;
+      answers = record { runs = ran.runs; allowed = ran.allowed; ends = ran.ends; writes = refl; bound = ran.bound };
+      out_is = r.shows.out;
+    }
+came s spelling source n (Limit which at) out r =
+    let ran = r.shows.ran in
+    record {
+      end = machines.Limit which at;
+      told_so = refl;
+      settled = refl;
+      ran = ran;
+      answers = record { runs = ran.runs; allowed = ran.allowed; ends = ran.ends; writes = refl; bound = ran.bound };
+      out_is = r.shows.out;
+    }
+came s spelling source n NoRoom out r = absurd (let never : false ≡ true = r.ended in cc)
+came s spelling source n ReadFault out r = absurd (let never : false ≡ true = r.ended in cc)
+came s spelling source n TooLong out r = absurd (let never : false ≡ true = r.ended in cc)
+came s spelling source n WriteFault out r = absurd (let never : false ≡ true = r.ended in cc)
+
+-- ---- wider limits
+
+shown_front : (spelling : Spelling) (pages more : List ℕ) → AreLines pages → IsFrontOf pages more → IsFrontOf (shown spelling pages) (shown spelling more)
+shown_front Bytes pages more lines front = front
+shown_front (Utf8 table escapes) pages more lines front =
+    subst (λ (z : List ℕ). IsFrontOf (shown (Utf8 table escapes) pages) (shown (Utf8 table escapes) z)) (sym front.whole_is) (lines-front table escapes pages front.rest lines)
+
+pub wider_limits_lengthen : WiderLimitsLengthen
+wider_limits_lengthen s b spelling source n n' outcome outcome' out out' least r r' =
+    let c = came s spelling source n outcome out r in
+    let c' = came (under b s) spelling source n' outcome' out' r' in
+    let front = wider_limits s.limits b s.options source n n' c.end c'.end (pages_of s source n) (pages_of (under b s) source n') least c.answers c'.answers c'.settled in
+    let both = shown_front spelling (pages_of s source n) (pages_of (under b s) source n') (pages-lines (state_of s source n).pages) front in
+    subst (λ (z : List ℕ). IsFrontOf z out') (sym c.out_is) (subst (λ (z : List ℕ). IsFrontOf (document s spelling source n) z) (sym c'.out_is) both)
+
+pub done_stays : DoneStays
+done_stays s b spelling source n n' outcome' out out' least r r' =
+    let ran = r.shows.ran in
+    let answers : AnswersWith s.limits s.options source n machines.Done (pages_of s source n) =
+    record { runs = ran.runs; allowed = ran.allowed; ends = ran.ends; writes = refl; bound = ran.bound } in
+    let c' = came (under b s) spelling source n' outcome' out' r' in
+    let same = limits_unmet s.limits b s.options source n n' machines.Done c'.end (pages_of s source n) (pages_of (under b s) source n') least answers c'.answers refl refl c'.settled in
+    (same.0, ap told same.1 ∙ c'.told_so, r.shows.out ∙ ap (λ (z : List ℕ). shown spelling z) same.2 ∙ sym c'.out_is)
+
+-- ---- one document
+
+pub one_document : OneDocument
+one_document s spelling source n n' outcome outcome' out out' r r' =
+    let c = came s spelling source n outcome out r in
+    let c' = came s spelling source n' outcome' out' r' in
+    let same = one_answer s.limits s.options source n n' c.end c'.end (pages_of s source n) (pages_of s source n') c.answers c'.answers c.settled c'.settled in
+    (same.0, sym c.told_so ∙ ap told same.1 ∙ c'.told_so, c.out_is ∙ ap (λ (z : List ℕ). shown spelling z) same.2 ∙ sym c'.out_is)
+
+-- ---- moves, and what goes out as it is
+
+pub few_moves : FewMoves
+few_moves s spelling source n outcome out r = let c = came s spelling source n outcome out r in (c.ran.allowed, c.ran.bound)
+
+pub none_goes_out : NoControlGoesOut
+none_goes_out s source n outcome out r =
+    let c = came s Bytes source n outcome out r in
+    subst (λ (z : List ℕ). All (λ byte. (is_of_row byte || byte == 8) ≡ true) z) (sym c.out_is)
+    (no_control_goes_out s.limits s.options source n c.end (pages_of s source n) c.answers)

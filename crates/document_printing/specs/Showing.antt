@@ -1,0 +1,55 @@
+-- What a reader gets of a page.
+use Rattle.std.specs.Prelude.{◌≡◌, ℕ, ◌≤◌, suc, List, [], Option, Bool, true, false, Result, Ok, Err}
+use Rattle.std.specs.Io.KnownBytes.{Appends}
+use Rattle.nr_units.specs.Sink.{AppendsFront}
+use Rattle.nr_units.specs.Source.{Supply}
+use Rattle.nr_machine.specs.declared.outcome.Outcome as machine
+use Rattle.nr_machine.specs.declared.outcome.Outcome.TheVariants as machines
+use Rattle.utf8_converter.specs.Cells.{converted}
+use Rattle.document_printing.specs.Document.{Ran, Setting, pages_of}
+use Rattle.document_printing.specs.declared.setup.Outcome.{Outcome}
+use Rattle.document_printing.specs.declared.setup.Outcome.TheVariants as outcomes
+use Rattle.document_printing.specs.declared.showing.Spelling.{Spelling}
+use Rattle.document_printing.specs.declared.showing.Spelling.TheVariants.{Bytes, Utf8}
+
+-- what the bytes of pages go out as
+abbrev pub shown : Spelling → List ℕ → List ℕ
+shown Bytes pages = pages
+shown (Utf8 table escapes) pages = converted table escapes pages
+
+-- THE DOCUMENT that a reader gets: the pages that the machine printed after so many moves, as they are shown
+abbrev pub document : Setting → Spelling → Supply → ℕ → List ℕ
+document s spelling source n = shown spelling (pages_of s source n)
+
+-- the machine ends so after so many moves, and all that it printed until then is shown
+pub record IsShown (s : Setting) (spelling : Spelling) (source : Supply) (n : ℕ) (ended : machine.Outcome)
+    (held new : Option (List ℕ)) : Type 0 where
+  pub ran : Ran s source n ended
+  pub out : Appends held new (document s spelling source n)
+
+-- Where the output fails, a prefix of the document went out, after so many moves or one more.
+pub record IsFront (s : Setting) (spelling : Spelling) (source : Supply) (n : ℕ) (held new : Option (List ℕ)) : Type 0 where
+  pub made : ℕ
+  pub few : made ≤ suc n
+  pub front : AppendsFront held new (document s spelling source made)
+
+-- HOW IT ENDS for a reader
+abbrev pub Shows : Setting → Spelling → Supply → ℕ → Outcome → Option (List ℕ) → Option (List ℕ) → Type 0
+Shows s spelling source n outcomes.Done held new = IsShown s spelling source n machines.Done held new
+Shows s spelling source n (outcomes.Limit which at) held new =
+    IsShown s spelling source n (machines.Limit which at) held new
+Shows s spelling source n outcomes.NoRoom held new = (s.sets ≡ true) × Appends held new []
+Shows s spelling source n outcomes.ReadFault held new = s.sets ≡ false → AppendsFront held new (document s spelling source n)
+Shows s spelling source n outcomes.TooLong held new = s.sets ≡ false → AppendsFront held new (document s spelling source n)
+Shows s spelling source n outcomes.WriteFault held new = IsFront s spelling source n held new
+
+-- how an end is told of a page whose characters did not all go out: that its input failed first
+abbrev pub cut_short : Outcome → Outcome
+cut_short outcomes.ReadFault = outcomes.ReadFault
+cut_short outcomes.TooLong = outcomes.TooLong
+cut_short outcome = outcomes.WriteFault
+
+-- the same of one whose characters went out, or didn't
+abbrev pub told_shown : {E : Type 0} → Outcome → Result ℕ E → Outcome
+told_shown outcome (Ok strays) = outcome
+told_shown outcome (Err e) = cut_short outcome

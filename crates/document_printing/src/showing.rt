@@ -1,0 +1,116 @@
+//! A page is printed, and a reader is shown its characters.
+ghost use Rattle.std.specs.Prelude.{◌≡◌, ◌≤◌, ℕ, Some, false, length, take};
+ghost use Rattle.nr_units.specs.Source.{After, Supply};
+ghost use Rattle.document_reader.specs.Page.{IsShort, breaks_off, man_of, man_so_far};
+ghost use Rattle.document_printing.specs.Document.{TellsWrites, setting_of, source_of, source_so_far};
+ghost use Rattle.document_printing.specs.Showing as specs;
+ghost use Rattle.document_printing.specs.Showing.{Shows};
+
+use super::printing::print;
+use super::rooms::Rooms;
+use super::setup::{Outcome, Report, Setup};
+use nr_engine::Desk;
+use nr_units::sink::Sink;
+use nr_units::source::{Fault, Source};
+use nr_vectors::slice_vec::SliceVec;
+use tbl_setting::Complaint;
+use utf8_characters::Table;
+use utf8_converter::Shown;
+
+/// How many bytes of UTF-8 wait to go out at once.
+const ROOM: usize = 4096;
+
+/// How the bytes of a page go out.
+#[derive(Clone, Copy, Debug, PartialEq, Eq)]
+pub enum Spelling {
+    /// As they are.
+    Bytes,
+    /// As characters, in UTF-8.
+    Utf8 {
+        /// The table of those that are not of ASCII.
+        table: Table,
+        /// Underlined and bold text stands between escape sequences, and is not struck over.
+        escapes: bool,
+    },
+}
+
+/// How a page is set, and how it goes out.
+#[derive(Clone, Copy)]
+pub struct Showing<'a> {
+    /// How it is set.
+    pub setup: Setup<'a>,
+    /// How its bytes go out.
+    pub spelling: Spelling,
+}
+
+/// How a page ended whose characters did not all go out. That its input failed is told first.
+fn cut_short(outcome: Outcome) -> Outcome
+    ensures { result ≡ specs.cut_short outcome }
+{
+    match outcome {
+        Outcome::ReadFault => Outcome::ReadFault,
+        Outcome::TooLong => Outcome::TooLong,
+        _ => Outcome::WriteFault,
+    }
+}
+
+/// How a page ended that is told so, and whose characters went out or didn't.
+fn told_shown(outcome: Outcome, ended: Result<u64, Fault>) -> Outcome
+    ensures { result ≡ specs.told_shown outcome ended }
+{
+    match ended {
+        Ok(_) => outcome,
+        Err(_) => cut_short(outcome),
+    }
+}
+
+/// Prints a page as [`print`] does, and puts its characters out as they are shown. What was printed before a refusal went out.
+/// Gives the output back, which is not flushed. Nothing is allocated.
+///
+/// Proved: **What a reader gets is one equation.** What goes out of `print_shown` is `shown (pages)` of these pages,
+/// each word a definition: their bytes as they are, or the UTF-8 of their characters as utf8_converter defines it. At
+/// a limit it is that of the pages until then; where the output fails, or the page breaks off and no tables are set,
+/// a prefix of it; no byte goes out twice. (`print_shown`; `Shows` in Showing.antt)
+pub fn print_shown<R: Source + Drop, W: Sink>(
+    input: R,
+    showing: &Showing<'_>,
+    rooms: &mut Rooms,
+    complaints: &mut SliceVec<'_, Complaint>,
+    desk: &mut Desk,
+    output: W,
+) -> (W, Report)
+    // A reader gets the document: what the pages come to that the machine prints over macros and what the stages make of the
+    // page. At a refusal it is a prefix of that.
+    ensures whole { (q : Supply) → R.supply input ≡ Some q → breaks_off q.faults ≡ false →
+        IsShort q.bytes (man_of showing.now.setup.stages.mdoc q.bytes) →
+        Shows (setting_of showing.now.setup rooms.old.tables desk.old) showing.now.spelling
+        (source_of (setting_of showing.now.setup rooms.old.tables desk.old) q)
+        result.1.moves result.1.outcome (W.held output) (W.held result.0) }
+    // Of a page that breaks off after so many bytes, where no tables are set, it is what the stages make of these.
+    ensures cut { (q : Supply) → (n : ℕ) → R.supply input ≡ Some q → q.faults ≡ After n → n ≤ length q.bytes →
+        IsShort q.bytes (man_so_far showing.now.setup.stages.mdoc (take n q.bytes)) →
+        showing.now.setup.tables ≡ false →
+        Shows (setting_of showing.now.setup rooms.old.tables desk.old) showing.now.spelling
+        (source_so_far (setting_of showing.now.setup rooms.old.tables desk.old) (take n q.bytes))
+        result.1.moves result.1.outcome (W.held output) (W.held result.0) }
+    // A write fault is told where a put failed, and nowhere else.
+    ensures write_faults { (q : Supply) → R.supply input ≡ Some q → breaks_off q.faults ≡ false →
+        IsShort q.bytes (man_of showing.now.setup.stages.mdoc q.bytes) →
+        TellsWrites result.1.outcome (W.failures output).puts (W.failures result.0).puts }
+{
+    match showing.spelling {
+        Spelling::Bytes => {
+            let mut output = output;
+            let report = print(input, &showing.setup, rooms, complaints, desk, &mut output);
+            (output, report)
+        }
+        Spelling::Utf8 { table, escapes } => {
+            let mut room = [0; ROOM];
+            let mut shown = Shown::over(output, table, escapes, &mut room);
+            let printed = print(input, &showing.setup, rooms, complaints, desk, &mut shown);
+            let (output, ended) = shown.finish();
+            let outcome = told_shown(printed.outcome, ended);
+            (output, Report { outcome, ..printed })
+        }
+    }
+}
