@@ -16,15 +16,24 @@ use Rattle.preconv_coding.specs.Names.{coding_named}
 use Rattle.preconv_coding.specs.Sets.{character_of, characters_of}
 use Rattle.preconv_coding.specs.Tag.{goes_on, lowered, named, of_name, spelling, line_ended, going, in_value}
 use Rattle.preconv_coding.specs.Part.{told}
-use Rattle.preconv_coding.specs.UnderCoding.{text_from, text_of}
+use Rattle.std.specs.Option.{option_map}
+use Rattle.nr_units.specs.Source.{Supply}
+use Rattle.preconv_coding.specs.declared.tag.Tells.TheVariants.{Reads}
+use Rattle.preconv_coding.specs.UnderCoding.{coded_supply, supply_from, text_faults, text_from, text_of}
 use Rattle.preconv_coding.specs.Laws.{line_of, all_go_on, is_name, all_lowered, is_no_set, all_ascii, SetsAreRead, OthersStay, AsciiStays}
 use Rattle.preconv_coding.proofs.Giving.{plain_text, unknown_text}
 
 -- ---- a set
 
-eight_text : (set : Set) (bs : List ℕ) → text_from (Eight set) bs ≡ encode_utf8_all (characters_of set bs)
+pub eight_text : (set : Set) (bs : List ℕ) → text_from (Eight set) bs ≡ encode_utf8_all (characters_of set bs)
 eight_text set [] = refl
 eight_text set (b ∷ bs) = ap (λ (xs : List ℕ). encode_utf8 (character_of set b) ++ xs) (eight_text set bs)
+
+-- a coding that is named beside the text
+pub coded_is : (coding : Coding) (known : Option Supply) → supply_from (told (Reads coding)) [] known ≡ coded_supply coding known
+coded_is coding None = refl
+coded_is codings.Plain (Some q) = ap (λ (bytes : List ℕ). Some (record { bytes = bytes; faults = text_faults q.faults })) (plain_text q.bytes)
+coded_is (codings.Eight set) (Some q) = ap (λ (bytes : List ℕ). Some (record { bytes = bytes; faults = text_faults q.faults })) (eight_text set q.bytes)
 
 if_first : {T : Type 0} (x : Bool) (a b : T) → x ≡ true → (if x then a else b) ≡ a
 if_first true a b is = refl

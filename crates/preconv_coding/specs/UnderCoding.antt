@@ -1,11 +1,16 @@
 -- The text of bytes, read as UTF-8.
-use Rattle.std.specs.Prelude.{ℕ, List, [], ◌∷◌, ◌++◌, if◌then◌else◌, Option, None, Some}
+use Rattle.std.specs.Prelude.{ℕ, List, [], ◌∷◌, ◌++◌, if◌then◌else◌, Option, None, Some, encode_utf8_all, length, map, nat_le}
 use Rattle.std.specs.Option.{option_map}
 use Rattle.nr_units.specs.Source.{Faults, Never, After, Anytime, Supply}
+use Rattle.preconv_coding.specs.declared.names.Coding.{Coding}
+use Rattle.preconv_coding.specs.declared.names.Coding.TheVariants.{Plain, Eight}
 use Rattle.preconv_coding.specs.declared.part.Part.{Part}
 use Rattle.preconv_coding.specs.declared.part.Part.TheVariants.{Start}
 use Rattle.preconv_coding.specs.declared.part.Part.TheVariants as parts
 use Rattle.preconv_coding.specs.declared.under_coding.Unknown.{Unknown}
+use Rattle.preconv_coding.specs.Names.{coding_named}
+use Rattle.preconv_coding.specs.Tag.{lowered}
+use Rattle.preconv_coding.specs.Sets.{characters_of}
 use Rattle.preconv_coding.specs.Part.{taken, ended, is_plain}
 
 -- the text of the bytes that are to come
@@ -31,6 +36,19 @@ supply_from part ready known = option_map (given part ready) known
 
 abbrev pub text_supply : Option Supply → Option Supply
 text_supply known = option_map (λ (q : Supply). record { bytes = text_of q.bytes; faults = text_faults q.faults }) known
+
+-- the coding of a name whose letters are of either case: no name that is known has more than 32 bytes
+abbrev pub coding_of : List ℕ → Option Coding
+coding_of name = if nat_le (length name) 32 then coding_named (map lowered name) else None
+
+-- the text of bytes under a coding
+abbrev pub coded : Coding → List ℕ → List ℕ
+coded Plain bs = bs
+coded (Eight set) bs = encode_utf8_all (characters_of set bs)
+
+abbrev pub coded_supply : Coding → Option Supply → Option Supply
+coded_supply coding known =
+    option_map (λ (q : Supply). record { bytes = coded coding q.bytes; faults = text_faults q.faults }) known
 
 -- bytes that go out as they are may be taken many at once
 abbrev pub hand_of : Part → List ℕ → List ℕ → List ℕ

@@ -11,4 +11,6 @@ mod tag;
 mod under_coding;
 mod wide;
 
+pub use names::Coding;
+pub use sets::Set;
 pub use under_coding::{UnderCoding, Unknown};

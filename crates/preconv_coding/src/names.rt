@@ -1,12 +1,18 @@
 //! The names of codings (groff's preconv(1), Coding Tags; for KOI8-U and the code pages of Windows those of iconv(1)).
 ghost use Rattle.std.specs.Prelude.{◌≡◌};
 ghost use Rattle.preconv_coding.specs.Names as specs;
+ghost use Rattle.preconv_coding.specs.UnderCoding.{coding_of};
 
 use super::sets::Set;
+use super::tag::lowered;
+use nr_units::Name;
+
+/// The most bytes of a name.
+const LONGEST: usize = 32;
 
 /// How the bytes of a text are read.
 #[derive(Clone, Copy)]
-pub(crate) enum Coding {
+pub enum Coding {
     /// As they stand.
     Plain,
     /// Each as a character of a set.
@@ -137,4 +143,20 @@ pub(crate) fn coding_named(name: &[u8]) -> Option<Coding>
     ensures { result ≡ specs.coding_named name.now }
 {
     named_in(&NAMES, base_of(name))
+}
+
+impl Coding {
+    /// The coding of a name, whose letters are of either case, as `-K` gives it; none where the name is not known.
+    pub fn named(name: &[u8]) -> Option<Coding>
+        ensures { result ≡ coding_of name.now }
+    {
+        if name.len() > LONGEST {
+            return None;
+        }
+        let mut small = Name::new();
+        for byte in name {
+            small.push(lowered(*byte));
+        }
+        coding_named(small.as_bytes())
+    }
 }

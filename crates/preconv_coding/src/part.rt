@@ -50,7 +50,7 @@ fn plain(part: Part, bytes: &[u8]) -> Step
 }
 
 /// What stands after a byte of the first two lines.
-fn told(tells: Tells) -> Part
+pub(super) fn told(tells: Tells) -> Part
     ensures { result ≡ specs.told tells }
 {
     match tells {

@@ -9,7 +9,7 @@ use super::tables::{
 
 /// A set of eight bits.
 #[derive(Clone, Copy)]
-pub(crate) enum Set {
+pub enum Set {
     /// ISO 8859-1.
     Latin1,
     /// ISO 8859-2.

@@ -50,7 +50,7 @@ fn goes_on(byte: u8) -> bool
 }
 
 /// A letter in lowercase.
-fn lowered(byte: u8) -> u8
+pub(super) fn lowered(byte: u8) -> u8
     ensures { result ≡ specs.lowered byte }
 {
     if matches!(byte, b'A'..=b'Z') {

@@ -1,7 +1,9 @@
 //! A source whose text is read as UTF-8.
 ghost use Rattle.std.specs.Prelude.{◌≡◌};
 
-use super::part::Part;
+use super::names::Coding;
+use super::part::{Part, told};
+use super::tag::Tells;
 use nr_units::Name;
 use nr_units::source::{Fault, Source};
 
@@ -30,7 +32,7 @@ pub struct UnderCoding<S> {
 
 impl<S: Source + Drop> UnderCoding<S> {
     ghost use Rattle.preconv_coding.specs.Laws.{AsciiStays, OthersStay, PlainStays, SetsAreRead, WideIsRead};
-    ghost use Rattle.preconv_coding.specs.UnderCoding.{text_supply, unknown_in};
+    ghost use Rattle.preconv_coding.specs.UnderCoding.{coded_supply, text_supply, unknown_in};
 
     /// The text of this source, of which nothing was read.
     ///
@@ -60,6 +62,21 @@ impl<S: Source + Drop> UnderCoding<S> {
         UnderCoding {
             source,
             part: Part::Start,
+            ready: Name::new(),
+        }
+    }
+
+    /// The text of this source, of which nothing was read, under a coding, whatever it says of itself.
+    ///
+    /// Proved: Under a coding that is named beside it a text is read as the characters of its set, each byte as one,
+    /// or as it is. (`UnderCoding::under`)
+    pub fn under(source: S, coding: Coding) -> Self
+        ensures supply { ⟦<UnderCoding<S> as Source>⟧.supply result ≡ coded_supply coding (S.supply source) }
+        ensures failures { ⟦<UnderCoding<S> as Source>⟧.failures result ≡ S.failures source }
+    {
+        UnderCoding {
+            source,
+            part: told(Tells::Reads(coding)),
             ready: Name::new(),
         }
     }
