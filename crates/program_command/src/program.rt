@@ -13,13 +13,14 @@ ghost use Rattle.program_plan.specs.Texts.{readings_of};
 ghost use Rattle.program_command.specs.Program.{Comes, IsOfRun, IsUnopened, Opens, Passes};
 
 use crate::endings::{Ending, tell};
-use crate::running::run_texts;
+use crate::running::{Reading, run_texts};
 use crate::surroundings::Surroundings;
 use command_line::{SystemWords, words_of};
 use nr_command::{BUFFER_SIZE, Disk, Heap, Memory, NotRun, Opener, Tree, open_texts, text_count};
 use nr_command_options::Job as Texts;
 use nr_engine::{Fault, Sink, ToWriter};
 use nr_page::Select;
+use preconv_coding::Coding;
 use program_macros::VERSION;
 use program_options::{Case, Job, Says, Usage, read_words};
 use program_plan::{first_missing, texts_of};
@@ -155,18 +156,23 @@ fn format_job<'a, 'b, O: Opener<'b>, W: Sink>(
         (readings_of (asked_of job.now)) result }
     ensures prints { (output.new ≡ output.old) ⊎ Passes result (W.passed_on output.new) }
 {
-    match pages_of(job) {
-        Ok(select) => open_and_run(around, job, select, opener, buffers, output),
+    match read_of(job) {
+        Ok(reading) => open_and_run(around, job, reading, opener, buffers, output),
         Err(ending) => ending,
     }
 }
 
-/// The pages that a job prints, or why it isn't run: their list is bad, or macros are not in the program.
-fn pages_of<'a>(job: &Job<'a>) -> Result<Select, Ending<'a>>
+/// The pages that a job prints and the coding of its texts, or why it isn't run: the list of pages is bad, the coding is
+/// not known, or macros are not in the program.
+fn read_of<'a>(job: &Job<'a>) -> Result<Reading, Ending<'a>>
     ensures { IfErr result IsUnopened }
 {
     let select = match selected(job) {
         Ok(select) => select,
+        Err(usage) => return Err(Ending::BadWord(usage)),
+    };
+    let coding = match coding_of(job) {
+        Ok(coding) => coding,
         Err(usage) => return Err(Ending::BadWord(usage)),
     };
     if job.folder.is_none()
@@ -174,7 +180,7 @@ fn pages_of<'a>(job: &Job<'a>) -> Result<Select, Ending<'a>>
     {
         return Err(Ending::NoMacros(name));
     }
-    Ok(select)
+    Ok(Reading { select, coding })
 }
 
 /// Prints the version, or how the program is called.
@@ -216,11 +222,25 @@ fn selected<'a>(job: &Job<'a>) -> Result<Select, Usage<'a>> {
     }
 }
 
+/// The coding that a job names.
+fn coding_of<'a>(job: &Job<'a>) -> Result<Option<Coding>, Usage<'a>> {
+    let Some(name) = job.coding else {
+        return Ok(None);
+    };
+    match Coding::named(name.as_bytes()) {
+        Some(coding) => Ok(Some(coding)),
+        None => Err(Usage {
+            case: Case::BadValue,
+            word: name,
+        }),
+    }
+}
+
 /// Opens the texts of a job, and runs it.
 fn open_and_run<'a, 'b, O: Opener<'b>, W: Sink>(
     around: &Surroundings,
     job: &Job<'a>,
-    select: Select,
+    reading: Reading,
     opener: &mut O,
     buffers: &'b mut Vec<u8>,
     output: &mut W,
@@ -231,7 +251,7 @@ fn open_and_run<'a, 'b, O: Opener<'b>, W: Sink>(
 {
     let texts = texts_of(job);
     match open_all(&texts, around.alloc, opener, buffers) {
-        Ok(mut opened) => run_texts(job, select, around, &mut opened, output),
+        Ok(mut opened) => run_texts(job, reading, around, &mut opened, output),
         Err(why) => match why {
             NotRun::CannotOpen(input) => Ending::CannotOpen(input),
             NotRun::OutOfMemory => Ending::OutOfMemory,

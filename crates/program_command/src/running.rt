@@ -10,10 +10,19 @@ use document_printing::{Front, Outcome, Report, Setup, Showing, hold};
 use nr_command_options::chain;
 use nr_engine::{CountedAlloc, Desk, Sink, Source};
 use nr_page::Select;
-use preconv_coding::UnderCoding;
+use preconv_coding::{Coding, UnderCoding};
 use program_options::Job;
 use program_plan::{asks_for_others, is_manual, macros_of, text_before};
 use std::alloc::AllocError;
+
+/// What of a job's texts is read, and what of their pages goes out.
+#[derive(Clone, Copy)]
+pub(crate) struct Reading {
+    /// The pages.
+    pub select: Select,
+    /// The coding of the texts; none where the first says it.
+    pub coding: Option<Coding>,
+}
 
 /// What a report comes to, for texts of which the first has this name.
 fn ending_of<'a>(report: &Report, name: &'a str) -> Ending<'a>
@@ -53,7 +62,7 @@ fn macro_count(job: &Job<'_>) -> usize {
 /// Runs a job over its texts, and flushes the output, after a fault too.
 pub(crate) fn run_texts<'a, T: Source + Drop, W: Sink>(
     job: &Job<'a>,
-    select: Select,
+    reading: Reading,
     around: &Surroundings,
     texts: &mut [T],
     output: &mut W,
@@ -63,7 +72,7 @@ pub(crate) fn run_texts<'a, T: Source + Drop, W: Sink>(
 {
     let count = macro_count(job).min(texts.len());
     let (macros, pages) = texts.split_at_mut(count);
-    let ending = settled(run_all(job, select, around, macros, pages, output));
+    let ending = settled(run_all(job, reading, around, macros, pages, output));
     match output.flush() {
         Ok(()) => ending,
         Err(_) => Ending::WriteFault,
@@ -84,7 +93,7 @@ fn settled<'a>(ran: Result<Ending<'a>, AllocError>) -> Ending<'a>
 /// Runs a job over its texts, macro files first. `AllocError` where there was not enough memory: then nothing is printed.
 fn run_all<'a, T: Source + Drop, W: Sink>(
     job: &Job<'a>,
-    select: Select,
+    reading: Reading,
     around: &Surroundings,
     macros: &mut [T],
     pages: &mut [T],
@@ -93,11 +102,19 @@ fn run_all<'a, T: Source + Drop, W: Sink>(
     ensures { IfOk result IsOfRun }
 {
     let mut room = vec![in around.alloc; 0u8; LOOKED_AT]?;
-    let front = hold(UnderCoding::over(chain(pages)), &mut room);
+    let front = hold(under_coding(chain(pages), reading.coding), &mut room);
     if job.plain.is_alone && asks_for_others(front.first()) {
         return Ok(Ending::NeedsOthers);
     }
-    run_front(job, select, around, macros, front, output)
+    run_front(job, reading.select, around, macros, front, output)
+}
+
+/// Texts under the coding that is named for them, or under that which the first of them says.
+fn under_coding<S: Source + Drop>(texts: S, coding: Option<Coding>) -> UnderCoding<S> {
+    match coding {
+        Some(coding) => UnderCoding::under(texts, coding),
+        None => UnderCoding::over(texts),
+    }
 }
 
 /// The same over pages of which the first bytes were read.

@@ -31,7 +31,7 @@ static TEXTS: [(&str, Page<'static>); 7] = [
 ];
 
 /// What is formatted.
-static PRINTED: [Row; 12] = [
+static PRINTED: [Row; 13] = [
     Row {
         words: &[b"nulbiko"],
         input: b".pl 2\n.ll 8\na bb ccc dddd\n",
@@ -62,6 +62,14 @@ here              today              A(1)\n",
         words: &[b"nulbiko", b"-Tutf8", b"-dwd=word"],
         input: b".pl 1\n\\*(wd \xc3\xa9\n",
         output: b"word \xc3\xa9\n",
+        status: 0,
+        line: b"",
+    },
+    // a coding that is named for the texts
+    Row {
+        words: &[b"nulbiko", b"-Tutf8", b"-K", b"ISO-8859-1"],
+        input: b".pl 1\nn\xe9e\n",
+        output: b"n\xc3\xa9e\n",
         status: 0,
         line: b"",
     },
@@ -129,7 +137,7 @@ here              today              A(1)\n",
 ];
 
 /// What is reported.
-static REPORTED: [Row; 10] = [
+static REPORTED: [Row; 11] = [
     Row {
         words: &[b"nulbiko", b"-c", b"-V", b"-y"],
         input: b".pl 1\na\n",
@@ -194,6 +202,13 @@ static REPORTED: [Row; 10] = [
         output: b"",
         status: 6,
         line: b"",
+    },
+    Row {
+        words: &[b"nulbiko", b"-Kmorse", b"one"],
+        input: b"",
+        output: b"",
+        status: 2,
+        line: b"nulbiko: bad value in morse\n",
     },
     Row {
         words: &[b"nulbiko", b"-K"],
