@@ -4,3 +4,4 @@ pub mod Names
 pub mod Shown
 pub mod Telling
 pub mod Watching
+pub mod Wording

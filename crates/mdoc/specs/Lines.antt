@@ -109,12 +109,9 @@ between b h =
     if b == code "\"" then with_line (lines.Quoted false) h else
     if b == code "\\" then begins_escaped h else begins lines.Word b h
 
-abbrev pub word : Half → Whole
-word h = if h.calls then wholes.Word else wholes.Nothing
-
 abbrev pub in_word : ℕ → Half → Half × Whole
 in_word b h =
-    if ends_word b then (with_line (words_after b) h, word h) else
+    if ends_word b then (with_line (words_after b) h, wholes.Word) else
     if b == code "\\" then (with_line lines.Escape h, wholes.Nothing) else (grows b h, wholes.Nothing)
 
 -- a line whose last byte is a backslash goes on with the next, also in a word
@@ -124,7 +121,7 @@ continued h = with_line (if length h.name == 0 then lines.Between else lines.Wor
 -- `\"` begins a comment; a word with another escape is no name
 abbrev pub in_escape : ℕ → Half → Half × Whole
 in_escape b h =
-    if b == code "\"" then (with_line lines.Rest h, word h) else
+    if b == code "\"" then (with_line lines.Rest h, wholes.Word) else
     if b == code "\n" then (continued h, wholes.Nothing) else (with_line (lines.Text false) h, wholes.Nothing)
 
 abbrev pub text_after : ℕ → Line

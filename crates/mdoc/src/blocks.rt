@@ -11,6 +11,8 @@ pub struct OpenBlock {
     pub name: Name,
     /// Its line, from 1 on.
     pub line: u64,
+    /// It is a list of columns.
+    pub columns: bool,
 }
 
 impl OpenBlock {
@@ -19,6 +21,7 @@ impl OpenBlock {
         OpenBlock {
             name: Name::new(),
             line: 0,
+            columns: false,
         }
     }
 }

@@ -28,6 +28,68 @@ fn put_breaks<E: Sink>(what: &[u8], by: Name, block: Name, errors: &mut E) -> Re
     )
 }
 
+/// Writes what is wrong, the name of a macro, and its word where that is kept.
+fn put_word<E: Sink>(what: &[u8], name: Name, word: Name, errors: &mut E) -> Result<(), Fault> {
+    put_about(what, name, errors)?;
+    if word.is_empty() {
+        return Ok(());
+    }
+    put_all(&[b" ", shown(word).as_bytes()], errors)
+}
+
+/// What a macro outside of its list is.
+fn outside(name: Name) -> &'static [u8] {
+    if name.as_bytes() == b"It".as_slice() {
+        b"item outside list: "
+    } else {
+        b"column outside column list: "
+    }
+}
+
+/// What lacks its kind.
+fn without_kind(name: Name) -> &'static [u8] {
+    if name.as_bytes() == b"Bl".as_slice() {
+        b"missing list type: "
+    } else {
+        b"missing display type: "
+    }
+}
+
+/// What a word is that its macro doesn't know.
+fn unknown_word(name: Name) -> &'static [u8] {
+    if name.as_bytes() == b"St".as_slice() {
+        b"unknown standard specifier: "
+    } else if name.as_bytes() == b"Lb".as_slice() {
+        b"unknown library name: "
+    } else {
+        b"unknown AT&T UNIX version: "
+    }
+}
+
+/// What comes after the first heading.
+fn late(name: Name) -> &'static [u8] {
+    if name.as_bytes() == b"Dt".as_slice() {
+        b"late title macro: "
+    } else {
+        b"late prologue macro: "
+    }
+}
+
+/// Writes what is wrong with the words of a line.
+fn put_line_kind<E: Sink>(kind: Kind, errors: &mut E) -> Result<(), Fault> {
+    match kind {
+        Kind::Outside(name) => put_about(outside(name), name, errors),
+        Kind::NoKind(name) => put_about(without_kind(name), name, errors),
+        Kind::BadWord(name, word) => put_word(unknown_word(name), name, word, errors),
+        Kind::NoSection(name, word) => put_word(b"missing section argument: ", name, word, errors),
+        Kind::Empty(name) => put_about(b"empty macro: ", name, errors),
+        Kind::Words(name) => put_about(b"arguments that are not taken: ", name, errors),
+        Kind::Late(name) => put_about(late(name), name, errors),
+        Kind::OpenQuote(name) => put_about(b"unterminated quoted argument: ", name, errors),
+        _ => Ok(()),
+    }
+}
+
 /// Writes what is wrong.
 fn put_kind<E: Sink>(kind: Kind, errors: &mut E) -> Result<(), Fault> {
     match kind {
@@ -37,6 +99,7 @@ fn put_kind<E: Sink>(kind: Kind, errors: &mut E) -> Result<(), Fault> {
         Kind::Nested(by, block) => put_breaks(b"blocks badly nested: ", by, block, errors),
         Kind::Broken(by, block) => put_breaks(b"missing end of block: ", by, block, errors),
         Kind::NotEnded(name) => put_about(b"missing end of block: ", name, errors),
+        _ => put_line_kind(kind, errors),
     }
 }
 

@@ -52,7 +52,7 @@ pub enum Whole {
     Nothing,
     /// The name of a line's macro.
     Macro,
-    /// A word that calls a macro where it is a name.
+    /// A word, which calls a macro where it is a name and words may.
     Word,
 }
 
@@ -367,7 +367,7 @@ impl Half {
     {
         if ends_word(byte) {
             self.line = words_after(byte);
-            return self.word();
+            return Whole::Word;
         }
         if byte == b'\\' {
             self.line = Line::Escape;
@@ -375,17 +375,6 @@ impl Half {
             self.grows(byte);
         }
         Whole::Nothing
-    }
-
-    /// A word is whole.
-    fn word(&self) -> Whole
-        ensures { result ≡ specs.word self.now }
-    {
-        if self.calls {
-            Whole::Word
-        } else {
-            Whole::Nothing
-        }
     }
 
     /// After a backslash in a word: a comment begins, the line goes on with the next, or the word is no name.
@@ -396,7 +385,7 @@ impl Half {
         match byte {
             b'"' => {
                 self.line = Line::Rest;
-                return self.word();
+                return Whole::Word;
             }
             b'\n' => {
                 self.line = if self.name.is_empty() {

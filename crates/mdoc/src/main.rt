@@ -1,7 +1,7 @@
 //! The program mdoc: it turns manual pages of mdoc(7) into pages of man(7), to standard output.
 //!
-//! It stands on filters, mdoc_converter, nr_units and nr_vectors. To read: `names`, `lines`, `blocks`, `telling`, `watching`,
-//! `watched`; `shown`, `complaints`, `rooms`, `program`.
+//! It stands on filters, mdoc_converter, nr_units and nr_vectors. To read: `names`, `lines`, `blocks`, `telling`, `wording`,
+//! `watching`, `watched`; `shown`, `complaints`, `rooms`, `program`.
 #![tactic(auto)]
 
 mod blocks;
@@ -14,6 +14,7 @@ mod shown;
 mod telling;
 mod watched;
 mod watching;
+mod wording;
 
 use filters::run_program;
 use program::Mdoc;

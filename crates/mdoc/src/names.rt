@@ -76,6 +76,7 @@ pub fn opens(name: &[u8]) -> bool
             (*second == b'o' && encloses(*first))
                 || (*first == b'B' && is_block(*second))
                 || (*first == b'R' && *second == b's')
+                || (*first == b'T' && *second == b'S')
         }
         [b'B', b'r', b'o'] => true,
         _ => false,
@@ -94,6 +95,8 @@ pub fn opener_of(name: &[u8]) -> Option<Name>
                 Some(Name::of(&[b'B', *second]))
             } else if *first == b'R' && *second == b'e' {
                 Some(Name::of(b"Rs"))
+            } else if *first == b'T' && *second == b'E' {
+                Some(Name::of(b"TS"))
             } else {
                 None
             }
@@ -101,4 +104,77 @@ pub fn opener_of(name: &[u8]) -> Option<Name>
         [b'B', b'r', b'c'] => Some(Name::of(b"Bro")),
         _ => None,
     }
+}
+
+/// The macros that print nothing without words, but for parts of references.
+static NEED_WORDS: [[u8; 2]; 30] = [
+    *b"Ad", *b"An", *b"Cd", *b"Cm", *b"Dv", *b"Em", *b"Er", *b"Ev", *b"Fa", *b"Fd", *b"Fn", *b"Fr",
+    *b"Ft", *b"Ic", *b"In", *b"Lb", *b"Li", *b"Lk", *b"Ms", *b"No", *b"Ot", *b"Sh", *b"Ss", *b"St",
+    *b"Sx", *b"Sy", *b"Tn", *b"Va", *b"Vt", *b"Xr",
+];
+
+/// The macros that take no words.
+static TAKE_NONE: [[u8; 2]; 10] = [
+    *b"Pp", *b"Lp", *b"El", *b"Ed", *b"Ek", *b"Ef", *b"Rs", *b"Re", *b"Bt", *b"Ud",
+];
+
+/// Whether a macro prints nothing without words.
+pub fn needs_words(name: &[u8]) -> bool
+    ensures { result ≡ specs.needs_words name.now }
+{
+    match name {
+        [first, second] => *first == b'%' || is_in(&NEED_WORDS, *first, *second),
+        _ => false,
+    }
+}
+
+/// Whether a macro takes no words.
+pub fn takes_none(name: &[u8]) -> bool
+    ensures { result ≡ specs.takes_none name.now }
+{
+    match name {
+        [first, second] => is_in(&TAKE_NONE, *first, *second),
+        _ => false,
+    }
+}
+
+/// Whether a word is a mark, which is none where it stands alone.
+pub fn is_mark(word: &[u8]) -> bool
+    ensures { result ≡ specs.is_mark word.now }
+{
+    match word {
+        [mark] => matches!(
+            *mark,
+            b'.' | b',' | b':' | b';' | b')' | b']' | b'?' | b'!' | b'(' | b'[' | b'|'
+        ),
+        _ => false,
+    }
+}
+
+/// Whether a word is the kind of a list.
+pub fn is_list_kind(word: &[u8]) -> bool
+    ensures { result ≡ specs.is_list_kind word.now }
+{
+    word == b"-bullet".as_slice()
+        || word == b"-dash".as_slice()
+        || word == b"-hyphen".as_slice()
+        || word == b"-enum".as_slice()
+        || word == b"-tag".as_slice()
+        || word == b"-hang".as_slice()
+        || word == b"-inset".as_slice()
+        || word == b"-ohang".as_slice()
+        || word == b"-diag".as_slice()
+        || word == b"-item".as_slice()
+        || word == b"-column".as_slice()
+}
+
+/// Whether a word is the kind of a display.
+pub fn is_display_kind(word: &[u8]) -> bool
+    ensures { result ≡ specs.is_display_kind word.now }
+{
+    word == b"-literal".as_slice()
+        || word == b"-unfilled".as_slice()
+        || word == b"-centered".as_slice()
+        || word == b"-filled".as_slice()
+        || word == b"-ragged".as_slice()
 }

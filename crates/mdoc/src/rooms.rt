@@ -14,7 +14,7 @@ use std::alloc::{AllocError, Global};
 use std::io::Read;
 
 /// The bytes of the buffer for what goes out.
-const PENDING_SIZE: usize = 131_072;
+const PENDING_SIZE: usize = 81_920;
 
 /// The room for lists and displays that are open.
 const MOST_BLOCKS: usize = 64;

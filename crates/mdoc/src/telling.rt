@@ -23,6 +23,22 @@ pub enum Kind {
     Broken(Name, Name),
     /// The block of this macro is not ended.
     NotEnded(Name),
+    /// This macro stands outside of a list, or of one of columns.
+    Outside(Name),
+    /// The list or display of this macro has no kind.
+    NoKind(Name),
+    /// This macro doesn't know the word.
+    BadWord(Name, Name),
+    /// This macro has the word alone, which wants a section.
+    NoSection(Name, Name),
+    /// This macro prints nothing without words.
+    Empty(Name),
+    /// This macro takes no words.
+    Words(Name),
+    /// This macro comes after the first heading.
+    Late(Name),
+    /// A quote in the line of this macro isn't ended.
+    OpenQuote(Name),
 }
 
 /// What is wrong with a line.
