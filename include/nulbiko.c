@@ -17,8 +17,28 @@ struct told {
     size_t written;
     uint64_t at, moves;
     uint32_t limit;
-    uint64_t dropped;
+    uint64_t dropped, line;
 };
+
+struct table_limits {
+    size_t formats, row, page;
+};
+
+struct document_options {
+    struct options text;
+    uint32_t width, table, form;
+    bool long_page, mdoc, tables;
+};
+
+struct document_setup {
+    struct limits limits;
+    struct table_limits tables;
+    struct document_options options;
+};
+
+uint32_t nulbiko_document_lent(const struct document_setup *setup, const uint8_t *macros, size_t macros_length,
+                               const uint8_t *page, size_t page_length, uint8_t *output, size_t capacity,
+                               struct told *told);
 
 uint32_t nulbiko_format_lent(const struct limits *limits, const struct options *options, const uint8_t *input,
                              size_t length, uint8_t *output, size_t capacity, struct told *told);
@@ -64,7 +84,40 @@ static enum nulbiko_outcome ended(uint32_t outcome, const struct told *told, str
     report->moves = told->moves;
     report->limit = told->limit;
     report->dropped = told->dropped;
+    report->line = told->line;
     return (enum nulbiko_outcome)outcome;
+}
+
+enum nulbiko_outcome nulbiko_document(const struct nulbiko_limits *limits, const struct nulbiko_document_options *options,
+                                      const void *input, size_t length, void *output, size_t capacity,
+                                      struct nulbiko_report *report)
+{
+    struct passed passed;
+    struct told told;
+    enum nulbiko_outcome looked = look(&passed, input, length, output, capacity, report);
+    if (looked != NULBIKO_DONE)
+        return looked;
+    if (!limits || !options)
+        return NULBIKO_NULL;
+    if (limits->size != sizeof *limits || options->size != sizeof *options)
+        return NULBIKO_OUT_OF_RANGE;
+    if (!options->macros && options->macros_length)
+        return NULBIKO_NULL;
+    const struct document_setup setup = {
+        {limits->stored, limits->depth, limits->cells, limits->expansions, limits->moves},
+        {options->formats, options->row, options->set_page},
+        {{options->first, options->bold},
+         options->width,
+         (uint32_t)options->table,
+         (uint32_t)options->form,
+         options->long_page,
+         options->mdoc,
+         options->tables},
+    };
+    const uint8_t *macros = options->macros ? (const uint8_t *)options->macros : &passed.none;
+    uint32_t outcome = nulbiko_document_lent(&setup, macros, options->macros_length, passed.input, length, passed.output,
+                                             capacity, &told);
+    return ended(outcome, &told, report);
 }
 
 enum nulbiko_outcome nulbiko_format(const struct nulbiko_limits *limits, const struct nulbiko_options *options,
@@ -156,7 +209,7 @@ const char *nulbiko_outcome_name(uint32_t outcome)
 const char *nulbiko_limit_name(uint32_t limit)
 {
     static const char *const names[] = {"none",       "stored bytes", "input depth", "line cells",
-                                        "page cells", "expansions",   "moves"};
+                                        "page cells", "expansions",   "moves",       "page with tables"};
     return limit < sizeof names / sizeof *names ? names[limit] : "unknown";
 }
 

@@ -2,6 +2,8 @@
  *
  *     cc page.c $(pkg-config --cflags --libs nulbiko)
  *
+ * nulbiko_document prints a whole page, from its source to a terminal's UTF-8. The calls after it are its stages, one by one.
+ *
  * The library comes with the package, and from the workspace that tools/plain writes: target/release/libnulbiko.so and
  * libnulbiko.a. Over the library that is proved (`rt lib` in crates/nulbiko) include/nulbiko.c has these calls.
  *
@@ -20,9 +22,9 @@
  * Memory. A call takes what its limits say and room for the output, and gives all of it back. It writes no file,
  * reads none, prints nothing, ends no process and keeps nothing.
  *
- * Time. Every call ends. `moves` is how many moves or steps it made; nulbiko_tbl counts none. nulbiko_format makes at most
- * as many as the limit `moves` says, and at most 256 * (expansions + 1) * (stored + cells + depth + 4) for each byte of the
- * text and as many more. The second is far above what a service waits for, so it sets the first: 10^8 moves take some two
+ * Time. Every call ends. `moves` is how many moves or steps it made; nulbiko_tbl counts none. nulbiko_document and
+ * nulbiko_format make at most as many as the limit `moves` says, and at most 256 * (expansions + 1) * (stored + cells +
+ * depth + 4) for each byte of the text and as many more. The second is far above what a service waits for, so it sets the first: 10^8 moves take some two
  * seconds.
  */
 #ifndef NULBIKO_H
@@ -53,14 +55,15 @@ enum nulbiko_outcome {
     NULBIKO_TOO_LONG = 6       /* The text has 2^40 bytes or more. */
 };
 
-/* The limits of nulbiko_format, by what the report calls them. */
+/* The limits of nulbiko_document and nulbiko_format, by what the report calls them. */
 enum nulbiko_limit {
     NULBIKO_STORED = 1,
     NULBIKO_DEPTH = 2,
     NULBIKO_LINE_CELLS = 3,
     NULBIKO_PAGE_CELLS = 4,
     NULBIKO_EXPANSIONS = 5,
-    NULBIKO_MOVES = 6
+    NULBIKO_MOVES = 6,
+    NULBIKO_SET_PAGE = 7 /* Of nulbiko_document: the bytes of a page whose tables are set. Nothing was printed. */
 };
 
 /* What nulbiko_tbl finds wrong with a table. It sets what it can, and goes on. */
@@ -85,7 +88,15 @@ enum nulbiko_table {
     NULBIKO_LATIN = 2,    /* Letters from Czech to Turkish, and common signs. */
     NULBIKO_CYRILLIC = 3,
     NULBIKO_GREEK = 4,
-    NULBIKO_LATIN1 = 5 /* Latin-1 at its own bytes: for a program that prints it as it is. */
+    NULBIKO_LATIN1 = 5, /* Latin-1 at its own bytes: for a program that prints it as it is. */
+    NULBIKO_CHOSEN = 6  /* Of nulbiko_document: the one that nulbiko_choose gives for the page. */
+};
+
+/* How nulbiko_document gives its pages. */
+enum nulbiko_form {
+    NULBIKO_BYTES = 0,  /* As bytes of the table: those of nulbiko_format. */
+    NULBIKO_UTF8 = 1,   /* In UTF-8, as nulbiko_utf8 makes it: what is underlined or bold has backspaces. */
+    NULBIKO_ESCAPES = 2 /* The same between the terminal's escape sequences. */
 };
 
 /* What a text may cost. */
@@ -112,18 +123,52 @@ struct nulbiko_options {
 
 #define NULBIKO_OPTIONS {sizeof(struct nulbiko_options), 1, false}
 
+/* How nulbiko_document sets a page, and what its tables may use. */
+struct nulbiko_document_options {
+    size_t size;
+    const void *macros;       /* The text that stands before the page: macro files, as tmac/tmac.an. No file is opened. */
+    size_t macros_length;
+    int64_t first;            /* The number of the first page, as of nulbiko_options. */
+    uint32_t width;           /* The cells of a line, for the macros (the register L, as nroff's -rL78 sets it) and for tables.
+                               * A text without macro files begins with `.ll`. */
+    enum nulbiko_table table; /* The table of characters: NULBIKO_CHOSEN where it is nothing else. */
+    enum nulbiko_form form;   /* How pages go out. Those in UTF-8 have a table: NULBIKO_NO_TABLE is out of range. */
+    bool bold;                /* As of nulbiko_options. */
+    bool long_page;           /* One long page (the register C, as -rC1 sets it), in place of pages of 66 lines. */
+    bool mdoc;                /* A page of mdoc(7) is turned into one of man(7); any other stays as it is. */
+    bool tables;              /* Tables are set, where a line begins with `.TS`. */
+    size_t formats;           /* Bytes of a table that are held, and of its formats. */
+    size_t row;               /* Bytes of a line of a row. */
+    size_t set_page;          /* Bytes of a page whose tables are set. */
+};
+
+/* One long page of 78 columns in UTF-8. For a manual page `macros` is set to tmac.an. */
+#define NULBIKO_DOCUMENT_OPTIONS                                                                                            \
+    {sizeof(struct nulbiko_document_options), NULL, 0, 1, 78, NULBIKO_CHOSEN, NULBIKO_UTF8, false, true, true, true,       \
+     262144, 16384, 16777216}
+
 /* What a call tells beside its outcome. */
 struct nulbiko_report {
     size_t size;
     size_t written; /* Bytes at the front of the output. */
     uint64_t at;    /* The place in the text of what `limit` tells: of nulbiko_format how many bytes had been
-                     * taken, of nulbiko_tbl the line, counted from 1. */
+                     * taken, of nulbiko_document how many after the macros of what the formatter reads (0 in the macros), of
+                     * nulbiko_tbl the line, counted from 1. */
     uint64_t moves; /* Moves or steps that were made, at most 2^64 - 1; of nulbiko_tbl 0. */
-    uint32_t limit; /* Of nulbiko_format: which limit. Of nulbiko_tbl: what was wrong first. Else 0. */
-    uint64_t dropped; /* Of nulbiko_utf8: bytes that are no character, which became nothing. Else 0. */
+    uint32_t limit; /* Of nulbiko_document and nulbiko_format: which limit. Of nulbiko_tbl: what was wrong first. Else 0. */
+    uint64_t dropped; /* Of nulbiko_utf8 and of nulbiko_document in UTF-8: bytes that are no character, which became nothing.
+                       * Else 0. */
+    uint64_t line;    /* Of nulbiko_document: the line of the page that was read last, counted from 1; of a page that has
+                       * tables the last line. Else 0. */
 };
 
-#define NULBIKO_REPORT {sizeof(struct nulbiko_report), 0, 0, 0, 0, 0}
+#define NULBIKO_REPORT {sizeof(struct nulbiko_report), 0, 0, 0, 0, 0, 0}
+
+/* Prints a whole page: mdoc, preconv, tbl, nroff and utf8 in one call. The bytes are those of the five calls below, one
+ * after the other. */
+enum nulbiko_outcome nulbiko_document(const struct nulbiko_limits *limits, const struct nulbiko_document_options *options,
+                                      const void *input, size_t length, void *output, size_t capacity,
+                                      struct nulbiko_report *report);
 
 /* The table that a page takes, by its first 65,536 bytes: never NULBIKO_LATIN1. NULBIKO_NO_TABLE where malloc gave no
  * memory, or the pointer of a text that has bytes is null. */

@@ -1,23 +1,28 @@
-// libnulbiko in a browser, or wherever WebAssembly runs: the calls of include/nulbiko.h over texts.
+// libnulbiko in a browser, or wherever WebAssembly runs: the call of include/nulbiko.h that prints a whole page.
 //
 //     const nulbiko = await Nulbiko.load(await fetch("nulbiko.wasm").then((answer) => answer.arrayBuffer()));
 //     nulbiko.page(macros, text, 78)
 
 const DONE = 0, LIMIT = 1, FULL = 4;
-const MOST = 1 << 26; // the most bytes that a call makes
+const MOST = 1 << 26; // the most bytes that a page makes
 
 // Sizes and places in the structs, where a pointer has four bytes.
-const REPORT = { size: 40, written: 4, at: 8, moves: 16, limit: 24, dropped: 32 };
+const REPORT = { size: 48, written: 4, at: 8, moves: 16, limit: 24, dropped: 32, line: 40 };
 const LIMITS = { size: 48, stored: 8, depth: 16, cells: 24, expansions: 32, moves: 40 };
-const OPTIONS = { size: 24, first: 8, bold: 16 };
+const OPTIONS = { size: 56, macros: 4, macros_length: 8, first: 16, width: 24, table: 28, form: 32, bold: 36, long_page: 37,
+    mdoc: 38, tables: 39, formats: 40, row: 44, set_page: 48 };
+const STRUCTS = REPORT.size + LIMITS.size + OPTIONS.size;
+// The table that the page takes, and UTF-8 with backspaces.
+const CHOSEN = 6, UTF8 = 1;
 
 export const LIMITS_OF_STRANGERS = { stored: 262144, depth: 64, cells: 65536, expansions: 10000, moves: 100000000 };
 
-// A call did not do all: `limit` and `at` say which limit, after how many bytes of its text; `bytes` is what was whole before.
+// A page was not printed whole: `limit`, `at` and `line` say which limit, after how many bytes of what the formatter reads after
+// the macros, and at which line of the page; `bytes` is what was whole before.
 export class Stopped extends Error {
-    constructor(call, outcome, limit, at, moves, bytes) {
-        super(limit ? `${call}: ${limit} limit passed at byte ${at}` : `${call}: ${outcome}`);
-        Object.assign(this, { call, outcome, limit, at, moves, bytes });
+    constructor(outcome, limit, { at, line, moves, bytes }) {
+        super(`document: ${limit ? `${limit} limit passed at byte ${at}${line ? `, line ${line}` : ""}` : outcome}`);
+        Object.assign(this, { outcome, limit, at, line, moves, bytes });
     }
 }
 
@@ -50,77 +55,39 @@ export class Nulbiko {
         return this.name("nulbiko_version");
     }
 
-    choose(text) {
-        const place = this.room(text.length);
-        new Uint8Array(this.exports.memory.buffer).set(text, place);
-        return this.exports.nulbiko_choose(place, text.length);
-    }
-
-    // Makes a call over a text. `first` writes what is passed before it at a place, and gives those words.
-    made(call, text, first) {
-        for (let capacity = Math.min(2 * text.length + 8192, MOST); ; capacity = Math.min(2 * capacity, MOST)) {
-            const place = this.room(256 + text.length + capacity), input = place + 256, output = input + text.length;
-            let view = new DataView(this.exports.memory.buffer);
-            new Uint8Array(view.buffer).set(text, input);
-            view.setUint32(place, REPORT.size, true);
-            const words = first(view, place + 64);
-            const outcome = this.exports["nulbiko_" + call](...words, input, text.length, output, capacity, place);
-            if (outcome === FULL && capacity < MOST) continue;
-            view = new DataView(this.exports.memory.buffer);
-            const told = (field) => Number(view.getBigUint64(place + REPORT[field], true));
-            const bytes = new Uint8Array(view.buffer).slice(output, output + view.getUint32(place + REPORT.written, true));
-            if (outcome === DONE) return { bytes, moves: told("moves"), dropped: told("dropped") };
-            const limit = view.getUint32(place + REPORT.limit, true);
-            throw new Stopped(call, this.name("nulbiko_outcome_name", outcome),
-                outcome === LIMIT ? this.name("nulbiko_limit_name", limit) : null, told("at"), told("moves"), bytes);
-        }
-    }
-
-    mdoc(text) {
-        return this.made("mdoc", text, () => []);
-    }
-
-    preconv(text, table) {
-        return this.made("preconv", text, () => [table]);
-    }
-
-    tbl(text, width, table) {
-        return this.made("tbl", text, () => [table, width]);
-    }
-
-    format(text, limits, number = 1) {
-        return this.made("format", text, (view, place) => {
-            view.setUint32(place, LIMITS.size, true);
-            for (const [name, bound] of Object.entries(limits)) view.setBigUint64(place + LIMITS[name], BigInt(bound), true);
-            const options = place + LIMITS.size;
-            view.setUint32(options, OPTIONS.size, true);
-            view.setBigInt64(options + OPTIONS.first, BigInt(number), true);
-            view.setUint8(options + OPTIONS.bold, 0);
-            return [place, options];
-        });
-    }
-
-    utf8(text, table) {
-        return this.made("utf8", text, () => [table, 0]);
-    }
-
-    // Formats a manual page of this width, to UTF-8; both texts are bytes, `macros` those of tmac.an. Where a limit would be
-    // passed, the place is counted in the text that `tbl` made.
+    // Prints a manual page of this width, to UTF-8; both texts are bytes, `macros` those of tmac.an.
     page(macros, text, width = 78, limits = LIMITS_OF_STRANGERS) {
-        const table = this.choose(text), turned = this.preconv(this.mdoc(text).bytes, table).bytes;
-        const set = new TextEncoder().encode(`.nr C 1\n.nr L ${width}\n`);
-        const before = set.length + macros.length, page = this.tbl(turned, width, table).bytes;
-        const whole = new Uint8Array(before + page.length);
-        whole.set(set);
-        whole.set(macros, set.length);
-        whole.set(page, before);
-        try {
-            const made = this.format(whole, limits);
-            return { bytes: this.utf8(made.bytes, table).bytes, moves: made.moves };
-        } catch (stopped) {
-            if (!(stopped instanceof Stopped)) throw stopped;
-            throw new Stopped(stopped.call, stopped.outcome, stopped.limit, Math.max(stopped.at - before, 0), stopped.moves,
-                this.utf8(stopped.bytes, table).bytes);
+        for (let capacity = Math.min(2 * text.length + 8192, MOST); ; capacity = Math.min(2 * capacity, MOST)) {
+            const [outcome, limit, made] = this.print(macros, text, width, limits, capacity);
+            if (outcome === FULL && capacity < MOST) continue;
+            if (outcome === DONE) return made;
+            throw new Stopped(this.name("nulbiko_outcome_name", outcome),
+                outcome === LIMIT ? this.name("nulbiko_limit_name", limit) : null, made);
         }
+    }
+
+    // The same with room for so many bytes: the outcome, the limit, and what is told beside.
+    print(macros, text, width, limits, capacity) {
+        const place = this.room(STRUCTS + macros.length + text.length + capacity);
+        const bounds = place + REPORT.size, options = bounds + LIMITS.size;
+        const before = place + STRUCTS, input = before + macros.length, output = input + text.length;
+        let view = new DataView(this.exports.memory.buffer);
+        new Uint8Array(view.buffer).set(macros, before);
+        new Uint8Array(view.buffer).set(text, input);
+        view.setUint32(place, REPORT.size, true);
+        view.setUint32(bounds, LIMITS.size, true);
+        for (const [name, bound] of Object.entries(limits)) view.setBigUint64(bounds + LIMITS[name], BigInt(bound), true);
+        view.setUint32(options, OPTIONS.size, true);
+        const set = { macros: before, macros_length: macros.length, width, table: CHOSEN, form: UTF8, formats: 1 << 18,
+            row: 1 << 14, set_page: 1 << 24 };
+        for (const [name, number] of Object.entries(set)) view.setUint32(options + OPTIONS[name], number, true);
+        view.setBigInt64(options + OPTIONS.first, 1n, true);
+        for (const name of ["bold", "long_page", "mdoc", "tables"]) view.setUint8(options + OPTIONS[name], name !== "bold");
+        const outcome = this.exports.nulbiko_document(bounds, options, input, text.length, output, capacity, place);
+        view = new DataView(this.exports.memory.buffer);
+        const told = (field) => Number(view.getBigUint64(place + REPORT[field], true));
+        const bytes = new Uint8Array(view.buffer).slice(output, output + view.getUint32(place + REPORT.written, true));
+        return [outcome, view.getUint32(place + REPORT.limit, true),
+            { bytes, at: told("at"), line: told("line"), moves: told("moves"), dropped: told("dropped") }];
     }
 }

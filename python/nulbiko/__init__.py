@@ -3,21 +3,28 @@
     import nulbiko
     print(nulbiko.page(open('ls.1', 'rb').read(), width=78))
 
-Where a limit would be passed `page` raises `Stopped`, which has the call, the limit, its place, and what was formatted
-before. The calls are those of libnulbiko, by ctypes: any number may run at once, and Python's other threads run meanwhile.
+Where a limit would be passed `page` raises `Stopped`, which has the limit, its place and line, and what was formatted before.
+`page` is `document` after the macros of manual pages; what that does in one call stands here by itself too. The calls are
+those of libnulbiko, by ctypes: any number may run at once, and Python's other threads run meanwhile.
 """
 import ctypes
 import os
-from ctypes import byref, c_bool, c_char_p, c_int64, c_size_t, c_uint32, c_uint64, c_void_p
+from ctypes import byref, c_bool, c_char_p, c_int64, c_size_t, c_uint32, c_uint64, c_void_p, sizeof
 
-__all__ = ['LIMITS', 'LIMITS_OF_STRANGERS', 'MAN', 'TABLES', 'Stopped', 'choose', 'format', 'mdoc', 'page', 'preconv', 'tbl',
-           'utf8', 'version']
+__all__ = ['FORMS', 'LIMITS', 'LIMITS_OF_STRANGERS', 'MAN', 'TABLES', 'Stopped', 'choose', 'document', 'format', 'mdoc', 'page',
+           'preconv', 'tbl', 'utf8', 'version']
 
-# The limits of `format`: nroff's own, and those for a stranger's page, which ends after seconds.
+# The limits of `document` and `format`: nroff's own, and those for a stranger's page, which ends after seconds.
 LIMITS = {'stored': 262144, 'depth': 256, 'cells': 65536, 'expansions': 1000000, 'moves': 2**64 - 1}
 LIMITS_OF_STRANGERS = {'stored': 262144, 'depth': 64, 'cells': 65536, 'expansions': 10000, 'moves': 10**8}
 # The tables of characters. Without one, all is spelled in ASCII.
 TABLES = {None: 0, 'english': 1, 'latin': 2, 'cyrillic': 3, 'greek': 4, 'latin1': 5}
+# How `document` gives its pages: as bytes of the table, in UTF-8, or in UTF-8 between escape sequences.
+FORMS = {'bytes': 0, 'utf8': 1, 'escapes': 2}
+# The number of the table that `choose` gives.
+CHOSEN = 6
+# What is held of a table, of a line of a row, and of a page whose tables are set, in bytes.
+HELD = 1 << 18, 1 << 14, 1 << 24
 # The most bytes that a call makes.
 MOST = 1 << 26
 WIDTHS = range(10, 1001)
@@ -33,24 +40,34 @@ class _Options(ctypes.Structure):
     _fields_ = [('size', c_size_t), ('first', c_int64), ('bold', c_bool)]
 
 
+class _DocumentOptions(ctypes.Structure):
+    _fields_ = [('size', c_size_t), ('macros', c_char_p), ('macros_length', c_size_t), ('first', c_int64),
+                *((name, c_uint32) for name in ('width', 'table', 'form')),
+                *((name, c_bool) for name in ('bold', 'long_page', 'mdoc', 'tables')),
+                *((name, c_size_t) for name in ('formats', 'row', 'set_page'))]
+
+
 class _Report(ctypes.Structure):
     _fields_ = [('size', c_size_t), ('written', c_size_t), ('at', c_uint64), ('moves', c_uint64), ('limit', c_uint32),
-                ('dropped', c_uint64)]
+                ('dropped', c_uint64), ('line', c_uint64)]
 
 
 class Stopped(Exception):
     """A call did not do all.
 
     `call` is its name, `outcome` the outcome's, `limit` the name of the limit that would be passed or None, `at` how many
-    bytes of the call's text had been taken, and `made` what was whole before: of `page` a str, else bytes.
+    bytes of the call's text had been taken, and `made` what was whole before: of `page` a str, else bytes. Of `document` and
+    `page` the place is counted in what the formatter reads after the macros, and 0 in these, and `line` is the line of the
+    page that was read last; of a page that has tables the last line. Of other calls it is 0.
     """
 
-    def __init__(self, call, outcome, limit, at, made):
-        self.call, self.outcome, self.limit, self.at, self.made = call, outcome, limit, at, made
-        super().__init__(f'{call}: {limit} limit passed at byte {at}' if limit else f'{call}: {outcome}')
+    def __init__(self, call, outcome, limit, at, made, line=0):
+        self.call, self.outcome, self.limit, self.at, self.made, self.line = call, outcome, limit, at, made, line
+        place = f' at byte {at}, line {line}' if line else f' at byte {at}'
+        super().__init__(f'{call}: {limit} limit passed{place}' if limit else f'{call}: {outcome}')
 
     def __reduce__(self):
-        return Stopped, (self.call, self.outcome, self.limit, self.at, self.made)
+        return Stopped, (self.call, self.outcome, self.limit, self.at, self.made, self.line)
 
 
 def _library():
@@ -58,7 +75,7 @@ def _library():
     path = os.path.join(HERE, 'libnulbiko.so')
     library = ctypes.CDLL(path if os.path.exists(path) else 'libnulbiko.so.0')
     places = [c_char_p, c_size_t, c_void_p, c_size_t, c_void_p]
-    firsts = {'format': [c_void_p, c_void_p], 'mdoc': [], 'preconv': [c_uint32], 'tbl': [c_uint32, c_size_t],
+    firsts = {'document': [c_void_p, c_void_p], 'format': [c_void_p, c_void_p], 'mdoc': [], 'preconv': [c_uint32], 'tbl': [c_uint32, c_size_t],
               'utf8': [c_uint32, c_bool]}
     for name, first in firsts.items():
         call = getattr(library, f'nulbiko_{name}')
@@ -92,7 +109,7 @@ def _made(name, first, text):
     text = bytes(memoryview(text))
     capacity = min(2 * len(text) + 8192, MOST)
     while True:
-        output, report = ctypes.create_string_buffer(capacity), _Report(ctypes.sizeof(_Report))
+        output, report = ctypes.create_string_buffer(capacity), _Report(sizeof(_Report))
         outcome = getattr(_LIBRARY, f'nulbiko_{name}')(*first, text, len(text), output, capacity, byref(report))
         if outcome != FULL or capacity == MOST:
             break
@@ -100,13 +117,44 @@ def _made(name, first, text):
     made = ctypes.string_at(output, report.written)
     if outcome != DONE:
         limit = _LIBRARY.nulbiko_limit_name(report.limit).decode() if outcome == LIMIT else None
-        raise Stopped(name, _LIBRARY.nulbiko_outcome_name(outcome).decode(), limit, report.at, made)
+        raise Stopped(name, _LIBRARY.nulbiko_outcome_name(outcome).decode(), limit, report.at, made, report.line)
     return made
+
+
+def _look(name, number, most):
+    if not 0 <= number < most:
+        raise ValueError(f'{name} {number} is out of range')
+
+
+def _limits(limits):
+    """The limits as the library has them, once they are looked at."""
+    if limits.keys() != LIMITS.keys():
+        raise TypeError(f'the limits are {", ".join(LIMITS)}, not {", ".join(limits)}')
+    for name in LIMITS:
+        _look(name, limits[name], 2**64)
+    return _Limits(sizeof(_Limits), **limits)
 
 
 def version():
     """The version of the library."""
     return _LIBRARY.nulbiko_version().decode()
+
+
+def document(text, macros=b'', width=78, limits=LIMITS, first=1, table='chosen', form='utf8', bold=False, long_page=True,
+             mdoc=True, tables=True):
+    """Prints a whole page after its macros, as `MAN`: `mdoc`, `preconv`, `tbl`, `format` and `utf8` in one call.
+
+    The width is that of the macros and of tables: a text without macro files begins with `.ll`. The table is that which `choose`
+    gives where it is nothing else; without one (None) the form is 'bytes'. What `form` may be is in `FORMS`. `bold` is that of
+    `format`. With `long_page` it is one page; with `mdoc` a page of mdoc(7) is turned; with `tables` tables are set.
+    """
+    for name, number, most in ('width', width, 2**32), ('first', abs(first), 2**31):
+        _look(name, number, most)
+    lent, macros = _limits(limits), bytes(memoryview(macros))
+    number = CHOSEN if table == 'chosen' else TABLES[table]
+    options = _DocumentOptions(sizeof(_DocumentOptions), macros, len(macros), first, width, number, FORMS[form], bold, long_page,
+                               mdoc, tables, *HELD)
+    return _made('document', [byref(lent), byref(options)], text)
 
 
 def choose(text):
@@ -139,12 +187,8 @@ def format(text, limits=LIMITS, first=1, bold=False):
     With `bold` each cell but a blank is shown as it looks, by backspaces; else letters and digits of ASCII are underlined.
     The limits are those of `LIMITS`, each with a number: {**nulbiko.LIMITS, 'moves': 10**8}.
     """
-    if limits.keys() != LIMITS.keys():
-        raise TypeError(f'the limits are {", ".join(LIMITS)}, not {", ".join(limits)}')
-    for name, number, most in [*((name, limits[name], 2**64) for name in LIMITS), ('first', abs(first), 2**31)]:
-        if not 0 <= number < most:
-            raise ValueError(f'{name} {number} is out of range')
-    lent, options = _Limits(ctypes.sizeof(_Limits), **limits), _Options(ctypes.sizeof(_Options), first, bold)
+    _look('first', abs(first), 2**31)
+    lent, options = _limits(limits), _Options(sizeof(_Options), first, bold)
     return _made('format', [byref(lent), byref(options)], text)
 
 
@@ -157,21 +201,13 @@ def utf8(text, table, escapes=False):
 def page(text, width=78, limits=LIMITS_OF_STRANGERS, bold=False):
     """Formats a manual page, of man(7) or mdoc(7), as one long page of this width. The text is str, or bytes of UTF-8.
 
-    Where a limit would be passed it raises `Stopped`: the place is counted in the text that `tbl` made, and 0 where it is in
-    the macros before it.
+    Where a limit would be passed it raises `Stopped`, with the line of the page.
     """
     if width not in WIDTHS:
         raise ValueError(f'width {width} is outside {WIDTHS.start} to {WIDTHS[-1]}')
     text = text.encode('utf-8', 'surrogateescape') if isinstance(text, str) else bytes(memoryview(text))
-    table = choose(text)
-    if table is None:
-        raise MemoryError
-    before = b'.nr C 1\n.nr L %d\n' % width + MAN
-    turned = tbl(preconv(mdoc(text), table), width, table)
     try:
-        made = format(before + turned, limits, bold=bold)
+        return document(text, MAN, width, limits, bold=bold).decode()
     except Stopped as stopped:
-        stopped.made = utf8(stopped.made, table).decode()
-        at = max(stopped.at - len(before), 0)
-        raise Stopped(stopped.call, stopped.outcome, stopped.limit, at, stopped.made) from None
-    return utf8(made, table).decode()
+        stopped.made = stopped.made.decode()
+        raise

@@ -30,7 +30,8 @@ static bool nothing_done(void)
     for (size_t i = 0; i < sizeof out; i++)
         if (out[i] != '#')
             return false;
-    return report.size == sizeof report && !report.written && !report.at && !report.moves && !report.limit && !report.dropped;
+    return report.size == sizeof report && !report.written && !report.at && !report.moves && !report.limit && !report.dropped &&
+           !report.line;
 }
 
 /* The report is as it was prepared, behind its size. */
@@ -61,6 +62,40 @@ static enum nulbiko_outcome format(const struct nulbiko_limits *limits, const ch
 {
     prepare();
     return nulbiko_format(limits, &options, bytes, strlen(bytes), out, capacity, &report);
+}
+
+/* How the calls below set a page: bytes, width 78. */
+static struct nulbiko_document_options plainly(void)
+{
+    struct nulbiko_document_options set = NULBIKO_DOCUMENT_OPTIONS;
+    set.table = NULBIKO_NO_TABLE;
+    set.form = NULBIKO_BYTES;
+    return set;
+}
+
+static enum nulbiko_outcome document(const struct nulbiko_limits *limits, struct nulbiko_document_options set, const char *bytes,
+                                     size_t capacity)
+{
+    prepare();
+    return nulbiko_document(limits, &set, bytes, strlen(bytes), out, capacity, &report);
+}
+
+static void null_of_documents(void)
+{
+    struct nulbiko_document_options set = plainly();
+    prepare();
+    judge("document: no text", nulbiko_document(&plain, &set, NULL, 1, out, 9, &report) == NULBIKO_NULL && nothing_done());
+    prepare();
+    judge("document: no output", nulbiko_document(&plain, &set, text, 1, NULL, 9, &report) == NULBIKO_NULL && nothing_done());
+    prepare();
+    judge("document: no limits", nulbiko_document(NULL, &set, text, 1, out, 9, &report) == NULBIKO_NULL && nothing_done());
+    prepare();
+    judge("document: no options", nulbiko_document(&plain, NULL, text, 1, out, 9, &report) == NULBIKO_NULL && nothing_done());
+    judge("document: no report", nulbiko_document(&plain, &set, text, 1, out, 9, NULL) == NULBIKO_NULL);
+    prepare();
+    judge("document: 0 and 0", nulbiko_document(&plain, &set, NULL, 0, NULL, 0, &report) == NULBIKO_DONE && put_out(""));
+    set.macros_length = 1;
+    judge("document: no macros", document(&plain, set, text, sizeof out) == NULBIKO_NULL && nothing_done());
 }
 
 static void null_pointers(void)
@@ -130,6 +165,15 @@ static void ranges(void)
     prepare();
     judge("tbl: no such table", nulbiko_tbl((enum nulbiko_table)6, 78, text, sizeof text, out, sizeof out, &report) ==
                                     NULBIKO_OUT_OF_RANGE && nothing_done());
+    for (size_t i = 0; i < sizeof bad / sizeof *bad; i++)
+        judge("document: a limit out of range", document(&bad[i], plainly(), text, sizeof out) == NULBIKO_OUT_OF_RANGE && nothing_done());
+    const uint32_t numbers[][2] = {{7, 0}, {UINT32_MAX, 0}, {0, 1}, {0, 2}, {1, 3}, {6, UINT32_MAX}};
+    for (size_t i = 0; i < sizeof numbers / sizeof *numbers; i++) {
+        struct nulbiko_document_options set = plainly();
+        set.table = (enum nulbiko_table)numbers[i][0];
+        set.form = (enum nulbiko_form)numbers[i][1];
+        judge("document: no such table or form", document(&plain, set, text, sizeof out) == NULBIKO_OUT_OF_RANGE && nothing_done());
+    }
     const struct nulbiko_limits least = {SIZE, 64, 1, 1, 1, 64};
     judge("format: the least limits", format(&least, text, sizeof out) != NULBIKO_OUT_OF_RANGE);
 }
@@ -149,6 +193,11 @@ static void sizes(void)
         prepare();
         report.size = others[i];
         bool refused = nulbiko_mdoc(text, strlen(text), out, sizeof out, &report) == NULBIKO_OUT_OF_RANGE && report_untouched();
+        struct nulbiko_document_options set = plainly();
+        judge("document: limits of another size", document(&limits, set, text, sizeof out) == NULBIKO_OUT_OF_RANGE && nothing_done());
+        set.size = others[i];
+        judge("document: options of another size", document(&plain, set, text, sizeof out) == NULBIKO_OUT_OF_RANGE && nothing_done());
+        prepare();
         report.size = others[i] == sizeof report ? 0 : sizeof report;
         judge("mdoc: a report of another size", others[i] == sizeof report || refused);
     }
@@ -169,7 +218,7 @@ static void names(void)
     judge("version: its number", sscanf(NULBIKO_VERSION, "%d.%d.%d", &major, &minor, &patch) == 3 &&
                                      10000 * major + 100 * minor + patch == NULBIKO_VERSION_NUMBER);
     judge("names of outcomes", are_names(nulbiko_outcome_name, NULBIKO_TOO_LONG + 1, "text too long"));
-    judge("names of limits", are_names(nulbiko_limit_name, NULBIKO_MOVES + 1, "moves"));
+    judge("names of limits", are_names(nulbiko_limit_name, NULBIKO_SET_PAGE + 1, "page with tables"));
     judge("names of what is wrong", are_names(nulbiko_wrong_name, NULBIKO_TOO_WIDE + 1, "table wider than the line"));
 }
 
@@ -235,6 +284,63 @@ static void outcomes(void)
     judge("choose: nothing to go by", nulbiko_choose("abc", 3) == NULBIKO_ENGLISH);
 }
 
+/* A page of man(7) with macros of its own, characters, a table and a font; one of mdoc(7). */
+static const char macros[] = ".de TH\n..\n.pl 3\n.ll \\nLn\n";
+static const char whole[] = ".TH A 1\n\xe2\x80\x93 \\fIx\\fP\n.TS\nl l.\na\tb\n.TE\n";
+
+static void documents(void)
+{
+    struct nulbiko_document_options set = plainly();
+    judge("document: two pages", document(&plain, set, text, sizeof out) == NULBIKO_DONE && put_out("a\nb\n") && report.moves > 0);
+    judge("document: its last line", report.line == 5);
+    judge("document: just enough room", document(&plain, set, text, 4) == NULBIKO_DONE && put_out("a\nb\n"));
+    judge("document: full", document(&plain, set, text, 3) == NULBIKO_FULL && put_out("a\nb"));
+    judge("document: full at once", document(&plain, set, text, 0) == NULBIKO_FULL && put_out(""));
+    set.macros = macros;
+    set.macros_length = strlen(macros);
+    judge("document: after macros", document(&plain, set, whole, sizeof out) == NULBIKO_DONE && put_out("- _\bx\na   b\n\n"));
+    set.table = NULBIKO_CHOSEN;
+    set.form = NULBIKO_UTF8;
+    judge("document: UTF-8", document(&plain, set, whole, sizeof out) == NULBIKO_DONE &&
+                                 put_out("\xe2\x80\x93 _\bx\na   b\n\n") && report.dropped == 0);
+    judge("document: UTF-8, full", document(&plain, set, whole, 2) == NULBIKO_FULL && put_out("\xe2\x80"));
+    set.form = NULBIKO_ESCAPES;
+    judge("document: escapes", document(&plain, set, whole, sizeof out) == NULBIKO_DONE &&
+                                   put_out("\xe2\x80\x93 \033[4mx\033[24m\na   b\n\n"));
+    set.tables = false;
+    judge("document: no tables", document(&plain, set, ".TS\nl.\na\n.TE\n", sizeof out) == NULBIKO_DONE && put_out("l.  a\n\n\n"));
+    set.tables = true;
+    set.set_page = 3;
+    judge("document: no room for a table", document(&plain, set, whole, sizeof out) == NULBIKO_LIMIT && put_out("") &&
+                                               report.limit == NULBIKO_SET_PAGE && report.at == 0);
+    set = plainly();
+    set.first = 5;
+    judge("document: the first page's number", document(&plain, set, "\\n%\n", 1) == NULBIKO_FULL && put_out("5"));
+    set.width = 33;
+    judge("document: the width", document(&plain, set, ".pl 1\n\\nL \\nC\n", sizeof out) == NULBIKO_DONE && put_out("33 1\n"));
+    set.long_page = false;
+    judge("document: many pages", document(&plain, set, ".pl 1\n\\nL \\nC\n", sizeof out) == NULBIKO_DONE && put_out("33 0\n"));
+    const char of_mdoc[] = ".Dd x\n.Dt A 1\n.Os\n.pl 1\n";
+    set.mdoc = false;
+    judge("document: no mdoc", document(&plain, set, of_mdoc, sizeof out) == NULBIKO_DONE && put_out(""));
+}
+
+static void limits_of_documents(void)
+{
+    struct nulbiko_document_options set = plainly();
+    const struct nulbiko_limits narrow = {SIZE, 262144, 64, 6, 1000, UINT64_MAX};
+    judge("document: a limit", document(&narrow, set, ".pl 1\na\n.br\nb\n.br\nlongword\n", sizeof out) == NULBIKO_LIMIT &&
+                                   put_out("a\n") && report.limit == NULBIKO_LINE_CELLS && report.at == 25 && report.line == 6);
+    set.macros = "longword\n";
+    set.macros_length = 9;
+    judge("document: a limit in the macros", document(&narrow, set, "a\n", sizeof out) == NULBIKO_LIMIT && put_out("") &&
+                                                 report.limit == NULBIKO_LINE_CELLS && report.at == 0 && report.line == 0);
+    const struct nulbiko_limits few = {SIZE, 262144, 256, 65536, 1000000, 64};
+    set = plainly();
+    judge("document: a limit of all moves", document(&few, set, ".ds a bbbbbbbbbbbbbbbbbbbbbbbbbbbbbbbbbbbbbbbb\n", sizeof out) ==
+                                                NULBIKO_LIMIT && report.limit == NULBIKO_MOVES && report.moves == 64);
+}
+
 /* Last, since it takes the program's memory away. */
 static void no_memory(void)
 {
@@ -242,16 +348,21 @@ static void no_memory(void)
     struct rlimit most = {1 << 25, 1 << 25};
     setrlimit(RLIMIT_AS, &most);
     judge("format: out of memory", format(&large, text, sizeof out) == NULBIKO_OUT_OF_MEMORY && nothing_done());
+    judge("document: out of memory", document(&large, plainly(), text, sizeof out) == NULBIKO_OUT_OF_MEMORY && nothing_done());
+    judge("document: enough again", document(&plain, plainly(), text, sizeof out) == NULBIKO_DONE && put_out("a\nb\n"));
     judge("format: enough again", format(&plain, text, sizeof out) == NULBIKO_DONE && put_out("a\nb\n"));
 }
 
 int main(void)
 {
+    null_of_documents();
     null_pointers();
     ranges();
     sizes();
     names();
     outcomes();
+    documents();
+    limits_of_documents();
     no_memory();
     printf("boundary: %d passed, %d failed\n", passed, failed);
     return failed != 0;

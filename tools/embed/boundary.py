@@ -48,12 +48,29 @@ def pages():
     judge('format: a number', nulbiko.format(b'\\n%\n', first=5).startswith(b'5'))
 
 
+def documents():
+    """A document is its stages, one after the other."""
+    text = PAGE.encode()
+    table = nulbiko.choose(text)
+    turned = nulbiko.tbl(nulbiko.preconv(nulbiko.mdoc(text), table), 60, table)
+    for bold in False, True:
+        made = nulbiko.format(b'.nr C 1\n.nr L 60\n' + nulbiko.MAN + turned, bold=bold)
+        wanted = {'bytes': made, 'utf8': nulbiko.utf8(made, table), 'escapes': nulbiko.utf8(made, table, True)}
+        for form, page in wanted.items():
+            judge(f'document: {form}, bold {bold}', nulbiko.document(text, nulbiko.MAN, 60, form=form, bold=bold) == page)
+    ascii_page = nulbiko.document(text, nulbiko.MAN, 60, table=None, form='bytes')
+    judge('document: ASCII', ascii_page.isascii() and b'a - uni - code' in ascii_page.replace(b'_\b', b''))
+    judge('document: pages', len(nulbiko.document(text, nulbiko.MAN, long_page=False).split(b'\n')) == 67)
+
+
 def limits():
     error = stopped(nulbiko.page, ENDLESS)
-    judge('page: an endless one', error and (error.call, error.limit) == ('format', 'input depth') and 0 < error.at <= len(ENDLESS))
+    judge('page: an endless one', error and (error.call, error.limit, error.line) == ('document', 'input depth', 7) and 0 < error.at <= len(ENDLESS))
     judge('page: what it made', error and isinstance(error.made, str))
-    judge('page: what it tells', str(error) == f'format: input depth limit passed at byte {error.at}')
+    judge('page: what it tells', str(error) == f'document: input depth limit passed at byte {error.at}, line 7')
     judge('stopped: it can be sent', vars(pickle.loads(pickle.dumps(error))) == vars(error))
+    error = stopped(nulbiko.document, b'a', table=None)
+    judge('document: UTF-8 without a table', error and error.outcome == 'out of range')
     few = {**nulbiko.LIMITS, 'moves': 64}
     error = stopped(nulbiko.format, b'word\n' * 100, limits=few)
     judge('format: moves', error and error.limit == 'moves' and 0 < error.at < 64)
@@ -68,6 +85,10 @@ def refusals():
         refused(f'page: width {width}', ValueError, nulbiko.page, PAGE, width)
     for text in None, 5, [1, 2], object():
         refused(f'page: {text}', TypeError, nulbiko.page, text)
+    for named in {'width': -1}, {'width': 2**32}, {'first': 2**40}, {'limits': {}}:
+        refused(f'document: {named}', (TypeError, ValueError), nulbiko.document, b'', **named)
+    for named in {'form': 'nonesuch'}, {'table': 'nonesuch'}:
+        refused(f'document: {named}', KeyError, nulbiko.document, b'', **named)
     refused('tbl: width below 0', ValueError, nulbiko.tbl, b'', -1)
     refused('utf8: no such table', KeyError, nulbiko.utf8, b'', 'nonesuch')
     for name, number in ('moves', 2**64), ('depth', -1), ('cells', 2**70):
@@ -78,6 +99,7 @@ def refusals():
 
 
 pages()
+documents()
 limits()
 refusals()
 print(*(f'not so: {what}' for what in FAILED), sep='\n', end='\n' if FAILED else '')

@@ -3,3 +3,4 @@ mod PreconvRun
 mod MdocRun
 mod TblRun
 mod Utf8Run
+mod DocumentRun

@@ -80,5 +80,6 @@ pub record FormatsText (b : Bounds) (wanted : TextOptions) (text output : List �
   pub limit : report.limit ≡ limit_told outcome
   pub place : report.at ≡ place_told outcome
   pub none_dropped : report.dropped ≡ 0
+  pub no_line : report.line ≡ 0
   -- a slice doesn't fail
   pub readable : is_read_fault outcome ≡ false

@@ -5,3 +5,5 @@ pub mod Preconv
 pub mod Mdoc
 pub mod Tbl
 pub mod Utf8
+pub mod Printed
+pub mod Document

@@ -26,5 +26,6 @@ pub record TurnsPage (text output : List ℕ) (report : Report) (code : ℕ) : T
   pub no_limit : report.limit ≡ 0
   pub no_place : report.at ≡ 0
   pub none_dropped : report.dropped ≡ 0
+  pub no_line : report.line ≡ 0
   -- a slice doesn't fail
   pub readable : is_read_fault outcome ≡ false

@@ -66,5 +66,6 @@ pub record SetsTables (table : Option Table) (line : ℕ) (text output : List �
   pub wrong : report.limit ≡ first_kind kept.items
   pub place : report.at ≡ first_line kept.items
   pub none_dropped : report.dropped ≡ 0
+  pub no_line : report.line ≡ 0
   -- a slice doesn't fail
   pub readable : is_read_fault outcome ≡ false

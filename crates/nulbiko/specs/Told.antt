@@ -9,7 +9,7 @@ count_told n = if nat_lt n 18446744073709551616 then n else 18446744073709551615
 
 -- where nothing was done
 abbrev pub nothing_told : Report
-nothing_told = record { written = 0; at = 0; moves = 0; limit = 0; dropped = 0 }
+nothing_told = record { written = 0; at = 0; moves = 0; limit = 0; dropped = 0; line = 0 }
 
 -- the number where so many bytes came out and so many fit: 4 where not all of them do
 abbrev pub code_within : ℕ → ℕ → ℕ → ℕ

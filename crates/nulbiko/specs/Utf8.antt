@@ -30,6 +30,7 @@ pub record TurnsBytes (table : Table) (escapes : Bool) (text output : List ℕ) 
   pub no_moves : report.moves ≡ 0
   pub no_limit : report.limit ≡ 0
   pub no_place : report.at ≡ 0
+  pub no_line : report.line ≡ 0
   -- a slice doesn't fail
   pub readable : is_read_fault outcome ≡ false
 

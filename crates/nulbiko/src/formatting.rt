@@ -40,7 +40,7 @@ pub struct TextOptions {
 }
 
 /// The number of a limit: 1 for stored bytes, 2 depth, 3 cells of a line, 4 cells of a page, 5 expansions, 6 moves.
-fn limit_number(which: Measure) -> u32
+pub(crate) fn limit_number(which: Measure) -> u32
     ensures { result ≡ limit_number which }
 {
     match which {
@@ -75,6 +75,7 @@ fn report_of(outcome: Outcome, written: usize, moves: u128) -> Report
     ensures limit { result.limit ≡ limit_told outcome }
     ensures place { result.at ≡ place_told outcome }
     ensures none_dropped { result.dropped ≡ 0 }
+    ensures no_line { result.line ≡ 0 }
 {
     let (limit, at) = match outcome {
         Outcome::Limit { which, at } => (limit_number(which), at),
@@ -86,6 +87,7 @@ fn report_of(outcome: Outcome, written: usize, moves: u128) -> Report
         moves: count_told(moves),
         limit,
         dropped: 0,
+        line: 0,
     }
 }
 
@@ -97,7 +99,7 @@ fn faces_of(bold: bool) -> Faces
 }
 
 /// The options that are asked for.
-fn options_of(asked: TextOptions) -> Options
+pub(crate) fn options_of(asked: TextOptions) -> Options
     ensures { AreAsked asked result }
 {
     let mut options = Options::plain();

@@ -55,6 +55,7 @@ fn turn_page(
         moves: steps,
         limit: 0,
         dropped: 0,
+        line: 0,
     };
     Ok(code_within(code(outcome), bytes.len(), output.len()))
 }

@@ -58,6 +58,7 @@ fn turn_text(
         moves: steps,
         limit: 0,
         dropped: 0,
+        line: 0,
     };
     Ok(code_within(code(outcome), bytes.len(), output.len()))
 }

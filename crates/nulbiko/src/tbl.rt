@@ -95,6 +95,7 @@ fn set_tables(
         moves: 0,
         limit,
         dropped: 0,
+        line: 0,
     };
     Ok(code_within(code(report.outcome), bytes.len(), output.len()))
 }

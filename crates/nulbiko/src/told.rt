@@ -37,6 +37,8 @@ pub struct Report {
     pub limit: u32,
     /// How many bytes of the text became nothing: those that are no character of a table.
     pub dropped: u64,
+    /// The line of a whole page that was read last, from 1 on, or 0.
+    pub line: u64,
 }
 
 impl Report {
@@ -50,6 +52,7 @@ impl Report {
             moves: 0,
             limit: 0,
             dropped: 0,
+            line: 0,
         }
     }
 }

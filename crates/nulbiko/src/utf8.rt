@@ -67,6 +67,7 @@ fn turn_bytes(
         moves: 0,
         limit: 0,
         dropped,
+        line: 0,
     };
     Ok(code_within(code(outcome), bytes.len(), output.len()))
 }
@@ -105,7 +106,7 @@ pub extern "C" fn nulbiko_utf8_lent(
 }
 
 /// Looks at a page and gives the number of its table.
-fn look(alloc: Global, input: &[u8]) -> Result<u32, AllocError>
+pub(crate) fn look(alloc: Global, input: &[u8]) -> Result<u32, AllocError>
     ensures { IfOk result (λ number. ChoosesNumber input.now number) }
 {
     let mut page = vec![in alloc; 0u8; LOOKED_AT]?;

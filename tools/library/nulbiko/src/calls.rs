@@ -1,18 +1,20 @@
 //! Calls over texts that are given and made.
 
-use crate::words::{Limit, Limits, Stopped, Table, Why, Wrong};
+use crate::words::{Characters, Limit, Limits, Options, Stopped, Table, Why, Wrong};
 use kit::alloc::Global;
+use nulbiko_lent::document::nulbiko_document_lent;
 use nulbiko_lent::formatting::nulbiko_format_lent;
 use nulbiko_lent::mdoc::nulbiko_mdoc_lent;
 use nulbiko_lent::preconv::nulbiko_preconv_lent;
 use nulbiko_lent::tbl::nulbiko_tbl_lent;
 use nulbiko_lent::utf8::{nulbiko_choose_lent, nulbiko_utf8_lent};
-use nulbiko_lent::{Report, TextLimits, TextOptions};
+use nulbiko_lent::{DocumentOptions, DocumentSetup, Report, TableLimits, TextLimits, TextOptions};
 
 /// The most bytes that a call makes: 64 MiB.
 const MOST: usize = 1 << 26;
 
-const NOTHING: Report = Report { written: 0, at: 0, moves: 0, limit: 0, dropped: 0 };
+const NOTHING: Report = Report { written: 0, at: 0, moves: 0, limit: 0, dropped: 0, line: 0 };
+const CHOSEN: u32 = 6;
 const FULL: u32 = 4;
 
 /// What a call made.
@@ -25,7 +27,7 @@ pub struct Made {
     pub moves: u64,
     /// Of [`tbl`]: what was wrong first, and on which line, counted from 1.
     pub wrong: Option<(Wrong, u64)>,
-    /// Of [`utf8`]: bytes that are no character, which became nothing.
+    /// Of [`utf8`] and [`document`]: bytes that are no character, which became nothing.
     pub dropped: u64,
 }
 
@@ -39,7 +41,7 @@ fn made(
     loop {
         let mut bytes = Vec::new();
         if bytes.try_reserve_exact(capacity).is_err() {
-            return Err(Stopped { call, why: Why::OutOfMemory, bytes });
+            return Err(Stopped { call, why: Why::OutOfMemory, line: 0, bytes });
         }
         bytes.resize(capacity, 0);
         let mut report = NOTHING;
@@ -49,20 +51,60 @@ fn made(
             continue;
         }
         bytes.truncate(report.written);
-        return match outcome {
-            0 => Ok((bytes, report)),
-            1 => Err(Stopped { call, why: Why::Limit(Limit::numbered(report.limit), report.at), bytes }),
-            FULL => Err(Stopped { call, why: Why::Full, bytes }),
-            5 => Err(Stopped { call, why: Why::OutOfMemory, bytes }),
-            6 => Err(Stopped { call, why: Why::TooLong, bytes }),
-            _ => Err(Stopped { call, why: Why::OutOfRange, bytes }),
+        let why = match outcome {
+            0 => return Ok((bytes, report)),
+            1 => Why::Limit(Limit::numbered(report.limit), report.at),
+            FULL => Why::Full,
+            5 => Why::OutOfMemory,
+            6 => Why::TooLong,
+            _ => Why::OutOfRange,
         };
+        return Err(Stopped { call, why, line: report.line, bytes });
     }
 }
 
 /// What was made, where nothing of tables is told.
 fn plain((bytes, report): (Vec<u8>, Report)) -> Made {
     Made { bytes, moves: report.moves, wrong: None, dropped: report.dropped }
+}
+
+impl Limits {
+    /// The limits as the library below has them.
+    fn lent(&self) -> TextLimits {
+        let Limits { stored, depth, cells, expansions, moves } = *self;
+        TextLimits { stored, depth, cells, expansions, moves }
+    }
+}
+
+/// Prints a whole page after its macros, as [`MAN`](crate::MAN): [`mdoc()`], [`preconv`], [`tbl`], [`format()`] and [`utf8`] in one
+/// call.
+///
+/// # Errors
+///
+/// Where a limit would be passed, is out of range, there isn't enough memory, or more than 64 MiB come out. The place of a
+/// limit is counted in what the formatter reads after the macros, and 0 where it is in them.
+pub fn document(limits: &Limits, options: &Options, macros: &[u8], text: &[u8]) -> Result<Made, Stopped> {
+    let Options { first, width, characters, form, bold, long_page: long, mdoc, tables, held } = *options;
+    let [formats, row, page] = held;
+    let table = match characters {
+        Characters::Chosen => CHOSEN,
+        Characters::Of(table) => table as u32,
+        Characters::Ascii => 0,
+    };
+    let setup = DocumentSetup {
+        limits: limits.lent(),
+        tables: TableLimits { formats, row, page },
+        options: DocumentOptions {
+            text: TextOptions { first, bold },
+            width,
+            table,
+            form: form as u32,
+            long,
+            mdoc,
+            tables,
+        },
+    };
+    made("document", text, |output, report| nulbiko_document_lent(Global, &setup, macros, text, output, report)).map(plain)
 }
 
 /// The table that a page takes, by its first 65,536 bytes: never [`Table::Latin1`]. None where there was no memory.
@@ -112,8 +154,7 @@ pub fn tbl(table: Option<Table>, line: usize, text: &[u8]) -> Result<Made, Stopp
 ///
 /// Where a limit would be passed, or is out of range, and as [`mdoc()`].
 pub fn format(limits: &Limits, first: i64, bold: bool, text: &[u8]) -> Result<Made, Stopped> {
-    let Limits { stored, depth, cells, expansions, moves } = *limits;
-    let limits = TextLimits { stored, depth, cells, expansions, moves };
+    let limits = limits.lent();
     let options = TextOptions { first, bold };
     made("format", text, |output, report| nulbiko_format_lent(Global, &limits, &options, text, output, report))
         .map(plain)

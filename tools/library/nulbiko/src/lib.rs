@@ -16,8 +16,9 @@
 //! assert!(matches!(stopped.why, Why::Limit(Limit::Depth, _)));
 //! ```
 //!
-//! [`page`] calls one after another what stands here by itself, as the programs of the same names do: [`choose`], [`mdoc()`],
-//! [`preconv`], [`tbl`], [`format()`] and [`utf8`]. All of them take a text and give another. They share nothing and keep
+//! [`page`] is [`document`] after the macros of manual pages. What that does in one call stands here by itself too, as the
+//! programs of the same names do it: [`choose`], [`mdoc()`], [`preconv`], [`tbl`], [`format()`] and [`utf8`]. All of them take a
+//! text and give another. They share nothing and keep
 //! nothing, open no file, print nothing, and never panic: any number may run at once.
 //!
 //! The code is that of Nulbiko's programs, without the contracts by which it is proved; `lent` is the library below, over
@@ -27,9 +28,9 @@ mod calls;
 mod page;
 mod words;
 
-pub use calls::{Made, choose, format, mdoc, preconv, tbl, utf8};
+pub use calls::{Made, choose, document, format, mdoc, preconv, tbl, utf8};
 pub use page::{MAN, WIDTHS, page, page_within};
-pub use words::{Limit, Limits, Stopped, Table, Why, Wrong};
+pub use words::{Characters, Form, Limit, Limits, Options, Stopped, Table, Why, Wrong};
 
 /// The version.
 pub const VERSION: &str = env!("CARGO_PKG_VERSION");

@@ -49,6 +49,8 @@ pub enum Limit {
     Expansions,
     /// All moves.
     Moves,
+    /// Bytes of a page whose tables are set, to [`document`](crate::document()).
+    SetPage,
 }
 
 impl Limit {
@@ -60,7 +62,8 @@ impl Limit {
             3 => Limit::LineCells,
             4 => Limit::PageCells,
             5 => Limit::Expansions,
-            _ => Limit::Moves,
+            6 => Limit::Moves,
+            _ => Limit::SetPage,
         }
     }
 }
@@ -74,6 +77,7 @@ impl fmt::Display for Limit {
             Limit::PageCells => "page cells",
             Limit::Expansions => "expansions",
             Limit::Moves => "moves",
+            Limit::SetPage => "page with tables",
         })
     }
 }
@@ -100,6 +104,77 @@ impl Table {
         [Table::English, Table::Latin, Table::Cyrillic, Table::Greek, Table::Latin1]
             .into_iter()
             .find(|table| *table as u32 == number)
+    }
+}
+
+/// What characters a page of [`document`](crate::document()) has.
+#[derive(Clone, Copy, Debug, PartialEq, Eq)]
+pub enum Characters {
+    /// Those of the table that [`choose`](crate::choose) gives for it.
+    Chosen,
+    /// Those of a table.
+    Of(Table),
+    /// ASCII alone; its form is [`Form::Bytes`].
+    Ascii,
+}
+
+/// How [`document`](crate::document()) gives its pages.
+#[derive(Clone, Copy, Debug, PartialEq, Eq)]
+pub enum Form {
+    /// As bytes of the table: those of [`format()`](crate::format()).
+    Bytes = 0,
+    /// In UTF-8: what is underlined or bold has backspaces.
+    Utf8 = 1,
+    /// In UTF-8, between the terminal's escape sequences.
+    Escapes = 2,
+}
+
+/// How [`document`](crate::document()) sets a page.
+///
+/// ```
+/// let options = nulbiko::Options { width: 60, ..nulbiko::Options::PAGE };
+/// # assert_eq!(options.first, 1);
+/// ```
+#[derive(Clone, Copy, Debug, PartialEq, Eq)]
+pub struct Options {
+    /// The number of the first page.
+    pub first: i64,
+    /// The cells of a line, for the macros (the register `L`) and for tables. A text without macro files begins with `.ll`.
+    pub width: u32,
+    /// What characters it has.
+    pub characters: Characters,
+    /// How pages go out.
+    pub form: Form,
+    /// As [`format()`](crate::format()) has it.
+    pub bold: bool,
+    /// One long page (the register `C`), in place of pages of 66 lines.
+    pub long_page: bool,
+    /// A page of mdoc(7) is turned into one of man(7); any other stays as it is.
+    pub mdoc: bool,
+    /// Tables are set, where a line begins with `.TS`.
+    pub tables: bool,
+    /// What may be held of a table, of a line of a row, and of a page whose tables are set, in bytes.
+    pub held: [usize; 3],
+}
+
+impl Options {
+    /// One long page of 78 columns in UTF-8.
+    pub const PAGE: Options = Options {
+        first: 1,
+        width: 78,
+        characters: Characters::Chosen,
+        form: Form::Utf8,
+        bold: false,
+        long_page: true,
+        mdoc: true,
+        tables: true,
+        held: [1 << 18, 1 << 14, 1 << 24],
+    };
+}
+
+impl Default for Options {
+    fn default() -> Self {
+        Options::PAGE
     }
 }
 
@@ -165,10 +240,12 @@ pub enum Why {
 /// A call didn't do all.
 #[derive(Clone, Debug, PartialEq, Eq)]
 pub struct Stopped {
-    /// The call: `mdoc`, `preconv`, `tbl`, `format`, `utf8` or `page`.
+    /// The call: `document`, `mdoc`, `preconv`, `tbl`, `format`, `utf8` or `page`.
     pub call: &'static str,
     /// Why it stopped.
     pub why: Why,
+    /// Of `document`: the line of the page that was read last, counted from 1; of a page that has tables the last line. Else 0.
+    pub line: u64,
     /// What was whole before.
     pub bytes: Vec<u8>,
 }
@@ -177,7 +254,8 @@ impl fmt::Display for Stopped {
     fn fmt(&self, f: &mut fmt::Formatter<'_>) -> fmt::Result {
         write!(f, "{}: ", self.call)?;
         match self.why {
-            Why::Limit(limit, at) => write!(f, "{limit} limit passed at byte {at}"),
+            Why::Limit(limit, at) if self.line == 0 => write!(f, "{limit} limit passed at byte {at}"),
+            Why::Limit(limit, at) => write!(f, "{limit} limit passed at byte {at}, line {}", self.line),
             Why::OutOfRange => f.write_str("out of range"),
             Why::Full => f.write_str("output full"),
             Why::OutOfMemory => f.write_str("out of memory"),

@@ -1,6 +1,6 @@
 //! The examples of nroff, through the library: each input gives the pages that it must give.
 
-use nulbiko::{Limits, Stopped, Why};
+use nulbiko::{Form, Limits, Options, Stopped, Why};
 use std::fs;
 use std::path::{Path, PathBuf};
 
@@ -26,10 +26,33 @@ fn examples_give_their_pages() {
 #[test]
 fn a_page_is_stopped_at_its_limits() {
     let page = b".TH A 1\n.SH NAME\na \\- b\n.de XX\n.XX\n..\n.XX\n";
-    let Err(Stopped { call: "format", why: Why::Limit(_, at), .. }) = nulbiko::page(page, 78) else {
+    let Err(Stopped { call: "document", why: Why::Limit(_, at), line, .. }) = nulbiko::page(page, 78) else {
         panic!("it went on");
     };
     assert!(at > 0 && at <= page.len() as u64, "the place is {at}");
+    assert_eq!(line, 7);
+}
+
+/// A page with a table, characters and a macro of its own.
+const WHOLE: &[u8] = ".TH A 1\n.SH NAME\na \\- b – \\fIcodé\\fP\n.TS\nbox;\nl l.\na\tb\n.TE\n.Dd x\n".as_bytes();
+
+#[test]
+fn a_document_is_its_stages_in_order() {
+    let table = nulbiko::choose(WHOLE);
+    let turned = nulbiko::preconv(table, &nulbiko::mdoc(WHOLE).unwrap().bytes).unwrap().bytes;
+    let mut whole = b".nr L 78\n.nr C 1\n".to_vec();
+    whole.extend_from_slice(nulbiko::MAN);
+    whole.extend_from_slice(&nulbiko::tbl(table, 78, &turned).unwrap().bytes);
+    for (bold, form) in [(false, Form::Bytes), (true, Form::Bytes), (false, Form::Utf8), (true, Form::Escapes)] {
+        let pages = nulbiko::format(&Limits::PLAIN, 1, bold, &whole).unwrap().bytes;
+        let wanted = match form {
+            Form::Bytes => pages,
+            _ => nulbiko::utf8(table.unwrap(), form == Form::Escapes, &pages).unwrap().bytes,
+        };
+        let options = Options { bold, form, ..Options::PAGE };
+        let made = nulbiko::document(&Limits::PLAIN, &options, nulbiko::MAN, WHOLE).unwrap();
+        assert_eq!(made.bytes, wanted);
+    }
 }
 
 #[test]

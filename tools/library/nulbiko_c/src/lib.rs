@@ -5,13 +5,14 @@ mod structs;
 
 use kit::alloc::Global;
 use nulbiko_lent::Report as Told;
+use nulbiko_lent::document::nulbiko_document_lent;
 use nulbiko_lent::formatting::nulbiko_format_lent;
 use nulbiko_lent::mdoc::nulbiko_mdoc_lent;
 use nulbiko_lent::preconv::nulbiko_preconv_lent;
 use nulbiko_lent::tbl::nulbiko_tbl_lent;
 use nulbiko_lent::utf8::{nulbiko_choose_lent, nulbiko_utf8_lent};
 use std::slice::{from_raw_parts, from_raw_parts_mut};
-use structs::{Limits, NOTHING, Options, Report};
+use structs::{DocumentOptions, Limits, NOTHING, Options, Report};
 
 const OUT_OF_RANGE: u32 = 2;
 const NULL: u32 = 3;
@@ -59,11 +60,48 @@ impl Passed {
     }
 }
 
-/// Formats a text.
+/// Prints a whole page.
 ///
 /// # Safety
 ///
 /// As the header says of pointers; so for all calls.
+#[unsafe(no_mangle)]
+pub unsafe extern "C" fn nulbiko_document(
+    limits: *const Limits,
+    options: *const DocumentOptions,
+    input: *const u8,
+    length: usize,
+    output: *mut u8,
+    capacity: usize,
+    report: *mut Report,
+) -> u32 {
+    let passed = Passed { input, length, output, capacity, report };
+    // Sound: as the header asks for; each begins with its size.
+    unsafe {
+        if limits.is_null() || options.is_null() {
+            return passed.call(|_, _, _| NULL);
+        }
+        let (Some(limits), Some(options)) = (Limits::read(limits), DocumentOptions::read(options)) else {
+            return passed.call(|_, _, _| OUT_OF_RANGE);
+        };
+        let DocumentOptions { macros, macros_length, .. } = options;
+        if macros.is_null() && macros_length > 0 {
+            return passed.call(|_, _, _| NULL);
+        }
+        if macros_length > isize::MAX as usize {
+            return passed.call(|_, _, _| TOO_LONG);
+        }
+        let macros = if macros_length == 0 { &[][..] } else { from_raw_parts(macros, macros_length) };
+        let setup = options.under(limits);
+        passed.call(|page, output, told| nulbiko_document_lent(Global, &setup, macros, page, output, told))
+    }
+}
+
+/// Formats a text.
+///
+/// # Safety
+///
+/// As the header says.
 #[unsafe(no_mangle)]
 pub unsafe extern "C" fn nulbiko_format(
     limits: *const Limits,

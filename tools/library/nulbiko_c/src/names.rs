@@ -11,8 +11,16 @@ const OUTCOMES: [&CStr; 7] = [
     c"out of memory",
     c"text too long",
 ];
-const LIMITS: [&CStr; 7] =
-    [c"none", c"stored bytes", c"input depth", c"line cells", c"page cells", c"expansions", c"moves"];
+const LIMITS: [&CStr; 8] = [
+    c"none",
+    c"stored bytes",
+    c"input depth",
+    c"line cells",
+    c"page cells",
+    c"expansions",
+    c"moves",
+    c"page with tables",
+];
 const WRONGS: [&CStr; 11] = [
     c"none",
     c"table without a format",

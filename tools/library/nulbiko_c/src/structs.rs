@@ -1,9 +1,9 @@
 //! The structs of include/nulbiko.h, each with its size in front.
 
-use nulbiko_lent::{Report as Told, TextLimits, TextOptions};
+use nulbiko_lent::{DocumentOptions as Lent, DocumentSetup, Report as Told, TableLimits, TextLimits, TextOptions};
 
 /// Nothing is told.
-pub(crate) const NOTHING: Told = Told { written: 0, at: 0, moves: 0, limit: 0, dropped: 0 };
+pub(crate) const NOTHING: Told = Told { written: 0, at: 0, moves: 0, limit: 0, dropped: 0, line: 0 };
 
 /// What a text may cost.
 #[repr(C)]
@@ -54,6 +54,56 @@ impl Options {
     }
 }
 
+/// How a page is set, and what its tables may use.
+#[repr(C)]
+pub struct DocumentOptions {
+    size: usize,
+    pub(crate) macros: *const u8,
+    pub(crate) macros_length: usize,
+    first: i64,
+    width: u32,
+    table: u32,
+    form: u32,
+    bold: bool,
+    long_page: bool,
+    mdoc: bool,
+    tables: bool,
+    formats: usize,
+    row: usize,
+    set_page: usize,
+}
+
+impl DocumentOptions {
+    /// The options that C passes, or none where their size isn't known.
+    ///
+    /// # Safety
+    ///
+    /// The pointer leads to as many bytes as stand there as size.
+    pub(crate) unsafe fn read(passed: *const DocumentOptions) -> Option<DocumentOptions> {
+        if unsafe { (&raw const (*passed).size).read() } != size_of::<DocumentOptions>() {
+            return None;
+        }
+        Some(unsafe { passed.read() })
+    }
+
+    /// What is asked for under these limits.
+    pub(crate) fn under(&self, limits: TextLimits) -> DocumentSetup {
+        DocumentSetup {
+            limits,
+            tables: TableLimits { formats: self.formats, row: self.row, page: self.set_page },
+            options: Lent {
+                text: TextOptions { first: self.first, bold: self.bold },
+                width: self.width,
+                table: self.table,
+                form: self.form,
+                long: self.long_page,
+                mdoc: self.mdoc,
+                tables: self.tables,
+            },
+        }
+    }
+}
+
 /// What a call tells.
 #[repr(C)]
 pub struct Report {
@@ -63,6 +113,7 @@ pub struct Report {
     moves: u64,
     limit: u32,
     dropped: u64,
+    line: u64,
 }
 
 impl Report {
@@ -75,6 +126,7 @@ impl Report {
             moves: told.moves,
             limit: told.limit,
             dropped: told.dropped,
+            line: told.line,
         }
     }
 }

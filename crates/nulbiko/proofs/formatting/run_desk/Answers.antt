@@ -16,5 +16,6 @@ returns-clause-formatted c = record {
   limit = search rules;
   place = search rules;
   none_dropped = search rules;
+  no_line = search rules;
   readable = unread _ c.format-outcome.ensures.faults.read_failures;
 }

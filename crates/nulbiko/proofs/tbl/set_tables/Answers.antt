@@ -18,5 +18,6 @@ returns-clause-set c = record {
   wrong = search rules;
   place = search rules;
   none_dropped = search rules;
+  no_line = search rules;
   readable = unread _ c.convert-pages.ensures.read_faults;
 }

@@ -13,5 +13,6 @@ returns-clause-turned c = record {
   no_moves = search rules;
   no_limit = search rules;
   no_place = search rules;
+  no_line = search rules;
   readable = unread _ c.convert-outcome.ensures.read_faults;
 }

@@ -1,0 +1,21 @@
+use Rattle.std.proofs.Common.{◌∙◌, ap, rules}
+use Rattle.nulbiko.specs.Printed.{form_of}
+use Rattle.nulbiko.proofs.DocumentRun.{set_printed}
+use Rattle.nulbiko.proofs.document.print_document.Goals as goal
+
+pub returns-clause-printed : goal.returns-clause-printed
+returns-clause-printed c sets characters held limits short = record {
+  options = c.options_for-options.result;
+  asked = c.options_for-options.ensures;
+  tables = c.args.prepared.memory.rooms.tables;
+  moves = c.print_pages-pages.result.1.moves;
+  outcome = c.print_pages-pages.result.1.outcome;
+  bytes = c.as_slice-bytes.result.now;
+  printed = set_printed _ _ _ _ _ _ _ _ _ _ _ _ _ _ _ _ _ _ (c.print_pages-pages.ensures held short _ c.as_slice-bytes.ensures) sets characters limits
+      (c.form_of-form.ensures ∙ ap (λ t. form_of c.args.setup.now.options.form t) characters) c.report_of.ensures.dropped;
+  handed = search rules;
+  code_is = search rules;
+  moves_told = search rules;
+  limit = search rules;
+  place = search rules;
+}

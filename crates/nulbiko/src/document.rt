@@ -1,0 +1,281 @@
+// A whole page is printed in one call: through mdoc, characters and tables, after its macros.
+ghost use Rattle.std.specs.Prelude.{◌≡◌, ◌≢◌, ◌↔◌, [], Some, drop, length, IfOk, IfSome, IsSome};
+ghost use Rattle.document_reader.specs.Page.{IsShort, man_of};
+ghost use Rattle.nulbiko.specs.Formatting.{bounds_of};
+ghost use Rattle.nulbiko.specs.Told.{nothing_told};
+ghost use Rattle.nulbiko.specs.Document as specs;
+ghost use Rattle.nulbiko.specs.Document.{AreSet, IsAllowed, PrintsDocument, sets_of, table_for};
+
+use super::formatting::{TextLimits, TextOptions, options_of};
+use super::pages::{Pages, hand_over};
+use super::printed::{Memory, code, form_of, print_pages, report_of};
+use super::tables::table_of;
+use super::told::{OUT_OF_MEMORY, OUT_OF_RANGE, Report, code_within};
+use super::utf8::look;
+use arrayvec::ArrayVec;
+use document_printing::{PageLimits, Rooms, Setup, Stages};
+use nr_engine::{CountedAlloc, Desk, Limits, Options};
+use nr_options::MOST_REGISTERS;
+use nr_units::sink::Sink;
+use std::alloc::{AllocError, Global};
+use utf8_characters::Table;
+
+/// The number of the table that the page takes.
+const CHOSEN: u32 = 6;
+
+/// The greatest number of a form.
+const MOST_FORMS: u32 = 2;
+
+/// What tables may use, in bytes.
+#[repr(C)]
+#[derive(Clone, Copy)]
+pub struct TableLimits {
+    /// The options and formats of a table, and what is held of it.
+    pub formats: usize,
+    /// A line of a row.
+    pub row: usize,
+    /// A page whose tables are set.
+    pub page: usize,
+}
+
+/// How a page is set.
+#[repr(C)]
+#[derive(Clone, Copy)]
+pub struct DocumentOptions {
+    /// What the formatter is given beside the width.
+    pub text: TextOptions,
+    /// The cells of a line: the register `L` has them, and tables are set for it.
+    pub width: u32,
+    /// The number of the table of characters: 0 of none, 6 of the one that the page takes.
+    pub table: u32,
+    /// How pages go out: 0 as the bytes of the table, 1 in UTF-8 with backspaces, 2 in UTF-8 with escape sequences.
+    pub form: u32,
+    /// One long page: the register `C` is 1.
+    pub long: bool,
+    /// A page of mdoc(7) becomes one of man(7).
+    pub mdoc: bool,
+    /// Tables are set, where a line begins with `.TS`.
+    pub tables: bool,
+}
+
+/// What a page may cost, and how it is set.
+#[repr(C)]
+#[derive(Clone, Copy)]
+pub struct DocumentSetup {
+    /// The formatter's limits.
+    pub limits: TextLimits,
+    /// Those of tables.
+    pub tables: TableLimits,
+    /// How it is set.
+    pub options: DocumentOptions,
+}
+
+/// Whether there are a table and a form of these numbers. A form in UTF-8 has a table.
+fn are_numbers(table: u32, form: u32) -> bool
+    ensures { result ≡ specs.are_numbers table form }
+{
+    table <= CHOSEN && (form == 0 || (form <= MOST_FORMS && table != 0))
+}
+
+/// The formatter's limits, where all that is asked for is in its range.
+fn limits_of(setup: &DocumentSetup) -> Option<Limits>
+    ensures ranges { IsSome result ↔ IsAllowed setup.now }
+    ensures value { IfSome result (λ limits. limits ≡ bounds_of setup.now.limits) }
+{
+    if !are_numbers(setup.options.table, setup.options.form) {
+        return None;
+    }
+    Limits::new(
+        setup.limits.stored,
+        setup.limits.depth,
+        setup.limits.cells,
+        setup.limits.expansions,
+        setup.limits.moves,
+    )
+}
+
+/// The table of a number, for a page.
+fn table_for(alloc: Global, number: u32, page: &[u8]) -> Result<Option<Table>, AllocError>
+    ensures { IfOk result (λ table. table ≡ specs.table_for number page.now) }
+{
+    if number == CHOSEN {
+        let chosen = look(alloc, page)?;
+        return Ok(table_of(chosen));
+    }
+    Ok(table_of(number))
+}
+
+/// The registers that are set before a run.
+fn registers_for(asked: DocumentOptions) -> ArrayVec<(u8, i64), MOST_REGISTERS>
+    ensures { result.items ≡ specs.registers_for asked }
+{
+    let mut registers = ArrayVec::new();
+    registers.push((b'L', i64::from(asked.width)));
+    if asked.long {
+        registers.push((b'C', 1));
+    }
+    registers
+}
+
+/// What the formatter is given.
+fn options_for(asked: DocumentOptions) -> Options
+    ensures { AreSet asked result }
+{
+    let mut options = options_of(asked.text);
+    options.registers = registers_for(asked);
+    options
+}
+
+/// Whether a line of a page begins with `.TS`.
+fn has_tables(page: &[u8]) -> bool
+    ensures { result ≡ specs.has_tables page.now }
+{
+    let mut begins = true;
+    for (place, byte) in page.iter().enumerate() {
+        if begins && page[place..].starts_with(b".TS") {
+            return true;
+        }
+        begins = *byte == b'\n';
+    }
+    false
+}
+
+/// The limits of tables; a page without any has no room for them.
+fn table_limits(asked: TableLimits, sets: bool) -> PageLimits {
+    if sets {
+        PageLimits {
+            formats: asked.formats,
+            row: asked.row,
+            page: asked.page,
+        }
+    } else {
+        PageLimits {
+            formats: 0,
+            row: 0,
+            page: 0,
+        }
+    }
+}
+
+/// What a page is printed with.
+struct Prepared {
+    /// Its tables are set.
+    sets: bool,
+    characters: Option<Table>,
+    pages: Pages,
+    memory: Memory,
+}
+
+/// Takes the memory for a page of which so many bytes may go out.
+fn prepare(
+    alloc: Global,
+    limits: Limits,
+    setup: &DocumentSetup,
+    page: &[u8],
+    room: usize,
+) -> Result<Prepared, AllocError>
+    ensures sets { IfOk result (λ made. made.sets ≡ sets_of setup.now page.now) }
+    ensures characters { IfOk result (λ made. made.characters ≡ table_for setup.now.options.table page.now) }
+    ensures pages { IfOk result (λ made. ⟦<Pages as Sink>⟧.held made.pages ≡ Some []) }
+    ensures limits { IfOk result (λ made. made.memory.desk ≡ limits) }
+{
+    let characters = table_for(alloc, setup.options.table, page)?;
+    let sets = setup.options.tables && has_tables(page);
+    let tables = table_limits(setup.tables, sets);
+    let desk = Desk::new(&mut CountedAlloc::new(alloc), limits)?;
+    let pages = Pages::new(alloc, room)?;
+    let rooms = Rooms::new(alloc, tables, setup.options.width as usize, characters)?;
+    Ok(Prepared {
+        sets,
+        characters,
+        pages,
+        memory: Memory { rooms, desk },
+    })
+}
+
+/// Prints a page with what was prepared, hands its pages over and gives the number of the outcome.
+fn print_document(
+    prepared: Prepared,
+    setup: &DocumentSetup,
+    macros: &[u8],
+    page: &[u8],
+    output: &mut [u8],
+    told: &mut Report,
+) -> u32
+    ensures printed { prepared.sets ≡ sets_of setup.now page.now → prepared.characters ≡ table_for setup.now.options.table page.now →
+        ⟦<Pages as Sink>⟧.held prepared.pages ≡ Some [] →
+        prepared.memory.desk ≡ bounds_of setup.now.limits →
+        IsShort page.now (man_of setup.now.options.mdoc page.now) →
+        PrintsDocument setup.now macros.now page.now output.new told.new result }
+    ensures not_range { result ≢ 2 }
+    ensures not_memory { result ≢ 5 }
+    ensures rest { drop told.new.written output.new ≡ drop told.new.written output.old }
+{
+    let Prepared {
+        sets,
+        characters,
+        pages,
+        mut memory,
+    } = prepared;
+    let options = options_for(setup.options);
+    let form = form_of(setup.options.form, characters);
+    let set = Setup {
+        macros,
+        stages: Stages {
+            mdoc: setup.options.mdoc,
+            characters: true,
+        },
+        tables: sets,
+        characters,
+        options: &options,
+    };
+    let (pages, printed) = print_pages(page, form, &set, &mut memory, pages);
+    let Setup {
+        macros: _,
+        stages: _,
+        tables: _,
+        characters: _,
+        options: _,
+    } = set;
+    let bytes = pages.as_slice();
+    let written = hand_over(bytes, output);
+    *told = report_of(printed, written, macros.len());
+    code_within(code(printed.outcome), bytes.len(), output.len())
+}
+
+/// Prints a page after macros, under limits, into a buffer, reports how it went, and gives the number of the outcome: 0 done,
+/// 1 a limit would be passed, 2 a limit or a number is out of range, 4 the buffer is full, 5 there is not enough memory, 6 a
+/// text is too long.
+///
+/// Proved: **One call prints a whole document.** What stands at the front of the output are the pages of the machine
+/// over `macros ++ tables (characters (mdoc page))`, as `print` of document_printing has them, in their form: the bytes
+/// of the table, or what utf8 makes of them, which is a text for a terminal. Where not all fit the number is 4, and as
+/// many stand there as fit; where a limit would be passed it is 1, and the pages that had ended stand there. So it is where
+/// the page and what mdoc makes of it have less than 2^40 bytes. (`printed` of `nulbiko_document_lent`)
+/// Proved: The number is 2 exactly where a limit or a number is out of its range. Then, and where memory is refused (5),
+/// the output is as it was, and the report has zeros.
+#[unsafe(no_mangle)]
+pub extern "C" fn nulbiko_document_lent(
+    alloc: Global,
+    setup: &DocumentSetup,
+    macros: &[u8],
+    page: &[u8],
+    output: &mut [u8],
+    told: &mut Report,
+) -> u32
+    ensures ranges { (result ≡ 2) ↔ (IsAllowed setup.now → ⊥) }
+    ensures printed { result ≢ 2 → result ≢ 5 → IsShort page.now (man_of setup.now.options.mdoc page.now)
+        → PrintsDocument setup.now macros.now page.now output.new told.new result }
+    ensures bad { result ≡ 2 → (output.new ≡ output.old) × (told.new ≡ nothing_told) }
+    ensures no_memory { result ≡ 5 → (output.new ≡ output.old) × (told.new ≡ nothing_told) }
+    ensures rest { drop told.new.written output.new ≡ drop told.new.written output.old }
+{
+    *told = Report::nothing();
+    let Some(limits) = limits_of(setup) else {
+        return OUT_OF_RANGE;
+    };
+    match prepare(alloc, limits, setup, page, output.len()) {
+        Ok(prepared) => print_document(prepared, setup, macros, page, output, told),
+        Err(_) => OUT_OF_MEMORY,
+    }
+}

@@ -1,0 +1,197 @@
+// The pages of a document go out: as bytes, or in UTF-8.
+ghost use Rattle.std.specs.Prelude.{◌≡◌, ◌≢◌, List, ℕ, [], Some};
+ghost use Rattle.document_reader.specs.Page.{IsShort, man_of};
+ghost use Rattle.document_printing.specs.Document.{Prints, setting_of, source_of};
+ghost use Rattle.nulbiko.specs.Told.{count_told};
+ghost use Rattle.nulbiko.specs.Printed as specs;
+ghost use Rattle.nulbiko.specs.Printed.{IsPrinted};
+
+use super::formatting::limit_number;
+use super::pages::Pages;
+use super::text::Text;
+use super::told::{DONE, FULL, LIMIT, Report, TOO_LONG, UNREADABLE, count_told};
+use document_printing::{Outcome, Report as Run, Rooms, Setup, print};
+use nr_engine::Desk;
+use nr_units::sink::Sink;
+use nr_units::source::Fault;
+use nr_vectors::slice_vec::SliceVec;
+use tbl_setting::Complaint;
+use utf8_characters::Table;
+use utf8_converter::Shown;
+
+/// The bytes of characters that go out at once.
+const ROOM: usize = 2_048;
+
+/// The number of the limit of a page whose tables are set.
+const SET_PAGE: u32 = 7;
+
+/// How pages go out.
+#[derive(Clone, Copy)]
+pub(crate) enum Form {
+    /// As the bytes of their table.
+    Bytes,
+    /// As its characters, in UTF-8; with `true` looks stand between escape sequences.
+    Characters(Table, bool),
+}
+
+/// The form of a number: 0 for bytes, 1 for UTF-8, 2 for UTF-8 with escape sequences.
+pub(crate) fn form_of(number: u32, characters: Option<Table>) -> Form
+    ensures { result ≡ specs.form_of number characters }
+{
+    match characters {
+        Some(table) if number != 0 => Form::Characters(table, number == 2),
+        _ => Form::Bytes,
+    }
+}
+
+/// The memory that a page is printed in.
+pub(crate) struct Memory {
+    pub rooms: Rooms,
+    pub desk: Desk,
+}
+
+// Derived, it would be gone through part by part in the proof of each function that owns one.
+impl Drop for Memory {
+    fn drop(self) {
+        let Memory { rooms: _, desk: _ } = self;
+    }
+}
+
+/// How a page was printed.
+#[derive(Clone, Copy)]
+pub(crate) struct Printed {
+    pub outcome: Outcome,
+    pub line: u64,
+    pub moves: u128,
+    /// The bytes that are no character of the table.
+    pub dropped: u64,
+}
+
+/// Prints a page as the formatter gives its bytes.
+fn print_page<W: Sink>(page: &[u8], setup: &Setup<'_>, memory: &mut Memory, output: &mut W) -> Run
+    ensures { IsShort page.now (man_of setup.now.stages.mdoc page.now) →
+        Prints (setting_of setup.now memory.old.rooms.tables memory.old.desk)
+        (source_of (setting_of setup.now memory.old.rooms.tables memory.old.desk) page.now)
+        result.moves result.outcome (W.held output.old) (W.held output.new) }
+{
+    let Memory { rooms, desk } = memory;
+    let mut slots = [Complaint::NONE];
+    let mut complaints = SliceVec::over(&mut slots);
+    let text = Text::over(page);
+    print(text, setup, rooms, &mut complaints, desk, output)
+}
+
+/// The outcome of a page of which the end had no room.
+fn cut_off(outcome: Outcome) -> Outcome
+    ensures { result ≡ specs.cut_off outcome }
+{
+    match outcome {
+        Outcome::Done | Outcome::Limit { .. } | Outcome::NoRoom => Outcome::WriteFault,
+        _ => outcome,
+    }
+}
+
+/// How a page was printed whose end went out with so many bytes dropped, or didn't.
+fn ended(run: Run, strays: Result<u64, Fault>) -> Printed
+    ensures moves { result.moves ≡ run.moves }
+    ensures outcome { result.outcome ≡ specs.outcome_of run.outcome strays }
+    ensures dropped { result.dropped ≡ specs.dropped_of strays }
+{
+    let (outcome, dropped) = match strays {
+        Ok(dropped) => (run.outcome, dropped),
+        Err(_) => (cut_off(run.outcome), 0),
+    };
+    Printed {
+        outcome,
+        line: run.line,
+        moves: run.moves,
+        dropped,
+    }
+}
+
+/// Prints a page as characters of a table.
+fn print_shown(
+    page: &[u8],
+    table: Table,
+    escapes: bool,
+    setup: &Setup<'_>,
+    memory: &mut Memory,
+    pages: Pages,
+) -> (Pages, Printed)
+    ensures { ⟦<Pages as Sink>⟧.held pages ≡ Some [] →
+        IsShort page.now (man_of setup.now.stages.mdoc page.now) →
+        (bytes : List ℕ) → ⟦<Pages as Sink>⟧.held result.0 ≡ Some bytes →
+        IsPrinted (setting_of setup.now memory.old.rooms.tables memory.old.desk)
+        (specs.characters table escapes) page.now bytes result.1.moves result.1.outcome result.1.dropped }
+{
+    let mut room = [0; ROOM];
+    let mut shown = Shown::over(pages, table, escapes, &mut room);
+    let run = print_page(page, setup, memory, &mut shown);
+    let (pages, strays) = shown.finish();
+    (pages, ended(run, strays))
+}
+
+/// Prints a page in its form.
+pub(crate) fn print_pages(
+    page: &[u8],
+    form: Form,
+    setup: &Setup<'_>,
+    memory: &mut Memory,
+    pages: Pages,
+) -> (Pages, Printed)
+    ensures { ⟦<Pages as Sink>⟧.held pages ≡ Some [] →
+        IsShort page.now (man_of setup.now.stages.mdoc page.now) →
+        (bytes : List ℕ) → ⟦<Pages as Sink>⟧.held result.0 ≡ Some bytes →
+        IsPrinted (setting_of setup.now memory.old.rooms.tables memory.old.desk)
+        form page.now bytes result.1.moves result.1.outcome result.1.dropped }
+{
+    match form {
+        Form::Bytes => {
+            let mut pages = pages;
+            let run = print_page(page, setup, memory, &mut pages);
+            (pages, ended(run, Ok(0)))
+        }
+        Form::Characters(table, escapes) => {
+            print_shown(page, table, escapes, setup, memory, pages)
+        }
+    }
+}
+
+/// The number of an outcome.
+pub(crate) fn code(outcome: Outcome) -> u32
+    ensures value { result ≡ specs.code_of outcome }
+    ensures not_range { result ≢ 2 }
+    ensures not_memory { result ≢ 5 }
+{
+    match outcome {
+        Outcome::Done => DONE,
+        Outcome::Limit { .. } | Outcome::NoRoom => LIMIT,
+        Outcome::WriteFault => FULL,
+        Outcome::TooLong => TOO_LONG,
+        Outcome::ReadFault => UNREADABLE,
+    }
+}
+
+/// What is reported of a page that was printed after macros of so many bytes, and of which so many were written.
+pub(crate) fn report_of(printed: Printed, written: usize, macros: usize) -> Report
+    ensures written { result.written ≡ written }
+    ensures moves { result.moves ≡ count_told printed.moves }
+    ensures limit { result.limit ≡ specs.limit_told printed.outcome }
+    ensures place { result.at ≡ specs.place_told macros printed.outcome }
+    ensures dropped { result.dropped ≡ printed.dropped }
+    ensures line { result.line ≡ printed.line }
+{
+    let (limit, at) = match printed.outcome {
+        Outcome::Limit { which, at } => (limit_number(which), at.saturating_sub(macros as u64)),
+        Outcome::NoRoom => (SET_PAGE, 0),
+        _ => (0, 0),
+    };
+    Report {
+        written,
+        at,
+        moves: count_told(printed.moves),
+        limit,
+        dropped: printed.dropped,
+        line: printed.line,
+    }
+}
