@@ -1,0 +1,231 @@
+-- The rows that are told are held as they were told.
+use Rattle.std.proofs.Common.{◌≡◌, ℕ, ◌+◌, ◌<◌, ◌≤◌, List, [], ◌∷◌, ◌++◌, length, Bool, true, false, if◌then◌else◌, refl, sym, ◌∙◌, ap, subst, append_assoc, append-nil, length-append, arith}
+use Rattle.tbl_layout.specs.declared.table.Form.TheVariants as forms
+use Rattle.tbl_layout.specs.declared.table.Row.{Row}
+use Rattle.tbl_layout.specs.declared.table.Table.{Table}
+use Rattle.tbl_layout.specs.Measured.{table_after}
+use Rattle.tbl_layout.specs.Rows.{field_added, joins, mark_added, row_added, row_ended, row_read}
+use Rattle.std.specs.Prelude.{Option}
+use Rattle.tbl_reader.specs.declared.complaint.Complaint.{Complaint}
+use Rattle.tbl_reader.specs.declared.field.Mark.TheVariants as marks
+use Rattle.tbl_reader.specs.declared.telling.Tell.{Tell}
+use Rattle.tbl_reader.specs.declared.telling.Tell.TheVariants as tells
+use Rattle.tbl_reader.specs.Telling.{Piece, piece}
+use Rattle.tbl_setting.specs.Setting.{relieved, set}
+use Rattle.tbl_laws.specs.HeldRows.{AreAmong, HasRoom, RowsAreHeld, all_bytes, all_fields, all_of, all_rows, count}
+use Rattle.tbl_laws.specs.Rows.{are_of_rows, is_of_row, rows_told}
+use Rattle.tbl_laws.proofs.HeldRows.{Grown, IsWithin, Like, field_grows, field_like, line_stays, loose, mark_grows, mark_like, no_texts, none_within, one_more, row_is, texts_are, texts_in}
+use Rattle.tbl_laws.proofs.Rows.{both_first, both_second, is_not}
+
+-- ---- rows and their fields
+
+among_more : (n : ℕ) (rows : List (List (List ℕ))) (hs : List Row) (r : List (List ℕ)) (h : Row) → AreAmong n rows hs → h.first ≡ n + count rows
+    → h.«end» ≡ n + count rows + length r → AreAmong n (rows ++ r ∷ []) (hs ++ h ∷ [])
+among_more n [] [] r h a first end = (omega (arith, first), omega (arith, end), tt)
+among_more n [] (k ∷ ks) r h a first end = absurd a
+among_more n (q ∷ qs) [] r h a first end = absurd a
+among_more n (q ∷ qs) (k ∷ ks) r h a first end =
+    (a.0, a.1, among_more (n + length q) qs ks r h a.2 (omega (arith, first)) (omega (arith, end)))
+
+count_more : (rows : List (List (List ℕ))) (r : List (List ℕ)) → count (rows ++ r ∷ []) ≡ count rows + length r
+count_more [] r = omega arith
+count_more (q ∷ qs) r = let more = count_more qs r in omega (arith, more)
+
+all_more : (rows : List (List (List ℕ))) (r : List (List ℕ)) → all_of (rows ++ r ∷ []) ≡ all_of rows ++ r
+all_more [] r = append-nil r
+all_more (q ∷ qs) r = ap (λ (l : List (List ℕ)). q ++ l) (all_more qs r) ∙ sym (append_assoc q (all_of qs) r)
+
+-- ---- a table that holds these rows, and these fields of the next
+
+record Held (t : Table) (rows : List (List (List ℕ))) (next : List (List ℕ)) : Type 0 where
+  pub texts : texts_in t.text.items t.fields.items ≡ all_of rows ++ next
+  pub among : AreAmong 0 rows t.rows.items
+  pub within : IsWithin (length t.text.items) t.fields.items
+  pub from : t.row_from ≡ count rows
+  pub total : length t.fields.items ≡ count rows + length next
+
+field_held : (t u : Table) (rows : List (List (List ℕ))) (next : List (List ℕ)) (text : List ℕ) → Held t rows next → Grown t u text → Like t u
+    → Held u rows (next ++ text ∷ [])
+field_held t u rows next text h g k =
+    let long = length-append next (text ∷ []) in
+    record {
+      texts = g.texts ∙ ap (λ (l : List (List ℕ)). l ++ text ∷ []) h.texts ∙ append_assoc (all_of rows) next (text ∷ []);
+      among = subst (AreAmong 0 rows) (sym (ap (λ x. x.items) k.rows)) h.among;
+      within = g.within;
+      from = k.from ∙ h.from;
+      total = omega (arith, g.fields, h.total, long);
+    }
+
+row_held : (t : Table) (rows : List (List (List ℕ))) (next : List (List ℕ)) → Held t rows next → length t.rows.items < t.rows.capacity → Held (row_added t) (rows ++ next ∷ []) []
+row_held t rows next h few =
+    let counted = count_more rows next in
+    record {
+      texts = h.texts ∙ sym (all_more rows next) ∙ sym (append-nil (all_of (rows ++ next ∷ [])));
+      among = subst (AreAmong 0 (rows ++ next ∷ [])) (sym (one_more t.rows.items (row_read t) t.rows.capacity few))
+          (among_more 0 rows t.rows.items next (row_read t) h.among (let f = h.from in omega (arith, f)) (let e = h.total in omega (arith, e)));
+      within = h.within;
+      from = (let e = h.total in omega (arith, e, counted));
+      total = (let e = h.total in omega (arith, e, counted));
+    }
+
+-- ---- room that is left
+
+field_room : (t u : Table) (p : Piece) (ps : List Piece) (text : List ℕ) → HasRoom t (p ∷ ps) → Grown t u text → Like t u
+    → all_bytes (p ∷ ps) ≡ length text + all_bytes ps → all_fields (p ∷ ps) ≡ 1 + all_fields ps → all_rows (p ∷ ps) ≡ all_rows ps → HasRoom u ps
+field_room t u p ps text r g k bytes fields rows =
+    let rows_are : length u.rows.items ≡ length t.rows.items = ap (λ x. length x.items) k.rows in
+    let items_are : length u.items.items ≡ length t.items.items = ap (λ x. length x.items) k.items in
+    let room_rows : u.rows.capacity ≡ t.rows.capacity = ap (λ x. x.capacity) k.rows in
+    let room_items : u.items.capacity ≡ t.items.capacity = ap (λ x. x.capacity) k.items in
+    let lines_are : length u.lines.items ≡ length t.lines.items = ap (λ x. length x.items) k.lines in
+    record {
+      lines = (let a = r.lines in omega (arith, a, lines_are));
+      first = k.first ∙ r.first;
+      text = (let a = r.text in omega (arith, a, g.length_is, k.text, bytes));
+      most = (let a = r.most in omega (arith, a, g.length_is, k.most, bytes));
+      fields = (let a = r.fields in omega (arith, a, g.fields, k.fields, fields));
+      rows = (let a = r.rows in omega (arith, a, rows_are, room_rows, rows));
+      items = (let a = r.items in omega (arith, a, items_are, room_items, rows));
+    }
+
+row_room : (t : Table) (p : Piece) (ps : List Piece) → HasRoom t (p ∷ ps)
+    → all_bytes (p ∷ ps) ≡ all_bytes ps → all_fields (p ∷ ps) ≡ all_fields ps → all_rows (p ∷ ps) ≡ 1 + all_rows ps → HasRoom (row_added t) ps
+row_room t p ps r bytes fields rows =
+    let row_few : length t.rows.items < t.rows.capacity = (let a = r.rows in omega (arith, a)) in
+    let item_few : length t.items.items < t.items.capacity = (let a = r.items in omega (arith, a)) in
+    let rows_are : length (row_added t).rows.items ≡ length t.rows.items + 1 =
+    ap length (one_more t.rows.items _ t.rows.capacity row_few) ∙ length-append t.rows.items _ in
+    let items_are : length (row_added t).items.items ≡ length t.items.items + 1 =
+    ap length (one_more t.items.items _ t.items.capacity item_few) ∙ length-append t.items.items _ in
+    record {
+      lines = r.lines;
+      first = line_stays t r.lines r.first;
+      text = (let a = r.text in omega (arith, a, bytes));
+      most = (let a = r.most in omega (arith, a, bytes));
+      fields = (let a = r.fields in omega (arith, a, fields));
+      rows = (let a = r.rows in omega (arith, a, rows_are, rows));
+      items = (let a = r.items in omega (arith, a, items_are, rows));
+    }
+
+same_room : (t : Table) (p : Piece) (ps : List Piece) → HasRoom t (p ∷ ps)
+    → all_bytes (p ∷ ps) ≡ all_bytes ps → all_fields (p ∷ ps) ≡ all_fields ps → all_rows (p ∷ ps) ≡ all_rows ps → HasRoom t ps
+same_room t p ps r bytes fields rows = record {
+  lines = r.lines;
+  first = r.first;
+  text = (let a = r.text in omega (arith, a, bytes));
+  most = (let a = r.most in omega (arith, a, bytes));
+  fields = (let a = r.fields in omega (arith, a, fields));
+  rows = (let a = r.rows in omega (arith, a, rows));
+  items = (let a = r.items in omega (arith, a, rows));
+}
+
+row_set : (t : Table) (p : Piece) (ps : List Piece) → HasRoom t (p ∷ ps) → HasRoom (row_added t) ps → relieved (row_ended t) ≡ row_added t
+row_set t p ps r u =
+    let row_few : length t.rows.items < t.rows.capacity = (let a = r.rows in omega (arith, a)) in
+    let item_few : length t.items.items < t.items.capacity = (let a = r.items in omega (arith, a)) in
+    ap relieved (row_is t r.lines r.first row_few item_few)
+    ∙ ap (λ (x : Bool). if x then table_after false (row_added t) else row_added t)
+    (loose (row_added t) (let a = u.most in omega (arith, a)) (let a = u.rows in omega (arith, a)) (let a = u.fields in omega (arith, a)) (let a = u.items in omega (arith, a)))
+
+-- ---- one piece after the other
+
+record Result (ps : List Piece) (t : Table) (rows : List (List (List ℕ))) (next : List (List ℕ)) : Type 0 where
+  pub left : List (List ℕ)
+  pub held : Held (set ps t) (rows ++ rows_told next ps) left
+
+Next : List Piece → Type 0
+Next ps = (t : Table) (rows : List (List (List ℕ))) (next : List (List ℕ)) → Held t rows next → HasRoom t ps → Result ps t rows next
+
+field_step : (front : Option ℕ) (text : List ℕ) (ps : List Piece) → Next ps → (t : Table) (rows : List (List (List ℕ))) (next : List (List ℕ)) → Held t rows next
+    → HasRoom t (piece (tells.Field front) text ∷ ps) → joins text ≡ false → Result (piece (tells.Field front) text ∷ ps) t rows next
+unfolding Next
+field_step front text ps more t rows next h r plain =
+    let few : length t.fields.items < t.fields.capacity = (let a = r.fields in omega (arith, a)) in
+    let fits : length t.text.items + length text ≤ t.text.capacity = (let a = r.text in omega (arith, a)) in
+    let g = field_grows t text front h.within plain fits few in
+    let k = field_like t text front in
+    let m = more (field_added text front t) rows (next ++ text ∷ []) (field_held t (field_added text front t) rows next text h g k)
+    (field_room t (field_added text front t) (piece (tells.Field front) text) ps text r g k refl refl (let n : 0 + all_rows ps ≡ all_rows ps = omega arith in n)) in
+    record { left = m.left; held = m.held }
+
+mark_step : (text : List ℕ) (ps : List Piece) → Next ps → (t : Table) (rows : List (List (List ℕ))) (next : List (List ℕ)) → Held t rows next
+    → HasRoom t (piece (tells.Mark marks.Nothing) text ∷ ps) → Result (piece (tells.Mark marks.Nothing) text ∷ ps) t rows next
+unfolding Next
+mark_step text ps more t rows next h r =
+    let few : length t.fields.items < t.fields.capacity = (let a = r.fields in omega (arith, a)) in
+    let g = mark_grows t h.within few in
+    let k = mark_like t in
+    let m = more (mark_added forms.Text t) rows (next ++ [] ∷ []) (field_held t (mark_added forms.Text t) rows next [] h g k)
+    (field_room t (mark_added forms.Text t) (piece (tells.Mark marks.Nothing) text) ps [] r g k refl refl (let n : 0 + all_rows ps ≡ all_rows ps = omega arith in n)) in
+    record { left = m.left; held = m.held }
+
+row_step : (text : List ℕ) (ps : List Piece) → Next ps → (t : Table) (rows : List (List (List ℕ))) (next : List (List ℕ)) → Held t rows next
+    → HasRoom t (piece tells.Row text ∷ ps) → Result (piece tells.Row text ∷ ps) t rows next
+unfolding Next
+row_step text ps more t rows next h r =
+    let few : length t.rows.items < t.rows.capacity = (let a = r.rows in omega (arith, a)) in
+    let none : (n : ℕ) → 0 + n ≡ n = λ n. omega arith in
+    let room = row_room t (piece tells.Row text) ps r (none (all_bytes ps)) (none (all_fields ps)) refl in
+    let m = more (row_added t) (rows ++ next ∷ []) [] (row_held t rows next h few) room in
+    record {
+      left = m.left;
+      held = subst (λ (u : Table). Held (set ps u) (rows ++ (next ∷ rows_told [] ps)) m.left) (sym (row_set t (piece tells.Row text) ps r room))
+          (subst (λ (l : List (List (List ℕ))). Held (set ps (row_added t)) l m.left) (append_assoc rows (next ∷ []) (rows_told [] ps)) m.held);
+    }
+
+same_step : (c : Complaint) (text : List ℕ) (ps : List Piece) → Next ps → (t : Table) (rows : List (List (List ℕ))) (next : List (List ℕ)) → Held t rows next
+    → HasRoom t (piece (tells.Wrong c) text ∷ ps) → Result (piece (tells.Wrong c) text ∷ ps) t rows next
+unfolding Next
+same_step c text ps more t rows next h r =
+    let none : (n : ℕ) → 0 + n ≡ n = λ n. omega arith in
+    let m = more t rows next h (same_room t (piece (tells.Wrong c) text) ps r (none (all_bytes ps)) (none (all_fields ps)) (none (all_rows ps))) in
+    record {
+      left = m.left;
+      held = subst (λ (l : List (List ℕ)). Held (set ps t) (rows ++ rows_told l ps) m.left) (sym (append-nil next)) m.held;
+    }
+
+never : {A : Type 0} → false ≡ true → A
+never h = absurd (let no : false ≡ true = h in cc)
+
+by_tell : (tell : Tell) (text : List ℕ) (ps : List Piece) → Next ps → (t : Table) (rows : List (List (List ℕ))) (next : List (List ℕ)) → Held t rows next
+    → HasRoom t (piece tell text ∷ ps) → is_of_row tell text ≡ true → Result (piece tell text ∷ ps) t rows next
+by_tell (tells.Field front) text ps more t rows next h r is = field_step front text ps more t rows next h r (is_not _ is)
+by_tell (tells.Mark marks.Nothing) text ps more t rows next h r is = mark_step text ps more t rows next h r
+by_tell (tells.Mark marks.Rule) text ps more t rows next h r is = never is
+by_tell (tells.Mark marks.Inner) text ps more t rows next h r is = never is
+by_tell (tells.Mark (marks.Repeat b)) text ps more t rows next h r is = never is
+by_tell (tells.Mark marks.Above) text ps more t rows next h r is = never is
+by_tell tells.Row text ps more t rows next h r is = row_step text ps more t rows next h r
+by_tell (tells.Wrong c) text ps more t rows next h r is = same_step c text ps more t rows next h r
+by_tell tells.Table text ps more t rows next h r is = never is
+by_tell (tells.Options o) text ps more t rows next h r is = never is
+by_tell tells.Formats text ps more t rows next h r is = never is
+by_tell (tells.Format c) text ps more t rows next h r is = never is
+by_tell tells.FormatsEnd text ps more t rows next h r is = never is
+by_tell tells.Block text ps more t rows next h r is = never is
+by_tell tells.BlockText text ps more t rows next h r is = never is
+by_tell tells.BlockEnd text ps more t rows next h r is = never is
+by_tell tells.Rule text ps more t rows next h r is = never is
+by_tell tells.Request text ps more t rows next h r is = never is
+by_tell tells.TableEnd text ps more t rows next h r is = never is
+by_tell tells.Plain text ps more t rows next h r is = never is
+by_tell tells.Pass text ps more t rows next h r is = never is
+by_tell tells.PlainEnd text ps more t rows next h r is = never is
+
+all_held : (ps : List Piece) → are_of_rows ps ≡ true → Next ps
+unfolding Next
+all_held [] are t rows next h r = record { left = next; held = subst (λ (l : List (List (List ℕ))). Held t l next) (sym (append-nil rows)) h }
+all_held (p ∷ ps) are t rows next h r = by_tell p.tell p.text ps (all_held ps (both_second _ _ are)) t rows next h r (both_first _ _ are)
+
+pub rows_are_held : RowsAreHeld
+unfolding Next
+rows_are_held t ps fields rows from room are =
+    let first : Held t [] [] = record {
+      texts = ap (texts_in t.text.items) fields ∙ no_texts t.text.items;
+      among = subst (AreAmong 0 []) (sym rows) tt;
+      within = subst (IsWithin (length t.text.items)) (sym fields) (none_within (length t.text.items));
+      from = from;
+      total = ap length fields;
+    } in
+    let m = all_held ps are t [] [] first room in
+    (m.left, record { texts = texts_are (set ps t) ∙ m.held.texts; among = m.held.among })

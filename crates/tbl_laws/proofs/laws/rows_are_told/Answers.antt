@@ -1,0 +1,6 @@
+use Rattle.tbl_laws.proofs.Heads.{formats_are_read, tables_are_told}
+use Rattle.tbl_laws.proofs.RowsLaw.{rows_are_told}
+use Rattle.tbl_laws.proofs.laws.rows_are_told.Goals as goal
+
+pub returns : goal.returns
+returns c = record { formats = formats_are_read; rows = rows_are_told; tables = tables_are_told }

@@ -1,0 +1,3 @@
+pub mod HeldRows
+pub mod OutsideText
+pub mod Rows

@@ -1,0 +1,45 @@
+//! Laws of whole pages, each the contract of a function that does nothing: they speak of the definitions alone.
+ghost use Rattle.tbl_laws.specs.HeldRows.{RowsAreHeld};
+ghost use Rattle.tbl_laws.specs.OutsideText.{FirstTextStays, LastTextStays, PagesStay, TablesEnd, TextBetweenStays};
+ghost use Rattle.tbl_laws.specs.Rows.{FormatsAreRead, RowsAreTold, TablesAreTold};
+
+/// Text outside of tables goes out as it came: a page in which no line begins a table; what stands before the first such line; and
+/// what stands after `.TE`, up to the next such line or to the page's end. `.TE` ends a table after any line that doesn't end with a
+/// backslash.
+///
+/// Proved: A page in which no line is `.TS` goes out byte for byte, whatever its bytes are and whether its last line
+/// ends. Of any page goes out first, byte for byte, what stands before its first line `.TS`; after a line `.TE` (that
+/// follows on no line with a backslash at its end, where three bytes of a row may be kept) goes out what the page comes
+/// to up to there, then byte for byte the text up to the next line `.TS`, and nothing more where none comes.
+pub fn text_outside_stays()
+    ensures pages { PagesStay }
+    ensures first { FirstTextStays }
+    ensures last { LastTextStays }
+    ensures between { TextBetweenStays }
+    ensures ends { TablesEnd }
+{}
+
+/// The rows of a table are told to who sets it as they stand on the page: each field once, in the order of rows and columns, and
+/// empty fields too. So it is of lines that are no requests, with at most as many fields as there are columns, whose fields are text
+/// without escapes, neither rules nor blocks; in any table of which blanks are kept, and in one whose formats are a line of columns
+/// of `l`, `r` and `c`.
+///
+/// Proved: Of rows whose fields are text (no backslash, no `_`, `=` or `T{` alone; at most as many fields as columns; no
+/// line that begins with a point or is longer than what is kept) each field is told once, in the order of rows and
+/// columns, with its bytes, wherever a page stands between the rows of a table without `nospaces`; so it stands after
+/// `.TS` and a line of formats of 1 to 64 letters `l`, `r`, `c`, blanks and a point.
+pub fn rows_are_told()
+    ensures formats { FormatsAreRead }
+    ensures rows { RowsAreTold }
+    ensures tables { TablesAreTold }
+{}
+
+/// Who sets a table holds such rows as they were told: the text of each field once, in the order of rows and columns, and each row
+/// with its fields. So it is in a table with one line of formats that holds no rows yet, where there is room for all of them, so
+/// that no part of the table goes out before its end.
+///
+/// Proved: What is held of a table with one line of formats, once such rows were told and before any goes out, is the
+/// text of each field once, in the order of rows and columns, and each row with its own, where there is room for all.
+pub fn rows_are_held()
+    ensures { RowsAreHeld }
+{}
