@@ -9,6 +9,7 @@ use Rattle.utf8_converter.specs.Showing.{Finishes, Making, made_of}
 use Rattle.tbl_setting.specs.Running.{Bounds}
 use Rattle.nr_options.specs.Limits as limits
 use Rattle.nr_options.specs.declared.options.Options.{Options}
+use Rattle.document_stages.specs.Pulling.{whole}
 use Rattle.document_printing.specs.Document.{Prints, Setting, pages_of, source_of}
 use Rattle.document_printing.specs.declared.setup.Outcome.{Outcome}
 use Rattle.document_printing.specs.declared.setup.Outcome.TheVariants.{Done, Limit, NoRoom, ReadFault, TooLong, WriteFault}
@@ -32,14 +33,14 @@ pub came : (s : Setting) (source : Supply) (n : ℕ) (o : Outcome) (before : Lis
     → Prints s source n o (Some before) held → Came s source n o before held
 came s source n Done before None p = absurd p.out
 came s source n Done before (Some ys) p =
-    record { pages = pages_of s source n; prints = record { ends = p.ends; out = refl }; is = λ _. ap Some p.out }
+    record { pages = pages_of s source n; prints = record { ran = p.ran; out = refl }; is = λ _. ap Some p.out }
 came s source n (Limit which at) before None p = absurd p.out
 came s source n (Limit which at) before (Some ys) p =
-    record { pages = pages_of s source n; prints = record { ends = p.ends; out = refl }; is = λ _. ap Some p.out }
+    record { pages = pages_of s source n; prints = record { ran = p.ran; out = refl }; is = λ _. ap Some p.out }
 came s source n NoRoom before held p =
     record { pages = []; prints = (p.0, refl); is = λ _. p.1 ∙ ap Some (sym (append-nil before)) }
-came s source n ReadFault before held p = record { pages = []; prints = tt; is = λ known. absurd known }
-came s source n TooLong before held p = record { pages = []; prints = tt; is = λ known. absurd known }
+came s source n ReadFault before held p = record { pages = pages_of s source n; prints = λ _. refl; is = λ known. absurd known }
+came s source n TooLong before held p = record { pages = pages_of s source n; prints = λ _. refl; is = λ known. absurd known }
 came s source n WriteFault before None p = absurd p.3
 came s source n WriteFault before (Some ys) p = record { pages = p.0; prints = (p.0, p.1, p.2, refl); is = λ _. ap Some p.3 }
 
@@ -102,7 +103,7 @@ told_of o (Ok n) = inl refl
 told_of o (Err x) = inr refl
 
 pub is_printed : (s : Setting) (form : Form) (page bytes pages : List ℕ) (n m d : ℕ) (o p : Outcome) (r : Result ℕ Fault)
-    → Prints s (source_of s page) n o (Some []) (Some pages) → IsOut (outcome_of o r) form pages bytes (dropped_of r)
+    → Prints s (source_of s (whole page)) n o (Some []) (Some pages) → IsOut (outcome_of o r) form pages bytes (dropped_of r)
     → m ≡ n → p ≡ outcome_of o r → d ≡ dropped_of r → IsPrinted s form page bytes m p d
 is_printed s form page bytes pages n m d o p r prints out moves outcome dropped =
     subst (λ (x : ℕ). IsPrinted s form page bytes m p x) (sym dropped)
@@ -115,24 +116,24 @@ some_is xs ys e = cc
 
 -- where the pages went out as they are
 pub plain_printed : (s : Setting) (form : Form) (page bytes : List ℕ) (old new : Option (List ℕ)) (n m d : ℕ) (o p : Outcome)
-    → form ≡ Bytes → Prints s (source_of s page) n o old new → old ≡ Some [] → new ≡ Some bytes
+    → form ≡ Bytes → Prints s (source_of s (whole page)) n o old new → old ≡ Some [] → new ≡ Some bytes
     → m ≡ n → p ≡ o → d ≡ 0 → IsPrinted s form page bytes m p d
 plain_printed s form page bytes old new n m d o p is prints before after moves outcome dropped =
     subst (λ (f : Form). IsPrinted s f page bytes m p d) (sym is)
     (is_printed s Bytes page bytes bytes n m d o p (Ok 0)
-    (subst (λ (z : Option (List ℕ)). Prints s (source_of s page) n o (Some []) z) after
-    (subst (λ (y : Option (List ℕ)). Prints s (source_of s page) n o y new) before prints))
+    (subst (λ (z : Option (List ℕ)). Prints s (source_of s (whole page)) n o (Some []) z) after
+    (subst (λ (y : Option (List ℕ)). Prints s (source_of s (whole page)) n o y new) before prints))
     (plain_out o bytes) moves outcome dropped)
 
 -- where they went out through a sink that shows them, which held these bytes first and those last
 pub shown_printed : (s : Setting) (page : List ℕ) (t : Table) (e : Bool) (begun new : Option (List ℕ)) (failed failed' : ℕ) (first last bytes : List ℕ)
     (n m d : ℕ) (o p : Outcome) (r : Result ℕ Fault)
-    → first ≡ made_of (making t e begun failed) → Prints s (source_of s page) n o (Some first) (Some last)
+    → first ≡ made_of (making t e begun failed) → Prints s (source_of s (whole page)) n o (Some first) (Some last)
     → ((k : Making) (xs : List ℕ) → last ≡ made_of k ++ xs → Finishes k xs new failed' r)
     → begun ≡ Some [] → new ≡ Some bytes → m ≡ n → p ≡ outcome_of o r → d ≡ dropped_of r
     → IsPrinted s (Characters t e) page bytes m p d
 shown_printed s page t e begun new failed failed' first last bytes n m d o p r is prints finishes before after moves outcome dropped =
-    let k = came s (source_of s page) n o first (Some last) prints in
+    let k = came s (source_of s (whole page)) n o first (Some last) prints in
     is_printed s (Characters t e) page bytes k.pages n m d o p r k.prints
     (shown_out t e begun new failed failed' o k.pages bytes r before after
     (λ known. finishes (making t e begun failed) k.pages (some_is last (first ++ k.pages) (k.is known) ∙ ap (λ (z : List ℕ). z ++ k.pages) is)))

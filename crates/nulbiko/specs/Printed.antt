@@ -1,9 +1,10 @@
 -- What becomes of the pages of a document.
-use Rattle.std.specs.Prelude.{◌≡◌, ℕ, ◌-◌, List, [], ◌++◌, Bool, true, false, ◌==◌, if◌then◌else◌, Option, None, Some, Result, Ok, Err, ◌⊎◌}
+use Rattle.std.specs.Prelude.{◌≡◌, ℕ, ◌-◌, List, [], ◌++◌, Bool, ◌==◌, if◌then◌else◌, Option, None, Some, Result, Ok, Err, ◌⊎◌}
 use Rattle.utf8_characters.specs.declared.table.Table.{Table}
 use Rattle.utf8_converter.specs.Cells.{converted, strays_of}
 use Rattle.utf8_converter.specs.Lines.{KeepsLines}
 use Rattle.utf8_converter.specs.Showing.{at_most}
+use Rattle.document_stages.specs.Pulling.{whole}
 use Rattle.document_printing.specs.Document.{Prints, Setting, source_of}
 use Rattle.document_printing.specs.declared.setup.Outcome.{Outcome}
 use Rattle.document_printing.specs.declared.setup.Outcome.TheVariants.{Done, Limit, NoRoom, ReadFault, TooLong, WriteFault}
@@ -71,7 +72,7 @@ dropped_of (Err e) = 0
 pub record IsPrinted (s : Setting) (form : Form) (page bytes : List ℕ) (moves : ℕ) (outcome : Outcome) (dropped : ℕ) : Type 0 where
   pub ended : Outcome
   pub pages : List ℕ
-  pub prints : Prints s (source_of s page) moves ended (Some []) (Some pages)
+  pub prints : Prints s (source_of s (whole page)) moves ended (Some []) (Some pages)
   pub told : (outcome ≡ ended) ⊎ (outcome ≡ cut_off ended)
   pub out : IsOut outcome form pages bytes dropped
 

@@ -1,5 +1,5 @@
 -- What a call of tbl comes to.
-use Rattle.std.specs.Prelude.{◌≡◌, ℕ, List, [], ◌∷◌, length, Bool, false, Option, None, Some}
+use Rattle.std.specs.Prelude.{◌≡◌, ℕ, List, [], ◌∷◌, length, Bool, false, Option, Some}
 use Rattle.nr_vectors.specs.Items.{Items}
 use Rattle.nr_units.specs.Source.{Supply}
 use Rattle.utf8_characters.specs.declared.table.Table.{Table}

@@ -1,5 +1,6 @@
 // The pages of a document go out: as bytes, or in UTF-8.
 ghost use Rattle.std.specs.Prelude.{◌≡◌, ◌≢◌, List, ℕ, [], Some};
+ghost use Rattle.document_stages.specs.Pulling.{whole};
 ghost use Rattle.document_reader.specs.Page.{IsShort, man_of};
 ghost use Rattle.document_printing.specs.Document.{Prints, setting_of, source_of};
 ghost use Rattle.nulbiko.specs.Told.{count_told};
@@ -71,7 +72,7 @@ pub(crate) struct Printed {
 fn print_page<W: Sink>(page: &[u8], setup: &Setup<'_>, memory: &mut Memory, output: &mut W) -> Run
     ensures { IsShort page.now (man_of setup.now.stages.mdoc page.now) →
         Prints (setting_of setup.now memory.old.rooms.tables memory.old.desk)
-        (source_of (setting_of setup.now memory.old.rooms.tables memory.old.desk) page.now)
+        (source_of (setting_of setup.now memory.old.rooms.tables memory.old.desk) (whole page.now))
         result.moves result.outcome (W.held output.old) (W.held output.new) }
 {
     let Memory { rooms, desk } = memory;

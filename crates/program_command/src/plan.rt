@@ -96,13 +96,21 @@ fn escapes(faces: Faces, shows: bool) -> bool {
     }
 }
 
+/// Whether bytes go out with escape sequences.
+fn has_escapes(spelling: Spelling) -> bool {
+    match spelling {
+        Spelling::Bytes => false,
+        Spelling::Utf8 { escapes, .. } => escapes,
+    }
+}
+
 /// What the formatter is given. Bold shows where it is asked for, and between escape sequences.
 pub(crate) fn options_of(job: &Job<'_>, plan: &Plan, select: Select) -> Options {
     Options {
         first: job.plain.first.min(LAST_PAGE) as i64,
         registers: ArrayVec::new(),
         select,
-        faces: if job.plain.shows_bold || plan.escapes {
+        faces: if job.plain.shows_bold || has_escapes(plan.spelling) {
             Looks::All
         } else {
             Looks::Letters

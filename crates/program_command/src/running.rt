@@ -16,7 +16,7 @@ use program_plan::{asks_for_others, is_manual, macros_of, text_before};
 use std::alloc::AllocError;
 
 /// What of a job's texts is read, and what of their pages goes out.
-#[derive(Clone, Copy)]
+#[derive(Drop)]
 pub(crate) struct Reading {
     /// The pages.
     pub select: Select,
@@ -101,12 +101,13 @@ fn run_all<'a, T: Source + Drop, W: Sink>(
 ) -> Result<Ending<'a>, AllocError>
     ensures { IfOk result IsOfRun }
 {
+    let Reading { select, coding } = reading;
     let mut room = vec![in around.alloc; 0u8; LOOKED_AT]?;
-    let front = hold(under_coding(chain(pages), reading.coding), &mut room);
+    let front = hold(under_coding(chain(pages), coding), &mut room);
     if job.plain.is_alone && asks_for_others(front.first()) {
         return Ok(Ending::NeedsOthers);
     }
-    run_front(job, reading.select, around, macros, front, output)
+    run_front(job, select, around, macros, front, output)
 }
 
 /// Texts under the coding that is named for them, or under that which the first of them says.
