@@ -172,7 +172,7 @@ heard_by false true z c r p q s is cooked none = two c r (ltb-false c 128 p) (lt
 heard_by false false true c r p q s is cooked none = three c r (ltb-false c 2048 q) (ltb-true c 65536 s) is cooked none
 heard_by false false false c r p q s is cooked none = four c r (ltb-false c 65536 s) (below c is) cooked none
 
-cooked_character : (c : ℕ) (r : Reader) → scalar c ≡ true → is_raw r.half.line ≡ false → r.pending ≡ Nothing → fed r (encode_utf8 c) ≡ heard (coming_of c) r
+pub cooked_character : (c : ℕ) (r : Reader) → scalar c ≡ true → is_raw r.half.line ≡ false → r.pending ≡ Nothing → fed r (encode_utf8 c) ≡ heard (coming_of c) r
 unfolding encode_utf8
 cooked_character c r is cooked none = heard_by (nat_lt c 128) (nat_lt c 2048) (nat_lt c 65536) c r refl refl refl is cooked none
 

@@ -128,7 +128,7 @@ letter_read r none at =
 pub is_one : (c x : ℕ) → (c == x) ≡ true → c ≡ x
 is_one c x p = grind (arith, nat_tests)
 
-by_letter : (P : ℕ → Type 0) → P (code "B") → P (code "I") → P (code "P") → P (code "R") → (c : ℕ) (w x y z : Bool) → (c == code "B") ≡ w → (c == code "I") ≡ x → (c == code "P") ≡ y → (c == code "R") ≡ z
+pub by_letter : (P : ℕ → Type 0) → P (code "B") → P (code "I") → P (code "P") → P (code "R") → (c : ℕ) (w x y z : Bool) → (c == code "B") ≡ w → (c == code "I") ≡ x → (c == code "P") ≡ y → (c == code "R") ≡ z
     → (w || x || y || z) ≡ true → P c
 by_letter P p q s t c true x y z e f g h is = subst P (sym (is_one c (code "B") e)) p
 by_letter P p q s t c false true y z e f g h is = subst P (sym (is_one c (code "I") f)) q
@@ -136,7 +136,7 @@ by_letter P p q s t c false false true z e f g h is = subst P (sym (is_one c (co
 by_letter P p q s t c false false false true e f g h is = subst P (sym (is_one c (code "R") h)) t
 by_letter P p q s t c false false false false e f g h is = absurd (let no : false ≡ true = is in cc)
 
-by_kept : (P : ℕ → Type 0) → P (code "-") → P (code "&") → P (code "|") → P (code "c") → P (code "e") → (b : ℕ) (v w x y z : Bool) → (b == code "-") ≡ v → (b == code "&") ≡ w → (b == code "|") ≡ x → (b == code "c") ≡ y → (b == code "e") ≡ z
+pub by_kept : (P : ℕ → Type 0) → P (code "-") → P (code "&") → P (code "|") → P (code "c") → P (code "e") → (b : ℕ) (v w x y z : Bool) → (b == code "-") ≡ v → (b == code "&") ≡ w → (b == code "|") ≡ x → (b == code "c") ≡ y → (b == code "e") ≡ z
     → (v || w || x || y || z) ≡ true → P b
 by_kept P o p q s t b true w x y z d e f g h is = subst P (sym (is_one b (code "-") d)) o
 by_kept P o p q s t b false true x y z d e f g h is = subst P (sym (is_one b (code "&") e)) p

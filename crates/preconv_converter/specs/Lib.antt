@@ -14,6 +14,7 @@ pub mod Meeting
 pub mod Named
 pub mod Numbers
 pub mod Passing
+pub mod Pieces
 pub mod PlainText
 pub mod Reading
 pub mod Running
@@ -24,4 +25,6 @@ pub mod Spelling
 pub mod Staged
 pub mod Translations
 pub mod Unread
+pub mod WordLaws
 pub mod Words
+pub mod WrittenLines

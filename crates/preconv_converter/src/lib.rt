@@ -3,7 +3,7 @@
 //! It stands on nr_units, nr_vectors, utf8_characters and document_stages. To read: `numbers`, `pairs`, `glyphs`; `signs`, `likeness`, `said`; `words`, `half`;
 //! `beginnings`, `hyphens`, `sentences`, `translations`, `lines`, `conditions`; `endings`, `faces`, `skipping`, `letters`,
 //! `named`, `spelling`, `escapes`; `meeting`, which puts them together; `runs`, `passing`, `reader`, `running`; `staged`;
-//! `plain_text`.
+//! `plain_text`, `word_laws`.
 #![tactic(auto)]
 
 mod beginnings;
@@ -33,8 +33,10 @@ mod skipping;
 mod spelling;
 mod staged;
 mod translations;
+mod word_laws;
 mod words;
 
 pub use plain_text::passes_unchanged;
 pub use running::{Outcome, convert};
 pub use staged::Turner;
+pub use word_laws::words_go_out;
