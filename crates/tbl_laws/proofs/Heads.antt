@@ -25,7 +25,7 @@ use Rattle.tbl_reader.proofs.Keeping.{fed_keeps}
 use Rattle.tbl_reader.proofs.Runs.{fed_append}
 use Rattle.tbl_reader.proofs.Whole.{lines_are_read}
 use Rattle.tbl_laws.specs.OutsideText.{IsOutside}
-use Rattle.tbl_laws.specs.Rows.{FormatsAreRead, IsBetweenRows, TablesAreTold, are_columns, columns_in, is_column, table_with}
+use Rattle.tbl_laws.specs.Rows.{FormatsAreRead, IsBetweenRows, TablesAreTold, are_columns, columns_in, is_column, separates, table_with}
 use Rattle.tbl_laws.proofs.Rows.{both_first, both_second}
 use Rattle.tbl_laws.proofs.RowsLaw.{no_command, rows_are_told}
 
@@ -92,10 +92,10 @@ formats_then f [] ys = refl
 formats_then f (x ∷ xs) ys = formats_then (read x f).formats xs ys
 
 -- a point, and the end of the line
-ended : ℕ → Formats
+unfoldable pub ended : ℕ → Formats
 ended n = record (first_formats (suc n) 1 false) { cells = suc n }
 
-formats_end : (bytes : List ℕ) (n : ℕ) → are_columns bytes ≡ true → columns_in bytes ≡ suc n → suc n ≤ 64
+pub formats_end : (bytes : List ℕ) (n : ℕ) → are_columns bytes ≡ true → columns_in bytes ≡ suc n → suc n ≤ 64
     → formats_after (first_formats 0 0 false) ((bytes ++ codes ".") ++ codes "\n") ≡ ended n
 unfolding formatted ended
 formats_end bytes n h is few =
@@ -117,27 +117,27 @@ no_options_in opened (b ∷ bs) h =
     (not_that (code ";") b refl refl refl refl (both_first _ _ h))
     ∙ ap behind (no_options_in (b == code "(") bs (both_second _ _ h))
 
-dotted : (so_far : Bool) (bytes : List ℕ) → dotted_after so_far (bytes ++ codes ".") ≡ true
+pub dotted : (so_far : Bool) (bytes : List ℕ) → dotted_after so_far (bytes ++ codes ".") ≡ true
 dotted so_far [] = refl
 dotted so_far (b ∷ bs) = dotted ((b == code ".") || (so_far && is_blank b)) bs
 
-one_line : (bytes : List ℕ) → are_columns bytes ≡ true → is_line (bytes ++ codes ".") ≡ true
+pub one_line : (bytes : List ℕ) → are_columns bytes ≡ true → is_line (bytes ++ codes ".") ≡ true
 one_line [] h = refl
 one_line (b ∷ bs) h =
     ap (λ (t : Bool). not t && is_line (bs ++ codes ".")) (not_that (code "\n") b refl refl refl refl (both_first _ _ h))
     ∙ one_line bs (both_second _ _ h)
 
-no_end : (bytes : List ℕ) → are_columns bytes ≡ true → 0 < columns_in bytes → is_command (code "E") (bytes ++ codes ".") ≡ false
+pub no_end : (bytes : List ℕ) → are_columns bytes ≡ true → 0 < columns_in bytes → is_command (code "E") (bytes ++ codes ".") ≡ false
 no_end [] h some = absurd (omega (arith, some))
 no_end (b ∷ bs) h some =
     no_command (code "E") (b ∷ (bs ++ codes ".")) (ap not (not_that (code ".") b refl refl refl refl (both_first _ _ h)))
 
 -- formats that were read are right, or surely too wide
-judged : (n : ℕ) (f : Formats) (p : Page) → f ≡ ended n → p.state.formats.lines ≡ 0 → p.state.options.tab ≡ code "\t" → p.state.options.nospaces ≡ false → suc n ≤ 64
-    → IsBetweenRows (code "\t") (suc n) (formats_judged (wrong_in f p) (formats_taken f p)).page
+pub judged : (sep n : ℕ) (f : Formats) (p : Page) → separates sep ≡ true → f ≡ ended n → p.state.formats.lines ≡ 0 → p.state.options.tab ≡ sep → p.state.options.nospaces ≡ false → suc n ≤ 64
+    → IsBetweenRows sep (suc n) (formats_judged (wrong_in f p) (formats_taken f p)).page
 unfolding ended
-judged n f p is lines tab blanks few =
-    subst (λ (x : Formats). IsBetweenRows (code "\t") (suc n) (formats_judged (wrong_in x p) (formats_taken x p)).page) (sym is) with_these
+judged sep n f p separated is lines tab blanks few =
+    subst (λ (x : Formats). IsBetweenRows sep (suc n) (formats_judged (wrong_in x p) (formats_taken x p)).page) (sym is) with_these
   where
     some : (suc n == 0) ≡ false
     some = grind (arith, nat_tests)
@@ -149,15 +149,15 @@ judged n f p is lines tab blanks few =
     right = ap (λ (t : Bool). if t then Some kinds.NoFormat else wrong_kind None (1 == p.state.formats.lines) wide_is) some
         ∙ ap (λ (k : ℕ). wrong_kind None (1 == k) wide_is) lines
 
-    between : (wide : Bool) → IsBetweenRows (code "\t") (suc n) (formats_judged (if wide then Some kinds.TooWide else None) (formats_taken (ended n) p)).page
-    between true = record { mode = refl; fields = refl; kept = refl; from = refl; start = refl; tab_is = tab; blanks = blanks; columns_are = refl; separated = refl; few = few }
-    between false = record { mode = refl; fields = refl; kept = refl; from = refl; start = refl; tab_is = tab; blanks = blanks; columns_are = refl; separated = refl; few = few }
+    between : (wide : Bool) → IsBetweenRows sep (suc n) (formats_judged (if wide then Some kinds.TooWide else None) (formats_taken (ended n) p)).page
+    between true = record { mode = refl; fields = refl; kept = refl; from = refl; start = refl; tab_is = tab; blanks = blanks; columns_are = refl; separated = separated; few = few }
+    between false = record { mode = refl; fields = refl; kept = refl; from = refl; start = refl; tab_is = tab; blanks = blanks; columns_are = refl; separated = separated; few = few }
 
-    with_these : IsBetweenRows (code "\t") (suc n) (formats_judged (wrong_in (ended n) p) (formats_taken (ended n) p)).page
-    with_these = subst (λ (k : Option Kind). IsBetweenRows (code "\t") (suc n) (formats_judged k (formats_taken (ended n) p)).page) (sym right) (between wide_is)
+    with_these : IsBetweenRows sep (suc n) (formats_judged (wrong_in (ended n) p) (formats_taken (ended n) p)).page
+    with_these = subst (λ (k : Option Kind). IsBetweenRows sep (suc n) (formats_judged k (formats_taken (ended n) p)).page) (sym right) (between wide_is)
 
 -- the page after the line of `.TS`, and with a line of formats
-begun : Page → Page
+unfoldable pub begun : Page → Page
 begun p = (fed (codes ".TS\n") (at_mode (modes.Passing starts.Nothing) p)).page
 
 with_formats : Page → List ℕ → Page
@@ -177,7 +177,7 @@ head_is p bytes n h is few =
     ∙ ap (λ (t : Bool). if t then formats_ended r
     else (if nat_le r.limits.formats (length r.kept) then given_up_line kinds.FormatsLimit r else effect (record r { kept = r.kept ++ code "\n" ∷ []; start = length r.kept + 1 }) []))
     (dotted false bytes) in
-    let j = judged n (formats_after (first_formats 0 0 false) (line ++ codes "\n")) r (formats_end bytes n h is few) refl refl refl few in
+    let j = judged (code "\t") n (formats_after (first_formats 0 0 false) (line ++ codes "\n")) r refl (formats_end bytes n h is few) refl refl refl few in
     subst (λ (e : Effect). IsBetweenRows (code "\t") (suc n) (and_then e (λ z. effect (with_state (line_counted z.state) z) [])).page) (sym head)
     (record {
       mode = j.mode;

@@ -1,6 +1,7 @@
 pub mod Heads
 pub mod HeldLaw
 pub mod HeldRows
+pub mod OptionHeads
 pub mod OutsideText
 pub mod Rows
 pub mod RowsLaw

@@ -153,11 +153,11 @@ place_of_next tab (b ∷ bs) rest h =
     ap (λ (t : Bool). if t then Some 0 else behind (place_of tab (bs ++ tab ∷ rest))) other ∙ ap behind (place_of_next tab bs rest (both_second _ _ h))
     ∙ ap Some (let one : 1 + length bs ≡ suc (length bs) = omega arith in one)
 
-from_there : (xs ys : List ℕ) → drop (length xs) (xs ++ ys) ≡ ys
+pub from_there : (xs ys : List ℕ) → drop (length xs) (xs ++ ys) ≡ ys
 from_there [] ys = refl
 from_there (x ∷ xs) ys = from_there xs ys
 
-up_to : (ys zs : List ℕ) → take (length ys) (ys ++ zs) ≡ ys
+pub up_to : (ys zs : List ℕ) → take (length ys) (ys ++ zs) ≡ ys
 up_to [] zs = refl
 up_to (y ∷ ys) zs = ap (λ (l : List ℕ). y ∷ l) (up_to ys zs)
 
@@ -295,8 +295,10 @@ fields_end tab columns fields n front first [] p h less few count are =
     ends_here tab columns fields n front first p h (omega (arith, less)) (both_first _ _ are) (is_not _ (both_second _ _ are))
 fields_end tab columns fields zero front first (next ∷ others) p h less few count are = absurd (omega (arith, less, count))
 fields_end tab columns fields (suc n) front first (next ∷ others) p h less few count are =
-    let plain : is_plain tab first ≡ true = both_first _ _ (both_first _ _ are) in
-    let text : is_mark first ≡ false = is_not _ (both_second _ _ (both_first _ _ are)) in
+    let plain : is_plain tab first ≡ true =
+    both_first (is_plain tab first) (not (is_mark first)) (both_first (is_plain tab first && not (is_mark first)) (are_fields tab next others) are) in
+    let text : is_mark first ≡ false =
+    is_not (is_mark first) (both_second (is_plain tab first) (not (is_mark first)) (both_first (is_plain tab first && not (is_mark first)) (are_fields tab next others) are)) in
     let rest = text_of tab next others in
     let t = next_tells tab columns fields front first rest p h (omega (arith, less, few)) plain text in
     ends_more tab columns fields n front first rest (next ∷ others) p h plain t

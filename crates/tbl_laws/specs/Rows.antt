@@ -1,6 +1,6 @@
 -- The rows of a table are told as they stand on the page (Lesk, "Data"; tbl(1), "Table data"): each field once, in the order of rows and
 -- columns.
-use Rattle.std.specs.Prelude.{◌≡◌, ℕ, suc, ◌<◌, ◌≤◌, List, [], ◌∷◌, ◌++◌, length, Bool, true, false, not, ◌==◌, ◌&&◌, ◌||◌, codes, if◌then◌else◌}
+use Rattle.std.specs.Prelude.{◌≡◌, ℕ, suc, ◌+◌, ◌<◌, ◌≤◌, List, [], ◌∷◌, ◌++◌, length, Bool, true, false, not, ◌==◌, ◌&&◌, ◌||◌, Some, codes, if◌then◌else◌}
 use Prim.Native.Char.{code}
 use Rattle.tbl_layout.specs.Rows.{joins}
 use Rattle.tbl_reader.specs.declared.field.Mark.TheVariants as marks
@@ -10,9 +10,12 @@ use Rattle.tbl_reader.specs.declared.telling.Tell.{Tell}
 use Rattle.tbl_reader.specs.declared.telling.Tell.TheVariants as tells
 use Rattle.tbl_reader.specs.Ending.{first_page, page_said}
 use Rattle.tbl_reader.specs.Fields.{is_rule}
+use Rattle.tbl_reader.specs.Heads.{options_end}
+use Rattle.tbl_reader.specs.Options.{options_of}
 use Rattle.tbl_reader.specs.Pages.{Page}
 use Rattle.tbl_reader.specs.Reading.{fed}
 use Rattle.tbl_reader.specs.Telling.{Piece}
+use Rattle.tbl_reader.specs.Whole.{is_line}
 use Rattle.tbl_laws.specs.OutsideText.{IsOutside}
 
 -- ---- the text of a row: its fields, with this byte between them
@@ -21,9 +24,6 @@ use Rattle.tbl_laws.specs.OutsideText.{IsOutside}
 pub record Row : Type 0 where
   pub first : List ℕ
   pub others : List (List ℕ)
-
-abbrev pub row : List ℕ → List (List ℕ) → Row
-row first others = record { first = first; others = others }
 
 abbrev pub text_of : ℕ → List ℕ → List (List ℕ) → List ℕ
 text_of tab first [] = first
@@ -160,6 +160,18 @@ FormatsAreRead =
     (formats : List ℕ) (p : Page) → IsOutside p → are_columns formats ≡ true → 0 < columns_in formats
     → columns_in formats ≤ 64 → length formats < p.limits.formats
     → IsBetweenRows (code "\t") (columns_in formats) (fed (table_with formats) p).page
+
+-- and so where a line of options stands before them: these say what separates fields, and keep blanks
+abbrev pub table_of : List ℕ → List ℕ → List ℕ
+table_of options formats = codes ".TS\n" ++ (options ++ codes ";") ++ codes "\n" ++ (formats ++ codes ".") ++ codes "\n"
+
+abbrev pub OptionsAreRead : Type 0
+OptionsAreRead =
+    (options formats : List ℕ) (p : Page) → IsOutside p → is_line options ≡ true → begins_row options ≡ true
+    → options_end (options ++ codes ";") ≡ Some (length options) → separates (options_of options).tab ≡ true
+    → (options_of options).nospaces ≡ false → are_columns formats ≡ true → 0 < columns_in formats
+    → columns_in formats ≤ 64 → length options + length formats + 3 ≤ p.limits.formats
+    → IsBetweenRows (options_of options).tab (columns_in formats) (fed (table_of options formats) p).page
 
 -- ---- so the rows of a table are told that begins where a page is outside of tables
 

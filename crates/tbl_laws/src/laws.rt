@@ -1,7 +1,7 @@
 //! Laws of whole pages, each the contract of a function that does nothing: they speak of the definitions alone.
 ghost use Rattle.tbl_laws.specs.HeldRows.{RowsAreHeld};
 ghost use Rattle.tbl_laws.specs.OutsideText.{FirstTextStays, LastTextStays, PagesStay, TablesEnd, TextBetweenStays};
-ghost use Rattle.tbl_laws.specs.Rows.{FormatsAreRead, RowsAreTold, TablesAreTold};
+ghost use Rattle.tbl_laws.specs.Rows.{FormatsAreRead, OptionsAreRead, RowsAreTold, TablesAreTold};
 
 /// Text outside of tables goes out as it came: a page in which no line begins a table; what stands before the first such line; and
 /// what stands after `.TE`, up to the next such line or to the page's end. `.TE` ends a table after any line that doesn't end with a
@@ -22,14 +22,15 @@ pub fn text_outside_stays()
 /// The rows of a table are told to who sets it as they stand on the page: each field once, in the order of rows and columns, and
 /// empty fields too. So it is of lines that are no requests, with at most as many fields as there are columns, whose fields are text
 /// without escapes, neither rules nor blocks; in any table of which blanks are kept, and in one whose formats are a line of columns
-/// of `l`, `r` and `c`.
+/// of `l`, `r` and `c`, with a line of options before it or without.
 ///
 /// Proved: Of rows whose fields are text (no backslash, no `_`, `=` or `T{` alone; at most as many fields as columns; no
 /// line that begins with a point or is longer than what is kept) each field is told once, in the order of rows and
 /// columns, with its bytes, wherever a page stands between the rows of a table without `nospaces`; so it stands after
-/// `.TS` and a line of formats of 1 to 64 letters `l`, `r`, `c`, blanks and a point.
+/// `.TS`, a line of options or none, and a line of formats of 1 to 64 letters `l`, `r`, `c`, blanks and a point.
 pub fn rows_are_told()
     ensures formats { FormatsAreRead }
+    ensures options { OptionsAreRead }
     ensures rows { RowsAreTold }
     ensures tables { TablesAreTold }
 {}

@@ -20,7 +20,7 @@ pub fn page(text: &[u8], width: usize) -> Result<Vec<u8>, Stopped> {
     page_within(text, width, false, &Limits::OF_STRANGERS)
 }
 
-/// Formats a manual page as [`page`] does, under these limits, with `bold` as [`format()`] has it.
+/// Formats a manual page as [`page`] does, under these limits, with `bold` as `format` has it.
 ///
 /// # Errors
 ///
