@@ -9,7 +9,6 @@ use std::fs::File;
 use std::mem::ManuallyDrop;
 #[cfg(unix)]
 use std::os::fd::FromRawFd;
-use std::os::unix::ffi::OsStrExt;
 
 /// Where words come from.
 pub trait Env {
@@ -80,7 +79,7 @@ impl Env for HostRuntime {
 
     fn var(&self, name: &str, buffer: &mut [u8]) -> std::result::Result<usize, FillError> {
         let value = std::env::var_os(name).ok_or(FillError::NotPresent)?;
-        let bytes = value.as_bytes();
+        let bytes = value.as_encoded_bytes();
         let front = buffer.get_mut(..bytes.len()).ok_or(FillError::TooLong)?;
         front.copy_from_slice(bytes);
         Ok(bytes.len())
