@@ -14,7 +14,7 @@ struct Row {
     line: &'static [u8],
 }
 
-static TEXTS: [(&str, Page<'static>); 7] = [
+static TEXTS: [(&str, Page<'static>); 6] = [
     ("one", Page::Bytes(b"one\n.br\ntwo")),
     ("-i", Page::Bytes(b".br\nthree")),
     (
@@ -27,7 +27,6 @@ static TEXTS: [(&str, Page<'static>); 7] = [
     ),
     ("lib/tmac.line", Page::Bytes(b".ll 20")),
     ("lib/tmac.page", Page::Bytes(b".pl 1")),
-    ("folder", Page::Cut(b".pl 1\na\n.br\nb\n")),
 ];
 
 /// What is formatted.
@@ -91,9 +90,9 @@ here              today              A(1)\n",
     },
     // a page that needs no other program
     Row {
-        words: &[b"nulbiko", b"--alone", b"one"],
-        input: b"",
-        output: b"one\ntwo\n",
+        words: &[b"nulbiko", b"--alone"],
+        input: b".pl 1\na\n",
+        output: b"a\n",
         status: 0,
         line: b"",
     },
@@ -130,14 +129,14 @@ here              today              A(1)\n",
     Row {
         words: &[b"nulbiko", b"--version"],
         input: b"",
-        output: b"nulbiko 0.1.0\n",
+        output: b"nulbiko 0.2.0\n",
         status: 0,
         line: b"",
     },
 ];
 
 /// What is reported.
-static REPORTED: [Row; 11] = [
+static REPORTED: [Row; 10] = [
     Row {
         words: &[b"nulbiko", b"-c", b"-V", b"-y"],
         input: b".pl 1\na\n",
@@ -172,14 +171,6 @@ static REPORTED: [Row; 11] = [
         output: b"",
         status: 3,
         line: b"nulbiko: no macros of the name x\n",
-    },
-    // what was ended before the fault is out
-    Row {
-        words: &[b"nulbiko", b"folder"],
-        input: b"",
-        output: b"a\n",
-        status: 3,
-        line: b"nulbiko: folder:4: read fault\n",
     },
     Row {
         words: &[b"nulbiko", b"-Lp4"],
