@@ -1,12 +1,12 @@
 //! Hyphenation words, found by their letters.
-ghost use Rattle.std.specs.Prelude.{◌+◌, ◌≡◌, ◌<◌, ◌∷◌, [], length, map, IfOk, slice_set};
+ghost use Rattle.std.specs.Prelude.{◌+◌, ◌≡◌, ◌<◌, ◌∷◌, [], length, map, IfOk};
 ghost use Rattle.nr_symbol_tables.specs.Word.{bytes_of, points_of};
 ghost use Rattle.nr_symbol_tables.specs.Given.{word_in};
-ghost use Rattle.nr_symbol_tables.specs.Hyphenation.{kind, kinds, earliers, words_in, IsChained, IsLatest, IsLatestGiven};
+ghost use Rattle.nr_symbol_tables.specs.Hyphenation.{kind, kinds, earliers, number_at, words_in, IsChained, IsLatest, IsLatestGiven};
 
 use crate::word::{HyphenationWord, stem};
 use nr_vectors::cell::Cell;
-use nr_vectors::{CountedAlloc, FixedVec};
+use nr_vectors::{CountedAlloc, FixedVec, ReservedArray};
 use std::alloc::AllocError;
 use std::marker::Model;
 
@@ -76,13 +76,13 @@ fn latest_given(row: &[Linked], latest: &[usize; KINDS], cells: &[Cell]) -> usiz
     whole.max(latest_with(row, latest, &cells[..len - 1]))
 }
 
-// Makes a place, counted from 1, the latest of a kind.
-fn set_latest(latest: &mut [usize; KINDS], kind: usize, at: usize)
+// The latest word of a kind: its place counted from 1, or 0.
+fn latest_of(latest: &[usize; KINDS], kind: usize) -> usize
     requires few { kind < 256 }
-    ensures long { length latest.old ≡ 256 }
-    ensures is { latest.new ≡ slice_set latest.old kind at }
+    ensures long { length latest.now ≡ 256 }
+    ensures is { result ≡ number_at latest.now kind }
 {
-    latest[kind] = at;
+    latest[kind]
 }
 
 /// Hyphenation words, with a capacity that stays; `new` is the only call that allocates. A clause sees
@@ -92,7 +92,7 @@ fn set_latest(latest: &mut [usize; KINDS], kind: usize, at: usize)
 pub struct HyphenationWords {
     row: FixedVec<Linked>,
     // The latest word of each kind: its place counted from 1, or 0.
-    latest: Box<[usize; KINDS]>,
+    latest: ReservedArray<KINDS>,
 }
 
 impl Model for HyphenationWords {
@@ -109,7 +109,7 @@ impl Model for HyphenationWords {
       capacity = w.row.capacity;
     } };
 
-    ghost invariant = { λ w. IsChained (kinds w.row.items) (earliers w.row.items) w.latest.value };
+    ghost invariant = { λ w. IsChained (kinds w.row.items) (earliers w.row.items) w.latest };
 }
 
 impl HyphenationWords {
@@ -120,7 +120,7 @@ impl HyphenationWords {
     {
         Ok(HyphenationWords {
             row: FixedVec::new(alloc, capacity)?,
-            latest: alloc.boxed([0; KINDS])?,
+            latest: ReservedArray::new(alloc, [0; KINDS])?,
         })
     }
 
@@ -129,7 +129,7 @@ impl HyphenationWords {
         ensures { self.new ≡ record self.old { items = [] } }
     {
         self.row.clear();
-        *self.latest = [0; KINDS];
+        self.latest.fill(0);
     }
 
     /// The number of words.
@@ -164,9 +164,9 @@ impl HyphenationWords {
         ensures { self.new ≡ record self.old { items = word ∷ self.old.items } }
     {
         let kind = kind_of(word.letters());
-        let earlier = self.latest[kind];
+        let earlier = latest_of(self.latest.as_array(), kind);
         self.row.push(Linked { word, earlier });
-        set_latest(&mut self.latest, kind, self.row.len());
+        self.latest.set(kind, self.row.len());
     }
 
     /// The places where a word may be cut, each so many cells in, in rising order: those of the latest of these words
@@ -175,7 +175,7 @@ impl HyphenationWords {
         ensures { result.now ≡ points_of (bytes_of word.now) (map word_in self.now.items) }
     {
         let row = self.row.as_slice();
-        let at = latest_given(row, &self.latest, stem(word));
+        let at = latest_given(row, self.latest.as_array(), stem(word));
         if at == 0 {
             return &[];
         }

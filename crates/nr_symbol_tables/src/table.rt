@@ -4,7 +4,7 @@ ghost use Rattle.nr_symbol_tables.specs.Table.{find, put, without};
 ghost use Rattle.nr_symbol_tables.specs.Rows.{named, names, kind, long_kind, kinds, earliers, IsPlace, AreChains, IsLink, IsLed};
 
 use nr_units::Name;
-use nr_vectors::{CountedAlloc, FixedVec};
+use nr_vectors::{CountedAlloc, FixedVec, ReservedArray};
 use std::alloc::AllocError;
 use std::marker::Model;
 
@@ -68,7 +68,8 @@ fn is_same(a: &Name, b: &Name) -> bool
 // The place of a name, counted from 1, or 0 where it is not there.
 fn place_of<V: Copy>(row: &[Entry<V>], latest: &[usize; KINDS], name: &Name) -> usize
     requires { AreChains (kinds (map named row.now)) (earliers row.now) latest.now }
-    ensures { IsPlace name.now (names (map named row.now)) result }
+    ensures is { IsPlace name.now (names (map named row.now)) result }
+    ensures long { length latest.now ≡ 512 }
 {
     let mut at = latest[kind_of(name)];
     while at > 0 {
@@ -94,8 +95,9 @@ fn link_at<V: Copy>(row: &[Entry<V>], latest: &[usize; KINDS], kind: usize, at: 
     requires chained { AreChains (kinds (map named row.now)) (earliers row.now) latest.now }
     requires few { kind < 512 }
     requires some { 0 < at }
-    ensures { IsLink (kinds (map named row.now)) (earliers row.now) latest.now kind (at - 1)
+    ensures is { IsLink (kinds (map named row.now)) (earliers row.now) latest.now kind (at - 1)
         result.over result.to }
+    ensures long { length latest.now ≡ 512 }
 {
     let mut over = 0;
     let mut to = latest[kind];
@@ -109,7 +111,7 @@ fn link_at<V: Copy>(row: &[Entry<V>], latest: &[usize; KINDS], kind: usize, at: 
 // Lets the chain of a kind go to another place from an entry, counted from 1, or from its beginning.
 fn lead<V: Copy>(
     row: &mut FixedVec<Entry<V>>,
-    latest: &mut [usize; KINDS],
+    latest: &mut ReservedArray<KINDS>,
     kind: usize,
     over: usize,
     to: usize,
@@ -120,7 +122,7 @@ fn lead<V: Copy>(
     ensures room { row.new.capacity ≡ row.old.capacity }
 {
     if over == 0 {
-        latest[kind] = to;
+        latest.set(kind, to);
         return;
     }
     let entry = row.get(over - 1);
@@ -134,15 +136,6 @@ fn lead<V: Copy>(
     );
 }
 
-// Makes a place, counted from 1, the latest of a kind.
-fn set_latest(latest: &mut [usize; KINDS], kind: usize, at: usize)
-    requires few { kind < 512 }
-    ensures long { length latest.old ≡ 512 }
-    ensures is { latest.new ≡ slice_set latest.old kind at }
-{
-    latest[kind] = at;
-}
-
 /// What has a name, with a capacity that stays. A name is found among those of its kind alone, of 512
 /// kinds, and takes no other's place when it is new or goes.
 ///
@@ -151,7 +144,7 @@ fn set_latest(latest: &mut [usize; KINDS], kind: usize, at: usize)
 pub struct Table<V: Copy> {
     entries: FixedVec<Entry<V>>,
     // The latest entry of each kind: its place counted from 1, or 0.
-    latest: Box<[usize; KINDS]>,
+    latest: ReservedArray<KINDS>,
 }
 
 impl<V: Copy> Model for Table<V> {
@@ -165,7 +158,7 @@ impl<V: Copy> Model for Table<V> {
       capacity = t.entries.capacity;
     } };
 
-    ghost invariant = { λ t. IsLinked t.entries.items t.latest.value };
+    ghost invariant = { λ t. IsLinked t.entries.items t.latest };
 }
 
 impl<V: Copy> Table<V> {
@@ -176,7 +169,7 @@ impl<V: Copy> Table<V> {
     {
         Ok(Table {
             entries: FixedVec::new(alloc, capacity)?,
-            latest: alloc.boxed([0; KINDS])?,
+            latest: ReservedArray::new(alloc, [0; KINDS])?,
         })
     }
 
@@ -185,7 +178,7 @@ impl<V: Copy> Table<V> {
         ensures { self.new ≡ record self.old { entries = [] } }
     {
         self.entries.clear();
-        *self.latest = [0; KINDS];
+        self.latest.fill(0);
     }
 
     /// How many names there is memory for, as their vector tells.
@@ -217,7 +210,7 @@ impl<V: Copy> Table<V> {
     pub fn get(&self, name: Name) -> Option<V>
         ensures { result ≡ find name self.now.entries }
     {
-        let at = self.latest[usize::from(name.kind())];
+        let at = self.latest.as_array()[usize::from(name.kind())];
         let row = self.entries.as_slice();
         if at > 0 && row[at - 1].name.is_same_short(&name) {
             return Some(row[at - 1].value);
@@ -230,7 +223,7 @@ impl<V: Copy> Table<V> {
     fn look_up(&self, name: Name) -> Option<V>
         ensures { result ≡ find name self.now.entries }
     {
-        let at = place_of(self.entries.as_slice(), &self.latest, &name);
+        let at = place_of(self.entries.as_slice(), self.latest.as_array(), &name);
         if at == 0 {
             return None;
         }
@@ -244,16 +237,16 @@ impl<V: Copy> Table<V> {
         ensures was { result ≡ find name self.old.entries }
         ensures is { self.new ≡ record self.old { entries = put name value self.old.entries } }
     {
-        let at = place_of(self.entries.as_slice(), &self.latest, &name);
+        let at = place_of(self.entries.as_slice(), self.latest.as_array(), &name);
         if at == 0 {
             let kind = kind_of(&name);
-            let earlier = self.latest[kind];
+            let earlier = self.latest.as_array()[kind];
             self.entries.push(Entry {
                 name,
                 value,
                 earlier,
             });
-            set_latest(&mut self.latest, kind, self.entries.len());
+            self.latest.set(kind, self.entries.len());
             return None;
         }
         let was = self.entries.get(at - 1);
@@ -274,7 +267,7 @@ impl<V: Copy> Table<V> {
         ensures is { self.new ≡ record self.old { entries = without name self.old.entries } }
         ensures gone { find name self.new.entries ≡ None }
     {
-        let at = place_of(self.entries.as_slice(), &self.latest, &name);
+        let at = place_of(self.entries.as_slice(), self.latest.as_array(), &name);
         if at == 0 {
             return None;
         }
@@ -282,7 +275,7 @@ impl<V: Copy> Table<V> {
         let last = self.entries.len() - 1;
         let moved = self.entries.get(last);
         self.entries.truncate(last);
-        set_latest(&mut self.latest, kind_of(&moved.name), moved.earlier);
+        self.latest.set(kind_of(&moved.name), moved.earlier);
         if at > last {
             return Some(was.value);
         }
@@ -312,7 +305,7 @@ fn put_at<V: Copy>(row: &mut FixedVec<Entry<V>>, at: usize, entry: Entry<V>, ear
 // Puts an entry in the place of another, counted from 1, and links the entries of both kinds anew.
 fn replace<V: Copy>(
     row: &mut FixedVec<Entry<V>>,
-    latest: &mut [usize; KINDS],
+    latest: &mut ReservedArray<KINDS>,
     at: usize,
     entry: Entry<V>,
 )
@@ -330,8 +323,8 @@ fn replace<V: Copy>(
         put_at(row, at, entry, gone.earlier);
         return;
     }
-    let left = link_at(row.as_slice(), latest, from, at);
-    let found = link_at(row.as_slice(), latest, kind, at);
+    let left = link_at(row.as_slice(), latest.as_array(), from, at);
+    let found = link_at(row.as_slice(), latest.as_array(), kind, at);
     lead(row, latest, from, left.over, gone.earlier);
     lead(row, latest, kind, found.over, at);
     put_at(row, at, entry, found.to);

@@ -36,7 +36,7 @@ impl CountedAlloc {
     /// Proved: What takes memory takes it from an allocator that counts the elements, and a call that makes a vector,
     /// or what holds vectors, says how many more they are then: those of its rooms. A second vector, kept in a field
     /// that no clause sees or dropped again, would be counted too. (`CountedAlloc::{vector, boxed}`,
-    /// `ReservedVec::new` in reserved_vec.rt, and each `new` above them up to `Desk::new` in nr_engine/desk.rt)
+    /// `ReservedVec::new` in reserved_vec.rt, `ReservedArray::new` in reserved_array.rt, and each `new` above them up to `Desk::new` in nr_engine/desk.rt)
     pub(crate) fn vector<T>(&mut self, capacity: usize) -> Result<Vec<T>, AllocError>
         ensures empty { IfOk result (λ vector. vector.items ≡ []) }
         ensures exact { IfOk result (λ vector. vec_capacity vector ≡ capacity) }
@@ -52,7 +52,7 @@ impl CountedAlloc {
     }
 
     /// These elements on the heap: `AllocError` as above.
-    pub fn boxed<const N: usize>(
+    pub(crate) fn boxed<const N: usize>(
         &mut self,
         elements: [usize; N],
     ) -> Result<Box<[usize; N]>, AllocError>

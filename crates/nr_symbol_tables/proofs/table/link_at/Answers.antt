@@ -50,8 +50,8 @@ loop-to-smaller g c =
     let is = earlier_at row (to - 1) c.index-row-to.result (omega arith) in
     next_lower row c.args.latest.now c.args.kind c.requires.few c.requires.chained to e.earlier (omega arith) within is (c.loop-to.invariant.to_kind (omega arith))
 
-pub returns : goal.returns
-returns g c =
+pub returns-clause-is : goal.returns-clause-is
+returns-clause-is g c =
     let row = c.args.row.now in
     let some = c.requires.some in
     let within = c.loop-to.invariant.within in

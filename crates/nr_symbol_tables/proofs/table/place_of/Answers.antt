@@ -65,8 +65,8 @@ loop-at-smaller g c =
     let is = earlier_is row (at - 1) e (omega arith) c.index-row-at.is in
     next_lower row c.args.latest.now d few c.requires at e.earlier some within is (c.loop-at.invariant.of_kind some)
 
-pub returns-then-is_same : goal.returns-then-is_same
-returns-then-is_same g c =
+pub returns-then-is_same-clause-is : goal.returns-then-is_same-clause-is
+returns-then-is_same-clause-is g c =
     let row = c.args.row.now in
     let at = c.loop-at.at in
     let e = c.index-row-at.result in
@@ -80,8 +80,8 @@ returns-then-is_same g c =
       none = λ nowhere k below same. absurd (omega arith);
     }
 
-pub returns : goal.returns
-returns g c =
+pub returns-clause-is : goal.returns-clause-is
+returns-clause-is g c =
     let row = c.args.row.now in
     let within = c.loop-at.invariant.within in
     let long = length-names row in

@@ -3,7 +3,6 @@ use Rattle.std.proofs.lemmas.List.{length-map}
 use Rattle.std.proofs.lemmas.Option.{get_or_from_slice_get}
 use Rattle.nr_symbol_tables.specs.Rows.{named, kind}
 use Rattle.nr_symbol_tables.specs.declared.table.Entry.{Entry}
-use Rattle.nr_symbol_tables.proofs.Linking.{length-begun}
 use Rattle.nr_symbol_tables.proofs.Rows.{chains_kept, chains_moved, length-kinds}
 use Rattle.nr_symbol_tables.proofs.table.replace.Goals as goal
 
@@ -18,15 +17,15 @@ returns-then-from-kind-clause-chains g c =
 -- ---- of another kind
 
 pub link_at-left-requires-clause-chained : goal.link_at-left-requires-clause-chained
-link_at-left-requires-clause-chained g c = rw c.as_slice.ensures.value c.requires.chains
+link_at-left-requires-clause-chained g c = rw (c.as_slice.ensures.value, c.as_array.ensures) c.requires.chains
 
 pub link_at-found-requires-clause-chained : goal.link_at-found-requires-clause-chained
-link_at-found-requires-clause-chained g c = rw c.as_slice-2.ensures.value c.requires.chains
+link_at-found-requires-clause-chained g c = rw (c.as_slice-2.ensures.value, c.as_array-2.ensures) c.requires.chains
 
 pub lead-requires-clause-within : goal.lead-requires-clause-within
 lead-requires-clause-within g c =
     let row = c.args.row.now.items in
-    let left = rw c.as_slice.ensures.value at c.link_at-left.ensures in
+    let left = rw (c.as_slice.ensures.value, c.as_array.ensures) at c.link_at-left.ensures.is in
     let within = left.within in
     let long = length-kinds row in
     omega arith
@@ -38,7 +37,7 @@ same_length row new same = sym (length-map new named) ∙ ap length same ∙ len
 pub lead-requires-2-clause-within : goal.lead-requires-2-clause-within
 lead-requires-2-clause-within g c =
     let row = c.args.row.now.items in
-    let found = rw c.as_slice-2.ensures.value at c.link_at-found.ensures in
+    let found = rw (c.as_slice-2.ensures.value, c.as_array-2.ensures) at c.link_at-found.ensures.is in
     let within = found.within in
     let long = length-kinds row in
     let same = same_length row c.lead.new.row.items c.lead.ensures.led.names in
@@ -61,10 +60,9 @@ returns-clause-chains g c =
     let row = c.args.row.now.items in
     let gone = c.get-gone.result in
     let here = get_or_from_slice_get row (c.args.at - 1) gone gone c.get-gone.ensures in
-    let left = rw c.as_slice.ensures.value at c.link_at-left.ensures in
-    let found = rw c.as_slice-2.ensures.value at c.link_at-found.ensures in
-    let many : length c.args.latest.now ≡ 512 =
-    sym (length-begun c.link_at-left.result.over c.kind_of-from.result gone.earlier c.args.latest.now) ∙ sym (ap length c.lead.ensures.led.begins) ∙ c.lead.array_long in
+    let left = rw (c.as_slice.ensures.value, c.as_array.ensures) at c.link_at-left.ensures.is in
+    let found = rw (c.as_slice-2.ensures.value, c.as_array-2.ensures) at c.link_at-found.ensures.is in
+    let many : length c.args.latest.now ≡ 512 = rw c.as_array.ensures at c.link_at-left.ensures.long in
     chains_moved row c.put_at-2.new.row.items c.args.latest.now c.args.at gone (named c.args.entry) c.requires.some c.requires.within here c.requires.chains
     c.lead.new.row.items c.lead-2.new.row.items c.lead.new.latest c.lead-2.new.latest c.kind_of-from.result c.kind_of-kind.result
     c.link_at-left.result.over c.link_at-left.result.to c.link_at-found.result.over c.link_at-found.result.to

@@ -12,13 +12,13 @@ returns-then-is_same_short g c =
     let same = c.is_same_short.ensures.0 c.if-is_same_short.true in
     let few = c.kind.ensures.few in
     let wide = c.from.ensures in
-    let some : 0 < place_in c.self.inside.latest.value c.from.result = rw c.deref.ensures at c.if-at-gt0.true in
-    let at = place_in c.self.inside.latest.value c.from.result in
-    let within = first_within row c.self.inside.latest.value c.from.result (omega arith) c.self.invariant.chains in
+    let some : 0 < place_in c.self.inside.latest c.from.result = rw c.as_array.ensures at c.if-at-gt0.true in
+    let at = place_in c.self.inside.latest c.from.result in
+    let within = first_within row c.self.inside.latest c.from.result (omega arith) c.self.invariant.chains in
     let e = c.index-row-at.result in
     let f = c.index-row-at-then-is_same_short.result in
-    let is = rw (c.as_slice-row.ensures.value, c.deref.ensures) at c.index-row-at.is in
-    let again = rw (c.as_slice-row.ensures.value, c.deref.ensures) at c.index-row-at-then-is_same_short.is in
+    let is = rw (c.as_slice-row.ensures.value, c.as_array.ensures) at c.index-row-at.is in
+    let again = rw (c.as_slice-row.ensures.value, c.as_array.ensures) at c.index-row-at-then-is_same_short.is in
     let name : f.name ≡ c.args.name =
     sym (name_is row (at - 1) f (omega arith) again) ∙ name_is row (at - 1) e (omega arith) is ∙ ap (λ (x : Entry _). x.name) c.index-row-at.is ∙ same.1 in
     sym (sym (ap (λ (t : Table _). find c.args.name t.entries) c.self.view_is) ∙ found_value row c.args.name (at - 1) f c.self.invariant.apart (omega arith) again name

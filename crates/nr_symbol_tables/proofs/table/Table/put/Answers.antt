@@ -10,22 +10,22 @@ use Rattle.nr_symbol_tables.proofs.Rows.{found_value, found_none, name_is, lengt
 use Rattle.nr_symbol_tables.proofs.table.Table.put.Goals as goal
 
 pub place_of-at-requires : goal.place_of-at-requires
-place_of-at-requires g c = rw (c.as_slice.ensures.value, c.deref.ensures) c.self.invariant.chains
+place_of-at-requires g c = rw (c.as_slice.ensures.value, c.as_array.ensures) c.self.invariant.chains
 
 pub returns-then-at-eq0-clause-was : goal.returns-then-at-eq0-clause-was
 returns-then-at-eq0-clause-was g c =
     let row = c.self.inside.entries.items in
-    let place = rw c.as_slice.ensures.value at c.place_of-at.ensures in
+    let place = rw c.as_slice.ensures.value at c.place_of-at.ensures.is in
     sym (sym (ap (λ (t : Table _). find c.args.name t.entries) c.self.view_is) ∙ find_in_order c.args.name (map named row) ∙ found_none row c.args.name c.place_of-at.result place c.if-at-eq0.true)
 
 pub returns-then-at-eq0-clause-is : goal.returns-then-at-eq0-clause-is
 returns-then-at-eq0-clause-is g c =
     let row = c.self.inside.entries.items in
-    let place = rw c.as_slice.ensures.value at c.place_of-at.ensures in
+    let place = rw c.as_slice.ensures.value at c.place_of-at.ensures.is in
     let none = found_none row c.args.name c.place_of-at.result place c.if-at-eq0.true in
-    let new : Entry _ = record { name = c.args.name; value = c.args.value; earlier = place_in c.self.inside.latest.value c.kind_of-kind.result } in
+    let new : Entry _ = record { name = c.args.name; value = c.args.value; earlier = place_in c.self.inside.latest c.kind_of-kind.result } in
     let room = c.self.inside.entries.capacity in
-    rw (c.push.ensures.items, c.push.ensures.room, c.deref-then-at-eq0.ensures)
+    rw (c.push.ensures.items, c.push.ensures.room, c.as_array-then-at-eq0.ensures)
     (ap (λ (ns : List (Named _)). record { entries = in_order ns; capacity = room }) (map-append named row (new ∷ []))
     ∙ ap (λ (ns : List (Named _)). record { entries = ns; capacity = room }) (in_order_more c.args.name c.args.value (map named row) none)
     ∙ ap (λ (t : Table _). record { entries = put c.args.name c.args.value t.entries; capacity = t.capacity }) c.self.view_is)
@@ -33,7 +33,7 @@ returns-then-at-eq0-clause-is g c =
 pub push-requires : goal.push-requires
 push-requires g c =
     let row = c.self.inside.entries.items in
-    let place = rw c.as_slice.ensures.value at c.place_of-at.ensures in
+    let place = rw c.as_slice.ensures.value at c.place_of-at.ensures.is in
     let none = found_none row c.args.name c.place_of-at.result place c.if-at-eq0.true in
     let room = c.requires (sym (ap (λ (t : Table _). find c.args.name t.entries) c.self.view_is) ∙ find_in_order c.args.name (map named row) ∙ none) in
     let long : length (in_order (map named row)) ≡ length c.args.self.now.entries = ap (λ (t : Table _). length t.entries) c.self.view_is in
@@ -45,22 +45,22 @@ push-requires g c =
 pub invariant_of-self : goal.invariant_of-self
 invariant_of-self g c =
     let row = c.self.inside.entries.items in
-    let place = rw c.as_slice.ensures.value at c.place_of-at.ensures in
+    let place = rw c.as_slice.ensures.value at c.place_of-at.ensures.is in
     let none = found_none row c.args.name c.place_of-at.result place c.if-at-eq0.true in
-    let ls = c.self.inside.latest.value in
+    let ls = c.self.inside.latest in
     let d = c.kind_of-kind.result in
     let new : Entry _ = record { name = c.args.name; value = c.args.value; earlier = place_in ls d } in
-    let low = rw c.deref_mut.ensures.value at c.set_latest.ensures.long in
+    let low = rw c.as_array.ensures at c.place_of-at.ensures.long in
     let few = c.kind_of-kind.ensures.few in
-    let pushed = rw c.deref-then-at-eq0.ensures at c.push.ensures.items in
-    let latest_is = rw c.deref_mut.ensures.value at c.set_latest.ensures.is in
+    let pushed = rw c.as_array-then-at-eq0.ensures at c.push.ensures.items in
+    let latest_is = c.set.ensures in
     let count : c.len.result ≡ length row + 1 = c.len.ensures.value ∙ ap length pushed ∙ length-append row (new ∷ []) in
-    rw (c.push.ensures.items, c.deref-then-at-eq0.ensures, latest_is) (linked_more row ls new d c.len.result c.kind_of-kind.ensures.is (omega arith) refl count none c.self.invariant)
+    rw (c.push.ensures.items, c.as_array-then-at-eq0.ensures, latest_is) (linked_more row ls new d c.len.result c.kind_of-kind.ensures.is (omega arith) refl count none c.self.invariant)
 
 pub get-was-requires : goal.get-was-requires
 get-was-requires g c =
     let row = c.self.inside.entries.items in
-    let place = rw c.as_slice.ensures.value at c.place_of-at.ensures in
+    let place = rw c.as_slice.ensures.value at c.place_of-at.ensures.is in
     let within = place.within in
     let long = length-names row in
     omega arith
@@ -69,7 +69,7 @@ pub returns-clause-was : goal.returns-clause-was
 returns-clause-was g c =
     let row = c.self.inside.entries.items in
     let at = c.place_of-at.result in
-    let place = rw c.as_slice.ensures.value at c.place_of-at.ensures in
+    let place = rw c.as_slice.ensures.value at c.place_of-at.ensures.is in
     let within = place.within in
     let long = length-names row in
     let e = c.get-was.result in
@@ -81,13 +81,13 @@ pub returns-clause-is : goal.returns-clause-is
 returns-clause-is g c =
     let row = c.self.inside.entries.items in
     let at = c.place_of-at.result in
-    let place = rw c.as_slice.ensures.value at c.place_of-at.ensures in
+    let place = rw c.as_slice.ensures.value at c.place_of-at.ensures.is in
     let within = place.within in
     let long = length-names row in
     let mapped = length-map row named in
     let new : Entry _ = record { name = c.args.name; value = c.args.value; earlier = c.get-was.result.earlier } in
     let room = c.self.inside.entries.capacity in
-    rw (c.set.ensures.items, c.set.ensures.room)
+    rw (c.set-2.ensures.items, c.set-2.ensures.room)
     (ap (λ (ns : List (Named _)). record { entries = in_order ns; capacity = room }) (map-set named row (at - 1) new)
     ∙ ap (λ (ns : List (Named _)). record { entries = ns; capacity = room }) (in_order_set c.args.name c.args.value (map named row) (at - 1) c.self.invariant.apart (omega arith) (place.is (omega arith)))
     ∙ ap (λ (t : Table _). record { entries = put c.args.name c.args.value t.entries; capacity = t.capacity }) c.self.view_is)
@@ -96,13 +96,13 @@ pub invariant_of-self-2 : goal.invariant_of-self-2
 invariant_of-self-2 g c =
     let row = c.self.inside.entries.items in
     let at = c.place_of-at.result in
-    let place = rw c.as_slice.ensures.value at c.place_of-at.ensures in
+    let place = rw c.as_slice.ensures.value at c.place_of-at.ensures.is in
     let within = place.within in
     let long = length-names row in
     let e = c.get-was.result in
     let here = get_or_from_slice_get row (at - 1) e e c.get-was.ensures in
     let new : Entry _ = record { name = c.args.name; value = c.args.value; earlier = e.earlier } in
-    rw c.set.ensures.items (linked_set row c.self.inside.latest.value (at - 1) e new (omega arith) (sym here) (sym (sym (name_is row (at - 1) e (omega arith) (sym here)) ∙ place.is (omega arith))) refl c.self.invariant)
+    rw c.set-2.ensures.items (linked_set row c.self.inside.latest (at - 1) e new (omega arith) (sym here) (sym (sym (name_is row (at - 1) e (omega arith) (sym here)) ∙ place.is (omega arith))) refl c.self.invariant)
 
-pub set-requires : goal.set-requires
-set-requires g c = grind (arith, common_steps)
+pub set-requires-2 : goal.set-requires-2
+set-requires-2 g c = grind (arith, common_steps)

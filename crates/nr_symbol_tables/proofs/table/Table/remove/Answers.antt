@@ -8,18 +8,18 @@ use Rattle.nr_symbol_tables.proofs.Rows.{found_value, found_none, name_is, lengt
 use Rattle.nr_symbol_tables.proofs.table.Table.remove.Goals as goal
 
 pub place_of-at-requires : goal.place_of-at-requires
-place_of-at-requires g c = rw (c.as_slice.ensures.value, c.deref.ensures) c.self.invariant.chains
+place_of-at-requires g c = rw (c.as_slice.ensures.value, c.as_array.ensures) c.self.invariant.chains
 
 pub returns-then-at-eq0-clause-was : goal.returns-then-at-eq0-clause-was
 returns-then-at-eq0-clause-was g c =
     let row = c.self.inside.entries.items in
-    let place = rw c.as_slice.ensures.value at c.place_of-at.ensures in
+    let place = rw c.as_slice.ensures.value at c.place_of-at.ensures.is in
     sym (sym (ap (λ (t : Table _). find c.args.name t.entries) c.self.view_is) ∙ find_in_order c.args.name (map named row) ∙ found_none row c.args.name c.place_of-at.result place c.if-at-eq0.true)
 
 pub returns-then-at-eq0-clause-is : goal.returns-then-at-eq0-clause-is
 returns-then-at-eq0-clause-is g c =
     let row = c.self.inside.entries.items in
-    let place = rw c.as_slice.ensures.value at c.place_of-at.ensures in
+    let place = rw c.as_slice.ensures.value at c.place_of-at.ensures.is in
     let none = found_none row c.args.name c.place_of-at.result place c.if-at-eq0.true in
     sym c.self.view_is ∙ ap (λ (ns : List (Named _)). record { entries = ns; capacity = c.self.inside.entries.capacity }) (in_order_kept c.args.name (map named row) none)
     ∙ ap (λ (t : Table _). record { entries = without c.args.name t.entries; capacity = t.capacity }) c.self.view_is
@@ -32,7 +32,7 @@ returns-then-at-eq0-clause-gone g c = sym (returns-then-at-eq0-clause-was g c)
 pub get-was-requires : goal.get-was-requires
 get-was-requires g c =
     let row = c.self.inside.entries.items in
-    let place = rw c.as_slice.ensures.value at c.place_of-at.ensures in
+    let place = rw c.as_slice.ensures.value at c.place_of-at.ensures.is in
     let within = place.within in
     let long = length-names row in
     omega arith
@@ -51,17 +51,17 @@ pub replace-requires-clause-chains : goal.replace-requires-clause-chains
 replace-requires-clause-chains g c =
     let row = c.self.inside.entries.items in
     let moved = c.get-moved.result in
-    let low = rw c.deref_mut.ensures.value at c.set_latest.ensures.long in
-    let latest_is = rw c.deref_mut.ensures.value at c.set_latest.ensures.is in
+    let low = rw c.as_array.ensures at c.place_of-at.ensures.long in
+    let latest_is = c.set.ensures in
     let few = c.kind_of.ensures.few in
     let last = get_or_from_slice_get row (c.len-last.result - 1) moved moved c.get-moved.ensures in
-    rw (c.truncate.ensures.items, c.deref_mut-2.ensures.value, latest_is) (linked_rest row moved (c.len-last.result - 1) (omega arith) last c.self.inside.latest.value c.kind_of.result c.kind_of.ensures.is (omega arith) c.self.invariant).chains
+    rw (c.truncate.ensures.items, latest_is) (linked_rest row moved (c.len-last.result - 1) (omega arith) last c.self.inside.latest c.kind_of.result c.kind_of.ensures.is (omega arith) c.self.invariant).chains
 
 pub returns-then-at-last-clause-was : goal.returns-then-at-last-clause-was
 returns-then-at-last-clause-was g c =
     let row = c.self.inside.entries.items in
     let at = c.place_of-at.result in
-    let place = rw c.as_slice.ensures.value at c.place_of-at.ensures in
+    let place = rw c.as_slice.ensures.value at c.place_of-at.ensures.is in
     let within = place.within in
     let long = length-names row in
     let some = c.if-at-eq0.false in
@@ -74,7 +74,7 @@ pub returns-clause-was : goal.returns-clause-was
 returns-clause-was g c =
     let row = c.self.inside.entries.items in
     let at = c.place_of-at.result in
-    let place = rw c.as_slice.ensures.value at c.place_of-at.ensures in
+    let place = rw c.as_slice.ensures.value at c.place_of-at.ensures.is in
     let within = place.within in
     let long = length-names row in
     let some = c.if-at-eq0.false in
@@ -87,7 +87,7 @@ pub returns-then-at-last-clause-is : goal.returns-then-at-last-clause-is
 returns-then-at-last-clause-is g c =
     let row = c.self.inside.entries.items in
     let at = c.place_of-at.result in
-    let place = rw c.as_slice.ensures.value at c.place_of-at.ensures in
+    let place = rw c.as_slice.ensures.value at c.place_of-at.ensures.is in
     let within = place.within in
     let long = length-names row in
     let count = c.len-last.ensures.value in
@@ -113,22 +113,22 @@ pub invariant_of-self : goal.invariant_of-self
 invariant_of-self g c =
     let row = c.self.inside.entries.items in
     let moved = c.get-moved.result in
-    let low = rw c.deref_mut.ensures.value at c.set_latest.ensures.long in
-    let latest_is = rw c.deref_mut.ensures.value at c.set_latest.ensures.is in
+    let low = rw c.as_array.ensures at c.place_of-at.ensures.long in
+    let latest_is = c.set.ensures in
     let few = c.kind_of.ensures.few in
     let some = c.if-at-eq0.false in
     let count = c.len-last.ensures.value in
-    let place = rw c.as_slice.ensures.value at c.place_of-at.ensures in
+    let place = rw c.as_slice.ensures.value at c.place_of-at.ensures.is in
     let within = place.within in
     let long = length-names row in
     let there = get_or_from_slice_get row (c.len-last.result - 1) moved moved c.get-moved.ensures in
-    rw (c.truncate.ensures.items, latest_is) (linked_rest row moved (c.len-last.result - 1) (omega arith) there c.self.inside.latest.value c.kind_of.result c.kind_of.ensures.is (omega arith) c.self.invariant)
+    rw (c.truncate.ensures.items, latest_is) (linked_rest row moved (c.len-last.result - 1) (omega arith) there c.self.inside.latest c.kind_of.result c.kind_of.ensures.is (omega arith) c.self.invariant)
 
 pub returns-clause-is : goal.returns-clause-is
 returns-clause-is g c =
     let row = c.self.inside.entries.items in
     let at = c.place_of-at.result in
-    let place = rw c.as_slice.ensures.value at c.place_of-at.ensures in
+    let place = rw c.as_slice.ensures.value at c.place_of-at.ensures.is in
     let within = place.within in
     let long = length-names row in
     let count = c.len-last.ensures.value in
@@ -155,7 +155,7 @@ pub invariant_of-self-2 : goal.invariant_of-self-2
 invariant_of-self-2 g c =
     let row = c.self.inside.entries.items in
     let at = c.place_of-at.result in
-    let place = rw c.as_slice.ensures.value at c.place_of-at.ensures in
+    let place = rw c.as_slice.ensures.value at c.place_of-at.ensures.is in
     let within = place.within in
     let long = length-names row in
     let count = c.len-last.ensures.value in
