@@ -13,7 +13,7 @@ use Rattle.utf8_own_characters.proofs.Places.{same_cluster, cluster_same}
 
 -- ---- tests
 
-or_case : (x y z : Bool) → (x ≡ true → z ≡ true) → (y ≡ true → z ≡ true) → x || y ≡ true → z ≡ true
+pub or_case : (x y z : Bool) → (x ≡ true → z ≡ true) → (y ≡ true → z ≡ true) → x || y ≡ true → z ≡ true
 or_case true y z f g p = f refl
 or_case false y z f g p = g p
 
@@ -71,10 +71,10 @@ record Sound (k : Choice) : Type 0 where
   narrow_once : is_distinct k.narrow ≡ true
   wide_once : is_distinct k.wide ≡ true
 
-abbrev more_wide : Choice → Cluster → Choice
+abbrev pub more_wide : Choice → Cluster → Choice
 more_wide k c = record k { wide = k.wide ++ c ∷ [] }
 
-abbrev more_narrow : Choice → Cluster → Choice
+abbrev pub more_narrow : Choice → Cluster → Choice
 more_narrow k c = record k { narrow = k.narrow ++ c ∷ [] }
 
 sound_with_by : (k : Choice) (c : Cluster) (x : Bool) → is_wide c ≡ x → Sound k → is_in k c ≡ false
@@ -241,7 +241,7 @@ pairs_grow s s' h =
     let b : s - s / 2 ≤ s' - s' / 2 = omega arith in
     mul-le-mul a b
 
-room_shrinks : (n n' w w' : ℕ) → n ≤ n' → w ≤ w' → has_room n' w' ≡ true → has_room n w ≡ true
+pub room_shrinks : (n n' w w' : ℕ) → n ≤ n' → w ≤ w' → has_room n' w' ≡ true → has_room n w ≡ true
 room_shrinks n n' w w' h g room =
     let within : n' ≤ 128 = le_is n' 128 (and_first (nat_le n' 128) (nat_le w' (pairs_in (128 - n'))) room) in
     let enough : w' ≤ pairs_in (128 - n') = le_is w' (pairs_in (128 - n')) (and_second (nat_le n' 128) (nat_le w' (pairs_in (128 - n'))) room) in
@@ -249,11 +249,11 @@ room_shrinks n n' w w' h g room =
     and_true (nat_le n 128) (nat_le w (pairs_in (128 - n))) (le_so n 128 (omega arith))
     (le_so w (pairs_in (128 - n)) (le_trans (le_trans g enough) (pairs_grow (128 - n') (128 - n) fewer)))
 
-record Counts (k m : Choice) (n w : ℕ) : Type 0 where
-  narrow : length m.narrow ≡ length k.narrow + n
-  wide : length m.wide ≡ length k.wide + w
+pub record Counts (k m : Choice) (n w : ℕ) : Type 0 where
+  pub narrow : length m.narrow ≡ length k.narrow + n
+  pub wide : length m.wide ≡ length k.wide + w
 
-counts_by : (k : Choice) (c : Cluster) (x : Bool)
+pub counts_by : (k : Choice) (c : Cluster) (x : Bool)
     → Counts k (if x then more_wide k c else more_narrow k c) (if x then 0 else 1) (if x then 1 else 0)
 counts_by k c true = record { narrow = omega arith; wide = length-append k.wide (c ∷ []) }
 counts_by k c false = record { narrow = length-append k.narrow (c ∷ []); wide = omega arith }

@@ -2,6 +2,10 @@ pub mod ChoiceLaws
 pub mod Coding
 pub mod Counted
 pub mod FixedLaws
+pub mod NoneAfter
 pub mod Places
+pub mod Ranked
 pub mod RowLaws
+pub mod Scalars
 pub mod Tests
+pub mod TextsRead

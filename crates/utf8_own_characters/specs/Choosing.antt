@@ -1,5 +1,5 @@
 -- Which of the clusters that were counted a table has.
-use Rattle.std.specs.Prelude.{◌≡◌, ℕ, ◌+◌, ◌-◌, ◌*◌, ◌/◌, ◌<◌, ◌≤◌, List, [], ◌∷◌, ◌++◌, length, Bool, true, false, ◌&&◌, ◌||◌, nat_le, if◌then◌else◌}
+use Rattle.std.specs.Prelude.{◌≡◌, ℕ, ◌+◌, ◌-◌, ◌*◌, ◌/◌, ◌<◌, ◌≤◌, List, [], ◌∷◌, ◌++◌, length, Bool, true, false, not, ◌&&◌, ◌||◌, nat_le, if◌then◌else◌}
 use Rattle.utf8_own_characters.specs.declared.cluster.Cluster.{Cluster}
 use Rattle.utf8_own_characters.specs.declared.counting.Count.{Count}
 use Rattle.utf8_own_characters.specs.Cluster.{is_wide}
@@ -82,6 +82,20 @@ wide_count (x ∷ xs) = (if is_wide x.cluster then 1 else 0) + wide_count xs
 -- where all have room, none is told
 abbrev pub AllFit : Type 0
 AllFit = (xs : List Count) → has_room (narrow_count xs) (wide_count xs) ≡ true → left_out nothing xs ≡ []
+
+abbrev pub is_as_wide : Bool → Cluster → Bool
+is_as_wide true c = is_wide c
+is_as_wide false c = not (is_wide c)
+
+-- all of these that are as wide are among those
+abbrev pub as_wide_are_left : Bool → List Cluster → List Count → Bool
+as_wide_are_left w out [] = true
+as_wide_are_left w out (y ∷ ys) = (not (is_as_wide w y.cluster) || is_among y.cluster out) && as_wide_are_left w out ys
+
+-- where one has no room, none of those after it that are as wide has
+abbrev pub FirstComeFirst : Type 0
+FirstComeFirst = (k : Choice) (x : Count) (xs : List Count) → fits (with_cluster k x.cluster) ≡ false
+    → as_wide_are_left (is_wide x.cluster) (left_out k xs) xs ≡ true
 
 -- the trails are the least number whose square reaches that of the pairs, and the leads as few as reach it with them
 pub record AreSides (halves wide : ℕ) : Type 0 where

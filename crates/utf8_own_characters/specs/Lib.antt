@@ -2,8 +2,12 @@ pub mod Breaking
 pub mod Choosing
 pub mod Cluster
 pub mod Counting
+pub mod Decoding
 pub mod Fixed
 pub mod Joining
 pub mod Laws
+pub mod Listening
+pub mod Looking
+pub mod Ranking
 pub mod Reading
 pub mod Table

@@ -40,7 +40,7 @@ fn marked(cluster: Cluster, mark: char) -> Cluster
 }
 
 /// A cluster with one more mark.
-fn with_mark(cluster: Cluster, mark: char) -> Cluster
+pub(crate) fn with_mark(cluster: Cluster, mark: char) -> Cluster
     ensures { result ≡ specs.with_mark cluster mark }
 {
     if cluster.first_mark != '\0' {

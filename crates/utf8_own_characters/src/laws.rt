@@ -1,6 +1,8 @@
 //! In which way a row is read back: laws of the definitions alone, so the functions do nothing.
-ghost use Rattle.utf8_own_characters.specs.Choosing.{ChoiceIsGood, NoneIsLost, AllFit, FewestAreSides};
+ghost use Rattle.utf8_own_characters.specs.Choosing.{ChoiceIsGood, NoneIsLost, AllFit, FewestAreSides, FirstComeFirst};
 ghost use Rattle.utf8_own_characters.specs.Fixed.{SameBytes, SameCharacters};
+ghost use Rattle.utf8_own_characters.specs.Decoding.{ReadsText};
+ghost use Rattle.utf8_own_characters.specs.Ranking.{Falls, KeepsAll, KeepsOnce};
 ghost use Rattle.utf8_own_characters.specs.Laws.{Inverse, InverseWhole, OneWay, ColumnsAreBytes, ColumnsStay, HalvesAreApart};
 
 /// The bytes of clusters that have a code are read back as these clusters, also where other bytes come after.
@@ -29,14 +31,34 @@ pub fn columns_are_kept()
 {}
 
 /// What is chosen of clusters that are counted once each makes a table that is read in one way. Each of them is in the table or told, and
-/// where all have room, none is told.
+/// where all have room, none is told. Where one has no room, none of those after it that are as wide has.
 ///
 /// Proved: What is chosen of clusters that are counted once each makes such a table; each of them is in it or told,
-/// and where all have room none is told. (`choices_are_good`, `choose` in choosing.rt)
+/// where all have room none is told, and where one has none, none of those after it that are as wide has: so those
+/// that come most often are in it. (`choices_are_good`, `choose` in choosing.rt)
 pub fn choices_are_good()
     ensures good { ChoiceIsGood }
     ensures none_lost { NoneIsLost }
     ensures all { AllFit }
+    ensures first { FirstComeFirst }
+{}
+
+/// A text in UTF-8 is read as its characters.
+///
+/// Proved: A text in UTF-8 is read as its characters, for every list of characters. (`texts_are_read`, `Part::read` in
+/// decoding.rt)
+pub fn texts_are_read()
+    ensures { ReadsText }
+{}
+
+/// Of clusters that are ranked none comes less often than one after it, and each that was counted still is, once.
+///
+/// Proved: What is ranked falls: none comes less often than one after it; each that was counted still is, and no
+/// other. (`ranked_clusters_fall`, `rank` in ranking.rt)
+pub fn ranked_clusters_fall()
+    ensures falls { Falls }
+    ensures all { KeepsAll }
+    ensures once { KeepsOnce }
 {}
 
 /// The trails are the least number whose square reaches that of the wide clusters, and the leads as few as reach it with them.

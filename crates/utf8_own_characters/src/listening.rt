@@ -1,0 +1,146 @@
+//! The clusters of a text in which escapes stand, a byte after the other.
+ghost use Rattle.std.specs.Prelude.{◌≡◌};
+ghost use Rattle.utf8_own_characters.specs.Listening as specs;
+
+use super::cluster::{Cluster, is_mark};
+use super::decoding::Part;
+use super::joining::with_mark;
+
+/// What is half read of a text.
+#[derive(Clone, Copy, Debug, PartialEq, Eq)]
+pub struct Listener {
+    /// Of a character.
+    pub part: Part,
+    /// A letter, on which marks may come.
+    pub held: Option<Cluster>,
+    /// No backslash stands before in the word, so that letters are no names of escapes.
+    pub is_plain: bool,
+}
+
+/// What comes of a byte.
+#[derive(Clone, Copy, Debug, PartialEq, Eq)]
+pub struct Listened {
+    pub listener: Listener,
+    /// The cluster that ends before it, if one does.
+    pub done: Option<Cluster>,
+    /// A byte of ASCII after that, if it is no letter on which marks may come.
+    pub byte: Option<u8>,
+}
+
+/// Whether a character is a sign that shows nothing and takes no column.
+fn is_unseen(character: char) -> bool
+    ensures { result ≡ specs.is_unseen character }
+{
+    matches!(
+        u32::from(character),
+        0x200B..=0x200F | 0x202A..=0x202E | 0x2060..=0x206F | 0xFEFF
+    )
+}
+
+/// Whether marks may come on a character: on a letter of ASCII that is no part of an escape, and on all beyond ASCII.
+fn takes_marks(character: char, is_plain: bool) -> bool
+    ensures { result ≡ specs.takes_marks character is_plain }
+{
+    let code = u32::from(character);
+    if code < 128 {
+        return is_plain && matches!(code, 0x41..=0x5A | 0x61..=0x7A);
+    }
+    true
+}
+
+/// Whether letters after a character are no names of escapes, if those before it are or are not.
+fn plain_after(character: char, is_plain: bool) -> bool
+    ensures { result ≡ specs.plain_after character is_plain }
+{
+    match u32::from(character) {
+        0x5C => false,
+        0..=0x20 => true,
+        code => is_plain || code >= 128,
+    }
+}
+
+impl Listener {
+    /// A text begins.
+    pub fn new() -> Listener
+        ensures { result ≡ specs.first }
+    {
+        Listener {
+            part: Part::none(),
+            held: None,
+            is_plain: true,
+        }
+    }
+
+    /// Nothing ends.
+    fn going(self, held: Option<Cluster>) -> Listened
+        ensures { result ≡ specs.going self held }
+    {
+        Listened {
+            listener: Listener { held, ..self },
+            done: None,
+            byte: None,
+        }
+    }
+
+    /// A mark comes. One that stands on no letter is dropped.
+    fn hear_mark(self, mark: char) -> Listened
+        ensures { result ≡ specs.hear_mark self mark }
+    {
+        match self.held {
+            Some(cluster) => self.going(Some(with_mark(cluster, mark))),
+            None => self.going(None),
+        }
+    }
+
+    /// A character comes that is no mark.
+    fn hear_letter(self, character: char) -> Listened
+        ensures { result ≡ specs.hear_letter self character }
+    {
+        let holds = takes_marks(character, self.is_plain);
+        Listened {
+            listener: Listener {
+                part: self.part,
+                held: if holds {
+                    Some(Cluster::single(character))
+                } else {
+                    None
+                },
+                is_plain: plain_after(character, self.is_plain),
+            },
+            done: self.held,
+            byte: if holds {
+                None
+            } else {
+                Some((u32::from(character) % 128) as u8)
+            },
+        }
+    }
+
+    /// A character comes.
+    fn hear(self, character: char) -> Listened
+        ensures { result ≡ specs.hear self character }
+    {
+        if is_unseen(character) {
+            return self.going(self.held);
+        }
+        if is_mark(character) {
+            return self.hear_mark(character);
+        }
+        self.hear_letter(character)
+    }
+
+    /// A byte comes.
+    pub fn read(self, byte: u8) -> Listened
+        ensures { result ≡ specs.read self byte }
+    {
+        let decoded = self.part.read(byte);
+        let listener = Listener {
+            part: decoded.part,
+            ..self
+        };
+        match decoded.character {
+            Some(character) => listener.hear(character),
+            None => listener.going(self.held),
+        }
+    }
+}

@@ -1,0 +1,86 @@
+//! A first look at what a page prints: how often each of its clusters comes.
+ghost use Rattle.std.specs.Prelude.{◌≡◌, true};
+ghost use Rattle.utf8_own_characters.specs.Counting.{is_once};
+ghost use Rattle.utf8_own_characters.specs.Listening.{after, done_in};
+ghost use Rattle.utf8_own_characters.specs.Looking as specs;
+
+use super::cluster::Cluster;
+use super::counting::{Count, count_cluster};
+use super::listening::Listener;
+use nr_vectors::slice_vec::SliceVec;
+use unicode_width::UnicodeWidthChar;
+
+/// Whether a character is a blank, or a hyphen that shows only where a line ends.
+fn is_gap(character: char) -> bool
+    ensures { result ≡ specs.is_gap character }
+{
+    matches!(
+        u32::from(character),
+        0xA0 | 0xAD | 0x2000..=0x200A | 0x2028 | 0x2029 | 0x202F | 0x205F
+    )
+}
+
+/// Whether a character takes columns.
+fn takes_columns(character: char) -> bool
+    ensures { result ≡ specs.takes_columns character }
+{
+    match character.width() {
+        Some(columns) => columns > 0,
+        None => false,
+    }
+}
+
+/// Whether a cluster takes a place in a page's table: it is beyond ASCII, and shows something.
+pub fn takes_place(cluster: &Cluster) -> bool
+    ensures { result ≡ specs.takes_place cluster.now }
+{
+    !cluster.is_ascii() && takes_columns(cluster.letter) && !is_gap(cluster.letter)
+}
+
+/// A cluster ends. Tells whether it has room among the counts, or needs none.
+fn note(counts: &mut SliceVec<'_, Count>, slots: &mut [u16], cluster: Option<Cluster>) -> bool
+    requires { is_once counts.old.items ≡ true }
+    ensures items { counts.new.items ≡ specs.noted counts.old.capacity counts.old.items cluster }
+    ensures once { is_once counts.new.items ≡ true }
+    ensures room { counts.new.capacity ≡ counts.old.capacity }
+{
+    match cluster {
+        Some(cluster) if takes_place(&cluster) => count_cluster(counts, slots, &cluster),
+        _ => true,
+    }
+}
+
+/// Looks at more of a text: each cluster beyond ASCII that ends in it and shows something is counted, as far as there is room. Tells
+/// whether there was. The slots are those of `count_cluster`.
+pub fn look_at(
+    bytes: &[u8],
+    listener: &mut Listener,
+    counts: &mut SliceVec<'_, Count>,
+    slots: &mut [u16],
+) -> bool
+    requires { is_once counts.old.items ≡ true }
+    ensures items { counts.new.items ≡ specs.seen counts.old.capacity counts.old.items (done_in listener.old bytes.now) }
+    ensures listener { listener.new ≡ after listener.old bytes.now }
+    ensures once { is_once counts.new.items ≡ true }
+    ensures room { counts.new.capacity ≡ counts.old.capacity }
+{
+    let mut all = true;
+    for byte in bytes {
+        let listened = listener.read(*byte);
+        *listener = listened.listener;
+        if !note(counts, slots, listened.done) {
+            all = false;
+        }
+    }
+    all
+}
+
+/// The text ends: the cluster that is half read is counted.
+pub fn end_look(listener: &Listener, counts: &mut SliceVec<'_, Count>, slots: &mut [u16]) -> bool
+    requires { is_once counts.old.items ≡ true }
+    ensures items { counts.new.items ≡ specs.noted counts.old.capacity counts.old.items listener.now.held }
+    ensures once { is_once counts.new.items ≡ true }
+    ensures room { counts.new.capacity ≡ counts.old.capacity }
+{
+    note(counts, slots, listener.held)
+}
