@@ -4,7 +4,7 @@ use Rattle.std.specs.Io.KnownBytes.{Appends}
 use Rattle.nr_units.specs.Failures.{next_count}
 use Rattle.nr_units.specs.Sink.{AppendsFront}
 use Rattle.nr_units.specs.Source.{Never, Supply}
-use Rattle.utf8_characters.specs.declared.table.Table.{Table}
+use Rattle.preconv_converter.specs.declared.target.Target.{Target}
 use Rattle.tbl_setting.specs.Running.{Bounds, set_page}
 use Rattle.tbl_reader.specs.declared.running.Outcome as tbl
 use Rattle.tbl_reader.specs.declared.running.Outcome.TheVariants as tbls
@@ -36,7 +36,7 @@ pub record Setting : Type 0 where
   pub macros : List ℕ
   pub stages : Stages
   pub sets : Bool
-  pub characters : Option Table
+  pub characters : Target
   pub tables : Bounds
   pub limits : limits.Bounds
   pub options : Options

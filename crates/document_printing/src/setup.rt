@@ -2,7 +2,7 @@
 
 use document_reader::Stages;
 use nr_engine::{Measure, Options};
-use utf8_characters::Table;
+use preconv_converter::Target;
 
 /// The limits of what stands before the formatter, in bytes.
 #[derive(Clone, Copy, Debug, PartialEq, Eq)]
@@ -24,8 +24,8 @@ pub struct Setup<'a> {
     pub stages: Stages,
     /// Tables are set.
     pub tables: bool,
-    /// The table of its characters; none for ASCII.
-    pub characters: Option<Table>,
+    /// What its characters become.
+    pub characters: Target,
     /// What the formatter is given.
     pub options: &'a Options,
 }

@@ -3,7 +3,7 @@ use Rattle.std.proofs.Common.{◌≡◌, ℕ, ◌+◌, ◌<◌, ◌≤◌, List,
 use Rattle.std.proofs.lemmas.Grind.{common_steps}
 use Rattle.std.proofs.Math.Seq.{take-length}
 use Rattle.nr_units.specs.Source.{Faults, Never, After, Anytime, Supply}
-use Rattle.utf8_characters.specs.declared.table.Table.{Table}
+use Rattle.preconv_converter.specs.declared.target.Target.{Target}
 use Rattle.mdoc_converter.specs.Reading as mdoc
 use Rattle.mdoc_converter.specs.Staged as mdoc_part
 use Rattle.preconv_converter.specs.Reading as preconv
@@ -70,24 +70,24 @@ man-front : (on : Bool) (page : List ℕ) → says_if on (mdoc_part.said mdoc.fi
 man-front true page = refl
 man-front false page = refl
 
-characters-whole : (on : Bool) (table : Option Table) (page : List ℕ)
+characters-whole : (on : Bool) (table : Target) (page : List ℕ)
     → says_if on (preconv_part.said (preconv.first_reader table)) true page ≡ characters_of on table page
 characters-whole true table page = refl
 characters-whole false table page = refl
 
-characters-front : (on : Bool) (table : Option Table) (page : List ℕ)
+characters-front : (on : Bool) (table : Target) (page : List ℕ)
     → says_if on (preconv_part.said (preconv.first_reader table)) false page ≡ characters_so_far on table page
 characters-front true table page = refl
 characters-front false table page = refl
 
 -- ---- two stages
 
-abbrev pub piped : Option Supply → Stages → Option Table → Option Supply
+abbrev pub piped : Option Supply → Stages → Target → Option Supply
 piped a stages table =
     pulled (pulled a true (says_if stages.mdoc (mdoc_part.said mdoc.first_state)) (fits_if stages.mdoc fits_always) [] 0 false) true
     (says_if stages.characters (preconv_part.said (preconv.first_reader table))) (fits_if stages.characters fits_always) [] 0 false
 
-pub piped-whole : (q : Supply) (stages : Stages) (table : Option Table) → breaks_off q.faults ≡ false → IsShort q.bytes (man_of stages.mdoc q.bytes)
+pub piped-whole : (q : Supply) (stages : Stages) (table : Target) → breaks_off q.faults ≡ false → IsShort q.bytes (man_of stages.mdoc q.bytes)
     → piped (Some q) stages table ≡ Some (plain_supply stages table q)
 piped-whole q stages table kept h =
     ap (λ (x : Option Supply). pulled x true (says_if stages.characters (preconv_part.said (preconv.first_reader table))) (fits_if stages.characters fits_always) [] 0 false)
@@ -96,7 +96,7 @@ piped-whole q stages table kept h =
     ∙ kept-pulled (man_of stages.mdoc q.bytes) q.faults (says_if stages.characters (preconv_part.said (preconv.first_reader table))) (fits_if stages.characters fits_always) kept h.man_is (fits-if stages.characters (man_of stages.mdoc q.bytes))
     ∙ ap (λ (z : List ℕ). Some (record { bytes = z; faults = q.faults })) (characters-whole stages.characters table (man_of stages.mdoc q.bytes))
 
-pub piped-cut : (q : Supply) (n : ℕ) (stages : Stages) (table : Option Table) → q.faults ≡ After n → n ≤ length q.bytes
+pub piped-cut : (q : Supply) (n : ℕ) (stages : Stages) (table : Target) → q.faults ≡ After n → n ≤ length q.bytes
     → IsShort q.bytes (man_so_far stages.mdoc (take n q.bytes))
     → piped (Some q) stages table ≡ Some (broken_off (plain_so_far stages table (take n q.bytes)))
 piped-cut q n stages table after l h =
@@ -109,7 +109,7 @@ piped-cut q n stages table after l h =
 
 -- ---- what two stages are over, by what each of them says of itself
 
-pub over-both : (a first second : Option Supply) (stages : Stages) (table : Option Table) (w v : Bool)
+pub over-both : (a first second : Option Supply) (stages : Stages) (table : Target) (w v : Bool)
     (says says' said said' : Bool → List ℕ → List ℕ) (fits fits' fitted fitted' : List ℕ → Bool)
     → first ≡ pulled a w says fits [] 0 false → second ≡ pulled first v says' fits' [] 0 false
     → w ≡ true → v ≡ true

@@ -1,7 +1,7 @@
 //! What the formatter reads of a page: mdoc becomes man, and characters and escapes what it knows, as bytes are asked
 //! for.
 //!
-//! It stands on document_stages, mdoc_converter, preconv_converter, utf8_characters and nr_units. To read: `page`.
+//! It stands on document_stages, mdoc_converter, preconv_converter and nr_units. To read: `page`.
 #![tactic(auto)]
 
 mod page;

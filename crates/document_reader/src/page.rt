@@ -7,8 +7,7 @@ ghost use Rattle.document_reader.specs.Page.{IsShort, breaks_off, man_of, man_so
 use document_stages::{Counted, Pull, Switch};
 use mdoc_converter::{Block, Turner as Mdoc};
 use nr_units::source::Source;
-use preconv_converter::Turner as Characters;
-use utf8_characters::Table;
+use preconv_converter::{Target, Turner as Characters};
 
 /// Which stages a page goes through. Each decides for itself what it turns: mdoc a page of mdoc(7) alone.
 #[derive(Clone, Copy, Debug, PartialEq, Eq)]
@@ -45,7 +44,7 @@ pub type PageText<'a, R> = Pull<'a, Pull<'a, Counted<R>, Switch<Mdoc<'a>>>, Swit
 pub fn read_page<'a, R: Source + Drop>(
     input: R,
     stages: Stages,
-    characters: Option<Table>,
+    characters: Target,
     waits: Waits<'a>,
 ) -> PageText<'a, R>
     requires first { 73984 ≤ length waits.first.now }

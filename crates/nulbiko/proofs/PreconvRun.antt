@@ -2,18 +2,19 @@
 use Rattle.std.proofs.Common.{◌≡◌, ℕ, List, false, Option, refl, subst, arith}
 use Rattle.nr_units.specs.Failures.{next_count}
 use Rattle.nr_units.specs.Source.{Supply}
-use Rattle.utf8_characters.specs.declared.table.Table.{Table}
+use Rattle.preconv_converter.specs.declared.target.Target.{Target}
 use Rattle.preconv_converter.specs.Running.{Ran, TellsReads, is_read_fault}
 use Rattle.preconv_converter.specs.declared.running.Outcome.{Outcome}
 use Rattle.preconv_converter.specs.declared.running.Outcome.TheVariants.{Done, ReadFault, TooLong, WriteFault}
 
 -- of the same bytes before and after
-pub carried : (e : Option Table) (q q' left : Option Supply) (old old' new new' : Option (List ℕ)) (steps : ℕ) (o : Outcome)
-    → Ran e q left old new steps o → q ≡ q' → old ≡ old' → new ≡ new' → Ran e q' left old' new' steps o
-carried e q q' left old old' new new' steps o ran same before after =
-    subst (λ z. Ran e q' left old' z steps o) after
-    (subst (λ y. Ran e q' left y new steps o) before
-    (subst (λ x. Ran e x left old new steps o) same ran))
+pub carried : (e e' : Target) (q q' left : Option Supply) (old old' new new' : Option (List ℕ)) (steps : ℕ) (o : Outcome)
+    → Ran e q left old new steps o → e ≡ e' → q ≡ q' → old ≡ old' → new ≡ new' → Ran e' q' left old' new' steps o
+carried e e' q q' left old old' new new' steps o ran target same before after =
+    subst (λ z. Ran e' q' left old' z steps o) after
+    (subst (λ y. Ran e' q' left y new steps o) before
+    (subst (λ x. Ran e' x left old new steps o) same
+    (subst (λ w. Ran w q left old new steps o) target ran)))
 
 -- where no call of the source failed, none is reported
 pub unread : (o : Outcome) → TellsReads o 0 0 → is_read_fault o ≡ false

@@ -3,6 +3,7 @@ use Rattle.std.specs.Prelude.{◌≡◌, ℕ, List, [], length, false, Option, S
 use Rattle.nr_units.specs.Source.{Supply}
 use Rattle.utf8_characters.specs.declared.table.Table.{Table}
 use Rattle.preconv_converter.specs.Running.{Ran, is_read_fault}
+use Rattle.preconv_converter.specs.Targets.{target_of}
 use Rattle.preconv_converter.specs.declared.running.Outcome.{Outcome}
 use Rattle.preconv_converter.specs.declared.running.Outcome.TheVariants.{Done, ReadFault, TooLong, WriteFault}
 use Rattle.nulbiko.specs.Told.{IsHanded, code_within, whole_text}
@@ -21,7 +22,7 @@ pub record TurnsText (table : Option Table) (text output : List ℕ) (report : R
   pub outcome : Outcome
   pub left : Option Supply
   pub bytes : List ℕ
-  pub ran : Ran table (Some (whole_text text)) left (Some []) (Some bytes) report.moves outcome
+  pub ran : Ran (target_of table) (Some (whole_text text)) left (Some []) (Some bytes) report.moves outcome
   pub handed : IsHanded bytes output report.written
   pub code_is : code ≡ code_within (code_of outcome) (length bytes) (length output)
   pub no_limit : report.limit ≡ 0

@@ -10,7 +10,7 @@ use super::text::Text;
 use super::told::{
     DONE, FULL, OUT_OF_MEMORY, OUT_OF_RANGE, Report, TOO_LONG, UNREADABLE, code_within,
 };
-use preconv_converter::{Outcome, convert};
+use preconv_converter::{Outcome, Target, convert};
 use std::alloc::{AllocError, Global};
 use utf8_characters::Table;
 
@@ -49,7 +49,8 @@ fn turn_text(
     let mut pages = Pages::new(alloc, output.len())?;
     let mut text = Text::over(input);
     let mut steps = 0;
-    let outcome = convert(&mut text, &mut pages, table, &mut pending, &mut steps);
+    let target = Target::of(table);
+    let outcome = convert(&mut text, &mut pages, target, &mut pending, &mut steps);
     let bytes = pages.as_slice();
     let written = hand_over(bytes, output);
     *told = Report {

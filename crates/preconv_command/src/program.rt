@@ -7,7 +7,7 @@ use itoa::Buffer;
 use nr_units::buffered::Buffered;
 use nr_units::sink::Sink;
 use preconv_coding::{UnderCoding, Unknown};
-use preconv_converter::{Outcome, convert};
+use preconv_converter::{Outcome, Target, convert};
 use std::io::Read;
 use std::rt::Files;
 use utf8_characters::Table;
@@ -70,7 +70,8 @@ impl Turns for Turner {
         let mut lines = Lines::over(output);
         let mut steps = 0;
         let pending = &mut self.buffers.pending;
-        let ending = match convert(&mut source, &mut lines, self.table, pending, &mut steps) {
+        let target = Target::of(self.table);
+        let ending = match convert(&mut source, &mut lines, target, pending, &mut steps) {
             Outcome::Done => match lines.end_line() {
                 Ok(()) => Ending::Done,
                 Err(_) => Ending::WriteFault,

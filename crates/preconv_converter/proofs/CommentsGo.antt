@@ -1,8 +1,8 @@
 -- A comment goes out as it is.
 use Prim.Native.Char.{code}
-use Rattle.std.proofs.Common.{◌≡◌, ℕ, suc, ◌+◌, List, [], ◌∷◌, ◌++◌, length, Bool, true, false, not, ◌==◌, nat_lt, if◌then◌else◌, Option, refl, sym, ◌∙◌, ap, append-nil, arith}
+use Rattle.std.proofs.Common.{◌≡◌, ℕ, suc, ◌+◌, List, [], ◌∷◌, ◌++◌, length, Bool, true, false, not, ◌==◌, nat_lt, if◌then◌else◌, refl, sym, ◌∙◌, ap, append-nil, arith}
 use Rattle.std.specs.Prelude.{codes}
-use Rattle.utf8_characters.specs.declared.table.Table.{Table}
+use Rattle.preconv_converter.specs.declared.target.Target.{Target}
 use Rattle.preconv_converter.specs.declared.said.Said.TheVariants as says
 use Rattle.preconv_converter.specs.declared.half.Half.{Half}
 use Rattle.preconv_converter.specs.declared.half.Line.TheVariants as lines
@@ -23,7 +23,7 @@ pub sames : List ℕ → List Piece
 sames [] = []
 sames (b ∷ bs) = Same b ∷ sames bs
 
-pub sames_become : (t : Option Table) (bs : List ℕ) → all_become t (sames bs) ≡ bs
+pub sames_become : (t : Target) (bs : List ℕ) → all_become t (sames bs) ≡ bs
 unfolding sames
 sames_become t [] = refl
 sames_become t (b ∷ bs) = ap (λ (xs : List ℕ). b ∷ xs) (sames_become t bs)
@@ -33,17 +33,17 @@ unfolding sames
 sames_were [] = refl
 sames_were (b ∷ bs) = ap (λ (xs : List ℕ). b ∷ xs) (sames_were bs)
 
-in_comment : Option Table → Half → Reader
+in_comment : Target → Half → Reader
 in_comment t h = record { half = open_half lines.Comment h; pending = pendings.Nothing; table = t }
 
-passed : (x : Bool) (t : Option Table) (b : ℕ) (h : Half) → nat_lt b 127 ≡ true → told (record { half = open_half (if x then lines.Start else lines.Comment) h; pending = pendings.Nothing; table = t }) (sent t b ∷ []) 1
+passed : (x : Bool) (t : Target) (b : ℕ) (h : Half) → nat_lt b 127 ≡ true → told (record { half = open_half (if x then lines.Start else lines.Comment) h; pending = pendings.Nothing; table = t }) (sent t b ∷ []) 1
     ≡ told (record { half = open_half (if x then lines.Start else lines.Comment) h; pending = pendings.Nothing; table = t }) (b ∷ []) 1
 passed x t b h ascii = ap (λ (c : ℕ). told (record { half = open_half (if x then lines.Start else lines.Comment) h; pending = pendings.Nothing; table = t }) (c ∷ []) 1) (sent_is t b (ascii-goes t b ascii))
 
 add_one : (n : ℕ) → 1 + n ≡ suc n
 add_one n = omega arith
 
-comment_fed : (t : Option Table) (bs : List ℕ) (h : Half) → each goes_on_comment bs ≡ true → fed (in_comment t h) (bs ++ codes "\n") ≡ told (at t (Starts h)) (bs ++ codes "\n") (suc (length bs))
+comment_fed : (t : Target) (bs : List ℕ) (h : Half) → each goes_on_comment bs ≡ true → fed (in_comment t h) (bs ++ codes "\n") ≡ told (at t (Starts h)) (bs ++ codes "\n") (suc (length bs))
 unfolding in_comment
 comment_fed t [] h all = refl
 comment_fed t (b ∷ bs) h all =
@@ -57,11 +57,11 @@ comment_fed t (b ∷ bs) h all =
 noted : Half → Half
 noted h = record h { spelled = []; before = befores.Character marks.Other }
 
-quote_fed : (t : Option Table) (h : Half) (bs : List ℕ) → fed (at t (RestBegins h)) (code "\"" ∷ bs) ≡ behind (code "\\" ∷ code "\"" ∷ []) 1 (fed (in_comment t (noted h)) bs)
+quote_fed : (t : Target) (h : Half) (bs : List ℕ) → fed (at t (RestBegins h)) (code "\"" ∷ bs) ≡ behind (code "\\" ∷ code "\"" ∷ []) 1 (fed (in_comment t (noted h)) bs)
 unfolding in_comment noted
 quote_fed t h bs = ap (λ (u : Told). then_told u (λ s. fed s bs)) (byte_read t (RestBegins h) (code "\"") refl)
 
-quote_reads : (t : Option Table) (bs : List ℕ) (h : Half) → each goes_on_comment bs ≡ true → Reads begins t (RestBegins h) (code "\"" ∷ (bs ++ codes "\n"))
+quote_reads : (t : Target) (bs : List ℕ) (h : Half) → each goes_on_comment bs ≡ true → Reads begins t (RestBegins h) (code "\"" ∷ (bs ++ codes "\n"))
 quote_reads t bs h all =
     let text = bs ++ codes "\n" in
     let whole = code "\\" ∷ code "\"" ∷ text in
@@ -82,7 +82,7 @@ rest_begun (RestBegins h) = true
 rest_begun p = false
 
 -- after the control character
-pub comment_reads : (t : Option Table) (bs : List ℕ) (h : Half) → each goes_on_comment bs ≡ true → Reads begins t (Controls h) (code "\\" ∷ code "\"" ∷ (bs ++ codes "\n"))
+pub comment_reads : (t : Target) (bs : List ℕ) (h : Half) → each goes_on_comment bs ≡ true → Reads begins t (Controls h) (code "\\" ∷ code "\"" ∷ (bs ++ codes "\n"))
 unfolding rest_begun
 comment_reads t bs h all =
     let k : Half = record h { name = []; conditional = false } in

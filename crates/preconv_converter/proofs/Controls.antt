@@ -4,7 +4,7 @@ use Rattle.std.proofs.Common.{◌≡◌, ℕ, zero, suc, ◌+◌, ◌<◌, ◌�
 use Rattle.std.specs.List.{prefix_len}
 use Rattle.std.proofs.lemmas.List.{length-take, take_more}
 use Rattle.std.proofs.lemmas.List.Sums.{prefix_len-le-length}
-use Rattle.utf8_characters.specs.declared.table.Table.{Table}
+use Rattle.preconv_converter.specs.declared.target.Target.{Target}
 use Rattle.nr_units.specs.Name.{capacity, is_full}
 use Rattle.preconv_converter.specs.declared.said.Said.TheVariants as says
 use Rattle.preconv_converter.specs.declared.beginnings.Opens.{Opens}
@@ -35,7 +35,7 @@ short_prefix : (x : Bool) (n k : ℕ) → suc n ≤ (if x then 1 + k else 0) →
 short_prefix true n k l = (refl, omega arith)
 short_prefix false n k l = absurd (omega arith)
 
-name_sent : (e : Option Table) (n : ℕ) (bs : List ℕ) → n ≤ prefix_len goes_on_name bs → all_sent e (take n bs) ≡ take n bs
+name_sent : (e : Target) (n : ℕ) (bs : List ℕ) → n ≤ prefix_len goes_on_name bs → all_sent e (take n bs) ≡ take n bs
 name_sent e zero bs l = refl
 name_sent e (suc n) [] l = refl
 name_sent e (suc n) (b ∷ bs) l =
@@ -44,7 +44,7 @@ name_sent e (suc n) (b ∷ bs) l =
     ∙ ap (λ (xs : List ℕ). b ∷ xs) (name_sent e n bs parts.1)
 
 -- before a blank or a newline, by what it opens
-name_said : (o : Opens) (e : Option Table) (name : List ℕ) (b : ℕ) → (b == code "\\") ≡ false → goes_out o (length name) ≡ true → all_sent e name ≡ name
+name_said : (o : Opens) (e : Target) (name : List ℕ) (b : ℕ) → (b == code "\\") ≡ false → goes_out o (length name) ≡ true → all_sent e name ≡ name
     → bytes_of e (said_name o name b) ≡ name
 name_said opens.Definition e name b back p is =
     ap (λ (x : Bool). all_sent e (if x then take 2 name else name)) (is_not (length name == 3) p) ∙ is

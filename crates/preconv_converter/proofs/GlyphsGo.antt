@@ -1,7 +1,7 @@
 -- A character by a name of two bytes goes out as what it looks like.
 use Prim.Native.Char.{code}
 use Rattle.std.proofs.Common.{◌≡◌, ℕ, List, [], ◌∷◌, Bool, true, false, not, ◌&&◌, Option, None, Some, refl, sym, ◌∙◌, ap, append-nil}
-use Rattle.utf8_characters.specs.declared.table.Table.{Table}
+use Rattle.preconv_converter.specs.declared.target.Target.{Target}
 use Rattle.preconv_converter.specs.declared.said.Said.TheVariants as says
 use Rattle.preconv_converter.specs.declared.half.Half.{Half}
 use Rattle.preconv_converter.specs.declared.half.Line.{Line}
@@ -61,7 +61,7 @@ glyph_met : (l : Line) (a b c : ℕ) (h : Half) → IsGlyph a b c → is_transla
     → meet (comings.Byte b) (one_half l a h) ≡ taken (says.Character c) (text_of (without_escape (placed (wide_mark c) (spelling b (keeping b (one_half l a h))))))
 glyph_met l a b c h is line space = rw (is.native, is.dash, line, is.second.newline, no_both (is_pair (code "i") (code "s") (a ∷ b ∷ [])), is.code, space) refl
 
-pub glyph_reads : (P : Spot → Bool) (t : Option Table) (x : Where) (h : Half) (a b c : ℕ) (next : Half → Spot) → ((k : Half) → P (next k) ≡ true) → ((k : Half) → half_of (next k) ≡ open_half (with_text (line_of_where x)) k) → ((k : Half) → held (next k) ≡ [])
+pub glyph_reads : (P : Spot → Bool) (t : Target) (x : Where) (h : Half) (a b c : ℕ) (next : Half → Spot) → ((k : Half) → P (next k) ≡ true) → ((k : Half) → half_of (next k) ≡ open_half (with_text (line_of_where x)) k) → ((k : Half) → held (next k) ≡ [])
     → IsGlyph a b c → is_translation (line_of_where x) ≡ false → (is_space c && not (text_at (line_of_where x))) ≡ false → Reads P t (Pairs x h) (a ∷ b ∷ [])
 glyph_reads P t x h a b c next there half none is line space =
     let l = line_of_where x in

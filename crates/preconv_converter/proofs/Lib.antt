@@ -6,6 +6,7 @@ pub mod Controls
 pub mod GlyphsGo
 pub mod Hearing
 pub mod InComments
+pub mod Itself
 pub mod LinesGo
 pub mod Names
 pub mod OpeningTable

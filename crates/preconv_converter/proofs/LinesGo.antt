@@ -1,10 +1,10 @@
 -- Lines of text and of requests go out piece by piece.
 use Prim.Native.Char.{code}
-use Rattle.std.proofs.Common.{◌≡◌, ℕ, suc, ◌+◌, ◌<◌, List, [], ◌∷◌, ◌++◌, length, take, Bool, true, false, not, ◌==◌, ◌&&◌, ◌||◌, nat_lt, if◌then◌else◌, Option, refl, sym, ◌∙◌, ap, subst, append_assoc, append-nil, arith, length-append}
+use Rattle.std.proofs.Common.{◌≡◌, ℕ, suc, ◌+◌, ◌<◌, List, [], ◌∷◌, ◌++◌, length, take, Bool, true, false, not, ◌==◌, ◌&&◌, ◌||◌, nat_lt, if◌then◌else◌, refl, sym, ◌∙◌, ap, subst, append_assoc, append-nil, arith, length-append}
 use Rattle.std.specs.Prelude.{codes}
 use Rattle.std.proofs.lemmas.Bool.Decides.{nat_tests}
 use Rattle.nr_units.specs.Name.{is_full}
-use Rattle.utf8_characters.specs.declared.table.Table.{Table}
+use Rattle.preconv_converter.specs.declared.target.Target.{Target}
 use Rattle.preconv_converter.specs.declared.said.Said.TheVariants as says
 use Rattle.preconv_converter.specs.declared.half.Half.{Half}
 use Rattle.preconv_converter.specs.declared.half.Line.TheVariants as lines
@@ -45,7 +45,7 @@ use Rattle.preconv_converter.proofs.TextGoes.{IsText, text_is, same_byte, saying
 
 -- ---- an empty line
 
-empty_line : (t : Option Table) (p : Spot) → begins p ≡ true → Reads begins t p (codes "\n")
+empty_line : (t : Target) (p : Spot) → begins p ≡ true → Reads begins t p (codes "\n")
 empty_line t p there =
     reads_byte begins begins t p (code "\n") [] refl (line_hears begins 5 t (code "\n") (λ h. empty_hears 4 t h) (λ h. empty_hears 3 t h) p there) (λ q k. reads_none begins t q k)
 
@@ -62,7 +62,7 @@ control_by false m h = refl
 control_is : (b : ℕ) → is_control b ≡ true → IsText b
 control_is b e = record { ascii = grind (arith, nat_tests); newline = grind (arith, nat_tests); return = grind (arith, nat_tests); backslash = grind (arith, nat_tests) }
 
-control_hears : (n : ℕ) (t : Option Table) (b : ℕ) (h : Half) → is_control b ≡ true → Hears in_control (suc n) t (Starts h) b
+control_hears : (n : ℕ) (t : Target) (b : ℕ) (h : Half) → is_control b ≡ true → Hears in_control (suc n) t (Starts h) b
 unfolding in_control
 control_hears n t b h e =
     let is = control_is b e in
@@ -107,7 +107,7 @@ less_room name bs b l = let e = length-append name (b ∷ []) in omega (arith, e
 add_one : (n : ℕ) → 1 + n ≡ suc n
 add_one n = omega arith
 
-name_read : (t : Option Table) (bs : List ℕ) → each is_letter bs ≡ true → (name : List ℕ) (h : Half) → length name + length bs < 32 → fed (at t (Names name h)) bs ≡ told (at t (Names (name ++ bs) h)) [] (length bs)
+name_read : (t : Target) (bs : List ℕ) → each is_letter bs ≡ true → (name : List ℕ) (h : Half) → length name + length bs < 32 → fed (at t (Names name h)) bs ≡ told (at t (Names (name ++ bs) h)) [] (length bs)
 name_read t [] all name h l = ap (λ (xs : List ℕ). told (at t (Names xs h)) [] 0) (sym (append-nil name))
 name_read t (b ∷ bs) all name h l =
     let is = letter_is b (and-first (is_letter b) (each is_letter bs) all) in
@@ -120,7 +120,7 @@ name_read t (b ∷ bs) all name h l =
 
 -- ---- what goes out of a name
 
-letters_sent : (t : Option Table) (bs : List ℕ) → each is_letter bs ≡ true → all_sent t bs ≡ bs
+letters_sent : (t : Target) (bs : List ℕ) → each is_letter bs ≡ true → all_sent t bs ≡ bs
 letters_sent t [] all = refl
 letters_sent t (b ∷ bs) all =
     let is = letter_is b (and-first (is_letter b) (each is_letter bs) all) in
@@ -169,12 +169,12 @@ unfolding stores
 rest_met_at true b h is = rw (is.return, is.newline, is.backslash) refl
 rest_met_at false b h is = rw (is.return, is.newline, is.backslash) refl
 
-rest_byte_at : (x : Bool) (n : ℕ) (t : Option Table) (b : ℕ) (h : Half) → IsText b → Hears in_rest (suc n) t (stores x h) b
+rest_byte_at : (x : Bool) (n : ℕ) (t : Target) (b : ℕ) (h : Half) → IsText b → Hears in_rest (suc n) t (stores x h) b
 unfolding stores
 rest_byte_at true n t b h is = hears_taken in_rest n t (Stores h) b (same_takes in_rest t b (Stores (placed (mark_of b) h)) _ refl is.ascii (rest_met_at true b h is ∙ saying_is b lines.Stored lines.Stored h is.newline) refl)
 rest_byte_at false n t b h is = hears_taken in_rest n t (Rests h) b (same_takes in_rest t b (Rests (placed (mark_of b) h)) _ refl is.ascii (rest_met_at false b h is ∙ saying_is b lines.Request lines.Request h is.newline) refl)
 
-rest_newline_at : (x : Bool) (n : ℕ) (t : Option Table) (h : Half) → Hears begins (suc n) t (stores x h) (code "\n")
+rest_newline_at : (x : Bool) (n : ℕ) (t : Target) (h : Half) → Hears begins (suc n) t (stores x h) (code "\n")
 unfolding stores
 rest_newline_at true n t h = hears_taken begins n t (Stores h) (code "\n") (same_takes begins t (code "\n") (Starts (record h { before = befores.Character marks.Other; tag = next_line h.tag })) _ refl refl refl refl)
 rest_newline_at false n t h = hears_taken begins n t (Rests h) (code "\n") (same_takes begins t (code "\n") (Starts (record h { before = befores.Character marks.Other; tag = next_line h.tag })) _ refl refl refl refl)
@@ -185,7 +185,7 @@ stores_none true h = refl
 stores_none false h = refl
 
 -- the name goes out, and then what ended it
-opened_hears : (P : Spot → Bool) (n : ℕ) (t : Option Table) (c : ℕ) (name : List ℕ) (h : Half) → ends_name c ≡ true → (c == code "\\") ≡ false
+opened_hears : (P : Spot → Bool) (n : ℕ) (t : Target) (c : ℕ) (name : List ℕ) (h : Half) → ends_name c ≡ true → (c == code "\\") ≡ false
     → each is_letter name ≡ true → passes (opened name) (length name) ≡ true → ((x : Bool) (k : Half) → Hears P n t (stores x k) c) → Hears P (suc n) t (Names name h) c
 opened_hears P n t c name h ends back all known more =
     let o = opened name in
@@ -195,25 +195,25 @@ opened_hears P n t c name h ends back all known more =
     (ended_met c name h ends back ∙ opened_left o c name h known) (letters_sent t name all ∙ sym (sames_become t name))
     (sym (ap (λ (xs : List ℕ). all_were (sames name) ++ xs) (stores_none x k) ∙ append-nil (all_were (sames name)) ∙ sames_were name)) (more x k)
 
-rest_byte : (t : Option Table) (b : ℕ) → IsText b → (p : Spot) → in_rest p ≡ true → Hears in_rest 6 t p b
+rest_byte : (t : Target) (b : ℕ) → IsText b → (p : Spot) → in_rest p ≡ true → Hears in_rest 6 t p b
 unfolding stores
 rest_byte t b is (Stores h) there = rest_byte_at true 5 t b h is
 rest_byte t b is (Rests h) there = rest_byte_at false 5 t b h is
 rest_byte t b is p there = absurd (let no : false ≡ true = there in cc)
 
-rest_newline : (t : Option Table) (p : Spot) → in_rest p ≡ true → Hears begins 6 t p (code "\n")
+rest_newline : (t : Target) (p : Spot) → in_rest p ≡ true → Hears begins 6 t p (code "\n")
 unfolding stores
 rest_newline t (Stores h) there = rest_newline_at true 5 t h
 rest_newline t (Rests h) there = rest_newline_at false 5 t h
 rest_newline t p there = absurd (let no : false ≡ true = there in cc)
 
-rest_reads : (t : Option Table) (bs : List ℕ) → each is_text bs ≡ true → (p : Spot) → in_rest p ≡ true → Reads begins t p (bs ++ codes "\n")
+rest_reads : (t : Target) (bs : List ℕ) → each is_text bs ≡ true → (p : Spot) → in_rest p ≡ true → Reads begins t p (bs ++ codes "\n")
 rest_reads t [] all p there = reads_byte begins begins t p (code "\n") [] refl (rest_newline t p there) (λ q k. reads_none begins t q k)
 rest_reads t (b ∷ bs) all p there =
     let is = text_is b (and-first (is_text b) (each is_text bs) all) in
     reads_byte begins in_rest t p b (bs ++ codes "\n") is.ascii (rest_byte t b is p there) (λ q k. rest_reads t bs (and-second (is_text b) (each is_text bs) all) q k)
 
-name_rest : (t : Option Table) (name rest : List ℕ) (h : Half) → each is_letter name ≡ true → passes (opened name) (length name) ≡ true → begins_blank rest ≡ true → each is_text rest ≡ true
+name_rest : (t : Target) (name rest : List ℕ) (h : Half) → each is_letter name ≡ true → passes (opened name) (length name) ≡ true → begins_blank rest ≡ true → each is_text rest ≡ true
     → Reads begins t (Names name h) (rest ++ codes "\n")
 name_rest t name [] h all known blank texts =
     reads_byte begins begins t (Names name h) (code "\n") [] refl (opened_hears begins 5 t (code "\n") name h refl refl all known (λ x k. rest_newline_at x 4 t k)) (λ q k. reads_none begins t q k)
@@ -237,7 +237,7 @@ words_left opens.Paragraph c name h p = refl
 words_left opens.Address c name h p = refl
 words_left o c name h p = absurd (let no : false ≡ true = p in cc)
 
-words_opened : (P : Spot → Bool) (n : ℕ) (t : Option Table) (c : ℕ) (name : List ℕ) (h : Half) → ends_name c ≡ true → (c == code "\\") ≡ false
+words_opened : (P : Spot → Bool) (n : ℕ) (t : Target) (c : ℕ) (name : List ℕ) (h : Half) → ends_name c ≡ true → (c == code "\\") ≡ false
     → each is_letter name ≡ true → takes_words (opened name) ≡ true → ((w : Words) (k : Half) → Hears P n t (Flows (Among places.Between w) k) c) → Hears P (suc n) t (Names name h) c
 words_opened P n t c name h ends back all known more =
     let o = opened name in
@@ -246,7 +246,7 @@ words_opened P n t c name h ends back all known more =
     (ended_met c name h ends back ∙ words_left o c name h known) (letters_sent t name all ∙ sym (sames_become t name))
     (sym (append-nil (all_were (sames name)) ∙ sames_were name)) (more (first_words (fonts_of o)) k)
 
-name_words : (t : Option Table) (name : List ℕ) (ws : List written.Word) (h : Half) → each is_letter name ≡ true → takes_words (opened name) ≡ true → are_words ws ≡ true
+name_words : (t : Target) (name : List ℕ) (ws : List written.Word) (h : Half) → each is_letter name ≡ true → takes_words (opened name) ≡ true → are_words ws ≡ true
     → Reads begins t (Names name h) (written_words ws)
 name_words t name [] h all known words =
     reads_byte begins begins t (Names name h) (code "\n") [] refl (words_opened begins 5 t (code "\n") name h refl refl all known (λ w k. words_end 3 t places.Between w k)) (λ q k. reads_none begins t q k)
@@ -260,7 +260,7 @@ name_words t name (w ∷ ws) h all known words =
 below_full : (n : ℕ) → nat_lt (suc n) 32 ≡ true → 1 + n < 32
 below_full n p = grind (arith, nat_tests)
 
-whole_name : (t : Option Table) (b : ℕ) (bs : List ℕ) (h : Half) → is_name (b ∷ bs) ≡ true → fed (at t (Controls h)) (b ∷ bs) ≡ told (at t (Names (b ∷ bs) h)) [] (1 + length bs)
+whole_name : (t : Target) (b : ℕ) (bs : List ℕ) (h : Half) → is_name (b ∷ bs) ≡ true → fed (at t (Controls h)) (b ∷ bs) ≡ told (at t (Names (b ∷ bs) h)) [] (1 + length bs)
 whole_name t b bs h p =
     let all = and-first (each is_letter (b ∷ bs)) (nat_lt (length (b ∷ bs)) 32) p in
     let is = letter_is b (and-first (is_letter b) (each is_letter bs) all) in
@@ -268,7 +268,7 @@ whole_name t b bs h p =
     ∙ ap (λ (u : Told). then_told u (λ s. fed s bs)) (named t (Controls h) (Names (b ∷ []) h) b is.text.ascii (first_met b h is ((b == code ".") && h.defining) refl))
     ∙ ap (behind [] 1) (name_read t bs (and-second (is_letter b) (each is_letter bs) all) (b ∷ []) h (below_full (length bs) (and-second (each is_letter (b ∷ bs)) (nat_lt (length (b ∷ bs)) 32) p)))
 
-control_line : (P : Spot → Bool) (t : Option Table) (b : ℕ) (bs : List ℕ) → is_control b ≡ true → ((h : Half) → Reads P t (Controls h) bs) → (p : Spot) → begins p ≡ true → Reads P t p (b ∷ bs)
+control_line : (P : Spot → Bool) (t : Target) (b : ℕ) (bs : List ℕ) → is_control b ≡ true → ((h : Half) → Reads P t (Controls h) bs) → (p : Spot) → begins p ≡ true → Reads P t p (b ∷ bs)
 unfolding in_control
 control_line P t b bs e more p there =
     reads_byte P in_control t p b bs (control_is b e).ascii (line_hears in_control 5 t b (λ h. control_hears 5 t b h e) (λ h. control_hears 4 t b h e) p there) rest
@@ -277,26 +277,26 @@ control_line P t b bs e more p there =
     rest (Controls h) k = more h
     rest q k = absurd (let no : false ≡ true = k in cc)
 
-alone : (t : Option Table) (h : Half) → Reads begins t (Controls h) (codes "\n")
+alone : (t : Target) (h : Half) → Reads begins t (Controls h) (codes "\n")
 unfolding stores
 alone t h =
     reads_byte begins begins t (Controls h) (code "\n") [] refl
     (hears_left begins 5 t (Controls h) (Rests (record h { name = []; conditional = false })) (code "\n") (says.Kept []) [] refl refl refl (rest_newline_at false 4 t (record h { name = []; conditional = false })))
     (λ q k. reads_none begins t q k)
 
-request : (t : Option Table) (b : ℕ) (bs rest : List ℕ) (h : Half) → is_name (b ∷ bs) ≡ true → passes (opened (b ∷ bs)) (length (b ∷ bs)) ≡ true → begins_blank rest ≡ true → each is_text rest ≡ true
+request : (t : Target) (b : ℕ) (bs rest : List ℕ) (h : Half) → is_name (b ∷ bs) ≡ true → passes (opened (b ∷ bs)) (length (b ∷ bs)) ≡ true → begins_blank rest ≡ true → each is_text rest ≡ true
     → Reads begins t (Controls h) ((b ∷ bs) ++ (rest ++ codes "\n"))
 request t b bs rest h name known blank texts =
     reads_exact begins t (Controls h) (Names (b ∷ bs) h) (b ∷ bs) (rest ++ codes "\n") (1 + length bs) (whole_name t b bs h name) refl
     (name_rest t (b ∷ bs) rest h (and-first (each is_letter (b ∷ bs)) (nat_lt (length (b ∷ bs)) 32) name) known blank texts)
 
-font_line : (t : Option Table) (b : ℕ) (bs : List ℕ) (ws : List written.Word) (h : Half) → is_name (b ∷ bs) ≡ true → takes_words (opened (b ∷ bs)) ≡ true → are_words ws ≡ true
+font_line : (t : Target) (b : ℕ) (bs : List ℕ) (ws : List written.Word) (h : Half) → is_name (b ∷ bs) ≡ true → takes_words (opened (b ∷ bs)) ≡ true → are_words ws ≡ true
     → Reads begins t (Controls h) ((b ∷ bs) ++ written_words ws)
 font_line t b bs ws h name known words =
     reads_exact begins t (Controls h) (Names (b ∷ bs) h) (b ∷ bs) (written_words ws) (1 + length bs) (whole_name t b bs h name) refl
     (name_words t (b ∷ bs) ws h (and-first (each is_letter (b ∷ bs)) (nat_lt (length (b ∷ bs)) 32) name) known words)
 
-line_reads : (t : Option Table) (l : written.Line) → is_line l ≡ true → (p : Spot) → begins p ≡ true → Reads begins t p (written_line l)
+line_reads : (t : Target) (l : written.Line) → is_line l ≡ true → (p : Spot) → begins p ≡ true → Reads begins t p (written_line l)
 line_reads t written.EmptyLine is p there = empty_line t p there
 line_reads t (written.CommentLine control bs) is p there =
     control_line begins t control (code "\\" ∷ code "\"" ∷ (bs ++ codes "\n")) (and-first (is_control control) (each goes_on_comment bs) is)
@@ -326,7 +326,7 @@ line_reads t (written.WordsLine control b bs ws) is p there =
     control_line begins t control ((b ∷ bs) ++ written_words ws) (and-first c name two)
     (λ h. font_line t b bs ws h (and-second c name two) (and-second (c && name) known three) (and-second (c && name && known) (are_words ws) is)) p there
 
-lines_read : (t : Option Table) (ls : List written.Line) → are_lines ls ≡ true → (p : Spot) → begins p ≡ true → Reads begins t p (written_lines ls)
+lines_read : (t : Target) (ls : List written.Line) → are_lines ls ≡ true → (p : Spot) → begins p ≡ true → Reads begins t p (written_lines ls)
 lines_read t [] all p there = reads_none begins t p there
 lines_read t (l ∷ ls) all p there =
     reads_both begins begins t p (written_line l) (written_lines ls) (line_reads t l (and-first (is_line l) (are_lines ls) all) p there) (λ q k. lines_read t ls (and-second (is_line l) (are_lines ls) all) q k)
@@ -337,7 +337,7 @@ last : Spot → List Piece
 last (Closes h) = Same (code "\n") ∷ []
 last p = []
 
-left_out : (t : Option Table) (p : Spot) → begins p ≡ true → finished (at t p) ≡ all_become t (last p)
+left_out : (t : Target) (p : Spot) → begins p ≡ true → finished (at t p) ≡ all_become t (last p)
 unfolding last
 left_out t (Starts h) there = refl
 left_out t (Closes h) there = refl

@@ -1,11 +1,11 @@
 -- The signs of a text line go out piece by piece.
 use Prim.Native.Char.{code}
-use Rattle.std.proofs.Common.{◌≡◌, ℕ, suc, ◌+◌, List, [], ◌∷◌, ◌++◌, Bool, true, false, ◌==◌, ◌&&◌, nat_lt, if◌then◌else◌, Option, refl, sym, ◌∙◌, ap, append_assoc, append-nil, arith}
+use Rattle.std.proofs.Common.{◌≡◌, ℕ, suc, ◌+◌, List, [], ◌∷◌, ◌++◌, Bool, true, false, ◌==◌, ◌&&◌, ◌||◌, nat_lt, if◌then◌else◌, refl, sym, ◌∙◌, ap, subst, append_assoc, append-nil, arith}
 use Rattle.std.specs.Prelude.{codes}
 use Rattle.std.specs.Char.{encode_utf8}
 use Rattle.std.specs.Str.{all_scalars}
 use Rattle.std.proofs.lemmas.Bool.Decides.{nat_tests}
-use Rattle.utf8_characters.specs.declared.table.Table.{Table}
+use Rattle.preconv_converter.specs.declared.target.Target.{Target}
 use Rattle.preconv_converter.specs.declared.said.Said.{Said}
 use Rattle.preconv_converter.specs.declared.said.Said.TheVariants as says
 use Rattle.preconv_converter.specs.declared.half.Half.{Half}
@@ -22,25 +22,25 @@ use Rattle.preconv_converter.specs.Lines.{is_control}
 use Rattle.preconv_converter.specs.Meeting.{meet}
 use Rattle.preconv_converter.specs.Runs.{is_kept, is_font}
 use Rattle.preconv_converter.specs.Reading.{told, behind, with_half, heard, heard_in}
-use Rattle.preconv_converter.specs.Pieces.{Piece, Same, Looks, SentenceEnd, all_were, all_become}
-use Rattle.preconv_converter.specs.WrittenLines.{Sign, Byte, Escape, Font, Character, Glyph, is_sign, all_are, begins_text, written_sign, written_signs}
+use Rattle.preconv_converter.specs.Pieces.{Face, face_of, Piece, Same, Looks, SentenceEnd, all_were, all_become}
+use Rattle.preconv_converter.specs.WrittenLines.{is_face, Sign, Byte, Escape, Font, Character, Glyph, is_sign, all_are, begins_text, written_sign, written_signs}
 use Rattle.preconv_converter.proofs.AtOnce.{placed_as}
 use Rattle.preconv_converter.proofs.Characters.{cooked_character}
 use Rattle.preconv_converter.proofs.Plain.{and-first, and-second, is_not}
 use Rattle.preconv_converter.proofs.PlainEscapes.{by_kept, by_letter}
 use Rattle.preconv_converter.proofs.GlyphsGo.{IsGlyph, glyph_is, glyph_reads}
 use Rattle.preconv_converter.proofs.Spots.{Pairs, pair_half, open_half, begun_half, font_half, Flow, Text, Faces, Among, line_in, Where, First, In, line_of_where, Spot, Begins, Fonts, Starts, Flows, Holds, Closes, half_of, held, begins, in_text, at, no_raw, Takes, Hears, hears_taken, Reads, reads_byte, reads_both, reads_none, all_become-append, all_were-append}
-use Rattle.preconv_converter.proofs.TextGoes.{IsText, text_is, moved_by, text_hears, newline_hears, faces_hears, faces_newline, held_hears, start_hears, line_hears, no_both}
+use Rattle.preconv_converter.proofs.TextGoes.{same_byte, IsText, text_is, moved_by, text_hears, newline_hears, faces_hears, faces_newline, held_hears, start_hears, line_hears, no_both}
 
 -- ---- a text line
 
-text_byte : (t : Option Table) (b : ℕ) → IsText b → (p : Spot) → in_text p ≡ true → Hears in_text 6 t p b
+text_byte : (t : Target) (b : ℕ) → IsText b → (p : Spot) → in_text p ≡ true → Hears in_text 6 t p b
 text_byte t b is (Flows Text h) there = text_hears 5 t b h is
 text_byte t b is (Flows Faces h) there = faces_hears 4 t b h is
 text_byte t b is (Holds Text h) there = held_hears in_text 5 t b Text h refl (λ k. text_hears 4 t b k is)
 text_byte t b is p there = absurd (let no : false ≡ true = there in cc)
 
-text_newline : (t : Option Table) (p : Spot) → in_text p ≡ true → Hears begins 6 t p (code "\n")
+text_newline : (t : Target) (p : Spot) → in_text p ≡ true → Hears begins 6 t p (code "\n")
 text_newline t (Flows Text h) there = newline_hears 5 t h
 text_newline t (Flows Faces h) there = faces_newline 5 t h
 text_newline t (Holds Text h) there = held_hears begins 5 t (code "\n") Text h refl (λ k. newline_hears 4 t k)
@@ -62,24 +62,24 @@ font_begun : Spot → Bool
 font_begun (Fonts x h) = in_line x
 font_begun p = false
 
-backslash_takes : (t : Option Table) (x : Where) (h : Half) (m : Met) → in_line x ≡ true → m ≡ taken says.Nothing (begun_half (line_of_where x) h) → Takes begun t [] (code "\\") m
+backslash_takes : (t : Target) (x : Where) (h : Half) (m : Met) → in_line x ≡ true → m ≡ taken says.Nothing (begun_half (line_of_where x) h) → Takes begun t [] (code "\\") m
 unfolding begun
 backslash_takes t x h m at met = record { next = Begins x h; there = at; said = says.Nothing; pieces = []; met = met; out = refl; all = refl }
 
-backslash_hears : (n : ℕ) (t : Option Table) (f : Flow) (h : Half) → in_line (In f) ≡ true → Hears begun (suc n) t (Flows f h) (code "\\")
+backslash_hears : (n : ℕ) (t : Target) (f : Flow) (h : Half) → in_line (In f) ≡ true → Hears begun (suc n) t (Flows f h) (code "\\")
 unfolding in_line
 backslash_hears n t Text h at = hears_taken begun n t (Flows Text h) (code "\\") (backslash_takes t (In Text) h _ refl refl)
 backslash_hears n t Faces h at = hears_taken begun n t (Flows Faces h) (code "\\") (backslash_takes t (In Faces) h _ refl refl)
 backslash_hears n t (Among place w) h at = absurd (let no : false ≡ true = at in cc)
 
-text_backslash : (t : Option Table) (p : Spot) → in_text p ≡ true → Hears begun 6 t p (code "\\")
+text_backslash : (t : Target) (p : Spot) → in_text p ≡ true → Hears begun 6 t p (code "\\")
 unfolding in_line
 text_backslash t (Flows Text h) there = backslash_hears 5 t Text h refl
 text_backslash t (Flows Faces h) there = backslash_hears 5 t Faces h refl
 text_backslash t (Holds Text h) there = held_hears begun 5 t (code "\\") Text h refl (λ k. backslash_hears 4 t Text k refl)
 text_backslash t p there = absurd (let no : false ≡ true = there in cc)
 
-first_backslash : (t : Option Table) (p : Spot) → begins p ≡ true → Hears begun 6 t p (code "\\")
+first_backslash : (t : Target) (p : Spot) → begins p ≡ true → Hears begun 6 t p (code "\\")
 unfolding in_line
 first_backslash t p there =
     line_hears begun 5 t (code "\\") (λ h. hears_taken begun 5 t (Starts h) (code "\\") (backslash_takes t First h _ refl refl))
@@ -107,14 +107,14 @@ kept_at (In Text) h b at p = by_kept (Kept (In Text) h) refl refl refl refl refl
 kept_at (In Faces) h b at p = by_kept (Kept (In Faces) h) refl refl refl refl refl b (b == code "-") (b == code "&") (b == code "|") (b == code "c") (b == code "e") refl refl refl refl refl p
 kept_at (In (Among place w)) h b at p = absurd (let no : false ≡ true = at in cc)
 
-pub kept_out : (t : Option Table) (b : ℕ) → is_kept b ≡ true → bytes_of t (says.Kept (code "\\" ∷ b ∷ [])) ≡ code "\\" ∷ b ∷ []
+pub kept_out : (t : Target) (b : ℕ) → is_kept b ≡ true → bytes_of t (says.Kept (code "\\" ∷ b ∷ [])) ≡ code "\\" ∷ b ∷ []
 kept_out t b p =
     by_kept (λ (c : ℕ). bytes_of t (says.Kept (code "\\" ∷ c ∷ [])) ≡ code "\\" ∷ c ∷ []) refl refl refl refl refl b (b == code "-") (b == code "&") (b == code "|") (b == code "c") (b == code "e") refl refl refl refl refl p
 
 pub kept_ascii : (b : ℕ) → is_kept b ≡ true → nat_lt b 127 ≡ true
 kept_ascii b p = by_kept (λ (c : ℕ). nat_lt c 127 ≡ true) refl refl refl refl refl b (b == code "-") (b == code "&") (b == code "|") (b == code "c") (b == code "e") refl refl refl refl refl p
 
-kept_hears : (t : Option Table) (b : ℕ) → is_kept b ≡ true → (p : Spot) → begun p ≡ true → Hears in_text 6 t p b
+kept_hears : (t : Target) (b : ℕ) → is_kept b ≡ true → (p : Spot) → begun p ≡ true → Hears in_text 6 t p b
 unfolding begun Kept
 kept_hears t b is (Begins x h) there =
     hears_taken in_text 5 t (Begins x h) b
@@ -131,6 +131,22 @@ kept_hears t b is p there = absurd (let no : false ≡ true = there in cc)
 
 -- ---- a font
 
+face_by : (P : ℕ → Type 0) → P (code "B") → P (code "I") → P (code "P") → P (code "R") → P (code "1") → P (code "2") → P (code "3") → P (code "4") → P (code "5") → P (code "V") → (c : ℕ) (u x1 x2 x3 x4 x5 x6 : Bool)
+    → is_font c ≡ u → (c == code "1") ≡ x1 → (c == code "2") ≡ x2 → (c == code "3") ≡ x3 → (c == code "4") ≡ x4 → (c == code "5") ≡ x5 → (c == code "V") ≡ x6 → (u || x1 || x2 || x3 || x4 || x5 || x6) ≡ true → P c
+face_by P b i p r one two three four five v c true x1 x2 x3 x4 x5 x6 d e1 e2 e3 e4 e5 e6 is = by_letter P b i p r c (c == code "B") (c == code "I") (c == code "P") (c == code "R") refl refl refl refl d
+face_by P b i p r one two three four five v c false true x2 x3 x4 x5 x6 d e1 e2 e3 e4 e5 e6 is = subst P (sym (same_byte c (code "1") e1)) one
+face_by P b i p r one two three four five v c false false true x3 x4 x5 x6 d e1 e2 e3 e4 e5 e6 is = subst P (sym (same_byte c (code "2") e2)) two
+face_by P b i p r one two three four five v c false false false true x4 x5 x6 d e1 e2 e3 e4 e5 e6 is = subst P (sym (same_byte c (code "3") e3)) three
+face_by P b i p r one two three four five v c false false false false true x5 x6 d e1 e2 e3 e4 e5 e6 is = subst P (sym (same_byte c (code "4") e4)) four
+face_by P b i p r one two three four five v c false false false false false true x6 d e1 e2 e3 e4 e5 e6 is = subst P (sym (same_byte c (code "5") e5)) five
+face_by P b i p r one two three four five v c false false false false false false true d e1 e2 e3 e4 e5 e6 is = subst P (sym (same_byte c (code "V") e6)) v
+face_by P b i p r one two three four five v c false false false false false false false d e1 e2 e3 e4 e5 e6 is = absurd (let no : false ≡ true = is in cc)
+
+-- one of ten names
+pub by_face : (P : ℕ → Type 0) → P (code "B") → P (code "I") → P (code "P") → P (code "R") → P (code "1") → P (code "2") → P (code "3") → P (code "4") → P (code "5") → P (code "V") → (b : ℕ) → is_face b ≡ true → P b
+by_face P b i p r one two three four five v c is =
+    face_by P b i p r one two three four five v c (is_font c) (c == code "1") (c == code "2") (c == code "3") (c == code "4") (c == code "5") (c == code "V") refl refl refl refl refl refl refl is
+
 letter_met : (x : Where) (h : Half) → in_line x ≡ true → meet (comings.Byte (code "f")) (begun_half (line_of_where x) h) ≡ taken says.Nothing (font_half (line_of_where x) h)
 unfolding in_line
 letter_met First h at = refl
@@ -138,35 +154,35 @@ letter_met (In Text) h at = refl
 letter_met (In Faces) h at = refl
 letter_met (In (Among place w)) h at = absurd (let no : false ≡ true = at in cc)
 
-letter_hears : (t : Option Table) (p : Spot) → begun p ≡ true → Hears font_begun 6 t p (code "f")
+letter_hears : (t : Target) (p : Spot) → begun p ≡ true → Hears font_begun 6 t p (code "f")
 unfolding begun font_begun
 letter_hears t (Begins x h) there =
     hears_taken font_begun 5 t (Begins x h) (code "f") (record { next = Fonts x h; there = there; said = says.Nothing; pieces = []; met = letter_met x h there; out = refl; all = refl })
 letter_hears t p there = absurd (let no : false ≡ true = there in cc)
 
 named : Where → ℕ → Half → Half
-named x b h = without_escape (faced b (spelling b (keeping b (font_half (line_of_where x) h))))
+named x b h = without_escape (faced (face_of b) (spelling b (keeping b (font_half (line_of_where x) h))))
 
 after : Where → Flow
 after (In Text) = Text
 after x = Faces
 
 Named : Where → Half → ℕ → Type 0
-Named x h b = meet (comings.Byte b) (font_half (line_of_where x) h) ≡ taken (says.Font b) (open_half (line_in (after x)) (named x b h))
+Named x h b = meet (comings.Byte b) (font_half (line_of_where x) h) ≡ taken (says.Font (face_of b)) (open_half (line_in (after x)) (named x b h))
 
-named_at : (x : Where) (h : Half) (b : ℕ) → in_line x ≡ true → is_font b ≡ true → Named x h b
+named_at : (x : Where) (h : Half) (b : ℕ) → in_line x ≡ true → is_face b ≡ true → Named x h b
 unfolding in_line Named named after
-named_at First h b at p = by_letter (Named First h) refl refl refl refl b (b == code "B") (b == code "I") (b == code "P") (b == code "R") refl refl refl refl p
-named_at (In Text) h b at p = by_letter (Named (In Text) h) refl refl refl refl b (b == code "B") (b == code "I") (b == code "P") (b == code "R") refl refl refl refl p
-named_at (In Faces) h b at p = by_letter (Named (In Faces) h) refl refl refl refl b (b == code "B") (b == code "I") (b == code "P") (b == code "R") refl refl refl refl p
+named_at First h b at p = by_face (Named First h) refl refl refl refl refl refl refl refl refl refl b p
+named_at (In Text) h b at p = by_face (Named (In Text) h) refl refl refl refl refl refl refl refl refl refl b p
+named_at (In Faces) h b at p = by_face (Named (In Faces) h) refl refl refl refl refl refl refl refl refl refl b p
 named_at (In (Among place w)) h b at p = absurd (let no : false ≡ true = at in cc)
 
-pub font_out : (t : Option Table) (b : ℕ) → is_font b ≡ true → bytes_of t (says.Font b) ≡ code "\\" ∷ code "f" ∷ b ∷ []
+pub font_out : (t : Target) (b : ℕ) → is_face b ≡ true → bytes_of t (says.Font (face_of b)) ≡ code "\\" ∷ code "f" ∷ face_of b ∷ []
 font_out t b p =
-    by_letter (λ (c : ℕ). bytes_of t (says.Font c) ≡ code "\\" ∷ code "f" ∷ c ∷ []) refl refl refl refl b (b == code "B") (b == code "I") (b == code "P") (b == code "R") refl refl refl refl p
+    by_face (λ (c : ℕ). bytes_of t (says.Font (face_of c)) ≡ code "\\" ∷ code "f" ∷ face_of c ∷ []) refl refl refl refl refl refl refl refl refl refl b p
 
-pub font_ascii : (b : ℕ) → is_font b ≡ true → nat_lt b 127 ≡ true
-font_ascii b p = by_letter (λ (c : ℕ). nat_lt c 127 ≡ true) refl refl refl refl b (b == code "B") (b == code "I") (b == code "P") (b == code "R") refl refl refl refl p
+pub font_ascii : (b : ℕ) → is_face b ≡ true → nat_lt b 127 ≡ true
+font_ascii b p = by_face (λ (c : ℕ). nat_lt c 127 ≡ true) refl refl refl refl refl refl refl refl refl refl b p
 
 in_text_after : (x : Where) (h : Half) → in_text (Flows (after x) h) ≡ true
 unfolding after
@@ -175,15 +191,15 @@ in_text_after (In Text) h = refl
 in_text_after (In Faces) h = refl
 in_text_after (In (Among place w)) h = refl
 
-font_hears : (t : Option Table) (b : ℕ) → is_font b ≡ true → (p : Spot) → font_begun p ≡ true → Hears in_text 6 t p b
+font_hears : (t : Target) (b : ℕ) → is_face b ≡ true → (p : Spot) → font_begun p ≡ true → Hears in_text 6 t p b
 unfolding font_begun Named
 font_hears t b is (Fonts x h) there =
     hears_taken in_text 5 t (Fonts x h) b
     (record {
       next = Flows (after x) (named x b h);
       there = in_text_after x (named x b h);
-      said = says.Font b;
-      pieces = Same (code "\\") ∷ Same (code "f") ∷ Same b ∷ [];
+      said = says.Font (face_of b);
+      pieces = Face b ∷ [];
       met = named_at x h b there is;
       out = font_out t b is;
       all = refl;
@@ -192,7 +208,7 @@ font_hears t b is p there = absurd (let no : false ≡ true = there in cc)
 
 -- ---- a character beyond ASCII
 
-pub record HearsWide (P : Spot → Bool) (n : ℕ) (t : Option Table) (p : Spot) (c : ℕ) : Type 0 where
+pub record HearsWide (P : Spot → Bool) (n : ℕ) (t : Target) (p : Spot) (c : ℕ) : Type 0 where
   pub next : Spot
   pub there : P next ≡ true
   pub pieces : List Piece
@@ -200,7 +216,7 @@ pub record HearsWide (P : Spot → Bool) (n : ℕ) (t : Option Table) (p : Spot)
   pub heard : heard_in n (comings.Wide c) (at t p) ≡ told (at t next) (all_become t pieces) steps
   pub all : held p ++ encode_utf8 c ≡ all_were pieces ++ held next
 
-wide_taken : (n : ℕ) (t : Option Table) (p : Spot) (c : ℕ) (k : Half) → held p ≡ [] → meet (comings.Wide c) (half_of p) ≡ taken (says.Character c) (open_half lines.Text k) → HearsWide in_text (suc n) t p c
+wide_taken : (n : ℕ) (t : Target) (p : Spot) (c : ℕ) (k : Half) → held p ≡ [] → meet (comings.Wide c) (half_of p) ≡ taken (says.Character c) (open_half lines.Text k) → HearsWide in_text (suc n) t p c
 wide_taken n t p c k none met =
     record {
       next = Flows Text k;
@@ -212,7 +228,7 @@ wide_taken n t p c k none met =
       all = ap (λ (xs : List ℕ). xs ++ encode_utf8 c) none ∙ sym (append-nil (encode_utf8 c)) ∙ sym (append-nil (encode_utf8 c ++ []));
     }
 
-pub wide_left : (P : Spot → Bool) (n : ℕ) (t : Option Table) (p q : Spot) (c : ℕ) (said : Said) (ps : List Piece)
+pub wide_left : (P : Spot → Bool) (n : ℕ) (t : Target) (p q : Spot) (c : ℕ) (said : Said) (ps : List Piece)
     → meet (comings.Wide c) (half_of p) ≡ left said (half_of q) → bytes_of t said ≡ all_become t ps → held p ≡ all_were ps ++ held q
     → HearsWide P n t q c → HearsWide P (suc n) t p c
 wide_left P n t p q c said ps met out all k =
@@ -247,7 +263,7 @@ wide_met (In Text) c h at = shows (is_space c && false) c lines.Text h (no_both 
 wide_met (In Faces) c h at = shows (is_space c && false) c lines.Fonts h (no_both (is_space c))
 wide_met (In (Among place w)) c h at = absurd (let no : false ≡ true = at in cc)
 
-text_wide : (t : Option Table) (c : ℕ) (p : Spot) → in_text p ≡ true → HearsWide in_text 6 t p c
+text_wide : (t : Target) (c : ℕ) (p : Spot) → in_text p ≡ true → HearsWide in_text 6 t p c
 unfolding in_line
 text_wide t c (Flows Text h) there = wide_taken 5 t (Flows Text h) c (placed (wide_mark c) h) refl (wide_met (In Text) c h refl)
 text_wide t c (Flows Faces h) there = wide_taken 5 t (Flows Faces h) c (placed (wide_mark c) h) refl (wide_met (In Faces) c h refl)
@@ -257,7 +273,7 @@ text_wide t c (Holds Text h) there =
     (wide_taken 4 t (Flows Text k) c (placed (wide_mark c) k) refl (wide_met (In Text) c k refl))
 text_wide t c p there = absurd (let no : false ≡ true = there in cc)
 
-first_wide : (t : Option Table) (c : ℕ) (p : Spot) → begins p ≡ true → HearsWide in_text 6 t p c
+first_wide : (t : Target) (c : ℕ) (p : Spot) → begins p ≡ true → HearsWide in_text 6 t p c
 unfolding in_line
 first_wide t c (Starts h) there = wide_taken 5 t (Starts h) c (placed (wide_mark c) h) refl (wide_met First c h refl)
 first_wide t c (Closes h) there =
@@ -269,7 +285,7 @@ first_wide t c p there = absurd (let no : false ≡ true = there in cc)
 no_ascii : (c : ℕ) → nat_lt 126 c ≡ true → nat_lt c 127 ≡ false
 no_ascii c p = grind (arith, nat_tests)
 
-pub wide_reads : (P : Spot → Bool) (t : Option Table) (c : ℕ) (p : Spot) → is_sign (Character c) ≡ true → HearsWide P 6 t p c → Reads P t p (encode_utf8 c)
+pub wide_reads : (P : Spot → Bool) (t : Target) (c : ℕ) (p : Spot) → is_sign (Character c) ≡ true → HearsWide P 6 t p c → Reads P t p (encode_utf8 c)
 unfolding heard
 wide_reads P t c p is k =
     let beyond = and-first (nat_lt 126 c) (all_scalars (c ∷ [])) is in
@@ -299,13 +315,13 @@ pair_met (In Text) h at = refl
 pair_met (In Faces) h at = refl
 pair_met (In (Among place w)) h at = absurd (let no : false ≡ true = at in cc)
 
-pair_hears : (t : Option Table) (p : Spot) → begun p ≡ true → Hears pair_begun 6 t p (code "(")
+pair_hears : (t : Target) (p : Spot) → begun p ≡ true → Hears pair_begun 6 t p (code "(")
 unfolding begun pair_begun
 pair_hears t (Begins x h) there =
     hears_taken pair_begun 5 t (Begins x h) (code "(") (record { next = Pairs x h; there = there; said = says.Nothing; pieces = []; met = pair_met x h there; out = refl; all = refl })
 pair_hears t p there = absurd (let no : false ≡ true = there in cc)
 
-glyph_text : (t : Option Table) (a b c : ℕ) → IsGlyph a b c → (p : Spot) → pair_begun p ≡ true → Reads in_text t p (a ∷ b ∷ [])
+glyph_text : (t : Target) (a b c : ℕ) → IsGlyph a b c → (p : Spot) → pair_begun p ≡ true → Reads in_text t p (a ∷ b ∷ [])
 unfolding pair_begun in_line
 glyph_text t a b c is (Pairs First h) there = glyph_reads in_text t First h a b c (Flows Text) (λ k. refl) (λ k. refl) (λ k. refl) is refl (no_both (is_space c))
 glyph_text t a b c is (Pairs (In Text) h) there = glyph_reads in_text t (In Text) h a b c (Flows Text) (λ k. refl) (λ k. refl) (λ k. refl) is refl (no_both (is_space c))
@@ -314,7 +330,7 @@ glyph_text t a b c is p there = absurd (let no : false ≡ true = there in cc)
 
 -- ---- signs
 
-text_sign : (t : Option Table) (s : Sign) → is_sign s ≡ true → (p : Spot) → in_text p ≡ true → Reads in_text t p (written_sign s)
+text_sign : (t : Target) (s : Sign) → is_sign s ≡ true → (p : Spot) → in_text p ≡ true → Reads in_text t p (written_sign s)
 text_sign t (Byte b) is p there = let text = text_is b is in reads_byte in_text in_text t p b [] text.ascii (text_byte t b text p there) (λ q k. reads_none in_text t q k)
 text_sign t (Escape b) is p there =
     reads_byte in_text begun t p (code "\\") (b ∷ []) refl (text_backslash t p there)
@@ -328,7 +344,7 @@ text_sign t (Glyph a b c) is p there =
     (λ q k. reads_byte in_text pair_begun t q (code "(") (a ∷ b ∷ []) refl (pair_hears t q k) (λ r l. glyph_text t a b c (glyph_is a b c is) r l))
 text_sign t (Character c) is p there = wide_reads in_text t c p is (text_wide t c p there)
 
-first_sign : (t : Option Table) (s : Sign) → is_sign s ≡ true → begins_text s ≡ true → (p : Spot) → begins p ≡ true → Reads in_text t p (written_sign s)
+first_sign : (t : Target) (s : Sign) → is_sign s ≡ true → begins_text s ≡ true → (p : Spot) → begins p ≡ true → Reads in_text t p (written_sign s)
 first_sign t (Byte b) is first p there =
     let text = text_is b is in
     let plain = is_not (is_control b) first in
@@ -345,12 +361,12 @@ first_sign t (Glyph a b c) is first p there =
     (λ q k. reads_byte in_text pair_begun t q (code "(") (a ∷ b ∷ []) refl (pair_hears t q k) (λ r l. glyph_text t a b c (glyph_is a b c is) r l))
 first_sign t (Character c) is first p there = wide_reads in_text t c p is (first_wide t c p there)
 
-signs_read : (t : Option Table) (ss : List Sign) → all_are is_sign ss ≡ true → (p : Spot) → in_text p ≡ true → Reads begins t p (written_signs ss (codes "\n"))
+signs_read : (t : Target) (ss : List Sign) → all_are is_sign ss ≡ true → (p : Spot) → in_text p ≡ true → Reads begins t p (written_signs ss (codes "\n"))
 signs_read t [] all p there = reads_byte begins begins t p (code "\n") [] refl (text_newline t p there) (λ q k. reads_none begins t q k)
 signs_read t (s ∷ ss) all p there =
     reads_both begins in_text t p (written_sign s) (written_signs ss (codes "\n")) (text_sign t s (and-first (is_sign s) (all_are is_sign ss) all) p there)
     (λ q k. signs_read t ss (and-second (is_sign s) (all_are is_sign ss) all) q k)
 
-pub text_line : (t : Option Table) (s : Sign) (ss : List Sign) → is_sign s ≡ true → begins_text s ≡ true → all_are is_sign ss ≡ true → (p : Spot) → begins p ≡ true → Reads begins t p (written_sign s ++ written_signs ss (codes "\n"))
+pub text_line : (t : Target) (s : Sign) (ss : List Sign) → is_sign s ≡ true → begins_text s ≡ true → all_are is_sign ss ≡ true → (p : Spot) → begins p ≡ true → Reads begins t p (written_sign s ++ written_signs ss (codes "\n"))
 text_line t s ss is first all p there =
     reads_both begins in_text t p (written_sign s) (written_signs ss (codes "\n")) (first_sign t s is first p there) (λ q k. signs_read t ss all q k)

@@ -1,7 +1,7 @@
 -- Where a page stands between the bytes of a line, whatever came before; and what a byte does there.
 use Prim.Native.Char.{code}
-use Rattle.std.proofs.Common.{◌≡◌, ℕ, suc, ◌+◌, List, [], ◌∷◌, ◌++◌, Bool, true, false, nat_lt, if◌then◌else◌, Option, refl, sym, ◌∙◌, ap, append-nil, append_assoc}
-use Rattle.utf8_characters.specs.declared.table.Table.{Table}
+use Rattle.std.proofs.Common.{◌≡◌, ℕ, suc, ◌+◌, List, [], ◌∷◌, ◌++◌, Bool, true, false, nat_lt, if◌then◌else◌, refl, sym, ◌∙◌, ap, append-nil, append_assoc}
+use Rattle.preconv_converter.specs.declared.target.Target.{Target}
 use Rattle.preconv_converter.specs.declared.said.Said.{Said}
 use Rattle.preconv_converter.specs.declared.said.Said.TheVariants as says
 use Rattle.preconv_converter.specs.declared.half.Half.{Half}
@@ -134,12 +134,12 @@ in_rest (Rests h) = true
 in_rest (Stores h) = true
 in_rest p = false
 
-abbrev pub at : Option Table → Spot → Reader
+abbrev pub at : Target → Spot → Reader
 at t p = record { half = half_of p; pending = pendings.Nothing; table = t }
 
 -- ---- a byte is taken at once
 
-pub record Takes (P : Spot → Bool) (t : Option Table) (back : List ℕ) (b : ℕ) (m : Met) : Type 0 where
+pub record Takes (P : Spot → Bool) (t : Target) (back : List ℕ) (b : ℕ) (m : Met) : Type 0 where
   pub next : Spot
   pub there : P next ≡ true
   pub said : Said
@@ -149,7 +149,7 @@ pub record Takes (P : Spot → Bool) (t : Option Table) (back : List ℕ) (b : �
   pub all : back ++ b ∷ [] ≡ all_were pieces ++ held next
 
 -- it is met at most so often
-pub record Hears (P : Spot → Bool) (n : ℕ) (t : Option Table) (p : Spot) (b : ℕ) : Type 0 where
+pub record Hears (P : Spot → Bool) (n : ℕ) (t : Target) (p : Spot) (b : ℕ) : Type 0 where
   pub next : Spot
   pub there : P next ≡ true
   pub pieces : List Piece
@@ -157,7 +157,7 @@ pub record Hears (P : Spot → Bool) (n : ℕ) (t : Option Table) (p : Spot) (b 
   pub heard : heard_in n (comings.Byte b) (at t p) ≡ told (at t next) (all_become t pieces) steps
   pub all : held p ++ b ∷ [] ≡ all_were pieces ++ held next
 
-pub hears_taken : (P : Spot → Bool) (n : ℕ) (t : Option Table) (p : Spot) (b : ℕ) → Takes P t (held p) b (meet (comings.Byte b) (half_of p)) → Hears P (suc n) t p b
+pub hears_taken : (P : Spot → Bool) (n : ℕ) (t : Target) (p : Spot) (b : ℕ) → Takes P t (held p) b (meet (comings.Byte b) (half_of p)) → Hears P (suc n) t p b
 hears_taken P n t p b k =
     let c = comings.Byte b in
     record {
@@ -171,7 +171,7 @@ hears_taken P n t p b k =
       all = k.all;
     }
 
-pub all_become-append : (t : Option Table) (ps qs : List Piece) → all_become t (ps ++ qs) ≡ all_become t ps ++ all_become t qs
+pub all_become-append : (t : Target) (ps qs : List Piece) → all_become t (ps ++ qs) ≡ all_become t ps ++ all_become t qs
 all_become-append t [] qs = refl
 all_become-append t (p ∷ ps) qs = ap (λ (xs : List ℕ). becomes t p ++ xs) (all_become-append t ps qs) ∙ sym (append_assoc (becomes t p) (all_become t ps) (all_become t qs))
 
@@ -180,7 +180,7 @@ all_were-append [] qs = refl
 all_were-append (p ∷ ps) qs = ap (λ (xs : List ℕ). was p ++ xs) (all_were-append ps qs) ∙ sym (append_assoc (was p) (all_were ps) (all_were qs))
 
 -- what is held goes out, and then it is met again
-pub hears_left : (P : Spot → Bool) (n : ℕ) (t : Option Table) (p q : Spot) (b : ℕ) (said : Said) (ps : List Piece)
+pub hears_left : (P : Spot → Bool) (n : ℕ) (t : Target) (p q : Spot) (b : ℕ) (said : Said) (ps : List Piece)
     → meet (comings.Byte b) (half_of p) ≡ left said (half_of q) → bytes_of t said ≡ all_become t ps → held p ≡ all_were ps ++ held q
     → Hears P n t q b → Hears P (suc n) t p b
 hears_left P n t p q b said ps met out all k =
@@ -204,7 +204,7 @@ hears_left P n t p q b said ps met out all k =
     }
 
 -- something goes out, and then it is taken
-pub hears_twice : (P : Spot → Bool) (n : ℕ) (t : Option Table) (p q next : Spot) (b : ℕ) (said second : Said) (ps : List Piece) → P next ≡ true
+pub hears_twice : (P : Spot → Bool) (n : ℕ) (t : Target) (p q next : Spot) (b : ℕ) (said second : Said) (ps : List Piece) → P next ≡ true
     → meet (comings.Byte b) (half_of p) ≡ left said (half_of q) → meet (comings.Byte b) (half_of q) ≡ taken second (half_of next)
     → bytes_of t said ++ bytes_of t second ≡ all_become t ps → held p ++ b ∷ [] ≡ all_were ps ++ held next → Hears P (suc (suc n)) t p b
 hears_twice P n t p q next b said second ps there one two out all =
@@ -224,7 +224,7 @@ hears_twice P n t p q next b said second ps there one two out all =
 
 -- ---- bytes are read one after another
 
-pub record Reads (P : Spot → Bool) (t : Option Table) (p : Spot) (bytes : List ℕ) : Type 0 where
+pub record Reads (P : Spot → Bool) (t : Target) (p : Spot) (bytes : List ℕ) : Type 0 where
   pub next : Spot
   pub there : P next ≡ true
   pub pieces : List Piece
@@ -265,7 +265,7 @@ no_raw (TurnBegins w h) = refl
 no_raw (Turns w h) = refl
 no_raw (Names name h) = refl
 
-pub byte_read : (t : Option Table) (p : Spot) (b : ℕ) → nat_lt b 127 ≡ true → read b (at t p) ≡ heard_in 6 (comings.Byte b) (at t p)
+pub byte_read : (t : Target) (p : Spot) (b : ℕ) → nat_lt b 127 ≡ true → read b (at t p) ≡ heard_in 6 (comings.Byte b) (at t p)
 unfolding heard
 byte_read t p b ascii =
     let r = at t p in
@@ -273,10 +273,10 @@ byte_read t p b ascii =
     ∙ ap (λ (x : Bool). behind [] 0 (if x then heard (comings.Byte b) r else (if is_lead b then told (pending_with (pendings.One b) r) [] 0 else stray b r))) ascii
     ∙ behind-none (heard_in 6 (comings.Byte b) r)
 
-pub reads_none : (P : Spot → Bool) (t : Option Table) (p : Spot) → P p ≡ true → Reads P t p []
+pub reads_none : (P : Spot → Bool) (t : Target) (p : Spot) → P p ≡ true → Reads P t p []
 reads_none P t p there = record { next = p; there = there; pieces = []; steps = 0; read = refl; all = append-nil (held p) }
 
-pub reads_byte : (P Q : Spot → Bool) (t : Option Table) (p : Spot) (b : ℕ) (bs : List ℕ) → nat_lt b 127 ≡ true → Hears Q 6 t p b
+pub reads_byte : (P Q : Spot → Bool) (t : Target) (p : Spot) (b : ℕ) (bs : List ℕ) → nat_lt b 127 ≡ true → Hears Q 6 t p b
     → ((q : Spot) → Q q ≡ true → Reads P t q bs) → Reads P t p (b ∷ bs)
 reads_byte P Q t p b bs ascii k more =
     let m = more k.next k.there in
@@ -298,7 +298,7 @@ reads_byte P Q t p b bs ascii k more =
           ∙ ap (λ (xs : List ℕ). xs ++ held m.next) (sym (all_were-append k.pieces m.pieces));
     }
 
-pub reads_both : (P Q : Spot → Bool) (t : Option Table) (p : Spot) (xs ys : List ℕ) → Reads Q t p xs
+pub reads_both : (P Q : Spot → Bool) (t : Target) (p : Spot) (xs ys : List ℕ) → Reads Q t p xs
     → ((q : Spot) → Q q ≡ true → Reads P t q ys) → Reads P t p (xs ++ ys)
 reads_both P Q t p xs ys k more =
     let m = more k.next k.there in
@@ -323,11 +323,11 @@ reads_both P Q t p xs ys k more =
 
 -- ---- with nothing said
 
-pub named : (t : Option Table) (p q : Spot) (b : ℕ) → nat_lt b 127 ≡ true → meet (comings.Byte b) (half_of p) ≡ taken says.Nothing (half_of q) → fed (at t p) (b ∷ []) ≡ told (at t q) [] 1
+pub named : (t : Target) (p q : Spot) (b : ℕ) → nat_lt b 127 ≡ true → meet (comings.Byte b) (half_of p) ≡ taken says.Nothing (half_of q) → fed (at t p) (b ∷ []) ≡ told (at t q) [] 1
 named t p q b ascii met =
     ap (λ (u : Told). then_told u (λ s. told s [] 0)) (byte_read t p b ascii ∙ ap (λ (m : Met). behind (bytes_of t m.said) 1 (if m.takes then told (record (at t p) { half = m.half }) [] 0 else heard_in 5 (comings.Byte b) (record (at t p) { half = m.half }))) met)
 
-pub reads_exact : (P : Spot → Bool) (t : Option Table) (p q : Spot) (xs ys : List ℕ) (n : ℕ) → fed (at t p) xs ≡ told (at t q) [] n → held p ++ xs ≡ held q → Reads P t q ys → Reads P t p (xs ++ ys)
+pub reads_exact : (P : Spot → Bool) (t : Target) (p q : Spot) (xs ys : List ℕ) (n : ℕ) → fed (at t p) xs ≡ told (at t q) [] n → held p ++ xs ≡ held q → Reads P t q ys → Reads P t p (xs ++ ys)
 reads_exact P t p q xs ys n one back m =
     record {
       next = m.next;

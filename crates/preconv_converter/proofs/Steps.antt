@@ -1,6 +1,6 @@
 -- How many steps bytes take.
 use Rattle.std.proofs.Common.{◌≡◌, ℕ, zero, suc, ◌+◌, ◌*◌, ◌≤◌, List, [], ◌∷◌, length, Bool, true, false, nat_lt, if◌then◌else◌, Option, refl, ◌∙◌, ap, arith}
-use Rattle.utf8_characters.specs.declared.table.Table.{Table}
+use Rattle.preconv_converter.specs.declared.target.Target.{Target}
 use Rattle.preconv_converter.specs.declared.half.Coming.{Coming}
 use Rattle.preconv_converter.specs.declared.half.Coming.TheVariants.{Byte, Wide}
 use Rattle.preconv_converter.specs.declared.reader.Reader.{Reader}
@@ -127,10 +127,10 @@ fed-paid (b ∷ bs) r =
     let one = (read-pays b r).enough in
     let more = fed-paid bs t.reader in omega (arith, one, more)
 
-pub fed_quick : (e : Option Table) (bs : List ℕ) → (fed (first_reader e) bs).steps ≤ 6 * length bs
+pub fed_quick : (e : Target) (bs : List ℕ) → (fed (first_reader e) bs).steps ≤ 6 * length bs
 fed_quick e bs = let all = fed-paid bs (first_reader e) in omega (arith, all)
 
-pub steps_of_quick : (e : Option Table) (bs : List ℕ) → steps_of e bs ≤ 6 * length bs
+pub steps_of_quick : (e : Target) (bs : List ℕ) → steps_of e bs ≤ 6 * length bs
 steps_of_quick e bs =
     let all = fed-paid bs (first_reader e) in
     let r = (fed (first_reader e) bs).reader in

@@ -1,9 +1,9 @@
 -- A text line goes out piece by piece.
 use Prim.Native.Char.{code}
-use Rattle.std.proofs.Common.{◌≡◌, ℕ, suc, List, [], ◌∷◌, ◌++◌, Bool, true, false, not, ◌==◌, ◌&&◌, ◌||◌, nat_lt, if◌then◌else◌, Option, refl, sym, ◌∙◌, ap, subst, arith}
+use Rattle.std.proofs.Common.{◌≡◌, ℕ, suc, List, [], ◌∷◌, ◌++◌, Bool, true, false, not, ◌==◌, ◌&&◌, ◌||◌, nat_lt, if◌then◌else◌, refl, sym, ◌∙◌, ap, subst, arith}
 use Rattle.std.specs.Prelude.{codes}
 use Rattle.std.proofs.lemmas.Bool.Decides.{nat_tests}
-use Rattle.utf8_characters.specs.declared.table.Table.{Table}
+use Rattle.preconv_converter.specs.declared.target.Target.{Target}
 use Rattle.preconv_converter.specs.declared.said.Said.{Said}
 use Rattle.preconv_converter.specs.declared.said.Said.TheVariants as says
 use Rattle.preconv_converter.specs.declared.half.Half.{Half}
@@ -53,7 +53,7 @@ text_is b p =
 pub same_byte : (a b : ℕ) → (a == b) ≡ true → a ≡ b
 same_byte a b e = grind (arith, nat_tests)
 
-pub byte_goes : (t : Option Table) (b : ℕ) → nat_lt b 127 ≡ true → bytes_of t (says.Byte b) ≡ all_become t (Same b ∷ [])
+pub byte_goes : (t : Target) (b : ℕ) → nat_lt b 127 ≡ true → bytes_of t (says.Byte b) ≡ all_become t (Same b ∷ [])
 byte_goes t b ascii = ap (λ (x : ℕ). x ∷ []) (sent_is t b (ascii-goes t b ascii))
 
 -- ---- a byte that goes out as it is
@@ -77,14 +77,14 @@ pub record IsFlow (P : Spot → Bool) (f : Flow) : Type 0 where
 text_flow : IsFlow in_text Text
 text_flow = record { flows = λ h. refl; holds = λ h. refl }
 
-whole_takes : (x : Bool) (P : Spot → Bool) (f : Flow) (t : Option Table) (h : Half) → IsFlow P f
+whole_takes : (x : Bool) (P : Spot → Bool) (f : Flow) (t : Target) (h : Half) → IsFlow P f
     → Takes P t [] (code "-") (if x then taken (says.Escape (code "-")) (record (open_half (line_in f) h) { before = befores.Character marks.Other }) else taken says.Nothing (held_half (line_in f) (record h { before = befores.Character marks.Other })))
 whole_takes true P f t h is =
     record { next = Flows f (record h { before = befores.Character marks.Other }); there = is.flows _; said = says.Escape (code "-"); pieces = Hyphen ∷ []; met = refl; out = refl; all = refl }
 whole_takes false P f t h is =
     record { next = Holds f (record h { before = befores.Character marks.Other }); there = is.holds _; said = says.Nothing; pieces = []; met = refl; out = refl; all = refl }
 
-pub hyphen_takes : (before : Before) (P : Spot → Bool) (f : Flow) (t : Option Table) (h : Half) → IsFlow P f → Takes P t [] (code "-") (hyphen_by before (open_half (line_in f) h))
+pub hyphen_takes : (before : Before) (P : Spot → Bool) (f : Flow) (t : Target) (h : Half) → IsFlow P f → Takes P t [] (code "-") (hyphen_by before (open_half (line_in f) h))
 hyphen_takes (befores.Character marks.Letter) P f t h is = whole_takes (is_whole h.tag) P f t h is
 hyphen_takes (befores.Character marks.Backslash) P f t h is =
     record { next = Flows f (record h { before = befores.Character marks.Other }); there = is.flows _; said = says.Byte (code "-"); pieces = Same (code "-") ∷ []; met = refl; out = refl; all = refl }
@@ -95,19 +95,19 @@ hyphen_takes befores.Argument P f t h is =
 
 -- ---- a byte in a text line
 
-pub same_takes : (P : Spot → Bool) (t : Option Table) (b : ℕ) (next : Spot) (m : Met) → P next ≡ true → nat_lt b 127 ≡ true → m ≡ taken (says.Byte b) (half_of next) → held next ≡ []
+pub same_takes : (P : Spot → Bool) (t : Target) (b : ℕ) (next : Spot) (m : Met) → P next ≡ true → nat_lt b 127 ≡ true → m ≡ taken (says.Byte b) (half_of next) → held next ≡ []
     → Takes P t [] b m
 same_takes P t b next m there ascii met none =
     record { next = next; there = there; said = says.Byte b; pieces = Same b ∷ []; met = met; out = byte_goes t b ascii; all = ap (λ (xs : List ℕ). b ∷ xs) (sym none) }
 
-either_takes : (x y : Bool) (t : Option Table) (l : Line) (b : ℕ) (h : Half) → IsText b → (b == code "-") ≡ y
+either_takes : (x y : Bool) (t : Target) (l : Line) (b : ℕ) (h : Half) → IsText b → (b == code "-") ≡ y
     → Takes in_text t [] b (if x && y then hyphen lines.Text (open_half l h) else saying b lines.Text (open_half l h))
 either_takes true true t l b h is e =
     subst (λ (c : ℕ). Takes in_text t [] c (hyphen_by h.before (open_half lines.Text h))) (sym (same_byte b (code "-") e)) (hyphen_takes h.before in_text Text t h text_flow)
 either_takes true false t l b h is e = same_takes in_text t b (Flows Text (placed (mark_of b) h)) _ refl is.ascii (saying_is b lines.Text l h is.newline) refl
 either_takes false y t l b h is e = same_takes in_text t b (Flows Text (placed (mark_of b) h)) _ refl is.ascii (saying_is b lines.Text l h is.newline) refl
 
-pub takes_as : (P : Spot → Bool) (t : Option Table) (back : List ℕ) (b : ℕ) (m n : Met) → m ≡ n → Takes P t back b n → Takes P t back b m
+pub takes_as : (P : Spot → Bool) (t : Target) (back : List ℕ) (b : ℕ) (m n : Met) → m ≡ n → Takes P t back b n → Takes P t back b m
 takes_as P t back b m n e k =
     record { next = k.next; there = k.there; said = k.said; pieces = k.pieces; met = e ∙ k.met; out = k.out; all = k.all }
 
@@ -115,28 +115,28 @@ in_text_met : (b : ℕ) (l : Line) (h : Half) → IsText b
     → text_met b (open_half l h) ≡ (if turns_hyphens h && (b == code "-") then hyphen lines.Text (open_half l h) else saying b lines.Text (open_half l h))
 in_text_met b l h is = rw (is.return, is.newline) refl
 
-text_takes : (t : Option Table) (l : Line) (b : ℕ) (h : Half) → IsText b → Takes in_text t [] b (text_met b (open_half l h))
+text_takes : (t : Target) (l : Line) (b : ℕ) (h : Half) → IsText b → Takes in_text t [] b (text_met b (open_half l h))
 text_takes t l b h is = takes_as in_text t [] b _ _ (in_text_met b l h is) (either_takes (turns_hyphens h) (b == code "-") t l b h is refl)
 
 text_meets : (b : ℕ) (h : Half) → IsText b → meet (comings.Byte b) (open_half lines.Text h) ≡ text_met b (open_half lines.Text h)
 text_meets b h is = rw is.backslash refl
 
-pub text_hears : (n : ℕ) (t : Option Table) (b : ℕ) (h : Half) → IsText b → Hears in_text (suc n) t (Flows Text h) b
+pub text_hears : (n : ℕ) (t : Target) (b : ℕ) (h : Half) → IsText b → Hears in_text (suc n) t (Flows Text h) b
 text_hears n t b h is = hears_taken in_text n t (Flows Text h) b (takes_as in_text t [] b _ _ (text_meets b h is) (text_takes t lines.Text b h is))
 
 -- its newline
-ended_takes : (x : Bool) (t : Option Table) (l : Line) (h : Half)
+ended_takes : (x : Bool) (t : Target) (l : Line) (h : Half)
     → Takes begins t [] (code "\n") (if x then newline_held (open_half l h) else saying (code "\n") lines.Start (open_half l h))
 ended_takes true t l h =
     record { next = Closes (record h { before = befores.Character marks.Other; tag = next_line h.tag }); there = refl; said = says.Nothing; pieces = []; met = refl; out = refl; all = refl }
 ended_takes false t l h =
     record { next = Starts (record h { before = befores.Character marks.Other; tag = next_line h.tag }); there = refl; said = says.Byte (code "\n"); pieces = Same (code "\n") ∷ []; met = refl; out = refl; all = refl }
 
-pub newline_hears : (n : ℕ) (t : Option Table) (h : Half) → Hears begins (suc n) t (Flows Text h) (code "\n")
+pub newline_hears : (n : ℕ) (t : Target) (h : Half) → Hears begins (suc n) t (Flows Text h) (code "\n")
 newline_hears n t h = hears_taken begins n t (Flows Text h) (code "\n") (ended_takes (closes h) t lines.Text h)
 
 -- where nothing but fonts was read a blank is printed
-faces_by : (x : Bool) (n : ℕ) (t : Option Table) (b : ℕ) (h : Half) → IsText b → ((b == code " ") && not h.table) ≡ x → Hears in_text (suc (suc n)) t (Flows Faces h) b
+faces_by : (x : Bool) (n : ℕ) (t : Target) (b : ℕ) (h : Half) → IsText b → ((b == code " ") && not h.table) ≡ x → Hears in_text (suc (suc n)) t (Flows Faces h) b
 faces_by true n t b h is e =
     hears_left in_text (suc n) t (Flows Faces h) (Flows Text h) b (says.Escape (code "&")) (Printed ∷ [])
     (ap (λ (x : Bool). if x && true then beginning (open_half lines.Fonts h) else after_fonts b (open_half lines.Fonts h)) is.backslash
@@ -148,10 +148,10 @@ faces_by false n t b h is e =
     ∙ ap (λ (x : Bool). if x then left (says.Escape (code "&")) (open_half lines.Text h) else text_met b (open_half lines.Fonts h)) e)
     (text_takes t lines.Fonts b h is))
 
-pub faces_hears : (n : ℕ) (t : Option Table) (b : ℕ) (h : Half) → IsText b → Hears in_text (suc (suc n)) t (Flows Faces h) b
+pub faces_hears : (n : ℕ) (t : Target) (b : ℕ) (h : Half) → IsText b → Hears in_text (suc (suc n)) t (Flows Faces h) b
 faces_hears n t b h is = faces_by ((b == code " ") && not h.table) n t b h is refl
 
-pub faces_newline : (n : ℕ) (t : Option Table) (h : Half) → Hears begins (suc n) t (Flows Faces h) (code "\n")
+pub faces_newline : (n : ℕ) (t : Target) (h : Half) → Hears begins (suc n) t (Flows Faces h) (code "\n")
 faces_newline n t h = hears_taken begins n t (Flows Faces h) (code "\n") (ended_takes (closes h) t lines.Fonts h)
 
 -- ---- after a hyphen that is held back
@@ -175,7 +175,7 @@ held_left true (Among place w) h k = refl
 held_left true Faces h k = absurd (let no : false ≡ true = k in cc)
 held_left false f h k = refl
 
-hyphen_out : (x : Bool) (t : Option Table) → bytes_of t (hyphen_said x) ≡ all_become t (hyphen_pieces x)
+hyphen_out : (x : Bool) (t : Target) → bytes_of t (hyphen_said x) ≡ all_become t (hyphen_pieces x)
 unfolding hyphen_said hyphen_pieces
 hyphen_out true t = refl
 hyphen_out false t = refl
@@ -185,7 +185,7 @@ unfolding hyphen_pieces
 hyphen_all true = refl
 hyphen_all false = refl
 
-pub held_hears : (P : Spot → Bool) (n : ℕ) (t : Option Table) (b : ℕ) (f : Flow) (h : Half) → keeps f ≡ true → ((k : Half) → Hears P n t (Flows f k) b) → Hears P (suc n) t (Holds f h) b
+pub held_hears : (P : Spot → Bool) (n : ℕ) (t : Target) (b : ℕ) (f : Flow) (h : Half) → keeps f ≡ true → ((k : Half) → Hears P n t (Flows f k) b) → Hears P (suc n) t (Holds f h) b
 held_hears P n t b f h may more =
     let x = is_ascii_letter b || (b == code "\\") in
     hears_left P n t (Holds f h) (Flows f (record h { spelled = [] })) b (hyphen_said x) (hyphen_pieces x) (held_left x f h may) (hyphen_out x t) (hyphen_all x) (more _)
@@ -231,7 +231,7 @@ blank_is : (b : ℕ) (x : Bool) → IsText b → (x && begins_apart b) ≡ true 
 blank_is b x is p =
     sym (ap (λ (y : Bool). y || (b == code " ")) is.newline) ∙ and-second x (begins_apart b) p
 
-start_by : (n : ℕ) (t : Option Table) (b : ℕ) (h : Half) → IsText b → is_control b ≡ false → (x : Bool) → (follows_tag h && begins_apart b) ≡ x → Hears in_text (suc (suc n)) t (Starts h) b
+start_by : (n : ℕ) (t : Target) (b : ℕ) (h : Half) → IsText b → is_control b ≡ false → (x : Bool) → (follows_tag h && begins_apart b) ≡ x → Hears in_text (suc (suc n)) t (Starts h) b
 unfolding below
 start_by n t b h is control false apart =
     hears_taken in_text (suc n) t (Starts h) b (takes_as in_text t [] b _ _ (start_met b h is control apart) (text_takes t lines.Start b h is))
@@ -242,11 +242,11 @@ start_by n t b h is control true apart =
     (blank_broken h (subst (λ (c : ℕ). (follows_tag h && begins_apart c) ≡ true) e apart))
     (blank_taken (record h { tag = tags.Nowhere }) (no_longer (turns_hyphens h) (begins_apart (code " ")))) refl refl)
 
-pub start_hears : (n : ℕ) (t : Option Table) (b : ℕ) (h : Half) → IsText b → is_control b ≡ false → Hears in_text (suc (suc n)) t (Starts h) b
+pub start_hears : (n : ℕ) (t : Target) (b : ℕ) (h : Half) → IsText b → is_control b ≡ false → Hears in_text (suc (suc n)) t (Starts h) b
 start_hears n t b h is control = start_by n t b h is control (follows_tag h && begins_apart b) refl
 
 -- an empty line
-empty_by : (x : Bool) (n : ℕ) (t : Option Table) (h : Half) → follows_tag h ≡ x → Hears begins (suc (suc n)) t (Starts h) (code "\n")
+empty_by : (x : Bool) (n : ℕ) (t : Target) (h : Half) → follows_tag h ≡ x → Hears begins (suc (suc n)) t (Starts h) (code "\n")
 unfolding below
 empty_by true n t h e =
     let k : Half = record h { tag = tags.Nowhere } in
@@ -258,7 +258,7 @@ empty_by false n t h e =
     (same_takes begins t (code "\n") (Starts (record h { before = befores.Character marks.Other; tag = next_line h.tag })) _ refl refl
     (ap (λ (x : Bool). if x && true then breaking (code "\n") (open_half lines.Start h) else saying (code "\n") lines.Start (open_half lines.Start h)) e) refl)
 
-pub empty_hears : (n : ℕ) (t : Option Table) (h : Half) → Hears begins (suc (suc n)) t (Starts h) (code "\n")
+pub empty_hears : (n : ℕ) (t : Target) (h : Half) → Hears begins (suc (suc n)) t (Starts h) (code "\n")
 empty_hears n t h = empty_by (follows_tag h) n t h refl
 
 -- ---- after the newline of a sentence that something closed
@@ -269,7 +269,7 @@ end_said x = says.Kept (if x then code "\n" ∷ [] else codes "\\*(.\\n(.u\n")
 end_pieces : Bool → List Piece
 end_pieces x = if x then Same (code "\n") ∷ [] else SentenceEnd ∷ []
 
-end_out : (x : Bool) (t : Option Table) → bytes_of t (end_said x) ≡ all_become t (end_pieces x)
+end_out : (x : Bool) (t : Target) → bytes_of t (end_said x) ≡ all_become t (end_pieces x)
 unfolding end_said end_pieces
 end_out true t = refl
 end_out false t = refl
@@ -284,7 +284,7 @@ unfolding end_said
 end_met b h = refl
 
 -- where a line begins
-pub line_hears : (P : Spot → Bool) (n : ℕ) (t : Option Table) (b : ℕ) → ((h : Half) → Hears P (suc n) t (Starts h) b) → ((h : Half) → Hears P n t (Starts h) b) → (p : Spot) → begins p ≡ true → Hears P (suc n) t p b
+pub line_hears : (P : Spot → Bool) (n : ℕ) (t : Target) (b : ℕ) → ((h : Half) → Hears P (suc n) t (Starts h) b) → ((h : Half) → Hears P n t (Starts h) b) → (p : Spot) → begins p ≡ true → Hears P (suc n) t p b
 line_hears P n t b more less (Starts h) there = more h
 line_hears P n t b more less (Closes h) there =
     let x = (b == code " ") || (b == code "\n") in

@@ -7,7 +7,7 @@ use Rattle.nr_units.specs.Sink.{AppendsFront}
 use Rattle.nr_units.specs.Source.{Supply, Gives, Offers, Skips, skipped}
 use Rattle.nr_units.specs.declared.source.Fault.{Fault}
 use Rattle.nr_units.proofs.Fronts.{AppendsFront-append, AppendsFront-after}
-use Rattle.utf8_characters.specs.declared.table.Table.{Table}
+use Rattle.preconv_converter.specs.declared.target.Target.{Target}
 use Rattle.preconv_converter.specs.declared.reader.Reader.{Reader}
 use Rattle.preconv_converter.specs.declared.running.Outcome.{Outcome}
 use Rattle.preconv_converter.specs.declared.running.Outcome.TheVariants.{Done, ReadFault, TooLong, WriteFault}
@@ -85,7 +85,7 @@ Took-trans a b c r s u p q left n m i j f g =
 
 -- ---- a run goes on
 
-pub Stands-first : (e : Option Table) (a : Option Supply) (h : Option (List ℕ)) (p : List ℕ) (r : Reader)
+pub Stands-first : (e : Target) (a : Option Supply) (h : Option (List ℕ)) (p : List ℕ) (r : Reader)
     → r ≡ first_reader e → p ≡ [] → Stands e a a h h p r 0 0
 Stands-first e a h p r is none = record {
   bytes = [];
@@ -103,7 +103,7 @@ grown : (xs ys zs : List ℕ) (n : ℕ) → zs ≡ xs ++ ys → length zs ≤ le
 grown xs ys zs n e l =
     let lengths : length zs ≡ length xs + length ys = ap length e ∙ length-append xs ys in omega arith
 
-pub Stands-took : (e : Option Table) (a b c : Option Supply) (h k : Option (List ℕ)) (p left : List ℕ) (r s : Reader) (t n i j : ℕ)
+pub Stands-took : (e : Target) (a b c : Option Supply) (h k : Option (List ℕ)) (p left : List ℕ) (r s : Reader) (t n i j : ℕ)
     → Stands e a b h k p r t i → Took b c r s p left n j → length left ≤ length p + 1536 * n → Stands e a c h k left s (t + n) (i + j)
 Stands-took e a b c h k p left r s t n i j st w l =
     let before = fed (first_reader e) st.bytes in
@@ -128,7 +128,7 @@ Stands-took e a b c h k p left r s t n i j st w l =
       made = both_made st.made (w.made ∙ ap (λ (x : Told). x.steps) (sym here)) ∙ sym (fed-append_steps (first_reader e) st.bytes w.bytes);
     }
 
-pub Stands-flushed : (e : Option Table) (a b : Option Supply) (h k m : Option (List ℕ)) (p left : List ℕ) (r : Reader) (t i : ℕ)
+pub Stands-flushed : (e : Target) (a b : Option Supply) (h k m : Option (List ℕ)) (p left : List ℕ) (r : Reader) (t i : ℕ)
     → Stands e a b h k p r t i → Flushes k m p left → Stands e a b h m left r t i
 Stands-flushed e a b h k m p left r t i st f = record {
   bytes = st.bytes;
@@ -170,14 +170,14 @@ Took-byte a b byte r s pending left steps gives reader out made = record {
 
 -- ---- a run ends
 
-ended-all : (e : Option Table) (sent p left bytes : List ℕ) (r : Reader) → sent ++ p ≡ (fed (first_reader e) bytes).bytes
+ended-all : (e : Target) (sent p left bytes : List ℕ) (r : Reader) → sent ++ p ≡ (fed (first_reader e) bytes).bytes
     → r ≡ (fed (first_reader e) bytes).reader → left ≡ p ++ finished r → sent ++ left ≡ converted e bytes
 ended-all e sent p left bytes r all reader out =
     ap (λ (xs : List ℕ). sent ++ xs) out ∙ sym (append_assoc sent p (finished r))
     ∙ ap (λ (xs : List ℕ). xs ++ finished r) all
     ∙ ap (λ (x : Reader). (fed (first_reader e) bytes).bytes ++ finished x) reader
 
-converted-few : (e : Option Table) (bytes p left rest : List ℕ) (r : Reader) (t : ℕ) → length bytes ≡ t
+converted-few : (e : Target) (bytes p left rest : List ℕ) (r : Reader) (t : ℕ) → length bytes ≡ t
     → length (fed (first_reader e) bytes).bytes ≤ 1536 * t → r ≡ (fed (first_reader e) bytes).reader
     → left ≡ p ++ finished r → length left ≤ length p + 1536 → length (converted e bytes) ≤ 1536 * (length bytes + 1)
 converted-few e bytes p left rest r t count few reader out l =
@@ -187,12 +187,12 @@ converted-few e bytes p left rest r t count few reader out l =
     let same : length (finished after.reader) ≡ length (finished r) = ap (λ (x : Reader). length (finished x)) (sym reader) in
     let split : length left ≡ length p + length (finished r) = ap length out ∙ length-append p (finished r) in omega arith
 
-ended-made : (e : Option Table) (bytes : List ℕ) (r : Reader) (i j : ℕ) → i ≡ (fed (first_reader e) bytes).steps
+ended-made : (e : Target) (bytes : List ℕ) (r : Reader) (i j : ℕ) → i ≡ (fed (first_reader e) bytes).steps
     → r ≡ (fed (first_reader e) bytes).reader → j ≡ (pending_heard r).steps → i + j ≡ steps_of e bytes
 ended-made e bytes r i j made reader last =
     both_made made (last ∙ ap (λ (x : Reader). (pending_heard x).steps) reader)
 
-pub Ran-done : (e : Option Table) (a b c : Option Supply) (h k m : Option (List ℕ)) (p left : List ℕ) (r : Reader) (t i j : ℕ)
+pub Ran-done : (e : Target) (a b c : Option Supply) (h k m : Option (List ℕ)) (p left : List ℕ) (r : Reader) (t i j : ℕ)
     → Stands e a b h k p r t i → Comes b [] c × Ends b c × (left ≡ p ++ finished r) × (j ≡ (pending_heard r).steps)
     → length left ≤ length p + 1536 → (outcome : Outcome) → EndsAs Done outcome k m left → Ran e a c h m (i + j) outcome
 Ran-done e a b c h k m p left r t i j st turn l Done ends =
@@ -224,7 +224,7 @@ Ran-done e a b c h k m p left r t i j st turn l WriteFault ends =
     }
 
 -- what went out and what is pending, cut by a write fault
-Stands-broken : (e : Option Table) (a b c : Option Supply) (h k m : Option (List ℕ)) (p : List ℕ) (r : Reader) (t i : ℕ)
+Stands-broken : (e : Target) (a b c : Option Supply) (h k m : Option (List ℕ)) (p : List ℕ) (r : Reader) (t i : ℕ)
     → Stands e a b h k p r t i → Comes b [] c → AppendsFront k m p → IsBroken e a c h m i
 Stands-broken e a b c h k m p r t i st came front =
     let after = fed (first_reader e) st.bytes in
@@ -238,7 +238,7 @@ Stands-broken e a b c h k m p r t i st came front =
       quick = rw st.made (fed_quick e st.bytes);
     }
 
-Stands-cut : (e : Option Table) (a b c : Option Supply) (h k m : Option (List ℕ)) (p : List ℕ) (r : Reader) (t i : ℕ)
+Stands-cut : (e : Target) (a b c : Option Supply) (h k m : Option (List ℕ)) (p : List ℕ) (r : Reader) (t i : ℕ)
     → Stands e a b h k p r t i → Comes b [] c → Appends k m p → IsCut e a c h m t i
 Stands-cut e a b c h k m p r t i st came went =
     let P : List ℕ → Type 0 = λ xs. Appends h m xs in
@@ -252,11 +252,11 @@ Stands-cut e a b c h k m p r t i st came went =
       quick = rw st.made (fed_quick e st.bytes);
     }
 
-pub Ran-broken : (e : Option Table) (a b : Option Supply) (h k m : Option (List ℕ)) (p : List ℕ) (r : Reader) (t i : ℕ)
+pub Ran-broken : (e : Target) (a b : Option Supply) (h k m : Option (List ℕ)) (p : List ℕ) (r : Reader) (t i : ℕ)
     → Stands e a b h k p r t i → AppendsFront k m p → Ran e a b h m i WriteFault
 Ran-broken e a b h k m p r t i st front = Stands-broken e a b b h k m p r t i st (Comes-nil b) front
 
-ran-fault : (e : Option Table) (a b c : Option Supply) (h k m : Option (List ℕ)) (p : List ℕ) (r : Reader) (t i : ℕ)
+ran-fault : (e : Target) (a b c : Option Supply) (h k m : Option (List ℕ)) (p : List ℕ) (r : Reader) (t i : ℕ)
     → Stands e a b h k p r t i → Comes b [] c
     → (outcome : Outcome) → EndsAs (ReadFault t) outcome k m p → Ran e a c h m i outcome
 ran-fault e a b c h k m p r t i st came Done ends = absurd (let no : ReadFault t ≡ Done = ends.0 in cc)
@@ -268,14 +268,14 @@ ran-fault e a b c h k m p r t i st came (ReadFault at) ends =
 ran-fault e a b c h k m p r t i st came TooLong ends = absurd (let no : ReadFault t ≡ TooLong = ends.0 in cc)
 ran-fault e a b c h k m p r t i st came WriteFault ends = Stands-broken e a b c h k m p r t i st came ends
 
-pub Ran-fault : (e : Option Table) (a b c : Option Supply) (h k m : Option (List ℕ)) (p left : List ℕ) (r : Reader) (t i : ℕ)
+pub Ran-fault : (e : Target) (a b c : Option Supply) (h k m : Option (List ℕ)) (p left : List ℕ) (r : Reader) (t i : ℕ)
     → Stands e a b h k p r t i → Comes b [] c × (left ≡ p)
     → (outcome : Outcome) → EndsAs (ReadFault t) outcome k m left → Ran e a c h m i outcome
 Ran-fault e a b c h k m p left r t i st turn outcome ends =
     let P : List ℕ → Type 0 = λ xs. EndsAs (ReadFault t) outcome k m xs in
     ran-fault e a b c h k m p r t i st turn.0 outcome (subst P turn.1 ends)
 
-pub Ran-long : (e : Option Table) (a b : Option Supply) (h k m : Option (List ℕ)) (p : List ℕ) (r : Reader) (t i : ℕ)
+pub Ran-long : (e : Target) (a b : Option Supply) (h k m : Option (List ℕ)) (p : List ℕ) (r : Reader) (t i : ℕ)
     → t ≡ 1099511627776 → Stands e a b h k p r t i
     → (outcome : Outcome) → EndsAs TooLong outcome k m p → Ran e a b h m i outcome
 Ran-long e a b h k m p r t i n st Done ends = absurd (let no : TooLong ≡ Done = ends.0 in cc)

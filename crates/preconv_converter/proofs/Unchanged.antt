@@ -2,7 +2,7 @@
 use Prim.Native.Char.{code}
 use Rattle.std.proofs.Common.{◌≡◌, ℕ, suc, ◌+◌, ◌≤◌, List, [], ◌∷◌, ◌++◌, length, drop, Bool, true, false, not, ◌==◌, ◌&&◌, ◌||◌, nat_lt, if◌then◌else◌, Option, refl, sym, ◌∙◌, ap, append-nil, arith}
 use Rattle.std.proofs.lemmas.List.{drop_all}
-use Rattle.utf8_characters.specs.declared.table.Table.{Table}
+use Rattle.preconv_converter.specs.declared.target.Target.{Target}
 use Rattle.preconv_converter.specs.declared.half.Half.{Half}
 use Rattle.preconv_converter.specs.declared.half.Line.{Line}
 use Rattle.preconv_converter.specs.declared.half.Line.TheVariants as lines
@@ -25,7 +25,7 @@ use Rattle.preconv_converter.proofs.Plain.{and-first, and-second, is_not, heard_
 half_at : Bool → Half
 half_at starts = record first_half { line = if starts then lines.Start else lines.Text }
 
-reader_at : Option Table → Bool → Reader
+reader_at : Target → Bool → Reader
 reader_at e starts = record { half = half_at starts; pending = pendings.Nothing; table = e }
 
 said_as : Bool → ℕ → Line → Half → Met
@@ -75,7 +75,7 @@ goes_meets starts b g =
     let last = is_not (starts && is_control b) (and-second (may_pass b && not (b == code "\\")) (not (starts && is_control b)) g) in
     meets_by starts b back return_no last
 
-read_going : (e : Option Table) (starts : Bool) (b : ℕ) → goes_on starts b ≡ true → fresh b (reader_at e starts) ≡ told (reader_at e (b == code "\n")) (b ∷ []) 1
+read_going : (e : Target) (starts : Bool) (b : ℕ) → goes_on starts b ≡ true → fresh b (reader_at e starts) ≡ told (reader_at e (b == code "\n")) (b ∷ []) 1
 unfolding reader_at
 read_going e starts b g =
     let passes : may_pass b ≡ true = and-first (may_pass b) (not (b == code "\\")) (and-first (may_pass b && not (b == code "\\")) (not (starts && is_control b)) g) in
@@ -84,7 +84,7 @@ read_going e starts b g =
     ap (λ (x : Bool). if x then heard (comings.Byte b) r else (if is_lead b then told (pending_with (pendings.One b) r) [] 0 else stray b r)) ascii
     ∙ heard_byte_taken b r (half_at (b == code "\n")) ascii (goes_meets starts b g)
 
-read_on : (e : Option Table) (starts : Bool) (b : ℕ) → goes_on starts b ≡ true → read b (reader_at e starts) ≡ told (reader_at e (b == code "\n")) (b ∷ []) 1
+read_on : (e : Target) (starts : Bool) (b : ℕ) → goes_on starts b ≡ true → read b (reader_at e starts) ≡ told (reader_at e (b == code "\n")) (b ∷ []) 1
 unfolding reader_at half_at
 read_on e true b g = ap (behind [] 0) (read_going e true b g)
 read_on e false b g = ap (behind [] 0) (read_going e false b g)
@@ -97,7 +97,7 @@ ends starts (b ∷ bs) = ends (b == code "\n") bs
 one_before : (n : ℕ) → 1 + n ≡ suc n
 one_before n = omega arith
 
-fed_on : (e : Option Table) (starts : Bool) (bs : List ℕ) → is_plain_from starts bs ≡ true → fed (reader_at e starts) bs ≡ told (reader_at e (ends starts bs)) bs (length bs)
+fed_on : (e : Target) (starts : Bool) (bs : List ℕ) → is_plain_from starts bs ≡ true → fed (reader_at e starts) bs ≡ told (reader_at e (ends starts bs)) bs (length bs)
 unfolding ends
 fed_on e starts [] p = refl
 fed_on e starts (b ∷ bs) p =
@@ -107,23 +107,23 @@ fed_on e starts (b ∷ bs) p =
     ∙ ap (behind (b ∷ []) 1) (fed_on e (b == code "\n") bs rest)
     ∙ told-eq _ _ _ _ _ _ refl refl (one_before (length bs))
 
-nothing_left : (e : Option Table) (starts : Bool) → finished (reader_at e starts) ≡ []
+nothing_left : (e : Target) (starts : Bool) → finished (reader_at e starts) ≡ []
 unfolding reader_at half_at
 nothing_left e true = refl
 nothing_left e false = refl
 
-first_is : (e : Option Table) → first_reader e ≡ reader_at e true
+first_is : (e : Target) → first_reader e ≡ reader_at e true
 unfolding reader_at half_at
 first_is e = refl
 
-pub plain_unchanged : (e : Option Table) (text : List ℕ) → is_plain_text text ≡ true → converted e text ≡ text
+pub plain_unchanged : (e : Target) (text : List ℕ) → is_plain_text text ≡ true → converted e text ≡ text
 plain_unchanged e text p =
     ap (λ (r : Reader). (fed r text).bytes ++ finished (fed r text).reader) (first_is e)
     ∙ ap (λ (t : Told). t.bytes ++ finished t.reader) (fed_on e true text p)
     ∙ ap (λ (xs : List ℕ). text ++ xs) (nothing_left e (ends true text))
     ∙ append-nil text
 
-no_steps_left : (e : Option Table) (starts : Bool) → (pending_heard (reader_at e starts)).steps ≡ 0
+no_steps_left : (e : Target) (starts : Bool) → (pending_heard (reader_at e starts)).steps ≡ 0
 unfolding reader_at half_at
 no_steps_left e true = refl
 no_steps_left e false = refl
@@ -132,7 +132,7 @@ none_added : (n : ℕ) → n + 0 ≡ n
 none_added n = omega arith
 
 -- one step for each byte
-pub plain_steps : (e : Option Table) (text : List ℕ) → is_plain_text text ≡ true → steps_of e text ≡ length text
+pub plain_steps : (e : Target) (text : List ℕ) → is_plain_text text ≡ true → steps_of e text ≡ length text
 plain_steps e text p =
     ap (λ (r : Reader). (fed r text).steps + (pending_heard (fed r text).reader).steps) (first_is e)
     ∙ ap (λ (t : Told). t.steps + (pending_heard t.reader).steps) (fed_on e true text p)

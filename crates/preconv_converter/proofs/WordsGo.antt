@@ -1,7 +1,7 @@
 -- The words of a font macro's line go out piece by piece.
 use Prim.Native.Char.{code}
-use Rattle.std.proofs.Common.{◌≡◌, ℕ, suc, ◌+◌, List, [], ◌∷◌, ◌++◌, Bool, true, false, not, ◌==◌, ◌&&◌, ◌||◌, nat_le, if◌then◌else◌, Option, refl, sym, ◌∙◌, ap, subst, append-nil}
-use Rattle.utf8_characters.specs.declared.table.Table.{Table}
+use Rattle.std.proofs.Common.{◌≡◌, ℕ, suc, ◌+◌, List, [], ◌∷◌, ◌++◌, Bool, true, false, not, ◌==◌, ◌&&◌, ◌||◌, nat_le, if◌then◌else◌, refl, sym, ◌∙◌, ap, subst, append-nil}
+use Rattle.preconv_converter.specs.declared.target.Target.{Target}
 use Rattle.preconv_converter.specs.declared.said.Said.{Said}
 use Rattle.preconv_converter.specs.declared.said.Said.TheVariants as says
 use Rattle.preconv_converter.specs.declared.half.Half.{Half}
@@ -108,12 +108,12 @@ inside_flow w = record { flows = λ h. refl; holds = λ h. refl }
 pub quoted_flow : (w : Words) → IsFlow in_quotes (Among places.Quoted w)
 quoted_flow w = record { flows = λ h. refl; holds = λ h. refl }
 
-sign_takes : (y : Bool) (P : Spot → Bool) (place : Place) (w : Words) (t : Option Table) (h : Half) → IsFlow P (Among place w)
+sign_takes : (y : Bool) (P : Spot → Bool) (place : Place) (w : Words) (t : Target) (h : Half) → IsFlow P (Among place w)
     → Takes P t [] (code "-") (if not y then taken (says.Byte (code "-")) (open_half (lines.Words (words_at place w)) h) else hyphen_by h.before (open_half (lines.Words (words_at place w)) h))
 sign_takes false P place w t h is = same_takes P t (code "-") (Flows (Among place w) h) _ (is.flows h) refl refl refl
 sign_takes true P place w t h is = hyphen_takes h.before P (Among place w) t h is
 
-goes_by : (x : Bool) (P : Spot → Bool) (place : Place) (w : Words) (t : Option Table) (b : ℕ) (h k : Half) (m : Met) → IsFlow P (Among place w) → IsText b → (x ≡ true → (b == code "-") ≡ true)
+goes_by : (x : Bool) (P : Spot → Bool) (place : Place) (w : Words) (t : Target) (b : ℕ) (h k : Half) (m : Met) → IsFlow P (Among place w) → IsText b → (x ≡ true → (b == code "-") ≡ true)
     → m ≡ taken (says.Byte b) (open_half (lines.Words (words_at place w)) k)
     → Takes P t [] b (if x then hyphen (lines.Words (words_at place w)) (open_half (lines.Words (words_at place w)) h) else m)
 goes_by true P place w t b h k m flow is dash met =
@@ -125,7 +125,7 @@ first_of : (x y z : Bool) → (x && y && z) ≡ true → x ≡ true
 first_of x y z p = and-first x y (and-first (x && y) z p)
 
 -- a byte goes on it
-goes_hears : (n : ℕ) (P : Spot → Bool) (place : Place) (w : Words) (t : Option Table) (b : ℕ) (h : Half) → IsFlow P (Among place w) → IsText b
+goes_hears : (n : ℕ) (P : Spot → Bool) (place : Place) (w : Words) (t : Target) (b : ℕ) (h : Half) → IsFlow P (Among place w) → IsText b
     → as_is (met_at place (class_of b) (says.Byte b) (words_at place w)) (placed (mark_of b) h) ≡ taken (says.Byte b) (open_half (lines.Words (words_at place w)) (placed (mark_of b) h))
     → Hears P (suc n) t (Flows (Among place w) h) b
 goes_hears n P place w t b h flow is met =
@@ -134,7 +134,7 @@ goes_hears n P place w t b h flow is met =
     hears_taken P n t (Flows (Among place w) h) b
     (takes_as P t [] b _ _ (word_met b v h is) (goes_by x P place w t b h (placed (mark_of b) h) _ flow is (first_of (b == code "-") (turns_hyphens h) (not (begins_word v))) met))
 
-pub inside_hears : (n : ℕ) (t : Option Table) (b : ℕ) (w : Words) (h : Half) → IsText b → class_of b ≡ Other → Hears inside (suc n) t (Flows (Among places.Inside w) h) b
+pub inside_hears : (n : ℕ) (t : Target) (b : ℕ) (w : Words) (h : Half) → IsText b → class_of b ≡ Other → Hears inside (suc n) t (Flows (Among places.Inside w) h) b
 inside_hears n t b w h is class =
     goes_hears n inside places.Inside w t b h (inside_flow w) is
     (ap (λ (c : Class). as_is (met_at places.Inside c (says.Byte b) (words_at places.Inside w)) (placed (mark_of b) h)) class)
@@ -144,7 +144,7 @@ quoted_met Space b w k e = refl
 quoted_met Other b w k e = refl
 quoted_met QuoteClass b w k e = absurd (let no : true ≡ false = e in cc)
 
-pub quoted_hears : (n : ℕ) (t : Option Table) (b : ℕ) (w : Words) (h : Half) → IsText b → is_quote (class_of b) ≡ false → Hears in_quotes (suc n) t (Flows (Among places.Quoted w) h) b
+pub quoted_hears : (n : ℕ) (t : Target) (b : ℕ) (w : Words) (h : Half) → IsText b → is_quote (class_of b) ≡ false → Hears in_quotes (suc n) t (Flows (Among places.Quoted w) h) b
 quoted_hears n t b w h is class =
     goes_hears n in_quotes places.Quoted w t b h (quoted_flow w) is (quoted_met (class_of b) b w (placed (mark_of b) h) class)
 
@@ -153,7 +153,7 @@ quoted_hears n t b w h is class =
 there_is : (w : Words) (f : Fonts) (x : Bool) → w.fonts ≡ f → is_ninth w ≡ x → turned_ninth w.fonts (is_ninth w) ≡ turned_ninth f x
 there_is w f x e i = rw (e, i) refl
 
-blank_takes : (f : Fonts) (x : Bool) (t : Option Table) (w : Words) (k : Half) → w.fonts ≡ f → is_ninth w ≡ x
+blank_takes : (f : Fonts) (x : Bool) (t : Target) (w : Words) (k : Half) → w.fonts ≡ f → is_ninth w ≡ x
     → Takes between t [] (code " ") (as_is (record { words = words_at places.Between w; said = blank_by f x (says.Byte (code " ")); takes = true }) k)
 blank_takes (fonts.Turn a b) true t w k e i =
     record { next = Turns w k; there = there_is w (fonts.Turn a b) true e i; said = says.Nothing; pieces = []; met = refl; out = refl; all = refl }
@@ -177,7 +177,7 @@ blank_met places.Inside w e = refl
 blank_met places.Closing w e = refl
 blank_met place w e = absurd (let no : false ≡ true = e in cc)
 
-pub blank_hears : (n : ℕ) (t : Option Table) (place : Place) (w : Words) (h : Half) → ends place ≡ true → Hears between (suc n) t (Flows (Among place w) h) (code " ")
+pub blank_hears : (n : ℕ) (t : Target) (place : Place) (w : Words) (h : Half) → ends place ≡ true → Hears between (suc n) t (Flows (Among place w) h) (code " ")
 blank_hears n t place w h e =
     let k = placed (mark_of (code " ")) h in
     hears_taken between n t (Flows (Among place w) h) (code " ")
@@ -189,11 +189,11 @@ blank_hears n t place w h e =
 
 pub record Begun (p : Spot) (w : Words) : Type 0 where
   pub next : Words
-  pub said : Option Table → Said
-  pub pieces : Option Table → List Piece
-  pub is : (t : Option Table) → begun (words_at places.Between w) ≡ record { words = words_at places.Begun next; said = said t; takes = false }
-  pub out : (t : Option Table) → bytes_of t (said t) ≡ all_become t (pieces t)
-  pub all : (t : Option Table) → held p ≡ all_were (pieces t)
+  pub said : Target → Said
+  pub pieces : Target → List Piece
+  pub is : (t : Target) → begun (words_at places.Between w) ≡ record { words = words_at places.Begun next; said = said t; takes = false }
+  pub out : (t : Target) → bytes_of t (said t) ≡ all_become t (pieces t)
+  pub all : (t : Target) → held p ≡ all_were (pieces t)
 
 after_nine : Words → Words
 after_nine w = record { fonts = w.fonts; count = 9; second = not w.second; place = places.Begun }
@@ -213,7 +213,7 @@ quote_said y = if y then says.Byte (code "\"") else says.Nothing
 quote_pieces : Bool → List Piece
 quote_pieces y = if y then Quote ∷ [] else []
 
-quote_out : (y : Bool) (t : Option Table) → bytes_of t (quote_said y) ≡ all_become t (quote_pieces y)
+quote_out : (y : Bool) (t : Target) → bytes_of t (quote_said y) ≡ all_become t (quote_pieces y)
 unfolding quote_said quote_pieces
 quote_out true t = refl
 quote_out false t = refl
@@ -276,7 +276,7 @@ begun_met QuoteClass said w e = refl
 begun_met Space said w e = absurd (let no : false ≡ true = e in cc)
 
 -- the first byte is met after what is said
-begin_by : (n : ℕ) (P : Spot → Bool) (t : Option Table) (b : ℕ) (p : Spot) (w : Words) (h : Half) → half_of p ≡ open_half (lines.Words (words_at places.Between w)) h → Begun p w → IsText b → opens_word (class_of b) ≡ true
+begin_by : (n : ℕ) (P : Spot → Bool) (t : Target) (b : ℕ) (p : Spot) (w : Words) (h : Half) → half_of p ≡ open_half (lines.Words (words_at places.Between w)) h → Begun p w → IsText b → opens_word (class_of b) ≡ true
     → ((v : Words) (k : Half) → Hears P n t (Flows (Among places.Begun v) k) b) → Hears P (suc n) t p b
 begin_by n P t b p w h there m is opens more =
     let k = placed (mark_of b) h in
@@ -286,14 +286,14 @@ begin_by n P t b p w h there m is opens more =
     ∙ ap (λ (told : WordsTold). as_is told k) (begun_met (class_of b) (says.Byte b) w opens ∙ m.is t))
     (m.out t) (m.all t ∙ sym (append-nil (all_were (m.pieces t)))) (more m.next k)
 
-begin_hears : (n : ℕ) (P : Spot → Bool) (t : Option Table) (b : ℕ) → IsText b → opens_word (class_of b) ≡ true
+begin_hears : (n : ℕ) (P : Spot → Bool) (t : Target) (b : ℕ) → IsText b → opens_word (class_of b) ≡ true
     → ((v : Words) (k : Half) → Hears P n t (Flows (Among places.Begun v) k) b) → (p : Spot) → between p ≡ true → Hears P (suc n) t p b
 begin_hears n P t b is opens more (Flows (Among places.Between w) h) there = begin_by n P t b _ w h refl (flow_begun (is_ninth w) w h refl there) is opens more
 begin_hears n P t b is opens more (Turns w h) there = begin_by n P t b _ w h refl (held_begun w.fonts (is_ninth w) w h refl refl there) is opens more
 begin_hears n P t b is opens more p there = absurd (let no : false ≡ true = there in cc)
 
 -- without quotes
-pub bare_hears : (t : Option Table) (b : ℕ) → IsText b → class_of b ≡ Other → (p : Spot) → between p ≡ true → Hears inside 6 t p b
+pub bare_hears : (t : Target) (b : ℕ) → IsText b → class_of b ≡ Other → (p : Spot) → between p ≡ true → Hears inside 6 t p b
 bare_hears t b is class =
     begin_hears 5 inside t b is (ap opens_word class) (λ v k.
     hears_left inside 4 t (Flows (Among places.Begun v) k) (Flows (Among places.Inside v) (placed (mark_of b) k)) b says.Nothing []
@@ -304,17 +304,17 @@ bare_hears t b is class =
 quote_text : IsText (code "\"")
 quote_text = record { ascii = refl; newline = refl; return = refl; backslash = refl }
 
-quote_by : (P : Spot → Bool) (x : Bool) (t : Option Table) (next : Spot) → P next ≡ true → held next ≡ []
+quote_by : (P : Spot → Bool) (x : Bool) (t : Target) (next : Spot) → P next ≡ true → held next ≡ []
     → Takes P t [] (code "\"") (taken (if x then says.Nothing else says.Byte (code "\"")) (half_of next))
 quote_by P true t next there none = record { next = next; there = there; said = says.Nothing; pieces = Unquote ∷ []; met = refl; out = refl; all = ap (λ (xs : List ℕ). code "\"" ∷ xs) (sym none) }
 quote_by P false t next there none = record { next = next; there = there; said = says.Byte (code "\""); pieces = Same (code "\"") ∷ []; met = refl; out = refl; all = ap (λ (xs : List ℕ). code "\"" ∷ xs) (sym none) }
 
-quote_takes : (x y : Bool) (t : Option Table) (v : Words) (k : Half)
+quote_takes : (x y : Bool) (t : Target) (v : Words) (k : Half)
     → Takes in_quotes t [] (code "\"") (as_is (record { words = words_at (if x then places.Opened else places.Quoted) v; said = if y then says.Nothing else says.Byte (code "\""); takes = true }) k)
 quote_takes true y t v k = quote_by in_quotes y t (Flows (Among places.Opened v) k) refl refl
 quote_takes false y t v k = quote_by in_quotes y t (Flows (Among places.Quoted v) k) refl refl
 
-pub first_quote : (t : Option Table) (p : Spot) → between p ≡ true → Hears in_quotes 6 t p (code "\"")
+pub first_quote : (t : Target) (p : Spot) → between p ≡ true → Hears in_quotes 6 t p (code "\"")
 first_quote t =
     begin_hears 5 in_quotes t (code "\"") quote_text refl (λ v k.
     hears_taken in_quotes 4 t (Flows (Among places.Begun v) k) (code "\"")
@@ -336,7 +336,7 @@ opened_met Space said w k = refl
 opened_met QuoteClass said w k = refl
 opened_met Other said w k = refl
 
-opened_out : (c : Class) (t : Option Table) → bytes_of t (opened_said c) ≡ all_become t (opened_pieces c)
+opened_out : (c : Class) (t : Target) → bytes_of t (opened_said c) ≡ all_become t (opened_pieces c)
 unfolding opened_said opened_pieces
 opened_out Space t = refl
 opened_out QuoteClass t = refl
@@ -348,27 +348,27 @@ opened_all Space = refl
 opened_all QuoteClass = refl
 opened_all Other = refl
 
-pub opened_hears : (P : Spot → Bool) (n : ℕ) (t : Option Table) (b : ℕ) (w : Words) (h : Half) → IsText b → ((k : Half) → Hears P n t (Flows (Among places.Quoted w) k) b) → Hears P (suc n) t (Flows (Among places.Opened w) h) b
+pub opened_hears : (P : Spot → Bool) (n : ℕ) (t : Target) (b : ℕ) (w : Words) (h : Half) → IsText b → ((k : Half) → Hears P n t (Flows (Among places.Quoted w) k) b) → Hears P (suc n) t (Flows (Among places.Opened w) h) b
 opened_hears P n t b w h is more =
     let c = class_of b in
     let k = placed (mark_of b) h in
     hears_left P n t (Flows (Among places.Opened w) h) (Flows (Among places.Quoted w) k) b (opened_said c) (opened_pieces c)
     (begin_met b (words_at places.Opened w) h is refl ∙ opened_met c (says.Byte b) w k) (opened_out c t) (opened_all c) (more k)
 
-pub quoted_byte : (t : Option Table) (b : ℕ) → IsText b → is_quote (class_of b) ≡ false → (p : Spot) → in_quotes p ≡ true → Hears in_quotes 6 t p b
+pub quoted_byte : (t : Target) (b : ℕ) → IsText b → is_quote (class_of b) ≡ false → (p : Spot) → in_quotes p ≡ true → Hears in_quotes 6 t p b
 quoted_byte t b is class (Flows (Among places.Quoted w) h) there = quoted_hears 5 t b w h is class
 quoted_byte t b is class (Flows (Among places.Opened w) h) there = opened_hears in_quotes 5 t b w h is (λ k. quoted_hears 4 t b w k is class)
 quoted_byte t b is class (Holds (Among places.Quoted w) h) there = held_hears in_quotes 5 t b (Among places.Quoted w) h refl (λ k. quoted_hears 4 t b w k is class)
 quoted_byte t b is class p there = absurd (let no : false ≡ true = there in cc)
 
 -- the last quote
-closing : (n : ℕ) (t : Option Table) (w : Words) (h : Half) → Hears word_ends (suc n) t (Flows (Among places.Quoted w) h) (code "\"")
+closing : (n : ℕ) (t : Target) (w : Words) (h : Half) → Hears word_ends (suc n) t (Flows (Among places.Quoted w) h) (code "\"")
 closing n t w h =
     let k = placed (mark_of (code "\"")) h in
     hears_taken word_ends n t (Flows (Among places.Quoted w) h) (code "\"")
     (takes_as word_ends t [] (code "\"") _ _ (word_met (code "\"") (words_at places.Quoted w) h quote_text) (quote_by word_ends (is_ninth w) t (Flows (Among places.Closing w) k) refl refl))
 
-pub last_quote : (t : Option Table) (p : Spot) → in_quotes p ≡ true → Hears word_ends 6 t p (code "\"")
+pub last_quote : (t : Target) (p : Spot) → in_quotes p ≡ true → Hears word_ends 6 t p (code "\"")
 last_quote t (Flows (Among places.Quoted w) h) there = closing 5 t w h
 last_quote t (Flows (Among places.Opened w) h) there = opened_hears word_ends 5 t (code "\"") w h quote_text (λ k. closing 4 t w k)
 last_quote t (Holds (Among places.Quoted w) h) there = held_hears word_ends 5 t (code "\"") (Among places.Quoted w) h refl (λ k. closing 4 t w k)
@@ -376,7 +376,7 @@ last_quote t p there = absurd (let no : false ≡ true = there in cc)
 
 -- ---- the line's end
 
-pub newline_rest : (n : ℕ) (t : Option Table) (h : Half) → Hears begins (suc n) t (Rests h) (code "\n")
+pub newline_rest : (n : ℕ) (t : Target) (h : Half) → Hears begins (suc n) t (Rests h) (code "\n")
 newline_rest n t h = hears_taken begins n t (Rests h) (code "\n") (same_takes begins t (code "\n") (Starts (record h { before = befores.Character marks.Other; tag = next_line h.tag })) _ refl refl refl refl)
 
 newline_met : (x : Bool) (place : Place) (w : Words) (h : Half) → is_ninth w ≡ x → meet (comings.Byte (code "\n")) (open_half (lines.Words (words_at place w)) h)
@@ -384,28 +384,28 @@ newline_met : (x : Bool) (place : Place) (w : Words) (h : Half) → is_ninth w �
 newline_met x place w h e =
     ap (λ (y : Bool). if y then left (says.Byte (code "\"")) (open_half lines.Request h) else taken (says.Byte (code "\n")) (open_half lines.Start (record h { before = befores.Character marks.Other; tag = next_line h.tag }))) e
 
-newline_by : (x : Bool) (n : ℕ) (t : Option Table) (place : Place) (w : Words) (h : Half) → is_ninth w ≡ x → Hears begins (suc (suc n)) t (Flows (Among place w) h) (code "\n")
+newline_by : (x : Bool) (n : ℕ) (t : Target) (place : Place) (w : Words) (h : Half) → is_ninth w ≡ x → Hears begins (suc (suc n)) t (Flows (Among place w) h) (code "\n")
 newline_by true n t place w h e =
     hears_left begins (suc n) t (Flows (Among place w) h) (Rests h) (code "\n") (says.Byte (code "\"")) (Quote ∷ []) (newline_met true place w h e) refl refl (newline_rest n t h)
 newline_by false n t place w h e =
     hears_taken begins (suc n) t (Flows (Among place w) h) (code "\n") (same_takes begins t (code "\n") (Starts (record h { before = befores.Character marks.Other; tag = next_line h.tag })) _ refl refl (newline_met false place w h e) refl)
 
-pub newline_hears : (n : ℕ) (t : Option Table) (place : Place) (w : Words) (h : Half) → Hears begins (suc (suc n)) t (Flows (Among place w) h) (code "\n")
+pub newline_hears : (n : ℕ) (t : Target) (place : Place) (w : Words) (h : Half) → Hears begins (suc (suc n)) t (Flows (Among place w) h) (code "\n")
 newline_hears n t place w h = newline_by (is_ninth w) n t place w h refl
 
-pub word_newline : (t : Option Table) (p : Spot) → word_ends p ≡ true → Hears begins 6 t p (code "\n")
+pub word_newline : (t : Target) (p : Spot) → word_ends p ≡ true → Hears begins 6 t p (code "\n")
 word_newline t (Flows (Among places.Inside w) h) there = newline_hears 4 t places.Inside w h
 word_newline t (Flows (Among places.Closing w) h) there = newline_hears 4 t places.Closing w h
 word_newline t (Holds (Among places.Inside w) h) there = held_hears begins 5 t (code "\n") (Among places.Inside w) h refl (λ k. newline_hears 3 t places.Inside w k)
 word_newline t p there = absurd (let no : false ≡ true = there in cc)
 
-pub word_blank : (t : Option Table) (p : Spot) → word_ends p ≡ true → Hears between 6 t p (code " ")
+pub word_blank : (t : Target) (p : Spot) → word_ends p ≡ true → Hears between 6 t p (code " ")
 word_blank t (Flows (Among places.Inside w) h) there = blank_hears 5 t places.Inside w h refl
 word_blank t (Flows (Among places.Closing w) h) there = blank_hears 5 t places.Closing w h refl
 word_blank t (Holds (Among places.Inside w) h) there = held_hears between 5 t (code " ") (Among places.Inside w) h refl (λ k. blank_hears 4 t places.Inside w k refl)
 word_blank t p there = absurd (let no : false ≡ true = there in cc)
 
-pub inside_byte : (t : Option Table) (b : ℕ) → IsText b → class_of b ≡ Other → (p : Spot) → inside p ≡ true → Hears inside 6 t p b
+pub inside_byte : (t : Target) (b : ℕ) → IsText b → class_of b ≡ Other → (p : Spot) → inside p ≡ true → Hears inside 6 t p b
 inside_byte t b is class (Flows (Among places.Inside w) h) there = inside_hears 5 t b w h is class
 inside_byte t b is class (Holds (Among places.Inside w) h) there = held_hears inside 5 t b (Among places.Inside w) h refl (λ k. inside_hears 4 t b w k is class)
 inside_byte t b is class p there = absurd (let no : false ≡ true = there in cc)

@@ -23,6 +23,7 @@ pub mod Saying
 pub mod Skipping
 pub mod Spelling
 pub mod Staged
+pub mod Targets
 pub mod Translations
 pub mod Unread
 pub mod WordLaws

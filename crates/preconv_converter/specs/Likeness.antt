@@ -1,9 +1,9 @@
 -- What a character looks like on a terminal of single bytes (groff_char(7)).
 use Prim.Native.Char.{code}
 use Rattle.std.specs.Prelude.{ℕ, ◌+◌, ◌-◌, ◌/◌, ◌%◌, List, [], ◌∷◌, ◌++◌, Bool, ◌==◌, ◌||◌, nat_le, nat_lt, if◌then◌else◌, Option, None, Some, codes, slice_get}
-use Rattle.utf8_characters.specs.declared.table.Table.{Table}
-use Rattle.utf8_characters.specs.Tables.{byte_of}
+use Rattle.preconv_converter.specs.declared.target.Target.{Target}
 use Rattle.preconv_converter.specs.Numbers.{is_within}
+use Rattle.preconv_converter.specs.Targets.{byte_in_force, is_utf8, itself}
 use Rattle.preconv_converter.specs.declared.signs.TheConstants.{LATIN, LATIN_ADDITIONAL, SIGNS, WORDS}
 
 -- ---- ASCII
@@ -120,17 +120,13 @@ beyond_like c =
     if is_within 65281 65374 c then ascii_like (c - 65248) else
     byte_or (plain_letter c) (byte_or (box_like c) (sign_like c))
 
--- the byte of a character of the table in force
-abbrev pub byte_in_force : Option Table → ℕ → Option ℕ
-byte_in_force None c = None
-byte_in_force (Some table) c = byte_of table c
-
--- a character of the table in force is its byte
-abbrev pub likeness : Option Table → ℕ → List ℕ
-likeness table c =
+-- a character of the table in force is its byte; in UTF-8 each is itself
+abbrev pub likeness : Target → ℕ → List ℕ
+likeness target c =
     if nat_lt c 128 then ascii_like c else
-    byte_or (byte_in_force table c) (beyond_like c)
+    if is_utf8 target then itself c else
+    byte_or (byte_in_force target c) (beyond_like c)
 
 -- with a stroke through it
-abbrev pub struck_like : Option Table → ℕ → List ℕ
-struck_like table c = code "!" ∷ likeness table c
+abbrev pub struck_like : Target → ℕ → List ℕ
+struck_like target c = code "!" ∷ likeness target c

@@ -1,6 +1,6 @@
 -- Bytes become characters (RFC 3629; ISO 8859-1), and these are heard.
 use Rattle.std.specs.Prelude.{◌≡◌, ℕ, zero, suc, ◌+◌, ◌*◌, ◌%◌, List, [], ◌∷◌, ◌++◌, take, Bool, ◌==◌, nat_lt, if◌then◌else◌, Option}
-use Rattle.utf8_characters.specs.declared.table.Table.{Table}
+use Rattle.preconv_converter.specs.declared.target.Target.{Target}
 use Rattle.preconv_converter.specs.declared.half.Half.{Half}
 use Rattle.preconv_converter.specs.declared.half.Coming.{Coming}
 use Rattle.preconv_converter.specs.declared.half.Coming.TheVariants.{Byte, Wide}
@@ -33,7 +33,7 @@ abbrev pub then_told : Told → (Reader → Told) → Told
 then_told t next = behind t.bytes t.steps (next t.reader)
 
 -- a page begins
-abbrev pub first_reader : Option Table → Reader
+abbrev pub first_reader : Target → Reader
 first_reader table = record { half = first_half; pending = Nothing; table = table }
 
 -- ---- a character is heard: it is met again until it is taken
@@ -155,13 +155,13 @@ pub record Takes (n : ℕ) (bytes : List ℕ) (r s : Reader) (pending left : Lis
 
 -- ---- the definition: what comes of all bytes of an input
 
-abbrev pub converted : Option Table → List ℕ → List ℕ
+abbrev pub converted : Target → List ℕ → List ℕ
 converted table input =
     let t = fed (first_reader table) input in
     t.bytes ++ finished t.reader
 
 -- in how many steps that comes
-abbrev pub steps_of : Option Table → List ℕ → ℕ
+abbrev pub steps_of : Target → List ℕ → ℕ
 steps_of table input =
     let t = fed (first_reader table) input in
     t.steps + (pending_heard t.reader).steps

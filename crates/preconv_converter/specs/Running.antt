@@ -5,7 +5,7 @@ use Rattle.std.specs.Io.KnownBytes.{Appends}
 use Rattle.nr_units.specs.Failures.{next_count}
 use Rattle.nr_units.specs.Sink.{AppendsFront}
 use Rattle.nr_units.specs.Source.{Supply}
-use Rattle.utf8_characters.specs.declared.table.Table.{Table}
+use Rattle.preconv_converter.specs.declared.target.Target.{Target}
 use Rattle.preconv_converter.specs.declared.reader.Reader.{Reader}
 use Rattle.preconv_converter.specs.declared.running.Outcome.{Outcome}
 use Rattle.preconv_converter.specs.declared.running.Outcome.TheVariants.{Done, ReadFault, TooLong, WriteFault}
@@ -68,7 +68,7 @@ is_fault turn = false
 -- ---- a run
 
 -- where a run stands that took these bytes, in so many steps: what they come to went out, or is pending
-pub record Stands (table : Option Table) (first supply : Option Supply) (held new : Option (List ℕ))
+pub record Stands (table : Target) (first supply : Option Supply) (held new : Option (List ℕ))
     (pending : List ℕ) (r : Reader) (taken steps : ℕ) : Type 0 where
   pub bytes : List ℕ
   pub came : Comes first bytes supply
@@ -82,7 +82,7 @@ pub record Stands (table : Option Table) (first supply : Option Supply) (held ne
 
 -- All bytes came, and what they come to went out, at most 1536 bytes for each and as many more, and none that may not go out. That took so many steps, at most
 -- six for each byte.
-pub record IsDone (table : Option Table) (first last : Option Supply) (held new : Option (List ℕ))
+pub record IsDone (table : Target) (first last : Option Supply) (held new : Option (List ℕ))
     (steps : ℕ) : Type 0 where
   pub bytes : List ℕ
   pub came : Comes first bytes last
@@ -94,7 +94,7 @@ pub record IsDone (table : Option Table) (first last : Option Supply) (held new 
   pub quick : steps ≤ 6 * length bytes
 
 -- so many bytes came, and what they come to went out but for what is half read; that took so many steps
-pub record IsCut (table : Option Table) (first last : Option Supply) (held new : Option (List ℕ))
+pub record IsCut (table : Target) (first last : Option Supply) (held new : Option (List ℕ))
     (at steps : ℕ) : Type 0 where
   pub bytes : List ℕ
   pub came : Comes first bytes last
@@ -105,7 +105,7 @@ pub record IsCut (table : Option Table) (first last : Option Supply) (held new :
   pub quick : steps ≤ 6 * length bytes
 
 -- some bytes came, and a prefix of what they come to went out; that took so many steps
-pub record IsBroken (table : Option Table) (first last : Option Supply) (held new : Option (List ℕ))
+pub record IsBroken (table : Target) (first last : Option Supply) (held new : Option (List ℕ))
     (steps : ℕ) : Type 0 where
   pub bytes : List ℕ
   pub came : Comes first bytes last
@@ -113,7 +113,7 @@ pub record IsBroken (table : Option Table) (first last : Option Supply) (held ne
   pub shown : AllPass (may_go_out table) (converted table bytes)
   pub quick : steps ≤ 6 * length bytes
 
-abbrev pub Ran : Option Table → Option Supply → Option Supply → Option (List ℕ) → Option (List ℕ)
+abbrev pub Ran : Target → Option Supply → Option Supply → Option (List ℕ) → Option (List ℕ)
     → ℕ → Outcome → Type 0
 Ran table first last held new steps Done = IsDone table first last held new steps
 Ran table first last held new steps (ReadFault at) = IsCut table first last held new at steps

@@ -1,11 +1,13 @@
 -- What goes out.
 use Prim.Native.Char.{code}
-use Rattle.std.specs.Prelude.{ℕ, List, [], ◌∷◌, ◌++◌, Bool, true, false, ◌||◌, nat_lt, if◌then◌else◌, Option, None, Some, codes}
-use Rattle.utf8_characters.specs.declared.table.Table.{Table}
+use Rattle.std.specs.Prelude.{ℕ, List, [], ◌∷◌, ◌++◌, Bool, true, false, ◌&&◌, ◌||◌, nat_le, nat_lt, if◌then◌else◌, Option, None, Some, codes}
+use Rattle.preconv_converter.specs.declared.target.Target.{Target}
 use Rattle.utf8_characters.specs.Tables.{character_of}
 use Rattle.preconv_converter.specs.declared.said.Said.{Said}
 use Rattle.preconv_converter.specs.declared.said.Said.TheVariants.{Nothing, Byte, Kept, Native, Hang, Escape, Font, Quotes, Comment, Character, Struck, Arguments, QuotedArguments}
-use Rattle.preconv_converter.specs.Likeness.{byte_in_force, likeness, struck_like}
+use Rattle.preconv_converter.specs.declared.target.Target.TheVariants.{Ascii, Bytes, Utf8}
+use Rattle.preconv_converter.specs.Likeness.{likeness, struck_like}
+use Rattle.preconv_converter.specs.Targets.{byte_in_force, is_utf8, itself}
 
 -- the nine arguments of a macro: where they are replaced, or once a definition was read; as they are, or each between quotes
 abbrev pub arguments : Bool → Bool → List ℕ
@@ -20,19 +22,20 @@ abbrev pub is_some : Option ℕ → Bool
 is_some None = false
 is_some (Some x) = true
 
-abbrev pub has_byte : Option Table → ℕ → Bool
-has_byte None b = false
-has_byte (Some table) b = is_some (character_of table b)
+abbrev pub has_byte : Target → ℕ → Bool
+has_byte Ascii b = false
+has_byte (Bytes table) b = is_some (character_of table b)
+has_byte Utf8 b = nat_le 128 b
 
--- A byte may go out if it is one of ASCII, or one that the table in force has.
-abbrev pub may_go_out : Option Table → ℕ → Bool
+-- A byte may go out if it is one of ASCII, or one that the table in force has, or a part of a character in UTF-8.
+abbrev pub may_go_out : Target → ℕ → Bool
 may_go_out table b = nat_lt b 127 || has_byte table b
 
 -- the byte that goes out for one
-abbrev pub sent : Option Table → ℕ → ℕ
+abbrev pub sent : Target → ℕ → ℕ
 sent table b = if may_go_out table b then b else code "?"
 
-abbrev pub all_sent : Option Table → List ℕ → List ℕ
+abbrev pub all_sent : Target → List ℕ → List ℕ
 all_sent table [] = []
 all_sent table (b ∷ bs) = sent table b ∷ all_sent table bs
 
@@ -41,12 +44,17 @@ abbrev pub byte_or_kept : Option ℕ → List ℕ → List ℕ
 byte_or_kept None kept = kept
 byte_or_kept (Some b) kept = b ∷ []
 
+-- a character that the language knows by this name
+abbrev pub native : Target → List ℕ → ℕ → List ℕ
+native target name c =
+    if nat_le 128 c && is_utf8 target then itself c else byte_or_kept (byte_in_force target c) name
+
 -- what is said; characters of the table in force are bytes
-abbrev pub text_of : Option Table → Said → List ℕ
+abbrev pub text_of : Target → Said → List ℕ
 text_of table Nothing = []
 text_of table (Byte b) = b ∷ []
 text_of table (Kept name) = name
-text_of table (Native name c) = byte_or_kept (byte_in_force table c) name
+text_of table (Native name c) = native table name c
 text_of table (Hang number) = codes ".ti " ++ number ++ codes "\n\\&"
 text_of table (Escape b) = code "\\" ∷ b ∷ []
 text_of table (Font letter) = code "\\" ∷ code "f" ∷ letter ∷ []
@@ -59,5 +67,5 @@ text_of table (Arguments doubled) = arguments doubled false
 text_of table (QuotedArguments doubled) = arguments doubled true
 
 -- the bytes that go out for it
-abbrev pub bytes_of : Option Table → Said → List ℕ
+abbrev pub bytes_of : Target → Said → List ℕ
 bytes_of table said = all_sent table (text_of table said)

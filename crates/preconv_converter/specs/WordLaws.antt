@@ -1,10 +1,10 @@
 -- What goes out of the lines of a page, in any state of it.
-use Rattle.std.specs.Prelude.{◌≡◌, List, [], true, false, Option}
+use Rattle.std.specs.Prelude.{◌≡◌, List, [], true, false}
 use Rattle.preconv_converter.specs.declared.half.Line.TheVariants as lines
 use Rattle.preconv_converter.specs.declared.half.Escape.TheVariants as escapes
 use Rattle.preconv_converter.specs.declared.reader.Reader.{Reader}
 use Rattle.preconv_converter.specs.declared.reader.Pending.TheVariants as pendings
-use Rattle.utf8_characters.specs.declared.table.Table.{Table}
+use Rattle.preconv_converter.specs.declared.target.Target.{Target}
 use Rattle.preconv_converter.specs.Reading.{converted}
 use Rattle.preconv_converter.specs.Staged.{said}
 use Rattle.preconv_converter.specs.Pieces.{GoesOut}
@@ -20,7 +20,7 @@ begins_line r = record r {
 -- What goes out of a page of such lines is these pieces.
 abbrev pub PagesGoOut : Type 0
 PagesGoOut =
-    (table : Option Table) (lines : List Line) → are_lines lines ≡ true
+    (table : Target) (lines : List Line) → are_lines lines ≡ true
     → GoesOut table (written_lines lines) (converted table (written_lines lines))
 
 -- In any state where a line begins, lines that follow one another, and the end after them, go out piece by piece.

@@ -1,6 +1,6 @@
 -- Lines of a page as they are written.
 use Prim.Native.Char.{code}
-use Rattle.std.specs.Prelude.{ℕ, List, [], ◌∷◌, ◌++◌, length, Bool, true, false, not, ◌==◌, ◌&&◌, Option, None, Some, nat_lt, codes}
+use Rattle.std.specs.Prelude.{ℕ, List, [], ◌∷◌, ◌++◌, length, Bool, true, false, not, ◌==◌, ◌&&◌, ◌||◌, Option, None, Some, nat_lt, codes}
 use Rattle.preconv_converter.specs.declared.beginnings.Opens.{Opens}
 use Rattle.preconv_converter.specs.declared.beginnings.Opens.TheVariants as opens
 use Rattle.preconv_converter.specs.Beginnings.{opened}
@@ -47,8 +47,8 @@ begins_blank (b ∷ bs) = b == code " "
 
 -- ---- signs of text lines
 
--- a byte; an escape of two bytes that the language has, `\- \& \| \c \e`; a font, `\fB \fI \fP \fR`; a character beyond ASCII; one
--- by a name of two bytes
+-- a byte; an escape of two bytes that the language has, `\- \& \| \c \e`; a font, `\fB \fI \fP \fR \f1 .. \f5 \fV`; a character
+-- beyond ASCII; one by a name of two bytes
 pub data Sign : Type 0 where
   Byte : ℕ → Sign
   Escape : ℕ → Sign
@@ -64,10 +64,16 @@ is_same (Some d) c = d == c
 abbrev pub names : ℕ → ℕ → ℕ → Bool
 names a b c = not (is_native (a ∷ b ∷ [])) && not (is_pair (code "*") (code "W") (a ∷ b ∷ [])) && is_same (pair_code a b) c
 
+-- B, I, P or R, or one of the names that stand for these: 1 to 5, V
+abbrev pub is_face : ℕ → Bool
+is_face b =
+    is_font b || (b == code "1") || (b == code "2") || (b == code "3") || (b == code "4") || (b == code "5")
+    || (b == code "V")
+
 abbrev pub is_sign : Sign → Bool
 is_sign (Byte b) = is_text b
 is_sign (Escape b) = is_kept b
-is_sign (Font b) = is_font b
+is_sign (Font b) = is_face b
 is_sign (Glyph a b c) = is_text a && is_text b && names a b c
 is_sign (Character c) = nat_lt 126 c && all_scalars (c ∷ [])
 

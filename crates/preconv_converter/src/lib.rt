@@ -1,6 +1,6 @@
 //! What manual pages use, turned into the language of the formatter.
 //!
-//! It stands on nr_units, nr_vectors, utf8_characters and document_stages. To read: `numbers`, `pairs`, `glyphs`; `signs`, `likeness`, `said`; `words`, `half`;
+//! It stands on nr_units, nr_vectors, utf8_characters and document_stages. To read: `numbers`, `pairs`, `glyphs`; `target`, `signs`, `likeness`, `said`; `words`, `half`;
 //! `beginnings`, `hyphens`, `sentences`, `translations`, `lines`, `conditions`; `endings`, `faces`, `skipping`, `letters`,
 //! `named`, `spelling`, `escapes`; `meeting`, which puts them together; `runs`, `passing`, `reader`, `running`; `staged`;
 //! `plain_text`, `word_laws`.
@@ -32,11 +32,14 @@ mod signs;
 mod skipping;
 mod spelling;
 mod staged;
+mod target;
 mod translations;
 mod word_laws;
 mod words;
 
+pub use likeness::put_likeness;
 pub use plain_text::passes_unchanged;
 pub use running::{Outcome, convert};
 pub use staged::Turner;
+pub use target::Target;
 pub use word_laws::words_go_out;

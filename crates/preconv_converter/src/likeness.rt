@@ -1,10 +1,11 @@
 //! What a character looks like.
 ghost use Rattle.std.specs.Prelude.{◌≡◌, ◌+◌, ◌≤◌, ◌<◌, ◌++◌, length};
-ghost use Rattle.preconv_converter.specs.Likeness.{ascii_like, before_nul, beyond_like, box_like, byte_in_force, code_told, hex_digit, is_blank, is_latin_letter, is_mark, letter_in, likeness, plain_letter, sign_like, sign_text, struck_like, text_in, word_text};
+ghost use Rattle.preconv_converter.specs.Targets.{byte_in_force, itself, shown};
+ghost use Rattle.preconv_converter.specs.Likeness.{ascii_like, before_nul, beyond_like, box_like, code_told, hex_digit, is_blank, is_latin_letter, is_mark, letter_in, likeness, plain_letter, sign_like, sign_text, struck_like, text_in, word_text};
 
 use super::signs::{LATIN, LATIN_ADDITIONAL, SIGNS, WORDS};
+use super::target::Target;
 use nr_vectors::slice_vec::SliceVec;
-use utf8_characters::Table;
 
 /// A letter of Latin-1 beyond ASCII.
 pub(crate) fn is_latin_letter(code: u32) -> bool
@@ -14,13 +15,35 @@ pub(crate) fn is_latin_letter(code: u32) -> bool
 }
 
 /// The byte of a character of the table in force.
-pub(crate) fn byte_in_force(table: Option<Table>, code: u32) -> Option<u8>
-    ensures { result ≡ byte_in_force table code }
+pub(crate) fn byte_in_force(target: Target, code: u32) -> Option<u8>
+    ensures { result ≡ byte_in_force target code }
 {
-    match table {
-        Some(table) => table.byte(code),
-        None => None,
+    match target {
+        Target::Bytes(table) => table.byte(code),
+        Target::Ascii | Target::Utf8 => None,
     }
+}
+
+/// The character of a code; a question mark for half of a pair of UTF-16, and for what is too great.
+fn character_of(code: u32) -> char
+    ensures { result ≡ shown code }
+{
+    match char::from_u32(code) {
+        Some(character) => character,
+        None => '?',
+    }
+}
+
+/// Puts a character itself, in UTF-8: at most 4 bytes.
+pub(crate) fn put_itself(code: u32, out: &mut SliceVec<'_, u8>)
+    requires { length out.old.items + 4 ≤ out.old.capacity }
+    ensures items { out.new.items ≡ out.old.items ++ itself code }
+    ensures few { length out.new.items ≤ length out.old.items + 4 }
+    ensures room { out.new.capacity ≡ out.old.capacity }
+{
+    let mut buffer = [0; 4];
+    let text = character_of(code).encode_utf8(&mut buffer).as_bytes();
+    out.extend(text);
 }
 
 /// The letter of a row of letters that begins with `first`, if it has one for the code.
@@ -228,26 +251,28 @@ fn put_ascii(byte: u8, out: &mut SliceVec<'_, u8>)
 }
 
 /// Puts a character with a stroke through it: at most 25 bytes.
-pub(crate) fn put_struck(code: u32, table: Option<Table>, out: &mut SliceVec<'_, u8>)
+pub(crate) fn put_struck(code: u32, target: Target, out: &mut SliceVec<'_, u8>)
     requires { length out.old.items + 25 ≤ out.old.capacity }
-    ensures items { out.new.items ≡ out.old.items ++ struck_like table code }
+    ensures items { out.new.items ≡ out.old.items ++ struck_like target code }
     ensures few { length out.new.items ≤ length out.old.items + 25 }
     ensures room { out.new.capacity ≡ out.old.capacity }
 {
     out.push(b'!');
-    put_likeness(code, table, out);
+    put_likeness(code, target, out);
 }
 
-/// Puts what a character looks like after what goes out: at most 24 bytes.
-pub(crate) fn put_likeness(code: u32, table: Option<Table>, out: &mut SliceVec<'_, u8>)
+/// Puts what a character becomes after what goes out: its byte, itself, or what it looks like. That is at most 24 bytes.
+pub fn put_likeness(code: u32, target: Target, out: &mut SliceVec<'_, u8>)
     requires { length out.old.items + 24 ≤ out.old.capacity }
-    ensures items { out.new.items ≡ out.old.items ++ likeness table code }
+    ensures items { out.new.items ≡ out.old.items ++ likeness target code }
     ensures few { length out.new.items ≤ length out.old.items + 24 }
     ensures room { out.new.capacity ≡ out.old.capacity }
 {
     if code < 128 {
         put_ascii(code as u8, out);
-    } else if let Some(byte) = byte_in_force(table, code) {
+    } else if target.is_utf8() {
+        put_itself(code, out);
+    } else if let Some(byte) = byte_in_force(target, code) {
         out.push(byte);
     } else {
         put_beyond(code, out);

@@ -1,6 +1,6 @@
 //! Text that goes out as it is.
-ghost use Rattle.std.specs.Prelude.{◌≡◌, IsTrue, Option, length};
-ghost use Rattle.utf8_characters.specs.declared.table.Table.{Table};
+ghost use Rattle.std.specs.Prelude.{◌≡◌, IsTrue, length};
+ghost use Rattle.preconv_converter.specs.declared.target.Target.{Target};
 ghost use Rattle.preconv_converter.specs.PlainText.{goes_on, is_plain_text};
 ghost use Rattle.preconv_converter.specs.Reading.{converted, steps_of};
 
@@ -18,8 +18,8 @@ fn goes_on(starts: bool, byte: u8) -> bool
 /// in one step for each byte.
 pub fn passes_unchanged(text: &[u8]) -> bool
     ensures value { result ≡ is_plain_text text.now }
-    ensures law { IsTrue result → (table : Option Table) → converted table text.now ≡ text.now }
-    ensures steps { IsTrue result → (table : Option Table) → steps_of table text.now ≡ length text.now }
+    ensures law { IsTrue result → (table : Target) → converted table text.now ≡ text.now }
+    ensures steps { IsTrue result → (table : Target) → steps_of table text.now ≡ length text.now }
 {
     let mut starts = true;
     for byte in text {

@@ -4,8 +4,8 @@ ghost use Rattle.preconv_converter.specs.Reading as specs;
 
 use super::half::{Coming, Half, Line};
 use super::said::{put_sent, say, sent};
+use super::target::Target;
 use nr_vectors::slice_vec::SliceVec;
-use utf8_characters::Table;
 
 /// What was read of a character of several bytes.
 #[derive(Clone, Copy)]
@@ -28,7 +28,7 @@ pub(crate) struct Reader {
     /// Of a character.
     pub pending: Pending,
     /// What bytes from 128 on stand for, if anything.
-    pub table: Option<Table>,
+    pub table: Target,
 }
 
 /// So many bytes were taken, in so many steps.
@@ -83,7 +83,7 @@ fn low_six(byte: u8) -> u32
 
 impl Reader {
     /// A page begins.
-    pub(crate) fn new(table: Option<Table>) -> Reader
+    pub(crate) fn new(table: Target) -> Reader
         ensures { result ≡ specs.first_reader table }
     {
         Reader {

@@ -9,10 +9,10 @@ ghost use Rattle.preconv_converter.specs.Unread.{CommentsAreUnread, IgnoredLines
 ghost use Rattle.preconv_converter.specs.Running as specs;
 
 use super::reader::{MOST, Reader, Taken};
+use super::target::Target;
 use nr_units::sink::Sink;
 use nr_units::source::{Fault, Source};
 use nr_vectors::slice_vec::SliceVec;
-use utf8_characters::Table;
 
 /// The number of bytes that are too many.
 const TOO_MANY: u64 = 1_099_511_627_776;
@@ -213,7 +213,7 @@ fn run<R: Source, W: Sink>(
 pub fn convert<R: Source, W: Sink>(
     input: &mut R,
     output: &mut W,
-    table: Option<Table>,
+    table: Target,
     buffer: &mut [u8],
     steps: &mut u64,
 ) -> Outcome

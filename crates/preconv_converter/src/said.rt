@@ -1,11 +1,11 @@
 //! What goes out.
 ghost use Rattle.std.specs.Prelude.{◌≡◌, ◌+◌, ◌≤◌, ◌++◌, length};
-ghost use Rattle.preconv_converter.specs.Saying.{all_sent, arguments, bytes_of, may_go_out, sent, text_of};
+ghost use Rattle.preconv_converter.specs.Saying.{all_sent, arguments, bytes_of, may_go_out, native, sent, text_of};
 
-use super::likeness::{byte_in_force, put_likeness, put_struck};
+use super::likeness::{byte_in_force, put_itself, put_likeness, put_struck};
+use super::target::Target;
 use nr_units::Name;
 use nr_vectors::slice_vec::SliceVec;
-use utf8_characters::Table;
 
 /// What one move says.
 #[derive(Clone, Copy)]
@@ -18,7 +18,7 @@ pub(crate) enum Said {
     Kept(Name),
     /// `.ti` and this number, as a line, and the beginning of a text line.
     Hang(Name),
-    /// What was kept, by which the language knows a character, or the byte of that in the table.
+    /// What was kept, by which the language knows a character, or what that becomes.
     Native(Name, u32),
     /// `\` and this byte.
     Escape(u8),
@@ -54,42 +54,59 @@ fn arguments(doubled: bool, quoted: bool) -> &'static [u8]
     }
 }
 
-/// Whether a byte may go out: one of ASCII, and one that the table in force has.
-pub(crate) fn may_go_out(table: Option<Table>, byte: u8) -> bool
-    ensures { result ≡ may_go_out table byte }
+/// Whether a byte may go out: one of ASCII, one that the table in force has, and a part of a character in UTF-8.
+pub(crate) fn may_go_out(target: Target, byte: u8) -> bool
+    ensures { result ≡ may_go_out target byte }
 {
     if byte < 127 {
         return true;
     }
-    match table {
-        Some(table) => table.character(byte).is_some(),
-        None => false,
+    match target {
+        Target::Bytes(table) => table.character(byte).is_some(),
+        Target::Ascii => false,
+        Target::Utf8 => byte >= 128,
     }
 }
 
 /// The byte that goes out for one.
-pub(crate) fn sent(table: Option<Table>, byte: u8) -> u8
-    ensures { result ≡ sent table byte }
+pub(crate) fn sent(target: Target, byte: u8) -> u8
+    ensures { result ≡ sent target byte }
 {
-    if may_go_out(table, byte) { byte } else { b'?' }
+    if may_go_out(target, byte) { byte } else { b'?' }
 }
 
 /// Puts these bytes, as they may go out, after what goes out.
-pub(crate) fn put_sent(text: &[u8], table: Option<Table>, out: &mut SliceVec<'_, u8>)
+pub(crate) fn put_sent(text: &[u8], target: Target, out: &mut SliceVec<'_, u8>)
     requires { length out.old.items + length text.now ≤ out.old.capacity }
-    ensures items { out.new.items ≡ out.old.items ++ all_sent table text.now }
+    ensures items { out.new.items ≡ out.old.items ++ all_sent target text.now }
     ensures few { length out.new.items ≤ length out.old.items + length text.now }
     ensures room { out.new.capacity ≡ out.old.capacity }
 {
     for byte in text {
-        out.push(sent(table, *byte));
+        out.push(sent(target, *byte));
+    }
+}
+
+/// Puts a character that the language knows by this name: its byte, itself, or the name.
+fn put_native(name: Name, code: u32, target: Target, out: &mut SliceVec<'_, u8>)
+    requires { length out.old.items + 64 ≤ out.old.capacity }
+    ensures items { out.new.items ≡ out.old.items ++ native target name code }
+    ensures few { length out.new.items ≤ length out.old.items + 64 }
+    ensures room { out.new.capacity ≡ out.old.capacity }
+{
+    if code >= 128 && target.is_utf8() {
+        put_itself(code, out);
+    } else if let Some(byte) = byte_in_force(target, code) {
+        out.push(byte);
+    } else {
+        out.extend(name.as_bytes());
     }
 }
 
 /// Puts what is said: at most 64 bytes.
-fn put_said(said: Said, table: Option<Table>, out: &mut SliceVec<'_, u8>)
+fn put_said(said: Said, target: Target, out: &mut SliceVec<'_, u8>)
     requires { length out.old.items + 64 ≤ out.old.capacity }
-    ensures items { out.new.items ≡ out.old.items ++ text_of table said }
+    ensures items { out.new.items ≡ out.old.items ++ text_of target said }
     ensures few { length out.new.items ≤ length out.old.items + 64 }
     ensures room { out.new.capacity ≡ out.old.capacity }
 {
@@ -97,10 +114,7 @@ fn put_said(said: Said, table: Option<Table>, out: &mut SliceVec<'_, u8>)
         Said::Nothing => {}
         Said::Byte(byte) => out.push(byte),
         Said::Kept(name) => out.extend(name.as_bytes()),
-        Said::Native(name, code) => match byte_in_force(table, code) {
-            Some(byte) => out.push(byte),
-            None => out.extend(name.as_bytes()),
-        },
+        Said::Native(name, code) => put_native(name, code, target, out),
         Said::Hang(number) => {
             out.extend(b".ti ");
             out.extend(number.as_bytes());
@@ -111,39 +125,39 @@ fn put_said(said: Said, table: Option<Table>, out: &mut SliceVec<'_, u8>)
         Said::Quotes => out.extend(b"\"\""),
         Said::Comment(true) => out.extend(b".\\\""),
         Said::Comment(false) => out.extend(b"\\\""),
-        Said::Character(code) => put_likeness(code, table, out),
-        Said::Struck(code) => put_struck(code, table, out),
+        Said::Character(code) => put_likeness(code, target, out),
+        Said::Struck(code) => put_struck(code, target, out),
         Said::Arguments(doubled) => out.extend(arguments(doubled, false)),
         Said::QuotedArguments(doubled) => out.extend(arguments(doubled, true)),
     }
 }
 
 /// Puts what is said, as it may go out, by way of a buffer: at most 64 bytes.
-fn say_through(said: Said, table: Option<Table>, out: &mut SliceVec<'_, u8>)
+fn say_through(said: Said, target: Target, out: &mut SliceVec<'_, u8>)
     requires { length out.old.items + 64 ≤ out.old.capacity }
-    ensures items { out.new.items ≡ out.old.items ++ bytes_of table said }
+    ensures items { out.new.items ≡ out.old.items ++ bytes_of target said }
     ensures few { length out.new.items ≤ length out.old.items + 64 }
     ensures room { out.new.capacity ≡ out.old.capacity }
 {
     let mut bytes = [0; 64];
     let mut text = SliceVec::over(&mut bytes);
-    put_said(said, table, &mut text);
-    put_sent(text.as_slice(), table, out);
+    put_said(said, target, &mut text);
+    put_sent(text.as_slice(), target, out);
 }
 
 /// Puts what is said, as it may go out, after what goes out: at most 64 bytes.
-pub(crate) fn say(said: Said, table: Option<Table>, out: &mut SliceVec<'_, u8>)
+pub(crate) fn say(said: Said, target: Target, out: &mut SliceVec<'_, u8>)
     requires { length out.old.items + 64 ≤ out.old.capacity }
-    ensures items { out.new.items ≡ out.old.items ++ bytes_of table said }
+    ensures items { out.new.items ≡ out.old.items ++ bytes_of target said }
     ensures few { length out.new.items ≤ length out.old.items + 64 }
     ensures room { out.new.capacity ≡ out.old.capacity }
 {
     match said {
         Said::Nothing => {}
-        Said::Byte(byte) => out.push(sent(table, byte)),
-        Said::Kept(name) => put_sent(name.as_bytes(), table, out),
-        Said::Escape(byte) => put_sent(&[b'\\', byte], table, out),
-        Said::Font(letter) => put_sent(&[b'\\', b'f', letter], table, out),
-        _ => say_through(said, table, out),
+        Said::Byte(byte) => out.push(sent(target, byte)),
+        Said::Kept(name) => put_sent(name.as_bytes(), target, out),
+        Said::Escape(byte) => put_sent(&[b'\\', byte], target, out),
+        Said::Font(letter) => put_sent(&[b'\\', b'f', letter], target, out),
+        _ => say_through(said, target, out),
     }
 }

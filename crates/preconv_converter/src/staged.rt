@@ -5,9 +5,9 @@ ghost use Rattle.preconv_converter.specs.Staged.{said};
 ghost use Rattle.document_stages.specs.Pulling.{fits_always};
 
 use super::reader::{MOST, Reader};
+use super::target::Target;
 use document_stages::Stage;
 use nr_vectors::slice_vec::SliceVec;
-use utf8_characters::Table;
 
 /// Characters and escapes become what the formatter reads, as with `convert`.
 ///
@@ -20,7 +20,7 @@ pub struct Turner {
 
 impl Turner {
     /// A text begins. Bytes from 128 on stand for characters of the table, if there is one.
-    pub fn new(table: Option<Table>) -> Turner
+    pub fn new(table: Target) -> Turner
         ensures says { ⟦<Turner as Stage>⟧.says result ≡ said (first_reader table) }
         ensures fits { ⟦<Turner as Stage>⟧.fits result ≡ fits_always }
         ensures wants { ⟦<Turner as Stage>⟧.wants result ≡ 1536 }

@@ -11,6 +11,7 @@ use nr_command_options::chain;
 use nr_engine::{CountedAlloc, Desk, Sink, Source};
 use nr_page::Select;
 use preconv_coding::{Coding, UnderCoding};
+use preconv_converter::Target;
 use program_options::Job;
 use program_plan::{asks_for_others, is_manual, macros_of, text_before};
 use std::alloc::AllocError;
@@ -144,7 +145,7 @@ fn run_front<'a, T: Source + Drop, R: Source + Drop, W: Sink>(
             macros: &before,
             stages: plan.stages,
             tables: plan.tables,
-            characters: plan.characters,
+            characters: Target::of(plan.characters),
             options: &options,
         },
         spelling: plan.spelling,

@@ -14,12 +14,6 @@ returns-in-Byte-clause-few c = grind (arith, common_steps)
 pub returns-in-Kept-clause-few : goal.returns-in-Kept-clause-few
 returns-in-Kept-clause-few c = grind (arith, common_steps)
 
-pub returns-in-Some-clause-few : goal.returns-in-Some-clause-few
-returns-in-Some-clause-few c = grind (arith, common_steps)
-
-pub returns-in-None-clause-few : goal.returns-in-None-clause-few
-returns-in-None-clause-few c = grind (arith, common_steps)
-
 pub returns-in-Hang-clause-items : goal.returns-in-Hang-clause-items
 returns-in-Hang-clause-items c = grind (arith, common_steps)
 
