@@ -9,5 +9,6 @@ mod hearing;
 mod press;
 mod turning;
 
+pub use tbl_layout::{Joints, Signs};
 pub use tbl_reader::{Complaint, Kind, Outcome};
 pub use turning::{Report, Rooms, convert};

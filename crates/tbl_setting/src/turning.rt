@@ -15,7 +15,7 @@ use nr_vectors::slice_vec::SliceVec;
 use nr_vectors::{CountedAlloc, FixedVec};
 use std::alloc::{AllocError, Global};
 use std::marker::Model;
-use tbl_layout::{Out, Table};
+use tbl_layout::{Out, Signs, Table};
 use tbl_reader::{Complaint, Limits, Outcome, Reader, read_page};
 use utf8_characters::Table as Characters;
 
@@ -86,6 +86,22 @@ impl Rooms {
         ensures row { IfOk result (λ made. made.limits.row ≡ min row 18446744073709551614) }
         ensures cells { IfOk result (λ made. made.cells ≡ cells) }
     {
+        Rooms::drawn_with(alloc, table, row, cells, signs_of(characters))
+    }
+
+    /// The same, where frames are drawn with these bytes.
+    pub fn drawn_with(
+        alloc: Global,
+        table: usize,
+        row: usize,
+        cells: usize,
+        signs: Signs,
+    ) -> Result<Rooms, AllocError>
+        ensures signs { IfOk result (λ made. made.signs ≡ signs) }
+        ensures table { IfOk result (λ made. made.limits.formats ≡ min table 18446744073709551614) }
+        ensures row { IfOk result (λ made. made.limits.row ≡ min row 18446744073709551614) }
+        ensures cells { IfOk result (λ made. made.cells ≡ cells) }
+    {
         let limits = Limits {
             formats: table.min(MOST),
             row: row.min(MOST),
@@ -93,7 +109,7 @@ impl Rooms {
         Ok(Rooms {
             pending: FixedVec::new(&mut CountedAlloc::new(alloc), PENDING)?,
             reader: Reader::new(alloc, limits, cells)?,
-            table: Table::new(alloc, limits.formats, limits.row, signs_of(characters))?,
+            table: Table::new(alloc, limits.formats, limits.row, signs)?,
         })
     }
 }
