@@ -1,0 +1,10 @@
+//! The characters of a page become the bytes of its own table, a part of the page after the other.
+//!
+//! It stands on document_stages, nr_vectors, preconv_converter and utf8_own_characters. To read: `coding`, `staged`; `laws`.
+#![tactic(auto)]
+
+mod coding;
+pub mod laws;
+mod staged;
+
+pub use staged::Coder;

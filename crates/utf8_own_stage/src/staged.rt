@@ -1,0 +1,68 @@
+//! A text is coded a part at a time.
+ghost use Rattle.std.specs.Prelude.{◌≡◌};
+ghost use Rattle.document_stages.specs.Pulling.{fits_always};
+ghost use Rattle.utf8_own_characters.specs.Listening.{first};
+ghost use Rattle.utf8_own_characters.specs.Table.{Good};
+ghost use Rattle.utf8_own_stage.specs.Coding.{coding};
+
+use super::coding::{MOST, put_all, put_done};
+use document_stages::Stage;
+use nr_vectors::slice_vec::SliceVec;
+use utf8_own_characters::{Listener, Table};
+
+/// Characters of UTF-8 become the bytes of a page's own table, or what they look like where it lacks them.
+#[derive(Drop)]
+pub struct Coder<'a> {
+    table: Table<'a>,
+    listener: Listener,
+    ghost good: { Good table },
+}
+
+impl<'a> Coder<'a> {
+    /// A text begins.
+    pub fn over(table: Table<'a>) -> Coder<'a>
+        requires { Good table }
+        ensures says { ⟦<Coder<'a> as Stage>⟧.says result ≡ coding table first }
+        ensures fits { ⟦<Coder<'a> as Stage>⟧.fits result ≡ fits_always }
+        ensures wants { ⟦<Coder<'a> as Stage>⟧.wants result ≡ 32 }
+    {
+        Coder {
+            table,
+            listener: Listener::new(),
+        }
+    }
+}
+
+impl Stage for Coder<'_> {
+    ghost use Rattle.std.specs.Prelude.{refl};
+    ghost use Rattle.document_stages.specs.Pulling.{fits_always};
+    ghost use Rattle.utf8_own_stage.specs.Coding.{coding};
+
+    ghost says = { λ s. coding s.table s.listener };
+
+    ghost fits = { λ s. fits_always };
+
+    ghost wants = { λ s. 32 };
+
+    ghost waits = { λ s. refl };
+
+    fn room(&self) -> usize {
+        MOST
+    }
+
+    fn turn(&mut self, bytes: &[u8], out: &mut SliceVec<'_, u8>) -> usize {
+        let len = bytes.len().min(out.capacity() / MOST);
+        put_all(&bytes[..len], &mut self.listener, &self.table, out);
+        len
+    }
+
+    fn finish(&mut self, out: &mut SliceVec<'_, u8>) -> bool {
+        put_done(self.listener.held, &self.table, out);
+        self.listener.held = None;
+        true
+    }
+
+    fn is_full(&self) -> bool {
+        false
+    }
+}
