@@ -1,11 +1,12 @@
 //! The program nulbiko but for its `main`: a run through all stages, the lines that report how it ended, and its status.
 //!
-//! It stands on program_options, program_plan, nr_command, document_printing and what these stand on. To read: `endings`; `bare`, `nowhere`; `surroundings`, `plan`, `printing`, `running`, `program`.
+//! It stands on program_options, program_plan, nr_command, document_printing and what these stand on. To read: `endings`; `bare`, `nowhere`; `surroundings`, `plan`, `printing`, `own`, `running`, `program`.
 #![tactic(auto)]
 
 mod bare;
 mod endings;
 mod nowhere;
+mod own;
 mod plan;
 mod printing;
 mod program;

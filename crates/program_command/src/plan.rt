@@ -2,7 +2,7 @@
 
 use crate::surroundings::Surroundings;
 use arrayvec::ArrayVec;
-use document_printing::{PageLimits, Rooms, Spelling, Stages, has_tables};
+use document_printing::{PageLimits, Spelling, Stages, has_tables};
 use document_stages::Text;
 use nr_engine::{Faces as Looks, Options};
 use nr_page::Select;
@@ -14,6 +14,9 @@ use utf8_converter::{CHARACTERS, choose};
 
 /// The bytes of a text that say what it is, and what characters it has.
 pub(crate) const LOOKED_AT: usize = 65_536;
+
+/// The same of a page that has characters beyond ASCII, whose own table is made of them.
+pub(crate) const MORE_LOOKED_AT: usize = 1_048_576;
 
 /// The most bytes of a page whose tables are set.
 const LONGEST_PAGE: usize = 268_435_456;
@@ -55,7 +58,7 @@ pub(crate) fn plan_of(
             mdoc: kind == Macros::Manual,
             characters: true,
         },
-        tables: front.len() == LOOKED_AT || has_tables(front),
+        tables: is_cut(front) || has_tables(front),
         characters,
         spelling: spelling_of(device, characters, escapes(job.plain.faces, around.shows)),
         strikes: job.plain.faces != Faces::None,
@@ -69,6 +72,11 @@ fn spelling_of(device: Device, characters: Option<Table>, escapes: bool) -> Spel
         Some(table) if device == Device::Utf8 => Spelling::Utf8 { table, escapes },
         _ => Spelling::Bytes,
     }
+}
+
+/// Whether more of a page may come than was looked at.
+fn is_cut(front: &[u8]) -> bool {
+    front.len() == LOOKED_AT || front.len() == MORE_LOOKED_AT
 }
 
 /// The table of the characters of a text, by its first bytes: none where ASCII is printed.
@@ -97,7 +105,7 @@ fn escapes(faces: Faces, shows: bool) -> bool {
 }
 
 /// Whether bytes go out with escape sequences.
-fn has_escapes(spelling: Spelling) -> bool {
+pub(crate) fn has_escapes(spelling: Spelling) -> bool {
     match spelling {
         Spelling::Bytes => false,
         Spelling::Utf8 { escapes, .. } => escapes,
@@ -118,12 +126,11 @@ pub(crate) fn options_of(job: &Job<'_>, plan: &Plan, select: Select) -> Options 
     }
 }
 
-/// The memory of the stages before the formatter.
-pub(crate) fn rooms_of(job: &Job<'_>, plan: &Plan, alloc: Global) -> Result<Rooms, AllocError> {
-    let limits = PageLimits {
+/// The limits of the stages before the formatter.
+pub(crate) fn limits_of(job: &Job<'_>) -> PageLimits {
+    PageLimits {
         formats: job.plain.formats as usize,
         row: job.plain.row as usize,
         page: LONGEST_PAGE,
-    };
-    Rooms::new(alloc, limits, plan.cells, plan.characters)
+    }
 }

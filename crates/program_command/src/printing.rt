@@ -8,17 +8,54 @@ ghost use Rattle.document_printing.specs.Showing.{Shows};
 use crate::bare::Bare;
 use crate::nowhere::Nowhere;
 use crate::plan::Plan;
-use document_printing::{Outcome, Report, Rooms, Setup, Showing, Spelling, print, print_shown};
-use nr_engine::{Desk, Sink, Source};
+use document_printing::{
+    Outcome, PageLimits, Report, Rooms, Setup, Showing, Spelling, print, print_shown,
+};
+use nr_engine::{Desk, Options, Sink, Source};
 use nr_vectors::slice_vec::SliceVec;
+use preconv_converter::Target;
+use std::alloc::{AllocError, Global};
 use tbl_setting::Complaint;
 use utf8_converter::Shown;
+use utf8_own_sink::Shown as OwnShown;
 
 /// The bytes of characters that go out at once.
 const ROOM: usize = 2_048;
 
 /// How many complaints are kept of tables.
 const MOST_COMPLAINTS: usize = 64;
+
+/// How a page is printed, beside its plan.
+#[derive(Clone, Copy)]
+pub(crate) struct Means<'a> {
+    pub macros: &'a [u8],
+    pub options: &'a Options,
+    pub limits: PageLimits,
+    pub alloc: Global,
+}
+
+/// Prints a page with the fixed table of its plan. Nothing is flushed.
+pub(crate) fn print_fixed<R: Source + Drop, W: Sink>(
+    page: R,
+    plan: &Plan,
+    means: Means<'_>,
+    desk: &mut Desk,
+    output: &mut W,
+) -> Result<Report, AllocError> {
+    let mut rooms = Rooms::new(means.alloc, means.limits, plan.cells, plan.characters)?;
+    let showing = Showing {
+        setup: Setup {
+            macros: means.macros,
+            stages: plan.stages,
+            tables: plan.tables,
+            characters: Target::of(plan.characters),
+            options: means.options,
+        },
+        spelling: plan.spelling,
+    };
+    let (_output, report) = print_page(page, &showing, plan, &mut rooms, desk, output);
+    Ok(report)
+}
 
 /// Prints a page by its plan. Nothing is flushed. Gives the output back.
 ///
@@ -52,6 +89,24 @@ pub(crate) fn print_page<R: Source + Drop, W: Sink + Drop>(
     let mut slots = [Complaint::NONE; MOST_COMPLAINTS];
     let mut complaints = SliceVec::over(&mut slots);
     print_shown(page, showing, rooms, &mut complaints, desk, output)
+}
+
+/// Prints a page into a sink that shows the characters of the page's own table. Nothing is flushed.
+pub(crate) fn print_in_own<R: Source + Drop, W: Sink + Drop>(
+    page: R,
+    setup: &Setup<'_>,
+    strikes: bool,
+    rooms: &mut Rooms,
+    desk: &mut Desk,
+    shown: OwnShown<'_, W>,
+) -> Report {
+    let mut shown = shown;
+    if strikes {
+        let report = print_bytes(page, setup, rooms, desk, &mut shown);
+        return ended(report, shown.finish().is_ok());
+    }
+    let (mut shown, report) = print_unstruck(page, setup, rooms, desk, shown);
+    ended(report, shown.finish().is_ok())
 }
 
 /// Prints a page without what is struck over.

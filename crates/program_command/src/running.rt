@@ -3,15 +3,15 @@ ghost use Rattle.std.specs.Prelude.{IfOk};
 ghost use Rattle.program_command.specs.Program.{IsOfRun, Passes};
 
 use crate::endings::{Ending, Place};
-use crate::plan::{LOOKED_AT, options_of, plan_of, rooms_of};
-use crate::printing::print_page;
+use crate::own::{is_beyond_ascii, may_need_own, print_beyond};
+use crate::plan::{LOOKED_AT, MORE_LOOKED_AT, limits_of, options_of, plan_of};
+use crate::printing::{Means, print_fixed};
 use crate::surroundings::Surroundings;
-use document_printing::{Front, Outcome, Report, Setup, Showing, hold};
+use document_printing::{Front, Outcome, Report, hold};
 use nr_command_options::chain;
 use nr_engine::{CountedAlloc, Desk, Sink, Source};
 use nr_page::Select;
 use preconv_coding::{Coding, UnderCoding};
-use preconv_converter::Target;
 use program_options::Job;
 use program_plan::{asks_for_others, is_manual, macros_of, text_before};
 use std::alloc::AllocError;
@@ -108,6 +108,11 @@ fn run_all<'a, T: Source + Drop, W: Sink>(
     if job.plain.is_alone && asks_for_others(front.first()) {
         return Ok(Ending::NeedsOthers);
     }
+    if front.first().len() == LOOKED_AT && is_beyond_ascii(front.first()) {
+        let mut more = vec![in around.alloc; 0u8; MORE_LOOKED_AT]?;
+        let front = hold(front, &mut more);
+        return run_front(job, select, around, macros, front, output);
+    }
     run_front(job, select, around, macros, front, output)
 }
 
@@ -137,20 +142,19 @@ fn run_front<'a, T: Source + Drop, R: Source + Drop, W: Sink>(
         return Ok(Ending::ReadFault(Place { name, line: 0 }));
     }
     let plan = plan_of(job, kind, around, front.first())?;
-    let mut rooms = rooms_of(job, &plan, around.alloc)?;
     let mut desk = Desk::new(&mut CountedAlloc::new(around.alloc), job.limits)?;
     let options = options_of(job, &plan, select);
-    let showing = Showing {
-        setup: Setup {
-            macros: &before,
-            stages: plan.stages,
-            tables: plan.tables,
-            characters: Target::of(plan.characters),
-            options: &options,
-        },
-        spelling: plan.spelling,
+    let means = Means {
+        macros: &before,
+        options: &options,
+        limits: limits_of(job),
+        alloc: around.alloc,
     };
-    let (_output, report) = print_page(front, &showing, &plan, &mut rooms, &mut desk, output);
+    let report = if may_need_own(&plan, front.first()) {
+        print_beyond(front, &plan, means, &mut desk, output)?
+    } else {
+        print_fixed(front, &plan, means, &mut desk, output)?
+    };
     Ok(ending_of(&report, name))
 }
 
