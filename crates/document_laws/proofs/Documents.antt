@@ -1,7 +1,7 @@
 -- The laws of documents, by those of the formatter's output.
 use Rattle.std.specs.Prelude.{◌==◌, ◌||◌}
 use Rattle.std.specs.List.{All}
-use Rattle.std.proofs.Common.{◌≡◌, ℕ, List, [], Bool, true, false, Some, refl, sym, ◌∙◌, ap, subst}
+use Rattle.std.proofs.Common.{◌≡◌, ℕ, List, [], ◌++◌, Bool, true, false, Some, refl, sym, ◌∙◌, ap, subst}
 use Rattle.nr_units.specs.Source.{Supply}
 use Rattle.nr_machine.specs.declared.outcome.Outcome as machine
 use Rattle.nr_machine.specs.declared.outcome.Outcome.TheVariants as machines
@@ -10,13 +10,16 @@ use Rattle.nr_laws.specs.Printed.{is_of_row}
 use Rattle.nr_laws.proofs.OutputLaws.{limits_unmet, one_answer, wider_limits}
 use Rattle.nr_laws.proofs.PrintedLaw.{no_control_goes_out}
 use Rattle.document_printing.specs.Document.{Ran, Setting, pages_of, state_of, told}
-use Rattle.document_printing.specs.Showing.{document, shown}
+use Rattle.document_printing.specs.Showing.{document, in_utf8, shown}
 use Rattle.document_printing.specs.declared.setup.Outcome.{Outcome}
 use Rattle.document_printing.specs.declared.setup.Outcome.TheVariants.{Done, Limit, NoRoom, ReadFault, TooLong, WriteFault}
+use Rattle.document_printing.specs.declared.showing.PageTable.{PageTable}
+use Rattle.document_printing.specs.declared.showing.PageTable.TheVariants.{Fixed, Own}
 use Rattle.document_printing.specs.declared.showing.Spelling.{Spelling}
 use Rattle.document_printing.specs.declared.showing.Spelling.TheVariants.{Bytes, Utf8}
 use Rattle.document_laws.specs.Laws.{DoneStays, FewMoves, NoControlGoesOut, OneDocument, Reaches, WiderLimitsLengthen, under}
 use Rattle.document_laws.proofs.Lines.{AreLines, lines-front, pages-lines}
+use Rattle.document_laws.proofs.OwnLines.{own-lines-front}
 
 -- what the formatter came to, of which that is shown
 record Came (s : Setting) (spelling : Spelling) (source : Supply) (n : ℕ) (outcome : Outcome) (out : List ℕ) : Type 0 where
@@ -55,10 +58,14 @@ came s spelling source n WriteFault out r = absurd (let never : false ≡ true =
 
 -- ---- wider limits
 
+utf8_front : (table : PageTable) (escapes : Bool) (pages rest : List ℕ) → AreLines pages → IsFrontOf (in_utf8 table escapes pages) (in_utf8 table escapes (pages ++ rest))
+utf8_front (Fixed table) escapes pages rest lines = lines-front table escapes pages rest lines
+utf8_front (Own table) escapes pages rest lines = own-lines-front table.now escapes pages rest lines
+
 shown_front : (spelling : Spelling) (pages more : List ℕ) → AreLines pages → IsFrontOf pages more → IsFrontOf (shown spelling pages) (shown spelling more)
 shown_front Bytes pages more lines front = front
 shown_front (Utf8 table escapes) pages more lines front =
-    subst (λ (z : List ℕ). IsFrontOf (shown (Utf8 table escapes) pages) (shown (Utf8 table escapes) z)) (sym front.whole_is) (lines-front table escapes pages front.rest lines)
+    subst (λ (z : List ℕ). IsFrontOf (in_utf8 table escapes pages) (in_utf8 table escapes z)) (sym front.whole_is) (utf8_front table escapes pages front.rest lines)
 
 pub wider_limits_lengthen : WiderLimitsLengthen
 wider_limits_lengthen s b spelling source n n' outcome outcome' out out' least r r' =

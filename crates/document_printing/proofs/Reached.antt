@@ -1,6 +1,7 @@
 -- What reaches a reader of what was printed.
 use Rattle.std.proofs.Common.{◌≡◌, ◌≢◌, ℕ, ◌+◌, ◌≤◌, suc, List, [], ◌∷◌, ◌++◌, append-nil, Bool, true, false, Option, None, Some, Result, Ok, Err, IsOk, refl, sym, ◌∙◌, ap, subst, arith}
 use Rattle.std.specs.Io.KnownBytes.{Appends}
+use Rattle.std.specs.Result.{is_err}
 use Rattle.std.proofs.KnownBytes.{Appends-nil}
 use Rattle.nr_units.specs.Failures.{SinkFailures, next_count, no_failures}
 use Rattle.nr_units.specs.Sink.{AppendsFront}
@@ -9,14 +10,18 @@ use Rattle.nr_units.specs.declared.source.Fault.{Fault}
 use Rattle.utf8_characters.specs.declared.table.Table.{Table}
 use Rattle.nr_machine.specs.declared.outcome.Outcome as machine
 use Rattle.nr_machine.specs.declared.outcome.Outcome.TheVariants as machines
-use Rattle.utf8_converter.specs.Cells.{converted}
+use Rattle.utf8_converter.specs.Cells as fixed
 use Rattle.utf8_converter.specs.Showing as utf8
-use Rattle.utf8_converter.specs.Showing.{Finishes, Making, made_of}
 use Rattle.utf8_converter.specs.Lines.{KeepsLines}
 use Rattle.utf8_converter.specs.Text.{IsText}
 use Rattle.utf8_converter.proofs.Text.{converted-lines}
+use Rattle.utf8_own_characters.specs.Table.{Characters}
+use Rattle.utf8_own_sink.specs.Cells as own
+use Rattle.utf8_own_sink.specs.Showing as owns
+use Rattle.utf8_own_sink.proofs.Finishing.{told-append}
 use Rattle.document_printing.specs.declared.setup.Outcome.{Outcome}
 use Rattle.document_printing.specs.declared.setup.Outcome.TheVariants as outcomes
+use Rattle.document_printing.specs.declared.showing.PageTable.TheVariants.{Fixed}
 use Rattle.document_printing.specs.declared.showing.Spelling.{Spelling}
 use Rattle.document_printing.specs.declared.showing.Spelling.TheVariants.{Bytes, Utf8}
 use Rattle.document_printing.specs.Document.{GoesOut, Prints, Setting, TellsWrites, pages_of}
@@ -46,61 +51,60 @@ shows-bytes-as w s source n o held new is p = subst (λ (x : Spelling). Shows s 
 
 -- ---- characters are shown
 
--- how a sink ended that showed bytes: it was made so, held this, and so many puts had failed
-pub record Ended (m : Making) (bytes : List ℕ) (puts : ℕ) (new : Option (List ℕ)) (failed : ℕ) (x : Result ℕ Fault) : Type 0 where
-  pub shown : (k : Making) (came : List ℕ) → bytes ≡ made_of k ++ came → Finishes k came new failed x
-  pub broke : (k : Making) (came more : List ℕ) → bytes ≡ made_of k ++ came → puts ≢ 0 → AppendsFront k.begun new (converted k.table k.escapes (came ++ more))
+-- all of these bytes went out as they are shown, or a prefix did
+abbrev Ends : {T : Type 0} → Spelling → Option (List ℕ) → ℕ → Option (List ℕ) → ℕ → List ℕ → Result T Fault → Type 0
+Ends w begun failed new after came (Ok x) = Appends begun new (shown w came) × (after ≡ failed)
+Ends w begun failed new after came (Err f) = AppendsFront begun new (shown w came) × (after ≡ next_count failed)
+
+-- How a sink ended that shows bytes so in another one, which had held this and failed so often: it had held these bytes and holds
+-- those, and so many of its puts had failed.
+pub record Ended (T : Type 0) (w : Spelling) (begun : Option (List ℕ)) (failed : ℕ) (before bytes : List ℕ) (puts : ℕ) (new : Option (List ℕ)) (after : ℕ) (x : Result T Fault) : Type 0 where
+  pub shows : (came : List ℕ) → bytes ≡ before ++ came → Ends w begun failed new after came x
+  pub broke : (came more : List ℕ) → bytes ≡ before ++ came → puts ≢ 0 → AppendsFront begun new (shown w (came ++ more))
   pub fails : IsOk x → puts ≡ 0
+  pub nothing : shown w [] ≡ []
 
 next_some : next_count 0 ≢ 0
 unfolding next_count
 next_some e = let never : 1 ≡ 0 = e in absurd (omega (arith, never))
 
-nothing_shown : (t : Table) (escapes : Bool) → converted t escapes [] ≡ []
-nothing_shown t true = refl
-nothing_shown t false = refl
-
 -- all that came is shown
-all_shown : (s : Setting) (m : Making) (source : Supply) (n : ℕ) (before bytes : List ℕ) (puts : ℕ) (new : Option (List ℕ)) (failed k : ℕ) → before ≡ made_of m
-    → Ended m bytes puts new failed (Ok k) → bytes ≡ before ++ pages_of s source n → Appends m.begun new (document s (Utf8 m.table m.escapes) source n)
-all_shown s m source n before bytes puts new failed k first e came =
-    let done : utf8.IsShown m (pages_of s source n) new failed k = e.shown m (pages_of s source n) (came ∙ ap (λ (xs : List ℕ). xs ++ pages_of s source n) first) in
-    done.went_out
+all_shown : {T : Type 0} (s : Setting) (w : Spelling) (begun : Option (List ℕ)) (failed : ℕ) (source : Supply) (n : ℕ) (before bytes : List ℕ) (puts : ℕ) (new : Option (List ℕ)) (after : ℕ) (k : T)
+    → Ended T w begun failed before bytes puts new after (Ok k) → bytes ≡ before ++ pages_of s source n → Appends begun new (document s w source n)
+all_shown s w begun failed source n before bytes puts new after k e came =
+    let done : Appends begun new (shown w (pages_of s source n)) × (after ≡ failed) = e.shows (pages_of s source n) came in
+    done.0
 
--- or a front of it
-front_shown : (s : Setting) (m : Making) (source : Supply) (n : ℕ) (before bytes : List ℕ) (puts : ℕ) (new : Option (List ℕ)) (failed : ℕ) (f : Fault) → before ≡ made_of m
-    → Ended m bytes puts new failed (Err f) → bytes ≡ before ++ pages_of s source n → AppendsFront m.begun new (document s (Utf8 m.table m.escapes) source n)
-front_shown s m source n before bytes puts new failed f first e came =
-    let cut : utf8.IsCutOff m (pages_of s source n) new failed = e.shown m (pages_of s source n) (came ∙ ap (λ (xs : List ℕ). xs ++ pages_of s source n) first) in
-    cut.went_out
+-- or a prefix of it
+front_shown : {T : Type 0} (s : Setting) (w : Spelling) (begun : Option (List ℕ)) (failed : ℕ) (source : Supply) (n : ℕ) (before bytes : List ℕ) (puts : ℕ) (new : Option (List ℕ)) (after : ℕ) (f : Fault)
+    → Ended T w begun failed before bytes puts new after (Err f) → bytes ≡ before ++ pages_of s source n → AppendsFront begun new (document s w source n)
+front_shown s w begun failed source n before bytes puts new after f e came =
+    let cut : AppendsFront begun new (shown w (pages_of s source n)) × (after ≡ next_count failed) = e.shows (pages_of s source n) came in
+    cut.0
 
-some_shown : (s : Setting) (m : Making) (source : Supply) (n : ℕ) (before bytes : List ℕ) (puts : ℕ) (new : Option (List ℕ)) (failed : ℕ) (x : Result ℕ Fault) → before ≡ made_of m
-    → Ended m bytes puts new failed x → bytes ≡ before ++ pages_of s source n → AppendsFront m.begun new (document s (Utf8 m.table m.escapes) source n)
-some_shown s m source n before bytes puts new failed (Ok k) first e came =
-    fronts m.begun new (document s (Utf8 m.table m.escapes) source n) (all_shown s m source n before bytes puts new failed k first e came)
-some_shown s m source n before bytes puts new failed (Err f) first e came = front_shown s m source n before bytes puts new failed f first e came
+some_shown : {T : Type 0} (s : Setting) (w : Spelling) (begun : Option (List ℕ)) (failed : ℕ) (source : Supply) (n : ℕ) (before bytes : List ℕ) (puts : ℕ) (new : Option (List ℕ)) (after : ℕ) (x : Result T Fault)
+    → Ended T w begun failed before bytes puts new after x → bytes ≡ before ++ pages_of s source n → AppendsFront begun new (document s w source n)
+some_shown s w begun failed source n before bytes puts new after (Ok k) e came =
+    fronts begun new (document s w source n) (all_shown s w begun failed source n before bytes puts new after k e came)
+some_shown s w begun failed source n before bytes puts new after (Err f) e came = front_shown s w begun failed source n before bytes puts new after f e came
 
--- a put failed: a front of the pages came
-short_shown : (s : Setting) (m : Making) (source : Supply) (n : ℕ) (before bytes : List ℕ) (puts : ℕ) (new : Option (List ℕ)) (failed : ℕ) (x : Result ℕ Fault) → before ≡ made_of m
-    → Ended m bytes puts new failed x → AppendsFront (Some before) (Some bytes) (pages_of s source (suc n)) → puts ≢ 0 → IsFront s (Utf8 m.table m.escapes) source n m.begun new
-short_shown s m source n before bytes puts new failed x first e came some =
-    let P : List ℕ → Type 0 = λ xs. AppendsFront m.begun new (converted m.table m.escapes xs) in
-    let said : bytes ≡ made_of m ++ came.0 = came.3 ∙ ap (λ (xs : List ℕ). xs ++ came.0) first in
-    record { made = suc n; few = omega arith; front = subst P (sym came.2) (e.broke m came.0 came.1 said some) }
+-- a put failed: a prefix of the pages came
+short_shown : {T : Type 0} (s : Setting) (w : Spelling) (begun : Option (List ℕ)) (failed : ℕ) (source : Supply) (n : ℕ) (before bytes : List ℕ) (puts : ℕ) (new : Option (List ℕ)) (after : ℕ) (x : Result T Fault)
+    → Ended T w begun failed before bytes puts new after x → AppendsFront (Some before) (Some bytes) (pages_of s source (suc n)) → puts ≢ 0 → IsFront s w source n begun new
+short_shown s w begun failed source n before bytes puts new after x e came some =
+    let P : List ℕ → Type 0 = λ xs. AppendsFront begun new (shown w xs) in
+    record { made = suc n; few = omega arith; front = subst P (sym came.2) (e.broke came.0 came.1 came.3 some) }
 
 -- nothing came
-none_ends : (m : Making) (before bytes : List ℕ) (puts : ℕ) (new : Option (List ℕ)) (failed : ℕ) (x : Result ℕ Fault) → before ≡ made_of m
-    → Ended m bytes puts new failed x → Some bytes ≡ Some before → Finishes m [] new failed x
-none_ends m before bytes puts new failed x first e same =
-    let kept : bytes ≡ before = cc in
-    e.shown m [] (kept ∙ first ∙ sym (append-nil (made_of m)))
+none_came : (before bytes : List ℕ) → Some bytes ≡ Some before → bytes ≡ before ++ []
+none_came before bytes same = let kept : bytes ≡ before = cc in kept ∙ sym (append-nil before)
 
-none_shown : (m : Making) (before bytes : List ℕ) (puts : ℕ) (new : Option (List ℕ)) (failed k : ℕ) → before ≡ made_of m
-    → Ended m bytes puts new failed (Ok k) → Some bytes ≡ Some before → Appends m.begun new []
-none_shown m before bytes puts new failed k first e same =
-    let P : List ℕ → Type 0 = λ xs. Appends m.begun new xs in
-    let done : utf8.IsShown m [] new failed k = none_ends m before bytes puts new failed (Ok k) first e same in
-    subst P (nothing_shown m.table m.escapes) done.went_out
+none_shown : {T : Type 0} (w : Spelling) (begun : Option (List ℕ)) (failed : ℕ) (before bytes : List ℕ) (puts : ℕ) (new : Option (List ℕ)) (after : ℕ) (k : T)
+    → Ended T w begun failed before bytes puts new after (Ok k) → Some bytes ≡ Some before → Appends begun new []
+none_shown w begun failed before bytes puts new after k e same =
+    let P : List ℕ → Type 0 = λ xs. Appends begun new xs in
+    let done : Appends begun new (shown w []) × (after ≡ failed) = e.shows [] (none_came before bytes same) in
+    subst P e.nothing done.0
 
 nothing_first : (front rest : List ℕ) → [] ≡ front ++ rest → front ≡ []
 nothing_first [] rest e = refl
@@ -111,111 +115,157 @@ no_front held new bytes f =
     let P : List ℕ → Type 0 = λ xs. Appends held new xs in
     ([], bytes, refl, subst P (nothing_first f.0 f.1 f.2) f.3)
 
-none_front : (s : Setting) (m : Making) (source : Supply) (n : ℕ) (before bytes : List ℕ) (puts : ℕ) (new : Option (List ℕ)) (failed : ℕ) (f : Fault) → before ≡ made_of m
-    → Ended m bytes puts new failed (Err f) → Some bytes ≡ Some before → IsFront s (Utf8 m.table m.escapes) source n m.begun new
-none_front s m source n before bytes puts new failed f first e same =
-    let P : List ℕ → Type 0 = λ xs. AppendsFront m.begun new xs in
-    let cut : utf8.IsCutOff m [] new failed = none_ends m before bytes puts new failed (Err f) first e same in
+none_front : {T : Type 0} (s : Setting) (w : Spelling) (begun : Option (List ℕ)) (failed : ℕ) (source : Supply) (n : ℕ) (before bytes : List ℕ) (puts : ℕ) (new : Option (List ℕ)) (after : ℕ) (f : Fault)
+    → Ended T w begun failed before bytes puts new after (Err f) → Some bytes ≡ Some before → IsFront s w source n begun new
+none_front s w begun failed source n before bytes puts new after f e same =
+    let P : List ℕ → Type 0 = λ xs. AppendsFront begun new xs in
+    let cut : AppendsFront begun new (shown w []) × (after ≡ next_count failed) = e.shows [] (none_came before bytes same) in
     record {
       made = n;
       few = omega arith;
-      front = no_front m.begun new (document s (Utf8 m.table m.escapes) source n) (subst P (nothing_shown m.table m.escapes) cut.went_out);
+      front = no_front begun new (document s w source n) (subst P e.nothing cut.0);
     }
 
-pub shows-utf8 : (s : Setting) (m : Making) (source : Supply) (n : ℕ) (o : Outcome) (before bytes : List ℕ) (none puts : ℕ) (new : Option (List ℕ)) (failed : ℕ) (x : Result ℕ Fault)
-    → before ≡ made_of m → none ≡ 0 → Ended m bytes puts new failed x → Prints s source n o (Some before) (Some bytes) → TellsWrites o none puts
-    → Shows s (Utf8 m.table m.escapes) source n (told_shown o x) m.begun new
-shows-utf8 s m source n outcomes.Done before bytes none puts new failed (Ok k) first zero e p tells = record { ran = p.ran; out = all_shown s m source n before bytes puts new failed k first e p.out }
-shows-utf8 s m source n outcomes.Done before bytes none puts new failed (Err f) first zero e p tells =
-    record { made = n; few = omega arith; front = front_shown s m source n before bytes puts new failed f first e p.out }
-shows-utf8 s m source n (outcomes.Limit which at) before bytes none puts new failed (Ok k) first zero e p tells =
-    record { ran = p.ran; out = all_shown s m source n before bytes puts new failed k first e p.out }
-shows-utf8 s m source n (outcomes.Limit which at) before bytes none puts new failed (Err f) first zero e p tells =
-    record { made = n; few = omega arith; front = front_shown s m source n before bytes puts new failed f first e p.out }
-shows-utf8 s m source n outcomes.NoRoom before bytes none puts new failed (Ok k) first zero e p tells = (p.0, none_shown m before bytes puts new failed k first e p.1)
-shows-utf8 s m source n outcomes.NoRoom before bytes none puts new failed (Err f) first zero e p tells = none_front s m source n before bytes puts new failed f first e p.1
-shows-utf8 s m source n outcomes.ReadFault before bytes none puts new failed (Ok k) first zero e p tells = λ plain. some_shown s m source n before bytes puts new failed (Ok k) first e (p plain)
-shows-utf8 s m source n outcomes.ReadFault before bytes none puts new failed (Err f) first zero e p tells = λ plain. some_shown s m source n before bytes puts new failed (Err f) first e (p plain)
-shows-utf8 s m source n outcomes.TooLong before bytes none puts new failed (Ok k) first zero e p tells = λ plain. some_shown s m source n before bytes puts new failed (Ok k) first e (p plain)
-shows-utf8 s m source n outcomes.TooLong before bytes none puts new failed (Err f) first zero e p tells = λ plain. some_shown s m source n before bytes puts new failed (Err f) first e (p plain)
-shows-utf8 s m source n outcomes.WriteFault before bytes none puts new failed (Ok k) first zero e p tells =
-    short_shown s m source n before bytes puts new failed (Ok k) first e p (λ none_did. next_some (sym (ap next_count zero) ∙ sym tells ∙ none_did))
-shows-utf8 s m source n outcomes.WriteFault before bytes none puts new failed (Err f) first zero e p tells =
-    short_shown s m source n before bytes puts new failed (Err f) first e p (λ none_did. next_some (sym (ap next_count zero) ∙ sym tells ∙ none_did))
+pub shows-ended : {T : Type 0} (s : Setting) (w : Spelling) (begun : Option (List ℕ)) (failed : ℕ) (source : Supply) (n : ℕ) (o : Outcome) (before bytes : List ℕ) (none puts : ℕ) (new : Option (List ℕ)) (after : ℕ) (x : Result T Fault) → none ≡ 0 → Ended T w begun failed before bytes puts new after x → Prints s source n o (Some before) (Some bytes) → TellsWrites o none puts
+    → Shows s w source n (told_shown o (is_err x)) begun new
+shows-ended s w begun failed source n outcomes.Done before bytes none puts new after (Ok k) zero e p tells = record { ran = p.ran; out = all_shown s w begun failed source n before bytes puts new after k e p.out }
+shows-ended s w begun failed source n outcomes.Done before bytes none puts new after (Err f) zero e p tells = record { made = n; few = omega arith; front = front_shown s w begun failed source n before bytes puts new after f e p.out }
+shows-ended s w begun failed source n (outcomes.Limit which at) before bytes none puts new after (Ok k) zero e p tells = record { ran = p.ran; out = all_shown s w begun failed source n before bytes puts new after k e p.out }
+shows-ended s w begun failed source n (outcomes.Limit which at) before bytes none puts new after (Err f) zero e p tells = record { made = n; few = omega arith; front = front_shown s w begun failed source n before bytes puts new after f e p.out }
+shows-ended s w begun failed source n outcomes.NoRoom before bytes none puts new after (Ok k) zero e p tells = (p.0, none_shown w begun failed before bytes puts new after k e p.1)
+shows-ended s w begun failed source n outcomes.NoRoom before bytes none puts new after (Err f) zero e p tells = none_front s w begun failed source n before bytes puts new after f e p.1
+shows-ended s w begun failed source n outcomes.ReadFault before bytes none puts new after (Ok k) zero e p tells = λ plain. some_shown s w begun failed source n before bytes puts new after (Ok k) e (p plain)
+shows-ended s w begun failed source n outcomes.ReadFault before bytes none puts new after (Err f) zero e p tells = λ plain. some_shown s w begun failed source n before bytes puts new after (Err f) e (p plain)
+shows-ended s w begun failed source n outcomes.TooLong before bytes none puts new after (Ok k) zero e p tells = λ plain. some_shown s w begun failed source n before bytes puts new after (Ok k) e (p plain)
+shows-ended s w begun failed source n outcomes.TooLong before bytes none puts new after (Err f) zero e p tells = λ plain. some_shown s w begun failed source n before bytes puts new after (Err f) e (p plain)
+shows-ended s w begun failed source n outcomes.WriteFault before bytes none puts new after (Ok k) zero e p tells = 
+    short_shown s w begun failed source n before bytes puts new after (Ok k) e p (λ none_did. next_some (sym (ap next_count zero) ∙ sym tells ∙ none_did))
+shows-ended s w begun failed source n outcomes.WriteFault before bytes none puts new after (Err f) zero e p tells = 
+    short_shown s w begun failed source n before bytes puts new after (Err f) e p (λ none_did. next_some (sym (ap next_count zero) ∙ sym tells ∙ none_did))
 
-pub shows-utf8-as : (w : Spelling) (s : Setting) (m : Making) (source : Supply) (n : ℕ) (o said : Outcome) (before bytes : List ℕ) (none puts : ℕ) (new : Option (List ℕ)) (failed : ℕ) (x : Result ℕ Fault)
-    → w ≡ Utf8 m.table m.escapes → said ≡ told_shown o x → before ≡ made_of m → none ≡ 0 → Ended m bytes puts new failed x → Prints s source n o (Some before) (Some bytes)
-    → TellsWrites o none puts → Shows s w source n said m.begun new
-shows-utf8-as w s m source n o said before bytes none puts new failed x is same first zero e p tells =
-    let P : Spelling → Type 0 = λ y. Shows s y source n said m.begun new in
-    let Q : Outcome → Type 0 = λ y. Shows s (Utf8 m.table m.escapes) source n y m.begun new in
-    subst P (sym is) (subst Q (sym same) (shows-utf8 s m source n o before bytes none puts new failed x first zero e p tells))
+pub shows-as : {T : Type 0} (s : Setting) (w : Spelling) (begun : Option (List ℕ)) (failed : ℕ) (source : Supply) (n : ℕ) (v : Spelling) (o said : Outcome) (before bytes : List ℕ) (none puts : ℕ) (new : Option (List ℕ)) (after : ℕ) (x : Result T Fault) → v ≡ w → said ≡ told_shown o (is_err x) → none ≡ 0 → Ended T w begun failed before bytes puts new after x
+    → Prints s source n o (Some before) (Some bytes) → TellsWrites o none puts → Shows s v source n said begun new
+shows-as s w begun failed source n v o said before bytes none puts new after x is same zero e p tells =
+    let P : Spelling → Type 0 = λ y. Shows s y source n said begun new in
+    let Q : Outcome → Type 0 = λ y. Shows s w source n y begun new in
+    subst P (sym is) (subst Q (sym same) (shows-ended s w begun failed source n o before bytes none puts new after x zero e p tells))
 
 -- ---- faults of the output
 
-went : (m : Making) (bytes came : List ℕ) (puts : ℕ) (new : Option (List ℕ)) (failed k : ℕ) → Ended m bytes puts new failed (Ok k) → bytes ≡ made_of m ++ came → failed ≡ m.failed
-went m bytes came puts new failed k e said = let done : utf8.IsShown m came new failed k = e.shown m came said in done.none
+went : {T : Type 0} (w : Spelling) (begun : Option (List ℕ)) (failed : ℕ) (before bytes came : List ℕ) (puts : ℕ) (new : Option (List ℕ)) (after : ℕ) (k : T)
+    → Ended T w begun failed before bytes puts new after (Ok k) → bytes ≡ before ++ came → after ≡ failed
+went w begun failed before bytes came puts new after k e is =
+    let done : Appends begun new (shown w came) × (after ≡ failed) = e.shows came is in
+    done.1
 
-cut : (m : Making) (bytes came : List ℕ) (puts : ℕ) (new : Option (List ℕ)) (failed : ℕ) (f : Fault) → Ended m bytes puts new failed (Err f) → bytes ≡ made_of m ++ came → failed ≡ next_count m.failed
-cut m bytes came puts new failed f e said = let off : utf8.IsCutOff m came new failed = e.shown m came said in off.one
+cut : {T : Type 0} (w : Spelling) (begun : Option (List ℕ)) (failed : ℕ) (before bytes came : List ℕ) (puts : ℕ) (new : Option (List ℕ)) (after : ℕ) (f : Fault)
+    → Ended T w begun failed before bytes puts new after (Err f) → bytes ≡ before ++ came → after ≡ next_count failed
+cut w begun failed before bytes came puts new after f e is =
+    let off : AppendsFront begun new (shown w came) × (after ≡ next_count failed) = e.shows came is in
+    off.1
 
-made : (m : Making) (before bytes came : List ℕ) → before ≡ made_of m → bytes ≡ before ++ came → bytes ≡ made_of m ++ came
-made m before bytes came first is = is ∙ ap (λ (xs : List ℕ). xs ++ came) first
-
-made_none : (m : Making) (before bytes : List ℕ) → before ≡ made_of m → Some bytes ≡ Some before → bytes ≡ made_of m ++ []
-made_none m before bytes first same = let kept : bytes ≡ before = cc in kept ∙ first ∙ sym (append-nil (made_of m))
-
-pub tells-utf8 : (s : Setting) (m : Making) (source : Supply) (n : ℕ) (o : Outcome) (before bytes : List ℕ) (none puts : ℕ) (new : Option (List ℕ)) (failed : ℕ) (x : Result ℕ Fault)
-    → before ≡ made_of m → none ≡ 0 → Ended m bytes puts new failed x → Prints s source n o (Some before) (Some bytes) → TellsWrites o none puts
-    → TellsWrites (told_shown o x) m.failed failed
-tells-utf8 s m source n outcomes.Done before bytes none puts new failed (Ok k) first zero e p tells = went m bytes (pages_of s source n) puts new failed k e (made m before bytes (pages_of s source n) first p.out)
-tells-utf8 s m source n outcomes.Done before bytes none puts new failed (Err f) first zero e p tells = cut m bytes (pages_of s source n) puts new failed f e (made m before bytes (pages_of s source n) first p.out)
-tells-utf8 s m source n (outcomes.Limit which at) before bytes none puts new failed (Ok k) first zero e p tells =
-    went m bytes (pages_of s source n) puts new failed k e (made m before bytes (pages_of s source n) first p.out)
-tells-utf8 s m source n (outcomes.Limit which at) before bytes none puts new failed (Err f) first zero e p tells =
-    cut m bytes (pages_of s source n) puts new failed f e (made m before bytes (pages_of s source n) first p.out)
-tells-utf8 s m source n outcomes.NoRoom before bytes none puts new failed (Ok k) first zero e p tells = went m bytes [] puts new failed k e (made_none m before bytes first p.1)
-tells-utf8 s m source n outcomes.NoRoom before bytes none puts new failed (Err f) first zero e p tells = cut m bytes [] puts new failed f e (made_none m before bytes first p.1)
-tells-utf8 s m source n outcomes.ReadFault before bytes none puts new failed (Ok k) first zero e p tells = tt
-tells-utf8 s m source n outcomes.ReadFault before bytes none puts new failed (Err f) first zero e p tells = tt
-tells-utf8 s m source n outcomes.TooLong before bytes none puts new failed (Ok k) first zero e p tells = tt
-tells-utf8 s m source n outcomes.TooLong before bytes none puts new failed (Err f) first zero e p tells = tt
-tells-utf8 s m source n outcomes.WriteFault before bytes none puts new failed (Ok k) first zero e p tells =
+tells-ended : {T : Type 0} (s : Setting) (w : Spelling) (begun : Option (List ℕ)) (failed : ℕ) (source : Supply) (n : ℕ) (o : Outcome) (before bytes : List ℕ) (none puts : ℕ) (new : Option (List ℕ)) (after : ℕ) (x : Result T Fault) → none ≡ 0 → Ended T w begun failed before bytes puts new after x → Prints s source n o (Some before) (Some bytes) → TellsWrites o none puts
+    → TellsWrites (told_shown o (is_err x)) failed after
+tells-ended s w begun failed source n outcomes.Done before bytes none puts new after (Ok k) zero e p tells = went w begun failed before bytes (pages_of s source n) puts new after k e p.out
+tells-ended s w begun failed source n outcomes.Done before bytes none puts new after (Err f) zero e p tells = cut w begun failed before bytes (pages_of s source n) puts new after f e p.out
+tells-ended s w begun failed source n (outcomes.Limit which at) before bytes none puts new after (Ok k) zero e p tells = went w begun failed before bytes (pages_of s source n) puts new after k e p.out
+tells-ended s w begun failed source n (outcomes.Limit which at) before bytes none puts new after (Err f) zero e p tells = cut w begun failed before bytes (pages_of s source n) puts new after f e p.out
+tells-ended s w begun failed source n outcomes.NoRoom before bytes none puts new after (Ok k) zero e p tells = went w begun failed before bytes [] puts new after k e (none_came before bytes p.1)
+tells-ended s w begun failed source n outcomes.NoRoom before bytes none puts new after (Err f) zero e p tells = cut w begun failed before bytes [] puts new after f e (none_came before bytes p.1)
+tells-ended s w begun failed source n outcomes.ReadFault before bytes none puts new after (Ok k) zero e p tells = tt
+tells-ended s w begun failed source n outcomes.ReadFault before bytes none puts new after (Err f) zero e p tells = tt
+tells-ended s w begun failed source n outcomes.TooLong before bytes none puts new after (Ok k) zero e p tells = tt
+tells-ended s w begun failed source n outcomes.TooLong before bytes none puts new after (Err f) zero e p tells = tt
+tells-ended s w begun failed source n outcomes.WriteFault before bytes none puts new after (Ok k) zero e p tells = 
     let ok : puts ≡ 0 = e.fails refl in
     absurd (next_some (sym (ap next_count zero) ∙ sym tells ∙ ok))
-tells-utf8 s m source n outcomes.WriteFault before bytes none puts new failed (Err f) first zero e p tells = cut m bytes p.0 puts new failed f e (made m before bytes p.0 first p.3)
+tells-ended s w begun failed source n outcomes.WriteFault before bytes none puts new after (Err f) zero e p tells = cut w begun failed before bytes p.0 puts new after f e p.3
 
-pub tells-utf8-as : (s : Setting) (m : Making) (source : Supply) (n : ℕ) (o said : Outcome) (before bytes : List ℕ) (none puts : ℕ) (new : Option (List ℕ)) (failed : ℕ) (x : Result ℕ Fault)
-    → said ≡ told_shown o x → before ≡ made_of m → none ≡ 0 → Ended m bytes puts new failed x → Prints s source n o (Some before) (Some bytes) → TellsWrites o none puts
-    → TellsWrites said m.failed failed
-tells-utf8-as s m source n o said before bytes none puts new failed x same first zero e p tells =
-    subst (λ (y : Outcome). TellsWrites y m.failed failed) (sym same) (tells-utf8 s m source n o before bytes none puts new failed x first zero e p tells)
+pub tells-as : {T : Type 0} (s : Setting) (w : Spelling) (begun : Option (List ℕ)) (failed : ℕ) (source : Supply) (n : ℕ) (o said : Outcome) (before bytes : List ℕ) (none puts : ℕ) (new : Option (List ℕ)) (after : ℕ) (x : Result T Fault) → said ≡ told_shown o (is_err x) → none ≡ 0 → Ended T w begun failed before bytes puts new after x
+    → Prints s source n o (Some before) (Some bytes) → TellsWrites o none puts → TellsWrites said failed after
+tells-as s w begun failed source n o said before bytes none puts new after x same zero e p tells =
+    subst (λ (y : Outcome). TellsWrites y failed after) (sym same) (tells-ended s w begun failed source n o before bytes none puts new after x zero e p tells)
+
+-- ---- the sinks that show bytes
+
+nothing_fixed : (t : Table) (escapes : Bool) → fixed.converted t escapes [] ≡ []
+nothing_fixed t true = refl
+nothing_fixed t false = refl
+
+nothing_own : (t : Characters) (escapes : Bool) → own.converted t escapes [] ≡ []
+nothing_own t true = refl
+nothing_own t false = refl
+
+fixed_ends : (w : Spelling) (m : utf8.Making) (came : List ℕ) (new : Option (List ℕ)) (after : ℕ) (x : Result ℕ Fault) → shown w came ≡ fixed.converted m.table m.escapes came
+    → utf8.Finishes m came new after x → Ends w m.begun m.failed new after came x
+fixed_ends w m came new after (Ok k) is e =
+    let done : utf8.IsShown m came new after k = e in
+    (subst (λ (z : List ℕ). Appends m.begun new z) (sym is) done.went_out, done.none)
+fixed_ends w m came new after (Err f) is e =
+    let off : utf8.IsCutOff m came new after = e in
+    (subst (λ (z : List ℕ). AppendsFront m.begun new z) (sym is) off.went_out, off.one)
+
+-- with a fixed table
+pub fixed-ended : (w : Spelling) (m : utf8.Making) (before bytes : List ℕ) (puts : ℕ) (new : Option (List ℕ)) (after : ℕ) (x : Result ℕ Fault) → ((z : List ℕ) → shown w z ≡ fixed.converted m.table m.escapes z)
+    → before ≡ utf8.made_of m
+    → ((k : utf8.Making) (came : List ℕ) → bytes ≡ utf8.made_of k ++ came → utf8.Finishes k came new after x)
+    → ((k : utf8.Making) (came more : List ℕ) → bytes ≡ utf8.made_of k ++ came → puts ≢ 0 → AppendsFront k.begun new (fixed.converted k.table k.escapes (came ++ more)))
+    → (IsOk x → puts ≡ 0) → Ended ℕ w m.begun m.failed before bytes puts new after x
+fixed-ended w m before bytes puts new after x is first shows broke fails = record {
+  shows = λ came so. fixed_ends w m came new after x (is came) (shows m came (so ∙ ap (λ (z : List ℕ). z ++ came) first));
+  broke = λ came more so some. subst (λ (z : List ℕ). AppendsFront m.begun new z) (sym (is (came ++ more))) (broke m came more (so ∙ ap (λ (z : List ℕ). z ++ came) first) some);
+  fails = fails;
+  nothing = is [] ∙ nothing_fixed m.table m.escapes;
+}
+
+own_ends : (w : Spelling) (m : owns.Making) (came : List ℕ) (new : Option (List ℕ)) (after : ℕ) (x : Result (Unit {0}) Fault) → shown w came ≡ own.converted m.table m.escapes came
+    → owns.Finishes m came new after x → Ends w m.begun m.failed new after came x
+own_ends w m came new after (Ok k) is e =
+    let done : owns.IsShown m came new after = e in
+    (subst (λ (z : List ℕ). Appends m.begun new z) (sym is) done.went_out, done.none)
+own_ends w m came new after (Err f) is e =
+    let off : owns.IsCutOff m came new after = e in
+    (subst (λ (z : List ℕ). AppendsFront m.begun new z) (sym is) off.went_out, off.one)
+
+-- with the page's own
+pub own-ended : (w : Spelling) (m : owns.Making) (before bytes : List ℕ) (puts : ℕ) (new : Option (List ℕ)) (after : ℕ) (x : Result (Unit {0}) Fault) → ((z : List ℕ) → shown w z ≡ own.converted m.table m.escapes z)
+    → before ≡ owns.told m []
+    → ((k : owns.Making) (came : List ℕ) → bytes ≡ owns.told k came → owns.Finishes k came new after x)
+    → ((k : owns.Making) (came more : List ℕ) → bytes ≡ owns.told k came → puts ≢ 0 → AppendsFront k.begun new (own.converted k.table k.escapes (came ++ more)))
+    → (IsOk x → puts ≡ 0) → Ended (Unit {0}) w m.begun m.failed before bytes puts new after x
+own-ended w m before bytes puts new after x is first shows broke fails = record {
+  shows = λ came so. own_ends w m came new after x (is came) (shows m came (so ∙ ap (λ (z : List ℕ). z ++ came) first ∙ sym (told-append m [] came)));
+  broke = λ came more so some. subst (λ (z : List ℕ). AppendsFront m.begun new z) (sym (is (came ++ more)))
+      (broke m came more (so ∙ ap (λ (z : List ℕ). z ++ came) first ∙ sym (told-append m [] came)) some);
+  fails = fails;
+  nothing = is [] ∙ nothing_own m.table m.escapes;
+}
 
 -- ---- a text for a terminal
 
-text_of : (table : Table) (escapes : Bool) (pages bytes : List ℕ) → bytes ≡ [] ++ converted table escapes pages → IsText escapes bytes
+text_of : (table : Table) (escapes : Bool) (pages bytes : List ℕ) → bytes ≡ [] ++ fixed.converted table escapes pages → IsText escapes bytes
 text_of table escapes pages bytes is =
     let P : List ℕ → Type 0 = λ xs. IsText escapes xs in
     let lines = converted-lines table escapes pages in
     subst P (sym is) lines.text
 
 pub reached : (s : Setting) (table : Table) (escapes : Bool) (source : Supply) (n : ℕ) (o : Outcome) (bytes : List ℕ)
-    → is_whole o ≡ true → Shows s (Utf8 table escapes) source n o (Some []) (Some bytes) → IsText escapes bytes
+    → is_whole o ≡ true → Shows s (Utf8 (Fixed table) escapes) source n o (Some []) (Some bytes) → IsText escapes bytes
 reached s table escapes source n outcomes.Done bytes all shows = text_of table escapes (pages_of s source n) bytes shows.out
 reached s table escapes source n (outcomes.Limit which at) bytes all shows = text_of table escapes (pages_of s source n) bytes shows.out
 reached s table escapes source n outcomes.NoRoom bytes all shows =
-    text_of table escapes [] bytes (shows.1 ∙ sym (nothing_shown table escapes))
+    text_of table escapes [] bytes (shows.1 ∙ sym (nothing_fixed table escapes))
 reached s table escapes source n outcomes.ReadFault bytes all shows = absurd (let never : false ≡ true = all in cc)
 reached s table escapes source n outcomes.TooLong bytes all shows = absurd (let never : false ≡ true = all in cc)
 reached s table escapes source n outcomes.WriteFault bytes all shows = absurd (let never : false ≡ true = all in cc)
 
 pub cut-reached : (s : Setting) (table : Table) (escapes : Bool) (source : Supply) (n : ℕ) (bytes : List ℕ)
-    → Shows s (Utf8 table escapes) source n outcomes.WriteFault (Some []) (Some bytes) → IsFrontOfText escapes bytes
+    → Shows s (Utf8 (Fixed table) escapes) source n outcomes.WriteFault (Some []) (Some bytes) → IsFrontOfText escapes bytes
 cut-reached s table escapes source n bytes shows =
     let front = shows.front in
     let P : List ℕ → Type 0 = λ xs. IsText escapes xs in
     let lines = converted-lines table escapes (pages_of s source shows.made) in
     record { rest = front.1; text = subst P (front.2 ∙ ap (λ (xs : List ℕ). xs ++ front.1) (sym front.3)) lines.text }
 
-pub lines-stay : (s : Setting) (table : Table) (escapes : Bool) (source : Supply) (n : ℕ) → KeepsLines table escapes (pages_of s source n) (document s (Utf8 table escapes) source n)
+pub lines-stay : (s : Setting) (table : Table) (escapes : Bool) (source : Supply) (n : ℕ) → KeepsLines table escapes (pages_of s source n) (document s (Utf8 (Fixed table) escapes) source n)
 lines-stay s table escapes source n = converted-lines table escapes (pages_of s source n)

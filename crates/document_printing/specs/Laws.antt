@@ -8,6 +8,7 @@ use Rattle.document_printing.specs.Document.{Setting, pages_of}
 use Rattle.document_printing.specs.Showing.{Shows, document}
 use Rattle.document_printing.specs.declared.setup.Outcome.{Outcome}
 use Rattle.document_printing.specs.declared.setup.Outcome.TheVariants as outcomes
+use Rattle.document_printing.specs.declared.showing.PageTable.TheVariants.{Fixed}
 use Rattle.document_printing.specs.declared.showing.Spelling.TheVariants.{Utf8}
 
 -- all that the pages come to went out
@@ -26,14 +27,14 @@ pub record IsFrontOfText (escapes : Bool) (bytes : List ℕ) : Type 0 where
 -- escape sequences only as they were asked for.
 abbrev pub ReachesTerminal : Type 0
 ReachesTerminal = (s : Setting) (table : Table) (escapes : Bool) (source : Supply) (n : ℕ) (outcome : Outcome) (bytes : List ℕ)
-    → is_whole outcome ≡ true → Shows s (Utf8 table escapes) source n outcome (Some []) (Some bytes) → IsText escapes bytes
+    → is_whole outcome ≡ true → Shows s (Utf8 (Fixed table) escapes) source n outcome (Some []) (Some bytes) → IsText escapes bytes
 
 -- where the terminal failed, a prefix of such a text did
 abbrev pub CutReachesTerminal : Type 0
 CutReachesTerminal = (s : Setting) (table : Table) (escapes : Bool) (source : Supply) (n : ℕ) (bytes : List ℕ)
-    → Shows s (Utf8 table escapes) source n outcomes.WriteFault (Some []) (Some bytes) → IsFrontOfText escapes bytes
+    → Shows s (Utf8 (Fixed table) escapes) source n outcomes.WriteFault (Some []) (Some bytes) → IsFrontOfText escapes bytes
 
 -- Its lines are those of the pages: each has as many cells, with the same characters.
 abbrev pub LinesStay : Type 0
 LinesStay = (s : Setting) (table : Table) (escapes : Bool) (source : Supply) (n : ℕ)
-    → KeepsLines table escapes (pages_of s source n) (document s (Utf8 table escapes) source n)
+    → KeepsLines table escapes (pages_of s source n) (document s (Utf8 (Fixed table) escapes) source n)

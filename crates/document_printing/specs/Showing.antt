@@ -1,21 +1,29 @@
 -- What a reader gets of a page.
-use Rattle.std.specs.Prelude.{◌≡◌, ℕ, ◌≤◌, suc, List, [], Option, Bool, true, false, Result, Ok, Err}
+use Rattle.std.specs.Prelude.{◌≡◌, ℕ, ◌≤◌, suc, List, [], Option, Bool, true, false}
 use Rattle.std.specs.Io.KnownBytes.{Appends}
 use Rattle.nr_units.specs.Sink.{AppendsFront}
 use Rattle.nr_units.specs.Source.{Supply}
 use Rattle.nr_machine.specs.declared.outcome.Outcome as machine
 use Rattle.nr_machine.specs.declared.outcome.Outcome.TheVariants as machines
-use Rattle.utf8_converter.specs.Cells.{converted}
+use Rattle.utf8_converter.specs.Cells as fixed
+use Rattle.utf8_own_sink.specs.Cells as own
 use Rattle.document_printing.specs.Document.{Ran, Setting, pages_of}
 use Rattle.document_printing.specs.declared.setup.Outcome.{Outcome}
 use Rattle.document_printing.specs.declared.setup.Outcome.TheVariants as outcomes
+use Rattle.document_printing.specs.declared.showing.PageTable.{PageTable}
+use Rattle.document_printing.specs.declared.showing.PageTable.TheVariants.{Fixed, Own}
 use Rattle.document_printing.specs.declared.showing.Spelling.{Spelling}
 use Rattle.document_printing.specs.declared.showing.Spelling.TheVariants.{Bytes, Utf8}
+
+-- the UTF-8 of their characters, in a fixed table or the page's own
+abbrev pub in_utf8 : PageTable → Bool → List ℕ → List ℕ
+in_utf8 (Fixed table) escapes pages = fixed.converted table escapes pages
+in_utf8 (Own table) escapes pages = own.converted table.now escapes pages
 
 -- what the bytes of pages go out as
 abbrev pub shown : Spelling → List ℕ → List ℕ
 shown Bytes pages = pages
-shown (Utf8 table escapes) pages = converted table escapes pages
+shown (Utf8 table escapes) pages = in_utf8 table escapes pages
 
 -- THE DOCUMENT that a reader gets: the pages that the machine printed after so many moves, as they are shown
 abbrev pub document : Setting → Spelling → Supply → ℕ → List ℕ
@@ -49,7 +57,7 @@ cut_short outcomes.ReadFault = outcomes.ReadFault
 cut_short outcomes.TooLong = outcomes.TooLong
 cut_short outcome = outcomes.WriteFault
 
--- the same of one whose characters went out, or didn't
-abbrev pub told_shown : {E : Type 0} → Outcome → Result ℕ E → Outcome
-told_shown outcome (Ok strays) = outcome
-told_shown outcome (Err e) = cut_short outcome
+-- how an end is told of a page whose characters went out, or the output failed
+abbrev pub told_shown : Outcome → Bool → Outcome
+told_shown outcome false = outcome
+told_shown outcome true = cut_short outcome

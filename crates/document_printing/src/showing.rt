@@ -11,24 +11,35 @@ use super::rooms::Rooms;
 use super::setup::{Outcome, Report, Setup};
 use nr_engine::Desk;
 use nr_units::sink::Sink;
-use nr_units::source::{Fault, Source};
+use nr_units::source::Source;
 use nr_vectors::slice_vec::SliceVec;
 use tbl_setting::Complaint;
 use utf8_characters::Table;
 use utf8_converter::Shown;
+use utf8_own_characters::Table as OwnTable;
+use utf8_own_sink::Shown as OwnShown;
 
 /// How many bytes of UTF-8 wait to go out at once.
 const ROOM: usize = 4096;
 
+/// The characters that bytes stand for, beside those of ASCII.
+#[derive(Clone, Copy)]
+pub enum PageTable<'a> {
+    /// Those of a fixed table.
+    Fixed(Table),
+    /// The page's own, of one column or two.
+    Own(&'a OwnTable<'a>),
+}
+
 /// How the bytes of a page go out.
-#[derive(Clone, Copy, Debug, PartialEq, Eq)]
-pub enum Spelling {
+#[derive(Clone, Copy)]
+pub enum Spelling<'a> {
     /// As they are.
     Bytes,
     /// As characters, in UTF-8.
     Utf8 {
-        /// The table of those that are not of ASCII.
-        table: Table,
+        /// Which they are.
+        table: PageTable<'a>,
         /// Underlined and bold text stands between escape sequences, and is not struck over.
         escapes: bool,
     },
@@ -40,7 +51,7 @@ pub struct Showing<'a> {
     /// How it is set.
     pub setup: Setup<'a>,
     /// How its bytes go out.
-    pub spelling: Spelling,
+    pub spelling: Spelling<'a>,
 }
 
 /// How a page ended whose characters did not all go out. That its input failed is told first.
@@ -54,13 +65,17 @@ fn cut_short(outcome: Outcome) -> Outcome
     }
 }
 
-/// How a page ended that is told so, and whose characters went out or didn't.
-fn told_shown(outcome: Outcome, ended: Result<u64, Fault>) -> Outcome
-    ensures { result ≡ specs.told_shown outcome ended }
+/// What is reported of a page that was printed, where the output failed or not.
+fn report_shown(printed: Report, failed: bool) -> Report
+    ensures outcome { result.outcome ≡ specs.told_shown printed.outcome failed }
+    ensures moves { result.moves ≡ printed.moves }
 {
-    match ended {
-        Ok(_) => outcome,
-        Err(_) => cut_short(outcome),
+    if !failed {
+        return printed;
+    }
+    Report {
+        outcome: cut_short(printed.outcome),
+        ..printed
     }
 }
 
@@ -68,8 +83,8 @@ fn told_shown(outcome: Outcome, ended: Result<u64, Fault>) -> Outcome
 /// Gives the output back, which is not flushed. Nothing is allocated.
 ///
 /// Proved: **What a reader gets is one equation.** What goes out of `print_shown` is `shown (pages)` of these pages,
-/// each word a definition: their bytes as they are, or the UTF-8 of their characters as utf8_converter defines it. At
-/// a limit it is that of the pages until then; where the output fails, or the page breaks off and no tables are set,
+/// each word a definition: their bytes as they are, or the UTF-8 of their characters, as utf8_converter defines it for a
+/// fixed table and utf8_own_sink for the page's own. At a limit it is that of the pages until then; where the output fails, or the page breaks off and no tables are set,
 /// a prefix of it; no byte goes out twice. (`print_shown`; `Shows` in Showing.antt)
 pub fn print_shown<R: Source + Drop, W: Sink>(
     input: R,
@@ -104,13 +119,25 @@ pub fn print_shown<R: Source + Drop, W: Sink>(
             let report = print(input, &showing.setup, rooms, complaints, desk, &mut output);
             (output, report)
         }
-        Spelling::Utf8 { table, escapes } => {
-            let mut room = [0; ROOM];
-            let mut shown = Shown::over(output, table, escapes, &mut room);
-            let printed = print(input, &showing.setup, rooms, complaints, desk, &mut shown);
-            let (output, ended) = shown.finish();
-            let outcome = told_shown(printed.outcome, ended);
-            (output, Report { outcome, ..printed })
-        }
+        Spelling::Utf8 { table, escapes } => match table {
+            PageTable::Fixed(fixed) => {
+                let mut room = [0; ROOM];
+                let mut shown = Shown::over(output, fixed, escapes, &mut room);
+                let printed = print(input, &showing.setup, rooms, complaints, desk, &mut shown);
+                let (output, ended) = shown.finish();
+                let failed = ended.is_err();
+                let report = report_shown(printed, failed);
+                (output, report)
+            }
+            PageTable::Own(own) => {
+                let mut waits = [0; ROOM];
+                let mut letters = OwnShown::over(output, own, escapes, &mut waits);
+                let made = print(input, &showing.setup, rooms, complaints, desk, &mut letters);
+                let (below, end) = letters.finish();
+                let is_cut = end.is_err();
+                let told = report_shown(made, is_cut);
+                (below, told)
+            }
+        },
     }
 }

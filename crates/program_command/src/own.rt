@@ -3,9 +3,9 @@ ghost use Rattle.std.specs.Prelude.{◌≡◌, ◌≤◌, [], length, true};
 ghost use Rattle.utf8_own_characters.specs.Counting.{is_once};
 ghost use Rattle.utf8_own_characters.specs.Table.{Good};
 
-use crate::plan::{Plan, has_escapes};
-use crate::printing::{Means, print_fixed, print_in_own};
-use document_printing::{Front, Report, Rooms, Setup, Spelling, Stages};
+use crate::plan::Plan;
+use crate::printing::{Means, print_fixed, print_page};
+use document_printing::{Front, PageTable, Report, Rooms, Setup, Showing, Spelling, Stages};
 use document_reader::{Waits, read_page};
 use document_stages::{LEAST_ROOM, Pull, Text};
 use mdoc_converter::Block;
@@ -19,7 +19,6 @@ use utf8_own_characters::{
     Cluster, Code, Count, Listener, MOST_NARROW, MOST_WIDE, Table, choose, count_cluster, end_look,
     fill_slots, look_at, rank,
 };
-use utf8_own_sink::Shown;
 use utf8_own_stage::Coder;
 
 /// The most clusters that are counted.
@@ -170,7 +169,7 @@ fn signs_of(table: &Table<'_>) -> Signs
 
 /// Whether no fixed table may have all that a page prints.
 pub(crate) fn may_need_own(plan: &Plan, front: &[u8]) -> bool {
-    matches!(plan.spelling, Spelling::Utf8 { .. }) && !plan.checks && is_beyond_ascii(front)
+    plan.spells && !plan.checks && is_beyond_ascii(front)
 }
 
 /// Prints a page that has characters beyond ASCII: with the fixed table of its plan, if that has all of them, or with one of its own.
@@ -215,23 +214,21 @@ fn print_own<R: Source + Drop, W: Sink>(
     choose(counts, &mut narrow, &mut wide);
     fill_slots(narrow.as_slice(), wide.as_slice(), &mut slots);
     let table = Table::chosen(counts, narrow.as_slice(), wide.as_slice(), &slots);
-    let shown = Table::chosen(counts, narrow.as_slice(), wide.as_slice(), &slots);
-    print_coded(page, table, shown, plan, means, desk, output)
+    print_coded(page, &table, plan, means, desk, output)
 }
 
-/// Prints a page with these characters. Both tables are the same.
+/// Prints a page with these characters.
 fn print_coded<R: Source + Drop, W: Sink>(
     page: R,
-    table: Table<'_>,
-    shown: Table<'_>,
+    table: &Table<'_>,
     plan: &Plan,
     means: Means<'_>,
     desk: &mut Desk,
     output: &mut W,
 ) -> Result<Report, AllocError>
-    requires { Good table }
+    requires { Good table.now }
 {
-    let mut rooms = Rooms::drawn_with(means.alloc, means.limits, plan.cells, signs_of(&table))?;
+    let mut rooms = Rooms::drawn_with(means.alloc, means.limits, plan.cells, signs_of(table))?;
     let mut first = [0; LEAST_ROOM];
     let mut second = [0; LEAST_ROOM];
     let mut third = [0; ROOM];
@@ -253,7 +250,11 @@ fn print_coded<R: Source + Drop, W: Sink>(
         characters: Target::Ascii,
         options: means.options,
     };
-    let mut room = [0; ROOM];
-    let shown = Shown::over(output, shown, has_escapes(plan.spelling), &mut room);
-    Ok(print_in_own(coded, &setup, plan.strikes, &mut rooms, desk, shown))
+    let spelling = Spelling::Utf8 {
+        table: PageTable::Own(table),
+        escapes: plan.escapes,
+    };
+    let showing = Showing { setup, spelling };
+    let (_output, report) = print_page(coded, &showing, plan, &mut rooms, desk, output);
+    Ok(report)
 }

@@ -2,7 +2,7 @@
 
 use crate::surroundings::Surroundings;
 use arrayvec::ArrayVec;
-use document_printing::{PageLimits, Spelling, Stages, has_tables};
+use document_printing::{PageLimits, Stages, has_tables};
 use document_stages::Text;
 use nr_engine::{Faces as Looks, Options};
 use nr_page::Select;
@@ -35,8 +35,10 @@ pub(crate) struct Plan {
     pub tables: bool,
     /// The table of its characters; none for ASCII.
     pub characters: Option<Table>,
-    /// How its bytes go out.
-    pub spelling: Spelling,
+    /// Its characters go out in UTF-8.
+    pub spells: bool,
+    /// What is underlined or bold stands between escape sequences, then.
+    pub escapes: bool,
     /// What is underlined or bold is struck over.
     pub strikes: bool,
     /// Nothing is printed.
@@ -52,6 +54,7 @@ pub(crate) fn plan_of(
 ) -> Result<Plan, AllocError> {
     let device = job.plain.device.unwrap_or(around.device);
     let characters = table_of(device, front, around.alloc)?;
+    let spells = device == Device::Utf8 && characters.is_some();
     Ok(Plan {
         cells: cells_of(job, kind),
         stages: Stages {
@@ -60,18 +63,11 @@ pub(crate) fn plan_of(
         },
         tables: is_cut(front) || has_tables(front),
         characters,
-        spelling: spelling_of(device, characters, escapes(job.plain.faces, around.shows)),
+        spells,
+        escapes: spells && escapes(job.plain.faces, around.shows),
         strikes: job.plain.faces != Faces::None,
         checks: job.plain.checks,
     })
-}
-
-/// How bytes go out: in UTF-8, or as those of their table.
-fn spelling_of(device: Device, characters: Option<Table>, escapes: bool) -> Spelling {
-    match characters {
-        Some(table) if device == Device::Utf8 => Spelling::Utf8 { table, escapes },
-        _ => Spelling::Bytes,
-    }
 }
 
 /// Whether more of a page may come than was looked at.
@@ -104,21 +100,13 @@ fn escapes(faces: Faces, shows: bool) -> bool {
     }
 }
 
-/// Whether bytes go out with escape sequences.
-pub(crate) fn has_escapes(spelling: Spelling) -> bool {
-    match spelling {
-        Spelling::Bytes => false,
-        Spelling::Utf8 { escapes, .. } => escapes,
-    }
-}
-
 /// What the formatter is given. Bold shows where it is asked for, and between escape sequences.
 pub(crate) fn options_of(job: &Job<'_>, plan: &Plan, select: Select) -> Options {
     Options {
         first: job.plain.first.min(LAST_PAGE) as i64,
         registers: ArrayVec::new(),
         select,
-        faces: if job.plain.shows_bold || has_escapes(plan.spelling) {
+        faces: if job.plain.shows_bold || plan.escapes {
             Looks::All
         } else {
             Looks::Letters

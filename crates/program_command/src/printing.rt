@@ -9,7 +9,7 @@ use crate::bare::Bare;
 use crate::nowhere::Nowhere;
 use crate::plan::Plan;
 use document_printing::{
-    Outcome, PageLimits, Report, Rooms, Setup, Showing, Spelling, print, print_shown,
+    Outcome, PageLimits, PageTable, Report, Rooms, Setup, Showing, Spelling, print, print_shown,
 };
 use nr_engine::{Desk, Options, Sink, Source};
 use nr_vectors::slice_vec::SliceVec;
@@ -34,6 +34,17 @@ pub(crate) struct Means<'a> {
     pub alloc: Global,
 }
 
+/// How bytes go out: in UTF-8, or as those of their fixed table.
+fn spelling_of<'a>(plan: &Plan) -> Spelling<'a> {
+    match plan.characters {
+        Some(table) if plan.spells => Spelling::Utf8 {
+            table: PageTable::Fixed(table),
+            escapes: plan.escapes,
+        },
+        _ => Spelling::Bytes,
+    }
+}
+
 /// Prints a page with the fixed table of its plan. Nothing is flushed.
 pub(crate) fn print_fixed<R: Source + Drop, W: Sink>(
     page: R,
@@ -51,7 +62,7 @@ pub(crate) fn print_fixed<R: Source + Drop, W: Sink>(
             characters: Target::of(plan.characters),
             options: means.options,
         },
-        spelling: plan.spelling,
+        spelling: spelling_of(plan),
     };
     let (_output, report) = print_page(page, &showing, plan, &mut rooms, desk, output);
     Ok(report)
@@ -91,24 +102,6 @@ pub(crate) fn print_page<R: Source + Drop, W: Sink + Drop>(
     print_shown(page, showing, rooms, &mut complaints, desk, output)
 }
 
-/// Prints a page into a sink that shows the characters of the page's own table. Nothing is flushed.
-pub(crate) fn print_in_own<R: Source + Drop, W: Sink + Drop>(
-    page: R,
-    setup: &Setup<'_>,
-    strikes: bool,
-    rooms: &mut Rooms,
-    desk: &mut Desk,
-    shown: OwnShown<'_, W>,
-) -> Report {
-    let mut shown = shown;
-    if strikes {
-        let report = print_bytes(page, setup, rooms, desk, &mut shown);
-        return ended(report, shown.finish().is_ok());
-    }
-    let (mut shown, report) = print_unstruck(page, setup, rooms, desk, shown);
-    ended(report, shown.finish().is_ok())
-}
-
 /// Prints a page without what is struck over.
 fn print_bare<R: Source + Drop, W: Sink + Drop>(
     page: R,
@@ -119,13 +112,22 @@ fn print_bare<R: Source + Drop, W: Sink + Drop>(
 ) -> (W, Report) {
     match showing.spelling {
         Spelling::Bytes => print_unstruck(page, &showing.setup, rooms, desk, output),
-        Spelling::Utf8 { table, escapes } => {
-            let mut room = [0; ROOM];
-            let shown = Shown::over(output, table, escapes, &mut room);
-            let (shown, report) = print_unstruck(page, &showing.setup, rooms, desk, shown);
-            let (output, strays) = shown.finish();
-            (output, ended(report, strays.is_ok()))
-        }
+        Spelling::Utf8 { table, escapes } => match table {
+            PageTable::Fixed(fixed) => {
+                let mut room = [0; ROOM];
+                let shown = Shown::over(output, fixed, escapes, &mut room);
+                let (shown, report) = print_unstruck(page, &showing.setup, rooms, desk, shown);
+                let (output, end) = shown.finish();
+                (output, ended(report, end.is_ok()))
+            }
+            PageTable::Own(own) => {
+                let mut room = [0; ROOM];
+                let shown = OwnShown::over(output, own, escapes, &mut room);
+                let (shown, report) = print_unstruck(page, &showing.setup, rooms, desk, shown);
+                let (output, end) = shown.finish();
+                (output, ended(report, end.is_ok()))
+            }
+        },
     }
 }
 

@@ -30,8 +30,8 @@ pub struct Outcome {
 }
 
 /// What a text is coded as.
-fn code(text: &[u8], table: Table<'_>, coded: &mut Buffer) -> usize
-    requires { Good table }
+fn code(text: &[u8], table: &Table<'_>, coded: &mut Buffer) -> usize
+    requires { Good table.now }
 {
     let mut room = [0; 64];
     let mut bytes = Pull::over(Coder::over(table), Text::over(text), &mut room);
@@ -76,19 +76,13 @@ pub fn outcome(alloc: Global, text: &str) -> Result<Outcome, AllocError> {
         wide.as_slice(),
         &slots,
     );
-    let again = Table::chosen(
-        ranked.as_slice(),
-        narrow.as_slice(),
-        wide.as_slice(),
-        &slots,
-    );
     let mut coded = Buffer::new(&mut CountedAlloc::new(alloc), MOST)?;
     let mut shown = Buffer::new(&mut CountedAlloc::new(alloc), MOST)?;
-    let bytes = code(text.as_bytes(), table, &mut coded);
+    let bytes = code(text.as_bytes(), &table, &mut coded);
     let mut room = [0; 512];
-    let mut sink = Shown::over(&mut shown, again, false, &mut room);
+    let mut sink = Shown::over(&mut shown, &table, false, &mut room);
     let _put = sink.put(coded.as_slice());
-    let _strays = sink.finish();
+    let (_output, _ended) = sink.finish();
     Ok(Outcome {
         narrow: narrow.len(),
         wide: wide.len(),

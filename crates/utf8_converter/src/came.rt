@@ -6,7 +6,7 @@ use std::marker::Model;
 
 /// The bytes that came.
 #[derive(Drop)]
-pub(crate) struct Came {
+pub struct Came {
     pub ghost bytes: { List ℕ },
 }
 
@@ -16,14 +16,14 @@ impl Model for Came {
 
 impl Came {
     /// None did.
-    pub(crate) fn nothing() -> Came
+    pub fn nothing() -> Came
         ensures { result.bytes ≡ [] }
     {
         Came {}
     }
 
     /// These came, too.
-    pub(crate) fn note(&mut self, _bytes: &[u8])
+    pub fn note(&mut self, _bytes: &[u8])
         ensures { self.new.bytes ≡ self.old.bytes ++ _bytes.now }
     {}
 }

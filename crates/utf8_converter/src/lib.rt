@@ -16,6 +16,7 @@ mod spelling;
 mod turner;
 mod undoing;
 
+pub use came::Came;
 pub use choosing::{CHARACTERS, LOOKED_AT, choose};
 pub use running::{Outcome, convert};
 pub use showing::Shown;

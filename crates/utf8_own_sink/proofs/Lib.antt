@@ -1,0 +1,3 @@
+pub mod Finishing
+pub mod Going
+pub mod Passing

@@ -1,1 +1,4 @@
 pub mod Cells
+pub mod Letters
+pub mod Reading
+pub mod Showing

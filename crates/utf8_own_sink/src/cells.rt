@@ -1,18 +1,27 @@
-//! Cells go out in UTF-8, a byte after the other.
-ghost use Rattle.std.specs.Char.{encode_utf8};
-ghost use Rattle.std.specs.Prelude.{◌≡◌, ◌+◌, ◌≤◌, ◌++◌, length};
+//! The bytes of cells are read, one after the other, and what they show goes out.
+ghost use Rattle.std.specs.Prelude.{◌≡◌, ◌+◌, ◌≤◌, [], ◌∷◌, ◌++◌, length};
 ghost use Rattle.utf8_own_sink.specs.Cells as specs;
+ghost use Rattle.utf8_own_sink.specs.Reading.{after, begun_after, begun_said, cell_after, cell_said, drawn_all, ended, first, next_after, next_said, released, released_said, said, ways_past, with_half};
+ghost use Rattle.utf8_own_sink.specs.declared.cells.Half.TheVariants.{Nothing};
 
+use super::letters::Way;
 use nr_vectors::cell::Look;
 use nr_vectors::slice_vec::SliceVec;
-use utf8_own_characters::{Cluster, Table};
+use utf8_own_characters::{Cluster, Read, Table};
 
-/// The most bytes of what comes of one that is read.
-pub(crate) const MOST: usize = 128;
+/// The most bytes of what comes of one that is read, and of the end.
+pub(crate) const MOST: usize = 256;
+
+/// A byte, and how it looks.
+#[derive(Clone, Copy)]
+pub(crate) struct Cell {
+    pub byte: u8,
+    pub look: Look,
+}
 
 /// What was read of a cell.
 #[derive(Clone, Copy)]
-enum Half {
+pub(crate) enum Half {
     /// Nothing.
     Nothing,
     /// A byte, which another may be struck over.
@@ -21,292 +30,280 @@ enum Half {
     Backspaced(u8),
 }
 
-/// The first half of a pair, and how it looks.
-#[derive(Clone, Copy)]
-struct Lead {
-    byte: u8,
-    look: Look,
-}
-
-/// How looks go out.
-#[derive(Clone, Copy)]
-enum Way {
-    /// Struck over.
-    Backspaces,
-    /// Between escape sequences, and this look is open.
-    Escapes(Look),
-}
-
 /// What is half read, and how it goes out.
 #[derive(Clone, Copy)]
 pub(crate) struct Reader {
-    half: Half,
-    lead: Option<Lead>,
-    before: Look,
-    way: Way,
-    /// How many blanks stand for what is no character.
-    pub strays: u64,
+    /// Of a cell.
+    pub half: Half,
+    /// How the cell before it looks.
+    pub before: Look,
+    /// The first half of a pair.
+    pub lead: Option<Cell>,
+    /// How letters go out.
+    pub way: Way,
 }
 
-/// What ends a look.
-fn closing(look: Look) -> &'static [u8]
-    ensures { length result.now ≤ 5 }
+/// A byte that nothing is struck over.
+fn plain(byte: u8) -> Cell
+    ensures { result ≡ specs.plain byte }
 {
-    match look {
-        Look::Plain => b"",
-        Look::Under => b"\x1B[24m",
-        Look::Bold => b"\x1B[22m",
+    Cell {
+        byte,
+        look: Look::Plain,
     }
 }
 
-/// What begins a look.
-fn opening(look: Look) -> &'static [u8]
-    ensures { length result.now ≤ 4 }
+/// Whether a byte is struck over another one.
+fn strikes(over: u8, byte: u8) -> bool
+    ensures { result ≡ specs.strikes over byte }
 {
-    match look {
-        Look::Plain => b"",
-        Look::Under => b"\x1B[4m",
-        Look::Bold => b"\x1B[1m",
-    }
+    over == byte || over == b'_'
 }
 
-/// Whether two looks are the same.
-fn is_same(first: Look, second: Look) -> bool {
-    match first {
-        Look::Plain => matches!(second, Look::Plain),
-        Look::Under => matches!(second, Look::Under),
-        Look::Bold => matches!(second, Look::Bold),
-    }
-}
-
-/// Puts a character: at most 4 bytes.
-fn put_character(character: char, out: &mut SliceVec<'_, u8>)
-    requires { length out.old.items + 4 ≤ out.old.capacity }
-    ensures items { out.new.items ≡ out.old.items ++ encode_utf8 character }
-    ensures few { length out.new.items ≤ length out.old.items + 4 }
-    ensures room { out.new.capacity ≡ out.old.capacity }
+/// A byte that is struck over another, after a cell that looks so.
+fn struck(before: Look, over: u8, byte: u8) -> Cell
+    ensures { result ≡ specs.struck before over byte }
 {
-    let mut buffer = [0; 4];
-    let text = character.encode_utf8(&mut buffer).as_bytes();
-    out.extend(text);
-}
-
-/// Puts a mark, if it is one: at most 4 bytes.
-fn put_mark(mark: char, out: &mut SliceVec<'_, u8>)
-    requires { length out.old.items + 4 ≤ out.old.capacity }
-    ensures items { out.new.items ≡ out.old.items ++ specs.mark_text mark }
-    ensures few { length out.new.items ≤ length out.old.items + 4 }
-    ensures room { out.new.capacity ≡ out.old.capacity }
-{
-    if mark != '\0' {
-        put_character(mark, out);
-    }
-}
-
-/// Puts a letter and its marks: at most 16 bytes.
-fn put_text(cluster: &Cluster, out: &mut SliceVec<'_, u8>)
-    requires { length out.old.items + 16 ≤ out.old.capacity }
-    ensures items { out.new.items ≡ out.old.items ++ specs.text_of cluster.now }
-    ensures few { length out.new.items ≤ length out.old.items + 16 }
-    ensures room { out.new.capacity ≡ out.old.capacity }
-{
-    put_character(cluster.letter, out);
-    put_mark(cluster.first_mark, out);
-    put_mark(cluster.second_mark, out);
-    put_mark(cluster.third_mark, out);
-}
-
-/// Whether a cluster is no control character but a newline.
-fn is_shown(cluster: &Cluster) -> bool
-    ensures { result ≡ specs.is_shown cluster.now }
-{
-    let code = u32::from(cluster.letter);
-    code == 10 || (code >= 32 && code != 127)
-}
-
-/// How a cluster looks: a blank and a newline are plain.
-fn look_of(cluster: &Cluster, look: Look) -> Look
-    ensures { result ≡ specs.look_of cluster.now look }
-{
-    if u32::from(cluster.letter) <= 32 {
-        Look::Plain
+    let line = byte == b'_' && matches!(before, Look::Under);
+    let look = if over == byte && !line {
+        Look::Bold
     } else {
-        look
+        Look::Under
+    };
+    Cell { byte, look }
+}
+
+/// The byte of a cell, if there is one.
+fn byte_of(lead: Option<Cell>) -> Option<u8>
+    ensures { result ≡ specs.byte_of lead }
+{
+    match lead {
+        Some(cell) => Some(cell.byte),
+        None => None,
     }
+}
+
+/// What comes of a byte where a first half may wait. One of ASCII is its character, whatever the table.
+fn read_byte(table: &Table<'_>, lead: Option<u8>, byte: u8) -> Read
+    ensures { result ≡ specs.read_byte table.now lead byte }
+{
+    if byte >= 128 {
+        return table.read(lead, byte);
+    }
+    Read {
+        blanks: if lead.is_some() { 1 } else { 0 },
+        cluster: Some(Cluster::single(char::from(byte))),
+        held: None,
+    }
+}
+
+/// How a letter looks: a pair as its first half.
+fn look_of(lead: Option<Cell>, blanks: u8, look: Look) -> Look
+    ensures { result ≡ specs.look_of lead blanks look }
+{
+    match lead {
+        Some(cell) if blanks == 0 => cell.look,
+        _ => look,
+    }
+}
+
+/// The first half of a pair that waits for the other one.
+fn waiting(cell: Cell, held: Option<u8>) -> Option<Cell>
+    ensures { result ≡ specs.waiting cell held }
+{
+    match held {
+        Some(byte) => Some(Cell {
+            byte,
+            look: cell.look,
+        }),
+        None => None,
+    }
+}
+
+/// Puts a blank for what is no character, and tells the way after it: at most 33 bytes.
+fn put_blank(way: Way, out: &mut SliceVec<'_, u8>) -> Way
+    requires { length out.old.items + 33 ≤ out.old.capacity }
+    ensures items { out.new.items ≡ out.old.items ++ drawn_all way (specs.one_blank ∷ []) }
+    ensures few { length out.new.items ≤ length out.old.items + 33 }
+    ensures room { out.new.capacity ≡ out.old.capacity }
+    ensures way { result ≡ ways_past way (specs.one_blank ∷ []) }
+{
+    way.put_letter(&Cluster::single(' '), Look::Plain, out)
+}
+
+/// Puts a blank for a first half that waits, and tells the way after it: at most 33 bytes.
+fn put_alone(way: Way, lead: Option<Cell>, out: &mut SliceVec<'_, u8>) -> Way
+    requires { length out.old.items + 33 ≤ out.old.capacity }
+    ensures items { out.new.items ≡ out.old.items ++ drawn_all way (specs.alone lead) }
+    ensures few { length out.new.items ≤ length out.old.items + 33 }
+    ensures room { out.new.capacity ≡ out.old.capacity }
+    ensures way { result ≡ ways_past way (specs.alone lead) }
+{
+    match lead {
+        Some(_) => put_blank(way, out),
+        None => way,
+    }
+}
+
+/// Puts blanks for what is no character, two at most, and tells the way after them: at most 66 bytes.
+fn put_blanks(way: Way, blanks: u8, out: &mut SliceVec<'_, u8>) -> Way
+    requires { length out.old.items + 66 ≤ out.old.capacity }
+    ensures items { out.new.items ≡ out.old.items ++ drawn_all way (specs.blanks blanks) }
+    ensures few { length out.new.items ≤ length out.old.items + 66 }
+    ensures room { out.new.capacity ≡ out.old.capacity }
+    ensures way { result ≡ ways_past way (specs.blanks blanks) }
+{
+    if blanks == 0 {
+        return way;
+    }
+    let way = put_blank(way, out);
+    if blanks == 1 {
+        return way;
+    }
+    put_blank(way, out)
+}
+
+/// Puts a cluster, if there is one, and tells the way after it: at most 33 bytes.
+fn put_cluster(way: Way, cluster: Option<Cluster>, look: Look, out: &mut SliceVec<'_, u8>) -> Way
+    requires { length out.old.items + 33 ≤ out.old.capacity }
+    ensures items { out.new.items ≡ out.old.items ++ drawn_all way (specs.lettered cluster look) }
+    ensures few { length out.new.items ≤ length out.old.items + 33 }
+    ensures room { out.new.capacity ≡ out.old.capacity }
+    ensures way { result ≡ ways_past way (specs.lettered cluster look) }
+{
+    match cluster {
+        Some(cluster) => way.put_letter(&cluster, look, out),
+        None => way,
+    }
+}
+
+/// Puts what comes of a cell where a first half may wait, and tells the way after it: at most 99 bytes.
+fn put_read(
+    way: Way,
+    lead: Option<Cell>,
+    look: Look,
+    read: Read,
+    out: &mut SliceVec<'_, u8>,
+) -> Way
+    requires { length out.old.items + 99 ≤ out.old.capacity }
+    ensures items { out.new.items ≡ out.old.items ++ drawn_all way (specs.come lead look read) }
+    ensures few { length out.new.items ≤ length out.old.items + 99 }
+    ensures room { out.new.capacity ≡ out.old.capacity }
+    ensures way { result ≡ ways_past way (specs.come lead look read) }
+{
+    let way = put_blanks(way, read.blanks, out);
+    put_cluster(way, read.cluster, look_of(lead, read.blanks, look), out)
 }
 
 impl Reader {
     /// Nothing was read.
-    pub(crate) fn new(escapes: bool) -> Reader {
+    pub(crate) fn new(escapes: bool) -> Reader
+        ensures { result ≡ first escapes }
+    {
         Reader {
             half: Half::Nothing,
-            lead: None,
             before: Look::Plain,
-            way: if escapes {
-                Way::Escapes(Look::Plain)
-            } else {
-                Way::Backspaces
-            },
-            strays: 0,
+            lead: None,
+            way: Way::first(escapes),
         }
     }
 
-    /// What is open becomes this look: at most 9 bytes.
-    fn turn(&mut self, look: Look, out: &mut SliceVec<'_, u8>)
-        requires { length out.old.items + 9 ≤ out.old.capacity }
-        ensures few { length out.new.items ≤ length out.old.items + 9 }
+    /// A cell goes out, or waits for the other half of its pair: at most 99 bytes.
+    fn put_cell(&mut self, cell: Cell, table: &Table<'_>, out: &mut SliceVec<'_, u8>)
+        requires { length out.old.items + 99 ≤ out.old.capacity }
+        ensures items { out.new.items ≡ out.old.items ++ drawn_all self.old.way (specs.letters_of table.now self.old.lead cell) }
+        ensures few { length out.new.items ≤ length out.old.items + 99 }
         ensures room { out.new.capacity ≡ out.old.capacity }
+        ensures reader { self.new ≡ record self.old {
+          before = cell.look;
+          lead = specs.lead_after table.now self.old.lead cell;
+          way = ways_past self.old.way (specs.letters_of table.now self.old.lead cell);
+        } }
     {
-        if let Way::Escapes(open) = self.way {
-            if !is_same(open, look) {
-                out.extend(closing(open));
-                out.extend(opening(look));
-                self.way = Way::Escapes(look);
-            }
-        }
+        let read = read_byte(table, byte_of(self.lead), cell.byte);
+        self.way = put_read(self.way, self.lead, cell.look, read, out);
+        self.lead = waiting(cell, read.held);
+        self.before = cell.look;
     }
 
-    /// Puts what a cluster is struck over: at most 17 bytes.
-    fn put_under(&self, cluster: &Cluster, look: Look, out: &mut SliceVec<'_, u8>)
-        requires { length out.old.items + 17 ≤ out.old.capacity }
-        ensures items { out.new.items ≡ out.old.items ++ specs.under_text cluster.now look }
-        ensures few { length out.new.items ≤ length out.old.items + 17 }
+    /// A byte comes, and nothing of a cell is read: at most 99 bytes go out.
+    fn begin(&mut self, byte: u8, table: &Table<'_>, out: &mut SliceVec<'_, u8>)
+        requires { length out.old.items + 99 ≤ out.old.capacity }
+        ensures items { out.new.items ≡ out.old.items ++ begun_said table.now byte self.old }
+        ensures few { length out.new.items ≤ length out.old.items + 99 }
         ensures room { out.new.capacity ≡ out.old.capacity }
+        ensures reader { self.new ≡ begun_after table.now byte self.old }
     {
-        match look {
-            Look::Plain => {}
-            Look::Under => out.extend(b"_\x08"),
-            Look::Bold => {
-                put_text(cluster, out);
-                out.push(b'\x08');
-            }
-        }
-    }
-
-    /// Puts a cluster: at most 42 bytes.
-    fn put_cluster(&mut self, cluster: &Cluster, look: Look, out: &mut SliceVec<'_, u8>)
-        requires { length out.old.items + 42 ≤ out.old.capacity }
-        ensures few { length out.new.items ≤ length out.old.items + 42 }
-        ensures room { out.new.capacity ≡ out.old.capacity }
-    {
-        if !is_shown(cluster) {
+        if byte > b' ' {
+            self.half = Half::Byte(byte);
             return;
         }
-        let look = look_of(cluster, look);
-        self.turn(look, out);
-        if matches!(self.way, Way::Backspaces) {
-            self.put_under(cluster, look, out);
-        }
-        put_text(cluster, out);
-        self.before = look;
+        self.put_cell(plain(byte), table, out);
+        self.half = Half::Nothing;
     }
 
-    /// Puts a blank for what is no character: at most 42 bytes.
-    fn put_stray(&mut self, out: &mut SliceVec<'_, u8>)
-        requires { length out.old.items + 42 ≤ out.old.capacity }
-        ensures few { length out.new.items ≤ length out.old.items + 42 }
+    /// A byte comes behind another: at most 198 bytes go out.
+    fn go_on(&mut self, held: u8, byte: u8, table: &Table<'_>, out: &mut SliceVec<'_, u8>)
+        requires { length out.old.items + 198 ≤ out.old.capacity }
+        ensures items { out.new.items ≡ out.old.items ++ next_said table.now held byte self.old }
+        ensures few { length out.new.items ≤ length out.old.items + 198 }
         ensures room { out.new.capacity ≡ out.old.capacity }
+        ensures reader { self.new ≡ next_after table.now held byte self.old }
     {
-        self.put_cluster(&Cluster::single(' '), Look::Plain, out);
-        self.strays = self.strays.saturating_add(1);
+        self.put_cell(plain(held), table, out);
+        self.begin(byte, table, out);
     }
 
-    /// A cell goes out, or waits for the other half of its pair: at most 126 bytes.
-    fn put_cell(&mut self, byte: u8, look: Look, table: &Table<'_>, out: &mut SliceVec<'_, u8>)
-        requires { length out.old.items + 128 ≤ out.old.capacity }
-        ensures few { length out.new.items ≤ length out.old.items + 128 }
+    /// A byte comes that is struck over another: at most 99 bytes go out.
+    fn strike(&mut self, held: u8, byte: u8, table: &Table<'_>, out: &mut SliceVec<'_, u8>)
+        requires { length out.old.items + 99 ≤ out.old.capacity }
+        ensures items { out.new.items ≡ out.old.items ++ cell_said table.now (specs.struck self.old.before held byte) self.old }
+        ensures few { length out.new.items ≤ length out.old.items + 99 }
         ensures room { out.new.capacity ≡ out.old.capacity }
+        ensures reader { self.new ≡ with_half Nothing (cell_after table.now (specs.struck self.old.before held byte) self.old) }
     {
-        let lead = self.lead;
-        let read = match lead {
-            Some(lead) => table.read(Some(lead.byte), byte),
-            None => table.read(None, byte),
-        };
-        self.lead = match read.held {
-            Some(byte) => Some(Lead { byte, look }),
-            None => None,
-        };
-        if read.blanks > 0 {
-            self.put_stray(out);
-        }
-        if read.blanks > 1 {
-            self.put_stray(out);
-        }
-        if let Some(cluster) = read.cluster {
-            let look = match lead {
-                Some(lead) if read.blanks == 0 => lead.look,
-                _ => look,
-            };
-            self.put_cluster(&cluster, look, out);
-        }
+        self.put_cell(struck(self.before, held, byte), table, out);
+        self.half = Half::Nothing;
     }
 
-    /// How a byte looks that is struck over another.
-    fn struck_look(&self, over: u8, byte: u8) -> Look {
-        if over != byte || (byte == b'_' && matches!(self.before, Look::Under)) {
-            Look::Under
-        } else {
-            Look::Bold
-        }
-    }
-
-    /// A byte comes, and nothing is half read. A backspace after nothing is dropped.
-    fn read_fresh(&mut self, byte: u8) {
-        self.half = if byte == b'\x08' {
-            Half::Nothing
-        } else {
-            Half::Byte(byte)
-        };
-    }
-
-    /// A byte comes: at most 126 bytes go out.
+    /// A byte comes: at most 198 bytes go out.
     pub(crate) fn read(&mut self, byte: u8, table: &Table<'_>, out: &mut SliceVec<'_, u8>)
-        requires { length out.old.items + 128 ≤ out.old.capacity }
-        ensures few { length out.new.items ≤ length out.old.items + 128 }
+        requires { length out.old.items + 256 ≤ out.old.capacity }
+        ensures items { out.new.items ≡ out.old.items ++ said table.now self.old.half byte self.old }
+        ensures few { length out.new.items ≤ length out.old.items + 256 }
         ensures room { out.new.capacity ≡ out.old.capacity }
+        ensures reader { self.new ≡ after table.now self.old.half byte self.old }
     {
         match self.half {
+            Half::Nothing => self.begin(byte, table, out),
             Half::Byte(held) if byte == b'\x08' => self.half = Half::Backspaced(held),
-            Half::Backspaced(held) if held == byte || held == b'_' => {
-                self.half = Half::Nothing;
-                let look = self.struck_look(held, byte);
-                self.put_cell(byte, look, table, out);
-            }
-            Half::Byte(held) | Half::Backspaced(held) => {
-                self.put_cell(held, Look::Plain, table, out);
-                self.read_fresh(byte);
-            }
-            Half::Nothing => self.read_fresh(byte),
+            Half::Backspaced(held) if strikes(held, byte) => self.strike(held, byte, table, out),
+            Half::Byte(held) | Half::Backspaced(held) => self.go_on(held, byte, table, out),
         }
     }
 
-    /// What is half read goes out: at most 126 bytes.
+    /// What is half read of a cell goes out: at most 99 bytes.
     fn release(&mut self, table: &Table<'_>, out: &mut SliceVec<'_, u8>)
-        requires { length out.old.items + 128 ≤ out.old.capacity }
-        ensures few { length out.new.items ≤ length out.old.items + 128 }
+        requires { length out.old.items + 99 ≤ out.old.capacity }
+        ensures items { out.new.items ≡ out.old.items ++ released_said table.now self.old.half self.old }
+        ensures few { length out.new.items ≤ length out.old.items + 99 }
         ensures room { out.new.capacity ≡ out.old.capacity }
+        ensures reader { self.new ≡ released table.now self.old.half self.old }
     {
-        let half = self.half;
-        self.half = Half::Nothing;
-        match half {
-            Half::Byte(held) | Half::Backspaced(held) => {
-                self.put_cell(held, Look::Plain, table, out);
-            }
+        match self.half {
             Half::Nothing => {}
+            Half::Byte(held) | Half::Backspaced(held) => self.put_cell(plain(held), table, out),
         }
     }
 
-    /// The end comes: at most 177 bytes go out.
+    /// The end comes: at most 141 bytes go out.
     pub(crate) fn finish(&mut self, table: &Table<'_>, out: &mut SliceVec<'_, u8>)
         requires { length out.old.items + 256 ≤ out.old.capacity }
-        ensures few { length out.new.items ≤ length out.old.items + 256 }
+        ensures items { out.new.items ≡ out.old.items ++ ended table.now self.old }
         ensures room { out.new.capacity ≡ out.old.capacity }
     {
         self.release(table, out);
-        if self.lead.is_some() {
-            self.lead = None;
-            self.put_stray(out);
-        }
-        self.turn(Look::Plain, out);
+        let way = put_alone(self.way, self.lead, out);
+        way.put_end(out);
     }
 }

@@ -1,9 +1,11 @@
 //! The bytes of a page's own table go out in UTF-8.
 //!
-//! It stands on nr_units, nr_vectors and utf8_own_characters. To read: `cells`, `showing`.
+//! It stands on nr_units, nr_vectors, utf8_converter and utf8_own_characters. To read: `letters`, `cells`, `turner`, `showing`.
 #![tactic(auto)]
 
 mod cells;
+mod letters;
 mod showing;
+mod turner;
 
 pub use showing::Shown;

@@ -1,91 +1,86 @@
 //! Bytes of a page's own table go out in UTF-8 as they come: a sink over a sink.
-ghost use Rattle.std.specs.Prelude.{◌≡◌, ◌+◌, ◌≤◌, [], length, OnOk};
+ghost use Rattle.std.specs.Prelude.{◌≡◌, ◌≢◌, ◌≤◌, ℕ, List, [], ◌++◌, false, length, IsOk};
+ghost use Rattle.std.proofs.Math.Logic.{∥∥₁_prop};
+ghost use Rattle.nr_units.specs.Failures.{no_failures};
+ghost use Rattle.nr_units.specs.Sink.{AppendsFront};
+ghost use Rattle.utf8_own_sink.specs.Cells.{converted};
+ghost use Rattle.utf8_own_sink.specs.Showing.{Making, Finishes, StandsOr, told};
 
-use super::cells::{MOST, Reader};
+use super::turner::Turner;
 use nr_units::sink::Sink;
 use nr_units::source::{Fault, next_count};
-use nr_vectors::slice_vec::SliceVec;
+use std::marker::Model;
+use std::snapshot::Snapshot;
+use utf8_converter::Came;
 use utf8_own_characters::Table;
 
 /// Takes the bytes of cells, and puts the characters that they show into another sink. Once that failed, each `put` fails.
+///
+/// Proved: A sink that shows the bytes of a page's own table in another one puts out what they are defined to show: once
+/// it is finished, what is out is `converted` of all bytes that came, in pieces of any size, whatever flushes came
+/// between. Where a put fails, a prefix of that is out, also of what more bytes would have come to; nothing goes out
+/// after it, and the end reports it. (`Shown` of utf8_own_sink; `Finishes` in Showing.antt)
 #[derive(Drop)]
-pub struct Shown<'a, W> {
+pub struct Shown<'a, W: Sink> {
     output: W,
-    table: Table<'a>,
-    out: SliceVec<'a, u8>,
-    reader: Reader,
+    begun: Snapshot<W>,
+    came: Came,
+    table: &'a Table<'a>,
+    escapes: bool,
+    turner: Turner<'a>,
     broken: bool,
     flushed: bool,
     failed_puts: u64,
     failed_flushes: u64,
-    ghost room: { 512 ≤ out.capacity },
+    ghost stands: { ∥ StandsOr broken (record {
+      table = table.now;
+      escapes = escapes;
+      begun = W.held begun.value;
+      failed = (W.failures begun.value).puts;
+    }) came.bytes (W.held output) (W.failures output).puts turner.reader turner.out.items ∥₁ } by { ∥∥₁_prop },
+    ghost counts: { broken ≡ false → failed_puts ≡ 0 },
 }
 
-/// All that waits goes out.
-fn put_waiting<W: Sink>(out: &mut SliceVec<'_, u8>, output: &mut W) -> Result<(), Fault>
-    ensures empty { OnOk result (out.new.items ≡ []) }
-    ensures room { out.new.capacity ≡ out.old.capacity }
-{
-    output.put(out.as_slice())?;
-    out.clear();
-    Ok(())
+impl<'a, W: Sink> Model for Shown<'a, W> {
+    ghost use Rattle.utf8_converter.specs.Showing.{Told};
+    ghost use Rattle.utf8_own_sink.specs.Showing.{told};
+
+    ghost Value = { Told };
+
+    ghost view = { λ s. record {
+      bytes = told (record {
+        table = s.table.now;
+        escapes = s.escapes;
+        begun = W.held s.begun.value;
+        failed = (W.failures s.begun.value).puts;
+      }) s.came.bytes;
+      is_passed_on = s.flushed;
+      failures = record { puts = s.failed_puts; flushes = s.failed_flushes };
+    } };
 }
 
-/// Room is made for what comes of one byte.
-fn make_room<W: Sink>(out: &mut SliceVec<'_, u8>, output: &mut W) -> Result<(), Fault>
-    requires { 512 ≤ out.old.capacity }
-    ensures fits { OnOk result (length out.new.items + 256 ≤ out.new.capacity) }
-    ensures room { out.new.capacity ≡ out.old.capacity }
-{
-    if out.capacity() - out.len() >= 2 * MOST {
-        return Ok(());
-    }
-    put_waiting(out, output)
-}
-
-/// All of these bytes are read, and what they come to goes out.
-fn put_all<W: Sink>(
-    bytes: &[u8],
-    reader: &mut Reader,
-    table: &Table<'_>,
-    out: &mut SliceVec<'_, u8>,
-    output: &mut W,
-) -> Result<(), Fault>
-    requires { 512 ≤ out.old.capacity }
-    ensures room { out.new.capacity ≡ out.old.capacity }
-{
-    for byte in bytes {
-        make_room(out, output)?;
-        reader.read(*byte, table, out);
-    }
-    put_waiting(out, output)
-}
-
-/// The end comes.
-fn put_end<W: Sink>(
-    reader: &mut Reader,
-    table: &Table<'_>,
-    out: &mut SliceVec<'_, u8>,
-    output: &mut W,
-) -> Result<(), Fault>
-    requires { 512 ≤ out.old.capacity }
-    ensures room { out.new.capacity ≡ out.old.capacity }
-{
-    make_room(out, output)?;
-    reader.finish(table, out);
-    put_waiting(out, output)
-}
-
-impl<'a, W: Sink + Drop> Shown<'a, W> {
-    /// Nothing came yet. The room, of 512 bytes at least, holds what goes out; what it held is of no account.
-    pub fn over(output: W, table: Table<'a>, escapes: bool, room: &'a mut [u8]) -> Self
+impl<'a, W: Sink> Shown<'a, W> {
+    /// Nothing came yet. The room, of 512 bytes at least, holds what goes out; what it held is of no account. With `escapes` looks
+    /// stand between escape sequences.
+    pub fn over(output: W, table: &'a Table<'a>, escapes: bool, room: &'a mut [u8]) -> Self
         requires { 512 ≤ length room.now }
+        ensures held { result.bytes ≡ told (record {
+          table = table.now;
+          escapes = escapes;
+          begun = W.held output;
+          failed = (W.failures output).puts;
+        }) [] }
+        ensures passed_on { result.is_passed_on ≡ false }
+        ensures failures { result.failures ≡ no_failures }
     {
+        let begun = Snapshot::of(&output);
         Shown {
             output,
+            begun,
+            came: Came::nothing(),
             table,
-            out: SliceVec::over(room),
-            reader: Reader::new(escapes),
+            escapes,
+            turner: Turner::new(escapes, room),
             broken: false,
             flushed: false,
             failed_puts: 0,
@@ -93,40 +88,53 @@ impl<'a, W: Sink + Drop> Shown<'a, W> {
         }
     }
 
-    /// The end comes, and all goes out. Tells how many blanks stand for what is no character.
-    pub fn finish(&mut self) -> Result<u64, Fault> {
-        if self.broken {
-            return Err(Fault);
+    /// The end comes, and all goes out. Gives the sink back, and a fault where it failed.
+    pub fn finish(self) -> (W, Result<(), Fault>)
+        // What it holds says how it was made and what came, and the other sink got what that comes to.
+        ensures shown { (m : Making) (came : List ℕ) → self.entry.bytes ≡ told m came →
+            Finishes m came (W.held result.0) (W.failures result.0).puts result.1 }
+        // Once a put failed, it got a prefix of what these bytes come to and any that would have followed.
+        ensures broke { (m : Making) (came more : List ℕ) → self.entry.bytes ≡ told m came →
+            self.entry.failures.puts ≢ 0 →
+            AppendsFront m.begun (W.held result.0) (converted m.table m.escapes (came ++ more)) }
+        ensures fails { IsOk result.1 → self.entry.failures.puts ≡ 0 }
+    {
+        let Shown {
+            mut output,
+            begun: _,
+            came: _,
+            table,
+            escapes: _,
+            mut turner,
+            broken,
+            flushed: _,
+            failed_puts: _,
+            failed_flushes: _,
+        } = self;
+        if broken {
+            return (output, Err(Fault));
         }
-        put_end(
-            &mut self.reader,
-            &self.table,
-            &mut self.out,
-            &mut self.output,
-        )?;
-        Ok(self.reader.strays)
+        let ended = turner.close(table, &mut output);
+        (output, ended)
     }
 }
 
-impl<W: Sink + Drop> Sink for Shown<'_, W> {
-    ghost use Rattle.std.specs.Prelude.{None};
+impl<'a, W: Sink> Sink for Shown<'a, W> {
+    ghost use Rattle.std.specs.Prelude.{Some};
 
-    ghost held = { λ s. None };
+    ghost held = { λ s. Some s.bytes };
 
-    ghost passed_on = { λ s. s.flushed };
+    ghost passed_on = { λ s. s.is_passed_on };
 
-    ghost failures = { λ s. record { puts = s.failed_puts; flushes = s.failed_flushes } };
+    ghost failures = { λ s. s.failures };
 
     fn put(&mut self, bytes: &[u8]) -> Result<(), Fault> {
+        self.came.note(bytes);
         if self.broken
-            || put_all(
-                bytes,
-                &mut self.reader,
-                &self.table,
-                &mut self.out,
-                &mut self.output,
-            )
-            .is_err()
+            || self
+                .turner
+                .take_all(bytes, self.table, &mut self.output)
+                .is_err()
         {
             self.broken = true;
             self.failed_puts = next_count(self.failed_puts);
@@ -139,15 +147,16 @@ impl<W: Sink + Drop> Sink for Shown<'_, W> {
     }
 
     fn flush(&mut self) -> Result<(), Fault> {
-        if self.broken {
+        if self.broken || self.turner.pass_on(&mut self.output).is_err() {
+            self.broken = true;
             self.failed_flushes = next_count(self.failed_flushes);
             return Err(Fault);
         }
-        if self.output.flush().is_ok() {
-            self.flushed = true;
-            return Ok(());
+        if self.output.flush().is_err() {
+            self.failed_flushes = next_count(self.failed_flushes);
+            return Err(Fault);
         }
-        self.failed_flushes = next_count(self.failed_flushes);
-        Err(Fault)
+        self.flushed = true;
+        Ok(())
     }
 }

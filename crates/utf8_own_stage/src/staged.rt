@@ -13,16 +13,16 @@ use utf8_own_characters::{Listener, Table};
 /// Characters of UTF-8 become the bytes of a page's own table, or what they look like where it lacks them.
 #[derive(Drop)]
 pub struct Coder<'a> {
-    table: Table<'a>,
+    table: &'a Table<'a>,
     listener: Listener,
-    ghost good: { Good table },
+    ghost good: { Good table.now },
 }
 
 impl<'a> Coder<'a> {
     /// A text begins.
-    pub fn over(table: Table<'a>) -> Coder<'a>
-        requires { Good table }
-        ensures says { ⟦<Coder<'a> as Stage>⟧.says result ≡ coding table first }
+    pub fn over(table: &'a Table<'a>) -> Coder<'a>
+        requires { Good table.now }
+        ensures says { ⟦<Coder<'a> as Stage>⟧.says result ≡ coding table.now first }
         ensures fits { ⟦<Coder<'a> as Stage>⟧.fits result ≡ fits_always }
         ensures wants { ⟦<Coder<'a> as Stage>⟧.wants result ≡ 32 }
     {
@@ -38,7 +38,7 @@ impl Stage for Coder<'_> {
     ghost use Rattle.document_stages.specs.Pulling.{fits_always};
     ghost use Rattle.utf8_own_stage.specs.Coding.{coding};
 
-    ghost says = { λ s. coding s.table s.listener };
+    ghost says = { λ s. coding s.table.now s.listener };
 
     ghost fits = { λ s. fits_always };
 
@@ -52,12 +52,12 @@ impl Stage for Coder<'_> {
 
     fn turn(&mut self, bytes: &[u8], out: &mut SliceVec<'_, u8>) -> usize {
         let len = bytes.len().min(out.capacity() / MOST);
-        put_all(&bytes[..len], &mut self.listener, &self.table, out);
+        put_all(&bytes[..len], &mut self.listener, self.table, out);
         len
     }
 
     fn finish(&mut self, out: &mut SliceVec<'_, u8>) -> bool {
-        put_done(self.listener.held, &self.table, out);
+        put_done(self.listener.held, self.table, out);
         self.listener.held = None;
         true
     }

@@ -1,0 +1,102 @@
+-- What goes out byte by byte.
+use Prim.Native.Char.{code}
+use Rattle.std.specs.Prelude.{ℕ, List, [], ◌∷◌, ◌++◌, Bool, ◌==◌, nat_le, if◌then◌else◌, Option, None, Some}
+use Rattle.nr_vectors.specs.declared.cell.Look.{Look}
+use Rattle.nr_vectors.specs.declared.cell.Look.TheVariants.{Plain}
+use Rattle.utf8_own_characters.specs.Table.{Characters}
+use Rattle.utf8_own_sink.specs.Cells.{alone, cells, lead_after, letters, letters_of, plain, strikes, struck}
+use Rattle.utf8_own_sink.specs.Letters.{Letter, drawn, first_way, printed, way_past}
+use Rattle.utf8_own_sink.specs.declared.cells.Cell.{Cell}
+use Rattle.utf8_own_sink.specs.declared.cells.Half.{Half}
+use Rattle.utf8_own_sink.specs.declared.cells.Half.TheVariants.{Nothing, Byte, Backspaced}
+use Rattle.utf8_own_sink.specs.declared.cells.Reader.{Reader}
+use Rattle.utf8_own_sink.specs.declared.letters.Way.{Way}
+
+-- ---- letters
+
+abbrev pub drawn_all : Way → List Letter → List ℕ
+drawn_all way [] = []
+drawn_all way (l ∷ ls) = drawn way l ++ drawn_all (way_past way l) ls
+
+abbrev pub ways_past : Way → List Letter → Way
+ways_past way [] = way
+ways_past way (l ∷ ls) = ways_past (way_past way l) ls
+
+-- ---- a cell goes out
+
+abbrev pub cell_said : Characters → Cell → Reader → List ℕ
+cell_said t c r = drawn_all r.way (letters_of t r.lead c)
+
+abbrev pub cell_after : Characters → Cell → Reader → Reader
+cell_after t c r = record r { before = c.look; lead = lead_after t r.lead c; way = ways_past r.way (letters_of t r.lead c) }
+
+-- ---- a byte comes, where nothing of a cell is read
+
+abbrev pub with_half : Half → Reader → Reader
+with_half half r = record r { half = half }
+
+abbrev pub begun_said : Characters → ℕ → Reader → List ℕ
+begun_said t b r = if nat_le b (code " ") then cell_said t (plain b) r else []
+
+abbrev pub begun_after : Characters → ℕ → Reader → Reader
+begun_after t b r =
+    if nat_le b (code " ") then with_half Nothing (cell_after t (plain b) r) else with_half (Byte b) r
+
+-- the same where a byte was read: it goes out first
+abbrev pub next_said : Characters → ℕ → ℕ → Reader → List ℕ
+next_said t a b r = cell_said t (plain a) r ++ begun_said t b (cell_after t (plain a) r)
+
+abbrev pub next_after : Characters → ℕ → ℕ → Reader → Reader
+next_after t a b r = begun_after t b (cell_after t (plain a) r)
+
+-- ---- where so much of a cell is read
+
+abbrev pub said : Characters → Half → ℕ → Reader → List ℕ
+said t Nothing b r = begun_said t b r
+said t (Byte a) b r = if b == 8 then [] else next_said t a b r
+said t (Backspaced a) b r = if strikes a b then cell_said t (struck r.before a b) r else next_said t a b r
+
+abbrev pub after : Characters → Half → ℕ → Reader → Reader
+after t Nothing b r = begun_after t b r
+after t (Byte a) b r = if b == 8 then with_half (Backspaced a) r else next_after t a b r
+after t (Backspaced a) b r =
+    if strikes a b then with_half Nothing (cell_after t (struck r.before a b) r) else next_after t a b r
+
+-- ---- all bytes
+
+abbrev pub first : Bool → Reader
+first escapes = record { half = Nothing; before = Plain; lead = None; way = first_way escapes }
+
+-- where the reader stands after bytes, and what went out
+pub record Told : Type 0 where
+  pub reader : Reader
+  pub bytes : List ℕ
+
+abbrev pub behind : List ℕ → Told → Told
+behind bytes t = record { reader = t.reader; bytes = bytes ++ t.bytes }
+
+abbrev pub fed : Characters → Reader → List ℕ → Told
+fed t r [] = record { reader = r; bytes = [] }
+fed t r (b ∷ bs) = behind (said t r.half b r) (fed t (after t r.half b r) bs)
+
+-- ---- the end comes
+
+abbrev pub released : Characters → Half → Reader → Reader
+released t Nothing r = r
+released t (Byte a) r = cell_after t (plain a) r
+released t (Backspaced a) r = cell_after t (plain a) r
+
+abbrev pub released_said : Characters → Half → Reader → List ℕ
+released_said t Nothing r = []
+released_said t (Byte a) r = cell_said t (plain a) r
+released_said t (Backspaced a) r = cell_said t (plain a) r
+
+abbrev pub ended : Characters → Reader → List ℕ
+ended t r =
+    let s = released t r.half r in
+    released_said t r.half r ++ drawn_all s.way (alone s.lead) ++ printed (ways_past s.way (alone s.lead)) []
+
+-- ---- what comes of bytes and the end
+
+abbrev pub rest : Characters → Reader → List ℕ → List ℕ
+rest t r bytes = printed r.way (letters t r.lead (cells r.half r.before bytes))
