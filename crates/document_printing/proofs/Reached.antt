@@ -143,12 +143,14 @@ shows-ended s w begun failed source n outcomes.WriteFault before bytes none puts
 shows-ended s w begun failed source n outcomes.WriteFault before bytes none puts new after (Err f) zero e p tells = 
     short_shown s w begun failed source n before bytes puts new after (Err f) e p (λ none_did. next_some (sym (ap next_count zero) ∙ sym tells ∙ none_did))
 
-pub shows-as : {T : Type 0} (s : Setting) (w : Spelling) (begun : Option (List ℕ)) (failed : ℕ) (source : Supply) (n : ℕ) (v : Spelling) (o said : Outcome) (before bytes : List ℕ) (none puts : ℕ) (new : Option (List ℕ)) (after : ℕ) (x : Result T Fault) → v ≡ w → said ≡ told_shown o (is_err x) → none ≡ 0 → Ended T w begun failed before bytes puts new after x
-    → Prints s source n o (Some before) (Some bytes) → TellsWrites o none puts → Shows s v source n said begun new
-shows-as s w begun failed source n v o said before bytes none puts new after x is same zero e p tells =
-    let P : Spelling → Type 0 = λ y. Shows s y source n said begun new in
-    let Q : Outcome → Type 0 = λ y. Shows s w source n y begun new in
-    subst P (sym is) (subst Q (sym same) (shows-ended s w begun failed source n o before bytes none puts new after x zero e p tells))
+pub shows-as : {T : Type 0} (s : Setting) (w : Spelling) (begun : Option (List ℕ)) (failed : ℕ) (source : Supply) (n : ℕ) (v : Spelling) (k : ℕ) (o said : Outcome) (before bytes : List ℕ) (none puts : ℕ) (new : Option (List ℕ)) (after : ℕ) (x : Result T Fault)
+    → v ≡ w → k ≡ n → said ≡ told_shown o (is_err x) → none ≡ 0 → Ended T w begun failed before bytes puts new after x
+    → Prints s source n o (Some before) (Some bytes) → TellsWrites o none puts → Shows s v source k said begun new
+shows-as s w begun failed source n v k o said before bytes none puts new after x is moves same zero e p tells =
+    let P : Spelling → Type 0 = λ y. Shows s y source k said begun new in
+    let Q : ℕ → Type 0 = λ y. Shows s w source y said begun new in
+    let R : Outcome → Type 0 = λ y. Shows s w source n y begun new in
+    subst P (sym is) (subst Q (sym moves) (subst R (sym same) (shows-ended s w begun failed source n o before bytes none puts new after x zero e p tells)))
 
 -- ---- faults of the output
 

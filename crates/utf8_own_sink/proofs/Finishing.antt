@@ -114,8 +114,8 @@ more_eq c d cs ds p q = cc
 
 listed_same : (cs ds : List Cluster) (xs ys : List ℕ) → listed_before cs xs ≡ listed_before ds ys → SameList cs ds xs ys
 listed_same [] [] xs ys e = record { first_is = refl; rest = (let tail : xs ≡ ys = cc in tail) }
-listed_same [] (d ∷ ds) xs ys e = absurd (let head : 0 ≡ 1 = cc in omega (arith, head))
-listed_same (c ∷ cs) [] xs ys e = absurd (let head : 1 ≡ 0 = cc in omega (arith, head))
+listed_same [] (d ∷ ds) xs ys e = absurd (let head : ◌≡◌ {A = ℕ} 0 1 = cc in omega (arith, head))
+listed_same (c ∷ cs) [] xs ys e = absurd (let head : ◌≡◌ {A = ℕ} 1 0 = cc in omega (arith, head))
 listed_same (c ∷ cs) (d ∷ ds) xs ys e =
     let letter : c.letter ≡ d.letter = cc in
     let one : c.first_mark ≡ d.first_mark = cc in

@@ -82,15 +82,19 @@ fed-goes t r (b ∷ bs) =
 last-goes : (w : Way) (lead : Option Cell) → printed w (alone lead) ≡ drawn_all w (alone lead) ++ printed (ways_past w (alone lead)) []
 last-goes w lead = ap (λ (ls : List Letter). printed w ls) (sym (append-nil (alone lead))) ∙ printed-append w (alone lead) []
 
+byte-ends : (t : Characters) (a : ℕ) (r : Reader)
+    → shows t r (plain a ∷ []) ≡ (let s = cell_after t (plain a) r in cell_said t (plain a) r ++ drawn_all s.way (alone s.lead) ++ printed (ways_past s.way (alone s.lead)) [])
+unfolding shows
+byte-ends t a r =
+    let s = cell_after t (plain a) r in
+    cell-goes t (plain a) [] r ∙ ap (λ (zs : List ℕ). cell_said t (plain a) r ++ zs) (last-goes s.way s.lead)
+    ∙ sym (append_assoc (cell_said t (plain a) r) (drawn_all s.way (alone s.lead)) (printed (ways_past s.way (alone s.lead)) []))
+
 end-goes : (t : Characters) (h : Half) (r : Reader) → shows t r (cells h r.before []) ≡ (let s = released t h r in released_said t h r ++ drawn_all s.way (alone s.lead) ++ printed (ways_past s.way (alone s.lead)) [])
 unfolding shows
 end-goes t Nothing r = last-goes r.way r.lead
-end-goes t (Byte a) r =
-    let s = cell_after t (plain a) r in
-    cell-goes t (plain a) [] r ∙ ap (λ (zs : List ℕ). cell_said t (plain a) r ++ zs) (last-goes s.way s.lead)
-end-goes t (Backspaced a) r =
-    let s = cell_after t (plain a) r in
-    cell-goes t (plain a) [] r ∙ ap (λ (zs : List ℕ). cell_said t (plain a) r ++ zs) (last-goes s.way s.lead)
+end-goes t (Byte a) r = byte-ends t a r
+end-goes t (Backspaced a) r = byte-ends t a r
 
 pub converted-fed : (t : Characters) (escapes : Bool) (bs : List ℕ) → converted t escapes bs ≡ (fed t (first escapes) bs).bytes ++ ended t (fed t (first escapes) bs).reader
 unfolding shows
