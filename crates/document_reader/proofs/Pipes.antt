@@ -4,6 +4,10 @@ use Rattle.std.proofs.lemmas.Grind.{common_steps}
 use Rattle.std.proofs.Math.Seq.{take-length}
 use Rattle.nr_units.specs.Source.{Faults, Never, After, Anytime, Supply}
 use Rattle.preconv_converter.specs.declared.target.Target.{Target}
+use Rattle.preconv_converter.specs.declared.target.Target.TheVariants.{Utf8}
+use Rattle.utf8_own_characters.specs.Listening.{first}
+use Rattle.utf8_own_characters.specs.Table.{Characters}
+use Rattle.utf8_own_stage.specs.Coding.{coding}
 use Rattle.mdoc_converter.specs.Reading as mdoc
 use Rattle.mdoc_converter.specs.Staged as mdoc_part
 use Rattle.preconv_converter.specs.Reading as preconv
@@ -11,7 +15,7 @@ use Rattle.preconv_converter.specs.Staged as preconv_part
 use Rattle.document_stages.specs.Pulling.{all_of, broken_off, fits_always, pulled, pulled_from, whole}
 use Rattle.document_stages.specs.Switch.{fits_if, says_if, wants_if}
 use Rattle.document_reader.specs.declared.page.Stages.{Stages}
-use Rattle.document_reader.specs.Page.{IsShort, breaks_off, characters_of, characters_so_far, man_of, man_so_far, plain_so_far, plain_supply}
+use Rattle.document_reader.specs.Page.{IsShort, breaks_off, characters_of, characters_so_far, man_of, man_so_far, own_so_far, own_supply, plain_of, plain_so_far, plain_supply}
 
 short : (n : ℕ) → n < 1099511627776 → nat_lt (0 + n) 1099511627776 ≡ true
 short n h = grind (arith, common_steps)
@@ -129,3 +133,32 @@ over-both a first second stages table w v says says' said said' fits fits' fitte
     ∙ ap (λ (s : Bool → List ℕ → List ℕ). pulled (pulled a true one fits [] 0 false) true s fits' [] 0 false) (e2 ∙ ap (λ (z : Bool → List ℕ → List ℕ). says_if stages.characters z) e3)
     ∙ ap (λ (f : List ℕ → Bool). pulled (pulled a true one f [] 0 false) true two fits' [] 0 false) (e4 ∙ ap (λ (z : List ℕ → Bool). fits_if stages.mdoc z) e5)
     ∙ ap (λ (f : List ℕ → Bool). pulled (pulled a true one (fits_if stages.mdoc fits_always) [] 0 false) true two f [] 0 false) (e6 ∙ ap (λ (z : List ℕ → Bool). fits_if stages.characters z) e7)
+
+-- ---- a stage behind them, which codes
+
+coded_pulled : (text result : Option Supply) (says : Bool → List ℕ → List ℕ) (fits : List ℕ → Bool) (wants room : ℕ) (t : Characters)
+    → result ≡ pulled text (nat_le wants room) says fits [] 0 false → wants ≡ 32 → 32 ≤ room → says ≡ coding t first → fits ≡ fits_always
+    → result ≡ pulled text true (coding t first) fits_always [] 0 false
+coded_pulled text result says fits wants room t is few wide said fitted =
+    is
+    ∙ ap (λ (b : Bool). pulled text b says fits [] 0 false) (ap (λ (k : ℕ). nat_le k room) few ∙ wide-if true 32 room wide (omega (arith, wide)))
+    ∙ ap (λ (z : Bool → List ℕ → List ℕ). pulled text true z fits [] 0 false) said
+    ∙ ap (λ (z : List ℕ → Bool). pulled text true (coding t first) z [] 0 false) fitted
+
+pub own-whole : (text result : Option Supply) (says : Bool → List ℕ → List ℕ) (fits : List ℕ → Bool) (wants room : ℕ) (t : Characters) (stages : Stages) (q : Supply)
+    → result ≡ pulled text (nat_le wants room) says fits [] 0 false → wants ≡ 32 → 32 ≤ room → says ≡ coding t first → fits ≡ fits_always
+    → text ≡ Some (plain_supply stages Utf8 q) → breaks_off q.faults ≡ false → length (plain_of stages Utf8 q.bytes) < 1099511627776
+    → result ≡ Some (own_supply stages t q)
+own-whole text result says fits wants room t stages q is few wide said fitted of kept short =
+    coded_pulled text result says fits wants room t is few wide said fitted
+    ∙ ap (λ (x : Option Supply). pulled x true (coding t first) fits_always [] 0 false) of
+    ∙ kept-pulled (plain_of stages Utf8 q.bytes) q.faults (coding t first) fits_always kept short refl
+
+pub own-cut : (text result : Option Supply) (says : Bool → List ℕ → List ℕ) (fits : List ℕ → Bool) (wants room : ℕ) (t : Characters) (stages : Stages) (bytes : List ℕ)
+    → result ≡ pulled text (nat_le wants room) says fits [] 0 false → wants ≡ 32 → 32 ≤ room → says ≡ coding t first → fits ≡ fits_always
+    → text ≡ Some (broken_off (plain_so_far stages Utf8 bytes)) → length (plain_so_far stages Utf8 bytes) < 1099511627776
+    → result ≡ Some (broken_off (own_so_far stages t bytes))
+own-cut text result says fits wants room t stages bytes is few wide said fitted of short =
+    coded_pulled text result says fits wants room t is few wide said fitted
+    ∙ ap (λ (x : Option Supply). pulled x true (coding t first) fits_always [] 0 false) of
+    ∙ broken-pulled (plain_so_far stages Utf8 bytes) (coding t first) fits_always short

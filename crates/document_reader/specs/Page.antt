@@ -1,11 +1,15 @@
 -- What the formatter is to read of a page: the composition of the stages' definitions.
-use Rattle.std.specs.Prelude.{ℕ, ◌<◌, List, length, Option, Bool, true, false}
+use Rattle.std.specs.Prelude.{ℕ, ◌<◌, List, length, Bool, true, false}
 use Rattle.nr_units.specs.Source.{Faults, Never, After, Anytime, Supply}
 use Rattle.preconv_converter.specs.declared.target.Target.{Target}
 use Rattle.mdoc_converter.specs.Reading as mdoc
 use Rattle.mdoc_converter.specs.Staged as mdoc_part
 use Rattle.preconv_converter.specs.Reading as preconv
 use Rattle.preconv_converter.specs.Staged as preconv_part
+use Rattle.preconv_converter.specs.declared.target.Target.TheVariants.{Utf8}
+use Rattle.utf8_own_characters.specs.Listening.{first}
+use Rattle.utf8_own_characters.specs.Table.{Characters}
+use Rattle.utf8_own_stage.specs.Coding.{coding}
 use Rattle.document_reader.specs.declared.page.Stages.{Stages}
 
 abbrev pub man_of : Bool → List ℕ → List ℕ
@@ -30,6 +34,13 @@ breaks_off Anytime = false
 abbrev pub plain_supply : Stages → Target → Supply → Supply
 plain_supply stages table q = record { bytes = plain_of stages table q.bytes; faults = q.faults }
 
+-- the text of a page that has a table of its own: coded (characters (mdoc page))
+abbrev pub own_of : Stages → Characters → List ℕ → List ℕ
+own_of stages table page = coding table first true (plain_of stages Utf8 page)
+
+abbrev pub own_supply : Stages → Characters → Supply → Supply
+own_supply stages table q = record { bytes = own_of stages table q.bytes; faults = q.faults }
+
 -- ---- of the first bytes of a page, where more are to come
 
 abbrev pub man_so_far : Bool → List ℕ → List ℕ
@@ -42,6 +53,9 @@ characters_so_far false table bytes = bytes
 
 abbrev pub plain_so_far : Stages → Target → List ℕ → List ℕ
 plain_so_far stages table bytes = characters_so_far stages.characters table (man_so_far stages.mdoc bytes)
+
+abbrev pub own_so_far : Stages → Characters → List ℕ → List ℕ
+own_so_far stages table bytes = coding table first false (plain_so_far stages Utf8 bytes)
 
 -- a page, and what mdoc makes of it, have less than 2^40 bytes
 pub record IsShort (page man : List ℕ) : Type 0 where

@@ -6,8 +6,8 @@ ghost use Rattle.utf8_own_characters.specs.Table.{Good};
 use crate::plan::Plan;
 use crate::printing::{Means, print_fixed, print_page};
 use document_printing::{Front, PageTable, Report, Rooms, Setup, Showing, Spelling, Stages};
-use document_reader::{Waits, read_page};
-use document_stages::{LEAST_ROOM, Pull, Text};
+use document_reader::{Waits, read_own_page, read_page};
+use document_stages::{LEAST_ROOM, Text};
 use mdoc_converter::Block;
 use nr_engine::{Desk, Sink, Source};
 use nr_vectors::slice_vec::SliceVec;
@@ -19,7 +19,6 @@ use utf8_own_characters::{
     Cluster, Code, Count, Listener, MOST_NARROW, MOST_WIDE, Table, choose, count_cluster, end_look,
     fill_slots, look_at, rank,
 };
-use utf8_own_stage::Coder;
 
 /// The most clusters that are counted.
 const MOST_COUNTED: usize = 4_352;
@@ -238,8 +237,7 @@ fn print_coded<R: Source + Drop, W: Sink>(
         second: &mut second,
         blocks: &mut blocks,
     };
-    let text = read_page(page, plan.stages, Target::Utf8, waits);
-    let coded = Pull::over(Coder::over(table), text, &mut third);
+    let coded = read_own_page(page, plan.stages, table, waits, &mut third);
     let setup = Setup {
         macros: means.macros,
         stages: Stages {
