@@ -30,7 +30,7 @@ static TEXTS: [(&str, Page<'static>); 6] = [
 ];
 
 /// What is formatted.
-static PRINTED: [Row; 13] = [
+static PRINTED: [Row; 16] = [
     Row {
         words: &[b"nulbiko"],
         input: b".pl 2\n.ll 8\na bb ccc dddd\n",
@@ -61,6 +61,28 @@ here              today              A(1)\n",
         words: &[b"nulbiko", b"-Tutf8", b"-dwd=word"],
         input: b".pl 1\n\\*(wd \xc3\xa9\n",
         output: b"word \xc3\xa9\n",
+        status: 0,
+        line: b"",
+    },
+    // a page with a table of its own: characters of one column and of two, struck out, between sequences, and as other text
+    Row {
+        words: &[b"nulbiko", b"-Tutf8"],
+        input: b".pl 1\nP\xc5\x98EKLAD \xe5\x90\x8d\n",
+        output: b"P\xc5\x98EKLAD \xe5\x90\x8d\n",
+        status: 0,
+        line: b"",
+    },
+    Row {
+        words: &[b"nulbiko", b"-Tutf8", b"--faces=on"],
+        input: b".pl 1\n\\fBP\xc5\x98\\fP \\fI\xe5\x90\x8dx\\fP\n",
+        output: b"\x1b[1mP\xc5\x98\x1b[22m \x1b[4m\xe5\x90\x8dx\x1b[24m\n",
+        status: 0,
+        line: b"",
+    },
+    Row {
+        words: &[b"nulbiko", b"-Tutf8", b"--faces=none"],
+        input: b".pl 1\n\\fBP\xc5\x98\\fP \\fI\xe5\x90\x8dx\\fP\n",
+        output: b"P\xc5\x98 \xe5\x90\x8dx\n",
         status: 0,
         line: b"",
     },
