@@ -404,7 +404,7 @@ Gives-none a wide says fits waits t ended empty end =
     subst (λ (e : Bool). Gives {E = Fault} (pulled a wide says fits waits t e) (Ok None) (pulled a wide says fits waits t e)) (sym end)
     (subst (λ (w : List ℕ). Gives {E = Fault} (pulled a wide says fits w t true) (Ok None) (pulled a wide says fits w t true)) (sym empty) (end-of a wide says fits t))
 
-item-drop : (xs : List ℕ) (i x : ℕ) → slice_get xs i ≡ Some x → drop i xs ≡ x ∷ drop (i + 1) xs
+pub item-drop : (xs : List ℕ) (i x : ℕ) → slice_get xs i ≡ Some x → drop i xs ≡ x ∷ drop (i + 1) xs
 item-drop xs i x h =
     drop_more xs i 0 (slice_get_within xs i x h) ∙ ap (λ (y : ℕ). y ∷ drop (i + 1) xs) (get_or_from_slice_get xs i x 0 h)
 
@@ -472,7 +472,7 @@ skips-from true false q says fits waits n l =
     skips-made (gives_end q.faults q.bytes) (fits q.bytes) waits (says true q.bytes) (says false (given q.faults q.bytes)) n l
 skips-from false ended q says fits waits n l = ap uncertain (sym (drop-append-le n waits (left_of ended says q.bytes) l))
 
-drop_drop : (at n : ℕ) (xs : List ℕ) → drop n (drop at xs) ≡ drop (at + n) xs
+pub drop_drop : (at n : ℕ) (xs : List ℕ) → drop n (drop at xs) ≡ drop (at + n) xs
 drop_drop at n xs = grind (arith, common_steps)
 
 pub Skips-waits : (a : Option Supply) (wide : Bool) (says : Bool → List ℕ → List ℕ) (fits : List ℕ → Bool) (xs : List ℕ) (at n t : ℕ) (ended : Bool)

@@ -4,12 +4,20 @@ ghost use Rattle.document_stages.specs.Counted.{line_len};
 
 use nr_units::source::{Fault, Source};
 
+/// What knows the line of a page that the byte given last came of.
+pub trait Lines {
+    /// Its number, from 1 on; 0 where none was given.
+    fn line(&self) -> u64;
+}
+
 /// A source that has no more at hand than the rest of a line. It counts the newlines that it gives.
 #[derive(Drop)]
 pub struct Counted<R> {
     input: R,
     newlines: u64,
     open: bool,
+    // How many bytes of the line are at hand at most.
+    left: usize,
 }
 
 /// How many bytes the first line has, with its newline.
@@ -35,26 +43,14 @@ impl<R: Source> Counted<R> {
             input,
             newlines: 0,
             open: false,
+            left: 0,
         }
-    }
-
-    /// The number of the line that the byte given last belongs to, from 1 on; 0 where none was given.
-    pub fn line(&self) -> u64 {
-        if self.open {
-            self.newlines.saturating_add(1)
-        } else {
-            self.newlines
-        }
-    }
-
-    /// The source.
-    pub fn input(&self) -> &R {
-        &self.input
     }
 
     /// A byte was given.
     fn counts(&mut self, byte: u8)
         ensures input { self.new.input ≡ self.old.input }
+        ensures left { self.new.left ≡ self.old.left }
     {
         if byte == b'\n' {
             self.newlines = self.newlines.saturating_add(1);
@@ -65,13 +61,22 @@ impl<R: Source> Counted<R> {
     }
 }
 
+impl<R: Source> Lines for Counted<R> {
+    fn line(&self) -> u64 {
+        if self.open {
+            self.newlines.saturating_add(1)
+        } else {
+            self.newlines
+        }
+    }
+}
+
 impl<R: Source> Source for Counted<R> {
     ghost use Rattle.std.specs.Prelude.{take};
-    ghost use Rattle.document_stages.specs.Counted.{line_len};
 
     ghost supply = { λ s. R.supply s.input };
 
-    ghost at_hand = { λ s. take (line_len (R.at_hand s.input)) (R.at_hand s.input) };
+    ghost at_hand = { λ s. take s.left (R.at_hand s.input) };
 
     ghost failures = { λ s. R.failures s.input };
 
@@ -80,18 +85,20 @@ impl<R: Source> Source for Counted<R> {
         if let Some(byte) = next {
             self.counts(byte);
         }
+        self.left = line_len(self.input.window());
         Ok(next)
     }
 
     fn window(&self) -> &[u8] {
         let window = self.input.window();
-        &window[..line_len(window)]
+        &window[..self.left.min(window.len())]
     }
 
     fn skip(&mut self, n: usize) {
         if n > 0 {
             let last = self.input.window()[n - 1];
             self.counts(last);
+            self.left -= n;
         }
         self.input.skip(n);
     }

@@ -3,6 +3,7 @@ ghost use Rattle.std.specs.Prelude.{◌≡◌, ◌<◌, ◌≤◌, [], length, d
 ghost use Rattle.nr_units.specs.Source.{Gives};
 ghost use Rattle.document_stages.specs.Pulling as specs;
 
+use super::counted::Lines;
 use super::stage::Stage;
 use nr_units::source::{Fault, Source, next_count};
 use nr_vectors::slice_vec::SliceVec;
@@ -202,11 +203,6 @@ impl<'a, R: Source, T: Stage> Pull<'a, R, T> {
         &self.stage
     }
 
-    /// The source.
-    pub fn input(&self) -> &R {
-        &self.input
-    }
-
     /// Nothing waits: more is made.
     fn refill(&mut self) -> Result<(), Fault>
         requires none { drop self.old.at self.old.out.items ≡ [] }
@@ -250,6 +246,12 @@ impl<'a, R: Source, T: Stage> Pull<'a, R, T> {
         let byte = self.out.get(self.at);
         self.at += 1;
         Some(byte)
+    }
+}
+
+impl<'a, R: Source + Lines, T: Stage> Lines for Pull<'a, R, T> {
+    fn line(&self) -> u64 {
+        self.input.line()
     }
 }
 
