@@ -138,9 +138,9 @@ shows-ended s w begun failed source n outcomes.ReadFault before bytes none puts 
 shows-ended s w begun failed source n outcomes.ReadFault before bytes none puts new after (Err f) zero e p tells = λ plain. some_shown s w begun failed source n before bytes puts new after (Err f) e (p plain)
 shows-ended s w begun failed source n outcomes.TooLong before bytes none puts new after (Ok k) zero e p tells = λ plain. some_shown s w begun failed source n before bytes puts new after (Ok k) e (p plain)
 shows-ended s w begun failed source n outcomes.TooLong before bytes none puts new after (Err f) zero e p tells = λ plain. some_shown s w begun failed source n before bytes puts new after (Err f) e (p plain)
-shows-ended s w begun failed source n outcomes.WriteFault before bytes none puts new after (Ok k) zero e p tells = 
+shows-ended s w begun failed source n outcomes.WriteFault before bytes none puts new after (Ok k) zero e p tells =
     short_shown s w begun failed source n before bytes puts new after (Ok k) e p (λ none_did. next_some (sym (ap next_count zero) ∙ sym tells ∙ none_did))
-shows-ended s w begun failed source n outcomes.WriteFault before bytes none puts new after (Err f) zero e p tells = 
+shows-ended s w begun failed source n outcomes.WriteFault before bytes none puts new after (Err f) zero e p tells =
     short_shown s w begun failed source n before bytes puts new after (Err f) e p (λ none_did. next_some (sym (ap next_count zero) ∙ sym tells ∙ none_did))
 
 pub shows-as : {T : Type 0} (s : Setting) (w : Spelling) (begun : Option (List ℕ)) (failed : ℕ) (source : Supply) (n : ℕ) (v : Spelling) (k : ℕ) (o said : Outcome) (before bytes : List ℕ) (none puts : ℕ) (new : Option (List ℕ)) (after : ℕ) (x : Result T Fault)
@@ -178,7 +178,7 @@ tells-ended s w begun failed source n outcomes.ReadFault before bytes none puts 
 tells-ended s w begun failed source n outcomes.ReadFault before bytes none puts new after (Err f) zero e p tells = tt
 tells-ended s w begun failed source n outcomes.TooLong before bytes none puts new after (Ok k) zero e p tells = tt
 tells-ended s w begun failed source n outcomes.TooLong before bytes none puts new after (Err f) zero e p tells = tt
-tells-ended s w begun failed source n outcomes.WriteFault before bytes none puts new after (Ok k) zero e p tells = 
+tells-ended s w begun failed source n outcomes.WriteFault before bytes none puts new after (Ok k) zero e p tells =
     let ok : puts ≡ 0 = e.fails refl in
     absurd (next_some (sym (ap next_count zero) ∙ sym tells ∙ ok))
 tells-ended s w begun failed source n outcomes.WriteFault before bytes none puts new after (Err f) zero e p tells = cut w begun failed before bytes p.0 puts new after f e p.3

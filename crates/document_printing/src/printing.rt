@@ -11,17 +11,13 @@ use super::pulling::{Pulled, pull};
 use super::rooms::Rooms;
 use super::setting::{format_text, set};
 use super::setup::{Outcome, Report, Setup};
-use document_reader::{Waits, read_page};
-use document_stages::LEAST_ROOM;
-use mdoc_converter::Block;
+use document_reader::{Places, read_page};
+use document_stages::Lines;
 use nr_engine::Desk;
 use nr_units::sink::Sink;
 use nr_units::source::Source;
 use nr_vectors::slice_vec::SliceVec;
 use tbl_setting::{Complaint, Outcome as Tables};
-
-/// The most lists and displays of mdoc(7) that are open.
-const MOST_BLOCKS: usize = 64;
 
 /// How the formatter's end is told of a page that came whole.
 fn told(outcome: nr_engine::Outcome) -> Outcome
@@ -90,18 +86,11 @@ fn run_set<R: Source + Drop, W: Sink>(
         result.moves result.outcome (W.held output.old) (W.held output.new) }
     ensures write_faults { TellsWrites result.outcome (W.failures output.old).puts (W.failures output.new).puts }
 {
-    let mut first = [0; LEAST_ROOM];
-    let mut second = [0; LEAST_ROOM];
-    let mut blocks = [Block::NONE; MOST_BLOCKS];
-    let waits = Waits {
-        first: &mut first,
-        second: &mut second,
-        blocks: &mut blocks,
-    };
-    let mut text = read_page(input, setup.stages, setup.characters, waits);
+    let mut places = Places::new();
+    let mut text = read_page(input, setup.stages, setup.characters, places.lend());
     let Rooms { tables, page } = rooms;
     let (made, page) = set(&mut text, tables, complaints, page);
-    let line = text.input().input().line();
+    let line = text.line();
     match made.outcome {
         Tables::WriteFault => no_room(line, made.missed),
         ending => {
@@ -132,15 +121,8 @@ fn run_pull<R: Source + Drop, W: Sink>(
         result.moves result.outcome (W.held output.old) (W.held output.new) }
     ensures write_faults { TellsWrites result.outcome (W.failures output.old).puts (W.failures output.new).puts }
 {
-    let mut first = [0; LEAST_ROOM];
-    let mut second = [0; LEAST_ROOM];
-    let mut blocks = [Block::NONE; MOST_BLOCKS];
-    let waits = Waits {
-        first: &mut first,
-        second: &mut second,
-        blocks: &mut blocks,
-    };
-    let pulled = pull(input, setup, waits, desk, output);
+    let mut places = Places::new();
+    let pulled = pull(input, setup, places.lend(), desk, output);
     report_of(told(pulled.outcome), pulled, false)
 }
 

@@ -9,7 +9,7 @@ ghost use Rattle.document_reader.specs.Page.{IsShort, breaks_off, man_of, man_so
 
 use super::setup::Setup;
 use document_reader::{Waits, read_page};
-use document_stages::Joined;
+use document_stages::{Joined, Lines};
 use nr_engine::{Desk, Outcome, format};
 use nr_units::sink::Sink;
 use nr_units::source::Source;
@@ -53,7 +53,7 @@ pub(crate) fn pull<R: Source + Drop, W: Sink>(
     let mut all = Joined::over(setup.macros, page);
     let mut moves = 0;
     let outcome = format(desk.lend(), setup.options, &mut all, output, &mut moves);
-    let line = all.second().input().input().line();
+    let line = all.second().line();
     Pulled {
         outcome,
         line,

@@ -4,7 +4,7 @@ ghost use Rattle.nr_units.specs.Source.{After, Supply};
 ghost use Rattle.document_stages.specs.Pulling.{broken_off};
 ghost use Rattle.document_reader.specs.Page.{IsShort, breaks_off, man_of, man_so_far, plain_so_far, plain_supply};
 
-use document_stages::{Counted, Pull, Switch};
+use document_stages::{Ahead, Counted, Gathered, Pull, Switch};
 use mdoc_converter::{Block, Turner as Mdoc};
 use nr_units::source::Source;
 use preconv_converter::{Target, Turner as Characters};
@@ -27,13 +27,20 @@ pub struct Waits<'a> {
     pub second: &'a mut [u8],
     /// The lists and displays that are open, 64 at least.
     pub blocks: &'a mut [Block],
+    /// What is read ahead of what mdoc makes.
+    pub man: Ahead<'a>,
+    /// What is read ahead for the formatter.
+    pub text: Ahead<'a>,
 }
 
-/// A page whose lines are counted, through mdoc and characters.
-pub type PageText<'a, R> = Pull<'a, Pull<'a, Counted<R>, Switch<Mdoc<'a>>>, Switch<Characters>>;
+/// A page whose lines are counted, through mdoc.
+pub type ManText<'a, R> = Gathered<'a, Pull<'a, Counted<R>, Switch<Mdoc<'a>>>>;
 
-/// A page as the formatter reads it, but for its tables. Nothing is allocated. The line that was read last is
-/// `input().input().line()`.
+/// And through characters.
+pub type PageText<'a, R> = Gathered<'a, Pull<'a, ManText<'a, R>, Switch<Characters>>>;
+
+/// A page as the formatter reads it, but for its tables. Nothing is allocated. It knows the line
+/// that each byte came of.
 ///
 /// Proved: What the formatter reads of a page is what the stages make of it, one after the other: `characters (mdoc
 /// page)`, each word the definition of its crate, and each stage left out that is off. So it is however the bytes
@@ -65,12 +72,16 @@ pub fn read_page<'a, R: Source + Drop>(
         first,
         second,
         blocks,
+        man,
+        text,
     } = waits;
     let lines = Counted::over(input);
     let turner = Mdoc::over(blocks);
     let mdoc = Switch::over(turner, stages.mdoc);
-    let man = Pull::over(mdoc, lines, first);
+    let turned = Pull::over(mdoc, lines, first);
+    let page = Gathered::over(turned, man);
     let converter = Characters::new(characters);
     let switched = Switch::over(converter, stages.characters);
-    Pull::over(switched, man, second)
+    let converted = Pull::over(switched, page, second);
+    Gathered::over(converted, text)
 }

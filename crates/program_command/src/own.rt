@@ -6,9 +6,8 @@ ghost use Rattle.utf8_own_characters.specs.Table.{Good};
 use crate::plan::Plan;
 use crate::printing::{Means, print_fixed, print_page};
 use document_printing::{Front, PageTable, Report, Rooms, Setup, Showing, Spelling, Stages};
-use document_reader::{Waits, read_own_page, read_page};
-use document_stages::{LEAST_ROOM, Text};
-use mdoc_converter::Block;
+use document_reader::{Places, read_own_page, read_page};
+use document_stages::Text;
 use nr_engine::{Desk, Sink, Source};
 use nr_vectors::slice_vec::SliceVec;
 use preconv_converter::Target;
@@ -25,9 +24,6 @@ const MOST_COUNTED: usize = 4_352;
 
 /// The slots by which they are found.
 const SLOTS: usize = 8_192;
-
-/// The most lists and displays of mdoc(7) that are open.
-const MOST_BLOCKS: usize = 64;
 
 /// The bytes of characters that go out at once.
 const ROOM: usize = 2_048;
@@ -98,15 +94,8 @@ fn look(page: &[u8], plan: &Plan, counts: &mut SliceVec<'_, Count>, slots: &mut 
     if plan.tables {
         count_frames(counts, slots);
     }
-    let mut first = [0; LEAST_ROOM];
-    let mut second = [0; LEAST_ROOM];
-    let mut blocks = [Block::NONE; MOST_BLOCKS];
-    let waits = Waits {
-        first: &mut first,
-        second: &mut second,
-        blocks: &mut blocks,
-    };
-    let mut text = read_page(Text::over(page), plan.stages, Target::Utf8, waits);
+    let mut places = Places::new();
+    let mut text = read_page(Text::over(page), plan.stages, Target::Utf8, places.lend());
     let mut listener = Listener::new();
     look_through(&mut text, &mut listener, counts, slots);
     end_look(&listener, counts, slots);
@@ -228,16 +217,9 @@ fn print_coded<R: Source + Drop, W: Sink>(
     requires { Good table.now }
 {
     let mut rooms = Rooms::drawn_with(means.alloc, means.limits, plan.cells, signs_of(table))?;
-    let mut first = [0; LEAST_ROOM];
-    let mut second = [0; LEAST_ROOM];
+    let mut places = Places::new();
     let mut third = [0; ROOM];
-    let mut blocks = [Block::NONE; MOST_BLOCKS];
-    let waits = Waits {
-        first: &mut first,
-        second: &mut second,
-        blocks: &mut blocks,
-    };
-    let coded = read_own_page(page, plan.stages, table, waits, &mut third);
+    let coded = read_own_page(page, plan.stages, table, places.lend(), &mut third);
     let setup = Setup {
         macros: means.macros,
         stages: Stages {

@@ -10,7 +10,8 @@ returns-clause-whole g c q is kept short =
     let table = c.args.characters in
     let first = c.requires.first in
     let second = c.requires.second in
-    over-both _ _ _ stages table _ _ _ _ _ _ _ _ _ _ c.over-man.ensures.supply c.over.ensures.supply
+    c.over.ensures.supply ∙
+    over-both _ _ _ stages table _ _ _ _ _ _ _ _ _ _ (c.over-page.ensures.supply ∙ c.over-turned.ensures.supply) c.over-converted.ensures.supply
     (wide stages.mdoc _ 73984 _ (c.over-mdoc.ensures.wants ∙ ap (λ (k : ℕ). wants_if stages.mdoc k) c.over-turner.ensures.wants) first (omega (arith, first)))
     (wide stages.characters _ 1536 _ (c.over-switched.ensures.wants ∙ ap (λ (k : ℕ). wants_if stages.characters k) c.new-converter.ensures.wants) (omega (arith, second)) (omega (arith, second)))
     c.over-mdoc.ensures.says c.over-turner.ensures.says c.over-switched.ensures.says c.new-converter.ensures.says
@@ -24,7 +25,8 @@ returns-clause-cut g c q n is after few short =
     let table = c.args.characters in
     let first = c.requires.first in
     let second = c.requires.second in
-    over-both _ _ _ stages table _ _ _ _ _ _ _ _ _ _ c.over-man.ensures.supply c.over.ensures.supply
+    c.over.ensures.supply ∙
+    over-both _ _ _ stages table _ _ _ _ _ _ _ _ _ _ (c.over-page.ensures.supply ∙ c.over-turned.ensures.supply) c.over-converted.ensures.supply
     (wide stages.mdoc _ 73984 _ (c.over-mdoc.ensures.wants ∙ ap (λ (k : ℕ). wants_if stages.mdoc k) c.over-turner.ensures.wants) first (omega (arith, first)))
     (wide stages.characters _ 1536 _ (c.over-switched.ensures.wants ∙ ap (λ (k : ℕ). wants_if stages.characters k) c.new-converter.ensures.wants) (omega (arith, second)) (omega (arith, second)))
     c.over-mdoc.ensures.says c.over-turner.ensures.says c.over-switched.ensures.says c.new-converter.ensures.says

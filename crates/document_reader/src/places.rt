@@ -1,0 +1,60 @@
+//! The memory that a page is read in.
+ghost use Rattle.std.specs.Prelude.{◌≤◌, length};
+
+use super::page::Waits;
+use document_stages::{Ahead, LEAST_ROOM};
+use mdoc_converter::Block;
+
+/// How many bytes are read ahead at once.
+const AHEAD: usize = 4_096;
+
+/// The most lists and displays of mdoc(7) that are open.
+const MOST_BLOCKS: usize = 64;
+
+/// Places for all that waits while a page is read: 290 kB.
+#[derive(Drop)]
+pub struct Places {
+    first: [u8; LEAST_ROOM],
+    second: [u8; LEAST_ROOM],
+    blocks: [Block; MOST_BLOCKS],
+    man: [u8; AHEAD],
+    man_lines: [u64; AHEAD],
+    text: [u8; AHEAD],
+    text_lines: [u64; AHEAD],
+}
+
+impl Places {
+    /// Nothing waits.
+    pub fn new() -> Places {
+        Places {
+            first: [0; LEAST_ROOM],
+            second: [0; LEAST_ROOM],
+            blocks: [Block::NONE; MOST_BLOCKS],
+            man: [0; AHEAD],
+            man_lines: [0; AHEAD],
+            text: [0; AHEAD],
+            text_lines: [0; AHEAD],
+        }
+    }
+
+    /// Lends them to one page.
+    pub fn lend(&mut self) -> Waits<'_>
+        ensures first { 73984 ≤ length result.first.now }
+        ensures second { 73984 ≤ length result.second.now }
+        ensures blocks { 64 ≤ length result.blocks.now }
+    {
+        Waits {
+            first: &mut self.first,
+            second: &mut self.second,
+            blocks: &mut self.blocks,
+            man: Ahead {
+                bytes: &mut self.man,
+                lines: &mut self.man_lines,
+            },
+            text: Ahead {
+                bytes: &mut self.text,
+                lines: &mut self.text_lines,
+            },
+        }
+    }
+}
