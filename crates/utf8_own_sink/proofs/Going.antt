@@ -59,7 +59,7 @@ byte_by t a b bs r false = next-goes t a b bs r
 struck_by : (t : Characters) (a b : ℕ) (bs : List ℕ) (r : Reader) (x : Bool)
     → shows t r (if x then struck r.before a b ∷ cells Nothing (struck r.before a b).look bs else plain a ∷ begun b (cells Nothing Plain bs) (cells (Byte b) Plain bs))
     ≡ (if x then cell_said t (struck r.before a b) r else next_said t a b r)
-      ++ rest t (if x then with_half Nothing (cell_after t (struck r.before a b) r) else next_after t a b r) bs
+    ++ rest t (if x then with_half Nothing (cell_after t (struck r.before a b) r) else next_after t a b r) bs
 unfolding shows
 struck_by t a b bs r true = cell-goes t (struck r.before a b) (cells Nothing (struck r.before a b).look bs) r
 struck_by t a b bs r false = next-goes t a b bs r

@@ -178,13 +178,7 @@ fn put_cluster(way: Way, cluster: Option<Cluster>, look: Look, out: &mut SliceVe
 }
 
 /// Puts what comes of a cell where a first half may wait, and tells the way after it: at most 99 bytes.
-fn put_read(
-    way: Way,
-    lead: Option<Cell>,
-    look: Look,
-    read: Read,
-    out: &mut SliceVec<'_, u8>,
-) -> Way
+fn put_read(way: Way, lead: Option<Cell>, look: Look, read: Read, out: &mut SliceVec<'_, u8>) -> Way
     requires { length out.old.items + 99 ≤ out.old.capacity }
     ensures items { out.new.items ≡ out.old.items ++ drawn_all way (specs.come lead look read) }
     ensures few { length out.new.items ≤ length out.old.items + 99 }
