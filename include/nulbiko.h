@@ -89,7 +89,8 @@ enum nulbiko_table {
     NULBIKO_CYRILLIC = 3,
     NULBIKO_GREEK = 4,
     NULBIKO_LATIN1 = 5, /* Latin-1 at its own bytes: for a program that prints it as it is. */
-    NULBIKO_CHOSEN = 6  /* Of nulbiko_document: the one that nulbiko_choose gives for the page. */
+    NULBIKO_CHOSEN = 6,  /* Of nulbiko_document: the one that nulbiko_choose gives for the page. */
+    NULBIKO_UNCHOSEN = 7 /* Of nulbiko_choose: malloc gave no memory to look at the page. No call takes it. */
 };
 
 /* How nulbiko_document gives its pages. */
@@ -164,14 +165,15 @@ struct nulbiko_report {
 
 #define NULBIKO_REPORT {sizeof(struct nulbiko_report), 0, 0, 0, 0, 0, 0}
 
-/* Prints a whole page: mdoc, preconv, tbl, nroff and utf8 in one call. The bytes are those of the five calls below, one
- * after the other. */
+/* Prints a whole page: mdoc, preconv, tbl, nroff and utf8 in one call. The page is read under its coding before that, as
+ * nulbiko_preconv reads one. Of a page in UTF-8 the bytes are those of the five calls below, one after the other. */
 enum nulbiko_outcome nulbiko_document(const struct nulbiko_limits *limits, const struct nulbiko_document_options *options,
                                       const void *input, size_t length, void *output, size_t capacity,
                                       struct nulbiko_report *report);
 
-/* The table that a page takes, by its first 65,536 bytes: never NULBIKO_LATIN1. NULBIKO_NO_TABLE where malloc gave no
- * memory, or the pointer of a text that has bytes is null. */
+/* The table that a page takes, by the first 65,536 bytes of its text, read under its coding as nulbiko_preconv reads it:
+ * never NULBIKO_LATIN1. NULBIKO_UNCHOSEN where malloc gave no memory, NULBIKO_NO_TABLE where the pointer of a text that has
+ * bytes is null. */
 enum nulbiko_table nulbiko_choose(const void *input, size_t length);
 
 /* Turns a page of mdoc(7) into one of man(7), as mdoc does, and leaves any other text as it is. It stands before
@@ -179,8 +181,10 @@ enum nulbiko_table nulbiko_choose(const void *input, size_t length);
 enum nulbiko_outcome nulbiko_mdoc(const void *input, size_t length, void *output, size_t capacity,
                                   struct nulbiko_report *report);
 
-/* Turns what manual pages use into the language of nulbiko_format, as preconv does. Characters of the table become its
- * bytes, which nulbiko_utf8 turns back with the same table. */
+/* Turns what manual pages use into the language of nulbiko_format, as preconv does. The text is read under its coding: as
+ * UTF-8, as UTF-16 behind its mark, or as the set of eight bits that its first two lines name (preconv(1)); a name that is
+ * none changes nothing, and is not told. Characters of the table become its bytes, which nulbiko_utf8 turns back with the
+ * same table. */
 enum nulbiko_outcome nulbiko_preconv(enum nulbiko_table table, const void *input, size_t length, void *output,
                                      size_t capacity, struct nulbiko_report *report);
 

@@ -21,14 +21,14 @@ LIMITS_OF_STRANGERS = {'stored': 262144, 'depth': 64, 'cells': 65536, 'expansion
 TABLES = {None: 0, 'english': 1, 'latin': 2, 'cyrillic': 3, 'greek': 4, 'latin1': 5}
 # How `document` gives its pages: as bytes of the table, in UTF-8, or in UTF-8 between escape sequences.
 FORMS = {'bytes': 0, 'utf8': 1, 'escapes': 2}
-# The number of the table that `choose` gives.
-CHOSEN = 6
+# The number of the table that `choose` gives, and what the library answers where there is no memory to choose one.
+CHOSEN, UNCHOSEN = 6, 7
 # What is held of a table, of a line of a row, and of a page whose tables are set, in bytes.
 HELD = 1 << 18, 1 << 14, 1 << 24
 # The most bytes that a call makes.
 MOST = 1 << 26
 WIDTHS = range(10, 1001)
-DONE, LIMIT, FULL = 0, 1, 4
+DONE, LIMIT, FULL, OUT_OF_MEMORY = 0, 1, 4, 5
 HERE = os.path.dirname(os.path.abspath(__file__))
 
 
@@ -142,7 +142,8 @@ def version():
 
 def document(text, macros=b'', width=78, limits=LIMITS, first=1, table='chosen', form='utf8', bold=False, long_page=True,
              mdoc=True, tables=True):
-    """Prints a whole page after its macros, as `MAN`: `mdoc`, `preconv`, `tbl`, `format` and `utf8` in one call.
+    """Prints a whole page after its macros, as `MAN`: `mdoc`, `preconv`, `tbl`, `format` and `utf8` in one call, over the text of
+    the page under its coding.
 
     The width is that of the macros and of tables: a text without macro files begins with `.ll`. The table is that which `choose`
     gives where it is nothing else; without one (None) the form is 'bytes'. What `form` may be is in `FORMS`. `bold` is that of
@@ -158,9 +159,11 @@ def document(text, macros=b'', width=78, limits=LIMITS, first=1, table='chosen',
 
 
 def choose(text):
-    """The name of the table that a page takes, by its first 65,536 bytes; None where there is no memory."""
+    """The name of the table that a page takes, by the first 65,536 bytes of its text, read under its coding."""
     text = bytes(memoryview(text))
     number = _LIBRARY.nulbiko_choose(text, len(text))
+    if number == UNCHOSEN:
+        raise Stopped('choose', _LIBRARY.nulbiko_outcome_name(OUT_OF_MEMORY).decode(), None, 0, b'')
     return next(name for name in TABLES if TABLES[name] == number)
 
 
@@ -170,7 +173,8 @@ def mdoc(text):
 
 
 def preconv(text, table=None):
-    """Turns what manual pages use into the language of `format`; characters of the table become its bytes."""
+    """Turns what manual pages use, read under its coding, into the language of `format`; characters of the table become its
+    bytes."""
     return _made('preconv', [TABLES[table]], text)
 
 

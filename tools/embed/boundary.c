@@ -222,6 +222,21 @@ static void names(void)
     judge("names of what is wrong", are_names(nulbiko_wrong_name, NULBIKO_TOO_WIDE + 1, "table wider than the line"));
 }
 
+/* Pages that name their coding: two letters of KOI8-R behind it; one that is no coding before a letter of UTF-8. */
+static const char coded[] = ".\\\" -*- coding: koi8-r -*-\n\xc4\xc1\n";
+static const char unknown[] = ".\\\" -*- coding: nonesuch -*-\n\xc3\xa4\n";
+
+/* What went out behind so many bytes is this, once utf8 turns it back. */
+static bool turned_back(size_t before, const char *wanted, enum nulbiko_table table)
+{
+    static char shown[1 << 8];
+    struct nulbiko_report back = NULBIKO_REPORT;
+    if (report.written < before)
+        return false;
+    return nulbiko_utf8(table, false, out + before, report.written - before, shown, sizeof shown, &back) == NULBIKO_DONE &&
+           back.written == strlen(wanted) && !memcmp(shown, wanted, back.written);
+}
+
 static void outcomes(void)
 {
     judge("format: two pages", format(&plain, text, sizeof out) == NULBIKO_DONE && put_out("a\nb\n") && report.moves > 0);
@@ -282,6 +297,14 @@ static void outcomes(void)
     judge("choose: latin", nulbiko_choose("\xc5\x82", 2) == NULBIKO_LATIN);
     judge("choose: cyrillic", nulbiko_choose("\xd1\x82", 2) == NULBIKO_CYRILLIC);
     judge("choose: nothing to go by", nulbiko_choose("abc", 3) == NULBIKO_ENGLISH);
+    judge("choose: under its coding", nulbiko_choose(coded, strlen(coded)) == NULBIKO_CYRILLIC);
+    judge("choose: UTF-16", nulbiko_choose("\xfe\xff\x04\x42", 4) == NULBIKO_CYRILLIC);
+    prepare();
+    judge("preconv: under its coding", nulbiko_preconv(NULBIKO_CYRILLIC, coded, strlen(coded), out, sizeof out, &report) ==
+                                           NULBIKO_DONE && turned_back(strlen(coded) - 3, "\xd0\xb4\xd0\xb0\n", NULBIKO_CYRILLIC));
+    prepare();
+    judge("preconv: a coding that is none", nulbiko_preconv(NULBIKO_LATIN, unknown, strlen(unknown), out, sizeof out, &report) ==
+                                                NULBIKO_DONE && turned_back(strlen(unknown) - 3, "\xc3\xa4\n", NULBIKO_LATIN));
 }
 
 /* A page of man(7) with macros of its own, characters, a table and a font; one of mdoc(7). */
@@ -308,6 +331,8 @@ static void documents(void)
     judge("document: escapes", document(&plain, set, whole, sizeof out) == NULBIKO_DONE &&
                                    put_out("\xe2\x80\x93 \033[4mx\033[24m\na   b\n\n"));
     set.tables = false;
+    judge("document: under its coding", document(&plain, set, coded, sizeof out) == NULBIKO_DONE &&
+                                            put_out("\xd0\xb4\xd0\xb0\n\n\n"));
     judge("document: no tables", document(&plain, set, ".TS\nl.\na\n.TE\n", sizeof out) == NULBIKO_DONE && put_out("l.  a\n\n\n"));
     set.tables = true;
     set.set_page = 3;
@@ -341,6 +366,9 @@ static void limits_of_documents(void)
                                                 NULBIKO_LIMIT && report.limit == NULBIKO_MOVES && report.moves == 64);
 }
 
+/* More than half of the memory that is left. */
+static char long_text[20 << 20];
+
 /* Last, since it takes the program's memory away. */
 static void no_memory(void)
 {
@@ -349,6 +377,7 @@ static void no_memory(void)
     setrlimit(RLIMIT_AS, &most);
     judge("format: out of memory", format(&large, text, sizeof out) == NULBIKO_OUT_OF_MEMORY && nothing_done());
     judge("document: out of memory", document(&large, plainly(), text, sizeof out) == NULBIKO_OUT_OF_MEMORY && nothing_done());
+    judge("choose: out of memory", nulbiko_choose(long_text, sizeof long_text) == NULBIKO_UNCHOSEN);
     judge("document: enough again", document(&plain, plainly(), text, sizeof out) == NULBIKO_DONE && put_out("a\nb\n"));
     judge("format: enough again", format(&plain, text, sizeof out) == NULBIKO_DONE && put_out("a\nb\n"));
 }

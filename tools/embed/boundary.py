@@ -63,6 +63,15 @@ def documents():
     judge('document: pages', len(nulbiko.document(text, nulbiko.MAN, long_page=False).split(b'\n')) == 67)
 
 
+def codings():
+    coded = '.\\" -*- coding: koi8-r -*-\nда\n'.encode('koi8-r')
+    judge('choose: under its coding', nulbiko.choose(coded) == 'cyrillic')
+    judge('document: under its coding', 'да'.encode() in nulbiko.document(coded, nulbiko.MAN))
+    judge('document: UTF-16', 'да'.encode() in nulbiko.document('да\n'.encode('utf-16'), nulbiko.MAN))
+    turned = nulbiko.utf8(nulbiko.preconv(coded, 'cyrillic'), 'cyrillic')
+    judge('preconv: under its coding', turned.endswith('да\n'.encode()))
+
+
 def limits():
     error = stopped(nulbiko.page, ENDLESS)
     judge('page: an endless one', error and (error.call, error.limit, error.line) == ('document', 'input depth', 7) and 0 < error.at <= len(ENDLESS))
@@ -100,6 +109,7 @@ def refusals():
 
 pages()
 documents()
+codings()
 limits()
 refusals()
 print(*(f'not so: {what}' for what in FAILED), sep='\n', end='\n' if FAILED else '')

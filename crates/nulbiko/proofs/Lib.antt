@@ -1,3 +1,4 @@
+mod CodedRun
 mod FormattingRun
 mod PreconvRun
 mod MdocRun

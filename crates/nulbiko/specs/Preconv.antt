@@ -2,6 +2,7 @@
 use Rattle.std.specs.Prelude.{◌≡◌, ℕ, List, [], length, false, Option, Some}
 use Rattle.nr_units.specs.Source.{Supply}
 use Rattle.utf8_characters.specs.declared.table.Table.{Table}
+use Rattle.preconv_coding.specs.UnderCoding.{text_supply}
 use Rattle.preconv_converter.specs.Running.{Ran, is_read_fault}
 use Rattle.preconv_converter.specs.Targets.{target_of}
 use Rattle.preconv_converter.specs.declared.running.Outcome.{Outcome}
@@ -17,12 +18,13 @@ code_of TooLong = 6
 -- never reported
 code_of (ReadFault at) = 9
 
--- The text was turned into the language, with bytes for characters of the table if there is one, and what came out was handed over.
+-- The text, read under its coding, was turned into the language, with bytes for characters of the table if there is one, and what
+-- came out was handed over.
 pub record TurnsText (table : Option Table) (text output : List ℕ) (report : Report) (code : ℕ) : Type 0 where
   pub outcome : Outcome
   pub left : Option Supply
   pub bytes : List ℕ
-  pub ran : Ran (target_of table) (Some (whole_text text)) left (Some []) (Some bytes) report.moves outcome
+  pub ran : Ran (target_of table) (text_supply (Some (whole_text text))) left (Some []) (Some bytes) report.moves outcome
   pub handed : IsHanded bytes output report.written
   pub code_is : code ≡ code_within (code_of outcome) (length bytes) (length output)
   pub no_limit : report.limit ≡ 0

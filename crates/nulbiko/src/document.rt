@@ -1,11 +1,13 @@
 // A whole page is printed in one call: through mdoc, characters and tables, after its macros.
 ghost use Rattle.std.specs.Prelude.{◌≡◌, ◌≢◌, ◌↔◌, [], Some, drop, length, IfOk, IfSome, IsSome};
+ghost use Rattle.preconv_coding.specs.UnderCoding.{text_of};
 ghost use Rattle.document_reader.specs.Page.{IsShort, man_of};
 ghost use Rattle.nulbiko.specs.Formatting.{bounds_of};
 ghost use Rattle.nulbiko.specs.Told.{nothing_told};
 ghost use Rattle.nulbiko.specs.Document as specs;
 ghost use Rattle.nulbiko.specs.Document.{AreSet, IsAllowed, PrintsDocument, sets_of, table_for};
 
+use super::coded::text_of;
 use super::formatting::{TextLimits, TextOptions, options_of};
 use super::pages::{Pages, hand_over};
 use super::printed::{Memory, code, form_of, print_pages, report_of};
@@ -248,10 +250,10 @@ fn print_document(
 /// text is too long.
 ///
 /// Proved: **One call prints a whole document.** What stands at the front of the output are the pages of the machine
-/// over `macros ++ tables (characters (mdoc page))`, as `print` of document_printing has them, in their form: the bytes
-/// of the table, or what utf8 makes of them, which is a text for a terminal. Where not all fit the number is 4, and as
-/// many stand there as fit; where a limit would be passed it is 1, and the pages that had ended stand there. So it is where
-/// the page and what mdoc makes of it have less than 2^40 bytes. (`printed` of `nulbiko_document_lent`)
+/// over `macros ++ tables (characters (mdoc text))`, as `print` of document_printing has them, of the page's text under
+/// its coding, in their form: the bytes of the table, or what utf8 makes of them, which is a text for a terminal. Where
+/// not all fit the number is 4, and as many stand there as fit; where a limit would be passed it is 1, and the pages that
+/// had ended stand there. So it is where the text and what mdoc makes of it have less than 2^40 bytes. (`printed` of `nulbiko_document_lent`)
 /// Proved: The number is 2 exactly where a limit or a number is out of its range. Then, and where memory is refused (5),
 /// the output is as it was, and the report has zeros.
 #[unsafe(no_mangle)]
@@ -264,8 +266,8 @@ pub extern "C" fn nulbiko_document_lent(
     told: &mut Report,
 ) -> u32
     ensures ranges { (result ≡ 2) ↔ (IsAllowed setup.now → ⊥) }
-    ensures printed { result ≢ 2 → result ≢ 5 → IsShort page.now (man_of setup.now.options.mdoc page.now)
-        → PrintsDocument setup.now macros.now page.now output.new told.new result }
+    ensures printed { result ≢ 2 → result ≢ 5 → IsShort (text_of page.now) (man_of setup.now.options.mdoc (text_of page.now))
+        → PrintsDocument setup.now macros.now (text_of page.now) output.new told.new result }
     ensures bad { result ≡ 2 → (output.new ≡ output.old) × (told.new ≡ nothing_told) }
     ensures no_memory { result ≡ 5 → (output.new ≡ output.old) × (told.new ≡ nothing_told) }
     ensures rest { drop told.new.written output.new ≡ drop told.new.written output.old }
@@ -274,8 +276,11 @@ pub extern "C" fn nulbiko_document_lent(
     let Some(limits) = limits_of(setup) else {
         return OUT_OF_RANGE;
     };
-    match prepare(alloc, limits, setup, page, output.len()) {
-        Ok(prepared) => print_document(prepared, setup, macros, page, output, told),
+    let Ok(text) = text_of(alloc, page) else {
+        return OUT_OF_MEMORY;
+    };
+    match prepare(alloc, limits, setup, &text, output.len()) {
+        Ok(prepared) => print_document(prepared, setup, macros, &text, output, told),
         Err(_) => OUT_OF_MEMORY,
     }
 }

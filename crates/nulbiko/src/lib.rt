@@ -1,8 +1,8 @@
 //! Formatting for programs in C: calls on numbers, structs and slices of bytes, thin over those of document_printing, nr_engine,
 //! preconv_converter, mdoc_converter, tbl_setting and utf8_converter. `include/nulbiko.h` declares them for C.
 //!
-//! It stands on these, document_reader, document_stages, tbl_reader, utf8_characters, nr_options, nr_vectors and nr_units. To read: `text`, `pages`; `told`,
-//! `tables`; `formatting`; `preconv`, `mdoc`, `tbl`, `utf8`; `printed`, `document`.
+//! It stands on these, document_reader, document_stages, tbl_reader, preconv_coding, utf8_characters, nr_options, nr_vectors and nr_units. To read: `text`,
+//! `coded`, `pages`; `told`, `tables`; `formatting`; `preconv`, `mdoc`, `tbl`, `utf8`; `printed`, `document`.
 //!
 //! Proved: The library for C. Its contracts are those of its calls `nulbiko_NAME_lent`; those of the header,
 //! `nulbiko_NAME`, are C (include/nulbiko.c; in the plain build Rust, tools/library/nulbiko_c): they test for null
@@ -10,6 +10,7 @@
 //! Proved: A read fault is never reported where one stage is called. (`readable` of what each of these ensures)
 #![tactic(auto)]
 
+mod coded;
 mod document;
 mod formatting;
 mod mdoc;

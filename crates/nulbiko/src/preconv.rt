@@ -1,4 +1,4 @@
-// A text is turned into the language of the formatter, as preconv does.
+// A text is read under its coding and turned into the language of the formatter, as preconv does.
 ghost use Rattle.std.specs.Prelude.{◌≡◌, ◌≢◌, ◌↔◌, ◌<◌, drop, IfOk, OnErr};
 ghost use Rattle.nulbiko.specs.Tables.{table_numbered};
 ghost use Rattle.nulbiko.specs.Told.{nothing_told};
@@ -10,6 +10,7 @@ use super::text::Text;
 use super::told::{
     DONE, FULL, OUT_OF_MEMORY, OUT_OF_RANGE, Report, TOO_LONG, UNREADABLE, code_within,
 };
+use preconv_coding::UnderCoding;
 use preconv_converter::{Outcome, Target, convert};
 use std::alloc::{AllocError, Global};
 use utf8_characters::Table;
@@ -47,7 +48,7 @@ fn turn_text(
 {
     let mut pending = vec![in alloc; 0u8; PENDING_SIZE]?;
     let mut pages = Pages::new(alloc, output.len())?;
-    let mut text = Text::over(input);
+    let mut text = UnderCoding::over(Text::over(input));
     let mut steps = 0;
     let target = Target::of(table);
     let outcome = convert(&mut text, &mut pages, target, &mut pending, &mut steps);
@@ -64,9 +65,12 @@ fn turn_text(
     Ok(code_within(code(outcome), bytes.len(), output.len()))
 }
 
-/// Turns what manual pages use into the language of the formatter, into a buffer, reports how it went, and gives the number of
-/// the outcome: 0 done, 2 no table has the number, 4 the buffer is full, 5 there is not enough memory, 6 the text is too
-/// long. Characters of the table become its bytes; 0 is the number of none, and then all is spelled in ASCII.
+/// Turns what manual pages use, read under its coding, into the language of the formatter, into a buffer, reports how it went,
+/// and gives the number of the outcome: 0 done, 2 no table has the number, 4 the buffer is full, 5 there is not enough memory,
+/// 6 the text is too long. Characters of the table become its bytes; 0 is the number of none, and then all is spelled in ASCII.
+///
+/// Proved: What preconv hands over is what `convert` of preconv_converter puts out of the text under its coding, with
+/// the table of that number. (`nulbiko_preconv_lent`)
 #[unsafe(no_mangle)]
 pub extern "C" fn nulbiko_preconv_lent(
     alloc: Global,

@@ -1,12 +1,14 @@
 // Bytes that a table has become its characters, as utf8 makes them.
 ghost use Rattle.std.specs.Prelude.{◌≡◌, ◌≢◌, ◌↔◌, drop, IfOk, OnErr};
 ghost use Rattle.utf8_characters.specs.declared.table.Table.{Table};
-ghost use Rattle.nulbiko.specs.Tables.{table_numbered};
+ghost use Rattle.preconv_coding.specs.UnderCoding.{text_of};
+ghost use Rattle.nulbiko.specs.Tables.{table_numbered, unchosen};
 ghost use Rattle.nulbiko.specs.Told.{nothing_told};
 ghost use Rattle.nulbiko.specs.Utf8.{ChoosesNumber, TurnsBytes, code_of};
 
+use super::coded::text_of;
 use super::pages::{Pages, hand_over};
-use super::tables::{number_of, table_of};
+use super::tables::{UNCHOSEN, number_of, table_of};
 use super::text::Text;
 use super::told::{
     DONE, FULL, OUT_OF_MEMORY, OUT_OF_RANGE, Report, TOO_LONG, UNREADABLE, code_within,
@@ -78,7 +80,8 @@ fn turn_bytes(
 ///
 /// Proved: What utf8 hands over is what `convert` of utf8_converter puts out with the table of that number, a text
 /// for a terminal but where the buffer cuts it; the bytes that were dropped are reported. The table that is chosen
-/// for a page is that of `choose`, or 0 where memory is refused. (`nulbiko_utf8_lent`, `nulbiko_choose_lent`)
+/// for a page is that of `choose` for its text under its coding, or 7 is told where memory is refused.
+/// (`nulbiko_utf8_lent`, `nulbiko_choose_lent`)
 #[unsafe(no_mangle)]
 pub extern "C" fn nulbiko_utf8_lent(
     alloc: Global,
@@ -119,13 +122,22 @@ pub(crate) fn look(alloc: Global, input: &[u8]) -> Result<u32, AllocError>
     }
 }
 
-/// Gives the number of the table that a page takes, by its first 65,536 bytes, or 0 where there is not enough memory.
+/// Looks at the text of a page under its coding.
+fn look_under_coding(alloc: Global, input: &[u8]) -> Result<u32, AllocError>
+    ensures { IfOk result (λ number. ChoosesNumber (text_of input.now) number) }
+{
+    let text = text_of(alloc, input)?;
+    look(alloc, &text)
+}
+
+/// Gives the number of the table that a page takes, by the first 65,536 bytes of its text under its coding, or 7 where there
+/// is not enough memory.
 #[unsafe(no_mangle)]
 pub extern "C" fn nulbiko_choose_lent(alloc: Global, input: &[u8]) -> u32
-    ensures { result ≢ 0 → ChoosesNumber input.now result }
+    ensures { result ≢ unchosen → ChoosesNumber (text_of input.now) result }
 {
-    match look(alloc, input) {
+    match look_under_coding(alloc, input) {
         Ok(number) => number,
-        Err(_) => 0,
+        Err(_) => UNCHOSEN,
     }
 }

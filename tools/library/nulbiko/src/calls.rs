@@ -77,7 +77,7 @@ impl Limits {
 }
 
 /// Prints a whole page after its macros, as [`MAN`](crate::MAN): [`mdoc()`], [`preconv`], [`tbl`], [`format()`] and [`utf8`] in one
-/// call.
+/// call, over the text of the page under its coding.
 ///
 /// # Errors
 ///
@@ -107,7 +107,8 @@ pub fn document(limits: &Limits, options: &Options, macros: &[u8], text: &[u8]) 
     made("document", text, |output, report| nulbiko_document_lent(Global, &setup, macros, text, output, report)).map(plain)
 }
 
-/// The table that a page takes, by its first 65,536 bytes: never [`Table::Latin1`]. None where there was no memory.
+/// The table that a page takes, by the first 65,536 bytes of its text, read under its coding as [`preconv`] reads it: never
+/// [`Table::Latin1`]. None where there was no memory.
 #[must_use]
 pub fn choose(text: &[u8]) -> Option<Table> {
     Table::numbered(nulbiko_choose_lent(Global, text))
@@ -122,8 +123,9 @@ pub fn mdoc(text: &[u8]) -> Result<Made, Stopped> {
     made("mdoc", text, |output, report| nulbiko_mdoc_lent(Global, text, output, report)).map(plain)
 }
 
-/// Turns what manual pages use into the language of [`format()`]. Characters of the table become its bytes, which [`utf8`] turns
-/// back with the same table; without one all is spelled in ASCII.
+/// Turns what manual pages use into the language of [`format()`]. The text is read under its coding: as UTF-8, as UTF-16 behind
+/// its mark, or as the set of eight bits that its first two lines name. Characters of the table become its bytes, which [`utf8`]
+/// turns back with the same table; without one all is spelled in ASCII.
 ///
 /// # Errors
 ///

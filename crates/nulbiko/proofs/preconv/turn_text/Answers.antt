@@ -1,4 +1,5 @@
-use Rattle.std.proofs.Common.{rules}
+use Rattle.std.proofs.Common.{◌∙◌, ap, rules}
+use Rattle.preconv_coding.specs.UnderCoding.{text_supply}
 use Rattle.nulbiko.proofs.PreconvRun.{carried, unread}
 use Rattle.nulbiko.proofs.preconv.turn_text.Goals as goal
 
@@ -7,7 +8,7 @@ returns-clause-turned c = record {
   outcome = c.convert-outcome.result;
   left = _;
   bytes = c.as_slice-bytes.result.now;
-  ran = carried _ _ _ _ _ _ _ _ _ _ _ c.convert-outcome.ensures.ran c.of-target.ensures c.over-text.ensures.supply c.in_ok-pages.ensures.held c.as_slice-bytes.ensures;
+  ran = carried _ _ _ _ _ _ _ _ _ _ _ c.convert-outcome.ensures.ran c.of-target.ensures (c.over-text.ensures.supply ∙ ap text_supply c.over.ensures.supply) c.in_ok-pages.ensures.held c.as_slice-bytes.ensures;
   handed = search rules;
   code_is = search rules;
   no_limit = search rules;
