@@ -24,8 +24,8 @@
  *
  * Time. Every call ends. `moves` is how many moves or steps it made; nulbiko_tbl counts none. nulbiko_document and
  * nulbiko_format make at most as many as the limit `moves` says, and at most 256 * (expansions + 1) * (stored + cells +
- * depth + 4) for each byte of the text and as many more. The second is far above what a service waits for, so it sets the first: 10^8 moves take some two
- * seconds.
+ * depth + 4) between two bytes that are formatted, those of the macros too. The second is far above what a service waits
+ * for, so it sets the first: 10^8 moves take some two seconds.
  */
 #ifndef NULBIKO_H
 #define NULBIKO_H
