@@ -4,6 +4,7 @@ use Rattle.std.specs.List.{starts_with}
 use Prim.Native.Char.{code}
 use Rattle.tbl_setting.specs.Running.{Bounds}
 use Rattle.utf8_characters.specs.declared.table.Table.{Table}
+use Rattle.preconv_converter.specs.Targets.{target_of}
 use Rattle.utf8_converter.specs.Choosing.{chosen, looked_at}
 use Rattle.nr_options.specs.Limits.{AreLimits}
 use Rattle.nr_options.specs.declared.options.Options.{Options}
@@ -64,7 +65,7 @@ setting_for setup macros page tables options =
       macros = macros;
       stages = record { mdoc = setup.options.mdoc; characters = true };
       sets = sets_of setup page;
-      characters = table_for setup.options.table page;
+      characters = target_of (table_for setup.options.table page);
       tables = tables;
       limits = bounds_of setup.limits;
       options = options;

@@ -20,6 +20,7 @@ use nr_engine::{CountedAlloc, Desk, Limits, Options};
 use nr_options::MOST_REGISTERS;
 use nr_units::sink::Sink;
 use std::alloc::{AllocError, Global};
+use preconv_converter::Target;
 use utf8_characters::Table;
 
 /// The number of the table that the page takes.
@@ -228,7 +229,7 @@ fn print_document(
             characters: true,
         },
         tables: sets,
-        characters,
+        characters: Target::of(characters),
         options: &options,
     };
     let (pages, printed) = print_pages(page, form, &set, &mut memory, pages);
