@@ -366,14 +366,15 @@ static void limits_of_documents(void)
                                                 NULBIKO_LIMIT && report.limit == NULBIKO_MOVES && report.moves == 64);
 }
 
-/* More than half of the memory that is left. */
-static char long_text[20 << 20];
+/* A text of which no call has a copy where memory is short. */
+static char long_text[1 << 26];
 
 /* Last, since it takes the program's memory away. */
 static void no_memory(void)
 {
     const struct nulbiko_limits large = {SIZE, 16777216, 4096, 16777216, 1, UINT64_MAX};
-    struct rlimit most = {1 << 25, 1 << 25};
+    const rlim_t left = sizeof long_text + (1 << 25);
+    struct rlimit most = {left, left};
     setrlimit(RLIMIT_AS, &most);
     judge("format: out of memory", format(&large, text, sizeof out) == NULBIKO_OUT_OF_MEMORY && nothing_done());
     judge("document: out of memory", document(&large, plainly(), text, sizeof out) == NULBIKO_OUT_OF_MEMORY && nothing_done());
