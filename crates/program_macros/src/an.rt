@@ -6,6 +6,18 @@ pub(crate) static TEXT: &[u8] = b"\
 .cp 0\n\
 .rn sp )V\n\
 .rn di )D\n\
+.rn ti )T\n\
+.de ti\n\
+.rn in )E\n\
+.de in\n\
+.)E \\\\\\\\$1\n\
+.)T +0\n\
+\\\\..\n\
+.de ti\n\
+.)T \\\\\\\\$1\n\
+\\\\..\n\
+.)T \\\\$1\n\
+..\n\
 .rn ad )A\n\
 .de ad\n\
 .ie \\\\n(.$ .)A \\\\$1\n\
@@ -185,7 +197,7 @@ pub(crate) static TEXT: &[u8] = b"\
 ..\n\
 .de )s\n\
 .in \\\\n(INu\n\
-.ie \\\\$1 'ti 0\\\\$2u\n\
+.ie \\\\$1 ')T 0\\\\$2u\n\
 .el \\\\{.nr @ 2\n\
 'in 0\\\\$2u\\\\}\n\
 .if \x01\\\\*(Aq\x01'\x01 .ds Aq \\\\(aq\n\
@@ -226,7 +238,7 @@ pub(crate) static TEXT: &[u8] = b"\
 .)D )z\n\
 .in +\\\\n~u\n\
 .)D\n\
-.ie \\\\n(.n+23<=\\\\n~&(\\\\n(dn=1v) \\\\{.ti 0\n\
+.ie \\\\n(.n+23<=\\\\n~&(\\\\n(dn=1v) \\\\{.)T 0\n\
 .ds )Z \"\\\\*()z'\\\\\"\n\
 \\\\&\\\\*()Z\\\\h'|\\\\n(.iu'\\\\c\n\
 .\\\\}\n\
@@ -293,7 +305,7 @@ pub(crate) static TEXT: &[u8] = b"\
 .nr ~ |\\\\$1n-1u\n\
 .)p\n\
 .in +\\\\n~u\n\
-.ti -\\\\n~u\n\
+.)T -\\\\n~u\n\
 .ns\n\
 ..\n\
 .de RS\n\
@@ -459,7 +471,7 @@ pub(crate) static TEXT: &[u8] = b"\
 .el .)p\n\
 .nr : 1\n\
 .in \\\\n_u+\\\\w\x01\\\\$1\x01u+1n\n\
-.ti \\\\n_u\n\
+.)T \\\\n_u\n\
 .na\n\
 \\\\fB\\\\$1\n\
 .ft R\n\
