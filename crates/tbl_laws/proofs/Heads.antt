@@ -1,25 +1,29 @@
 -- After the line of `.TS` and a line of formats a page stands between rows.
-use Rattle.std.proofs.Common.{◌≡◌, ℕ, zero, suc, ◌+◌, ◌<◌, ◌≤◌, List, [], ◌∷◌, ◌++◌, length, codes, Bool, true, false, not, ◌==◌, ◌&&◌, ◌||◌, if◌then◌else◌, nat_le, nat_lt, Option, None, Some, refl, sym, ◌∙◌, ap, subst, append_assoc, length-append, arith}
+use Rattle.std.proofs.Common.{◌≡◌, ℕ, zero, suc, ◌+◌, ◌<◌, ◌≤◌, List, [], ◌∷◌, ◌++◌, length, codes, Bool, true, false, not, ◌==◌, ◌&&◌, ◌||◌, if◌then◌else◌, nat_le, nat_lt, Option, None, Some, inl, inr, refl, sym, ◌∙◌, ap, subst, append_assoc, append-nil, length-append, arith}
+use Rattle.std.specs.Prelude.{◌⊎◌}
 use Rattle.std.proofs.lemmas.Bool.{eqb-true}
 use Rattle.std.proofs.lemmas.Bool.Decides.{nat_tests}
 use Prim.Native.Char.{code}
 use Rattle.tbl_reader.specs.declared.command.Start.TheVariants as starts
+use Rattle.tbl_reader.specs.declared.complaint.Complaint.{Complaint}
 use Rattle.tbl_reader.specs.declared.complaint.Kind.{Kind}
 use Rattle.tbl_reader.specs.declared.complaint.Kind.TheVariants as kinds
 use Rattle.tbl_reader.specs.declared.formats.Formats.{Formats}
 use Rattle.tbl_reader.specs.declared.reader.Limits.{Limits}
 use Rattle.tbl_reader.specs.declared.state.Mode.{Mode}
 use Rattle.tbl_reader.specs.declared.state.Mode.TheVariants as modes
+use Rattle.tbl_reader.specs.declared.telling.Tell.TheVariants as tells
 use Rattle.tbl_reader.specs.Commands.{is_command}
 use Rattle.tbl_reader.specs.Ending.{first_page}
 use Rattle.tbl_reader.specs.Fields.{behind}
 use Rattle.tbl_reader.specs.Formats.{first_formats, read}
-use Rattle.tbl_reader.specs.HeadLines.{formats_after, formats_ended, formats_judged, formats_line, formats_taken, given_up_line, head_ended, head_line, measured_with, options_line, options_split, widths_in, wrong_in}
+use Rattle.tbl_reader.specs.HeadLines.{formats_after, formats_ended, formats_judged, formats_line, formats_said, formats_taken, given_up_line, head_ended, head_line, measured_with, options_line, options_split, widths_in, wrong_in}
 use Rattle.tbl_reader.specs.Measure.{is_wider}
 use Rattle.tbl_reader.specs.States.{wrong_kind}
 use Rattle.tbl_reader.specs.Heads.{dotted_after, is_blank, options_end_in}
 use Rattle.tbl_reader.specs.Pages.{Page, Effect, effect, and_then, at_mode, line_counted, rest_of, with_state}
 use Rattle.tbl_reader.specs.Reading.{fed, line_ended, with_kept}
+use Rattle.tbl_reader.specs.Telling.{Piece, each, piece}
 use Rattle.tbl_reader.specs.Whole.{is_line}
 use Rattle.tbl_reader.proofs.Keeping.{fed_keeps}
 use Rattle.tbl_reader.proofs.Runs.{fed_append}
@@ -31,7 +35,7 @@ use Rattle.tbl_laws.proofs.RowsLaw.{no_command, rows_are_told}
 
 -- ---- one of these four bytes
 
-by_byte : (P : ℕ → Type 0) (b : ℕ) → P (code "l") → P (code "r") → P (code "c") → P (code " ") → (is_column b || (b == code " ")) ≡ true → P b
+pub by_byte : (P : ℕ → Type 0) (b : ℕ) → P (code "l") → P (code "r") → P (code "c") → P (code " ") → (is_column b || (b == code " ")) ≡ true → P b
 by_byte P b l r c blank h = by_tests (b == code "l") (b == code "r") (b == code "c") (b == code " ") refl refl refl refl h
   where
     at : (x : ℕ) → (b == x) ≡ true → P x → P b
@@ -47,11 +51,11 @@ by_byte P b l r c blank h = by_tests (b == code "l") (b == code "r") (b == code 
 
 -- ---- formats of so many columns, so far
 
-formatted : ℕ → Formats
+unfoldable pub formatted : ℕ → Formats
 formatted zero = first_formats 0 0 false
 formatted (suc n) = record (first_formats (suc n) 1 false) { begun = true; cells = suc n }
 
-read_column : (b n : ℕ) → (is_column b || (b == code " ")) ≡ true → n < 64 → (read b (formatted n)).formats ≡ formatted (if is_column b then suc n else n)
+pub read_column : (b n : ℕ) → (is_column b || (b == code " ")) ≡ true → n < 64 → (read b (formatted n)).formats ≡ formatted (if is_column b then suc n else n)
 unfolding formatted
 read_column b zero h few =
     by_byte (λ x. (read x (first_formats 0 0 false)).formats ≡ formatted (if is_column x then 1 else 0)) b refl refl refl refl h
@@ -63,7 +67,7 @@ read_column b (suc n) h few =
     by_byte (λ x. (read x (formatted (suc n))).formats ≡ formatted (if is_column x then suc (suc n) else suc n)) b
     (rw more (rw room (rw next (rw on refl)))) (rw more (rw room (rw next (rw on refl)))) (rw more (rw room (rw next (rw on refl)))) refl h
 
-read_blank : (b n : ℕ) → (is_column b || (b == code " ")) ≡ true → is_column b ≡ false → (read b (formatted n)).formats ≡ formatted n
+pub read_blank : (b n : ℕ) → (is_column b || (b == code " ")) ≡ true → is_column b ≡ false → (read b (formatted n)).formats ≡ formatted n
 unfolding formatted
 read_blank b n h none =
     let blank : b ≡ code " " = eqb-true b (code " ") (ap (λ (t : Bool). t || (b == code " ")) (sym none) ∙ h) in
@@ -82,12 +86,12 @@ formats_one true b n bs e h few more =
     ∙ more (suc n) (omega (arith, few)) ∙ ap formatted (let same : suc n + columns_in bs ≡ n + suc (columns_in bs) = omega arith in same)
 formats_one false b n bs e h few more = ap (λ (f : Formats). formats_after f bs) (read_blank b n h e) ∙ more n few
 
-formats_are : (bytes : List ℕ) (n : ℕ) → are_columns bytes ≡ true → n + columns_in bytes ≤ 64 → formats_after (formatted n) bytes ≡ formatted (n + columns_in bytes)
+pub formats_are : (bytes : List ℕ) (n : ℕ) → are_columns bytes ≡ true → n + columns_in bytes ≤ 64 → formats_after (formatted n) bytes ≡ formatted (n + columns_in bytes)
 formats_are [] n h few = ap formatted (let same : n ≡ n + 0 = omega arith in same)
 formats_are (b ∷ bs) n h few =
     formats_one (is_column b) b n bs refl (both_first _ _ h) few (λ m fit. formats_are bs m (both_second _ _ h) fit)
 
-formats_then : (f : Formats) (xs ys : List ℕ) → formats_after f (xs ++ ys) ≡ formats_after (formats_after f xs) ys
+pub formats_then : (f : Formats) (xs ys : List ℕ) → formats_after f (xs ++ ys) ≡ formats_after (formats_after f xs) ys
 formats_then f [] ys = refl
 formats_then f (x ∷ xs) ys = formats_then (read x f).formats xs ys
 
@@ -160,24 +164,32 @@ judged sep n f p separated is lines tab blanks few =
 unfoldable pub begun : Page → Page
 begun p = (fed (codes ".TS\n") (at_mode (modes.Passing starts.Nothing) p)).page
 
-with_formats : Page → List ℕ → Page
+unfoldable pub with_formats : Page → List ℕ → Page
 with_formats p bytes = with_kept (bytes ++ codes ".") (begun p)
 
-head_is : (p : Page) (bytes : List ℕ) (n : ℕ) → are_columns bytes ≡ true → columns_in bytes ≡ suc n → suc n ≤ 64
-    → IsBetweenRows (code "\t") (suc n) (line_ended (with_formats p bytes)).page
-unfolding begun with_formats
-head_is p bytes n h is few =
+-- the line of formats is read, and no options stand in it
+unfoldable pub optionless : Page → List ℕ → Page
+optionless p bytes = record (with_formats p bytes) { state = record (with_formats p bytes).state { first = false } }
+
+pub head_read : (p : Page) (bytes : List ℕ) → are_columns bytes ≡ true → 0 < columns_in bytes → head_line (with_formats p bytes) ≡ formats_ended (optionless p bytes)
+unfolding begun with_formats optionless
+head_read p bytes h some =
     let q = with_formats p bytes in
     let line = bytes ++ codes "." in
-    let r : Page = record q { state = record q.state { first = false } } in
-    let no_command_here = no_end bytes h (let i = is in omega (arith, i)) in
-    let head : head_line q ≡ formats_ended r =
-    ap (λ (t : Bool). if t then head_ended q else and_then (options_line q) formats_line) no_command_here
+    let r = optionless p bytes in
+    ap (λ (t : Bool). if t then head_ended q else and_then (options_line q) formats_line) (no_end bytes h some)
     ∙ ap (λ (o : Option ℕ). and_then (options_split o r) formats_line) (no_options_in false bytes h)
     ∙ ap (λ (t : Bool). if t then formats_ended r
     else (if nat_le r.limits.formats (length r.kept) then given_up_line kinds.FormatsLimit r else effect (record r { kept = r.kept ++ code "\n" ∷ []; start = length r.kept + 1 }) []))
-    (dotted false bytes) in
-    let j = judged (code "\t") n (formats_after (first_formats 0 0 false) (line ++ codes "\n")) r refl (formats_end bytes n h is few) refl refl refl few in
+    (dotted false bytes)
+
+head_is : (p : Page) (bytes : List ℕ) (n : ℕ) → are_columns bytes ≡ true → columns_in bytes ≡ suc n → suc n ≤ 64
+    → IsBetweenRows (code "\t") (suc n) (line_ended (with_formats p bytes)).page
+unfolding begun with_formats optionless
+head_is p bytes n h is few =
+    let r = optionless p bytes in
+    let head = head_read p bytes h (let i = is in omega (arith, i)) in
+    let j = judged (code "\t") n (formats_after (first_formats 0 0 false) ((bytes ++ codes ".") ++ codes "\n")) r refl (formats_end bytes n h is few) refl refl refl few in
     subst (λ (e : Effect). IsBetweenRows (code "\t") (suc n) (and_then e (λ z. effect (with_state (line_counted z.state) z) [])).page) (sym head)
     (record {
       mode = j.mode;
@@ -192,7 +204,7 @@ head_is p bytes n h is few =
       few = j.few;
     })
 
-table_read : (p : Page) (bytes : List ℕ) → are_columns bytes ≡ true → length bytes < p.limits.formats
+pub table_read : (p : Page) (bytes : List ℕ) → are_columns bytes ≡ true → length bytes < p.limits.formats
     → (fed (table_with bytes) (at_mode (modes.Passing starts.Nothing) p)).page ≡ (line_ended (with_formats p bytes)).page
 unfolding begun with_formats
 table_read p bytes h room =
@@ -209,6 +221,73 @@ read_with zero bytes p outside h is some few room = absurd (omega (arith, some))
 read_with (suc n) bytes p outside h is some few room =
     subst (λ (m : Mode). IsBetweenRows (code "\t") (suc n) (fed (table_with bytes) (at_mode m p)).page) (sym outside)
     (subst (IsBetweenRows (code "\t") (suc n)) (sym (table_read p bytes h room)) (head_is p bytes n h is few))
+
+-- what is told of the line of `.TS`, and of the line of formats: what they say, and what may be wrong with them
+unfoldable pub IsWrong : List Piece → Type 0
+IsWrong ps = (ps ≡ []) ⊎ ((c : Complaint) × (ps ≡ piece (tells.Wrong c) [] ∷ []))
+
+abbrev pub head_pieces : List ℕ → List Piece → List Piece
+head_pieces bytes wrongs =
+    each tells.Pass (codes ".TS\n") ++ piece tells.Table [] ∷ []
+    ++ (formats_said (first_formats 0 0 false) ((bytes ++ codes ".") ++ codes "\n") ++ piece tells.FormatsEnd [] ∷ [] ++ wrongs)
+
+judged_said : (n : ℕ) (p q : Page) → p.state.formats.lines ≡ 0 → (ps : List Piece) × ((formats_judged (wrong_in (ended n) p) q).pieces ≡ ps) × IsWrong ps
+unfolding ended IsWrong
+judged_said n p q lines = by_kind wide_is right
+  where
+    wide_is : Bool
+    wide_is = is_wider (measured_with (rest_of p) p.state).measure.sure (measured_with (rest_of p) p.state).options.frame (widths_in p) (measured_with (rest_of p) p.state).measure
+
+    some : (suc n == 0) ≡ false
+    some = grind (arith, nat_tests)
+
+    right : wrong_in (ended n) p ≡ (if wide_is then Some kinds.TooWide else None)
+    right = ap (λ (t : Bool). if t then Some kinds.NoFormat else wrong_kind None (1 == p.state.formats.lines) wide_is) some
+        ∙ ap (λ (k : ℕ). wrong_kind None (1 == k) wide_is) lines
+
+    by_kind : (wide : Bool) → wrong_in (ended n) p ≡ (if wide then Some kinds.TooWide else None)
+        → (ps : List Piece) × ((formats_judged (wrong_in (ended n) p) q).pieces ≡ ps) × IsWrong ps
+    by_kind true e = (_, ap (λ (k : Option Kind). (formats_judged k q).pieces) e, inr (_, refl))
+    by_kind false e = (_, ap (λ (k : Option Kind). (formats_judged k q).pieces) e, inl refl)
+
+pub head_said : (p : Page) (bytes : List ℕ) → IsOutside p → are_columns bytes ≡ true → 0 < columns_in bytes → columns_in bytes ≤ 64 → length bytes < p.limits.formats
+    → (wrongs : List Piece) × ((fed (table_with bytes) p).pieces ≡ head_pieces bytes wrongs) × IsWrong wrongs
+unfolding begun with_formats optionless
+head_said p bytes outside h some few room = by_count (columns_in bytes) refl some few
+  where
+    line : List ℕ
+    line = bytes ++ codes "."
+
+    at : Page
+    at = at_mode (modes.Passing starts.Nothing) p
+
+    same : p ≡ at
+    same = ap (λ (m : Mode). at_mode m p) outside
+
+    said : (n : ℕ) → columns_in bytes ≡ suc n → suc n ≤ 64 → (wrongs : List Piece) × ((fed (table_with bytes) at).pieces ≡ head_pieces bytes wrongs) × IsWrong wrongs
+    said n is most =
+        let long = length-append bytes (codes ".") in
+        let fits : 0 + length line ≤ p.limits.formats = omega (arith, long, room) in
+        let r = optionless p bytes in
+        let said = formats_said (first_formats 0 0 false) (line ++ codes "\n") ++ piece tells.FormatsEnd [] ∷ [] in
+        let f = formats_after (first_formats 0 0 false) (line ++ codes "\n") in
+        let (wrongs, judged_is, wrong) = judged_said n r (formats_taken f r) refl in
+        let front = each tells.Pass (codes ".TS\n") ++ piece tells.Table [] ∷ [] in (
+          wrongs,
+          ap (λ (xs : List ℕ). (fed xs at).pieces) (append_assoc (codes ".TS\n") line (codes "\n"))
+              ∙ ap (λ (e : Effect). e.pieces) (fed_append (codes ".TS\n") (line ++ codes "\n") at)
+              ∙ ap (λ (e : Effect). front ++ e.pieces) (lines_are_read line (begun p) refl (one_line bytes h) fits)
+              ∙ ap (λ (e : Effect). front ++ (e.pieces ++ [])) (head_read p bytes h some)
+              ∙ ap (λ (l : List Piece). front ++ l) (append-nil (formats_ended r).pieces)
+              ∙ ap (λ (g : Formats). front ++ (said ++ (formats_judged (wrong_in g r) (formats_taken f r)).pieces)) (formats_end bytes n h is most)
+              ∙ ap (λ (l : List Piece). front ++ (said ++ l)) judged_is,
+          wrong,
+        )
+
+    by_count : (n : ℕ) → columns_in bytes ≡ n → 0 < n → n ≤ 64 → (wrongs : List Piece) × ((fed (table_with bytes) p).pieces ≡ head_pieces bytes wrongs) × IsWrong wrongs
+    by_count zero is none most = absurd (omega (arith, none))
+    by_count (suc n) is none most =
+        (let (wrongs, e, wrong) = said n is most in (wrongs, ap (λ (q : Page). (fed (table_with bytes) q).pieces) same ∙ e, wrong))
 
 pub formats_are_read : FormatsAreRead
 formats_are_read bytes p outside h some few room = read_with (columns_in bytes) bytes p outside h refl some few room

@@ -1,9 +1,13 @@
 -- The rows that are told are held as they were told.
-use Rattle.std.proofs.Common.{◌≡◌, ℕ, ◌+◌, ◌<◌, ◌≤◌, List, [], ◌∷◌, ◌++◌, length, Bool, true, false, if◌then◌else◌, refl, sym, ◌∙◌, ap, subst, append_assoc, append-nil, length-append, arith}
+use Rattle.std.proofs.Common.{◌≡◌, ℕ, zero, suc, ◌+◌, ◌<◌, ◌≤◌, List, [], ◌∷◌, ◌++◌, length, Bool, true, false, if◌then◌else◌, nat_lt, refl, sym, ◌∙◌, ap, subst, append_assoc, append-nil, length-append, arith}
+use Rattle.tbl_layout.specs.declared.table.Field.{Field}
 use Rattle.tbl_layout.specs.declared.table.Form.TheVariants as forms
+use Rattle.tbl_layout.specs.declared.table.Item.{Item}
+use Rattle.tbl_layout.specs.declared.table.Item.TheVariants as items
 use Rattle.tbl_layout.specs.declared.table.Row.{Row}
 use Rattle.tbl_layout.specs.declared.table.Table.{Table}
-use Rattle.tbl_layout.specs.Measured.{table_after}
+use Rattle.tbl_layout.specs.Measured.{table_after, table_strokes}
+use Rattle.tbl_layout.specs.Pens.{Stroke}
 use Rattle.tbl_layout.specs.Rows.{field_added, joins, mark_added, row_added, row_ended, row_read}
 use Rattle.std.specs.Prelude.{Option}
 use Rattle.tbl_reader.specs.declared.complaint.Complaint.{Complaint}
@@ -11,7 +15,7 @@ use Rattle.tbl_reader.specs.declared.field.Mark.TheVariants as marks
 use Rattle.tbl_reader.specs.declared.telling.Tell.{Tell}
 use Rattle.tbl_reader.specs.declared.telling.Tell.TheVariants as tells
 use Rattle.tbl_reader.specs.Telling.{Piece, piece}
-use Rattle.tbl_setting.specs.Setting.{relieved, set}
+use Rattle.tbl_setting.specs.Setting.{relief, relieved, set, strokes}
 use Rattle.tbl_laws.specs.HeldRows.{AreAmong, HasRoom, RowsAreHeld, all_bytes, all_fields, all_of, all_rows, count}
 use Rattle.tbl_laws.specs.Rows.{are_of_rows, is_of_row, rows_told}
 use Rattle.tbl_laws.proofs.HeldRows.{Grown, IsWithin, Like, field_grows, field_like, line_stays, loose, mark_grows, mark_like, no_texts, none_within, one_more, row_is, texts_are, texts_in}
@@ -35,20 +39,68 @@ all_more : (rows : List (List (List ℕ))) (r : List (List ℕ)) → all_of (row
 all_more [] r = append-nil r
 all_more (q ∷ qs) r = ap (λ (l : List (List ℕ)). q ++ l) (all_more qs r) ∙ sym (append_assoc q (all_of qs) r)
 
+-- ---- what else is held: fields are text, rows are numbered, and stand below one another
+
+unfoldable pub AreText : List Field → Type 0
+AreText [] = Unit {0}
+AreText (f ∷ fs) = (f.form ≡ forms.Text) × AreText fs
+
+text_more : (fs : List Field) (f : Field) → AreText fs → f.form ≡ forms.Text → AreText (fs ++ f ∷ [])
+unfolding AreText
+text_more [] f h is = (is, tt)
+text_more (g ∷ gs) f h is = (h.0, text_more gs f h.1 is)
+
+text_if : (room : Bool) (fs : List Field) (f : Field) → AreText fs → f.form ≡ forms.Text → AreText (if room then fs ++ f ∷ [] else fs)
+text_if true fs f h is = text_more fs f h is
+text_if false fs f h is = h
+
+unfoldable pub AreNumbered : ℕ → List Row → Type 0
+AreNumbered n [] = Unit {0}
+AreNumbered n (h ∷ hs) = (h.line ≡ 0) × (h.last_own ≡ n) × AreNumbered (suc n) hs
+
+numbered_more : (n : ℕ) (hs : List Row) (h : Row) → AreNumbered n hs → h.line ≡ 0 → h.last_own ≡ n + length hs → AreNumbered n (hs ++ h ∷ [])
+unfolding AreNumbered
+numbered_more n [] h a line own = (line, omega (arith, own), tt)
+numbered_more n (k ∷ ks) h a line own = (a.0, a.1, numbered_more (suc n) ks h a.2 line (omega (arith, own)))
+
+abbrev pub rows_to : ℕ → List Item
+rows_to zero = []
+rows_to (suc n) = rows_to n ++ items.Row n ∷ []
+
+-- all else is as in another table
+abbrev pub as_in : Table → Table → Table
+as_in o t = record o {
+  text = record o.text { items = t.text.items };
+  fields = record o.fields { items = t.fields.items };
+  rows = record o.rows { items = t.rows.items };
+  items = record o.items { items = t.items.items };
+  next_line = t.next_line;
+  row_from = t.row_from;
+  from = t.from;
+}
+
 -- ---- a table that holds these rows, and these fields of the next
 
-record Held (t : Table) (rows : List (List (List ℕ))) (next : List (List ℕ)) : Type 0 where
+pub record Held (o t : Table) (rows : List (List (List ℕ))) (next : List (List ℕ)) : Type 0 where
+  pub forms : AreText t.fields.items
+  pub numbered : AreNumbered 0 t.rows.items
+  pub listed : o.items.items ≡ [] → t.items.items ≡ rows_to (length t.rows.items)
+  pub same : t ≡ as_in o t
   pub texts : texts_in t.text.items t.fields.items ≡ all_of rows ++ next
   pub among : AreAmong 0 rows t.rows.items
   pub within : IsWithin (length t.text.items) t.fields.items
   pub from : t.row_from ≡ count rows
   pub total : length t.fields.items ≡ count rows + length next
 
-field_held : (t u : Table) (rows : List (List (List ℕ))) (next : List (List ℕ)) (text : List ℕ) → Held t rows next → Grown t u text → Like t u
-    → Held u rows (next ++ text ∷ [])
-field_held t u rows next text h g k =
+field_held : (o t u : Table) (rows : List (List (List ℕ))) (next : List (List ℕ)) (text : List ℕ) → Held o t rows next → Grown t u text → Like t u
+    → AreText u.fields.items → u ≡ as_in t u → Held o u rows (next ++ text ∷ [])
+field_held o t u rows next text h g k forms_are same =
     let long = length-append next (text ∷ []) in
     record {
+      forms = forms_are;
+      numbered = subst (AreNumbered 0) (sym (ap (λ x. x.items) k.rows)) h.numbered;
+      listed = λ none. ap (λ x. x.items) k.items ∙ h.listed none ∙ ap (λ x. rows_to (length x.items)) (sym k.rows);
+      same = same ∙ ap (λ (x : Table). as_in x u) h.same;
       texts = g.texts ∙ ap (λ (l : List (List ℕ)). l ++ text ∷ []) h.texts ∙ append_assoc (all_of rows) next (text ∷ []);
       among = subst (AreAmong 0 rows) (sym (ap (λ x. x.items) k.rows)) h.among;
       within = g.within;
@@ -56,10 +108,19 @@ field_held t u rows next text h g k =
       total = omega (arith, g.fields, h.total, long);
     }
 
-row_held : (t : Table) (rows : List (List (List ℕ))) (next : List (List ℕ)) → Held t rows next → length t.rows.items < t.rows.capacity → Held (row_added t) (rows ++ next ∷ []) []
-row_held t rows next h few =
+row_held : (o t : Table) (rows : List (List (List ℕ))) (next : List (List ℕ)) → Held o t rows next → t.next_line ≡ 0
+    → length t.rows.items < t.rows.capacity → length t.items.items < t.items.capacity → Held o (row_added t) (rows ++ next ∷ []) []
+row_held o t rows next h line few room =
     let counted = count_more rows next in
+    let more = one_more t.rows.items (row_read t) t.rows.capacity few in
+    let long = ap length more ∙ length-append t.rows.items (row_read t ∷ []) in
     record {
+      forms = h.forms;
+      numbered = subst (AreNumbered 0) (sym more) (numbered_more 0 t.rows.items (row_read t) h.numbered line (let n : length t.rows.items ≡ 0 + length t.rows.items = omega arith in n));
+      listed = λ none. one_more t.items.items (items.Row (length t.rows.items)) t.items.capacity room
+          ∙ ap (λ (l : List Item). l ++ items.Row (length t.rows.items) ∷ []) (h.listed none)
+          ∙ ap rows_to (let n : suc (length t.rows.items) ≡ length (row_added t).rows.items = omega (arith, long) in n);
+      same = ap (λ (x : Table). as_in x (row_added t)) h.same;
       texts = h.texts ∙ sym (all_more rows next) ∙ sym (append-nil (all_of (rows ++ next ∷ [])));
       among = subst (AreAmong 0 (rows ++ next ∷ [])) (sym (one_more t.rows.items (row_read t) t.rows.capacity few))
           (among_more 0 rows t.rows.items next (row_read t) h.among (let f = h.from in omega (arith, f)) (let e = h.total in omega (arith, e)));
@@ -127,105 +188,133 @@ row_set t p ps r u =
     ∙ ap (λ (x : Bool). if x then table_after false (row_added t) else row_added t)
     (loose (row_added t) (let a = u.most in omega (arith, a)) (let a = u.rows in omega (arith, a)) (let a = u.fields in omega (arith, a)) (let a = u.items in omega (arith, a)))
 
+-- nothing goes out for a row that there is room for
+row_silent : (t : Table) (p : Piece) (ps : List Piece) → HasRoom t (p ∷ ps) → HasRoom (row_added t) ps
+    → relief (row_ended t) ++ strokes ps (relieved (row_ended t)) ≡ strokes ps (relieved (row_ended t))
+row_silent t p ps r u =
+    let row_few : length t.rows.items < t.rows.capacity = (let a = r.rows in omega (arith, a)) in
+    let item_few : length t.items.items < t.items.capacity = (let a = r.items in omega (arith, a)) in
+    let none : relief (row_ended t) ≡ [] =
+    ap relief (row_is t r.lines r.first row_few item_few)
+    ∙ ap (λ (x : Bool). if x then table_strokes false (row_added t) else [])
+    (loose (row_added t) (let a = u.most in omega (arith, a)) (let a = u.rows in omega (arith, a)) (let a = u.fields in omega (arith, a)) (let a = u.items in omega (arith, a))) in
+    ap (λ (l : List Stroke). l ++ strokes ps (relieved (row_ended t))) none
+
 -- ---- one piece after the other
 
-record Result (ps : List Piece) (t : Table) (rows : List (List (List ℕ))) (next : List (List ℕ)) : Type 0 where
+pub record Result (ps : List Piece) (o t : Table) (rows : List (List (List ℕ))) (next : List (List ℕ)) : Type 0 where
   pub left : List (List ℕ)
-  pub held : Held (set ps t) (rows ++ rows_told next ps) left
+  pub held : Held o (set ps t) (rows ++ rows_told next ps) left
+  pub silent : strokes ps t ≡ []
 
-Next : List Piece → Type 0
-Next ps = (t : Table) (rows : List (List (List ℕ))) (next : List (List ℕ)) → Held t rows next → HasRoom t ps → Result ps t rows next
+abbrev pub Next : List Piece → Type 0
+Next ps = (o t : Table) (rows : List (List (List ℕ))) (next : List (List ℕ)) → Held o t rows next → HasRoom t ps → Result ps o t rows next
 
-field_step : (front : Option ℕ) (text : List ℕ) (ps : List Piece) → Next ps → (t : Table) (rows : List (List (List ℕ))) (next : List (List ℕ)) → Held t rows next
-    → HasRoom t (piece (tells.Field front) text ∷ ps) → joins text ≡ false → Result (piece (tells.Field front) text ∷ ps) t rows next
-unfolding Next
-field_step front text ps more t rows next h r plain =
+field_step : (front : Option ℕ) (text : List ℕ) (ps : List Piece) → Next ps → (o t : Table) (rows : List (List (List ℕ))) (next : List (List ℕ)) → Held o t rows next
+    → HasRoom t (piece (tells.Field front) text ∷ ps) → joins text ≡ false → Result (piece (tells.Field front) text ∷ ps) o t rows next
+field_step front text ps more o t rows next h r plain =
     let few : length t.fields.items < t.fields.capacity = (let a = r.fields in omega (arith, a)) in
     let fits : length t.text.items + length text ≤ t.text.capacity = (let a = r.text in omega (arith, a)) in
     let g = field_grows t text front h.within plain fits few in
     let k = field_like t text front in
-    let m = more (field_added text front t) rows (next ++ text ∷ []) (field_held t (field_added text front t) rows next text h g k)
+    let m = more o (field_added text front t) rows (next ++ text ∷ []) (field_held o t (field_added text front t) rows next text h g k
+    (text_if (nat_lt (length t.fields.items) t.fields.capacity) t.fields.items _ h.forms refl) refl)
     (field_room t (field_added text front t) (piece (tells.Field front) text) ps text r g k refl refl (let n : 0 + all_rows ps ≡ all_rows ps = omega arith in n)) in
-    record { left = m.left; held = m.held }
+    record { left = m.left; held = m.held; silent = m.silent }
 
-mark_step : (text : List ℕ) (ps : List Piece) → Next ps → (t : Table) (rows : List (List (List ℕ))) (next : List (List ℕ)) → Held t rows next
-    → HasRoom t (piece (tells.Mark marks.Nothing) text ∷ ps) → Result (piece (tells.Mark marks.Nothing) text ∷ ps) t rows next
-unfolding Next
-mark_step text ps more t rows next h r =
+mark_step : (text : List ℕ) (ps : List Piece) → Next ps → (o t : Table) (rows : List (List (List ℕ))) (next : List (List ℕ)) → Held o t rows next
+    → HasRoom t (piece (tells.Mark marks.Nothing) text ∷ ps) → Result (piece (tells.Mark marks.Nothing) text ∷ ps) o t rows next
+mark_step text ps more o t rows next h r =
     let few : length t.fields.items < t.fields.capacity = (let a = r.fields in omega (arith, a)) in
     let g = mark_grows t h.within few in
     let k = mark_like t in
-    let m = more (mark_added forms.Text t) rows (next ++ [] ∷ []) (field_held t (mark_added forms.Text t) rows next [] h g k)
+    let m = more o (mark_added forms.Text t) rows (next ++ [] ∷ []) (field_held o t (mark_added forms.Text t) rows next [] h g k
+    (text_if (nat_lt (length t.fields.items) t.fields.capacity) t.fields.items _ h.forms refl) refl)
     (field_room t (mark_added forms.Text t) (piece (tells.Mark marks.Nothing) text) ps [] r g k refl refl (let n : 0 + all_rows ps ≡ all_rows ps = omega arith in n)) in
-    record { left = m.left; held = m.held }
+    record { left = m.left; held = m.held; silent = m.silent }
 
-row_step : (text : List ℕ) (ps : List Piece) → Next ps → (t : Table) (rows : List (List (List ℕ))) (next : List (List ℕ)) → Held t rows next
-    → HasRoom t (piece tells.Row text ∷ ps) → Result (piece tells.Row text ∷ ps) t rows next
-unfolding Next
-row_step text ps more t rows next h r =
+row_step : (text : List ℕ) (ps : List Piece) → Next ps → (o t : Table) (rows : List (List (List ℕ))) (next : List (List ℕ)) → Held o t rows next
+    → HasRoom t (piece tells.Row text ∷ ps) → Result (piece tells.Row text ∷ ps) o t rows next
+row_step text ps more o t rows next h r =
     let few : length t.rows.items < t.rows.capacity = (let a = r.rows in omega (arith, a)) in
     let none : (n : ℕ) → 0 + n ≡ n = λ n. omega arith in
     let room = row_room t (piece tells.Row text) ps r (none (all_bytes ps)) (none (all_fields ps)) refl in
-    let m = more (row_added t) (rows ++ next ∷ []) [] (row_held t rows next h few) room in
+    let item_few : length t.items.items < t.items.capacity = (let a = r.items in omega (arith, a)) in
+    let m = more o (row_added t) (rows ++ next ∷ []) [] (row_held o t rows next h r.first few item_few) room in
     record {
       left = m.left;
-      held = subst (λ (u : Table). Held (set ps u) (rows ++ (next ∷ rows_told [] ps)) m.left) (sym (row_set t (piece tells.Row text) ps r room))
-          (subst (λ (l : List (List (List ℕ))). Held (set ps (row_added t)) l m.left) (append_assoc rows (next ∷ []) (rows_told [] ps)) m.held);
+      silent = row_silent t (piece tells.Row text) ps r room
+          ∙ ap (λ (u : Table). strokes ps u) (row_set t (piece tells.Row text) ps r room) ∙ m.silent;
+      held = subst (λ (u : Table). Held o (set ps u) (rows ++ (next ∷ rows_told [] ps)) m.left) (sym (row_set t (piece tells.Row text) ps r room))
+          (subst (λ (l : List (List (List ℕ))). Held o (set ps (row_added t)) l m.left) (append_assoc rows (next ∷ []) (rows_told [] ps)) m.held);
     }
 
-same_step : (c : Complaint) (text : List ℕ) (ps : List Piece) → Next ps → (t : Table) (rows : List (List (List ℕ))) (next : List (List ℕ)) → Held t rows next
-    → HasRoom t (piece (tells.Wrong c) text ∷ ps) → Result (piece (tells.Wrong c) text ∷ ps) t rows next
-unfolding Next
-same_step c text ps more t rows next h r =
+same_step : (c : Complaint) (text : List ℕ) (ps : List Piece) → Next ps → (o t : Table) (rows : List (List (List ℕ))) (next : List (List ℕ)) → Held o t rows next
+    → HasRoom t (piece (tells.Wrong c) text ∷ ps) → Result (piece (tells.Wrong c) text ∷ ps) o t rows next
+same_step c text ps more o t rows next h r =
     let none : (n : ℕ) → 0 + n ≡ n = λ n. omega arith in
-    let m = more t rows next h (same_room t (piece (tells.Wrong c) text) ps r (none (all_bytes ps)) (none (all_fields ps)) (none (all_rows ps))) in
+    let m = more o t rows next h (same_room t (piece (tells.Wrong c) text) ps r (none (all_bytes ps)) (none (all_fields ps)) (none (all_rows ps))) in
     record {
       left = m.left;
-      held = subst (λ (l : List (List ℕ)). Held (set ps t) (rows ++ rows_told l ps) m.left) (sym (append-nil next)) m.held;
+      silent = m.silent;
+      held = subst (λ (l : List (List ℕ)). Held o (set ps t) (rows ++ rows_told l ps) m.left) (sym (append-nil next)) m.held;
     }
 
 never : {A : Type 0} → false ≡ true → A
 never h = absurd (let no : false ≡ true = h in cc)
 
-by_tell : (tell : Tell) (text : List ℕ) (ps : List Piece) → Next ps → (t : Table) (rows : List (List (List ℕ))) (next : List (List ℕ)) → Held t rows next
-    → HasRoom t (piece tell text ∷ ps) → is_of_row tell text ≡ true → Result (piece tell text ∷ ps) t rows next
-by_tell (tells.Field front) text ps more t rows next h r is = field_step front text ps more t rows next h r (is_not _ is)
-by_tell (tells.Mark marks.Nothing) text ps more t rows next h r is = mark_step text ps more t rows next h r
-by_tell (tells.Mark marks.Rule) text ps more t rows next h r is = never is
-by_tell (tells.Mark marks.Inner) text ps more t rows next h r is = never is
-by_tell (tells.Mark (marks.Repeat b)) text ps more t rows next h r is = never is
-by_tell (tells.Mark marks.Above) text ps more t rows next h r is = never is
-by_tell tells.Row text ps more t rows next h r is = row_step text ps more t rows next h r
-by_tell (tells.Wrong c) text ps more t rows next h r is = same_step c text ps more t rows next h r
-by_tell tells.Table text ps more t rows next h r is = never is
-by_tell (tells.Options o) text ps more t rows next h r is = never is
-by_tell tells.Formats text ps more t rows next h r is = never is
-by_tell (tells.Format c) text ps more t rows next h r is = never is
-by_tell tells.FormatsEnd text ps more t rows next h r is = never is
-by_tell tells.Block text ps more t rows next h r is = never is
-by_tell tells.BlockText text ps more t rows next h r is = never is
-by_tell tells.BlockEnd text ps more t rows next h r is = never is
-by_tell tells.Rule text ps more t rows next h r is = never is
-by_tell tells.Request text ps more t rows next h r is = never is
-by_tell tells.TableEnd text ps more t rows next h r is = never is
-by_tell tells.Plain text ps more t rows next h r is = never is
-by_tell tells.Pass text ps more t rows next h r is = never is
-by_tell tells.PlainEnd text ps more t rows next h r is = never is
+by_tell : (tell : Tell) (text : List ℕ) (ps : List Piece) → Next ps → (o t : Table) (rows : List (List (List ℕ))) (next : List (List ℕ)) → Held o t rows next
+    → HasRoom t (piece tell text ∷ ps) → is_of_row tell text ≡ true → Result (piece tell text ∷ ps) o t rows next
+by_tell (tells.Field front) text ps more o t rows next h r is = field_step front text ps more o t rows next h r (is_not _ is)
+by_tell (tells.Mark marks.Nothing) text ps more o t rows next h r is = mark_step text ps more o t rows next h r
+by_tell (tells.Mark marks.Rule) text ps more o t rows next h r is = never is
+by_tell (tells.Mark marks.Inner) text ps more o t rows next h r is = never is
+by_tell (tells.Mark (marks.Repeat b)) text ps more o t rows next h r is = never is
+by_tell (tells.Mark marks.Above) text ps more o t rows next h r is = never is
+by_tell tells.Row text ps more o t rows next h r is = row_step text ps more o t rows next h r
+by_tell (tells.Wrong c) text ps more o t rows next h r is = same_step c text ps more o t rows next h r
+by_tell tells.Table text ps more o t rows next h r is = never is
+by_tell (tells.Options x) text ps more o t rows next h r is = never is
+by_tell tells.Formats text ps more o t rows next h r is = never is
+by_tell (tells.Format c) text ps more o t rows next h r is = never is
+by_tell tells.FormatsEnd text ps more o t rows next h r is = never is
+by_tell tells.Block text ps more o t rows next h r is = never is
+by_tell tells.BlockText text ps more o t rows next h r is = never is
+by_tell tells.BlockEnd text ps more o t rows next h r is = never is
+by_tell tells.Rule text ps more o t rows next h r is = never is
+by_tell tells.Request text ps more o t rows next h r is = never is
+by_tell tells.TableEnd text ps more o t rows next h r is = never is
+by_tell tells.Plain text ps more o t rows next h r is = never is
+by_tell tells.Pass text ps more o t rows next h r is = never is
+by_tell tells.PlainEnd text ps more o t rows next h r is = never is
 
-all_held : (ps : List Piece) → are_of_rows ps ≡ true → Next ps
-unfolding Next
-all_held [] are t rows next h r = record { left = next; held = subst (λ (l : List (List (List ℕ))). Held t l next) (sym (append-nil rows)) h }
-all_held (p ∷ ps) are t rows next h r = by_tell p.tell p.text ps (all_held ps (both_second _ _ are)) t rows next h r (both_first _ _ are)
+pub all_held : (ps : List Piece) → are_of_rows ps ≡ true → Next ps
+all_held [] are o t rows next h r = record { left = next; held = subst (λ (l : List (List (List ℕ))). Held o t l next) (sym (append-nil rows)) h; silent = refl }
+all_held (p ∷ ps) are o t rows next h r = by_tell p.tell p.text ps (all_held ps (both_second _ _ are)) o t rows next h r (both_first _ _ are)
+
+-- nothing is held yet
+none_text : AreText []
+unfolding AreText
+none_text = tt
+
+none_numbered : AreNumbered 0 []
+unfolding AreNumbered
+none_numbered = tt
+
+pub none_held : (t : Table) → t.fields.items ≡ [] → t.rows.items ≡ [] → t.row_from ≡ 0 → Held t t [] []
+none_held t fields rows from = record {
+  forms = subst AreText (sym fields) none_text;
+  numbered = subst (AreNumbered 0) (sym rows) none_numbered;
+  listed = λ none. none ∙ ap (λ (l : List Row). rows_to (length l)) (sym rows);
+  same = refl;
+  texts = ap (texts_in t.text.items) fields ∙ no_texts t.text.items;
+  among = subst (AreAmong 0 []) (sym rows) tt;
+  within = subst (IsWithin (length t.text.items)) (sym fields) (none_within (length t.text.items));
+  from = from;
+  total = ap length fields;
+}
 
 pub rows_are_held : RowsAreHeld
-unfolding Next
 rows_are_held t ps fields rows from room are =
-    let first : Held t [] [] = record {
-      texts = ap (texts_in t.text.items) fields ∙ no_texts t.text.items;
-      among = subst (AreAmong 0 []) (sym rows) tt;
-      within = subst (IsWithin (length t.text.items)) (sym fields) (none_within (length t.text.items));
-      from = from;
-      total = ap length fields;
-    } in
-    let m = all_held ps are t [] [] first room in
+    let m = all_held ps are t t [] [] (none_held t fields rows from) room in
     (m.left, record { texts = texts_are (set ps t) ∙ m.held.texts; among = m.held.among })

@@ -67,11 +67,11 @@ part_last xs ys e is =
     ∙ ap (take (length ys)) (from_end xs ys) ∙ whole ys
 
 -- all spans end within it
-pub IsWithin : ℕ → List Field → Type 0
+unfoldable pub IsWithin : ℕ → List Field → Type 0
 IsWithin n [] = Unit {0}
 IsWithin n (f ∷ fs) = (f.span.«end» ≤ n) × IsWithin n fs
 
-pub texts_in : List ℕ → List Field → List (List ℕ)
+unfoldable pub texts_in : List ℕ → List Field → List (List ℕ)
 texts_in text fs = map (λ (f : Field). part text f.span) fs
 
 texts_stay : (xs ys : List ℕ) (fs : List Field) → IsWithin (length xs) fs → texts_in (xs ++ ys) fs ≡ texts_in xs fs

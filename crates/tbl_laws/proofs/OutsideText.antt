@@ -30,12 +30,12 @@ strokes_both (p ∷ ps) qs t =
     let u = set_in p.tell p.text t in
     ap (λ (l : List Stroke). strokes_in p.tell p.text t ++ l) (strokes_both ps qs u) ∙ sym (append_assoc (strokes_in p.tell p.text t) (strokes ps u) (strokes qs (set ps u)))
 
-bytes_both : (ps qs : List Piece) (t : Table) (pen : Pen)
+pub bytes_both : (ps qs : List Piece) (t : Table) (pen : Pen)
     → bytes_of (strokes (ps ++ qs) t) pen ≡ bytes_of (strokes ps t) pen ++ bytes_of (strokes qs (set ps t)) (after_all (strokes ps t) pen)
 bytes_both ps qs t pen =
     ap (λ (l : List Stroke). bytes_of l pen) (strokes_both ps qs t) ∙ bytes_of-append (strokes ps t) (strokes qs (set ps t)) pen
 
-text_bytes : (text : List ℕ) (t : Table) (pen : Pen) → bytes_of (strokes (each tells.Pass text) t) pen ≡ text
+pub text_bytes : (text : List ℕ) (t : Table) (pen : Pen) → bytes_of (strokes (each tells.Pass text) t) pen ≡ text
 text_bytes [] t pen = refl
 text_bytes (b ∷ bs) t pen = ap (λ (l : List ℕ). b ∷ l) (text_bytes bs t pen)
 

@@ -76,7 +76,7 @@ no_request (a ∷ b ∷ rest) h = rw (is_not (a == code ".") h) refl
 -- ---- the line ends
 
 -- what a row tells, and where the page stands after it
-record TellsRow (tab columns : ℕ) (fields : List (List ℕ)) (p : Page) (e : Effect) : Type 0 where
+pub record TellsRow (tab columns : ℕ) (fields : List (List ℕ)) (p : Page) (e : Effect) : Type 0 where
   pub page : IsBetweenRows tab columns e.page
   pub limits : e.page.limits ≡ p.limits
   pub told : (ps : List Piece) → rows_told [] (e.pieces ++ ps) ≡ fields ∷ rows_told [] ps
@@ -166,7 +166,7 @@ rest_ends tab columns fields p e h =
     (ap (λ (text : List ℕ). rest_said (shape_of text) e.page) (trimmed_is e.page.state (rest_of e.page) h.state.blanks ∙ h.rest)
     ∙ rest_is tab h.last e.page h.plain h.text)
 
-line_tells : (l : Limits) (tab columns : ℕ) (r : Row) (p : Page) → IsBetweenRows tab columns p → p.limits ≡ l → IsRow l tab columns r
+pub line_tells : (l : Limits) (tab columns : ℕ) (r : Row) (p : Page) → IsBetweenRows tab columns p → p.limits ≡ l → IsRow l tab columns r
     → TellsRow tab columns (r.first ∷ r.others) p (fed (text_of tab r.first r.others ++ code "\n" ∷ []) p)
 unfolding based with_line
 line_tells l tab columns r p h same is =

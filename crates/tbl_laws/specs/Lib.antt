@@ -1,3 +1,4 @@
 pub mod HeldRows
+pub mod Lines
 pub mod OutsideText
 pub mod Rows

@@ -1,5 +1,6 @@
 //! Laws of whole pages, each the contract of a function that does nothing: they speak of the definitions alone.
 ghost use Rattle.tbl_laws.specs.HeldRows.{RowsAreHeld};
+ghost use Rattle.tbl_laws.specs.Lines.{FieldsGoOut};
 ghost use Rattle.tbl_laws.specs.OutsideText.{FirstTextStays, LastTextStays, PagesStay, TablesEnd, TextBetweenStays};
 ghost use Rattle.tbl_laws.specs.Rows.{FormatsAreRead, OptionsAreRead, RowsAreTold, TablesAreTold};
 
@@ -43,4 +44,19 @@ pub fn rows_are_told()
 /// text of each field once, in the order of rows and columns, and each row with its own, where there is room for all.
 pub fn rows_are_held()
     ensures { RowsAreHeld }
+{}
+
+/// From bytes to bytes: a page of text, a table and text goes out as the text, a line for each row, and the text. On the line of a row
+/// stand its fields, each once, in the order of columns, with blanks before each; nothing else stands there, but `\&` may, before a
+/// field that begins as a request does. Four requests stand before the lines, and two after them. So it is of a table without options,
+/// with one line of columns of `l`, `r` and `c`, whose rows are as `rows_are_told` has them and have no control characters, where it
+/// is held whole.
+///
+/// Proved: A page of text, a table and text goes out as the text byte for byte, the line `.TS`, requests, a line for each
+/// row in their order, on which stand the texts of its fields, each once, in the order of columns, and besides only
+/// blanks before each and `\&`, requests, the line `.TE`, and the text byte for byte: where the table has no options, one
+/// line of formats of 1 to 64 letters `l`, `r`, `c`, blanks and a point, and rows as above without control characters
+/// that are within the limits.
+pub fn fields_go_out()
+    ensures { FieldsGoOut }
 {}
