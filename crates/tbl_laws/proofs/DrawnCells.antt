@@ -13,7 +13,7 @@ use Rattle.tbl_layout.specs.declared.table.Form.{Form}
 use Rattle.tbl_layout.specs.declared.table.Form.TheVariants as forms
 use Rattle.tbl_layout.specs.declared.table.Span.{Span}
 use Rattle.tbl_layout.specs.declared.table.Table.{Table}
-use Rattle.tbl_layout.specs.Drawing.{begin_at, begin_in, begin_of, field_in, field_strokes, field_text, first_of, font_back, font_text, in_middle, is_plain, number_begin, or_nothing, shown_width, spans, stands_left, string_text, text_strokes, unset_text}
+use Rattle.tbl_layout.specs.Drawing.{begin_at, begin_in, begin_of, field_in, field_strokes, field_text, first_byte, first_of, font_back, font_text, in_middle, is_plain, number_begin, or_nothing, shown_width, spans, stands_left, string_text, text_strokes, unset_text}
 use Rattle.tbl_layout.specs.Held.{column, is_block, is_text, part, text_of}
 use Rattle.tbl_layout.specs.Pens as pens
 use Rattle.tbl_layout.specs.Pens.{Stroke, To, Release, Guard, Begun, Text, Pass, after_all, bytes_of, furthest, guard, on_from, steps_from, steps_to, to, to_bytes}
@@ -63,26 +63,27 @@ pub record Writes (strokes : List Stroke) (field : List ℕ) (p : Pen) : Type 0 
   pub fields : HasFields (field ∷ []) (bytes_of strokes p)
   pub shown : IsShown (after_all strokes p)
 
-guarded : (begun : Bool) (b : ℕ) → IsGuard (guard begun b)
-guarded begun b = by_test (not begun && ((b == code ".") || (b == code "'")))
+guarded : (begun : Bool) (b : ℕ) → IsGuard (guard begun b) b
+guarded begun b = by_test begun ((b == code ".") || (b == code "'")) refl
   where
-    by_test : (x : Bool) → IsGuard (if x then codes "\\&" else [])
-    by_test true = inr refl
-    by_test false = inl refl
+    by_test : (x y : Bool) → ((b == code ".") || (b == code "'")) ≡ y → IsGuard (if not x && y then codes "\\&" else []) b
+    by_test true y e = inl refl
+    by_test false true e = inr (refl, e)
+    by_test false false e = inl refl
 
 abbrev text_at : Place → ℕ → List ℕ → ℕ → List Stroke
 text_at place first text cells = To place ∷ Release ∷ Guard first ∷ Begun ∷ Text text ∷ Pass (Some cells) ∷ []
 
-text_written : (place : Place) (first cells b : ℕ) (bs : List ℕ) (p : Pen) → IsShown p → place.mark ≡ marks.Edge → Writes (text_at place first (b ∷ bs) cells) (b ∷ bs) p
-text_written place first cells b bs p (at, is, edge) h =
+text_written : (place : Place) (cells b : ℕ) (bs : List ℕ) (p : Pen) → IsShown p → place.mark ≡ marks.Edge → Writes (text_at place b (b ∷ bs) cells) (b ∷ bs) p
+text_written place cells b bs p (at, is, edge) h =
     let k = place.cells - at.cells in
     let same : is_same_mark at.mark place.mark ≡ true = ap (λ (m : Mark). is_same_mark m place.mark) edge ∙ ap (is_same_mark marks.Edge) h in
     let shows : steps_to place p ≡ Some k =
     ap (λ (o : Option Place). steps_from o place) is ∙ ap (λ (x : Bool). if x then Some k else None) same in
     let (to_place, far, mark) = furthest_is (nat_lt place.cells at.cells) at place edge h in
     let blanks : List ℕ = replicate (sum p.blanks k) (code " ") in
-    let sign : List ℕ = guard (p.begun || nat_lt 0 (sum p.blanks k)) first in
-    let rest = Release ∷ Guard first ∷ Begun ∷ Text (b ∷ bs) ∷ Pass (Some cells) ∷ [] in
+    let sign : List ℕ = guard (p.begun || nat_lt 0 (sum p.blanks k)) b in
+    let rest = Release ∷ Guard b ∷ Begun ∷ Text (b ∷ bs) ∷ Pass (Some cells) ∷ [] in
     let moves : furthest p.at place ≡ Some to_place = ap (λ (o : Option Place). furthest o place) is ∙ far in
     record {
       fields = (
@@ -92,7 +93,7 @@ text_written place first cells b bs p (at, is, edge) h =
         ap (λ (o : Option ℕ). to_bytes o place p ++ bytes_of rest (to o place p)) shows
             ∙ sym (append_assoc blanks sign ((b ∷ bs) ++ []))
             ∙ sym (append_assoc (blanks ++ sign) (b ∷ bs) []),
-        guarded (p.begun || nat_lt 0 (sum p.blanks k)) first,
+        guarded (p.begun || nat_lt 0 (sum p.blanks k)) b,
         refl,
       );
       shown = (
@@ -173,14 +174,22 @@ text_is t f h =
     ∙ ap (λ (b : Bool). (if b then string_text f.name else text_of t f.field.span) ++ []) h.stored
     ∙ append-nil (text_of t f.field.span)
 
+first_is : (t : Table) (f : Cell) → IsPlain t f → first_of t f ≡ first_byte (text_of t f.field.span)
+first_is t f h =
+    ap (λ (n : ℕ). if (n == 0) && not f.stored then first_byte (text_of t f.field.span) else code "\\") h.font
+    ∙ ap (λ (b : Bool). if not b then first_byte (text_of t f.field.span) else code "\\") h.stored
+
 shown_is : (t : Table) (f : Cell) → IsPlain t f → shown_width f ≡ f.width
 shown_is t f h = ap (λ (n : ℕ). if nat_lt 0 n then None else f.width) h.name
 
-strokes_are : (t : Table) (f : Cell) (h : IsPlain t f) → text_strokes t f ≡ text_at (begins_at t f h).0 (first_of t f) (text_of t f.field.span) h.width.0
+strokes_are : (t : Table) (f : Cell) (h : IsPlain t f)
+    → text_strokes t f ≡ text_at (begins_at t f h).0 (first_byte (text_of t f.field.span)) (text_of t f.field.span) h.width.0
 strokes_are t f h =
+    let place = (begins_at t f h).0 in
     ap (λ (l : List Stroke). l ++ pens.begin (first_of t f) ++ Text (field_text t f) ∷ Pass (shown_width f) ∷ []) (begins_at t f h).1
-    ∙ ap (λ (text : List ℕ). To (begins_at t f h).0 ∷ Release ∷ Guard (first_of t f) ∷ Begun ∷ Text text ∷ Pass (shown_width f) ∷ []) (text_is t f h)
-    ∙ ap (λ (o : Option ℕ). To (begins_at t f h).0 ∷ Release ∷ Guard (first_of t f) ∷ Begun ∷ Text (text_of t f.field.span) ∷ Pass o ∷ []) (shown_is t f h ∙ h.width.1)
+    ∙ ap (λ (b : ℕ). To place ∷ Release ∷ Guard b ∷ Begun ∷ Text (field_text t f) ∷ Pass (shown_width f) ∷ []) (first_is t f h)
+    ∙ ap (λ (text : List ℕ). To place ∷ Release ∷ Guard (first_byte (text_of t f.field.span)) ∷ Begun ∷ Text text ∷ Pass (shown_width f) ∷ []) (text_is t f h)
+    ∙ ap (λ (o : Option ℕ). To place ∷ Release ∷ Guard (first_byte (text_of t f.field.span)) ∷ Begun ∷ Text (text_of t f.field.span) ∷ Pass o ∷ []) (shown_is t f h ∙ h.width.1)
 
 -- ---- a field has text where its span has bytes
 
@@ -251,7 +260,7 @@ field_written t f p h s shown =
     by_test true e =
         (let (b, bs, is) = s.some e in
         subst (λ (l : List Stroke). Writes l (text_of t f.field.span) p) (sym (strokes_are t f h))
-        (subst (λ (text : List ℕ). Writes (text_at (begins_at t f h).0 (first_of t f) text h.width.0) text p) (sym is)
-        (text_written (begins_at t f h).0 (first_of t f) h.width.0 b bs p shown (begins_at t f h).2)))
+        (subst (λ (text : List ℕ). Writes (text_at (begins_at t f h).0 (first_byte text) text h.width.0) text p) (sym is)
+        (text_written (begins_at t f h).0 h.width.0 b bs p shown (begins_at t f h).2)))
     by_test false e =
         subst (λ (text : List ℕ). Writes [] text p) (sym (s.none e)) (record { fields = refl; shown = shown })

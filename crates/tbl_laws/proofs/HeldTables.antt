@@ -69,7 +69,7 @@ unfolding AreFew
 lines_show [] w out few h = h
 lines_show (r ∷ rs) w out few h =
     let (line, more, is, fields, rest) = subst (λ (l : List (List (List ℕ))). AreLines l out)
-        (gathered_first (λ k. gathered (λ c. get_or (get_or (r ∷ rs) k []) c []) w) (length rs)) h in
+    (gathered_first (λ k. gathered (λ c. get_or (get_or (r ∷ rs) k []) c []) w) (length rs)) h in
     (line, more, is, row_shows r w line few.0 fields, lines_show rs w more few.1 rest)
 
 -- ---- lists by number

@@ -101,7 +101,6 @@ laid_alike t =
 
 -- ---- places that show
 
-
 known_step : (n c : ℕ) (t : Table) → (column t c).known ≡ true → (column (known_at true n t) c).known ≡ true
 known_step n c t h = set_has (λ (x : Column). x.known ≡ true) t.columns.items n (as_known true (column t n)) fresh c h (λ e. refl)
 

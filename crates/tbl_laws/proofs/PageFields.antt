@@ -68,9 +68,10 @@ fields_shown tab f (g ∷ gs) h k =
 all_shown : (l : Limits) (tab w : ℕ) (rows : List Row) → AreRows l tab w rows → all_printed (fields_of_all rows) ≡ true → AllShown (fields_of_all rows)
 unfolding AllShown
 all_shown l tab w [] are h = tt
-all_shown l tab w (r ∷ rs) are h =
-    (fields_shown tab r.first r.others are.0.fields (both_first (are_printed (r.first ∷ r.others)) (all_printed (fields_of_all rs)) h),
-    all_shown l tab w rs are.1 (both_second (are_printed (r.first ∷ r.others)) (all_printed (fields_of_all rs)) h))
+all_shown l tab w (r ∷ rs) are h = (
+  fields_shown tab r.first r.others are.0.fields (both_first (are_printed (r.first ∷ r.others)) (all_printed (fields_of_all rs)) h),
+  all_shown l tab w rs are.1 (both_second (are_printed (r.first ∷ r.others)) (all_printed (fields_of_all rs)) h),
+)
 
 all_few : (l : Limits) (tab w : ℕ) (rows : List Row) → AreRows l tab w rows → AreFew w (fields_of_all rows)
 unfolding AreFew
@@ -316,7 +317,7 @@ by_count (suc n) g l cells before formats rows after clean outside rest h is som
     let pen_c = after_all (strokes ((A ++ H) ++ T) t) first in
     let pen_d = after_all (strokes (((A ++ H) ++ T) ++ E) t) first in
     let (lines, goes, are_lines) = rows_go_out (suc n) o u (fields_of_all rows) held.left pen_c (can_hold g l n formats rows is few are printed fits)
-        (subst (λ (rs : List (List (List ℕ))). Rattle.tbl_laws.proofs.HeldLaw.Held o u rs held.left) rows_is held.held) in
+    (subst (λ (rs : List (List (List ℕ))). Rattle.tbl_laws.proofs.HeldLaw.Held o u rs held.left) rows_is held.held) in
     let out_a : bytes_of (strokes A t) first ≡ before = text_bytes before t first in
     let out_b : bytes_of (strokes (A ++ H) t) first ≡ before ++ codes ".TS\n" =
     bytes_both A H t first ∙ ap (λ (x : List ℕ). x ++ bytes_of (strokes H (set A t)) pen_a) out_a ∙ ap (λ (x : List ℕ). before ++ x) (head_out formats wrongs (set A t) pen_a wrong) in

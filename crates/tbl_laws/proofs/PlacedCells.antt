@@ -231,7 +231,7 @@ placing_is u w r (suc c) q h inside few =
     let g = given u r c in
     let here : nat_lt c c ≡ false = grind (arith, nat_tests) in
     let last : last_of T x c ≡ c = ap (λ (n : ℕ). goes_over (columns u - (c + 1)) T (line T n) c) hr.line_is
-        ∙ over_none (columns u - (c + 1)) T w c h.letters (let e = h.columns_are in omega (arith, e, few)) in
+    ∙ over_none (columns u - (c + 1)) T w c h.letters (let e = h.columns_are in omega (arith, e, few)) in
     let small : sum c 1 ≡ suc c = (let a = h.grid_room in let b = h.room in let o = wide_enough w (length u.rows.items) in let i = inside in omega (arith, a, b, o, i, few)) in
     ap (placed_at r x c) (placing_is u w r c q h inside (omega (arith, few)))
     ∙ ap (λ (b : Bool). if b then placing_of T g c

@@ -1,6 +1,6 @@
 -- What goes out for the rows of a table: a line for each, on which its fields stand, each once and in the order of columns (Lesk, "Data";
 -- tbl(1), "Table data"). So it is on a page with one table; what stands outside of it goes out as it came.
-use Rattle.std.specs.Prelude.{◌≡◌, ℕ, ◌+◌, ◌*◌, ◌<◌, ◌≤◌, ◌⊎◌, List, [], ◌∷◌, ◌++◌, length, replicate, codes, Bool, true, ◌&&◌}
+use Rattle.std.specs.Prelude.{◌≡◌, ℕ, ◌+◌, ◌*◌, ◌<◌, ◌≤◌, ◌⊎◌, List, [], ◌∷◌, ◌++◌, length, replicate, codes, Bool, true, ◌==◌, ◌&&◌, ◌||◌}
 use Prim.Native.Char.{code}
 use Rattle.tbl_layout.specs.declared.signs.Signs.{Signs}
 use Rattle.tbl_layout.specs.Extent.{is_printing}
@@ -15,8 +15,11 @@ use Rattle.tbl_laws.specs.Rows.{AreRows, Row, are_columns, columns_in, fields_of
 
 -- ---- a line: the fields that have text, with blanks before each; `\&` may stand before one that begins as a request does
 
-abbrev pub IsGuard : List ℕ → Type 0
-IsGuard guard = (guard ≡ []) ⊎ (guard ≡ codes "\\&")
+abbrev pub begins_request : ℕ → Bool
+begins_request b = (b == code ".") || (b == code "'")
+
+abbrev pub IsGuard : List ℕ → ℕ → Type 0
+IsGuard guard b = (guard ≡ []) ⊎ ((guard ≡ codes "\\&") × (begins_request b ≡ true))
 
 abbrev pub HasFields : List (List ℕ) → List ℕ → Type 0
 HasFields [] line = line ≡ []
@@ -24,7 +27,7 @@ HasFields ([] ∷ fields) line = HasFields fields line
 HasFields ((b ∷ bs) ∷ fields) line =
     (blanks : ℕ) × (guard : List ℕ) × (more : List ℕ)
     × (line ≡ replicate blanks (code " ") ++ guard ++ (b ∷ bs) ++ more)
-    × IsGuard guard
+    × IsGuard guard b
     × HasFields fields more
 
 -- a line for each row, and nothing else

@@ -52,11 +52,10 @@ pub fn rows_are_held()
 /// with one line of columns of `l`, `r` and `c`, whose rows are as `rows_are_told` has them and have no control characters, where it
 /// is held whole.
 ///
-/// Proved: A page of text, a table and text goes out as the text byte for byte, the line `.TS`, requests, a line for each
-/// row in their order, on which stand the texts of its fields, each once, in the order of columns, and besides only
-/// blanks before each and `\&`, requests, the line `.TE`, and the text byte for byte: where the table has no options, one
-/// line of formats of 1 to 64 letters `l`, `r`, `c`, blanks and a point, and rows as above without control characters
-/// that are within the limits.
+/// Proved: A page of text, one table and text goes out as the text byte for byte, `.TS`, four requests, a line for each row
+/// with the texts of its fields, each once, in the order of columns, and besides only blanks and `\&`, two requests, `.TE`,
+/// and the text byte for byte, where the table has no options, one line of formats of 1 to 64 letters `l`, `r`, `c`,
+/// blanks and a point, and rows as above without control characters, all within the limits.
 pub fn fields_go_out()
     ensures { FieldsGoOut }
 {}
