@@ -1,5 +1,5 @@
 -- A coded text comes back.
-use Rattle.std.proofs.Common.{◌≡◌, ℕ, ◌%◌, ◌<◌, List, [], ◌∷◌, ◌++◌, Bool, true, false, ◌&&◌, if◌then◌else◌, Option, None, Some, is_some, map, flat_map, refl, sym, ◌∙◌, ap, append_assoc, append-nil, arith}
+use Rattle.std.proofs.Common.{◌≡◌, ℕ, ◌%◌, ◌<◌, List, [], ◌∷◌, ◌++◌, Bool, true, false, if◌then◌else◌, Option, None, Some, is_some, map, flat_map, refl, sym, ◌∙◌, ap, append_assoc, append-nil, arith}
 use Rattle.std.proofs.lemmas.Grind.{flat_map-append}
 use Rattle.utf8_own_characters.specs.declared.cluster.Cluster.{Cluster}
 use Rattle.utf8_own_characters.specs.declared.table.Code.{Code}
@@ -7,7 +7,7 @@ use Rattle.utf8_own_characters.specs.declared.table.Code.TheVariants.{One, Two}
 use Rattle.utf8_own_characters.specs.declared.listening.Listener.{Listener}
 use Rattle.utf8_own_characters.specs.Cluster.{single, is_same, is_ascii, is_mark}
 use Rattle.utf8_own_characters.specs.Decoding.{decoded, listed}
-use Rattle.utf8_own_characters.specs.Listening.{is_unseen, takes_marks, going, hear_mark, hear_letter, hear, heard, read, first, after}
+use Rattle.utf8_own_characters.specs.Listening.{is_unseen, takes_marks, going, hear_mark, hear_letter, heard, read, first, after}
 use Rattle.utf8_own_characters.specs.Reading.{decode, list_of}
 use Rattle.utf8_own_characters.specs.Table.{Characters, code, code_at, place_of, bytes, bytes_in, covers}
 use Rattle.utf8_own_characters.proofs.Places.{cluster_same}

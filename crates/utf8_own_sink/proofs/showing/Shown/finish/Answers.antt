@@ -1,5 +1,5 @@
 -- Where a put failed nothing more goes out; else what waits and the end do.
-use Rattle.std.proofs.Common.{◌≡◌, false, true, sym, ◌∙◌, ap}
+use Rattle.std.proofs.Common.{sym, ◌∙◌, ap}
 use Rattle.utf8_own_sink.proofs.Finishing.{ends, ends-broken, ends-short}
 use Rattle.utf8_converter.specs.Showing.{Told}
 use Rattle.utf8_own_sink.specs.Showing.{Making}

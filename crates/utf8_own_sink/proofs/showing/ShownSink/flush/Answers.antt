@@ -1,4 +1,4 @@
-use Rattle.std.proofs.Common.{◌≡◌, ℕ, List, [], Bool, true, false, Option, Result, refl, sym, ◌∙◌, ap, subst, append-nil}
+use Rattle.std.proofs.Common.{◌≡◌, [], true, false, refl, sym, ◌∙◌, ap, subst, append-nil}
 use Rattle.nr_units.specs.Failures.{SinkFailures}
 use Rattle.utf8_own_sink.proofs.Passing.{broken-more, call-breaks, call-flushed}
 use Rattle.utf8_own_sink.specs.Showing.{Broke, Making}

@@ -60,3 +60,9 @@ invariant_of-self-inside-else-not-is_empty g c =
           c.if-self.false s.stands c.note.ensures (sym c.is_err.ensures.value ∙ c.if-is_err.false) c.take_all.ensures.takes c.take_all.ensures.failures,
       (s.counts, tt),
     )
+
+pub returns-then-not-is_empty-clause-ok : goal.returns-then-not-is_empty-clause-ok
+returns-then-not-is_empty-clause-ok g c =
+    let s = c.self.inside in
+    let m : Making = record { table = s.table.now; escapes = s.escapes; begun = g.W.Sink.held s.begun.value; failed = (g.W.Sink.failures s.begun.value).puts } in
+    ap (λ (xs : List ℕ). told m xs) c.note.ensures ∙ told-append m s.came.bytes c.args.bytes.now ∙ ap (λ (xs : List ℕ). xs ++ c.args.bytes.now) (ap (λ (t : Told). t.bytes) c.self.view_is)

@@ -1,5 +1,5 @@
 -- Room is made, and what the byte comes to is put behind what waits.
-use Rattle.std.proofs.Common.{◌≡◌, List, [], ◌∷◌, ◌++◌, sym, ◌∙◌, ap, append-nil}
+use Rattle.std.proofs.Common.{[], ◌∷◌, ◌++◌, sym, ◌∙◌, ap, append-nil}
 use Rattle.nr_units.proofs.Fronts.{AppendsFront-append}
 use Rattle.utf8_own_sink.specs.Reading.{fed, said}
 use Rattle.utf8_own_sink.proofs.Passing.{Reads-one, Takes-err}

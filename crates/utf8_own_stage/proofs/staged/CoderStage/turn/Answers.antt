@@ -1,4 +1,4 @@
-use Rattle.std.proofs.Common.{◌≡◌, ℕ, List, ◌++◌, take, ◌∙◌, ap}
+use Rattle.std.proofs.Common.{ℕ, List, ◌++◌, take, ◌∙◌, ap}
 use Rattle.utf8_own_stage.specs.Coding.{said_of}
 use Rattle.utf8_own_stage.proofs.Parts.{coding-taken}
 use Rattle.utf8_own_stage.proofs.staged.CoderStage.turn.Goals as goal
@@ -7,6 +7,6 @@ pub returns-clause-says : goal.returns-clause-says
 returns-clause-says c =
     let t = c.args.self.now.table.now in
     let l = c.args.self.now.listener in
-    let bytes = take c.min-len.result c.args.bytes.now in
+    let bytes : List ℕ = take c.min-len.result c.args.bytes.now in
     coding-taken t l c.put_all.new.listener bytes c.put_all.new.out.items c.put_all.ensures.listener
     (c.put_all.ensures.items ∙ ap (λ (z : List ℕ). z ++ said_of t l bytes) c.requires.empty)
