@@ -1,3 +1,5 @@
 pub mod Joining
 pub mod Opening
+pub mod Runs
 pub mod Telling
+pub mod Words

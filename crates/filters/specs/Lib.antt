@@ -1,4 +1,6 @@
+pub mod Arguments
 pub mod Disk
 pub mod Endings
 pub mod Lines
-pub mod Arguments
+pub mod Program
+pub mod Turning

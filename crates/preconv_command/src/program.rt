@@ -1,89 +1,130 @@
 // The program over its words and its texts.
+ghost use Rattle.std.specs.Prelude.{◌≡◌, length, true, false, Err};
+ghost use Rattle.nr_units.specs.Failures.{put_counted_if};
+ghost use Rattle.preconv_converter.specs.Running.{is_write_fault};
+ghost use Rattle.filters.specs.Arguments.{texts};
+ghost use Rattle.filters.specs.Program.{IsReportedWord};
+ghost use Rattle.filters.specs.Turning as turning;
+ghost use Rattle.preconv_command.specs.Arguments.{IsWithin};
+ghost use Rattle.preconv_command.specs.Converting.{Ended, complained_by, what_of, word_of};
 
 use super::arguments::{Wrong, read_words};
 use super::lines::Lines;
-use filters::{Buffers, Disk, Ending, Filter, Turns, put_all, turn_all};
+use filters::{Buffers, Disk, Ending, Filter, Paths, Turns, put_all, turn_names};
 use itoa::Buffer;
 use nr_units::buffered::Buffered;
 use nr_units::sink::Sink;
 use preconv_coding::{UnderCoding, Unknown};
 use preconv_converter::{Outcome, Target, convert};
 use std::io::Read;
-use std::rt::Files;
 use utf8_characters::Table;
 
 /// The program.
+///
+/// Proved: What preconv's words ask for comes about: its files are opened in order and turned, each under its coding,
+/// into the language of the table that the words name, a newline after a text or none; or its first bad word is
+/// reported, and no file is opened. Status and line are those of how that ended.
 pub struct Preconv;
 
 impl Filter for Preconv {
-    const NAME: &'static str = "preconv";
+    ghost use Rattle.std.specs.Prelude.{◌≡◌, codes};
+    ghost use Rattle.preconv_command.specs.Arguments.{asked};
+    ghost use Rattle.preconv_command.specs.Converting.{job_of};
 
-    fn run<'a, R: Files, I: Read + Copy + Drop, W: Sink, E: Sink>(
+    ghost called = { codes "preconv" };
+
+    ghost asks = { λ program words job. job ≡ job_of words (asked words) };
+
+    fn name(&self) -> &'static str {
+        "preconv"
+    }
+
+    fn run<'a, P: Paths, I: Read + Copy + Drop, W: Sink, E: Sink>(
         &self,
         words: &[&'a str],
-        disk: &Disk<'_, R, I>,
-        output: &mut W,
+        disk: &mut Disk<P, I>,
+        output: W,
         errors: &mut E,
-    ) -> Ending<'a> {
+    ) -> (Ending<'a>, W) {
         let job = match read_words(words) {
             Ok(job) => job,
-            Err(Wrong::UnknownOption(place)) => {
-                return Ending::BadWord("unknown option ", words[place]);
-            }
-            Err(Wrong::UnknownTable(place)) => {
-                return Ending::BadWord("unknown table ", words[place]);
-            }
-            Err(Wrong::NoTable) => return Ending::BadWord("no table is named", ""),
-        };
-        let texts = match disk.open_all(&words[job.files..]) {
-            Ok(texts) => texts,
-            Err(ending) => return ending,
+            Err(wrong) => return (bad_word(wrong, words), output),
         };
         let Ok(buffers) = Buffers::new(disk.alloc) else {
-            return Ending::OutOfMemory;
+            return (Ending::OutOfMemory, output);
         };
         let mut turner = Turner {
-            table: job.table,
+            target: Target::of(job.table),
             buffers,
         };
-        turn_all(&mut turner, texts, output, errors)
+        turn_names(&mut turner, &words[job.files..], disk, output, errors)
+    }
+}
+
+/// What is reported of a bad word.
+fn bad_word<'a>(wrong: Wrong, words: &[&'a str]) -> Ending<'a>
+    requires { IsWithin (length words.now) (Err wrong) }
+    ensures { IsReportedWord (what_of wrong) (word_of (texts words.now) wrong) result }
+{
+    match wrong {
+        Wrong::UnknownOption(place) => Ending::BadWord("unknown option ", words[place]),
+        Wrong::UnknownTable(place) => Ending::BadWord("unknown table ", words[place]),
+        Wrong::NoTable => Ending::BadWord("no table is named", ""),
     }
 }
 
 /// Turns texts into the language of a table, or of ASCII.
 #[derive(Drop)]
 struct Turner {
-    table: Option<Table>,
+    target: Target,
     buffers: Buffers,
 }
 
 impl Turns for Turner {
+    ghost use Rattle.preconv_command.specs.Converting.{preconv};
+
+    ghost filter = { λ turner. preconv turner.target };
+
     /// Turns a text under its coding. What comes of it ends with a newline, if it is not empty.
     fn turn<'a, T: Read + Drop, W: Sink, E: Sink>(
         &mut self,
         name: &'a str,
         text: T,
-        output: &mut W,
+        output: W,
         errors: &mut E,
-    ) -> Ending<'a> {
+    ) -> (Ending<'a>, W) {
         let mut source = UnderCoding::over(Buffered::over(text, &mut self.buffers.input));
-        let mut lines = Lines::over(output);
+        let mut lines = Lines {
+            output,
+            open: false,
+        };
         let mut steps = 0;
         let pending = &mut self.buffers.pending;
-        let target = Target::of(self.table);
-        let ending = match convert(&mut source, &mut lines, target, pending, &mut steps) {
-            Outcome::Done => match lines.end_line() {
-                Ok(()) => Ending::Done,
-                Err(_) => Ending::WriteFault,
-            },
-            Outcome::WriteFault => Ending::WriteFault,
-            Outcome::TooLong => Ending::TooLong(Some(name)),
-            Outcome::ReadFault { at } => Ending::ReadFault(Some(name), at),
-        };
+        let outcome = convert(&mut source, &mut lines, self.target, pending, &mut steps);
+        let ending = ended(outcome, name, &mut lines);
+        let Lines { output, open: _ } = lines;
         match source.unknown() {
-            Some(unknown) => complained(name, unknown, ending, errors),
-            None => ending,
+            Some(unknown) => (complained(name, unknown, ending, errors), output),
+            None => (ending, output),
         }
+    }
+}
+
+/// How a text ended. Where it is whole, a line that it left open is ended.
+fn ended<'a, W: Sink>(outcome: Outcome, name: &'a str, lines: &mut Lines<W>) -> Ending<'a>
+    ensures ended { Ended outcome name.entry (W.held lines.old.output) (W.held lines.new.output) result }
+    ensures failures { is_write_fault outcome ≡ false → W.failures lines.new.output
+        ≡ put_counted_if (turning.is_write_fault result) (W.failures lines.old.output) }
+    ensures same { is_write_fault outcome ≡ true → W.failures lines.new.output ≡ W.failures lines.old.output }
+{
+    match outcome {
+        Outcome::Done => match lines.end_line() {
+            Ok(()) => Ending::Done,
+            Err(_) => Ending::WriteFault,
+        },
+        Outcome::WriteFault => Ending::WriteFault,
+        Outcome::TooLong => Ending::TooLong(Some(name)),
+        Outcome::ReadFault { at } => Ending::ReadFault(Some(name), at),
     }
 }
 
@@ -94,7 +135,9 @@ fn complained<'a, E: Sink>(
     unknown: Unknown,
     ending: Ending<'a>,
     errors: &mut E,
-) -> Ending<'a> {
+) -> Ending<'a>
+    ensures { result ≡ complained_by ending.entry }
+{
     let mut digits = Buffer::new();
     let line = digits.format(unknown.line).as_bytes();
     let parts = [

@@ -1,3 +1,4 @@
 pub mod Answering
 pub mod Parting
 pub mod Reading
+pub mod Turns

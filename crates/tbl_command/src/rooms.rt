@@ -1,4 +1,6 @@
 // The memory that texts are turned in.
+ghost use Rattle.std.specs.Prelude.{◌≡◌, IfOk};
+ghost use Rattle.tbl_command.specs.Converting.{bounds_of, ending_of};
 
 use super::arguments::Job;
 use super::complaints::tell_complaints;
@@ -26,7 +28,9 @@ pub struct Rooms {
 
 impl Rooms {
     /// Takes the memory of a job.
-    pub fn new(job: Job, alloc: Global) -> Result<Rooms, AllocError> {
+    pub fn new(job: Job, alloc: Global) -> Result<Rooms, AllocError>
+        ensures { IfOk result (λ rooms. rooms.held ≡ bounds_of job) }
+    {
         Ok(Rooms {
             input: vec![in alloc; 0u8; BUFFER_SIZE]?,
             complaints: vec![in alloc; Complaint::NONE; MOST_COMPLAINTS]?,
@@ -36,23 +40,34 @@ impl Rooms {
 }
 
 impl Turns for Rooms {
+    ghost use Rattle.tbl_command.specs.Converting.{tbl};
+
+    ghost filter = { λ rooms. tbl rooms.held };
+
     fn turn<'a, T: Read + Drop, W: Sink, E: Sink>(
         &mut self,
         name: &'a str,
         text: T,
-        output: &mut W,
+        output: W,
         errors: &mut E,
-    ) -> Ending<'a> {
+    ) -> (Ending<'a>, W) {
         let mut source = Buffered::over(text, &mut self.input);
         let mut complaints = SliceVec::over(&mut self.complaints);
-        let (report, _) = convert(&mut source, output, &mut self.held, &mut complaints);
+        let (report, output) = convert(&mut source, output, &mut self.held, &mut complaints);
         let wrong = tell_complaints(name, report, complaints.as_slice(), errors);
-        match report.outcome {
-            Outcome::Done if wrong => Ending::Complained,
-            Outcome::Done => Ending::Done,
-            Outcome::TooLong => Ending::TooLong(None),
-            Outcome::ReadFault { at } => Ending::ReadFault(None, at),
-            Outcome::WriteFault => Ending::WriteFault,
-        }
+        (ended(report.outcome, wrong), output)
+    }
+}
+
+/// How a text ended, in which something was wrong or not.
+fn ended<'a>(outcome: Outcome, wrong: bool) -> Ending<'a>
+    ensures { result ≡ ending_of wrong outcome }
+{
+    match outcome {
+        Outcome::Done if wrong => Ending::Complained,
+        Outcome::Done => Ending::Done,
+        Outcome::TooLong => Ending::TooLong(None),
+        Outcome::ReadFault { at } => Ending::ReadFault(None, at),
+        Outcome::WriteFault => Ending::WriteFault,
     }
 }

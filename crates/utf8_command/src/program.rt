@@ -1,14 +1,20 @@
 // The program over its words and its texts.
+ghost use Rattle.std.specs.Prelude.{◌≡◌, ◌<◌, length, true, Err};
+ghost use Rattle.filters.specs.Arguments.{texts};
+ghost use Rattle.filters.specs.Disk.{MayCome};
+ghost use Rattle.filters.specs.Lines.{joined};
+ghost use Rattle.filters.specs.Program.{AnswersName, IsReportedWord, Puts, TurnsNames, is_unread};
+ghost use Rattle.utf8_command.specs.Arguments.{IsWithin};
+ghost use Rattle.utf8_command.specs.Converting.{choice_of, ending_of, file_after, utf8, version_line, what_of, word_of};
 
 use super::arguments::{Job, Wrong, read_words};
-use filters::{BUFFER_SIZE, Buffers, Disk, Ending, Filter, Turns, put_all, turn_all};
+use filters::{BUFFER_SIZE, Buffers, Disk, Ending, Filter, Paths, Turns, put_all, turn_names};
 use itoa::Buffer;
 use nr_units::buffered::Buffered;
 use nr_units::sink::Sink;
 use nr_units::source::Fault;
 use preconv_coding::UnderCoding;
 use std::io::Read;
-use std::rt::Files;
 use utf8_characters::Table;
 use utf8_converter::{CHARACTERS, LOOKED_AT, Outcome, choose, convert};
 
@@ -16,18 +22,33 @@ use utf8_converter::{CHARACTERS, LOOKED_AT, Outcome, choose, convert};
 const VERSION: &str = "0.2.0";
 
 /// The program.
+///
+/// Proved: What utf8's words ask for comes about: its files are opened in order and turned by the table that the words
+/// name, with escape sequences where they ask for them; the name of the table is printed that a page takes, by the first
+/// of its text; the version is; or its first bad word is reported, and no file is opened. Status and line are those of
+/// how that ended.
 pub struct Utf8;
 
 impl Filter for Utf8 {
-    const NAME: &'static str = "utf8";
+    ghost use Rattle.std.specs.Prelude.{◌≡◌, codes};
+    ghost use Rattle.utf8_command.specs.Arguments.{asked};
+    ghost use Rattle.utf8_command.specs.Converting.{job_of};
 
-    fn run<'a, R: Files, I: Read + Copy + Drop, W: Sink, E: Sink>(
+    ghost called = { codes "utf8" };
+
+    ghost asks = { λ program words job. job ≡ job_of words (asked words) };
+
+    fn name(&self) -> &'static str {
+        "utf8"
+    }
+
+    fn run<'a, P: Paths, I: Read + Copy + Drop, W: Sink, E: Sink>(
         &self,
         words: &[&'a str],
-        disk: &Disk<'_, R, I>,
-        output: &mut W,
+        disk: &mut Disk<P, I>,
+        output: W,
         errors: &mut E,
-    ) -> Ending<'a> {
+    ) -> (Ending<'a>, W) {
         match read_words(words) {
             Ok(
                 Job::Turn {
@@ -36,79 +57,111 @@ impl Filter for Utf8 {
                     files,
                 },
             ) => turn_files((table, escapes), &words[files..], disk, output, errors),
-            Ok(Job::Choose) => choose_for(&words[1..], disk, output),
-            Ok(Job::Version) => put_out(&[b"utf8 ", VERSION.as_bytes(), b"\n"], output),
-            Err(Wrong::UnknownOption(place)) => Ending::BadWord("unknown option ", words[place]),
-            Err(Wrong::UnknownTable(place)) => Ending::BadWord("unknown table ", words[place]),
-            Err(Wrong::NoTable) => Ending::BadWord("no table is named", ""),
-            Err(Wrong::SeveralFiles) => Ending::BadWord("--choose takes one file", ""),
+            Ok(Job::Choose) => choose_for(chosen_file(words), disk, output),
+            Ok(Job::Version) => put_version(output),
+            Err(wrong) => (bad_word(wrong, words), output),
         }
     }
 }
 
-/// Puts out a line, by its parts.
-fn put_out<'a, W: Sink>(parts: &[&[u8]], output: &mut W) -> Ending<'a> {
-    if put_all(parts, output).is_err() || output.flush().is_err() {
-        return Ending::WriteFault;
+/// What is reported of bad words.
+fn bad_word<'a>(wrong: Wrong, words: &[&'a str]) -> Ending<'a>
+    requires { IsWithin (length words.now) (Err wrong) }
+    ensures { IsReportedWord (what_of wrong) (word_of (texts words.now) wrong) result }
+{
+    match wrong {
+        Wrong::UnknownOption(place) => Ending::BadWord("unknown option ", words[place]),
+        Wrong::UnknownTable(place) => Ending::BadWord("unknown table ", words[place]),
+        Wrong::NoTable => Ending::BadWord("no table is named", ""),
+        Wrong::SeveralFiles => Ending::BadWord("--choose takes one file", ""),
     }
-    Ending::Done
 }
 
-/// Chooses a table for the first of these files, or for standard input where there is none, and prints its name.
-fn choose_for<'a, R: Files, I: Read + Copy + Drop, W: Sink>(
-    names: &[&'a str],
-    disk: &Disk<'_, R, I>,
-    output: &mut W,
-) -> Ending<'a> {
-    let name = match names.first() {
-        Some(name) => *name,
-        None => "-",
+/// The file after the first word, or standard input.
+fn chosen_file<'a>(words: &[&'a str]) -> &'a str
+    ensures { result.now ≡ file_after (texts words.now) }
+{
+    if words.len() < 2 { "-" } else { words[1] }
+}
+
+/// Puts out a line, by its parts, and flushes it.
+fn put_out<'a, W: Sink>(parts: &[&[u8]], output: W) -> (Ending<'a>, W)
+    ensures { Puts (joined parts.now) (W.held output) (W.held result.1) (W.passed_on result.1) result.0 }
+{
+    let mut output = output;
+    if put_all(parts, &mut output).is_err() {
+        return (Ending::WriteFault, output);
+    }
+    match output.flush() {
+        Ok(()) => (Ending::Done, output),
+        Err(_) => (Ending::WriteFault, output),
+    }
+}
+
+/// Prints the version.
+fn put_version<'a, W: Sink>(output: W) -> (Ending<'a>, W)
+    ensures { Puts version_line (W.held output) (W.held result.1) (W.passed_on result.1) result.0 }
+{
+    put_out(&[b"utf8 ", VERSION.as_bytes(), b"\n"], output)
+}
+
+/// Chooses a table for the text of this name, and prints its name.
+fn choose_for<'a, P: Paths, I: Read + Copy + Drop, W: Sink>(
+    name: &'a str,
+    disk: &mut Disk<P, I>,
+    output: W,
+) -> (Ending<'a>, W)
+    ensures { AnswersName (MayCome (I.remaining disk.old.standard) (P.may_open disk.old.paths))
+        (P.asked disk.old.paths) (P.asked disk.new.paths) (W.held output) (W.held result.1)
+        (W.failures output) (W.failures result.1) (W.passed_on result.1) choice_of name.now result.0 }
+{
+    let Ok(mut input) = vec![in disk.alloc; 0u8; BUFFER_SIZE] else {
+        return (Ending::OutOfMemory, output);
+    };
+    let Ok(mut page) = vec![in disk.alloc; 0u8; LOOKED_AT] else {
+        return (Ending::OutOfMemory, output);
+    };
+    let Ok(mut counts) = vec![in disk.alloc; 0u32; CHARACTERS] else {
+        return (Ending::OutOfMemory, output);
     };
     let text = match disk.open(name) {
         Ok(text) => text,
-        Err(ending) => return ending,
-    };
-    let Ok(mut input) = vec![in disk.alloc; 0u8; BUFFER_SIZE] else {
-        return Ending::OutOfMemory;
-    };
-    let Ok(mut page) = vec![in disk.alloc; 0u8; LOOKED_AT] else {
-        return Ending::OutOfMemory;
-    };
-    let Ok(mut counts) = vec![in disk.alloc; 0u32; CHARACTERS] else {
-        return Ending::OutOfMemory;
+        Err(_) => return (Ending::CannotOpen(name), output),
     };
     let mut source = UnderCoding::over(Buffered::over(text.stream, &mut input));
     match choose(&mut source, &mut page, &mut counts) {
         Ok(table) => put_out(&[table.name().as_bytes(), b"\n"], output),
-        Err(_) => Ending::CannotRead(name),
+        Err(_) => (Ending::CannotRead(name), output),
     }
 }
 
 /// Turns the files of these names, or standard input, and reports how many bytes were dropped.
-fn turn_files<'a, R: Files, I: Read + Copy + Drop, W: Sink, E: Sink>(
+fn turn_files<'a, P: Paths, I: Read + Copy + Drop, W: Sink, E: Sink>(
     how: (Table, bool),
     names: &[&'a str],
-    disk: &Disk<'_, R, I>,
-    output: &mut W,
+    disk: &mut Disk<P, I>,
+    output: W,
     errors: &mut E,
-) -> Ending<'a> {
-    let texts = match disk.open_all(names) {
-        Ok(texts) => texts,
-        Err(ending) => return ending,
-    };
+) -> (Ending<'a>, W)
+    ensures turns { TurnsNames (MayCome (I.remaining disk.old.standard) (P.may_open disk.old.paths))
+        (P.asked disk.old.paths) (P.asked disk.new.paths) (W.held output) (W.held result.1)
+        (W.failures output) (W.failures result.1) (W.passed_on result.1) (utf8 how.0 how.1)
+        (texts names.now) result.0 }
+    ensures quiet { is_unread result.0 ≡ true → errors.new ≡ errors.old }
+{
     let Ok(buffers) = Buffers::new(disk.alloc) else {
-        return Ending::OutOfMemory;
+        return (Ending::OutOfMemory, output);
     };
     let mut turner = Turner {
         how,
         buffers,
         strays: 0,
     };
-    let ending = turn_all(&mut turner, texts, output, errors);
+    let (ending, output) = turn_names(&mut turner, names, disk, output, errors);
     if matches!(ending, Ending::Done) && turner.strays > 0 {
         let _ = put_dropped(turner.strays, errors);
     }
-    ending
+    (ending, output)
 }
 
 /// Writes how many bytes were dropped.
@@ -130,24 +183,36 @@ struct Turner {
 }
 
 impl Turns for Turner {
+    ghost use Rattle.utf8_command.specs.Converting.{utf8};
+
+    ghost filter = { λ turner. utf8 turner.how.0 turner.how.1 };
+
     fn turn<'a, T: Read + Drop, W: Sink, E: Sink>(
         &mut self,
         name: &'a str,
         text: T,
-        output: &mut W,
+        output: W,
         _errors: &mut E,
-    ) -> Ending<'a> {
+    ) -> (Ending<'a>, W) {
         let mut source = Buffered::over(text, &mut self.buffers.input);
+        let mut output = output;
         let (table, escapes) = self.how;
         let pending = &mut self.buffers.pending;
         let mut more = 0;
-        let outcome = convert(&mut source, output, table, escapes, pending, &mut more);
+        let outcome = convert(&mut source, &mut output, table, escapes, pending, &mut more);
         self.strays = self.strays.saturating_add(more);
-        match outcome {
-            Outcome::Done => Ending::Done,
-            Outcome::TooLong => Ending::TooLong(Some(name)),
-            Outcome::ReadFault { at } => Ending::ReadFault(Some(name), at),
-            Outcome::WriteFault => Ending::WriteFault,
-        }
+        (ended(outcome, name), output)
+    }
+}
+
+/// How a text of this name ended.
+fn ended(outcome: Outcome, name: &str) -> Ending<'_>
+    ensures { result ≡ ending_of name.entry outcome }
+{
+    match outcome {
+        Outcome::Done => Ending::Done,
+        Outcome::TooLong => Ending::TooLong(Some(name)),
+        Outcome::ReadFault { at } => Ending::ReadFault(Some(name), at),
+        Outcome::WriteFault => Ending::WriteFault,
     }
 }

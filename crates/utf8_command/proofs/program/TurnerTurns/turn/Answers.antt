@@ -1,15 +1,14 @@
 use Rattle.std.proofs.Common.{arith}
 use Rattle.std.proofs.lemmas.Grind.{common_steps}
+use Rattle.utf8_command.proofs.Turns.{failures, turned}
 use Rattle.utf8_command.proofs.program.TurnerTurns.turn.Goals as goal
 
 pub invariant_of-self : goal.invariant_of-self
 invariant_of-self g c = grind (arith, common_steps)
 
-pub invariant_of-self-in-TooLong : goal.invariant_of-self-in-TooLong
-invariant_of-self-in-TooLong g c = grind (arith, common_steps)
+pub returns-clause-turned : goal.returns-clause-turned
+returns-clause-turned g c =
+    turned c.args.self.now.how.0 c.args.self.now.how.1 c.args.name _ _ _ _ _ _ c.convert-outcome.result _ c.over-source.ensures.supply c.convert-outcome.ensures.ran c.ended.ensures
 
-pub invariant_of-self-in-ReadFault : goal.invariant_of-self-in-ReadFault
-invariant_of-self-in-ReadFault g c = grind (arith, common_steps)
-
-pub invariant_of-self-2 : goal.invariant_of-self-2
-invariant_of-self-2 g c = grind (arith, common_steps)
+pub returns-clause-failures : goal.returns-clause-failures
+returns-clause-failures g c = failures c.args.name c.convert-outcome.result _ _ _ c.ended.ensures c.convert-outcome.ensures.write_faults

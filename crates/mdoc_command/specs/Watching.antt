@@ -1,0 +1,215 @@
+-- What is wrong with the lines of a page: macros that are none, blocks that are not ended, ends of blocks that are not open, ends
+-- that come before those of blocks within, too many that are open, what stands outside of its list or comes too late, and
+-- words of macros.
+use Rattle.std.specs.Prelude.{ℕ, List, [], ◌∷◌, length, take, drop, slice_get, Bool, true, false, not, ◌==◌, ◌&&◌, ◌||◌, nat_lt, if◌then◌else◌, codes, Option, None, Some, is_some}
+use Rattle.std.specs.List.{insert, remove}
+use Rattle.std.specs.Str.{bytes_eq}
+use Rattle.mdoc_converter.specs.Macros.{macro_of}
+use Rattle.nr_vectors.specs.Items.{Items}
+use Rattle.mdoc_command.specs.Blocks.{last_name, place_of}
+use Rattle.mdoc_command.specs.declared.lines.Half.{Half}
+use Rattle.mdoc_command.specs.declared.lines.Line.{Line}
+use Rattle.mdoc_command.specs.declared.lines.Line.TheVariants as lines_of
+use Rattle.mdoc_command.specs.declared.lines.Whole.{Whole}
+use Rattle.mdoc_command.specs.declared.lines.Whole.TheVariants as wholes
+use Rattle.mdoc_command.specs.declared.blocks.OpenBlock.{OpenBlock}
+use Rattle.mdoc_command.specs.declared.telling.Kind.{Kind}
+use Rattle.mdoc_command.specs.declared.telling.Kind.TheVariants as kinds
+use Rattle.mdoc_command.specs.Lines as lines
+use Rattle.mdoc_command.specs.Names.{opener_of, opens}
+use Rattle.mdoc_command.specs.declared.wording.Wording.{Wording}
+use Rattle.mdoc_command.specs.Wording.{fault, line_of, more, no_line, taking}
+use Rattle.mdoc_command.specs.Telling as telling
+use Rattle.mdoc_command.specs.Telling.{AllTold}
+
+pub record Page : Type 0 where
+  pub half : Half
+  pub blocks : Items OpenBlock
+  pub told : AllTold
+  pub wording : Wording
+  pub headed : Bool
+
+abbrev pub first_page : ℕ → ℕ → Page
+first_page blocks complaints = record {
+  half = lines.first;
+  blocks = record { items = []; capacity = blocks };
+  told = telling.nothing_told complaints;
+  wording = no_line;
+  headed = false;
+}
+
+abbrev pub told : Kind → Page → Page
+told kind p = record p { told = telling.told kind p.half.number p.told }
+
+abbrev pub with_blocks : List OpenBlock → Page → Page
+with_blocks blocks p = record p { blocks = record p.blocks { items = blocks } }
+
+-- ---- blocks
+
+abbrev pub opened : List ℕ → Page → Page
+opened name p =
+    if length p.blocks.items == p.blocks.capacity then told (kinds.TooMany name) p else
+    with_blocks (insert p.blocks.items 0 (record { name = name; line = p.half.number; columns = false })) p
+
+-- blocks that were opened in the one that is ended stay open
+abbrev pub nested : List ℕ → ℕ → Page → Page
+nested opener place p =
+    if nat_lt 0 place then told (kinds.Nested opener (last_name p.blocks.items)) p else p
+
+abbrev pub ended_at : Option ℕ → List ℕ → Page → Page
+ended_at None opener p = told (kinds.NotOpen p.half.name) p
+ended_at (Some place) opener p = with_blocks (remove p.blocks.items place) (nested opener place p)
+
+abbrev pub ended : List ℕ → Page → Page
+ended opener p = ended_at (place_of opener p.blocks.items) opener p
+
+abbrev pub ended_by : Option (List ℕ) → Page → Page
+ended_by None p = p
+ended_by (Some opener) p = ended opener p
+
+-- a cell stands in a list of columns
+abbrev pub has_columns : Option OpenBlock → Bool
+has_columns None = false
+has_columns (Some block) = block.columns
+
+abbrev pub in_columns : Option ℕ → List OpenBlock → Bool
+in_columns None blocks = false
+in_columns (Some place) blocks = has_columns (slice_get blocks place)
+
+abbrev pub cell : Page → Page
+cell p =
+    if in_columns (place_of (codes "Bl") p.blocks.items) p.blocks.items then p else
+    told (kinds.Outside p.half.name) p
+
+-- a macro opens or ends a block, or does neither
+abbrev pub called : Page → Page
+called p =
+    if bytes_eq p.half.name (codes "Ta") then cell p else
+    if opens p.half.name then opened p.half.name p else ended_by (opener_of p.half.name) p
+
+-- ---- headings end all blocks, and items what was opened in the item before
+
+abbrev pub broken : ℕ → Page → Page
+broken n p = record p {
+  blocks = record p.blocks { items = drop n p.blocks.items };
+  told = telling.broken p.half.name p.half.number (take n p.blocks.items) p.told;
+}
+
+abbrev pub item_at : Option ℕ → Page → Page
+item_at None p = told (kinds.Outside p.half.name) p
+item_at (Some place) p = broken place p
+
+abbrev pub item : Page → Page
+item p = item_at (place_of (codes "Bl") p.blocks.items) p
+
+-- ---- a macro begins a line
+
+-- the page's title
+abbrev pub is_prologue : List ℕ → Bool
+is_prologue name = bytes_eq name (codes "Dd") || bytes_eq name (codes "Dt") || bytes_eq name (codes "Os")
+
+abbrev pub begun : Page → Page
+begun p =
+    if bytes_eq p.half.name (codes "Sh") || bytes_eq p.half.name (codes "Ss")
+    then broken (length p.blocks.items) (record p { headed = true }) else
+    if p.headed && is_prologue p.half.name then told (kinds.Late p.half.name) p else
+    if bytes_eq p.half.name (codes "It") then item p else called p
+
+abbrev pub known : Page → Page
+known p = begun (record p { wording = line_of p.half.name p.half.number })
+
+-- its name is no word
+unfoldable pub judged : Page → Page
+judged p =
+    let q = if is_some (macro_of p.half.name) then known p else told (kinds.Unknown p.half.name p.half.cut) p in
+    record q { half = record q.half { name = [] } }
+
+-- ---- the words of its line
+
+abbrev pub columned : List OpenBlock → List OpenBlock
+columned [] = []
+columned (block ∷ blocks) = record block { columns = true } ∷ blocks
+
+abbrev pub with_columns : Page → Page
+with_columns p = with_blocks (columned p.blocks.items) p
+
+abbrev pub columns_if : Bool → Page → Page
+columns_if t p = if t then with_columns p else p
+
+-- a word calls a macro where words may, and is counted
+unfoldable pub worded : Page → Page
+worded p =
+    let q = if p.half.calls then called p else p in
+    let columns = bytes_eq p.half.name (codes "-column") && bytes_eq q.wording.name (codes "Bl") in
+    let r = columns_if columns q in
+    record r { wording = taking p.half.name r.wording }
+
+abbrev pub is_quoted : Line → Bool
+is_quoted (lines_of.Quoted escaped) = true
+is_quoted line = false
+
+abbrev pub is_text : Line → Bool
+is_text (lines_of.Text escaped) = true
+is_text line = false
+
+-- a word between quotes begins, or one that has an escape
+abbrev pub begins_other : Line → Line → Bool
+begins_other (lines_of.Quoted escaped) line = false
+begins_other lines_of.Closed line = false
+begins_other lines_of.Escape line = is_quoted line || is_text line
+begins_other before line = is_quoted line
+
+abbrev pub told_of_line : Option Kind → Page → Page
+told_of_line None p = p
+told_of_line (Some kind) p = record p { told = telling.told kind p.wording.line p.told }
+
+-- the line ends: what is wrong with its words is told
+abbrev pub line_ended : Line → Page → Page
+line_ended before p =
+    let wrong = if is_quoted before then Some (kinds.OpenQuote p.wording.name) else fault p.wording in
+    told_of_line wrong (record p { wording = record p.wording { reading = false } })
+
+abbrev pub is_start : Line → Bool
+is_start lines_of.Start = true
+is_start line = false
+
+abbrev pub counted_other : Line → Page → Page
+counted_other before p =
+    if begins_other before p.half.line then record p { wording = more p.wording } else p
+
+-- the line of a macro goes on, or ends
+unfoldable pub gone_on : Line → Page → Page
+gone_on before p =
+    if not p.wording.reading then p else
+    if is_start p.half.line then line_ended before (counted_other before p) else counted_other before p
+
+-- ---- a byte comes, and the end
+
+abbrev pub acted : Whole → Page → Page
+acted wholes.Nothing p = p
+acted wholes.Macro p = judged p
+acted wholes.Word p = worded p
+
+abbrev pub with_half : Half → Page → Page
+with_half h p = record p { half = h }
+
+abbrev pub counted : ℕ → Page → Page
+counted b p = with_half (lines.counted b p.half) p
+
+-- within a line that is not looked at, and in a page that is none of mdoc, a byte changes nothing
+abbrev pub heard : ℕ → Page → Page
+heard b p =
+    if lines.is_unread b p.half then p else
+    let m = lines.met b p.half in
+    counted b (gone_on p.half.line (acted m.1 (with_half m.0 p)))
+
+abbrev pub all_heard : List ℕ → Page → Page
+all_heard [] p = p
+all_heard (b ∷ bs) p = all_heard bs (heard b p)
+
+-- the page ends: what is open is told at the lines where it was opened
+abbrev pub finished : Page → Page
+finished p = record p {
+  blocks = record p.blocks { items = [] };
+  told = telling.not_ended p.blocks.items p.told;
+}

@@ -1,0 +1,20 @@
+//! The program mdoc but for its `main`: its words, its files in order, what is wrong with pages, and the lines that tell how it
+//! ended.
+//!
+//! It stands on filters, mdoc_converter, nr_units and nr_vectors. To read: `names`, `lines`, `blocks`, `telling`, `wording`,
+//! `watching`, `watched`; `shown`, `complaints`, `rooms`, `program`.
+#![tactic(auto)]
+
+mod blocks;
+mod complaints;
+mod lines;
+mod names;
+mod program;
+mod rooms;
+mod shown;
+mod telling;
+mod watched;
+mod watching;
+mod wording;
+
+pub use program::Mdoc;

@@ -1,0 +1,305 @@
+// What is wrong with the lines of a page, told as its bytes come.
+ghost use Rattle.std.specs.Prelude.{◌≡◌, ◌≤◌, length};
+ghost use Rattle.mdoc_command.specs.Watching as specs;
+
+use super::blocks::{OpenBlock, place_of};
+use super::lines::{Half, Line, Whole};
+use super::names::{opener_of, opens};
+use super::telling::{Complaint, Kind, Told};
+use super::wording::Wording;
+use mdoc_converter::is_macro;
+use nr_units::Name;
+use nr_vectors::slice_vec::SliceVec;
+use std::marker::Model;
+
+/// A page as far as it came: what is half read of it, its blocks that are open, the last of them first, and what is told.
+#[derive(Drop)]
+pub struct Watch<'a> {
+    half: Half,
+    blocks: SliceVec<'a, OpenBlock>,
+    told: Told<'a>,
+    /// The line of a macro.
+    wording: Wording,
+    /// A section has begun.
+    headed: bool,
+}
+
+/// Whether a word between quotes, or one with an escape, begins where a line is read so after it was read otherwise.
+fn begins_other(before: Line, line: Line) -> bool
+    ensures { result ≡ specs.begins_other before line }
+{
+    match before {
+        Line::Quoted(_) | Line::Closed => false,
+        Line::Escape => matches!(line, Line::Quoted(_) | Line::Text(_)),
+        _ => matches!(line, Line::Quoted(_)),
+    }
+}
+
+/// Whether a name is one of the page's title.
+fn is_prologue(name: &[u8]) -> bool
+    ensures { result ≡ specs.is_prologue name.now }
+{
+    name == b"Dd".as_slice() || name == b"Dt".as_slice() || name == b"Os".as_slice()
+}
+
+impl<'a> Model for Watch<'a> {
+    ghost use Rattle.mdoc_command.specs.Watching.{Page};
+
+    ghost Value = { Page };
+
+    ghost view = { λ w. record { half = w.half; blocks = w.blocks; told = w.told; wording = w.wording; headed = w.headed } };
+}
+
+impl<'a> Watch<'a> {
+    /// A page begins.
+    pub fn over(blocks: &'a mut [OpenBlock], complaints: &'a mut [Complaint]) -> Watch<'a>
+        ensures { result ≡ specs.first_page (length blocks.entry.now) (length complaints.entry.now) }
+    {
+        Watch {
+            half: Half::new(),
+            blocks: SliceVec::over(blocks),
+            told: Told::over(complaints),
+            wording: Wording::none(),
+            headed: false,
+        }
+    }
+
+    /// What is told.
+    pub fn told(&self) -> &Told<'a>
+        ensures { result.now ≡ self.now.told }
+    {
+        &self.told
+    }
+
+    /// A byte comes.
+    ///
+    /// Proved: What is reported of a page is what the definition finds wrong with it: macros that are none, blocks
+    /// and enclosures that nothing ends, ends of what is not open or in the wrong order, too many that are open, what
+    /// stands outside of its list or comes after the title's place, and the words of a macro's line. That each
+    /// complaint is written is read. (`Watch::hear`, `Watch::finish`)
+    #[inline(always)]
+    pub fn hear(&mut self, byte: u8)
+        ensures { self.new ≡ specs.heard byte self.old }
+    {
+        if self.half.is_unread(byte) {
+            return;
+        }
+        let before = self.half.line;
+        match self.half.meet(byte) {
+            Whole::Nothing => {}
+            Whole::Macro => self.judge(),
+            Whole::Word => self.word(),
+        }
+        self.go_on(before);
+        self.half.count(byte);
+    }
+
+    /// A word is whole.
+    #[tactic(auto, unfolding(crate::specs::Watching::worded))]
+    fn word(&mut self)
+        ensures { self.new ≡ specs.worded self.old }
+    {
+        let word = self.half.name;
+        if self.half.calls {
+            self.call();
+        }
+        if word.as_bytes() == b"-column".as_slice()
+            && self.wording.name.as_bytes() == b"Bl".as_slice()
+        {
+            self.has_columns();
+        }
+        self.wording.takes(word);
+    }
+
+    /// The list that the line begins is one of columns.
+    fn has_columns(&mut self)
+        ensures { self.new ≡ specs.with_columns self.old }
+    {
+        if !self.blocks.is_empty() {
+            let mut list = self.blocks.get(0);
+            list.columns = true;
+            self.blocks.set(0, list);
+        }
+    }
+
+    /// The line of a macro goes on, or ends.
+    #[tactic(auto, unfolding(crate::specs::Watching::gone_on))]
+    fn go_on(&mut self, before: Line)
+        ensures { self.new ≡ specs.gone_on before self.old }
+    {
+        if !self.wording.reading {
+            return;
+        }
+        if begins_other(before, self.half.line) {
+            self.wording.counts();
+        }
+        if matches!(self.half.line, Line::Start) {
+            self.end_line(before);
+        }
+    }
+
+    /// The line of a macro ends: what is wrong with its words is told.
+    fn end_line(&mut self, before: Line)
+        ensures { self.new ≡ specs.line_ended before self.old }
+    {
+        self.wording.reading = false;
+        let wrong = if matches!(before, Line::Quoted(_)) {
+            Some(Kind::OpenQuote(self.wording.name))
+        } else {
+            self.wording.fault()
+        };
+        if let Some(kind) = wrong {
+            let line = self.wording.line;
+            self.told.tell(kind, line);
+        }
+    }
+
+    /// Bytes come.
+    pub fn hear_all(&mut self, bytes: &[u8])
+        ensures { self.new ≡ specs.all_heard bytes.now self.old }
+    {
+        if self.half.is_unwatched() {
+            return;
+        }
+        for byte in bytes {
+            self.hear(*byte);
+        }
+    }
+
+    /// The page ends: what is open is told.
+    pub fn finish(&mut self)
+        ensures { self.new ≡ specs.finished self.old }
+    {
+        self.told.tell_not_ended(self.blocks.as_slice());
+        self.blocks.clear();
+    }
+
+    /// Tells what is wrong with the line.
+    fn tell(&mut self, kind: Kind)
+        ensures { self.new ≡ specs.told kind self.old }
+    {
+        let line = self.half.number;
+        self.told.tell(kind, line);
+    }
+
+    /// A macro begins a line.
+    #[tactic(auto, unfolding(crate::specs::Watching::judged))]
+    fn judge(&mut self)
+        ensures { self.new ≡ specs.judged self.old }
+    {
+        let name = self.half.name;
+        let cut = self.half.cut;
+        if is_macro(name.as_bytes()) {
+            self.wording = Wording::of(name, self.half.number);
+            self.begins();
+        } else {
+            self.tell(Kind::Unknown(name, cut));
+        }
+        self.half.name = Name::new();
+    }
+
+    /// It is one that is known.
+    fn begins(&mut self)
+        ensures { self.new ≡ specs.begun self.old }
+    {
+        let name = self.half.name;
+        let n = self.blocks.len();
+        let bytes = name.as_bytes();
+        if bytes == b"Sh".as_slice() || bytes == b"Ss".as_slice() {
+            self.headed = true;
+            self.breaks(n);
+        } else if self.headed && is_prologue(bytes) {
+            self.tell(Kind::Late(name));
+        } else if bytes == b"It".as_slice() {
+            self.begins_item();
+        } else {
+            self.call();
+        }
+    }
+
+    /// An item ends what was opened in the one before.
+    fn begins_item(&mut self)
+        ensures { self.new ≡ specs.item self.old }
+    {
+        let place = place_of(b"Bl", self.blocks.as_slice());
+        match place {
+            Some(n) => self.breaks(n),
+            None => self.tell(Kind::Outside(self.half.name)),
+        }
+    }
+
+    /// The macro of the line ends so many blocks that end themselves nowhere, the last that were opened.
+    fn breaks(&mut self, n: usize)
+        requires { n ≤ length self.old.blocks.items }
+        ensures { self.new ≡ specs.broken n self.old }
+    {
+        let by = self.half.name;
+        let line = self.half.number;
+        self.told
+            .tell_broken(by, line, &self.blocks.as_slice()[..n]);
+        self.blocks.remove_front(n);
+    }
+
+    /// A macro opens or ends a block, or does neither.
+    fn call(&mut self)
+        ensures { self.new ≡ specs.called self.old }
+    {
+        let name = self.half.name;
+        if name.as_bytes() == b"Ta".as_slice() {
+            self.begins_cell();
+        } else if opens(name.as_bytes()) {
+            self.open_block(name);
+        } else if let Some(opener) = opener_of(name.as_bytes()) {
+            self.end_block(opener);
+        }
+    }
+
+    /// A cell stands in a list of columns.
+    fn begins_cell(&mut self)
+        ensures { self.new ≡ specs.cell self.old }
+    {
+        let inside = match place_of(b"Bl", self.blocks.as_slice()) {
+            Some(place) => self.blocks.get(place).columns,
+            None => false,
+        };
+        if !inside {
+            self.tell(Kind::Outside(self.half.name));
+        }
+    }
+
+    /// A block is opened.
+    fn open_block(&mut self, name: Name)
+        ensures { self.new ≡ specs.opened name self.old }
+    {
+        if self.blocks.is_full() {
+            self.tell(Kind::TooMany(name));
+        } else {
+            let line = self.half.number;
+            let columns = false;
+            self.blocks.insert(
+                0,
+                OpenBlock {
+                    name,
+                    line,
+                    columns,
+                },
+            );
+        }
+    }
+
+    /// The last block that a macro opened is ended.
+    fn end_block(&mut self, opener: Name)
+        ensures { self.new ≡ specs.ended opener self.old }
+    {
+        let name = self.half.name;
+        let Some(place) = place_of(opener.as_bytes(), self.blocks.as_slice()) else {
+            self.tell(Kind::NotOpen(name));
+            return;
+        };
+        if place > 0 {
+            let inner = self.blocks.get(0).name;
+            self.tell(Kind::Nested(opener, inner));
+        }
+        self.blocks.remove(place);
+    }
+}
