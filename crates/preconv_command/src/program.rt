@@ -17,7 +17,6 @@ use nr_units::sink::Sink;
 use preconv_coding::{UnderCoding, Unknown};
 use preconv_converter::{Outcome, Target, convert};
 use std::io::Read;
-use utf8_characters::Table;
 
 /// The program.
 ///

@@ -1,9 +1,11 @@
-//! Nothing for other crates: tests of preconv, tbl and utf8: runs of these programs over words and texts in memory, with
+//! Nothing for other crates: tests of mdoc, preconv, tbl and utf8: runs of these programs over words and texts in memory, with
 //! their lines and their status.
 //!
-//! It stands on the libraries of the three, filters and command_line. To read: the files in any order.
+//! It stands on the libraries of the four, filters and command_line. To read: the files in any order.
 #![tactic(auto)]
 
+#[cfg(test)]
+mod mdoc;
 #[cfg(test)]
 mod preconv;
 #[cfg(test)]
