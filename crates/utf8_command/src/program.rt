@@ -49,18 +49,19 @@ impl Filter for Utf8 {
         output: W,
         errors: &mut E,
     ) -> (Ending<'a>, W) {
-        match read_words(words) {
+        let (how, files) = match read_words(words) {
             Ok(
                 Job::Turn {
                     table,
                     escapes,
                     files,
                 },
-            ) => turn_files((table, escapes), &words[files..], disk, output, errors),
-            Ok(Job::Choose) => choose_for(chosen_file(words), disk, output),
-            Ok(Job::Version) => put_version(output),
-            Err(wrong) => (bad_word(wrong, words), output),
-        }
+            ) => ((table, escapes), files),
+            Ok(Job::Choose) => return choose_for(chosen_file(words), disk, output),
+            Ok(Job::Version) => return put_version(output),
+            Err(wrong) => return (bad_word(wrong, words), output),
+        };
+        turn_files(how, &words[files..], disk, output, errors)
     }
 }
 
