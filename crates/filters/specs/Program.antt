@@ -1,13 +1,13 @@
 -- What a program comes to over its words.
-use Rattle.std.specs.Prelude.{◌≡◌, ℕ, List, [], ◌∷◌, Bool, true, false, IsTrue, Option, None, Some, ⊤}
-use Rattle.std.specs.Io.KnownBytes.{Appends, Keeps}
+use Rattle.std.specs.Prelude.{◌≡◌, ℕ, List, [], Bool, true, false, IsTrue, Option, None, Some, ⊤}
+use Rattle.std.specs.Io.KnownBytes.{Appends}
 use Rattle.nr_units.specs.Failures.{SinkFailures}
 use Rattle.nr_units.specs.Sink.{AppendsFront}
 use Rattle.filters.specs.Disk.{AreOpened, AreUnread, Asks, Opened, Opening, Opens, Refuses, all_paths, named, paths_of}
 use Rattle.filters.specs.Endings.{Tells, line_of, status_of}
 use Rattle.filters.specs.Turning.{Filter, Ran}
 use Rattle.filters.specs.declared.endings.Ending.{Ending}
-use Rattle.filters.specs.declared.endings.Ending.TheVariants.{Done, Complained, TooLong, ReadFault, WriteFault, BadWord, CannotOpen, CannotRead, OutOfMemory}
+use Rattle.filters.specs.declared.endings.Ending.TheVariants.{Done, WriteFault, BadWord, CannotOpen, CannotRead, OutOfMemory}
 
 -- what words ask for
 pub data Job : Type 0 where

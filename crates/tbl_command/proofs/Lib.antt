@@ -1,4 +1,5 @@
 pub mod Answering
+pub mod Bounding
 pub mod Parting
 pub mod Reading
 pub mod Turns

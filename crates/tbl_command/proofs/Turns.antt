@@ -10,7 +10,7 @@ use Rattle.tbl_reader.specs.Telling.{Piece}
 use Rattle.tbl_reader.specs.declared.complaint.Complaint.{Complaint}
 use Rattle.tbl_reader.specs.declared.running.Outcome.{Outcome}
 use Rattle.tbl_reader.specs.declared.running.Outcome.TheVariants as outcomes
-use Rattle.tbl_setting.specs.Running.{Bounds, PutsFront, Ran, set_page, set_so_far}
+use Rattle.tbl_setting.specs.Running.{Bounds, PutsFront, Ran, set_page}
 use Rattle.filters.specs.Turning.{Begins, IsAll, Turned, is_write_fault, text_left}
 use Rattle.filters.specs.declared.endings.Ending.{Ending}
 use Rattle.tbl_command.specs.Converting.{ending_of, tbl}

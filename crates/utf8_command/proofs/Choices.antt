@@ -1,7 +1,7 @@
 -- The table of a page is printed.
 use Rattle.std.proofs.Common.{◌≡◌, ℕ, List, ◌++◌, Bool, Option, Some, None, Ok, ap, subst, ◌∙◌, codes}
 use Rattle.nr_units.specs.Failures.{SinkFailures}
-use Rattle.nr_units.specs.Source.{Supply, reader_supply}
+use Rattle.nr_units.specs.Source.{reader_supply}
 use Rattle.nr_units.specs.declared.source.Fault.{Fault}
 use Rattle.utf8_characters.specs.declared.table.Table.{Table}
 use Rattle.utf8_characters.specs.Tables.{name_of}

@@ -1,4 +1,4 @@
-use Rattle.std.proofs.Common.{◌≡◌, ap}
+use Rattle.std.proofs.Common.{ap}
 use Rattle.filters.proofs.program.run_words.Goals as goal
 
 pub returns-clause-ends : goal.returns-clause-ends

@@ -1,4 +1,3 @@
-use Rattle.std.proofs.Common.{◌≡◌, rules}
 use Rattle.filters.proofs.Runs.{was-read, were-turned, were-unread}
 use Rattle.filters.proofs.turning.turn_names.Goals as goal
 

@@ -1,5 +1,5 @@
 use Rattle.std.proofs.Common.{◌≡◌, ℕ, ◌+◌, ◌<◌, List, [], ◌∷◌, ◌++◌, get_or, Bor, IsOk, vec_len, vec_capacity, ap, subst, ◌∙◌, arith}
-use Rattle.filters.specs.Disk.{IsFirstRefused, MayCome, Opening, Opens, Refuses, opened_of}
+use Rattle.filters.specs.Disk.{IsFirstRefused, MayCome, Opens, Refuses, opened_of}
 use Rattle.filters.proofs.Opening.{MayCome-first, asked-more, first-refused, if_ok, opened-more}
 use Rattle.filters.proofs.disk.Disk.open_all.Goals as goal
 

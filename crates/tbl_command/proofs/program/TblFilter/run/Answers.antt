@@ -1,4 +1,4 @@
-use Rattle.std.proofs.Common.{◌≡◌, ℕ, List, [], get_or, Bor, refl, sym, ap, subst, ◌∙◌}
+use Rattle.std.proofs.Common.{ℕ, List, [], drop, Bor, refl, sym, ap, subst, ◌∙◌}
 use Rattle.std.proofs.lemmas.List.{take_rest}
 use Rattle.tbl_setting.specs.Running.{Bounds}
 use Rattle.filters.specs.Arguments.{texts}
@@ -7,7 +7,7 @@ use Rattle.filters.specs.Program.{IsReportedWord, TurnsNames}
 use Rattle.filters.specs.Turning.{Filter}
 use Rattle.filters.proofs.Opening.{Asks-none}
 use Rattle.filters.proofs.Words.{word-at, words-from}
-use Rattle.tbl_command.specs.Converting.{bounds_of, tbl, what_of, word_of}
+use Rattle.tbl_command.specs.Converting.{tbl, what_of, word_of}
 use Rattle.tbl_command.proofs.program.TblFilter.run.Goals as goal
 
 pub returns-in-Err-clause-run : goal.returns-in-Err-clause-run
@@ -42,6 +42,6 @@ returns-clause-run g c =
     record {
       job = _;
       is_asked = (_, c.in-Ok.ensures.answer, refl);
-      comes = subst (turns (tbl (bounds_of c.in-Ok.job))) (ap texts (take_rest words files) ∙ words-from words files)
-          (subst (λ (b : Bounds). turns (tbl b) (texts _)) c.in-Ok-new.ensures c.turn_names.ensures.turns);
+      comes = subst (λ (b : Bounds). turns (tbl b) (drop files (texts words))) c.in-Ok-new.ensures
+          (subst (turns (tbl c.in-Ok-new.rooms.held)) (ap texts (take_rest words files) ∙ words-from words files) c.turn_names.ensures.turns);
     }

@@ -1,4 +1,4 @@
-use Rattle.std.proofs.Common.{◌≡◌, ap}
+use Rattle.std.proofs.Common.{ap}
 use Rattle.tbl_command.specs.Converting.{tbl}
 use Rattle.tbl_command.proofs.Turns.{failures, turned}
 use Rattle.tbl_command.proofs.rooms.RoomsTurns.turn.Goals as goal
