@@ -19,8 +19,8 @@ use document_printing::{PageLimits, Rooms, Setup, Stages};
 use nr_engine::{CountedAlloc, Desk, Limits, Options};
 use nr_options::MOST_REGISTERS;
 use nr_units::sink::Sink;
-use std::alloc::{AllocError, Global};
 use preconv_converter::Target;
+use std::alloc::{AllocError, Global};
 use utf8_characters::Table;
 
 /// The number of the table that the page takes.

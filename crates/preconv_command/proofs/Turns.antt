@@ -1,11 +1,9 @@
 -- What came of a text is what preconv makes of it.
 use Rattle.std.proofs.Common.{◌≡◌, ℕ, List, [], ◌++◌, Bool, true, false, Option, Some, None, refl, sym, ap, subst, ◌∙◌, append-nil, inl, inr, codes}
 use Rattle.std.specs.Borrow.{Bor}
-use Rattle.std.specs.Io.KnownBytes.{Appends}
 use Rattle.std.proofs.KnownBytes.{Appends-trans}
 use Rattle.nr_units.proofs.Fronts.{AppendsFront-after}
 use Rattle.nr_units.specs.Failures.{SinkFailures, put_counted_if}
-use Rattle.nr_units.specs.Sink.{AppendsFront}
 use Rattle.nr_units.specs.Source.{Supply, reader_supply}
 use Rattle.preconv_converter.specs.declared.target.Target.{Target}
 use Rattle.preconv_coding.specs.UnderCoding.{text_supply}

@@ -1,4 +1,4 @@
-use Rattle.std.proofs.Common.{◌≡◌, ℕ, List, refl, ap, subst, ◌∙◌}
+use Rattle.std.proofs.Common.{ℕ, List, refl, ap, subst, ◌∙◌}
 use Rattle.std.proofs.lemmas.List.{take_rest}
 use Rattle.filters.specs.Arguments.{texts}
 use Rattle.filters.specs.Disk.{MayCome}
