@@ -3,6 +3,7 @@ use Rattle.std.proofs.Common.{◌≡◌, ℕ, List, [], ◌++◌, append-nil, Bo
 use Rattle.nr_units.specs.Source.{Supply}
 use Rattle.nr_units.specs.declared.source.Fault.{Fault}
 use Rattle.utf8_characters.specs.declared.table.Table.{Table}
+use Rattle.preconv_converter.specs.declared.target.Target.{Target}
 use Rattle.utf8_converter.specs.Cells.{converted}
 use Rattle.utf8_converter.specs.Lines.{KeepsLines}
 use Rattle.utf8_converter.specs.Showing.{Finishes, Making, made_of}
@@ -141,7 +142,7 @@ shown_printed s page t e begun new failed failed' first last bytes n m d o p r i
 
 -- ---- how it was set
 
-abbrev setting : List ℕ → Bool → Bool → Option Table → Bounds → limits.Bounds → Options → Setting
+abbrev setting : List ℕ → Bool → Bool → Target → Bounds → limits.Bounds → Options → Setting
 setting macros mdoc sets characters tables bounds options = record {
   macros = macros;
   stages = record { mdoc = mdoc; characters = true };
@@ -152,12 +153,12 @@ setting macros mdoc sets characters tables bounds options = record {
   options = options;
 }
 
-pub set_printed : (macros page bytes : List ℕ) (mdoc a a' : Bool) (t t' : Option Table) (b : Bounds) (l l' : limits.Bounds) (options : Options) (f f' : Form) (n d d' : ℕ) (o : Outcome)
+pub set_printed : (macros page bytes : List ℕ) (mdoc a a' : Bool) (t t' : Target) (b : Bounds) (l l' : limits.Bounds) (options : Options) (f f' : Form) (n d d' : ℕ) (o : Outcome)
     → IsPrinted (setting macros mdoc a t b l options) f page bytes n o d → a ≡ a' → t ≡ t' → l ≡ l' → f ≡ f' → d' ≡ d
     → IsPrinted (setting macros mdoc a' t' b l' options) f' page bytes n o d'
 set_printed macros page bytes mdoc a a' t t' b l l' options f f' n d d' o printed sets characters bounds form dropped =
     subst (λ (v : ℕ). IsPrinted (setting macros mdoc a' t' b l' options) f' page bytes n o v) (sym dropped)
     (subst (λ (z : Form). IsPrinted (setting macros mdoc a' t' b l' options) z page bytes n o d) form
     (subst (λ (y : limits.Bounds). IsPrinted (setting macros mdoc a' t' b y options) f page bytes n o d) bounds
-    (subst (λ (x : Option Table). IsPrinted (setting macros mdoc a' x b l options) f page bytes n o d) characters
+    (subst (λ (x : Target). IsPrinted (setting macros mdoc a' x b l options) f page bytes n o d) characters
     (subst (λ (w : Bool). IsPrinted (setting macros mdoc w t b l options) f page bytes n o d) sets printed))))

@@ -222,6 +222,7 @@ fn print_document(
     } = prepared;
     let options = options_for(setup.options);
     let form = form_of(setup.options.form, characters);
+    let target = Target::of(characters);
     let set = Setup {
         macros,
         stages: Stages {
@@ -229,7 +230,7 @@ fn print_document(
             characters: true,
         },
         tables: sets,
-        characters: Target::of(characters),
+        characters: target,
         options: &options,
     };
     let (pages, printed) = print_pages(page, form, &set, &mut memory, pages);

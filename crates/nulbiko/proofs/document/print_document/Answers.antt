@@ -1,4 +1,5 @@
 use Rattle.std.proofs.Common.{◌∙◌, ap, rules}
+use Rattle.preconv_converter.specs.Targets.{target_of}
 use Rattle.nulbiko.specs.Printed.{form_of}
 use Rattle.nulbiko.proofs.DocumentRun.{set_printed}
 use Rattle.nulbiko.proofs.document.print_document.Goals as goal
@@ -11,7 +12,7 @@ returns-clause-printed c sets characters held limits short = record {
   moves = c.print_pages-pages.result.1.moves;
   outcome = c.print_pages-pages.result.1.outcome;
   bytes = c.as_slice-bytes.result.now;
-  printed = set_printed _ _ _ _ _ _ _ _ _ _ _ _ _ _ _ _ _ _ (c.print_pages-pages.ensures held short _ c.as_slice-bytes.ensures) sets characters limits
+  printed = set_printed _ _ _ _ _ _ _ _ _ _ _ _ _ _ _ _ _ _ (c.print_pages-pages.ensures held short _ c.as_slice-bytes.ensures) sets (c.of-target.ensures ∙ ap (λ t. target_of t) characters) limits
       (c.form_of-form.ensures ∙ ap (λ t. form_of c.args.setup.now.options.form t) characters) c.report_of.ensures.dropped;
   handed = search rules;
   code_is = search rules;
