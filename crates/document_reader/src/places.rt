@@ -43,17 +43,26 @@ impl Places {
         ensures second { 73984 ≤ length result.second.now }
         ensures blocks { 64 ≤ length result.blocks.now }
     {
+        let Places {
+            first,
+            second,
+            blocks,
+            man,
+            man_lines,
+            text,
+            text_lines,
+        } = self;
         Waits {
-            first: &mut self.first,
-            second: &mut self.second,
-            blocks: &mut self.blocks,
+            first,
+            second,
+            blocks,
             man: Ahead {
-                bytes: &mut self.man,
-                lines: &mut self.man_lines,
+                bytes: man,
+                lines: man_lines,
             },
             text: Ahead {
-                bytes: &mut self.text,
-                lines: &mut self.text_lines,
+                bytes: text,
+                lines: text_lines,
             },
         }
     }

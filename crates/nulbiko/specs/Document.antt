@@ -12,7 +12,6 @@ use Rattle.document_printing.specs.Document.{Setting}
 use Rattle.document_printing.specs.declared.setup.Outcome.{Outcome}
 use Rattle.nulbiko.specs.Formatting.{bounds_of, faces_of}
 use Rattle.nulbiko.specs.Printed.{IsPrinted, code_of, form_of, limit_told, place_told}
-use Rattle.preconv_converter.specs.Targets.{target_of}
 use Rattle.nulbiko.specs.Tables.{table_numbered}
 use Rattle.nulbiko.specs.Told.{IsHanded, code_within, count_told}
 use Rattle.nulbiko.specs.declared.document.DocumentOptions.{DocumentOptions}

@@ -20,17 +20,18 @@ use Rattle.tbl_layout.specs.declared.table.StepKind.TheVariants as steps
 use Rattle.tbl_layout.specs.declared.table.Table.{Table}
 use Rattle.tbl_layout.specs.Beside.{last_below, last_in, own_cell, own_cells}
 use Rattle.tbl_layout.specs.Cells.{field_given}
-use Rattle.tbl_layout.specs.Drawing.{bars_as, column_rule, content, falling, field_strokes, row_bar, row_strokes, whole}
+use Rattle.tbl_layout.specs.Drawing.{bar_byte, bars_as, column_rule, content, falling, field_strokes, row_bar, row_strokes, whole}
 use Rattle.tbl_layout.specs.Drawing as drawing
 use Rattle.tbl_layout.specs.Extent.{cells_of}
 use Rattle.tbl_layout.specs.Frames.{bars_beside, bars_of, bars_seen, count, edged, from_last, is_between, is_inside, or_else, row_above, was_ruled, is_ruled}
-use Rattle.tbl_layout.specs.Held.{bars_in, cell, item, no_field, cell_number, cell_of, column, columns, key, line, no_row, no_step, row, step, text_of, usual}
-use Rattle.tbl_layout.specs.Lines.{drawn_on, is_moved, lines_strokes, moves_at, nth_strokes, room, room_to, steps_strokes, tail}
+use Rattle.tbl_layout.specs.Held.{bars_in, cell, cell_number, cell_of, column, columns, is_rule, is_text, item, key, line, no_field, no_line, no_row, no_step, row, step, text_of, usual}
+use Rattle.tbl_layout.specs.Lines.{drawn_on, is_moved, lines_strokes, moves, moves_at, nth_strokes, room, room_if, room_to, steps_strokes, tail}
 use Rattle.tbl_layout.specs.Pens.{Stroke, GuardEnd, Bytes, after_all, bytes_of, first}
 use Rattle.tbl_layout.specs.Places.{edge}
 use Rattle.tbl_layout.specs.Sequences.{joined, some_below}
 use Rattle.tbl_layout.specs.Steps.{step_at}
 use Rattle.tbl_layout.proofs.Tapes.{after_all-append, bytes_of-append}
+use Rattle.tbl_layout.specs.declared.table.Line.{Line}
 use Rattle.tbl_laws.specs.Lines.{AreLines, GoesOut, HasFields, head}
 use Rattle.tbl_laws.proofs.DrawnCells.{IsPlain, IsShown, Writes, field_written, fields_then, lines_then, span_is}
 use Rattle.tbl_laws.proofs.MeasuredColumns.{Stands}
@@ -74,7 +75,7 @@ letter_font k (kind, is, same) = ap (λ (x : Key). x.font) same
 
 no_bars_in : (w : ℕ) (t z : Table) (c : ℕ) → z.lines ≡ (with_columns w w t).lines → z.keys ≡ t.keys → IsHeld (with_columns w w t) w → bars_in z (line z 0) c ≡ 0
 no_bars_in w t z c lines keys h =
-    ap (λ (x : Items Rattle.tbl_layout.specs.declared.table.Line.Line). bars_in z (get_or x.items 0 Rattle.tbl_layout.specs.Held.no_line) c) lines ∙ by_end (c == w)
+    ap (λ (x : Items Line). bars_in z (get_or x.items 0 no_line) c) lines ∙ by_end (c == w)
   where
     by_letter : (b : Bool) → nat_le w c ≡ b → (if b then usual else get_or z.keys.items (min (0 + c) 18446744073709551615) usual).bars ≡ 0
     by_letter true e = refl
@@ -108,7 +109,7 @@ no_row_bar : (w : ℕ) (t : Table) (x : Items Column) (uneven : Bool) (ss : List
     → r < length t.rows.items → row_bar (drawn w t x uneven ss q) r c was now ≡ []
 no_row_bar w t x uneven ss q r c was now h inside =
     let z = drawn w t x uneven ss q in
-    ap (λ (n : ℕ). if n == 0 then [] else bars_as z c (Rattle.tbl_layout.specs.Drawing.bar_byte z r was now) was n) (no_bars w t x uneven ss q r c h inside)
+    ap (λ (n : ℕ). if n == 0 then [] else bars_as z c (bar_byte z r was now) was n) (no_bars w t x uneven ss q r c h inside)
 
 -- ---- the field of a column
 
@@ -163,7 +164,7 @@ plain_is w t x uneven ss q r c h inside less =
       one = refl;
       known = h.stands.known c less;
       edge = h.stands.left c less;
-      width = (wide.0, ap (λ (y : Form). if Rattle.tbl_layout.specs.Held.is_text y then cells_of (text_of u f.span) else Some 0) form ∙ wide.1);
+      width = (wide.0, ap (λ (y : Form). if is_text y then cells_of (text_of u f.span) else Some 0) form ∙ wide.1);
     }
 
 -- ---- a row
@@ -183,9 +184,9 @@ content_is w t x uneven ss q r c l h inside less =
     let u = with_columns w w t in
     let z = drawn w t x uneven ss q in
     let f = own_cell_of u r c in
-    ap (λ (y : Cell). if Rattle.tbl_layout.specs.Held.is_rule y.field.form && (y.top == r) then column_rule z r c
+    ap (λ (y : Cell). if is_rule y.field.form && (y.top == r) then column_rule z r c
     else if (y.top == r) && (y.first == c) then (if y.falls then falling z r c l else field_strokes z y) else falling z r c l) (cell_is w t x uneven ss q r c h inside less)
-    ∙ ap (λ (y : Form). if Rattle.tbl_layout.specs.Held.is_rule y && (r == r) then column_rule z r c
+    ∙ ap (λ (y : Form). if is_rule y && (r == r) then column_rule z r c
     else if (r == r) && (c == c) then field_strokes z f else falling z r c l) (given_form u (row u r) (given u r c) h.held.texts)
     ∙ ap (λ (b : Bool). if b && (c == c) then field_strokes z f else falling z r c l) (itself r)
     ∙ ap (λ (b : Bool). if b then field_strokes z f else falling z r c l) (itself c)
@@ -247,7 +248,7 @@ no_room w t x uneven ss q r h inside =
     let b = h.cells_end r inside in
     let many : own_cells z r ≡ w = omega (arith, a, b) in
     let last : last_below z r ≡ r = ap (λ (n : ℕ). last_in n z r) many ∙ none_below w (omega arith) in
-    ap (λ (n : ℕ). Rattle.tbl_layout.specs.Lines.room_if z r n) last
+    ap (λ (n : ℕ). room_if z r n) last
     ∙ ap (λ (b : Bool). if not b && not false then room_to z r r else []) (let e : (r == r) ≡ true = grind (arith, nat_tests) in e)
   where
     bottom_is : (n : ℕ) → n < w → (own_cell (drawn w t x uneven ss q) r n).bottom ≡ r
@@ -364,7 +365,7 @@ none_moves : (n : ℕ) (z : Table) → ((k : ℕ) → k < n → item z k ≡ ite
 none_moves zero z h = refl
 none_moves (suc n) z h =
     ap (λ (b : Bool). b || moves_at z n) (none_moves n z (λ k less. h k (omega (arith, less))))
-    ∙ ap (λ (i : Item). Rattle.tbl_layout.specs.Lines.moves z i) (h n (omega arith))
+    ∙ ap (λ (i : Item). moves z i) (h n (omega arith))
 
 pub lines_go_out : (w : ℕ) (t : Table) (x : Items Column) (uneven : Bool) (q : List Row) (count : ℕ) (p : Pen)
     → CanDraw w t (drawn w t x uneven (steps_to (length t.rows.items)) q)

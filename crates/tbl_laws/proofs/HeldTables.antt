@@ -16,6 +16,9 @@ use Rattle.tbl_layout.specs.Extent.{cells_of, extent_from, first_extent}
 use Rattle.tbl_layout.specs.Extent as extents
 use Rattle.tbl_layout.specs.Held.{no_field, no_row, part, row, text_of}
 use Rattle.tbl_layout.proofs.RowPlaced.{by_cases}
+use Rattle.tbl_layout.specs.Measured.{table_strokes}
+use Rattle.tbl_layout.specs.declared.pen.Pen.{Pen}
+use Rattle.tbl_layout.specs.Pens.{bytes_of}
 use Rattle.tbl_laws.specs.HeldRows.{AreAmong, all_of, count}
 use Rattle.tbl_laws.specs.Lines.{AreLines, GoesOut, HasFields}
 use Rattle.tbl_laws.proofs.DrawnCells.{span_is}
@@ -334,8 +337,8 @@ row_is w o t rows next c h r inside =
         ∙ (span_is t.text.items no_field.span (omega arith)).none refl
         ∙ none_at (get_or rows r []) n most)
 
-pub rows_go_out : (w : ℕ) (o t : Table) (rows : List (List (List ℕ))) (next : List (List ℕ)) (p : Rattle.tbl_layout.specs.declared.pen.Pen.Pen) → CanHold w o rows → Held o t rows next
-    → GoesOut rows (Rattle.tbl_layout.specs.Pens.bytes_of (Rattle.tbl_layout.specs.Measured.table_strokes true t) p)
+pub rows_go_out : (w : ℕ) (o t : Table) (rows : List (List (List ℕ))) (next : List (List ℕ)) (p : Pen) → CanHold w o rows → Held o t rows next
+    → GoesOut rows (bytes_of (table_strokes true t) p)
 rows_go_out w o t rows next p c h =
     let R = length t.rows.items in
     let (lines, is, all) = table_goes_out w t p (held_table w o t rows next c h) in
@@ -345,6 +348,6 @@ rows_go_out w o t rows next p c h =
     gathered_same (λ r. field_texts (with_columns w w t) r w) (λ r. gathered (λ c. get_or (get_or rows r []) c []) w) R (λ r less. row_is w o t rows next c h r less)
     ∙ ap (gathered (λ r. gathered (λ c. get_or (get_or rows r []) c []) w)) count_is in (
       lines,
-      ap (λ (x : Table). Rattle.tbl_layout.specs.Pens.bytes_of (Rattle.tbl_layout.specs.Measured.table_strokes true x) p) base ∙ is,
+      ap (λ (x : Table). bytes_of (table_strokes true x) p) base ∙ is,
       lines_show rows w lines c.columns (subst (λ (l : List (List (List ℕ))). AreLines l lines) texts all),
     )

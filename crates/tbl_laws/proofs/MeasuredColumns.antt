@@ -1,6 +1,6 @@
 -- When a table is measured nothing of it changes but its columns: they are as many, and stand at places that show.
 use Rattle.std.proofs.Common.{◌≡◌, ℕ, zero, suc, ◌+◌, ◌-◌, ◌<◌, ◌≤◌, List, [], ◌∷◌, length, Bool, true, false, not, ◌&&◌, if◌then◌else◌, nat_lt, get_or, refl, ◌∙◌, ap, length-set, arith}
-use Rattle.std.specs.Prelude.{Option, None, Some}
+use Rattle.std.specs.Prelude.{None, Option, Some, slice_set}
 use Rattle.std.proofs.lemmas.Bool.Decides.{nat_tests}
 use Rattle.tbl_layout.specs.declared.places.Mark.TheVariants as marks
 use Rattle.tbl_layout.specs.declared.table.Cell.{Cell}
@@ -10,12 +10,14 @@ use Rattle.tbl_layout.specs.Cells.{columns_over}
 use Rattle.tbl_layout.specs.Columns.{Dealing, dealing, dealt_at, equal_column, left_for, made_equal, measured_all, measured_cell, measured_cells, measured_fields, measured_spans, measures, settled_column, settled_columns, span_width, spanned_cell, widened, wider, widest_equal, width_wanted, with_field, with_width}
 use Rattle.tbl_layout.specs.Counted.{as_wide}
 use Rattle.tbl_layout.specs.Drawing.{spans}
-use Rattle.tbl_layout.specs.Frames.{first_place}
+use Rattle.tbl_layout.specs.Frames.{first_place, left_edge}
 use Rattle.tbl_layout.specs.Held.{cell_of, column, columns, fresh}
-use Rattle.tbl_layout.specs.Laid.{Laying, as_known, first_laying, known_all, known_at, laid, laid_column, laid_out, right_of}
+use Rattle.tbl_layout.specs.Laid.{Laying, as_known, first_laying, known_all, known_at, laid, laid_column, laid_out, next_of, right_of}
 use Rattle.tbl_layout.specs.Lists.{in_turn, put}
 use Rattle.tbl_layout.specs.Measured.{laid_measured}
 use Rattle.tbl_layout.proofs.Turns.{set_has, turn_has}
+use Rattle.tbl_layout.specs.declared.table.Looks.{Looks}
+use Rattle.tbl_layout.specs.Places.{after, edge, on}
 
 -- only the columns are others, as many
 pub record Alike (t u : Table) : Type 0 where
@@ -105,7 +107,7 @@ known_step : (n c : ℕ) (t : Table) → (column t c).known ≡ true → (column
 known_step n c t h = set_has (λ (x : Column). x.known ≡ true) t.columns.items n (as_known true (column t n)) fresh c h (λ e. refl)
 
 -- a column that was put there
-known_here : (xs : List Column) (n : ℕ) (x : Column) → x.known ≡ true → (get_or (Rattle.std.specs.Prelude.slice_set xs n x) n fresh).known ≡ true
+known_here : (xs : List Column) (n : ℕ) (x : Column) → x.known ≡ true → (get_or (slice_set xs n x) n fresh).known ≡ true
 known_here [] n x h = refl
 known_here (y ∷ ys) zero x h = h
 known_here (y ∷ ys) (suc n) x h = known_here ys n x h
@@ -145,7 +147,7 @@ record Shown (l : Laying) (k : ℕ) : Type 0 where
   left : (c : ℕ) → c < k → (column l.table c).left.mark ≡ marks.Edge
 
 -- a column that was put there begins so
-left_here : (xs : List Column) (n : ℕ) (x : Column) → x.left.mark ≡ marks.Edge → (get_or (Rattle.std.specs.Prelude.slice_set xs n x) n fresh).left.mark ≡ marks.Edge
+left_here : (xs : List Column) (n : ℕ) (x : Column) → x.left.mark ≡ marks.Edge → (get_or (slice_set xs n x) n fresh).left.mark ≡ marks.Edge
 left_here [] n x h = refl
 left_here (y ∷ ys) zero x h = h
 left_here (y ∷ ys) (suc n) x h = left_here ys n x h
@@ -162,8 +164,8 @@ shown_next n l h =
     }
   where
     next_mark : (told known : Bool) → told ≡ false → known ≡ true
-        → (Rattle.tbl_layout.specs.Laid.next_of told n (column l.table n)
-        (if known then Rattle.tbl_layout.specs.Places.on (column l.table n).width l.place else Rattle.tbl_layout.specs.Places.after (marks.End n))).mark ≡ marks.Edge
+        → (next_of told n (column l.table n)
+        (if known then on (column l.table n).width l.place else after (marks.End n))).mark ≡ marks.Edge
     next_mark false true e f = h.place
     next_mark true known e f = absurd (let no : true ≡ false = e in cc)
     next_mark false false e f = absurd (let no : false ≡ true = f in cc)
@@ -191,7 +193,7 @@ laid_stands t h =
     let b : Table = known_all a in
     let same : b.looks ≡ t.looks = ap (λ (x : Table). x.looks) ((known_alike a).same) ∙ ap (λ (x : Table). x.looks) ((measured_alike t).same) in
     let count : columns b ≡ columns t = (known_alike a).count ∙ (measured_alike t).count in
-    let expand : b.looks.expand ≡ false = ap (λ (x : Rattle.tbl_layout.specs.declared.table.Looks.Looks). x.expand) same ∙ h in
+    let expand : b.looks.expand ≡ false = ap (λ (x : Looks). x.expand) same ∙ h in
     let all = shown_all (columns b) (first_laying b) (record {
       place = first_mark b expand;
       looks = expand;
@@ -202,5 +204,5 @@ laid_stands t h =
   where
     first_mark : (b : Table) → b.looks.expand ≡ false → (first_place b).mark ≡ marks.Edge
     first_mark b e =
-        ap (λ (x : Bool). (if x && nat_lt 0 (Rattle.tbl_layout.specs.Frames.left_edge b) then Rattle.tbl_layout.specs.Places.after (marks.Begin 0)
-        else Rattle.tbl_layout.specs.Places.on (Rattle.tbl_layout.specs.Frames.left_edge b) Rattle.tbl_layout.specs.Places.edge).mark) e
+        ap (λ (x : Bool). (if x && nat_lt 0 (left_edge b) then after (marks.Begin 0)
+        else on (left_edge b) edge).mark) e

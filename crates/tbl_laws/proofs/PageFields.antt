@@ -10,6 +10,7 @@ use Rattle.tbl_layout.specs.Measured.{table_strokes}
 use Rattle.tbl_layout.specs.Pens.{Stroke, after_all, bytes_of, first}
 use Rattle.tbl_layout.specs.Table.{begun}
 use Rattle.tbl_layout.proofs.Tapes.{bytes_of-append}
+use Rattle.tbl_reader.specs.Untouched.{is_untouched}
 use Rattle.tbl_reader.specs.declared.command.Start.TheVariants as starts
 use Rattle.tbl_reader.specs.declared.formats.Formats.{Formats}
 use Rattle.tbl_reader.specs.declared.reader.Limits.{Limits}
@@ -29,10 +30,10 @@ use Rattle.tbl_setting.specs.Setting.{page_table, set, set_bytes, set_in, stroke
 use Rattle.tbl_laws.specs.HeldRows.{HasRoom, all_of, count}
 use Rattle.tbl_laws.specs.Lines.{AreLines, FieldsGoOut, FitsIn, all_printed, are_printed, head, is_printed, page_with}
 use Rattle.tbl_laws.specs.OutsideText.{table_end}
-use Rattle.tbl_laws.specs.Rows.{AreRows, IsBetweenRows, IsRow, Row, are_columns, are_fields, columns_in, fields_of_all, is_plain, table_with, text_of, text_of_all}
+use Rattle.tbl_laws.specs.Rows.{AreRows, IsBetweenRows, IsRow, Row, are_columns, are_fields, columns_in, fields_of_all, is_plain, rows_told, table_with, text_of, text_of_all}
 use Rattle.tbl_laws.proofs.FormatKeys.{formed, keys_of, letters_are, line_heard}
 use Rattle.tbl_laws.proofs.Heads.{IsWrong, formats_are_read, head_pieces, head_said}
-use Rattle.tbl_laws.proofs.HeldLaw.{all_held, none_held}
+use Rattle.tbl_laws.proofs.HeldLaw.{Held, all_held, none_held}
 use Rattle.tbl_laws.proofs.HeldTables.{AllShown, AreFew, AreShown, CanHold, is_shown, rows_go_out}
 use Rattle.tbl_laws.proofs.OutsideText.{bytes_both, text_bytes}
 use Rattle.tbl_laws.proofs.Rows.{both_first, both_second}
@@ -262,8 +263,8 @@ together x h m t e z =
     ∙ ap (λ (l : List ℕ). l ++ e) (sym (append_assoc x (h ++ m) t) ∙ ap (λ (l : List ℕ). l ++ t) (sym (append_assoc x h m))))
 
 by_count : (n : ℕ) (g : Signs) (l : Limits) (cells : ℕ) (before formats : List ℕ) (rows : List Row) (after : List ℕ)
-    → Rattle.tbl_reader.specs.Untouched.is_untouched before ≡ true → (fed before (first_page l cells)).page.state.mode ≡ modes.Passing starts.Nothing
-    → Rattle.tbl_reader.specs.Untouched.is_untouched after ≡ true → are_columns formats ≡ true → columns_in formats ≡ n → 0 < n → n ≤ 64 → length formats < l.formats
+    → is_untouched before ≡ true → (fed before (first_page l cells)).page.state.mode ≡ modes.Passing starts.Nothing
+    → is_untouched after ≡ true → are_columns formats ≡ true → columns_in formats ≡ n → 0 < n → n ≤ 64 → length formats < l.formats
     → AreRows l (code "\t") n rows → all_printed (fields_of_all rows) ≡ true → FitsIn l rows
     → (lines : List ℕ)
     × (set_bytes g l (page_said l cells (page_with before formats rows after)) ≡ before ++ codes ".TS\n" ++ head ++ lines ++ tail ++ table_end ++ after)
@@ -308,8 +309,8 @@ by_count (suc n) g l cells before formats rows after clean outside rest h is som
     let set_ah : set (A ++ H) t ≡ o =
     set_both A H t ∙ ap (set H) (text_set before t) ∙ head_set formats n wrongs t wrong h is few (omega arith) (omega arith) in
     let held = all_held T told.only o o [] [] (none_held o refl refl refl) (has_room g l n formats rows T few are fits much) in
-    let rows_is : Rattle.tbl_laws.specs.Rows.rows_told [] T ≡ fields_of_all rows =
-    ap (Rattle.tbl_laws.specs.Rows.rows_told []) (sym (append-nil T)) ∙ told.told [] ∙ append-nil (fields_of_all rows) in
+    let rows_is : rows_told [] T ≡ fields_of_all rows =
+    ap (rows_told []) (sym (append-nil T)) ∙ told.told [] ∙ append-nil (fields_of_all rows) in
     let u = set T o in
     let set_aht : set ((A ++ H) ++ T) t ≡ u = set_both (A ++ H) T t ∙ ap (set T) set_ah in
     let pen_a = after_all (strokes A t) first in
@@ -317,7 +318,7 @@ by_count (suc n) g l cells before formats rows after clean outside rest h is som
     let pen_c = after_all (strokes ((A ++ H) ++ T) t) first in
     let pen_d = after_all (strokes (((A ++ H) ++ T) ++ E) t) first in
     let (lines, goes, are_lines) = rows_go_out (suc n) o u (fields_of_all rows) held.left pen_c (can_hold g l n formats rows is few are printed fits)
-    (subst (λ (rs : List (List (List ℕ))). Rattle.tbl_laws.proofs.HeldLaw.Held o u rs held.left) rows_is held.held) in
+    (subst (λ (rs : List (List (List ℕ))). Held o u rs held.left) rows_is held.held) in
     let out_a : bytes_of (strokes A t) first ≡ before = text_bytes before t first in
     let out_b : bytes_of (strokes (A ++ H) t) first ≡ before ++ codes ".TS\n" =
     bytes_both A H t first ∙ ap (λ (x : List ℕ). x ++ bytes_of (strokes H (set A t)) pen_a) out_a ∙ ap (λ (x : List ℕ). before ++ x) (head_out formats wrongs (set A t) pen_a wrong) in

@@ -14,8 +14,8 @@ use Rattle.tbl_layout.specs.declared.table.Form.TheVariants as forms
 use Rattle.tbl_layout.specs.declared.table.Key.{Key}
 use Rattle.tbl_layout.specs.declared.table.Row.{Row}
 use Rattle.tbl_layout.specs.declared.table.Table.{Table}
-use Rattle.tbl_layout.specs.Cells.{Placing, field_given, first_placing, goes_on, goes_over, is_ruled, last_of, new_cell, placed_at, placed_field, placed_form, placed_in, placed_next, placed_row, placing, row_settled, row_with, went_on, went_on_at}
-use Rattle.tbl_layout.specs.Held.{cell_number, cell_of, columns, field, has_text, is_text, key, line, no_cell, no_row, row, usual}
+use Rattle.tbl_layout.specs.Cells.{Placing, field_given, first_placing, goes_on, goes_over, gone_on, is_above, is_ruled, last_of, new_cell, placed_at, placed_field, placed_form, placed_in, placed_next, placed_row, placing, row_settled, row_with, went_on, went_on_at}
+use Rattle.tbl_layout.specs.Held.{cell_number, cell_of, columns, field, has_text, is_text, key, line, no_cell, no_field, no_row, row, usual}
 use Rattle.tbl_layout.specs.Lists.{added, added_each}
 use Rattle.tbl_layout.specs.Places.{sum}
 use Rattle.tbl_laws.specs.Rows.{is_column}
@@ -54,7 +54,7 @@ own_field k f is text =
     ap (λ (x : Form). is_above_or x) text ∙ none_second true (k.kind == code "^") (not (has_text f)) (not_byte (code "^") k.kind refl refl refl (kind_is k is))
   where
     is_above_or : Form → Bool
-    is_above_or x = Rattle.tbl_layout.specs.Cells.is_above x || (is_text x && (k.kind == code "^") && not (has_text f))
+    is_above_or x = is_above x || (is_text x && (k.kind == code "^") && not (has_text f))
 
 pub form_is : (k : Key) (f : Field) → IsLetter k → placed_form k f ≡ f
 form_is k f is =
@@ -160,7 +160,7 @@ pub record IsHeld (u : Table) (w : ℕ) : Type 0 where
 pub given_form : (u : Table) (r : Row) (n : ℕ) → ((k : ℕ) → (field u k).form ≡ forms.Text) → (field_given u r n).form ≡ forms.Text
 given_form u r n texts = by_test (nat_lt n r.«end»)
   where
-    by_test : (b : Bool) → (if b then field u n else Rattle.tbl_layout.specs.Held.no_field).form ≡ forms.Text
+    by_test : (b : Bool) → (if b then field u n else no_field).form ≡ forms.Text
     by_test true = texts n
     by_test false = refl
 
@@ -191,8 +191,8 @@ next_is u w r c q x h line_is less inside g =
     let room_b : length (upto (r * w + c)) < u.grid.capacity = (let o = h.grid_room in omega (arith, grid_long, more, less, o)) in
     let one : sum c 1 - c ≡ 1 = (let e = h.grid_room in let s = h.room in omega (arith, less, more, e, s)) in
     ap (λ (n : ℕ). placed_in r (key T (line T n) c) f c c T) line_is
-    ∙ ap (λ (b : Bool). if nat_lt 0 r && b then Rattle.tbl_layout.specs.Cells.gone_on r c c T else placed_field r k f c c T) (own_field k f (h.letters c less) (given_form u x g h.texts))
-    ∙ ap (λ (b : Bool). if b then Rattle.tbl_layout.specs.Cells.gone_on r c c T else placed_field r k f c c T) (none_here (nat_lt 0 r))
+    ∙ ap (λ (b : Bool). if nat_lt 0 r && b then gone_on r c c T else placed_field r k f c c T) (own_field k f (h.letters c less) (given_form u x g h.texts))
+    ∙ ap (λ (b : Bool). if b then gone_on r c c T else placed_field r k f c c T) (none_here (nat_lt 0 r))
     ∙ ap (λ (n : ℕ). record T { cells = added (new_cell u r k f c c) T.cells; grid = added_each n (length cells) T.grid }) one
     ∙ ap (λ (l : List Cell). record T { cells = record T.cells { items = l }; grid = added (length cells) T.grid }) (fits_one (new_cell u r k f c c) cells u.cells.capacity room_a)
     ∙ ap (λ (l : List ℕ). filled u (cells ++ new_cell u r k f c c ∷ []) l q) (fits_one (length cells) (upto (r * w + c)) u.grid.capacity room_b)

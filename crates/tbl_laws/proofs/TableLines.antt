@@ -16,7 +16,7 @@ use Rattle.tbl_layout.specs.Cells.{field_given, placed}
 use Rattle.tbl_layout.specs.Columns.{all_show, are_plain_columns, columns_read, is_plain, shows}
 use Rattle.tbl_layout.specs.Drawing.{is_given}
 use Rattle.tbl_layout.specs.Extent.{cells_of}
-use Rattle.tbl_layout.specs.Held.{cell_of, columns, field, fresh, item, key, line, no_cell, no_field, no_row, row, text_of}
+use Rattle.tbl_layout.specs.Held.{cell_of, columns, field, fresh, is_text, item, key, line, no_cell, no_field, no_row, row, text_of}
 use Rattle.tbl_layout.specs.Lines.{lines_strokes}
 use Rattle.tbl_layout.specs.Measured.{ended, ended_strokes, has_grown, laid_measured, measured, measured_strokes, opened, part_strokes, table_strokes, told_part_strokes, whole_width}
 use Rattle.tbl_layout.specs.Pens.{bytes_of}
@@ -26,7 +26,7 @@ use Rattle.tbl_laws.proofs.DrawnRows.{CanDraw, drawn, given_width, lines_go_out,
 use Rattle.tbl_laws.proofs.MeasuredColumns.{laid_alike, laid_stands}
 use Rattle.tbl_laws.proofs.PlacedCells.{IsHeld, all_cells, all_length, form_is, given, given_form, row_cells, the_cell}
 use Rattle.tbl_laws.proofs.PlacedTable.{all_have, placed_is, placed_to, row_at, row_owned}
-use Rattle.tbl_laws.proofs.ReadColumns.{AreLetters, based, columns_are, key_is, many, many_length, plain_columns, with_columns}
+use Rattle.tbl_laws.proofs.ReadColumns.{AreLetters, IsLetter, based, columns_are, key_is, many, many_length, plain_columns, with_columns}
 use Rattle.tbl_laws.proofs.Walked.{HasRows, row_kept, rows_on, steps_are, steps_to}
 
 -- what is held of rows in so many columns
@@ -58,7 +58,7 @@ is_held : (w : ℕ) (t : Table) → HeldTable w t → IsHeld (with_columns w w t
 is_held w t h = record {
   some = h.some;
   columns_are = many_length w fresh;
-  letters = λ c less. subst Rattle.tbl_laws.proofs.ReadColumns.IsLetter (sym (key_is w t w c h.few less)) (h.letters c less);
+  letters = λ c less. subst IsLetter (sym (key_is w t w c h.few less)) (h.letters c less);
   texts = h.texts;
   rows = λ r inside. (let k = h.rows r inside in record { line_is = k.line_is; last_own = k.last_own; first = k.first; few = k.few; small = k.small });
   cell_room = h.cell_room;
@@ -83,8 +83,8 @@ cell_shows w t r c h inside less =
     let k = key u (line u 0) c in
     let wide = given_width u (row u r) (given u r c) (λ n within. h.widths r n inside within) in
     let form = given_form u (row u r) (given u r c) h.texts in
-    ap (λ (y : Field). shows y.form (if Rattle.tbl_layout.specs.Held.is_text f.form then cells_of (text_of u f.span) else Some 0)) (form_is k f ((is_held w t h).letters c less))
-    ∙ ap (λ (y : Form). shows y (if Rattle.tbl_layout.specs.Held.is_text y then cells_of (text_of u f.span) else Some 0)) form
+    ap (λ (y : Field). shows y.form (if is_text f.form then cells_of (text_of u f.span) else Some 0)) (form_is k f ((is_held w t h).letters c less))
+    ∙ ap (λ (y : Form). shows y (if is_text y then cells_of (text_of u f.span) else Some 0)) form
     ∙ ap is_given wide.1
 
 row_shows : (w : ℕ) (t : Table) (r c : ℕ) → HeldTable w t → r < length t.rows.items → c ≤ w → all_show (row_cells (with_columns w w t) r c) ≡ true

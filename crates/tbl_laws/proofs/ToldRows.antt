@@ -5,7 +5,7 @@ use Rattle.tbl_reader.specs.declared.field.Mark.TheVariants as marks
 use Rattle.tbl_reader.specs.declared.reader.Limits.{Limits}
 use Rattle.tbl_reader.specs.declared.telling.Tell.{Tell}
 use Rattle.tbl_reader.specs.declared.telling.Tell.TheVariants as tells
-use Rattle.tbl_reader.specs.Pages.{Page, Effect}
+use Rattle.tbl_reader.specs.Pages.{Effect, Page, and_then}
 use Rattle.tbl_reader.specs.Reading.{fed}
 use Rattle.tbl_reader.specs.Telling.{Piece, piece}
 use Rattle.tbl_reader.proofs.Runs.{fed_append}
@@ -30,7 +30,7 @@ rows_tell l tab columns (r ∷ rs) p h same are =
     let e = fed line p in
     let m = rows_tell l tab columns rs e.page t.page (t.limits ∙ same) are.1 in
     let more = fed (text_of_all tab rs) e.page in
-    let all : fed (text_of_all tab (r ∷ rs)) p ≡ Rattle.tbl_reader.specs.Pages.and_then e (fed (text_of_all tab rs)) = fed_append line (text_of_all tab rs) p in
+    let all : fed (text_of_all tab (r ∷ rs)) p ≡ and_then e (fed (text_of_all tab rs)) = fed_append line (text_of_all tab rs) p in
     subst (TellAll tab columns (r ∷ rs) p) (sym all)
     (record {
       page = m.page;

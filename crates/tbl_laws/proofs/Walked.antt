@@ -10,9 +10,10 @@ use Rattle.tbl_layout.specs.declared.table.Step.{Step}
 use Rattle.tbl_layout.specs.declared.table.StepKind.TheVariants as steps
 use Rattle.tbl_layout.specs.declared.table.Table.{Table}
 use Rattle.tbl_layout.specs.Held.{cell_of, item, no_row, plain, row, some_print}
-use Rattle.tbl_layout.specs.Lists.{in_turn}
-use Rattle.tbl_layout.specs.Steps.{Walking, after_row, beyond_stepped, closed_box, closed_double, closed_rule, ends_with_rule, has_beyond, lines_settled, on_line, on_next, on_step, line_of, row_stepped, settled_line, step_at, steps_taken, stepped, walk_begun, walked, walked_at, walked_item, walked_items, walked_line, walked_own_row, walked_row_in, without_steps}
+use Rattle.tbl_layout.specs.Lists.{in_turn, put}
+use Rattle.tbl_layout.specs.Steps.{Walking, after_row, beyond_stepped, closed_box, closed_double, closed_rule, ends_with_rule, has_beyond, line_of, lines_settled, on_line, on_next, on_step, released, row_stepped, settled_line, step_at, stepped, steps_taken, walk_begun, walked, walked_at, walked_item, walked_items, walked_line, walked_own_row, walked_row_in, without_steps}
 use Rattle.tbl_layout.proofs.Turns.{set_same}
+use Rattle.tbl_layout.specs.declared.table.StepKind.{StepKind}
 use Rattle.tbl_laws.proofs.PlacedTable.{same_turn}
 
 -- a table without looks of its own, nothing of which went out
@@ -75,7 +76,7 @@ pub record HasRows (v : Table) : Type 0 where
   pub small : length v.items.items < 18446744073709551615
   pub falls : (n : ℕ) → (cell_of v n).falls ≡ false
 
-one_step : (v : Table) (ss : List Step) (q : List Row) (last : Option ℕ) (next line lines to : ℕ) (kind : Rattle.tbl_layout.specs.declared.table.StepKind.StepKind)
+one_step : (v : Table) (ss : List Step) (q : List Row) (last : Option ℕ) (next line lines to : ℕ) (kind : StepKind)
     → length ss < v.steps.capacity → min (line + lines) 18446744073709551615 ≡ to
     → stepped kind lines (walking_with v ss q last next line) ≡ walking_with v (ss ++ step_at kind line ∷ []) q last next to
 one_step v ss q last next line lines to kind room is =
@@ -120,7 +121,7 @@ walked_is v h =
     let n = length v.items.items in
     let w = walking_to v n in
     ap (λ (x : Walking). closed_double true (closed_box true (closed_rule true x))) (rows_walked v n h (omega arith))
-    ∙ ap (λ (b : Bool). closed_double true (closed_box true (if b then Rattle.tbl_layout.specs.Steps.released w.walk.last w else w))) (no_rule (ends_with_rule w.table))
+    ∙ ap (λ (b : Bool). closed_double true (closed_box true (if b then released w.walk.last w else w))) (no_rule (ends_with_rule w.table))
 
 pub steps_are : (v : Table) → HasRows v → lines_settled (steps_taken true (bare v)) ≡ with_steps v (steps_to (length v.items.items)) (rows_on v (length v.items.items))
 steps_are v h =
@@ -128,4 +129,4 @@ steps_are v h =
     let z = with_steps v (steps_to n) (rows_on v n) in
     ap (λ (w : Walking). lines_settled w.table) (walked_is v h)
     ∙ same_turn (length z.cells.items) settled_line z (λ m less.
-    ap (λ (b : Bool). if b then record z { cells = Rattle.tbl_layout.specs.Lists.put m (on_line (line_of z m (cell_of z m)) (cell_of z m)) z.cells } else z) (h.falls m))
+    ap (λ (b : Bool). if b then record z { cells = put m (on_line (line_of z m (cell_of z m)) (cell_of z m)) z.cells } else z) (h.falls m))
