@@ -122,7 +122,7 @@ fn run_pull<R: Source + Drop, W: Sink>(
     ensures write_faults { TellsWrites result.outcome (W.failures output.old).puts (W.failures output.new).puts }
 {
     let mut places = Places::new();
-    let pulled = pull(input, setup, places.lend(), desk, output);
+    let pulled = pull(input, setup, &mut places, desk, output);
     report_of(told(pulled.outcome), pulled, false)
 }
 

@@ -8,7 +8,7 @@ ghost use Rattle.document_stages.specs.Pulling.{broken_off};
 ghost use Rattle.document_reader.specs.Page.{IsShort, breaks_off, man_of, man_so_far, plain_of, plain_so_far};
 
 use super::setup::Setup;
-use document_reader::{Waits, read_page};
+use document_reader::{Places, read_page};
 use document_stages::{Joined, Lines};
 use nr_engine::{Desk, Outcome, format};
 use nr_units::sink::Sink;
@@ -26,13 +26,10 @@ pub(crate) struct Pulled {
 pub(crate) fn pull<R: Source + Drop, W: Sink>(
     input: R,
     setup: &Setup<'_>,
-    waits: Waits<'_>,
+    places: &mut Places,
     desk: &mut Desk,
     output: &mut W,
 ) -> Pulled
-    requires first { 73984 ≤ length waits.first.now }
-    requires second { 73984 ≤ length waits.second.now }
-    requires blocks { 64 ≤ length waits.blocks.now }
     // What is formatted is the composition of the stages.
     ensures whole { (q : Supply) → R.supply input ≡ Some q → breaks_off q.faults ≡ false →
         IsShort q.bytes (man_of setup.now.stages.mdoc q.bytes) →
@@ -49,7 +46,7 @@ pub(crate) fn pull<R: Source + Drop, W: Sink>(
         result.moves result.outcome (W.held output.old) (W.held output.new) }
     ensures write_faults { W.failures output.new ≡ put_counted_if (is_write_fault result.outcome) (W.failures output.old) }
 {
-    let page = read_page(input, setup.stages, setup.characters, waits);
+    let page = read_page(input, setup.stages, setup.characters, places.lend());
     let mut all = Joined::over(setup.macros, page);
     let mut moves = 0;
     let outcome = format(desk.lend(), setup.options, &mut all, output, &mut moves);
