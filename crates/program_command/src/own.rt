@@ -170,13 +170,13 @@ pub(crate) fn print_beyond<R: Source + Drop, W: Sink>(
 ) -> Result<Report, AllocError> {
     let alloc = means.alloc;
     let mut cells = vec![in alloc; none(); MOST_COUNTED]?;
-    let mut ranked_cells = vec![in alloc; none(); MOST_COUNTED]?;
     let mut slots = vec![in alloc; 0u16; SLOTS]?;
     let mut counts = SliceVec::over(&mut cells);
     look(page.first(), plan, &mut counts, &mut slots);
     if has_all(plan.characters, counts.as_slice()) {
         return print_fixed(page, plan, means, desk, output);
     }
+    let mut ranked_cells = vec![in alloc; none(); counts.len()]?;
     let mut ranked = SliceVec::over(&mut ranked_cells);
     rank(counts.as_slice(), &mut ranked);
     print_own(page, ranked.as_slice(), plan, means, desk, output)
@@ -205,36 +205,42 @@ fn print_own<R: Source + Drop, W: Sink>(
     print_coded(page, &table, plan, means, desk, output)
 }
 
+/// How a page shows that has become the bytes of its own table.
+fn showing_of<'a>(table: &'a Table<'a>, plan: &Plan, means: Means<'a>) -> Showing<'a> {
+    Showing {
+        setup: Setup {
+            macros: means.macros,
+            stages: Stages {
+                mdoc: false,
+                characters: false,
+            },
+            tables: plan.tables,
+            characters: Target::Ascii,
+            options: means.options,
+        },
+        spelling: Spelling::Utf8 {
+            table: PageTable::Own(table),
+            escapes: plan.escapes,
+        },
+    }
+}
+
 /// Prints a page with these characters.
-fn print_coded<R: Source + Drop, W: Sink>(
+fn print_coded<'a, R: Source + Drop, W: Sink>(
     page: R,
-    table: &Table<'_>,
+    table: &'a Table<'a>,
     plan: &Plan,
-    means: Means<'_>,
+    means: Means<'a>,
     desk: &mut Desk,
     output: &mut W,
 ) -> Result<Report, AllocError>
     requires { Good table.now }
 {
     let mut rooms = Rooms::drawn_with(means.alloc, means.limits, plan.cells, signs_of(table))?;
+    let showing = showing_of(table, plan, means);
     let mut places = Places::new();
     let mut third = [0; ROOM];
     let coded = read_own_page(page, plan.stages, table, places.lend(), &mut third);
-    let setup = Setup {
-        macros: means.macros,
-        stages: Stages {
-            mdoc: false,
-            characters: false,
-        },
-        tables: plan.tables,
-        characters: Target::Ascii,
-        options: means.options,
-    };
-    let spelling = Spelling::Utf8 {
-        table: PageTable::Own(table),
-        escapes: plan.escapes,
-    };
-    let showing = Showing { setup, spelling };
-    let (_output, report) = print_page(coded, &showing, plan, &mut rooms, desk, output);
+    let (_output, report) = print_page(coded, &showing, plan, &mut rooms, desk, &mut *output);
     Ok(report)
 }
