@@ -1,6 +1,6 @@
 //! Texts of examples come back, in their own table.
 
-use super::texts::outcome;
+use super::texts::back_of;
 
 /// A text, what is shown of it, how many clusters of one column beyond ASCII and of two it has, and its columns.
 struct Row {
@@ -90,7 +90,7 @@ fn rows() -> &'static [Row] {
 #[test]
 fn examples(rt: HostRuntime) {
     for row in rows() {
-        let outcome = outcome(rt.alloc(), row.text).unwrap();
+        let outcome = back_of(rt.alloc(), row.text).unwrap();
         assert_eq!(rt; outcome.narrow, row.narrow);
         assert_eq!(rt; outcome.wide, row.wide);
         assert_eq!(rt; outcome.told, 0);

@@ -49,7 +49,7 @@ fn code(text: &[u8], table: &Table<'_>, coded: &mut Buffer) -> usize
 }
 
 /// What becomes of a text, of up to 512 different clusters.
-pub fn outcome(alloc: Global, text: &str) -> Result<Outcome, AllocError> {
+pub fn back_of(alloc: Global, text: &str) -> Result<Outcome, AllocError> {
     let none = Cluster::single('\0');
     let blank = Count {
         cluster: none,
