@@ -90,7 +90,10 @@ fn rows() -> &'static [Row] {
 #[test]
 fn examples(rt: HostRuntime) {
     for row in rows() {
-        let outcome = back_of(rt.alloc(), row.text).unwrap();
+        let Ok(outcome) = back_of(rt.alloc(), row.text) else {
+            assert!(rt; false);
+            return;
+        };
         assert_eq!(rt; outcome.narrow, row.narrow);
         assert_eq!(rt; outcome.wide, row.wide);
         assert_eq!(rt; outcome.told, 0);
