@@ -2,7 +2,7 @@
 """Writes what the programs use of the crates of Unicode, over tables of ranges: unicode_width, unicode_normalization, ucd_breaks.
 
 usage: unicode.py KIT
-The widths and classes are those of the kit's own crates in KIT (/opt/rattle/rattle); pairs of letters and marks are Python's.
+The widths and classes are those of the kit's own crates in KIT, the folder of their sources; pairs of letters and marks are Python's.
 """
 import os
 import re
