@@ -1,4 +1,4 @@
-//! Special characters (groff, special characters).
+//! Special characters (groff, special characters; `zb` and `zj` are an addition).
 
 /// A special character.
 #[derive(Clone, Copy)]
@@ -15,6 +15,10 @@ pub enum Special {
     Quote,
     /// `rs`: `\`
     Backslash,
+    /// `zb`: no cell, and a break point.
+    Point,
+    /// `zj`: the same, and the end of a text line after it does not end the word.
+    Joint,
 }
 
 impl Special {
@@ -32,6 +36,8 @@ impl Special {
             (b'a', b'q') => Some(Special::Apostrophe),
             (b'd', b'q') => Some(Special::Quote),
             (b'r', b's') => Some(Special::Backslash),
+            (b'z', b'b') => Some(Special::Point),
+            (b'z', b'j') => Some(Special::Joint),
             _ => None,
         }
     }
@@ -55,7 +61,7 @@ impl Special {
         }
     }
 
-    /// The byte that is printed for it.
+    /// The byte that is printed for it, a blank where it has no cell.
     pub fn byte(self) -> u8
         ensures { result ≡ byte_of self }
     {
@@ -65,16 +71,18 @@ impl Special {
             Special::Apostrophe => b'\'',
             Special::Quote => b'"',
             Special::Backslash => b'\\',
+            Special::Point | Special::Joint => b' ',
         }
     }
 
-    /// How many cells of that byte: two for a dash, one for another.
+    /// How many cells of that byte: two for a dash, none for a break point, one for another.
     pub fn cells(self) -> u32
         ensures value { result ≡ cells_of self }
         ensures most { result ≤ 2 }
     {
         match self {
             Special::Dash => 2,
+            Special::Point | Special::Joint => 0,
             _ => 1,
         }
     }
