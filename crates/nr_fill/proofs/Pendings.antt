@@ -5,13 +5,14 @@ use Rattle.std.proofs.lemmas.List.Sums.{sum_by-take-drop}
 use Rattle.nr_fill.specs.declared.line.WordState.{WordState}
 use Rattle.nr_fill.specs.declared.piece.Behind.{Behind}
 use Rattle.nr_fill.specs.declared.piece.Behind.TheVariants.{Letter, Hyphen, Dash}
+use Rattle.nr_fill.specs.declared.piece.Point.{Point}
 use Rattle.nr_fill.specs.declared.stops.Pending.{Pending}
 use Rattle.nr_fill.specs.declared.stops.Pending.TheVariants.{Nothing, AtPoint, ForStop}
 use Rattle.nr_fill.specs.declared.title.TitleState.{TitleState}
 use Rattle.nr_fill.specs.Cutting.{join_width, piece_width}
 use Rattle.nr_fill.specs.Laid.{Laid, read_cells}
 use Rattle.nr_fill.specs.PieceRow.{cells_needed, IsLine}
-use Rattle.nr_fill.specs.Piece.{Piece, pending_after, pending_soft, pending_without_point, is_for_stop, is_inside}
+use Rattle.nr_fill.specs.Piece.{Piece, pending_after, pending_named, pending_soft, pending_without_point, is_for_stop, is_inside}
 use Rattle.nr_fill.proofs.Lines.{the_word, is_line_word, widths_small}
 
 pub needed_blanks : (p : Pending) (b k n : ℕ) → cells_needed p b k ≤ n → b ≤ k + n
@@ -31,6 +32,14 @@ needed_soft Nothing b k n h = elim (cases_Bool (nat_lt 0 n)) [
 ]
 needed_soft (AtPoint point) b k n h = h
 needed_soft (ForStop f) b k n h = h
+
+pub needed_named : (q : Point) (p : Pending) (b k n : ℕ) → cells_needed p b k ≤ n → cells_needed (pending_named q n p) b k ≤ n
+needed_named q Nothing b k n h = elim (cases_Bool (nat_lt 0 n)) [
+  | inl below ↦ let some = ltb-true 0 n below in rw below (omega arith)
+  | inr above ↦ rw above h
+]
+needed_named q (AtPoint point) b k n h = elim (cases_Bool (nat_lt 0 n)) [ inl below ↦ rw below h | inr above ↦ rw above h ]
+needed_named q (ForStop f) b k n h = h
 
 pub needed_behind : (mark : Behind) (m : ℕ) (p : Pending) (b k n : ℕ) → cells_needed p b k ≤ n → cells_needed (pending_after mark m p) 0 k ≤ n + 1
 needed_behind Letter m (ForStop f) b k n h = omega arith

@@ -116,6 +116,7 @@ cells_of_word w = flat_map (λ (p : Piece). p.cells) w.parts ++ w.last.cells
 abbrev pub join_at : Point → Join
 join_at points.Soft = Soft
 join_at points.Hard = Hard
+join_at points.Joining = Hard
 
 -- a piece ends at a break point
 abbrev pub ended_at : Pending → Word → Word
@@ -147,6 +148,14 @@ abbrev pub pending_soft : ℕ → Pending → Pending
 pending_soft n Nothing = if nat_lt 0 n then AtPoint points.Soft else Nothing
 pending_soft n pending = pending
 
+-- A point by name after one of n cells: of two at one place the later stands. The text for a right or centring stop has none.
+abbrev pub pending_named : Point → ℕ → Pending → Pending
+pending_named p n (ForStop f) = ForStop f
+pending_named p n pending = if nat_lt 0 n then AtPoint p else pending
+
+abbrev pub with_named_point : Point → Word → Word
+with_named_point p w = record w { pending = pending_named p (length w.last.cells) w.pending }
+
 abbrev pub with_soft_point : Word → Word
 with_soft_point w = record w { pending = pending_soft (length w.last.cells) w.pending }
 
@@ -161,6 +170,19 @@ is_for_stop pending = false
 -- `\%` turns the points of `.hw` off
 abbrev pub barred_here : Collected → Collected
 barred_here c = record c { word = option_map with_soft_point c.word; barred = true }
+
+-- a point by name stands here, in the word
+abbrev pub pointed_here : Point → Collected → Collected
+pointed_here p c = record c { word = option_map (with_named_point p) c.word }
+
+abbrev pub is_joint : Pending → Bool
+is_joint (AtPoint points.Joining) = true
+is_joint pending = false
+
+-- the word goes on where a text line ends here
+abbrev pub ends_in_joint : Option Word → Bool
+ends_in_joint None = false
+ends_in_joint (Some w) = is_joint w.pending
 
 -- a place so many cells in is between two of n cells, blanks at their end aside, of a piece that takes break points
 abbrev pub is_inside : ℕ → ℕ → ℕ → Pending → Bool

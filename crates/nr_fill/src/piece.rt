@@ -22,6 +22,8 @@ pub enum Point {
     Soft,
     /// A cut prints nothing here.
     Hard,
+    /// The same, and where a text line ends here the word goes on.
+    Joining,
 }
 
 /// What kind of cell is read: whether a line may be cut after it.
@@ -61,7 +63,7 @@ impl Join {
     {
         match point {
             Point::Soft => Join::Soft,
-            Point::Hard => Join::Hard,
+            Point::Hard | Point::Joining => Join::Hard,
         }
     }
 

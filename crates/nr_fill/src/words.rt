@@ -1,7 +1,7 @@
 // What is read: cells, break points, the ends of words, and gaps. (CSTR 54, sections 4 and 13.)
 ghost use Rattle.std.specs.Prelude.{◌≡◌, ◌+◌, ◌<◌, ◌≤◌, ◌++◌, ◌∷◌, [], None, OnOk, OnErr, false, replicate};
 ghost use Rattle.nr_fill.specs.Line.{afforded};
-ghost use Rattle.nr_fill.specs.Piece.{Word, add_blank, add_cell, add_cell_after, add_cells, after_newline, append, barred_here, end_word, ended, ends_sentence, hyphenated, in_word, is_inside, joined, line_cells, marked, one_blank_more, pending_after, pending_soft, pending_without_point, text_cells, with_blanks_kept, with_word, without_blanks};
+ghost use Rattle.nr_fill.specs.Piece.{Word, add_blank, add_cell, add_cell_after, add_cells, after_newline, append, barred_here, end_word, ended, ends_in_joint, ends_sentence, hyphenated, in_word, is_inside, joined, line_cells, marked, one_blank_more, pending_after, pending_named, pending_soft, pending_without_point, pointed_here, text_cells, with_blanks_kept, with_word, without_blanks};
 ghost use Rattle.nr_fill.specs.Runs.{blanks_behind};
 
 use crate::line::{Line, LineCells, WIDEST_GAP, WordState};
@@ -77,6 +77,16 @@ impl Pending {
             Pending::Nothing if n > 0 => Pending::AtPoint(Point::Soft),
             _ => self,
         }
+    }
+
+    /// What waits after a point by name, where n cells stand before it.
+    fn at(self, point: Point, n: usize) -> Self
+        ensures { result ≡ pending_named point n self }
+    {
+        if matches!(self, Pending::ForStop(_)) || n == 0 {
+            return self;
+        }
+        Pending::AtPoint(point)
     }
 
     /// No break point stands here.
@@ -284,6 +294,28 @@ impl Line {
         };
         let n = self.row.last_len();
         word.pending = word.pending.soft(n);
+    }
+
+    /// Reads a break point by name: it stands after a cell, in the place of one that stands there.
+    pub fn point(&mut self, point: Point)
+        ensures { self.new ≡ record self.old { collected = pointed_here point self.old.collected } }
+    {
+        let Some(word) = &mut self.word else {
+            return;
+        };
+        let n = self.row.last_len();
+        word.pending = word.pending.at(point, n);
+    }
+
+    /// Whether the word goes on where a text line ends here.
+    #[inline]
+    pub fn is_at_joint(&self) -> bool
+        ensures { result ≡ ends_in_joint self.now.collected.word }
+    {
+        match &self.word {
+            Some(word) => matches!(word.pending, Pending::AtPoint(Point::Joining)),
+            None => false,
+        }
     }
 
     /// Makes the word one piece, as `join_word` does, and drops the blanks of the text at its end. Call it where a line
