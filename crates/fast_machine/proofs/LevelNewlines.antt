@@ -94,6 +94,7 @@ module _ (e : Shape) (supply : Option Supply) (held : Option (List ℕ)) (s : St
         task = line.task;
         mode = refl;
         ends = record { filling = ends.filling; word = ends.word; field = ends.field; breaks = ends.breaks; words = ends.words };
+        joint = newline.joint;
         trap = newline.trap;
         underlined = newline.underlined;
         within = newline.within;

@@ -43,9 +43,9 @@ module _ (bs : List ℕ) (f : Formatter) (some : 0 < length bs) (is_newline : sl
   -- it is so whatever was spliced before it
   newline_there : (e : Shape) → unburst e.formatter ≡ unburst f → IsNewline e.formatter
   newline_there e is =
-      let here : IsNewline (unburst f) = record { line = newline.line; plain = newline.plain; trap = newline.trap; underlined = newline.underlined; within = newline.within } in
+      let here : IsNewline (unburst f) = record { line = newline.line; plain = newline.plain; joint = newline.joint; trap = newline.trap; underlined = newline.underlined; within = newline.within } in
       let there = subst IsNewline (sym is) here in
-      record { line = there.line; plain = there.plain; trap = there.trap; underlined = there.underlined; within = there.within }
+      record { line = there.line; plain = there.plain; joint = there.joint; trap = there.trap; underlined = there.underlined; within = there.within }
 
   -- it comes next
   newline_next : (e : Shape) (supply : Option Supply) → HasNext bs e supply → (c : Coming) → HoldsComing c e.place supply → ComeNext (code "\n" ∷ (first_of bs (code "\n") some is_newline).0) c

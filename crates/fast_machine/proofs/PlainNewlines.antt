@@ -4,7 +4,7 @@ use Rattle.std.proofs.Common.{◌≡◌, ℕ, ◌+◌, ◌<◌, ◌≤◌, ◌^�
 use Rattle.std.specs.Prelude.{◌==◌}
 use Rattle.std.proofs.lemmas.Bool.{ne_eqb}
 use Rattle.nr_units.specs.Source.{MayGive, Supply}
-use Rattle.nr_fill.specs.Piece.{line_cells}
+use Rattle.nr_fill.specs.Piece.{ends_in_joint, line_cells}
 use Rattle.nr_reading.specs.Many.InText.{IsInText}
 use Rattle.nr_reading.specs.Many.LineBeginnings.{text_ended}
 use Rattle.nr_reading.specs.Half.{meet}
@@ -104,6 +104,7 @@ pub record IsLineEnd (f : Formatter) : Type 0 where
   pub task : f.task ≡ tasks.Read
   pub mode : f.reader.half.reading.mode ≡ modes.Start
   pub ends : EndsWord f
+  pub joint : ends_in_joint (collected f).word ≡ false
   pub trap : f.input_trap ≡ None
   pub underlined : f.settings.fonts.underlined ≡ 0
   pub within : line_cells (line_gapped (collected f)) ≤ f.line.limit
@@ -127,7 +128,7 @@ module _ (t : State) (chosen : t.chosen ≡ []) (end : IsLineEnd t.formatter) (w
   step_heard : step (told_line t) ≡ plainly line_flows t
   step_heard =
       step-hear (told_line t) events.EndLine chosen end.springs refl
-      ∙ ap (λ f. record t { formatter = f }) (heard-newline (told_line t).formatter ends_told end.mode)
+      ∙ ap (λ f. record t { formatter = f }) (heard-newline (told_line t).formatter ends_told end.joint end.mode)
 
   -- the word ends
   pub hears : Glides (told_line t) 1 (plainly line_flows t)
@@ -184,6 +185,7 @@ line_end s typing newline =
       task = typing.line.task;
       mode = refl;
       ends = record { filling = ends.filling; word = ends.word; field = ends.field; breaks = ends.breaks; words = ends.words };
+      joint = newline.joint;
       trap = newline.trap;
       underlined = newline.underlined;
       within = newline.within;

@@ -399,7 +399,7 @@ longest_taken bs t m f h = record {
     stops = h.words.stops;
     blank = λ below line is gap. h.words.blank below line is (record { plain = gap.plain; within = gap.within });
   };
-  newline = λ below is line. h.newline below is (record { line = line.line; plain = line.plain; trap = line.trap; underlined = line.underlined; within = line.within });
+  newline = λ below is line. h.newline below is (record { line = line.line; plain = line.plain; joint = line.joint; trap = line.trap; underlined = line.underlined; within = line.within });
   begins = λ at out begins. h.begins at out (record { some = begins.some; plain = begins.plain; control = begins.control; room = begins.room });
   font = h.font;
 }

@@ -1,6 +1,6 @@
 -- No call changes the limits, whether it is refused or not.
 use Rattle.std.specs.Prelude.{◌&&◌, not, nat_lt, int_lt, is_none, length}
-use Rattle.std.proofs.Common.{◌≡◌, ℕ, suc, ◌+◌, ◌-◌, Bool, true, false, if◌then◌else◌, List, [], Option, None, Some, ℤ, pos, negsuc, refl, ap}
+use Rattle.std.proofs.Common.{◌≡◌, ℕ, suc, ◌+◌, ◌-◌, Bool, true, false, if◌then◌else◌, List, Option, None, Some, ℤ, pos, negsuc, refl, ap}
 use Rattle.nr_input.specs.Limits as input
 use Rattle.nr_input.specs.declared.reader.Reader.{Reader}
 use Rattle.nr_symbol_tables.specs.Table.{find, is_same}

@@ -2,14 +2,14 @@
 use Rattle.std.proofs.Common.{◌≡◌, ◌-◌, Bool, true, false, ◌&&◌, None, refl, sym, ap, ◌∙◌, arith}
 use Rattle.std.specs.Prelude.{◌==◌, if◌then◌else◌, not, Option}
 use Rattle.std.proofs.lemmas.Bool.{and_parts, eqb-true}
-use Rattle.nr_fill.specs.Piece.{Collected, is_nil}
+use Rattle.nr_fill.specs.Piece.{Collected, ends_in_joint, is_nil}
 use Rattle.nr_reading.specs.declared.event.Event.TheVariants as events
 use Rattle.nr_reading.specs.declared.mode.Mode.TheVariants as modes
 use Rattle.nr_formatter.specs.Access.{collected, is_filling, with_collected}
 use Rattle.nr_formatter.specs.Many.LineEnds.{line_gapped}
 use Rattle.nr_formatter.specs.Lines.{breaks_after, count, count_input, fits_line, flow_line, input_macro, input_trap_after}
 use Rattle.nr_formatter.specs.Moves.{heard}
-use Rattle.nr_formatter.specs.Text.{line_end, word_line_ended}
+use Rattle.nr_formatter.specs.Text.{line_end, text_line_end, word_line_ended}
 use Rattle.nr_formatter.specs.declared.formatter.Formatter.{Formatter}
 use Rattle.nr_formatter.specs.declared.lines.Going.{Going}
 use Rattle.nr_formatter.specs.declared.tasks.After.TheVariants as afters
@@ -33,14 +33,16 @@ line_flows f = record (with_collected (line_gapped (collected f)) f) { event = e
 line_after-is : (f : Formatter) → EndsWord f → line_after (collected f) f ≡ line_flows f
 line_after-is f ends = rw ends.breaks refl
 
-newline_heard : (f : Formatter) → EndsWord f → f.reader.half.reading.mode ≡ modes.Start → heard events.EndLine f ≡ word_line_ended afters.Line f
-unfolding line_end
-newline_heard f ends mode = rw (mode, ends.filling, ends.field) refl
+newline_heard : (f : Formatter) → EndsWord f → ends_in_joint (collected f).word ≡ false → f.reader.half.reading.mode ≡ modes.Start
+    → heard events.EndLine f ≡ word_line_ended afters.Line f
+unfolding line_end text_line_end
+newline_heard f ends joint mode = rw (mode, ends.filling, joint, ends.field) refl
 
 -- it is heard as the word's end
-pub heard-newline : (f : Formatter) → EndsWord f → f.reader.half.reading.mode ≡ modes.Start → heard events.EndLine f ≡ line_flows f
-heard-newline f ends mode =
-    newline_heard f ends mode ∙ ap (λ c. line_after c f) (pointed-plain f ends.filling ends.words) ∙ line_after-is f ends
+pub heard-newline : (f : Formatter) → EndsWord f → ends_in_joint (collected f).word ≡ false → f.reader.half.reading.mode ≡ modes.Start
+    → heard events.EndLine f ≡ line_flows f
+heard-newline f ends joint mode =
+    newline_heard f ends joint mode ∙ ap (λ c. line_after c f) (pointed-plain f ends.filling ends.words) ∙ line_after-is f ends
 
 -- nothing goes out where nothing is full
 pub none_out : (f : Formatter) → is_filling f ≡ true → fits_line (line_gapped (collected f)) ≡ true → flow_line afters.Line false (line_flows f) ≡ None

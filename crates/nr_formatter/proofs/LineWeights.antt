@@ -8,10 +8,11 @@ use Rattle.nr_settings.specs.declared.indents.Margins.{Margins}
 use Rattle.nr_settings.specs.declared.stops.Stop.{Stop}
 use Rattle.nr_fill.specs.declared.piece.Behind.{Behind}
 use Rattle.nr_fill.specs.declared.piece.Behind.TheVariants.{Letter, Hyphen, Dash}
+use Rattle.nr_fill.specs.declared.piece.Point.{Point}
 use Rattle.nr_fill.specs.declared.piece.Point.TheVariants as points
 use Rattle.nr_fill.specs.declared.stops.Pending.{Pending}
 use Rattle.nr_fill.specs.declared.stops.Pending.TheVariants.{Nothing, AtPoint, ForStop}
-use Rattle.nr_fill.specs.Piece.{Word, Collected, word_or_new, with_word, ended_at, ended, pending_after, pending_soft, with_soft_point, pending_without_point, add_cell_after, add_cell, add_blank, add_cells, marked, barred_here, joined_at, shortened, without_blanks, reads_field, append, word_length}
+use Rattle.nr_fill.specs.Piece.{Word, Collected, word_or_new, with_word, ended_at, ended, pending_after, pending_named, with_named_point, pending_soft, with_soft_point, pending_without_point, add_cell_after, add_cell, add_blank, add_cells, marked, pointed_here, barred_here, joined_at, shortened, without_blanks, reads_field, append, word_length}
 use Rattle.nr_fill.specs.Tabs.{to_stop, tabbed, first_beyond, column, is_aligned, filled_by, with_field_filled}
 use Rattle.nr_fill.specs.Setting.{behind}
 use Rattle.nr_formatter.specs.Weights.{weight_of_pending, weight_of_word, weight_of_line}
@@ -37,6 +38,11 @@ weight-pending_soft n Nothing = weight-pending_if (nat_lt 0 n) (AtPoint points.S
 weight-pending_soft n (AtPoint q) = omega arith
 weight-pending_soft n (ForStop f) = omega arith
 
+weight-pending_named : (q : Point) (n : ℕ) (p : Pending) → weight_of_pending (pending_named q n p) ≤ weight_of_pending p
+weight-pending_named q n Nothing = weight-pending_if (nat_lt 0 n) (AtPoint q) 0 refl
+weight-pending_named q n (AtPoint r) = cond_both (nat_lt 0 n) (AtPoint q) (AtPoint r) (λ p. weight_of_pending p ≤ 0) (λ _. omega arith) (λ _. omega arith)
+weight-pending_named q n (ForStop f) = omega arith
+
 weight-pending_without_point : (p : Pending) → weight_of_pending (pending_without_point p) ≤ weight_of_pending p
 weight-pending_without_point Nothing = omega arith
 weight-pending_without_point (AtPoint q) = omega arith
@@ -59,6 +65,10 @@ weight-add_cell_after behind x w = omega (arith, weight-pending_after behind (wo
 weight-with_soft_point : (o : Option Word) → weight_of_word (option_map with_soft_point o) ≤ weight_of_word o
 weight-with_soft_point None = omega arith
 weight-with_soft_point (Some w) = omega (arith, weight-pending_soft (length w.last.cells) w.pending)
+
+weight-with_named_point : (q : Point) (o : Option Word) → weight_of_word (option_map (with_named_point q) o) ≤ weight_of_word o
+weight-with_named_point q None = omega arith
+weight-with_named_point q (Some w) = omega (arith, weight-pending_named q (length w.last.cells) w.pending)
 
 -- ---- what is read
 
@@ -90,6 +100,9 @@ weight-tabbed m stops aligned fill c = weight-to_stop m aligned fill c (first_be
 
 pub weight-barred_here : (c : Collected) → weight_of_line (barred_here c) ≤ weight_of_line c
 weight-barred_here c = omega (arith, weight-with_soft_point c.word)
+
+pub weight-pointed_here : (q : Point) (c : Collected) → weight_of_line (pointed_here q c) ≤ weight_of_line c
+weight-pointed_here q c = omega (arith, weight-with_named_point q c.word)
 
 -- ---- a line that is not filled ends
 

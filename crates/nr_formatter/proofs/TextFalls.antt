@@ -5,6 +5,8 @@ use Rattle.std.proofs.lemmas.Bool.{cond_both}
 use Rattle.nr_vectors.specs.declared.cell.Cell.{Cell}
 use Rattle.nr_fill.specs.declared.piece.Behind.{Behind}
 use Rattle.nr_fill.specs.declared.piece.Behind.TheVariants.{Letter, Hyphen, Dash}
+use Rattle.nr_fill.specs.declared.piece.Point.{Point}
+use Rattle.nr_fill.specs.declared.piece.Point.TheVariants as points
 use Rattle.nr_fill.specs.Piece.{Collected, with_title_cell}
 use Rattle.nr_settings.specs.Characters.{prints}
 use Rattle.nr_settings.specs.declared.specials.Special.{Special}
@@ -20,11 +22,11 @@ use Rattle.nr_formatter.specs.Access.{collected, is_filling, asked, cell, margin
 use Rattle.nr_formatter.specs.Lines.{reads_a_field, field_ended}
 use Rattle.nr_formatter.specs.Motions.{motion_cells, rule_cells}
 use Rattle.nr_formatter.specs.Moves.{is_text}
-use Rattle.nr_formatter.specs.Text.{put, after_of, blank_cell, has_word, gap_blank, blank, tab, text_byte, dash, dash_end, special_at, special, cells, mark, percent, break_word, blanks_dropped, word_line_ended, trimmed_end, line_end, text}
+use Rattle.nr_formatter.specs.Text.{put, after_of, blank_cell, has_word, gap_blank, blank, tab, text_byte, dash, dash_end, break_point, special_at, special, cells, mark, percent, break_word, blanks_dropped, word_line_ended, trimmed_end, line_end, joins_lines, text_line_end, text}
 use Rattle.nr_formatter.specs.Titles.{with_title_cells, titled, title_byte, printed, title_special, title_dash_end, title}
 use Rattle.nr_formatter.specs.Weights.{weight_of_line, weight_of_event, weight_of_agenda, weight_of_task, owed_by_task, Falls}
 use Rattle.nr_formatter.proofs.WorkFalls.{falls-work, falls-behind, falls-heard_for, falls-heard}
-use Rattle.nr_formatter.proofs.LineWeights.{weight-add_cell, weight-add_blank, weight-add_cells, weight-marked, weight-tabbed, weight-barred_here, weight-without_blanks, weight-with_field_filled}
+use Rattle.nr_formatter.proofs.LineWeights.{weight-add_cell, weight-add_blank, weight-add_cells, weight-marked, weight-tabbed, weight-pointed_here, weight-barred_here, weight-without_blanks, weight-with_field_filled}
 use Rattle.nr_formatter.proofs.WordEnds.{weight-word_ended}
 
 -- ---- cells
@@ -46,6 +48,9 @@ falls-mark f is = falls-heard 170 f (mark f) refl (omega arith) refl refl refl r
 
 falls-percent : (f : Formatter) → 1 ≤ weight_of_event f.event → Falls 1 0 f (percent f)
 falls-percent f is = falls-heard 0 f (percent f) refl is refl refl refl refl (omega (arith, weight-barred_here (collected f)))
+
+falls-break_point : (p : Point) (f : Formatter) → 1 ≤ weight_of_event f.event → Falls 1 0 f (break_point p f)
+falls-break_point p f is = falls-heard 0 f (break_point p f) refl is refl refl refl refl (omega (arith, weight-pointed_here p (collected f)))
 
 falls-break_word : (f : Formatter) → 1 ≤ weight_of_event f.event → Falls 1 0 f (break_word f)
 falls-break_word f is = falls-heard 0 f (break_word f) refl is refl refl refl refl (omega arith)
@@ -91,6 +96,8 @@ falls-special_at : (s : Option Special) (f : Formatter) → 366 ≤ weight_of_ev
 falls-special_at None f is = falls-done f (omega arith)
 falls-special_at (Some specials.Hyphen) f is = falls-put (cell (code "-") f) Hyphen f (omega arith)
 falls-special_at (Some specials.Dash) f is = falls-dash f is
+falls-special_at (Some specials.Point) f is = falls-break_point points.Hard f (omega arith)
+falls-special_at (Some specials.Joint) f is = falls-break_point points.Joining f (omega arith)
 falls-special_at (Some s) f is = falls-put (cell (byte_of s) f) Letter f (omega arith)
 
 falls-special : (f : Formatter) → 366 ≤ weight_of_event f.event → Falls 1 0 f (special f)
@@ -118,6 +125,10 @@ unfolding line_end
 falls-line_end after f is =
     falls-behind 1 0 f (blanks_dropped f) _ (falls-blanks_dropped f) (falls-trimmed_end after (blanks_dropped f) (omega (arith, ap weight_of_event (event-blanks_dropped f))))
 
+falls-text_line_end : (f : Formatter) → 18 ≤ weight_of_event f.event → Falls 1 0 f (text_line_end f)
+unfolding text_line_end
+falls-text_line_end f is = cond_both (joins_lines f) _ _ (λ g. Falls 1 0 f g) (λ _. falls-done f (omega arith)) (λ _. falls-line_end afters.Line f is)
+
 -- ---- all that a text line may have
 
 -- what is text leaves a move at least
@@ -140,7 +151,7 @@ falls-text events.Leader f heard is = falls-tab f.settings.tabs.leader f (rw hea
 falls-text events.Special f heard is = falls-special f (rw heard (omega arith))
 falls-text events.Horizontal f heard is = falls-cells (code " ") (motion_cells f) f (rw heard (omega arith))
 falls-text events.Rule f heard is = falls-cells (rule_cells f).byte (rule_cells f).cells f (rw heard (omega arith))
-falls-text events.EndLine f heard is = falls-line_end afters.Line f (rw heard (omega arith))
+falls-text events.EndLine f heard is = falls-text_line_end f (rw heard (omega arith))
 falls-text events.EndContinued f heard is = falls-line_end afters.Continued f (rw heard (omega arith))
 falls-text events.Zero f heard is = falls-mark f (rw heard (omega arith))
 falls-text events.Percent f heard is = falls-percent f (rw heard (omega arith))
@@ -159,6 +170,8 @@ falls-titled xs f is = falls-heard 0 f (titled xs f) refl is refl refl refl refl
 falls-title_special : (s : Option Special) (f : Formatter) → 366 ≤ weight_of_event f.event → Falls 1 0 f (title_special s f)
 falls-title_special None f is = falls-done f (omega arith)
 falls-title_special (Some specials.Dash) f is = falls-heard_for 190 0 f _ refl (omega arith) refl refl (omega arith) (omega arith) (omega arith)
+falls-title_special (Some specials.Point) f is = falls-done f (omega arith)
+falls-title_special (Some specials.Joint) f is = falls-done f (omega arith)
 falls-title_special (Some s) f is = falls-titled (cell (byte_of s) f ∷ []) f (omega arith)
 
 pub falls-title : (e : Event) (f : Formatter) → f.event ≡ e → is_text e ≡ true → Falls 1 0 f (title e f)

@@ -17,7 +17,7 @@ use Rattle.nr_formatter.specs.declared.tasks.Resume.{Resume}
 use Rattle.nr_input.specs.declared.reader.Reader.{Reader}
 use Rattle.nr_formatter.specs.Access.{is_filling, asked}
 use Rattle.nr_formatter.specs.Lines.{reads_a_field}
-use Rattle.nr_formatter.specs.Text.{blank, tab, text_byte, special_at, special, blanks_dropped, line_end, text}
+use Rattle.nr_formatter.specs.Text.{blank, tab, text_byte, special_at, special, blanks_dropped, line_end, joins_lines, text_line_end, text}
 use Rattle.nr_formatter.specs.Limits.{IsWithin, judged}
 use Rattle.nr_formatter.specs.Passed.{line_answer}
 use Rattle.nr_formatter.specs.Titles.{title_special, title}
@@ -51,6 +51,8 @@ keeps-special_at : (s : Option Special) (f : Formatter) → Keeps f (special_at 
 keeps-special_at None f = record { store = refl; reader = refl; limit = refl }
 keeps-special_at (Some specials.Hyphen) f = record { store = refl; reader = refl; limit = refl }
 keeps-special_at (Some specials.Dash) f = record { store = refl; reader = refl; limit = refl }
+keeps-special_at (Some specials.Point) f = record { store = refl; reader = refl; limit = refl }
+keeps-special_at (Some specials.Joint) f = record { store = refl; reader = refl; limit = refl }
 keeps-special_at (Some s) f = record { store = refl; reader = refl; limit = refl }
 
 keeps-special : (f : Formatter) → Keeps f (special f)
@@ -66,18 +68,24 @@ keeps-line_end after f =
     let g = blanks_dropped f in
     keeps-along f g _ (keeps-if (not (is_filling f)) f _ _ (record { store = refl; reader = refl; limit = refl }) (record { store = refl; reader = refl; limit = refl })) (keeps-if (reads_a_field g) g _ _ (record { store = refl; reader = refl; limit = refl }) (record { store = refl; reader = refl; limit = refl }))
 
+keeps-text_line_end : (f : Formatter) → Keeps f (text_line_end f)
+unfolding text_line_end
+keeps-text_line_end f = keeps-if (joins_lines f) f _ _ (record { store = refl; reader = refl; limit = refl }) (keeps-line_end afters.Line f)
+
 pub keeps-text : (e : Event) (f : Formatter) → Keeps f (text e f)
 keeps-text (events.Byte b) f = keeps-text_byte b f
 keeps-text events.Tab f = keeps-tab f.settings.tabs.tab f
 keeps-text events.Leader f = keeps-tab f.settings.tabs.leader f
 keeps-text events.Special f = keeps-special f
-keeps-text events.EndLine f = keeps-line_end afters.Line f
+keeps-text events.EndLine f = keeps-text_line_end f
 keeps-text events.EndContinued f = keeps-line_end afters.Continued f
 keeps-text e f = record { store = refl; reader = refl; limit = refl }
 
 keeps-title_special : (s : Option Special) (f : Formatter) → Keeps f (title_special s f)
 keeps-title_special None f = record { store = refl; reader = refl; limit = refl }
 keeps-title_special (Some specials.Dash) f = record { store = refl; reader = refl; limit = refl }
+keeps-title_special (Some specials.Point) f = record { store = refl; reader = refl; limit = refl }
+keeps-title_special (Some specials.Joint) f = record { store = refl; reader = refl; limit = refl }
 keeps-title_special (Some s) f = record { store = refl; reader = refl; limit = refl }
 
 pub keeps-title : (e : Event) (f : Formatter) → Keeps f (title e f)

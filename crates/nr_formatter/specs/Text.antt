@@ -1,10 +1,12 @@
 -- What is read of a text line goes into the collected line. (CSTR 54, sections 4, 9, 10, 11 and 13.)
 use Prim.Native.Char.{code}
-use Rattle.std.specs.Prelude.{ℕ, Bool, not, ◌||◌, ◌==◌, if◌then◌else◌, Option, None, Some, is_none, unwrap_or}
+use Rattle.std.specs.Prelude.{ℕ, Bool, not, ◌&&◌, ◌||◌, ◌==◌, if◌then◌else◌, Option, None, Some, is_none, unwrap_or}
 use Rattle.nr_vectors.specs.declared.cell.Cell.{Cell}
 use Rattle.nr_fill.specs.declared.piece.Behind.{Behind}
 use Rattle.nr_fill.specs.declared.piece.Behind.TheVariants.{Letter, Hyphen, Dash}
-use Rattle.nr_fill.specs.Piece.{Collected, begins_line, add_cell, add_cells, add_blank, marked, barred_here, one_blank_more, after_newline, without_blanks}
+use Rattle.nr_fill.specs.declared.piece.Point.{Point}
+use Rattle.nr_fill.specs.declared.piece.Point.TheVariants as points
+use Rattle.nr_fill.specs.Piece.{Collected, begins_line, add_cell, add_cells, add_blank, marked, barred_here, pointed_here, ends_in_joint, one_blank_more, after_newline, without_blanks}
 use Rattle.nr_fill.specs.Tabs.{tabbed}
 use Rattle.nr_settings.specs.Indents.{after_line_begun}
 use Rattle.nr_settings.specs.Characters.{prints}
@@ -107,11 +109,17 @@ dash_end f = record (put (cell (code "-") f) Dash f) { task = tasks.Read }
 abbrev pub finish_dash : Formatter → Formatter
 finish_dash f = if reads_title f then title_dash_end f else dash_end f
 
+-- `\(zb`, `\(zj`: a break point
+abbrev pub break_point : Point → Formatter → Formatter
+break_point p f = done (with_collected (pointed_here p (collected f)) f)
+
 -- `\(hy`, `\(em` and their kin; any other name prints nothing
 abbrev pub special_at : Option Special → Formatter → Formatter
 special_at None f = done f
 special_at (Some specials.Hyphen) f = hyphen f
 special_at (Some specials.Dash) f = dash f
+special_at (Some specials.Point) f = break_point points.Hard f
+special_at (Some specials.Joint) f = break_point points.Joining f
 special_at (Some s) f = letter (byte_of s) f
 
 unfoldable pub special : Formatter → Formatter
@@ -162,6 +170,15 @@ trimmed_end after f = if reads_a_field f then field_ended f else word_line_ended
 unfoldable pub line_end : After → Formatter → Formatter
 line_end after f = trimmed_end after (blanks_dropped f)
 
+-- The word goes on over the end of a text line that is filled where it ends in `\(zj`, unless `.it` or `.ul` counts the line.
+abbrev pub joins_lines : Formatter → Bool
+joins_lines f =
+    (is_filling f && ends_in_joint (collected f).word)
+    && (is_none f.input_trap && f.settings.fonts.underlined == 0)
+
+unfoldable pub text_line_end : Formatter → Formatter
+text_line_end f = if joins_lines f then done f else line_end afters.Line f
+
 -- ---- all that a text line may have
 
 -- what is no cell, and ends no word
@@ -183,6 +200,6 @@ text events.Leader f = tab f.settings.tabs.leader f
 text events.Special f = special f
 text events.Horizontal f = horizontal f
 text events.Rule f = ruled f
-text events.EndLine f = line_end afters.Line f
+text events.EndLine f = text_line_end f
 text events.EndContinued f = line_end afters.Continued f
 text e f = text_sign e f

@@ -60,10 +60,12 @@ abbrev pub title_byte : ℕ → Formatter → List Cell
 title_byte b f =
     if is_number_character b f.settings.pages.number_character then page_number f else printed b f
 
--- `\(hy`, `\(em` and their kin; any other name prints nothing. The second cell of a dash follows.
+-- `\(hy`, `\(em` and their kin; any other name prints nothing, and so does a break point. The second cell of a dash follows.
 abbrev pub title_special : Option Special → Formatter → Formatter
 title_special None f = done f
 title_special (Some specials.Dash) f = record (titled (cell (code "-") f ∷ []) f) { task = tasks.Dash }
+title_special (Some specials.Point) f = done f
+title_special (Some specials.Joint) f = done f
 title_special (Some s) f = titled (cell (byte_of s) f ∷ []) f
 
 abbrev pub title_dash_end : Formatter → Formatter

@@ -3,14 +3,14 @@ ghost use Rattle.std.specs.Prelude.{◌≡◌, OnOk};
 ghost use Rattle.nr_fill.specs.Line.{afforded};
 ghost use Rattle.nr_formatter.specs.Access.{margins};
 ghost use Rattle.nr_formatter.specs.Limits.{IsWithin, limits_of};
-ghost use Rattle.nr_formatter.specs.Text.{line_begun, put, character, letter, blank_cell, gap_blank, blank, tab, text_byte, dash, dash_end, finish_dash, hyphen, special, cells, horizontal, ruled, mark, percent, break_word, line_end, text_sign, text};
+ghost use Rattle.nr_formatter.specs.Text.{line_begun, put, character, letter, blank_cell, gap_blank, blank, tab, text_byte, dash, dash_end, finish_dash, hyphen, special, break_point, joins_lines, text_line_end, cells, horizontal, ruled, mark, percent, break_word, line_end, text_sign, text};
 ghost use Rattle.nr_formatter.specs.Weights.{Falls};
 
 use crate::formatter::Formatter;
 use crate::tasks::{After, Task};
 use nr_fill::line::LineCells;
 use nr_fill::margins::Margins;
-use nr_fill::piece::Behind;
+use nr_fill::piece::{Behind, Point};
 use nr_input::Event;
 use nr_settings::{Special, prints};
 use nr_vectors::cell::Cell;
@@ -181,6 +181,14 @@ impl Formatter {
         Ok(())
     }
 
+    /// `\(zb`, `\(zj`: a break point, at which a cut prints nothing.
+    fn break_point(&mut self, point: Point)
+        ensures { self.new ≡ break_point point self.old }
+    {
+        self.line.point(point);
+        self.event = Event::Nothing;
+    }
+
     /// `\(hy`, `\(em` and their kin.
     #[tactic(auto, unfolding(crate::specs::Text::special))]
     fn special(&mut self) -> Result<(), LineCells>
@@ -195,6 +203,14 @@ impl Formatter {
             }
             Some(Special::Hyphen) => self.hyphen(),
             Some(Special::Dash) => self.dash(),
+            Some(Special::Point) => {
+                self.break_point(Point::Hard);
+                Ok(())
+            }
+            Some(Special::Joint) => {
+                self.break_point(Point::Joining);
+                Ok(())
+            }
             Some(special) => self.letter(special.byte()),
         }
     }
@@ -257,7 +273,7 @@ impl Formatter {
         self.event = Event::Nothing;
     }
 
-    /// A text line ends, and with it its word. Lines go out then.
+    /// The word of a text line ends. Lines go out then.
     #[tactic(auto, unfolding(crate::specs::Text::line_end))]
     fn line_end(&mut self, after: After) -> Result<(), LineCells>
         ensures result { result ≡ afforded (line_end after self.old).line }
@@ -276,6 +292,30 @@ impl Formatter {
         self.event = Event::Nothing;
         self.task = Task::Flow(after, breaks);
         Ok(())
+    }
+
+    /// Whether the word goes on over the end of a text line: it ends in `\(zj`, in a line that is filled and that neither
+    /// `.it` nor `.ul` counts.
+    fn joins_lines(&self) -> bool
+        ensures { result ≡ joins_lines self.now }
+    {
+        self.settings.filling.is_filling()
+            && self.line.is_at_joint()
+            && (self.input_trap.is_none() && self.settings.fonts.underlined == 0)
+    }
+
+    /// A text line ends, and with it its word, unless that goes on.
+    #[tactic(auto, unfolding(crate::specs::Text::text_line_end))]
+    fn text_line_end(&mut self) -> Result<(), LineCells>
+        ensures result { IsWithin self.old → result ≡ afforded (text_line_end self.old).line }
+        ensures ok { OnOk result (self.new ≡ text_line_end self.old) }
+        ensures limits { limits_of self.new ≡ limits_of self.old }
+    {
+        if self.joins_lines() {
+            self.event = Event::Nothing;
+            return Ok(());
+        }
+        self.line_end(After::Line)
     }
 
     /// What was read of a text line, where it is no cell and ends no word.
@@ -307,7 +347,7 @@ impl Formatter {
             Event::Special => self.special(),
             Event::Horizontal => self.horizontal(),
             Event::Rule => self.rule(),
-            Event::EndLine => self.line_end(After::Line),
+            Event::EndLine => self.text_line_end(),
             Event::EndContinued => self.line_end(After::Continued),
             _ => {
                 self.text_sign(event);

@@ -162,6 +162,10 @@ impl Formatter {
                 self.task = Task::Dash;
                 Ok(())
             }
+            Some(Special::Point | Special::Joint) => {
+                self.event = Event::Nothing;
+                Ok(())
+            }
             Some(special) => self.title_letter(special.byte()),
         }
     }

@@ -1,6 +1,6 @@
 -- The end of a text line of which lines are filled.
 use Rattle.std.specs.Prelude.{◌≡◌, ◌≤◌, true, false, None}
-use Rattle.nr_fill.specs.Piece.{Collected, after_newline, end_word, line_cells}
+use Rattle.nr_fill.specs.Piece.{Collected, after_newline, end_word, ends_in_joint, line_cells}
 use Rattle.nr_reading.specs.Many.LineBeginnings.{text_ended}
 use Rattle.nr_input.specs.Acting.{on_half}
 use Rattle.nr_formatter.specs.Access.{collected, with_collected}
@@ -24,11 +24,12 @@ newline_put f = record (with_collected (line_gapped (collected f)) f) { reader =
 abbrev pub newline_flows : Formatter → Formatter
 newline_flows f = record (newline_put f) { task = tasks.Flow afters.Line false }
 
--- A newline ends a text line that has begun, and does nothing but end its word and widen the gap: it is so with a blank there, no
--- trap counts the line, and no line is to be underlined. It passes no limit.
+-- A newline ends a text line that has begun, and does nothing but end its word and widen the gap: it is so with a blank there, the
+-- word does not go on, no trap counts the line, and no line is to be underlined. It passes no limit.
 pub record IsNewline (f : Formatter) : Type 0 where
   pub line : is_in_line f ≡ true
   pub plain : gaps_plainly f ≡ true
+  pub joint : ends_in_joint (collected f).word ≡ false
   pub trap : f.input_trap ≡ None
   pub underlined : f.settings.fonts.underlined ≡ 0
   pub within : line_cells (line_gapped (collected f)) ≤ f.line.limit

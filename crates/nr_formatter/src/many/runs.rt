@@ -128,6 +128,7 @@ impl Formatter {
     {
         if !self.is_in_line()
             || !self.gaps_plainly()
+            || self.line.is_at_joint()
             || self.input_trap.is_some()
             || self.settings.fonts.underlined > 0
         {
