@@ -49,7 +49,7 @@ use Rattle.nr_formatter.specs.declared.tasks.Step.{Step}
 use Rattle.nr_formatter.specs.declared.tasks.Step.TheVariants as steps
 use Rattle.nr_formatter.specs.declared.tasks.Task.{Task}
 use Rattle.nr_formatter.specs.declared.tasks.Task.TheVariants as tasks
-use Rattle.nr_formatter.specs.Access.{line, long, spacing, diversion, is_filling, asked}
+use Rattle.nr_formatter.specs.Access.{line, long, spacing, diversion, is_filling, asked, done}
 use Rattle.nr_formatter.specs.Conditions as conditions
 use Rattle.nr_formatter.specs.Diversions as diversions
 use Rattle.nr_formatter.specs.Ending as ending
@@ -154,12 +154,17 @@ module _ (b : Bounds) where
   unfolding texts.line_end
   line_end-under after f = ap (λ g. texts.trimmed_end after g) (blanks_dropped-under f) ∙ trimmed_end-under after (texts.blanks_dropped f)
 
+  text_line_end-under : (f : Formatter) → texts.text_line_end (under b f) ≡ under b (texts.text_line_end f)
+  unfolding texts.text_line_end
+  text_line_end-under f =
+      either (texts.joins_lines f) (done f) (texts.line_end afters.Line f) (done (under b f)) (texts.line_end afters.Line (under b f)) refl (line_end-under afters.Line f)
+
   text-under : (e : Event) (f : Formatter) → texts.text e (under b f) ≡ under b (texts.text e f)
   text-under (events.Byte x) f = text_byte-under x f
   text-under events.Tab f = tab-under f.settings.tabs.tab f
   text-under events.Leader f = tab-under f.settings.tabs.leader f
   text-under events.Special f = special-under f
-  text-under events.EndLine f = line_end-under afters.Line f
+  text-under events.EndLine f = text_line_end-under f
   text-under events.EndContinued f = line_end-under afters.Continued f
   text-under e f = refl
 

@@ -60,7 +60,7 @@ use Rattle.nr_formatter.specs.declared.tasks.Step.TheVariants as steps
 use Rattle.nr_formatter.specs.declared.tasks.Task.{Task}
 use Rattle.nr_formatter.specs.declared.tasks.Task.TheVariants as tasks
 use Rattle.nr_formatter.specs.declared.tasks.Then.{Then}
-use Rattle.nr_formatter.specs.Access.{line, long, spacing, diversion, is_filling, asked, collected}
+use Rattle.nr_formatter.specs.Access.{line, long, spacing, diversion, is_filling, asked, collected, done}
 use Rattle.nr_formatter.specs.Diversions as diversions
 use Rattle.nr_formatter.specs.Ending as ending
 use Rattle.nr_formatter.specs.BuiltIn.{given_named}
@@ -140,12 +140,16 @@ line_end : (after : After) (f : Formatter) → HasHeight f → HasHeight (texts.
 unfolding texts.line_end
 line_end after f h = trimmed after (texts.blanks_dropped f) (either (not (is_filling f)) _ f h h)
 
+text_line_end : (f : Formatter) → HasHeight f → HasHeight (texts.text_line_end f)
+unfolding texts.text_line_end
+text_line_end f h = either (texts.joins_lines f) (done f) _ h (line_end afters.Line f h)
+
 text : (e : Event) (f : Formatter) → HasHeight f → HasHeight (texts.text e f)
 text (events.Byte b) f h = text_byte b f h
 text events.Tab f h = tab f.settings.tabs.tab f h
 text events.Leader f h = tab f.settings.tabs.leader f h
 text events.Special f h = special f h
-text events.EndLine f h = line_end afters.Line f h
+text events.EndLine f h = text_line_end f h
 text events.EndContinued f h = line_end afters.Continued f h
 text e f h = h
 

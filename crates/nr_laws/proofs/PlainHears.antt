@@ -6,7 +6,7 @@ use Rattle.std.proofs.Common.{◌≡◌, ℕ, ◌≤◌, Bool, true, false, if�
 use Rattle.nr_fill.specs.declared.stops.Pending.{Pending}
 use Rattle.nr_fill.specs.declared.stops.Pending.TheVariants as pendings
 use Rattle.nr_fill.specs.declared.piece.Point.TheVariants as points
-use Rattle.nr_fill.specs.Piece.{Collected, Word, begins_line, is_for_stop, reads_field, may_hyphenate, word_pieces, add_cell, add_blank, end_word, one_blank_more, after_newline}
+use Rattle.nr_fill.specs.Piece.{Collected, Word, begins_line, ends_in_joint, is_joint, is_for_stop, reads_field, may_hyphenate, word_pieces, add_cell, add_blank, end_word, one_blank_more, after_newline}
 use Rattle.nr_settings.specs.Characters.{prints}
 use Rattle.nr_settings.specs.Indents.{margins_of, first_indents}
 use Rattle.nr_settings.specs.declared.indents.Indents.{Indents}
@@ -21,7 +21,7 @@ use Rattle.nr_formatter.specs.declared.tasks.Step.TheVariants as steps
 use Rattle.nr_formatter.specs.declared.tasks.Task.{Task}
 use Rattle.nr_formatter.specs.declared.tasks.Task.TheVariants as tasks
 use Rattle.nr_formatter.specs.declared.tasks.Then.TheVariants as thens
-use Rattle.nr_formatter.specs.Access.{collected}
+use Rattle.nr_formatter.specs.Access.{collected, done}
 use Rattle.nr_formatter.specs.Lines as lines
 use Rattle.nr_formatter.specs.Places.{is_open}
 use Rattle.nr_formatter.specs.Text as texts
@@ -52,7 +52,20 @@ no_field (Some w) clean = by w.pending clean.pending
     by pendings.Nothing h = refl
     by (pendings.AtPoint points.Hard) h = refl
     by (pendings.AtPoint points.Soft) h = absurd h
+    by (pendings.AtPoint points.Joining) h = absurd h
     by (pendings.ForStop f) h = absurd h
+
+-- and no word goes on over the end of a line
+no_joint : (w : Option Word) → CleanWords w → ends_in_joint w ≡ false
+no_joint None clean = refl
+no_joint (Some w) clean = by w.pending clean.pending
+  where
+    by : (p : Pending) → IsPlainPending p → is_joint p ≡ false
+    by pendings.Nothing h = refl
+    by (pendings.AtPoint points.Hard) h = refl
+    by (pendings.AtPoint points.Soft) h = refl
+    by (pendings.AtPoint points.Joining) h = absurd h
+    by (pendings.ForStop f) h = refl
 
 -- where the line, the word or the gap changes, and no ink
 abbrev around : State → List ℕ → List ℕ
@@ -204,13 +217,14 @@ module _ (s : State) (o : OrderlyIn tasks.Read steps.NotYet s) where
       (λ r p. record { reads = record { goes = goes_by some; bytes = r.bytes; inside = λ begins. never_here begins }; prints = let w = word_printed p in record { rows = w.rows; down = w.down; few = w.few; begun = w.begun; measure = w.measure }; same = refl })
 
   pub end_hears : (bs : List ℕ) (i : Bool) → is_plain_from true bs ≡ true → Keeps (told modes.Start dues.Look events.EndLine bs i) (step (told modes.Start dues.Look events.EndLine bs i))
-  unfolding step texts.line_end
+  unfolding step texts.line_end texts.text_line_end
   end_hears bs i plain =
       let x = told modes.Start dues.Look events.EndLine bs i in
       let f = x.formatter in
       let task = tasks.Flow afters.Line false in
       let leads : step x ≡ with_line (after_newline (end_word c)) task x =
-      ap (λ (g : Formatter). record x { formatter = g }) (if-false (lines.reads_a_field f) (lines.field_ended f) (texts.word_line_ended afters.Line f) (no_field c.word o.clean.word))
+      ap (λ (g : Formatter). record x { formatter = g }) (if-false (texts.joins_lines f) (done f) _ (rw (no_joint c.word o.clean.word) refl)
+      ∙ if-false (lines.reads_a_field f) (lines.field_ended f) (texts.word_line_ended afters.Line f) (no_field c.word o.clean.word))
       ∙ ap (λ k. with_line (after_newline (end_word k)) task x) (pointed_is modes.Start dues.Look events.EndLine bs i) in
       keeps x (step x) (with_line (after_newline (end_word c)) task x) modes.Start dues.Look events.Nothing task steps.NotYet bs i leads refl (FlowsLine plain)
       (record { clean = newline_clean; ascends = o.ascends; above = o.above; shut = o.shut; drained = tt; closed = tt }) (ap (λ z. around s (z ++ ([] ++ squeezed bs))) (end_word-ink s.faces c))

@@ -55,6 +55,7 @@ abbrev pub IsPlainPending : Pending → Type 0
 IsPlainPending pendings.Nothing = Unit {0}
 IsPlainPending (pendings.AtPoint points.Hard) = Unit {0}
 IsPlainPending (pendings.AtPoint points.Soft) = ⊥
+IsPlainPending (pendings.AtPoint points.Joining) = ⊥
 IsPlainPending (pendings.ForStop f) = ⊥
 
 pub record CleanWord (w : Word) : Type 0 where
@@ -97,6 +98,7 @@ going_by (pendings.AtPoint points.Hard) w is clean = record {
   none = refl;
 }
 going_by (pendings.AtPoint points.Soft) w is clean = absurd (subst IsPlainPending is clean.pending)
+going_by (pendings.AtPoint points.Joining) w is clean = absurd (subst IsPlainPending is clean.pending)
 going_by (pendings.ForStop f) w is clean = absurd (subst IsPlainPending is clean.pending)
 
 going : (w : Word) → CleanWord w → Going w (ended w)

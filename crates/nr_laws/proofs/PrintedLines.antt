@@ -17,12 +17,13 @@ use Rattle.nr_fill.specs.declared.setting.Extra.{Extra}
 use Rattle.nr_fill.specs.declared.piece.Behind.{Behind}
 use Rattle.nr_fill.specs.declared.piece.Behind.TheVariants.{Letter, Hyphen, Dash}
 use Rattle.nr_fill.specs.declared.piece.Join.TheVariants as joins
+use Rattle.nr_fill.specs.declared.piece.Point.{Point}
 use Rattle.nr_fill.specs.declared.piece.Point.TheVariants as points
 use Rattle.nr_fill.specs.declared.stops.Pending.{Pending}
 use Rattle.nr_fill.specs.declared.stops.Pending.TheVariants as pendings
 use Rattle.nr_fill.specs.declared.title.TitlePart.{TitlePart}
 use Rattle.nr_fill.specs.declared.title.TitlePart.TheVariants as parts
-use Rattle.nr_fill.specs.Piece.{Piece, Word, Collected, word_or_new, with_word, in_word, ended_at, ended, pending_after, pending_soft, with_soft_point, pending_without_point, barred_here, is_for_stop, is_inside, point_at, hyphenated, append, add_cell_after, add_cell, ends_sentence, add_blank_to, add_blank, with_blanks_kept, add_cells, marked, joined_at, joined, shortened, without_blanks, word_pieces, end_word, word_length, with_title, with_title_cell, with_part_ended, cells_in}
+use Rattle.nr_fill.specs.Piece.{Piece, Word, Collected, word_or_new, with_word, in_word, ended_at, ended, pending_after, pending_named, with_named_point, pending_soft, with_soft_point, pending_without_point, pointed_here, barred_here, is_for_stop, is_inside, point_at, hyphenated, append, add_cell_after, add_cell, ends_sentence, add_blank_to, add_blank, with_blanks_kept, add_cells, marked, joined_at, joined, shortened, without_blanks, word_pieces, end_word, word_length, with_title, with_title_cell, with_part_ended, cells_in}
 use Rattle.nr_fill.specs.Cutting.{hyphen_before}
 use Rattle.nr_fill.specs.Setting.{hyphens, hyphen, text_of, extra_of, left_over, shift, line_row}
 use Rattle.nr_fill.specs.Spreading.{blanks_before, next_gap, cells_after, cells_in_line}
@@ -238,6 +239,33 @@ soft w h =
 
 pub barred-lined : (c : Collected) → IsLined c → IsLined (barred_here c)
 barred-lined c h = record { pieces = h.pieces; word = mapped with_soft_point soft c.word h.word; title = h.title }
+
+named-filled : (q : Point) (n : ℕ) (p : Pending) → IsFilled p → IsFilled (pending_named q n p)
+named-filled q n pendings.Nothing h = either IsFilled (nat_lt 0 n) (pendings.AtPoint q) pendings.Nothing tt tt
+named-filled q n (pendings.AtPoint r) h = either IsFilled (nat_lt 0 n) (pendings.AtPoint q) (pendings.AtPoint r) tt tt
+named-filled q n (pendings.ForStop f) h = h
+
+named-pointed : (q : Point) (n : ℕ) (p : Pending) → IsPointed p n → IsPointed (pending_named q n p) n
+named-pointed q n pendings.Nothing h = by (nat_lt 0 n) refl
+  where
+    by : (c : Bool) → nat_lt 0 n ≡ c → IsPointed (if c then pendings.AtPoint q else pendings.Nothing) n
+    by true some = ltb-true 0 n some
+    by false some = tt
+named-pointed q n (pendings.AtPoint r) h = either (λ p. IsPointed p n) (nat_lt 0 n) (pendings.AtPoint q) (pendings.AtPoint r) h h
+named-pointed q n (pendings.ForStop f) h = h
+
+named : (q : Point) (w : Word) → IsWord w → IsWord (with_named_point q w)
+named q w h =
+    record {
+      parts = h.parts;
+      last = h.last;
+      pending = named-filled q (length w.last.cells) w.pending h.pending;
+      few = h.few;
+      pointed = named-pointed q (length w.last.cells) w.pending h.pointed;
+    }
+
+pub named-lined : (q : Point) (c : Collected) → IsLined c → IsLined (pointed_here q c)
+named-lined q c h = record { pieces = h.pieces; word = mapped (with_named_point q) (named q) c.word h.word; title = h.title }
 
 -- ---- a word's end
 

@@ -13,7 +13,9 @@ use Rattle.nr_units.specs.declared.number_text.Format.{Format}
 use Rattle.nr_units.specs.declared.number_text.Format.TheVariants as formats
 use Rattle.nr_fill.specs.declared.piece.Behind.{Behind}
 use Rattle.nr_fill.specs.declared.piece.Behind.TheVariants.{Letter, Hyphen}
-use Rattle.nr_fill.specs.Piece.{Collected, Word, Piece, add_cell, add_cells, add_blank, marked, barred_here, without_blanks, hyphenated, joined, may_hyphenate, with_title_cell}
+use Rattle.nr_fill.specs.declared.piece.Point.{Point}
+use Rattle.nr_fill.specs.declared.piece.Point.TheVariants as points
+use Rattle.nr_fill.specs.Piece.{Collected, Word, Piece, add_cell, add_cells, add_blank, marked, pointed_here, barred_here, without_blanks, hyphenated, joined, may_hyphenate, with_title_cell}
 use Rattle.nr_fill.specs.Tabs.{tabbed, with_field_filled}
 use Rattle.nr_fill.specs.Title.{Title}
 use Rattle.nr_settings.specs.Characters.{prints, printing}
@@ -53,7 +55,7 @@ use Rattle.nr_formatter.specs.Registers as registers
 use Rattle.nr_formatter.specs.declared.built_in.BuiltInRegister.{BuiltInRegister}
 use Rattle.nr_formatter.specs.Text as texts
 use Rattle.nr_formatter.specs.Titles as titles
-use Rattle.nr_laws.proofs.PrintedLines.{IsPrinted, ArePrinted, IsLined, Lined, either, add_cell-lined, add_cells-lined, add_blank-lined, marked-lined, barred-lined, hyphenated-lined, joined-lined, without_blanks-lined, end_word-lined, tabbed-lined, filled-lined, with_title_cell-lined, with_title-lined, with_part_ended-lined}
+use Rattle.nr_laws.proofs.PrintedLines.{IsPrinted, ArePrinted, IsLined, Lined, either, add_cell-lined, add_cells-lined, add_blank-lined, marked-lined, named-lined, barred-lined, hyphenated-lined, joined-lined, without_blanks-lined, end_word-lined, tabbed-lined, filled-lined, with_title_cell-lined, with_title-lined, with_part_ended-lined}
 use Rattle.nr_laws.proofs.PrintedStores.{Stores, bytes-stored}
 use Rattle.nr_laws.proofs.PrintedDirect.{IsByte, IsHeard, IsHeld, Halved}
 
@@ -331,10 +333,15 @@ text_byte-hearing b f h =
 tasked : (f : Formatter) → Hearing f → (t : Task) → Hearing (record f { task = t })
 tasked f h t = record { kept = h.kept; heard = h.heard; calm = h.calm }
 
+pointed-hearing : (q : Point) (f : Formatter) → Hearing f → Hearing (texts.break_point q f)
+pointed-hearing q f h = record { kept = kept-with f (pointed_here q (collected f)) h.kept (named-lined q (collected f) h.kept.lined); heard = tt; calm = h.calm }
+
 special-at : (s : Option Special) (f : Formatter) → Hearing f → Hearing (texts.special_at s f)
 special-at None f h = done-hearing f h
 special-at (Some specials.Hyphen) f h = put-cell (cell (code "-") f) Hyphen f refl h
 special-at (Some specials.Dash) f h = tasked (texts.letter (code "-") f) (put-cell (cell (code "-") f) Letter f refl h) tasks.Dash
+special-at (Some specials.Point) f h = pointed-hearing points.Hard f h
+special-at (Some specials.Joint) f h = pointed-hearing points.Joining f h
 special-at (Some s) f h = put-cell (cell (byte_of s) f) Letter f (special-printed s) h
 
 special-hearing : (f : Formatter) → Hearing f → Hearing (texts.special f)
@@ -359,6 +366,10 @@ line_end-hearing after f h =
     let there = blanks-dropped f h in
     hearing-if (lines.reads_a_field g) (lines.field_ended g) (texts.word_line_ended after g) (field-ended g there) (line-ended after g there)
 
+text_line_end-hearing : (f : Formatter) → Hearing f → Hearing (texts.text_line_end f)
+unfolding texts.text_line_end
+text_line_end-hearing f h = hearing-if (texts.joins_lines f) (done f) (texts.line_end afters.Line f) (done-hearing f h) (line_end-hearing afters.Line f h)
+
 sign-hearing : (e : Event) (f : Formatter) → Hearing f → Hearing (texts.text_sign e f)
 sign-hearing events.Zero f h = put-word marked f h (marked-lined (margins f) (collected f) h.kept.lined)
 sign-hearing events.Percent f h = record { kept = kept-with f (barred_here (collected f)) h.kept (barred-lined (collected f) h.kept.lined); heard = tt; calm = h.calm }
@@ -381,7 +392,7 @@ text-hearing events.Leader f event plain h = tab-hearing f.settings.tabs.leader 
 text-hearing events.Special f event plain h = special-hearing f h
 text-hearing events.Horizontal f event plain h = cells-hearing (code " ") (motion_cells f) f refl h
 text-hearing events.Rule f event plain h = cells-hearing (rule_cells f).byte (rule_cells f).cells f (rule_cells-printed f) h
-text-hearing events.EndLine f event plain h = line_end-hearing afters.Line f h
+text-hearing events.EndLine f event plain h = text_line_end-hearing f h
 text-hearing events.EndContinued f event plain h = line_end-hearing afters.Continued f h
 text-hearing e f event plain h = sign-hearing e f h
 
@@ -416,6 +427,8 @@ title_byte-cells b f =
 title_special-hearing : (s : Option Special) (f : Formatter) → Hearing f → Hearing (titles.title_special s f)
 title_special-hearing None f h = done-hearing f h
 title_special-hearing (Some specials.Dash) f h = tasked (titles.titled (cell (code "-") f ∷ []) f) (titled-hearing (cell (code "-") f ∷ []) f (one-cell (code "-") f refl) h) tasks.Dash
+title_special-hearing (Some specials.Point) f h = done-hearing f h
+title_special-hearing (Some specials.Joint) f h = done-hearing f h
 title_special-hearing (Some s) f h = titled-hearing (cell (byte_of s) f ∷ []) f (one-cell (byte_of s) f (special-printed s)) h
 
 title-hearing : (e : Event) (f : Formatter) → f.event ≡ e → Hearing f → Hearing (titles.title e f)
