@@ -214,6 +214,8 @@ special-printed specials.Bullet = refl
 special-printed specials.Apostrophe = refl
 special-printed specials.Quote = refl
 special-printed specials.Backslash = refl
+special-printed specials.Point = refl
+special-printed specials.Joint = refl
 
 -- what a tab or a leader repeats
 abbrev pub IsFiller : Option ℕ → Type 0
