@@ -28,7 +28,8 @@ use Rattle.nr_machine.specs.declared.outcome.Measure.{Measure}
 use Rattle.nr_machine.specs.declared.outcome.Measure.TheVariants as measures
 use Rattle.nr_laws.specs.Moves.{LimitsAreExact}
 use Rattle.nr_laws.proofs.MadeMoves.{above_is_refused}
-use Rattle.nr_laws.proofs.PrintedDirect.{IsDue}
+use Rattle.nr_laws.proofs.PrintedFronts.{IsDue}
+use Rattle.nr_laws.proofs.PrintedLines.{all-among, every}
 use Rattle.nr_laws.proofs.PrintedStates.{AreClear, clear-after, starts-clear}
 use Rattle.nr_laws.proofs.RefusedMoves.{refused_is_above}
 use Rattle.nr_laws.proofs.Stopping.{for_limit, no_sight}
@@ -65,11 +66,11 @@ passed-none s none =
     (nat_lt f.reader.most f.reader.burst) s (ltb-false f.store.limit (charge_of f.store)) (ltb-false f.store.deepest (length f.store.levels)) (ltb-false f.line.limit (line_cells (collected f)))
     (ltb-false s.page_limit (page_charge s.lines)) (ltb-false f.reader.most f.reader.burst) none
 
-due-not : (d : Due) → IsDue d → d ≢ dues.Expanded
+due-not : (d : Due) → IsDue every d → d ≢ dues.Expanded
 due-not dues.Expanded h is = h
 due-not d h is = (let wrong : ⊥ = cc in wrong)
 
-module _ (s : State) (within : IsWithin s) (clear : AreClear s) where
+module _ (s : State) (within : IsWithin s) (clear : AreClear every s) where
   refuses : s.formatter.reader.half.reading.due ≢ dues.Expanded
   refuses = due-not s.formatter.reader.half.reading.due clear.kept.half.due
 
@@ -99,8 +100,8 @@ module _ (b : Bounds) (options : Options) (supply : Supply) where
   first : State
   first = start b options supply
 
-  clear : (n : ℕ) → AreClear (state_after n (start b options supply))
-  clear n = clear-after n (start b options supply) (starts-clear b options supply)
+  clear : (n : ℕ) → AreClear every (state_after n (start b options supply))
+  clear n = clear-after every n (start b options supply) (starts-clear every b options supply (all-among supply.bytes))
 
   within-after : (n : ℕ) → Runs n (start b options supply) → IsWithin (state_after n (start b options supply))
   within-after zero runs = starts-within b options supply

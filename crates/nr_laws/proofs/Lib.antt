@@ -34,7 +34,9 @@ pub mod PlainReads
 pub mod PlainStates
 pub mod PlainWorks
 pub mod PrintedLaw
+pub mod PrintedFronts
 pub mod PrintedLines
+pub mod PrintedNumbers
 pub mod PrintedDirect
 pub mod PrintedReads
 pub mod PrintedRests

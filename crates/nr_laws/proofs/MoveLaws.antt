@@ -48,8 +48,9 @@ use Rattle.nr_laws.proofs.Growing.{state_after-add}
 use Rattle.nr_laws.proofs.MovesPaid.{step-paid}
 use Rattle.nr_laws.proofs.PaidMoves.{all_paid}
 use Rattle.nr_laws.proofs.PageLengths.{HasHeight, height-after}
-use Rattle.nr_laws.proofs.PrintedLines.{IsLined, IsRead, parts-le}
-use Rattle.nr_laws.proofs.PrintedDirect.{IsDue, IsHeld, IsHalf}
+use Rattle.nr_laws.proofs.PrintedFronts.{IsDue}
+use Rattle.nr_laws.proofs.PrintedLines.{IsLined, IsRead, all-among, every, parts-le}
+use Rattle.nr_laws.proofs.PrintedDirect.{IsHeld, IsHalf}
 use Rattle.nr_laws.proofs.PrintedStates.{AreClear, clear-after, starts-clear}
 use Rattle.nr_laws.proofs.ReadsPaid.{reached, worth, may_come}
 use Rattle.nr_laws.proofs.StepLimits.{state_after-under}
@@ -226,24 +227,24 @@ pieces-le : (ps : List Piece) → length ps ≤ sum_by (λ (p : Piece). 1 + leng
 pieces-le [] = omega arith
 pieces-le (p ∷ ps) = omega (arith, pieces-le ps, sum_by-cons (λ (q : Piece). 1 + length q.cells) p ps)
 
-parts_of-le : (w : Option Word) → IsRead w → parts_of w ≤ word_cells w
+parts_of-le : (w : Option Word) → IsRead every w → parts_of w ≤ word_cells w
 parts_of-le None h = omega arith
-parts_of-le (Some w) h = parts-le w h
+parts_of-le (Some w) h = parts-le every w h
 
 -- each part of the word has a cell
-collected-le : (c : Collected) → IsLined c → length c.pieces + parts_of c.word ≤ line_cells c
+collected-le : (c : Collected) → IsLined every c → length c.pieces + parts_of c.word ≤ line_cells c
 collected-le c h = omega (arith, pieces-le c.pieces, parts_of-le c.word h.word)
 
-mode-le : (m : Mode) → IsHeld m → held_by_mode m ≤ 33
+mode-le : (m : Mode) → IsHeld every m → held_by_mode m ≤ 33
 mode-le (modes.BodyStart held) h = h
 mode-le m h = omega arith
 
-due-le : (d : Due) → IsDue d → held_by_due d ≤ 33
-due-le (dues.Release held n b) h = h
+due-le : (d : Due) → IsDue every d → held_by_due d ≤ 33
+due-le (dues.Release held n b) h = h.0
 due-le d h = omega arith
 
 -- so many bytes are held back, and are still to be added
-held_back-le : (h : Half) → IsHalf h → held_back h ≤ 66
+held_back-le : (h : Half) → IsHalf every h → held_back h ≤ 66
 held_back-le h is = omega (arith, mode-le h.reading.mode is.held, due-le h.reading.due is.due)
 
 kept : (b : Bounds) (options : Options) (supply : Supply) (m : ℕ) → Runs m (start b options supply) → IsKept (state_after m (start b options supply)).formatter
@@ -258,8 +259,8 @@ enough x s p d large =
     omega (arith, more, b, large)
 
 module _ (b : Bounds) (options : Options) (supply : Supply) (limits : AreLimits b) where
-  clear : (m : ℕ) → AreClear (state_after m (start b options supply))
-  clear m = clear-after m (start b options supply) (starts-clear b options supply)
+  clear : (m : ℕ) → AreClear every (state_after m (start b options supply))
+  clear m = clear-after every m (start b options supply) (starts-clear every b options supply (all-among supply.bytes))
 
   cells : (m : ℕ) → (state_after m (start b options supply)).formatter.line.limit ≡ b.cells
   cells m = ap (λ (t : State). t.formatter.line.limit) (state_after-under b m (start nothing_allowed options supply))

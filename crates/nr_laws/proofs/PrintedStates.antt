@@ -1,7 +1,7 @@
 -- No move makes a cell of a control byte.
 use Rattle.std.specs.Prelude.{is_none, nat_le, nat_lt, not, replicate, slice_get}
 use Rattle.std.specs.List.{All}
-use Rattle.std.proofs.lemmas.List.Elements.{All-nil, All-cons, All-push}
+use Rattle.std.proofs.lemmas.List.Elements.{All-nil, All-cons, All-push, All-take}
 use Rattle.std.proofs.Common.{◌≡◌, ℕ, zero, suc, ◌+◌, ◌-◌, ◌≤◌, Bool, true, false, if◌then◌else◌, List, [], ◌∷◌, ◌++◌, Option, None, Some, ℤ, refl, subst, sym, ◌∙◌, arith}
 use Rattle.nr_units.specs.Source.{Supply}
 use Rattle.nr_vectors.specs.Cell.{blank}
@@ -37,6 +37,7 @@ use Rattle.nr_reading.specs.Conditionals.{answer_of, else_mode}
 use Rattle.nr_reading.specs.Mode.{mode_of}
 use Rattle.nr_input.specs.Moving.{Situation, Move, look, looks, taken_at, stays_at, acted_at, told_of, move as input_move}
 use Rattle.nr_input.specs.Acting.{act as act_due, after_held, calls_of, has_text, meaning_in, name_in, next, splicing}
+use Rattle.nr_reading.specs.Delimited.{Texts}
 use Rattle.nr_input.specs.Place.{front}
 use Rattle.nr_input.specs.declared.told.Told.{Told}
 use Rattle.nr_input.specs.declared.told.Told.TheVariants as tells
@@ -68,423 +69,436 @@ use Rattle.nr_machine.specs.State.{State, Ended, Choice, First, Register, plainl
 use Rattle.nr_machine.specs.Machine.{begin_page, end_page, page_of, turn_page, placed as placed_line, place, put_line_to, put_or, break_part, continues_none, break_out, room_in, title_to, with_cell, margin_in, indent, offset, cell_to, width, line_to, space_to, put_space, eject_to, eject, act, work, hear, spring_or, choose, choose_or, step, state_after, situation_of, told, read}
 use Rattle.nr_store.specs.Request.{request_names}
 use Rattle.nr_laws.proofs.ChargedOnce.{once-none}
-use Rattle.nr_laws.proofs.PrintedLines.{IsPrinted, ArePrinted, IsSet, either, join, blanks, trim}
-use Rattle.nr_laws.proofs.PrintedStores.{AreStored, front-printed, left-stored, act-stored, no_levels, no_building, request_names-stored}
-use Rattle.nr_laws.proofs.PrintedDirect.{IsHeard, IsDue, IsHeld, Halved, IsHalf}
+use Rattle.nr_laws.proofs.PrintedLines.{IsAmong, AreAmong, IsPrinted, ArePrinted, IsSet, either, join, blanks, trim}
+use Rattle.nr_laws.proofs.PrintedFronts.{IfAmong, IsDue, IsResume, act-stored, behind-among, front-printed, resume-among}
+use Rattle.nr_laws.proofs.PrintedStores.{AreStored, no_words, none-gathered, left-stored, no_levels, no_building, request_names-stored}
+use Rattle.nr_laws.proofs.PrintedDirect.{IsHeard, IsHeld, Halved, IsHalf, none-texts}
 use Rattle.nr_laws.proofs.PrintedReads.{meet-told}
 use Rattle.nr_laws.proofs.PrintedWorks.{IsKept, Hearing, part-held, heard-hearing, break-word-end}
 use Rattle.nr_laws.proofs.PrintedRests.{Resting, row-printed, line-behind, title-row, title-behind, line-diverted, title-diverted, space-diverted, end-diverted, cell-diverted, sprung-resting, ejected-resting, tasked, worked-resting}
 
-abbrev pub IsPlaced : Placed → Type 0
-IsPlaced l = ArePrinted l.cells
-
-abbrev pub ArePlaced : List Placed → Type 0
-ArePlaced ls = All IsPlaced ls
-
-abbrev pub IsClosed : Ended → Type 0
-IsClosed p = ArePlaced p.lines
-
-abbrev pub AreClosed : List Ended → Type 0
-AreClosed ps = All IsClosed ps
-
-pub record Clean (xs : List Cell) (ls : List Placed) (ps : List Ended) : Type 0 where
-  pub row : ArePrinted xs
-  pub lines : ArePlaced ls
-  pub pages : AreClosed ps
-
-abbrev IsClean : State → Type 0
-IsClean s = Clean s.row s.lines s.pages
-
--- nothing is told that is still to be heard
-record Rests (s : State) : Type 0 where
-  clean : IsClean s
-  resting : Resting s.formatter
-
-rests-if : (c : Bool) (s t : State) → Rests s → Rests t → Rests (if c then s else t)
-rests-if true s t first second = first
-rests-if false s t first second = second
-
-plain-rests : (s : State) (f : Formatter) → IsClean s → Resting f → Rests (record s { formatter = f })
-plain-rests s f clean h = record { clean = record { row = clean.row; lines = clean.lines; pages = clean.pages }; resting = h }
-
--- ---- pages
-
-begun : (s : State) → Rests s → Rests (begin_page s)
-begun s h =
-    record { clean = record { row = h.clean.row; lines = All-nil IsPlaced; pages = h.clean.pages }; resting = record { kept = h.resting.kept; idle = h.resting.idle } }
-
-ended : (s : State) → Rests s → Rests (end_page s)
-ended s h =
-    record {
-      clean = record { row = h.clean.row; lines = All-nil IsPlaced; pages = All-push IsClosed s.pages (page_of s) h.clean.pages h.clean.lines };
-      resting = record { kept = h.resting.kept; idle = h.resting.idle };
-    }
-
-turned : (o : Outlet) (s : State) → Rests s → Rests (turn_page o s)
-turned outlets.Full s h = ended s h
-turned o s h = begun s h
-
-placed : (xs : List Cell) (height : ℕ) (f : Formatter) (s : State) → ArePrinted xs → IsClean s → Resting f → Rests (place xs height f s)
-placed xs height f s is clean h =
-    record {
-      clean = record { row = All-nil IsPrinted; lines = All-push IsPlaced s.lines (placed_line xs height f) clean.lines (trim xs is); pages = clean.pages };
-      resting = record { kept = h.kept; idle = h.idle };
-    }
-
--- ---- lines
-
-line-goes : (o : Outlet) (g : Going) (s : State) → Rests s → Rests (put_line_to o g s)
-line-goes outlets.Diversion g s h = plain-rests s _ h.clean (line-diverted g s.formatter h.resting)
-line-goes outlets.Room g s h = placed (lines.row_going g (offset s.formatter) s.formatter) (spacing s.formatter) (lines.after_line g s.formatter) s (row-printed g (offset s.formatter) s.formatter h.resting.kept) h.clean (line-behind g s.formatter h.resting)
-line-goes o g s h = turned o s h
-
-goes-or : (g : Option Going) (done : Formatter → Formatter) (s : State) → Rests s → Rests (plainly done s) → Rests (put_or g done s)
-goes-or None done s h otherwise = otherwise
-goes-or (Some g) done s h otherwise = line-goes (outlet s.formatter) g s h
-
-part-broken : (t : Then) (s : State) → Rests s → Rests (break_part t s)
-part-broken t s h =
-    rests-if (not (is_none (collected s.formatter).word)) (plainly lines.break_word_end s)
-    (if begins_first_page t s.formatter then begin_page s else put_or (lines.break_line s.formatter) (lines.break_done t) s)
-    (plain-rests s _ h.clean (record { kept = break-word-end s.formatter h.resting.kept; idle = word-idle }))
-    (rests-if (begins_first_page t s.formatter) (begin_page s) (put_or (lines.break_line s.formatter) (lines.break_done t) s) (begun s h)
-    (goes-or (lines.break_line s.formatter) (lines.break_done t) s h (plain-rests s _ h.clean (record { kept = h.resting.kept; idle = h.resting.idle }))))
-  where
-    either-idle : (c : Bool) → (if c then lines.field_ended s.formatter else lines.word_ended s.formatter).event ≡ s.formatter.event
-    either-idle true = refl
-    either-idle false = refl
-
-    word-idle : (lines.break_word_end s.formatter).event ≡ events.Nothing
-    word-idle = either-idle (lines.reads_a_field s.formatter) ∙ h.resting.idle
-
-broken : (t : Then) (s : State) → Rests s → Rests (break_out t s)
-broken t s h = part-broken t (plainly continues_none s) (plain-rests s _ h.clean (record { kept = h.resting.kept; idle = h.resting.idle }))
-
--- ---- titles, diverted lines and space
-
-in-mode : {d : Due} {m n : Mode} {asks : List Ask} {name : List ℕ} → Halved d m asks name → IsHeld n → Halved d n asks name
-in-mode h held = record { due = h.due; held = held; few = h.few; ending = h.ending }
-
-read-in : (r : Room) (f : Formatter) → Resting f → Resting (moves.read_in r f)
-read-in rooms.Title f h =
-    let half : Halved f.reader.half.reading.due modes.TitleBefore f.reader.half.asks f.reader.half.notes.defining.ending = in-mode h.kept.half tt in
-    record { kept = record { stored = h.kept.stored; lined = h.kept.lined; tab = h.kept.tab; leader = h.kept.leader; half = half }; idle = h.idle }
-read-in rooms.Line f h =
-    let half : Halved f.reader.half.reading.due modes.Diverting f.reader.half.asks f.reader.half.notes.defining.ending = in-mode h.kept.half tt in
-    record { kept = record { stored = h.kept.stored; lined = h.kept.lined; tab = h.kept.tab; leader = h.kept.leader; half = half }; idle = h.idle }
-
-room-made : (o : Outlet) (r : Room) (s : State) → Rests s → Rests (room_in o r s)
-room-made outlets.Diversion r s h = plain-rests s _ h.clean (read-in r s.formatter h.resting)
-room-made outlets.Room r s h = plain-rests s _ h.clean (read-in r s.formatter h.resting)
-room-made o r s h = turned o s h
-
-title-goes : (o : Outlet) (s : State) → Rests s → Rests (title_to o s)
-title-goes outlets.Diversion s h = plain-rests s _ h.clean (title-diverted s.formatter h.resting)
-title-goes outlets.Room s h = placed (titles.title_row (offset s.formatter) s.formatter) (spacing s.formatter) (titles.title_set s.formatter) s (title-row (offset s.formatter) s.formatter h.resting.kept) h.clean (title-behind s.formatter h.resting)
-title-goes o s h = turned o s h
-
-row-goes : (o : Outlet) (n : ℕ) (s : State) → Rests s → Rests (line_to o n s)
-row-goes outlets.Diversion n s h =
-    record { clean = record { row = All-nil IsPrinted; lines = h.clean.lines; pages = h.clean.pages }; resting = end-diverted (width s.row) n s.formatter h.resting }
-row-goes outlets.Room n s h = placed s.row n (to_read s.formatter) s h.clean.row h.clean (tasked tasks.Read s.formatter h.resting)
-row-goes o n s h = turned o s h
-
-space-goes : (o : Outlet) (n : ℕ) (s : State) → Rests s → Rests (space_to o n s)
-space-goes outlets.Diversion n s h = plain-rests s _ h.clean (space-diverted n s.formatter h.resting)
-space-goes outlets.Room n s h = plain-rests s _ h.clean (record { kept = h.resting.kept; idle = h.resting.idle })
-space-goes o n s h = turned o s h
-
-space-put : (n : ℕ) (s : State) → Rests s → Rests (put_space n s)
-space-put n s h =
-    rests-if (is_spaceless n s.formatter) (plainly to_read s) (space_to (outlet s.formatter) n s) (plain-rests s _ h.clean (tasked tasks.Read s.formatter h.resting)) (space-goes (outlet s.formatter) n s h)
-
--- ---- ejecting
-
-ejects-to : (t : Option Trap) (s : State) → Rests s → Rests (eject_to t s)
-ejects-to None s h = ended s h
-ejects-to (Some t) s h = plain-rests s _ h.clean (ejected-resting t s.formatter h.resting)
-
-ejects : (e : Ejected) (s : State) → Rests s → Rests (eject e s)
-ejects e s h =
-    rests-if (is_ejecting s.formatter) (eject_to (next_springing s.formatter) s) (plainly (λ f. record f { task = task_ejected e }) s) (ejects-to (next_springing s.formatter) s h)
-    (plain-rests s _ h.clean (tasked (task_ejected e) s.formatter h.resting))
-
-acts : (r : Request) (s : State) → Rests s → Rests (act r s)
-acts requests.Ex s h = record { clean = record { row = h.clean.row; lines = h.clean.lines; pages = h.clean.pages }; resting = worked-resting (tasks.Act requests.Ex) s.formatter h.resting }
-acts r s h = plain-rests s _ h.clean (worked-resting (tasks.Act r) s.formatter h.resting)
-
--- ---- all states
-
--- what is told is still to be heard, but for a macro that springs before
-abbrev IsAwaited : Option (List ℕ) → Event → Mode → Type 0
-IsAwaited None e m = IsHeard e m
-IsAwaited (Some n) e m = e ≡ events.Nothing
-
-pub record AreClear (s : State) : Type 0 where
-  pub clean : IsClean s
-  pub kept : IsKept s.formatter
-  pub awaited : IsAwaited s.formatter.springs s.formatter.event s.formatter.reader.half.reading.mode
-
-quiet : (n : Option (List ℕ)) (e : Event) (m : Mode) → e ≡ events.Nothing → IsAwaited n e m
-quiet None e m is = subst (λ x. IsHeard x m) (sym is) tt
-quiet (Some n) e m is = is
-
-awaits : (n : Option (List ℕ)) (e : Event) (m : Mode) → n ≡ None → IsHeard e m → IsAwaited n e m
-awaits None e m is h = h
-awaits (Some n) e m is h = absurd (let wrong : Some n ≡ None = is in cc)
-
-of-rest : (s : State) → Rests s → AreClear s
-of-rest s h =
-    record { clean = h.clean; kept = h.resting.kept; awaited = quiet s.formatter.springs s.formatter.event s.formatter.reader.half.reading.mode h.resting.idle }
-
-of-hearing : (s : State) (f : Formatter) → IsClean s → Hearing f → AreClear (record s { formatter = f })
-of-hearing s f clean h =
-    record { clean = record { row = clean.row; lines = clean.lines; pages = clean.pages }; kept = h.kept; awaited = awaits f.springs f.event f.reader.half.reading.mode h.calm h.heard }
-
--- ---- reading
-
-met : (c : Bool) (m : Met) (q : Situation Resume) → AreStored q.stored → AreStored (if c then taken_at m q else stays_at m q).situation.stored
-met true m q h = left-stored q.stored.levels q.stored h.levels h
-met false m q h = h
-
-moved-stored : (c : Bool) (q : Situation Resume) → AreStored q.stored → AreStored (if c then look q else acted_at q).situation.stored
-moved-stored true q h = let m = meet (front (shown q.stored.levels) q.coming) q.reader.half in met m.takes m q h
-moved-stored false q h = act-stored q.reader.half.reading.due q.stored q.reader h
-
--- an event that is told, in the mode that the move leads to
-abbrev IsToldIn : Mode → Told Resume → Type 0
-IsToldIn m (tells.Event e) = IsHeard e m
-IsToldIn m (tells.Resume k) = Unit {0}
-
-abbrev IsTold : Move Resume → Type 0
-IsTold m = IsToldIn m.situation.reader.half.reading.mode m.told
-
--- what a look tells
-shown-told : (x : Shown Resume) (e : Event) (m : Mode) → IsHeard e m → IsToldIn m (told_of x e)
-shown-told shows.Nothing e m h = h
-shown-told shows.End e m h = h
-shown-told (shows.Item x) e m h = h
-shown-told (shows.Resume k) e m h = tt
-
-looked-told : (c : Bool) (m : Met) (q : Situation Resume) → IsHeard m.event m.half.reading.mode → IsTold (if c then taken_at m q else stays_at m q)
-looked-told true m q h = shown-told (shown q.stored.levels) m.event m.half.reading.mode h
-looked-told false m q h = h
-
-sought-told : (c : Calls) (m : Mode) → IsHeard (sought_event c) m
-sought-told calls.Title m = tt
-sought-told c m = tt
-
-acted-told : (d : Due) (v : Stored Resume) (r : Reader) (m : Mode) → IsHeard (act_due d v r).event m
-acted-told dues.Begin v r m = tt
-acted-told (dues.Register signs.None) v r m = tt
-acted-told (dues.Register signs.Plus) v r m = tt
-acted-told (dues.Register signs.Minus) v r m = tt
-acted-told dues.Seek v r m = sought-told (calls_of (meaning_in v r)) m
-acted-told (dues.Lead n) v r m = tt
-acted-told d v r m = tt
-
-moved-told : (c : Bool) (q : Situation Resume) → AreStored q.stored → IsHalf q.reader.half → IsTold (if c then look q else acted_at q)
-moved-told true q h half =
-    let f = front (shown q.stored.levels) q.coming in
-    let m = meet f q.reader.half in
-    looked-told m.takes m q (meet-told f q.reader.half half (front-printed q.stored.levels q.coming h.levels)).heard
-moved-told false q h half = acted-told q.reader.half.reading.due q.stored q.reader (act_due q.reader.half.reading.due q.stored q.reader).reader.half.reading.mode
-
-met-half : (c : Bool) (m : Met) (q : Situation Resume) → IsHalf m.half → IsHalf (if c then taken_at m q else stays_at m q).situation.reader.half
-met-half true m q h = h
-met-half false m q h = h
-
-next-half : (d : Due) (h : Half) → IsDue d → IsHalf h → IsHalf (next d h)
-next-half d h due is = record { due = due; held = is.held; few = is.few; ending = is.ending }
-
-test-due : (c : Bool) (x y : Due) → IsDue x → IsDue y → IsDue (if c then x else y)
-test-due true x y first second = first
-test-due false x y first second = second
-
-held-due : (held n : ℕ) (b : Option ℕ) → held ≤ 33 → IsDue (after_held held n b)
-held-due held n (Some b) few = test-due (nat_lt (n + 1) held) (dues.Release held (n + 1) (Some b)) (dues.Add b) few tt
-held-due held n None few = test-due (nat_lt (n + 1) held) (dues.Release held (n + 1) None) dues.Look few tt
-
-else-held : (answer : Option Bool) → IsHeld (else_mode answer)
-else-held None = tt
-else-held (Some answer) = part-held (not answer)
-
-sought-half : (c : Calls) (h : Half) → IsHalf h → IsHalf (sought c h)
-sought-half calls.Else h is = record { due = is.due; held = else-held (slice_get h.notes.answers 0); few = is.few; ending = is.ending }
-sought-half c h is = record { due = is.due; held = tt; few = is.few; ending = is.ending }
-
-spliced-half : (c : Bool) (v : Stored Resume) (r : Reader) → IsHalf r.half → IsHalf (splicing c v r).reader.half
-spliced-half true v r h = next-half dues.Look r.half tt h
-spliced-half false v r h = next-half dues.Look r.half tt h
-
-acted-half : (d : Due) (v : Stored Resume) (r : Reader) → r.half.reading.due ≡ d → IsHalf r.half → IsHalf (act_due d v r).reader.half
-acted-half dues.Look v r is h = h
-acted-half dues.Begin v r is h = next-half dues.Look r.half tt h
-acted-half (dues.Add b) v r is h = next-half dues.Look r.half tt h
-acted-half (dues.Release held n b) v r is h = next-half (after_held held n b) r.half (held-due held n b (subst IsDue is h.due)) h
-acted-half dues.Define v r is h = next-half dues.Look r.half tt h
-acted-half dues.DefineAndCall v r is h =
-    next-half (if is_empty r.half.notes.defining.ending then dues.Look else dues.CallEnding) r.half (test-due (is_empty r.half.notes.defining.ending) dues.Look dues.CallEnding tt tt) h
-acted-half dues.CallEnding v r is h =
-    let name = r.half.notes.defining.ending in
-    spliced-half (has_text name v) (entered name (words (find name v.names)) None v) r h
-acted-half dues.Splice v r is h =
-    let name = r.half.notes.asked in
-    spliced-half (has_text name v) (entered name (words (find name v.names)) None v) r h
-acted-half (dues.Register signs.None) v r is h = next-half dues.Look r.half tt h
-acted-half (dues.Register signs.Plus) v r is h = next-half (dues.Register signs.None) r.half tt h
-acted-half (dues.Register signs.Minus) v r is h = next-half (dues.Register signs.None) r.half tt h
-acted-half (dues.Argument n) v r is h = next-half dues.Look r.half tt h
-acted-half (dues.Put b) v r is h = next-half dues.Look r.half tt h
-acted-half dues.EndArgument v r is h = next-half dues.Look r.half tt h
-acted-half dues.Call v r is h = spliced-half (has_text (name_in r) v) (called (name_in r) (words (find (name_in r) v.names)) v) r h
-acted-half dues.Seek v r is h = sought-half (calls_of (meaning_in v r)) (next dues.Look r.half) (next-half dues.Look r.half tt h)
-acted-half (dues.Judge b) v r is h = record { due = tt; held = part-held (answer_of b r.half.notes); few = h.few; ending = h.ending }
-acted-half (dues.Lead n) v r is h = next-half (if nat_le n 1 then dues.Look else dues.Lead (n - 1)) r.half (test-due (nat_le n 1) dues.Look (dues.Lead (n - 1)) tt tt) h
-acted-half dues.Expanded v r is h = absurd (subst IsDue is h.due)
-
-moved-half : (c : Bool) (q : Situation Resume) → AreStored q.stored → IsHalf q.reader.half → IsHalf (if c then look q else acted_at q).situation.reader.half
-moved-half true q h half =
-    let f = front (shown q.stored.levels) q.coming in
-    let m = meet f q.reader.half in
-    met-half m.takes m q (meet-told f q.reader.half half (front-printed q.stored.levels q.coming h.levels)).half
-moved-half false q h half = acted-half q.reader.half.reading.due q.stored q.reader refl half
-
-record IsClear (f : Formatter) : Type 0 where
-  kept : IsKept f
-  awaited : IsAwaited f.springs f.event f.reader.half.reading.mode
-
-standing-held : (s : Standing) → IsHeld (mode_of s)
-standing-held standings.Start = tt
-standing-held standings.Leading = tt
-standing-held standings.Text = tt
-standing-held standings.Continued = tt
-
-told-clear : (t : Told Resume) (f : Formatter) → IsKept f → f.springs ≡ None → IsToldIn f.reader.half.reading.mode t → IsClear (told t f)
-told-clear (tells.Event e) f h calm is =
-    record { kept = record { stored = h.stored; lined = h.lined; tab = h.tab; leader = h.leader; half = h.half }; awaited = awaits f.springs e f.reader.half.reading.mode calm is }
-told-clear (tells.Resume k) f h calm is =
-    record { kept = record { stored = h.stored; lined = h.lined; tab = h.tab; leader = h.leader; half = in-mode h.half (standing-held k.standing) }; awaited = quiet f.springs events.Nothing (mode_of k.standing) refl }
-
-with-formatter : (s t : State) → IsClean s → t.row ≡ s.row → t.lines ≡ s.lines → t.pages ≡ s.pages → IsClear t.formatter → AreClear t
-with-formatter s t clean row lines pages h =
-    record {
-      clean = record { row = subst ArePrinted (sym row) clean.row; lines = subst ArePlaced (sym lines) clean.lines; pages = subst AreClosed (sym pages) clean.pages };
-      kept = h.kept;
-      awaited = h.awaited;
-    }
-
-reads : (s : State) → IsClean s → IsKept s.formatter → s.formatter.springs ≡ None → AreClear (read s)
-reads s clean h calm =
-    let q = situation_of s in
-    let m = input_move q in
-    let stored : AreStored m.situation.stored = moved-stored (looks q) q h.stored in
-    with-formatter s (read s) clean refl refl refl
-    (told-clear m.told (record s.formatter { store = m.situation.stored; reader = m.situation.reader })
-    (record { stored = stored; lined = h.lined; tab = h.tab; leader = h.leader; half = moved-half (looks q) q h.stored h.half }) calm (moved-told (looks q) q h.stored h.half))
-
--- ---- a move
-
-celled : (margin : ℕ) (x : Cell) (row : List Cell) → IsPrinted x → ArePrinted row → ArePrinted (with_cell margin x row)
-celled margin x row is h =
-    let one : ArePrinted (x ∷ []) = All-cons IsPrinted x [] is (All-nil IsPrinted) in
-    either ArePrinted (is_nil row) (replicate margin blank ++ x ∷ []) (row ++ x ∷ []) (join (replicate margin blank) (x ∷ []) (blanks margin) one) (join row (x ∷ []) h one)
-
-cell-goes : (o : Outlet) (x : Cell) (s : State) → IsPrinted x → IsClean s → IsKept s.formatter → s.formatter.springs ≡ None → AreClear (cell_to o x s)
-cell-goes outlets.Diversion x s is clean h calm =
-    let there = cell-diverted (margin_in (indent s.formatter) s.row) x s.formatter is h in
-    record {
-      clean = record { row = celled (indent s.formatter) x s.row is clean.row; lines = clean.lines; pages = clean.pages };
-      kept = record { stored = there.stored; lined = there.lined; tab = there.tab; leader = there.leader; half = there.half };
-      awaited = awaits s.formatter.springs events.Nothing s.formatter.reader.half.reading.mode calm tt;
-    }
-cell-goes o x s is clean h calm =
-    record {
-      clean = record { row = celled (offset s.formatter + indent s.formatter) x s.row is clean.row; lines = clean.lines; pages = clean.pages };
-      kept = record { stored = h.stored; lined = h.lined; tab = h.tab; leader = h.leader; half = h.half };
-      awaited = awaits s.formatter.springs events.Nothing s.formatter.reader.half.reading.mode calm tt;
-    }
-
-works : (t : Task) (s : State) → s.formatter.springs ≡ None → Rests s → AreClear (work t s)
-works tasks.Read s calm h = reads s h.clean h.resting.kept calm
-works (tasks.Flow after breaks) s calm h =
-    of-rest _ (goes-or (lines.flow_line after breaks s.formatter) (lines.flow_done after) s h (plain-rests s _ h.clean (record { kept = h.resting.kept; idle = h.resting.idle })))
-works (tasks.Break t) s calm h = of-rest _ (broken t s h)
-works (tasks.Act r) s calm h = of-rest _ (acts r s h)
-works (tasks.Room r) s calm h = of-rest _ (room-made (outlet s.formatter) r s h)
-works tasks.Title s calm h = of-rest _ (title-goes (outlet s.formatter) s h)
-works (tasks.Line n) s calm h = of-rest _ (row-goes (outlet s.formatter) n s h)
-works (tasks.Space n) s calm h = of-rest _ (space-put n s h)
-works (tasks.Begin given) s calm h = of-rest _ (begun s h)
-works (tasks.Eject e) s calm h = of-rest _ (ejects e s h)
-works tasks.Halted s calm h = of-rest _ h
-works t s calm h = of-rest _ (plain-rests s _ h.clean (worked-resting t s.formatter h.resting))
-
-plainly-heard : (e : Event) (s : State) → s.formatter.event ≡ e → IsClean s → Hearing s.formatter → AreClear (plainly (moves.heard e) s)
-plainly-heard e s event clean h = of-hearing s (moves.heard e s.formatter) clean (heard-hearing e s.formatter event h)
-
-hears : (e : Event) (s : State) → s.formatter.event ≡ e → IsClean s → Hearing s.formatter → AreClear (hear e s)
-hears events.Nothing s event clean h = works s.formatter.task s h.calm (record { clean = clean; resting = record { kept = h.kept; idle = event } })
-hears (events.DivertedCell x) s event clean h =
-    cell-goes (outlet s.formatter) x s (subst (λ e. IsHeard e s.formatter.reader.half.reading.mode) event h.heard) clean h.kept h.calm
-hears e s event clean h = plainly-heard e s event clean h
-
-springs : (n : Option (List ℕ)) (s : State) → s.formatter.springs ≡ n → AreClear s → AreClear (spring_or n s)
-springs None s is h =
-    let heard : IsHeard s.formatter.event s.formatter.reader.half.reading.mode =
-    subst (λ n. IsAwaited n s.formatter.event s.formatter.reader.half.reading.mode) is h.awaited in
-    hears s.formatter.event s refl h.clean (record { kept = h.kept; heard = heard; calm = is })
-springs (Some name) s is h =
-    let idle : s.formatter.event ≡ events.Nothing = subst (λ n. IsAwaited n s.formatter.event s.formatter.reader.half.reading.mode) is h.awaited in
-    of-rest _ (plain-rests s _ h.clean (sprung-resting name s.formatter (record { kept = h.kept; idle = idle })))
-
--- ---- what of the options takes effect
-
-clear-if : (c : Bool) (f g : Formatter) → IsClear f → IsClear g → IsClear (if c then f else g)
-clear-if true f g first second = first
-clear-if false f g first second = second
-
-given-clear : (r : BuiltInRegister) (n : ℤ) (f : Formatter) → IsClear f → IsClear (registers.given_set r n f)
-given-clear given.Page n f h = record { kept = h.kept; awaited = h.awaited }
-given-clear given.Height n f h = record { kept = h.kept; awaited = h.awaited }
-given-clear given.Width n f h = record { kept = h.kept; awaited = h.awaited }
-given-clear r n f h = h
-
-written-clear : (r : Option Numbered) (name : List ℕ) (f : Formatter) → IsClear f → IsClear (record f { store = written r name f.store })
-written-clear None name f h = record { kept = h.kept; awaited = h.awaited }
-written-clear (Some r) name f h = record { kept = h.kept; awaited = h.awaited }
-
-set-clear : (r : Option BuiltInRegister) (name : List ℕ) (n : ℤ) (f : Formatter) → IsClear f → IsClear (registers.register_set_by r name n None f)
-set-clear None name n f h = written-clear (set_to n None (register_of (find name f.store.registers))) name f h
-set-clear (Some r) name n f h = clear-if (is_held n) (registers.given_set r n f) f (given-clear r n f h) h
-
-chosen : (c : Choice) (f : Formatter) → IsClear f → IsClear (choose c f)
-chosen (First n) f h = clear-if (is_held n) (record f { paper = record f.paper { number = n } }) f (record { kept = h.kept; awaited = h.awaited }) h
-chosen (Register name n) f h = set-clear (given_named (name ∷ [])) (name ∷ []) n f h
-
-chooses : (cs : List Choice) (s : State) → AreClear s → AreClear (choose_or cs s)
-chooses [] s h = springs s.formatter.springs s refl h
-chooses (c ∷ cs) s h =
-    with-formatter s (choose_or (c ∷ cs) s) h.clean refl refl refl (chosen c s.formatter (record { kept = h.kept; awaited = h.awaited }))
-
-stepped : (s : State) → AreClear s → AreClear (step s)
-unfolding step
-stepped s h = chooses s.chosen s h
-
-pub clear-after : (n : ℕ) (s : State) → AreClear s → AreClear (state_after n s)
-clear-after zero s h = h
-clear-after (suc n) s h = stepped (state_after n s) (clear-after n s h)
-
-pub starts-clear : (b : Bounds) (options : Options) (supply : Supply) → AreClear (start b options supply)
-starts-clear b options supply =
-    record {
-      clean = record { row = All-nil IsPrinted; lines = All-nil IsPlaced; pages = All-nil IsClosed };
-      kept = record {
-        stored = record { names = request_names-stored; building = no_building; levels = no_levels; once = once-none request_names };
-        lined = record { pieces = All-nil IsSet; word = tt; title = tt };
-        tab = tt;
-        leader = refl;
-        half = record { due = tt; held = tt; few = omega arith; ending = omega arith };
-      };
-      awaited = tt;
-    }
+module _ (set : ℕ → Bool) where
+  abbrev pub IsPlaced : Placed → Type 0
+  IsPlaced l = ArePrinted set l.cells
+
+  abbrev pub ArePlaced : List Placed → Type 0
+  ArePlaced ls = All IsPlaced ls
+
+  abbrev pub IsClosed : Ended → Type 0
+  IsClosed p = ArePlaced p.lines
+
+  abbrev pub AreClosed : List Ended → Type 0
+  AreClosed ps = All IsClosed ps
+
+  pub record Clean (xs : List Cell) (ls : List Placed) (ps : List Ended) (bs : List ℕ) : Type 0 where
+    pub row : ArePrinted set xs
+    pub lines : ArePlaced ls
+    pub pages : AreClosed ps
+    pub coming : AreAmong set bs
+
+  abbrev IsClean : State → Type 0
+  IsClean s = Clean s.row s.lines s.pages s.coming.supply.bytes
+
+  -- nothing is told that is still to be heard
+  record Rests (s : State) : Type 0 where
+    clean : IsClean s
+    resting : Resting set s.formatter
+
+  rests-if : (c : Bool) (s t : State) → Rests s → Rests t → Rests (if c then s else t)
+  rests-if true s t first second = first
+  rests-if false s t first second = second
+
+  plain-rests : (s : State) (f : Formatter) → IsClean s → Resting set f → Rests (record s { formatter = f })
+  plain-rests s f clean h = record { clean = record { row = clean.row; lines = clean.lines; pages = clean.pages; coming = clean.coming }; resting = h }
+
+  -- ---- pages
+
+  begun : (s : State) → Rests s → Rests (begin_page s)
+  begun s h =
+      record { clean = record { row = h.clean.row; lines = All-nil IsPlaced; pages = h.clean.pages; coming = h.clean.coming }; resting = record { kept = h.resting.kept; idle = h.resting.idle } }
+
+  ended : (s : State) → Rests s → Rests (end_page s)
+  ended s h =
+      record {
+        clean = record { row = h.clean.row; lines = All-nil IsPlaced; pages = All-push IsClosed s.pages (page_of s) h.clean.pages h.clean.lines; coming = h.clean.coming };
+        resting = record { kept = h.resting.kept; idle = h.resting.idle };
+      }
+
+  turned : (o : Outlet) (s : State) → Rests s → Rests (turn_page o s)
+  turned outlets.Full s h = ended s h
+  turned o s h = begun s h
+
+  placed : (xs : List Cell) (height : ℕ) (f : Formatter) (s : State) → ArePrinted set xs → IsClean s → Resting set f → Rests (place xs height f s)
+  placed xs height f s is clean h =
+      record {
+        clean = record { row = All-nil (IsPrinted set); lines = All-push IsPlaced s.lines (placed_line xs height f) clean.lines (trim set xs is); pages = clean.pages; coming = clean.coming };
+        resting = record { kept = h.kept; idle = h.idle };
+      }
+
+  -- ---- lines
+
+  line-goes : (o : Outlet) (g : Going) (s : State) → Rests s → Rests (put_line_to o g s)
+  line-goes outlets.Diversion g s h = plain-rests s _ h.clean (line-diverted set g s.formatter h.resting)
+  line-goes outlets.Room g s h = placed (lines.row_going g (offset s.formatter) s.formatter) (spacing s.formatter) (lines.after_line g s.formatter) s (row-printed set g (offset s.formatter) s.formatter h.resting.kept) h.clean (line-behind set g s.formatter h.resting)
+  line-goes o g s h = turned o s h
+
+  goes-or : (g : Option Going) (done : Formatter → Formatter) (s : State) → Rests s → Rests (plainly done s) → Rests (put_or g done s)
+  goes-or None done s h otherwise = otherwise
+  goes-or (Some g) done s h otherwise = line-goes (outlet s.formatter) g s h
+
+  part-broken : (t : Then) (s : State) → Rests s → Rests (break_part t s)
+  part-broken t s h =
+      rests-if (not (is_none (collected s.formatter).word)) (plainly lines.break_word_end s)
+      (if begins_first_page t s.formatter then begin_page s else put_or (lines.break_line s.formatter) (lines.break_done t) s)
+      (plain-rests s _ h.clean (record { kept = break-word-end set s.formatter h.resting.kept; idle = word-idle }))
+      (rests-if (begins_first_page t s.formatter) (begin_page s) (put_or (lines.break_line s.formatter) (lines.break_done t) s) (begun s h)
+      (goes-or (lines.break_line s.formatter) (lines.break_done t) s h (plain-rests s _ h.clean (record { kept = h.resting.kept; idle = h.resting.idle }))))
+    where
+      either-idle : (c : Bool) → (if c then lines.field_ended s.formatter else lines.word_ended s.formatter).event ≡ s.formatter.event
+      either-idle true = refl
+      either-idle false = refl
+
+      word-idle : (lines.break_word_end s.formatter).event ≡ events.Nothing
+      word-idle = either-idle (lines.reads_a_field s.formatter) ∙ h.resting.idle
+
+  broken : (t : Then) (s : State) → Rests s → Rests (break_out t s)
+  broken t s h = part-broken t (plainly continues_none s) (plain-rests s _ h.clean (record { kept = h.resting.kept; idle = h.resting.idle }))
+
+  -- ---- titles, diverted lines and space
+
+  in-mode : {d : Due} {m n : Mode} {asks : List Ask} {name x : List ℕ} {y : Texts} → Halved set d m asks name x y → IsHeld set n → Halved set d n asks name x y
+  in-mode h held = record { due = h.due; held = held; few = h.few; ending = h.ending; ends = h.ends; line = h.line; texts = h.texts }
+
+  read-in : (r : Room) (f : Formatter) → Resting set f → Resting set (moves.read_in r f)
+  read-in rooms.Title f h =
+      let half : Halved set f.reader.half.reading.due modes.TitleBefore f.reader.half.asks f.reader.half.notes.defining.ending f.reader.half.notes.line f.reader.half.delimited = in-mode h.kept.half tt in
+      record { kept = record { stored = h.kept.stored; lined = h.kept.lined; tab = h.kept.tab; leader = h.kept.leader; half = half }; idle = h.idle }
+  read-in rooms.Line f h =
+      let half : Halved set f.reader.half.reading.due modes.Diverting f.reader.half.asks f.reader.half.notes.defining.ending f.reader.half.notes.line f.reader.half.delimited = in-mode h.kept.half tt in
+      record { kept = record { stored = h.kept.stored; lined = h.kept.lined; tab = h.kept.tab; leader = h.kept.leader; half = half }; idle = h.idle }
+
+  room-made : (o : Outlet) (r : Room) (s : State) → Rests s → Rests (room_in o r s)
+  room-made outlets.Diversion r s h = plain-rests s _ h.clean (read-in r s.formatter h.resting)
+  room-made outlets.Room r s h = plain-rests s _ h.clean (read-in r s.formatter h.resting)
+  room-made o r s h = turned o s h
+
+  title-goes : (o : Outlet) (s : State) → Rests s → Rests (title_to o s)
+  title-goes outlets.Diversion s h = plain-rests s _ h.clean (title-diverted set s.formatter h.resting)
+  title-goes outlets.Room s h = placed (titles.title_row (offset s.formatter) s.formatter) (spacing s.formatter) (titles.title_set s.formatter) s (title-row set (offset s.formatter) s.formatter h.resting.kept) h.clean (title-behind set s.formatter h.resting)
+  title-goes o s h = turned o s h
+
+  row-goes : (o : Outlet) (n : ℕ) (s : State) → Rests s → Rests (line_to o n s)
+  row-goes outlets.Diversion n s h =
+      record { clean = record { row = All-nil (IsPrinted set); lines = h.clean.lines; pages = h.clean.pages; coming = h.clean.coming }; resting = end-diverted set (width s.row) n s.formatter h.resting }
+  row-goes outlets.Room n s h = placed s.row n (to_read s.formatter) s h.clean.row h.clean (tasked set tasks.Read s.formatter h.resting)
+  row-goes o n s h = turned o s h
+
+  space-goes : (o : Outlet) (n : ℕ) (s : State) → Rests s → Rests (space_to o n s)
+  space-goes outlets.Diversion n s h = plain-rests s _ h.clean (space-diverted set n s.formatter h.resting)
+  space-goes outlets.Room n s h = plain-rests s _ h.clean (record { kept = h.resting.kept; idle = h.resting.idle })
+  space-goes o n s h = turned o s h
+
+  space-put : (n : ℕ) (s : State) → Rests s → Rests (put_space n s)
+  space-put n s h =
+      rests-if (is_spaceless n s.formatter) (plainly to_read s) (space_to (outlet s.formatter) n s) (plain-rests s _ h.clean (tasked set tasks.Read s.formatter h.resting)) (space-goes (outlet s.formatter) n s h)
+
+  -- ---- ejecting
+
+  ejects-to : (t : Option Trap) (s : State) → Rests s → Rests (eject_to t s)
+  ejects-to None s h = ended s h
+  ejects-to (Some t) s h = plain-rests s _ h.clean (ejected-resting set t s.formatter h.resting)
+
+  ejects : (e : Ejected) (s : State) → Rests s → Rests (eject e s)
+  ejects e s h =
+      rests-if (is_ejecting s.formatter) (eject_to (next_springing s.formatter) s) (plainly (λ f. record f { task = task_ejected e }) s) (ejects-to (next_springing s.formatter) s h)
+      (plain-rests s _ h.clean (tasked set (task_ejected e) s.formatter h.resting))
+
+  acts : (r : Request) (s : State) → Rests s → Rests (act r s)
+  acts requests.Ex s h = record { clean = record { row = h.clean.row; lines = h.clean.lines; pages = h.clean.pages; coming = All-nil (IsAmong set) }; resting = worked-resting set (tasks.Act requests.Ex) s.formatter h.resting }
+  acts r s h = plain-rests s _ h.clean (worked-resting set (tasks.Act r) s.formatter h.resting)
+
+  -- ---- all states
+
+  -- what is told is still to be heard, but for a macro that springs before
+  abbrev IsAwaited : Option (List ℕ) → Event → Mode → Type 0
+  IsAwaited None e m = IsHeard set e m
+  IsAwaited (Some n) e m = e ≡ events.Nothing
+
+  pub record AreClear (s : State) : Type 0 where
+    pub clean : IsClean s
+    pub kept : IsKept set s.formatter
+    pub awaited : IsAwaited s.formatter.springs s.formatter.event s.formatter.reader.half.reading.mode
+
+  quiet : (n : Option (List ℕ)) (e : Event) (m : Mode) → e ≡ events.Nothing → IsAwaited n e m
+  quiet None e m is = subst (λ x. IsHeard set x m) (sym is) tt
+  quiet (Some n) e m is = is
+
+  awaits : (n : Option (List ℕ)) (e : Event) (m : Mode) → n ≡ None → IsHeard set e m → IsAwaited n e m
+  awaits None e m is h = h
+  awaits (Some n) e m is h = absurd (let wrong : Some n ≡ None = is in cc)
+
+  of-rest : (s : State) → Rests s → AreClear s
+  of-rest s h =
+      record { clean = h.clean; kept = h.resting.kept; awaited = quiet s.formatter.springs s.formatter.event s.formatter.reader.half.reading.mode h.resting.idle }
+
+  of-hearing : (s : State) (f : Formatter) → IsClean s → Hearing set f → AreClear (record s { formatter = f })
+  of-hearing s f clean h =
+      record { clean = record { row = clean.row; lines = clean.lines; pages = clean.pages; coming = clean.coming }; kept = h.kept; awaited = awaits f.springs f.event f.reader.half.reading.mode h.calm h.heard }
+
+  -- ---- reading
+
+  met : (c : Bool) (m : Met) (q : Situation Resume) → AreStored set q.stored → AreStored set (if c then taken_at m q else stays_at m q).situation.stored
+  met true m q h = left-stored set q.stored.levels q.stored h.levels h
+  met false m q h = h
+
+  moved-stored : (c : Bool) (q : Situation Resume) → AreStored set q.stored → IsHalf set q.reader.half → AreStored set (if c then look q else acted_at q).situation.stored
+  moved-stored true q h half = let m = meet (front (shown q.stored.levels) q.coming) q.reader.half in met m.takes m q h
+  moved-stored false q h half = act-stored set q.reader.half.reading.due q.stored q.reader half.due half.ends h
+
+  met-coming : (c : Bool) (m : Met) (q : Situation Resume) → AreAmong set q.coming.supply.bytes → AreAmong set (if c then taken_at m q else stays_at m q).situation.coming.supply.bytes
+  met-coming true m q h = behind-among set (shown q.stored.levels) q.coming h
+  met-coming false m q h = h
+
+  moved-coming : (c : Bool) (q : Situation Resume) → AreAmong set q.coming.supply.bytes → AreAmong set (if c then look q else acted_at q).situation.coming.supply.bytes
+  moved-coming true q h = let m = meet (front (shown q.stored.levels) q.coming) q.reader.half in met-coming m.takes m q h
+  moved-coming false q h = h
+
+  -- an event that is told, in the mode that the move leads to
+  abbrev IsToldIn : Mode → Told Resume → Type 0
+  IsToldIn m (tells.Event e) = IsHeard set e m
+  IsToldIn m (tells.Resume k) = AreAmong set k.line
+
+  abbrev IsTold : Move Resume → Type 0
+  IsTold m = IsToldIn m.situation.reader.half.reading.mode m.told
+
+  -- what a look tells
+  shown-told : (x : Shown Resume) (e : Event) (m : Mode) → IsHeard set e m → IsResume set x → IsToldIn m (told_of x e)
+  shown-told shows.Nothing e m h is = h
+  shown-told shows.End e m h is = h
+  shown-told (shows.Item x) e m h is = h
+  shown-told (shows.Resume k) e m h is = is
+
+  looked-told : (c : Bool) (m : Met) (q : Situation Resume) → IsHeard set m.event m.half.reading.mode → IsResume set (shown q.stored.levels) → IsTold (if c then taken_at m q else stays_at m q)
+  looked-told true m q h is = shown-told (shown q.stored.levels) m.event m.half.reading.mode h is
+  looked-told false m q h is = h
+
+  sought-told : (c : Calls) (m : Mode) → IsHeard set (sought_event c) m
+  sought-told calls.Title m = tt
+  sought-told c m = tt
+
+  acted-told : (d : Due) (v : Stored Resume) (r : Reader) (m : Mode) → IsHeard set (act_due d v r).event m
+  acted-told dues.Begin v r m = tt
+  acted-told (dues.Register signs.None) v r m = tt
+  acted-told (dues.Register signs.Plus) v r m = tt
+  acted-told (dues.Register signs.Minus) v r m = tt
+  acted-told dues.Seek v r m = sought-told (calls_of (meaning_in v r)) m
+  acted-told (dues.Lead n) v r m = tt
+  acted-told d v r m = tt
+
+  moved-told : (c : Bool) (q : Situation Resume) → AreAmong set q.coming.supply.bytes → AreStored set q.stored → IsHalf set q.reader.half → IsTold (if c then look q else acted_at q)
+  moved-told true q coming h half =
+      let f = front (shown q.stored.levels) q.coming in
+      let m = meet f q.reader.half in
+      looked-told m.takes m q (meet-told set f q.reader.half half (front-printed set q.stored.levels q.coming coming h.levels)).heard (resume-among set q.stored.levels h.levels)
+  moved-told false q coming h half = acted-told q.reader.half.reading.due q.stored q.reader (act_due q.reader.half.reading.due q.stored q.reader).reader.half.reading.mode
+
+  met-half : (c : Bool) (m : Met) (q : Situation Resume) → IsHalf set m.half → IsHalf set (if c then taken_at m q else stays_at m q).situation.reader.half
+  met-half true m q h = h
+  met-half false m q h = h
+
+  next-half : (d : Due) (h : Half) → IsDue set d → IsHalf set h → IsHalf set (next d h)
+  next-half d h due is = record { due = due; held = is.held; few = is.few; ending = is.ending; ends = is.ends; line = is.line; texts = is.texts }
+
+  test-due : (c : Bool) (x y : Due) → IsDue set x → IsDue set y → IsDue set (if c then x else y)
+  test-due true x y first second = first
+  test-due false x y first second = second
+
+  held-due : (held n : ℕ) (b : Option ℕ) → held ≤ 33 → IfAmong set b → IsDue set (after_held held n b)
+  held-due held n (Some b) few among = test-due (nat_lt (n + 1) held) (dues.Release held (n + 1) (Some b)) (dues.Add b) (few, among) among
+  held-due held n None few among = test-due (nat_lt (n + 1) held) (dues.Release held (n + 1) None) dues.Look (few, tt) tt
+
+  else-held : (answer : Option Bool) → IsHeld set (else_mode answer)
+  else-held None = tt
+  else-held (Some answer) = part-held set (not answer)
+
+  sought-half : (c : Calls) (h : Half) → IsHalf set h → IsHalf set (sought c h)
+  sought-half calls.Else h is = record { due = is.due; held = else-held (slice_get h.notes.answers 0); few = is.few; ending = is.ending; ends = is.ends; line = is.line; texts = is.texts }
+  sought-half c h is = record { due = is.due; held = tt; few = is.few; ending = is.ending; ends = is.ends; line = is.line; texts = is.texts }
+
+  spliced-half : (c : Bool) (v : Stored Resume) (r : Reader) → IsHalf set r.half → IsHalf set (splicing c v r).reader.half
+  spliced-half true v r h = next-half dues.Look r.half tt h
+  spliced-half false v r h = next-half dues.Look r.half tt h
+
+  acted-half : (d : Due) (v : Stored Resume) (r : Reader) → r.half.reading.due ≡ d → IsHalf set r.half → IsHalf set (act_due d v r).reader.half
+  acted-half dues.Look v r is h = h
+  acted-half dues.Begin v r is h = next-half dues.Look r.half tt h
+  acted-half (dues.Add b) v r is h = next-half dues.Look r.half tt h
+  acted-half (dues.Release held n b) v r is h =
+      let due : IsDue set (dues.Release held n b) = subst (IsDue set) is h.due in
+      next-half (after_held held n b) r.half (held-due held n b due.0 due.1) h
+  acted-half dues.Define v r is h = next-half dues.Look r.half tt h
+  acted-half dues.DefineAndCall v r is h =
+      next-half (if is_empty r.half.notes.defining.ending then dues.Look else dues.CallEnding) r.half (test-due (is_empty r.half.notes.defining.ending) dues.Look dues.CallEnding tt tt) h
+  acted-half dues.CallEnding v r is h =
+      let name = r.half.notes.defining.ending in
+      spliced-half (has_text name v) (entered name (words (find name v.names)) None v) r h
+  acted-half dues.Splice v r is h =
+      let name = r.half.notes.asked in
+      spliced-half (has_text name v) (entered name (words (find name v.names)) None v) r h
+  acted-half (dues.Register signs.None) v r is h = next-half dues.Look r.half tt h
+  acted-half (dues.Register signs.Plus) v r is h = next-half (dues.Register signs.None) r.half tt h
+  acted-half (dues.Register signs.Minus) v r is h = next-half (dues.Register signs.None) r.half tt h
+  acted-half (dues.Argument n) v r is h = next-half dues.Look r.half tt h
+  acted-half (dues.Put b) v r is h = next-half dues.Look r.half tt h
+  acted-half dues.EndArgument v r is h = next-half dues.Look r.half tt h
+  acted-half dues.Call v r is h = spliced-half (has_text (name_in r) v) (called (name_in r) (words (find (name_in r) v.names)) v) r h
+  acted-half dues.Seek v r is h = sought-half (calls_of (meaning_in v r)) (next dues.Look r.half) (next-half dues.Look r.half tt h)
+  acted-half (dues.Judge b) v r is h = record { due = tt; held = part-held set (answer_of b r.half.notes); few = h.few; ending = h.ending; ends = h.ends; line = h.line; texts = h.texts }
+  acted-half (dues.Lead n) v r is h = next-half (if nat_le n 1 then dues.Look else dues.Lead (n - 1)) r.half (test-due (nat_le n 1) dues.Look (dues.Lead (n - 1)) tt tt) h
+  acted-half dues.Expanded v r is h = absurd (subst (IsDue set) is h.due)
+
+  moved-half : (c : Bool) (q : Situation Resume) → AreAmong set q.coming.supply.bytes → AreStored set q.stored → IsHalf set q.reader.half → IsHalf set (if c then look q else acted_at q).situation.reader.half
+  moved-half true q coming h half =
+      let f = front (shown q.stored.levels) q.coming in
+      let m = meet f q.reader.half in
+      met-half m.takes m q (meet-told set f q.reader.half half (front-printed set q.stored.levels q.coming coming h.levels)).half
+  moved-half false q coming h half = acted-half q.reader.half.reading.due q.stored q.reader refl half
+
+  record IsClear (f : Formatter) : Type 0 where
+    kept : IsKept set f
+    awaited : IsAwaited f.springs f.event f.reader.half.reading.mode
+
+  standing-held : (s : Standing) → IsHeld set (mode_of s)
+  standing-held standings.Start = tt
+  standing-held standings.Leading = tt
+  standing-held standings.Text = tt
+  standing-held standings.Continued = tt
+
+  told-clear : (t : Told Resume) (f : Formatter) → IsKept set f → f.springs ≡ None → IsToldIn f.reader.half.reading.mode t → IsClear (told t f)
+  told-clear (tells.Event e) f h calm is =
+      record { kept = record { stored = h.stored; lined = h.lined; tab = h.tab; leader = h.leader; half = h.half }; awaited = awaits f.springs e f.reader.half.reading.mode calm is }
+  told-clear (tells.Resume k) f h calm is =
+      record { kept = record { stored = h.stored; lined = h.lined; tab = h.tab; leader = h.leader; half = record { due = h.half.due; held = standing-held k.standing; few = h.half.few; ending = h.half.ending; ends = h.half.ends; line = All-take (IsAmong set) 256 k.line is; texts = h.half.texts } }; awaited = quiet f.springs events.Nothing (mode_of k.standing) refl }
+
+  with-formatter : (s t : State) → IsClean s → t.row ≡ s.row → t.lines ≡ s.lines → t.pages ≡ s.pages → AreAmong set t.coming.supply.bytes → IsClear t.formatter → AreClear t
+  with-formatter s t clean row lines pages coming h =
+      record {
+        clean = record { row = subst (ArePrinted set) (sym row) clean.row; lines = subst ArePlaced (sym lines) clean.lines; pages = subst AreClosed (sym pages) clean.pages; coming = coming };
+        kept = h.kept;
+        awaited = h.awaited;
+      }
+
+  reads : (s : State) → IsClean s → IsKept set s.formatter → s.formatter.springs ≡ None → AreClear (read s)
+  reads s clean h calm =
+      let q = situation_of s in
+      let m = input_move q in
+      let stored : AreStored set m.situation.stored = moved-stored (looks q) q h.stored h.half in
+      with-formatter s (read s) clean refl refl refl (moved-coming (looks q) q clean.coming)
+      (told-clear m.told (record s.formatter { store = m.situation.stored; reader = m.situation.reader })
+      (record { stored = stored; lined = h.lined; tab = h.tab; leader = h.leader; half = moved-half (looks q) q clean.coming h.stored h.half }) calm (moved-told (looks q) q clean.coming h.stored h.half))
+
+  -- ---- a move
+
+  celled : (margin : ℕ) (x : Cell) (row : List Cell) → IsPrinted set x → ArePrinted set row → ArePrinted set (with_cell margin x row)
+  celled margin x row is h =
+      let one : ArePrinted set (x ∷ []) = All-cons (IsPrinted set) x [] is (All-nil (IsPrinted set)) in
+      either (ArePrinted set) (is_nil row) (replicate margin blank ++ x ∷ []) (row ++ x ∷ []) (join set (replicate margin blank) (x ∷ []) (blanks set margin) one) (join set row (x ∷ []) h one)
+
+  cell-goes : (o : Outlet) (x : Cell) (s : State) → IsPrinted set x → IsClean s → IsKept set s.formatter → s.formatter.springs ≡ None → AreClear (cell_to o x s)
+  cell-goes outlets.Diversion x s is clean h calm =
+      let there = cell-diverted set (margin_in (indent s.formatter) s.row) x s.formatter is h in
+      record {
+        clean = record { row = celled (indent s.formatter) x s.row is clean.row; lines = clean.lines; pages = clean.pages; coming = clean.coming };
+        kept = record { stored = there.stored; lined = there.lined; tab = there.tab; leader = there.leader; half = there.half };
+        awaited = awaits s.formatter.springs events.Nothing s.formatter.reader.half.reading.mode calm tt;
+      }
+  cell-goes o x s is clean h calm =
+      record {
+        clean = record { row = celled (offset s.formatter + indent s.formatter) x s.row is clean.row; lines = clean.lines; pages = clean.pages; coming = clean.coming };
+        kept = record { stored = h.stored; lined = h.lined; tab = h.tab; leader = h.leader; half = h.half };
+        awaited = awaits s.formatter.springs events.Nothing s.formatter.reader.half.reading.mode calm tt;
+      }
+
+  works : (t : Task) (s : State) → s.formatter.springs ≡ None → Rests s → AreClear (work t s)
+  works tasks.Read s calm h = reads s h.clean h.resting.kept calm
+  works (tasks.Flow after breaks) s calm h =
+      of-rest _ (goes-or (lines.flow_line after breaks s.formatter) (lines.flow_done after) s h (plain-rests s _ h.clean (record { kept = h.resting.kept; idle = h.resting.idle })))
+  works (tasks.Break t) s calm h = of-rest _ (broken t s h)
+  works (tasks.Act r) s calm h = of-rest _ (acts r s h)
+  works (tasks.Room r) s calm h = of-rest _ (room-made (outlet s.formatter) r s h)
+  works tasks.Title s calm h = of-rest _ (title-goes (outlet s.formatter) s h)
+  works (tasks.Line n) s calm h = of-rest _ (row-goes (outlet s.formatter) n s h)
+  works (tasks.Space n) s calm h = of-rest _ (space-put n s h)
+  works (tasks.Begin given) s calm h = of-rest _ (begun s h)
+  works (tasks.Eject e) s calm h = of-rest _ (ejects e s h)
+  works tasks.Halted s calm h = of-rest _ h
+  works t s calm h = of-rest _ (plain-rests s _ h.clean (worked-resting set t s.formatter h.resting))
+
+  plainly-heard : (e : Event) (s : State) → s.formatter.event ≡ e → IsClean s → Hearing set s.formatter → AreClear (plainly (moves.heard e) s)
+  plainly-heard e s event clean h = of-hearing s (moves.heard e s.formatter) clean (heard-hearing set e s.formatter event h)
+
+  hears : (e : Event) (s : State) → s.formatter.event ≡ e → IsClean s → Hearing set s.formatter → AreClear (hear e s)
+  hears events.Nothing s event clean h = works s.formatter.task s h.calm (record { clean = clean; resting = record { kept = h.kept; idle = event } })
+  hears (events.DivertedCell x) s event clean h =
+      cell-goes (outlet s.formatter) x s (subst (λ e. IsHeard set e s.formatter.reader.half.reading.mode) event h.heard) clean h.kept h.calm
+  hears e s event clean h = plainly-heard e s event clean h
+
+  springs : (n : Option (List ℕ)) (s : State) → s.formatter.springs ≡ n → AreClear s → AreClear (spring_or n s)
+  springs None s is h =
+      let heard : IsHeard set s.formatter.event s.formatter.reader.half.reading.mode =
+      subst (λ n. IsAwaited n s.formatter.event s.formatter.reader.half.reading.mode) is h.awaited in
+      hears s.formatter.event s refl h.clean (record { kept = h.kept; heard = heard; calm = is })
+  springs (Some name) s is h =
+      let idle : s.formatter.event ≡ events.Nothing = subst (λ n. IsAwaited n s.formatter.event s.formatter.reader.half.reading.mode) is h.awaited in
+      of-rest _ (plain-rests s _ h.clean (sprung-resting set name s.formatter (record { kept = h.kept; idle = idle })))
+
+  -- ---- what of the options takes effect
+
+  clear-if : (c : Bool) (f g : Formatter) → IsClear f → IsClear g → IsClear (if c then f else g)
+  clear-if true f g first second = first
+  clear-if false f g first second = second
+
+  given-clear : (r : BuiltInRegister) (n : ℤ) (f : Formatter) → IsClear f → IsClear (registers.given_set r n f)
+  given-clear given.Page n f h = record { kept = h.kept; awaited = h.awaited }
+  given-clear given.Height n f h = record { kept = h.kept; awaited = h.awaited }
+  given-clear given.Width n f h = record { kept = h.kept; awaited = h.awaited }
+  given-clear r n f h = h
+
+  written-clear : (r : Option Numbered) (name : List ℕ) (f : Formatter) → IsClear f → IsClear (record f { store = written r name f.store })
+  written-clear None name f h = record { kept = h.kept; awaited = h.awaited }
+  written-clear (Some r) name f h = record { kept = h.kept; awaited = h.awaited }
+
+  set-clear : (r : Option BuiltInRegister) (name : List ℕ) (n : ℤ) (f : Formatter) → IsClear f → IsClear (registers.register_set_by r name n None f)
+  set-clear None name n f h = written-clear (set_to n None (register_of (find name f.store.registers))) name f h
+  set-clear (Some r) name n f h = clear-if (is_held n) (registers.given_set r n f) f (given-clear r n f h) h
+
+  chosen : (c : Choice) (f : Formatter) → IsClear f → IsClear (choose c f)
+  chosen (First n) f h = clear-if (is_held n) (record f { paper = record f.paper { number = n } }) f (record { kept = h.kept; awaited = h.awaited }) h
+  chosen (Register name n) f h = set-clear (given_named (name ∷ [])) (name ∷ []) n f h
+
+  chooses : (cs : List Choice) (s : State) → AreClear s → AreClear (choose_or cs s)
+  chooses [] s h = springs s.formatter.springs s refl h
+  chooses (c ∷ cs) s h =
+      with-formatter s (choose_or (c ∷ cs) s) h.clean refl refl refl h.clean.coming (chosen c s.formatter (record { kept = h.kept; awaited = h.awaited }))
+
+  stepped : (s : State) → AreClear s → AreClear (step s)
+  unfolding step
+  stepped s h = chooses s.chosen s h
+
+  pub clear-after : (n : ℕ) (s : State) → AreClear s → AreClear (state_after n s)
+  clear-after zero s h = h
+  clear-after (suc n) s h = stepped (state_after n s) (clear-after n s h)
+
+  pub starts-clear : (b : Bounds) (options : Options) (supply : Supply) → AreAmong set supply.bytes → AreClear (start b options supply)
+  starts-clear b options supply among =
+      record {
+        clean = record { row = All-nil (IsPrinted set); lines = All-nil IsPlaced; pages = All-nil IsClosed; coming = among };
+        kept = record {
+          stored = record { names = request_names-stored set; building = no_building set; levels = no_levels set; once = once-none request_names; arguments = no_words set; gathered = none-gathered set };
+          lined = record { pieces = All-nil (IsSet set); word = tt; title = tt };
+          tab = tt;
+          leader = refl;
+          half = record { due = tt; held = tt; few = omega arith; ending = omega arith; ends = All-nil (IsAmong set); line = All-nil (IsAmong set); texts = none-texts set };
+        };
+        awaited = tt;
+      }

@@ -2,7 +2,7 @@
 ghost use Rattle.nr_laws.specs.Laws.{LimitsOnlyStop, NoLimitAsked, LimitsCut, LimitsCutOutput, DoneIsWhole, OneWhole, WiderLimits, LimitsUnmet, OneAnswer};
 ghost use Rattle.nr_laws.specs.Moves.{LimitsAreExact, MovesAreFew, MovesBeforeByte, MovesBetween};
 ghost use Rattle.nr_laws.specs.PlainText.{PlainTextStays};
-ghost use Rattle.nr_laws.specs.Printed.{NoControlGoesOut, BackspaceStrikes};
+ghost use Rattle.nr_laws.specs.Printed.{NoByteIsAdded, NoHighControlGoesOut, NoControlGoesOut, BackspaceStrikes};
 ghost use Rattle.nr_laws.specs.Faces.{FacesOnlyShow, StruckOutIsSame, LettersAreLeft};
 ghost use Rattle.nr_laws.specs.FilledText.{FilledTextIsRows, CutIsLongest, CutFits};
 
@@ -125,4 +125,15 @@ pub fn faces_only_show()
 pub fn no_control_goes_out()
     ensures bytes { NoControlGoesOut }
     ensures struck { BackspaceStrikes }
+{}
+
+/// Beyond ASCII no byte goes out that is not in the input: whatever the set, where each byte of the input is of ASCII or of the set,
+/// so is each that goes out. So where the input has none from 128 to 159, none goes out.
+///
+/// Proved: Beyond ASCII no byte goes out that is not in the input: whatever the set, where each byte of the input is
+/// of ASCII or of the set, so is each that goes out.
+/// Proved: Where the input has no byte from 128 to 159, none goes out.
+pub fn no_byte_is_added()
+    ensures bytes { NoByteIsAdded }
+    ensures controls { NoHighControlGoesOut }
 {}
