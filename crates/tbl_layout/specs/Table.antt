@@ -56,6 +56,11 @@ first_table signs most row = record {
   most_text = most;
 }
 
+-- the elements of all its lists
+abbrev pub memory_of : ℕ → ℕ → ℕ
+memory_of most row =
+    2 * text_room most row + 16384 + 256 + row_room most + item_room most + 2 * cell_room most + 64 + step_room most
+
 -- its rows are forgotten, and what was made of them; its formats stay
 abbrev pub forgotten : Table → Table
 forgotten t = record t {

@@ -1,6 +1,6 @@
 //! A table as it is held while it is measured: its formats, and its rows with their fields.
 
-ghost use Rattle.std.specs.Prelude.{◌≡◌, IfOk};
+ghost use Rattle.std.specs.Prelude.{◌≡◌, ◌+◌, IfOk};
 ghost use Rattle.tbl_layout.specs.Held as held;
 ghost use Rattle.tbl_layout.specs.Table as specs;
 
@@ -8,7 +8,7 @@ use super::block_lines::Lines;
 use super::places::Place;
 use super::signs::Signs;
 use nr_vectors::{CountedAlloc, FixedVec};
-use std::alloc::{AllocError, Global};
+use std::alloc::AllocError;
 
 /// The greatest number of columns.
 pub(crate) const COLUMNS: usize = 64;
@@ -325,6 +325,7 @@ fn two_lists<A: Copy, B: Copy>(
 ) -> Result<(FixedVec<A>, FixedVec<B>), AllocError>
     ensures first { IfOk result (λ made. made.0 ≡ specs.room_for first) }
     ensures second { IfOk result (λ made. made.1 ≡ specs.room_for second) }
+    ensures taken { IfOk result (λ made. alloc.new ≡ alloc.old + first + second) }
 {
     Ok((FixedVec::new(alloc, first)?, FixedVec::new(alloc, second)?))
 }
@@ -339,6 +340,7 @@ fn three_lists<A: Copy, B: Copy, C: Copy>(
     ensures first { IfOk result (λ made. made.0 ≡ specs.room_for first) }
     ensures second { IfOk result (λ made. made.1 ≡ specs.room_for second) }
     ensures third { IfOk result (λ made. made.2 ≡ specs.room_for third) }
+    ensures taken { IfOk result (λ made. alloc.new ≡ alloc.old + first + second + third) }
 {
     let (first, second) = two_lists(alloc, first, second)?;
     Ok((first, second, FixedVec::new(alloc, third)?))
@@ -346,19 +348,27 @@ fn three_lists<A: Copy, B: Copy, C: Copy>(
 
 impl Table {
     /// Takes the memory for a table of so many bytes, whose rows have so many at most, and which is drawn with these.
-    pub fn new(alloc: Global, most: usize, row: usize, signs: Signs) -> Result<Table, AllocError>
+    ///
+    /// Proved: A table is made of as many elements of memory as its limits ask for, by the count of the allocator.
+    /// (`taken` of what `Table::new` ensures)
+    pub fn new(
+        alloc: &mut CountedAlloc,
+        most: usize,
+        row: usize,
+        signs: Signs,
+    ) -> Result<Table, AllocError>
         ensures value { IfOk result (λ made. made ≡ specs.first_table signs most row) }
+        ensures taken { IfOk result (λ made. alloc.new ≡ alloc.old + specs.memory_of most row) }
     {
         let bytes = most.saturating_add(row).saturating_add(64);
         let rows = most / COLUMNS + 2;
         let items = rows * 2 + 2 * LINES;
         let steps = items * 4;
         let cells = rows.saturating_mul(COLUMNS);
-        let mut alloc = CountedAlloc::new(alloc);
-        let (text, keys, lines) = three_lists(&mut alloc, bytes, COLUMNS * LINES, LINES)?;
-        let (fields, rows, items) = three_lists(&mut alloc, bytes, rows, items)?;
-        let (cells, grid) = two_lists(&mut alloc, cells, cells)?;
-        let (columns, steps) = two_lists(&mut alloc, COLUMNS, steps)?;
+        let (text, keys, lines) = three_lists(alloc, bytes, COLUMNS * LINES, LINES)?;
+        let (fields, rows, items) = three_lists(alloc, bytes, rows, items)?;
+        let (cells, grid) = two_lists(alloc, cells, cells)?;
+        let (columns, steps) = two_lists(alloc, COLUMNS, steps)?;
         Ok(Table {
             looks: Looks::plain(),
             signs,

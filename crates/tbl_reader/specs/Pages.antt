@@ -1,5 +1,5 @@
 -- What is known of a page between two bytes, and what is kept of it.
-use Rattle.std.specs.Prelude.{ℕ, ◌+◌, List, [], ◌++◌, drop}
+use Rattle.std.specs.Prelude.{ℕ, ◌+◌, max, List, [], ◌++◌, drop}
 use Rattle.tbl_reader.specs.declared.complaint.Kind.{Kind}
 use Rattle.tbl_reader.specs.declared.reader.Limits.{Limits}
 use Rattle.tbl_reader.specs.declared.state.Mode.{Mode}
@@ -15,6 +15,10 @@ pub record Page : Type 0 where
   pub kept : List ℕ
   pub from : ℕ
   pub start : ℕ
+
+-- the bytes of memory of a reader: one more than are kept at most
+abbrev pub memory_of : Limits → ℕ
+memory_of l = max l.formats l.row + 1
 
 -- what it is then, and what is said
 pub record Effect : Type 0 where

@@ -1,7 +1,7 @@
 //! A page is read: lines that pass at once, and those of a table line by line.
 ghost use Rattle.std.specs.Prelude.{◌≡◌, ◌+◌, ◌^◌, ◌<◌, ◌≤◌, min, length, take, drop, true, IfOk};
 ghost use Rattle.tbl_reader.specs.Commands.{begins_command, is_free};
-ghost use Rattle.tbl_reader.specs.Pages.{forgotten, with_state, rest_of, line_of};
+ghost use Rattle.tbl_reader.specs.Pages.{forgotten, with_state, rest_of, line_of, memory_of};
 ghost use Rattle.tbl_reader.specs.States.{first_state};
 ghost use Rattle.tbl_reader.specs.Telling.{Tells};
 ghost use Rattle.tbl_reader.specs.Reading as reading;
@@ -16,7 +16,7 @@ use super::passing::{Lines, free_lines, line_len};
 use super::state::{Mode, State};
 use super::telling::{Setter, Tell};
 use nr_vectors::{CountedAlloc, FixedVec};
-use std::alloc::{AllocError, Global};
+use std::alloc::AllocError;
 use std::marker::Model;
 
 /// How many bytes are kept at most.
@@ -60,14 +60,22 @@ impl Model for Reader {
 
 impl Reader {
     /// Takes the memory for what is kept, where the line has so many cells.
-    pub fn new(alloc: Global, limits: Limits, cells: usize) -> Result<Reader, AllocError>
+    ///
+    /// Proved: A page is read with one byte of memory more than the greater of the two limits, by the count of the
+    /// allocator. (`taken` of what `Reader::new` ensures)
+    pub fn new(
+        alloc: &mut CountedAlloc,
+        limits: Limits,
+        cells: usize,
+    ) -> Result<Reader, AllocError>
         ensures formats { IfOk result
             (λ made. made.limits.formats ≡ min limits.formats 18446744073709551614) }
         ensures row { IfOk result (λ made. made.limits.row ≡ min limits.row 18446744073709551614) }
         ensures line { IfOk result (λ made. made.state.measure.line ≡ cells) }
+        ensures taken { IfOk result (λ made. alloc.new ≡ alloc.old + memory_of made.limits) }
     {
         let room = limits.formats.max(limits.row).saturating_add(1);
-        let kept = FixedVec::new(&mut CountedAlloc::new(alloc), room)?;
+        let kept = FixedVec::new(alloc, room)?;
         Ok(Reader {
             state: State::new(cells),
             limits: Limits {

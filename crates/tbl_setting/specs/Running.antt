@@ -1,16 +1,18 @@
 -- The tables of a page are turned: what goes out is one function of the bytes that came, and what is wrong with them was told.
-use Rattle.std.specs.Prelude.{◌≡◌, ℕ, List, length, Bool, true, false, Option, ◌⊎◌}
+use Rattle.std.specs.Prelude.{◌≡◌, ℕ, ◌+◌, List, length, Bool, true, false, Option, ◌⊎◌}
 use Rattle.std.specs.Io.KnownBytes.{Appends}
 use Rattle.nr_vectors.specs.Items.{Items}
 use Rattle.nr_units.specs.Sink.{AppendsFront}
 use Rattle.nr_units.specs.Source.{Supply}
 use Rattle.tbl_layout.specs.declared.signs.Signs.{Signs}
+use Rattle.tbl_layout.specs.Table as layout
 use Rattle.tbl_layout.specs.declared.table.Table.{Table}
 use Rattle.tbl_reader.specs.declared.complaint.Complaint.{Complaint}
 use Rattle.tbl_reader.specs.declared.reader.Limits.{Limits}
 use Rattle.tbl_reader.specs.declared.running.Outcome.{Outcome}
 use Rattle.tbl_reader.specs.declared.running.Outcome.TheVariants.{Done, ReadFault, TooLong, WriteFault}
 use Rattle.tbl_reader.specs.Ending.{first_page, page_said}
+use Rattle.tbl_reader.specs.Pages as reading
 use Rattle.tbl_reader.specs.Reading.{fed}
 use Rattle.tbl_reader.specs.Running.{Came, Ends}
 use Rattle.tbl_reader.specs.Telling.{Piece}
@@ -21,6 +23,10 @@ pub record Bounds : Type 0 where
   pub signs : Signs
   pub limits : Limits
   pub cells : ℕ
+
+-- the elements of memory that pages are turned in: what waits to go out, what is read, and a table
+abbrev pub memory_of : Limits → ℕ
+memory_of l = 4096 + reading.memory_of l + layout.memory_of l.formats l.row
 
 -- what a page of these bytes comes to, and what it comes to so far where more bytes may follow
 abbrev pub set_page : Signs → Limits → ℕ → List ℕ → List ℕ

@@ -1,5 +1,5 @@
 //! A whole page is turned.
-ghost use Rattle.std.specs.Prelude.{◌≡◌, [], false, IfOk, min};
+ghost use Rattle.std.specs.Prelude.{◌≡◌, ◌+◌, [], false, IfOk, min};
 ghost use Rattle.tbl_setting.specs.Drawing.{signs_of};
 ghost use Rattle.tbl_setting.specs.Running as specs;
 ghost use Rattle.tbl_setting.specs.Setting.{first_tape, page_table};
@@ -13,7 +13,7 @@ use nr_units::sink::Sink;
 use nr_units::source::Source;
 use nr_vectors::slice_vec::SliceVec;
 use nr_vectors::{CountedAlloc, FixedVec};
-use std::alloc::{AllocError, Global};
+use std::alloc::AllocError;
 use std::marker::Model;
 use tbl_layout::{Out, Signs, Table};
 use tbl_reader::{Complaint, Limits, Outcome, Reader, read_page};
@@ -74,8 +74,11 @@ impl Model for Rooms {
 impl Rooms {
     /// Takes the memory: for a table of so many bytes, of which rows have so many at most, where the line has so
     /// many cells, and frames are drawn with what a table of characters has, or in ASCII.
+    ///
+    /// Proved: Tables are turned in as many elements of memory as the two limits ask for, by the count of the
+    /// allocator. (`taken` of what `Rooms::{new, drawn_with}` ensure)
     pub fn new(
-        alloc: Global,
+        alloc: &mut CountedAlloc,
         table: usize,
         row: usize,
         cells: usize,
@@ -85,13 +88,14 @@ impl Rooms {
         ensures table { IfOk result (λ made. made.limits.formats ≡ min table 18446744073709551614) }
         ensures row { IfOk result (λ made. made.limits.row ≡ min row 18446744073709551614) }
         ensures cells { IfOk result (λ made. made.cells ≡ cells) }
+        ensures taken { IfOk result (λ made. alloc.new ≡ alloc.old + specs.memory_of made.limits) }
     {
         Rooms::drawn_with(alloc, table, row, cells, signs_of(characters))
     }
 
     /// The same, where frames are drawn with these bytes.
     pub fn drawn_with(
-        alloc: Global,
+        alloc: &mut CountedAlloc,
         table: usize,
         row: usize,
         cells: usize,
@@ -101,13 +105,14 @@ impl Rooms {
         ensures table { IfOk result (λ made. made.limits.formats ≡ min table 18446744073709551614) }
         ensures row { IfOk result (λ made. made.limits.row ≡ min row 18446744073709551614) }
         ensures cells { IfOk result (λ made. made.cells ≡ cells) }
+        ensures taken { IfOk result (λ made. alloc.new ≡ alloc.old + specs.memory_of made.limits) }
     {
         let limits = Limits {
             formats: table.min(MOST),
             row: row.min(MOST),
         };
         Ok(Rooms {
-            pending: FixedVec::new(&mut CountedAlloc::new(alloc), PENDING)?,
+            pending: FixedVec::new(alloc, PENDING)?,
             reader: Reader::new(alloc, limits, cells)?,
             table: Table::new(alloc, limits.formats, limits.row, signs)?,
         })
