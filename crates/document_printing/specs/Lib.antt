@@ -1,3 +1,4 @@
 pub mod Document
 pub mod Laws
+pub mod Rooms
 pub mod Showing

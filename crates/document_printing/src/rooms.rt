@@ -1,8 +1,11 @@
 //! The memory of tables.
+ghost use Rattle.std.specs.Prelude.{◌≡◌, ◌+◌, IfOk};
+ghost use Rattle.document_printing.specs.Rooms.{memory_of};
+
 use super::setup::PageLimits;
 use document_stages::Buffer;
 use nr_vectors::CountedAlloc;
-use std::alloc::{AllocError, Global};
+use std::alloc::AllocError;
 use tbl_setting::{Rooms as Tables, Signs};
 use utf8_characters::Table;
 
@@ -17,28 +20,35 @@ pub struct Rooms {
 
 impl Rooms {
     /// Takes it, for a line of so many cells, and frames that are drawn with what the table of characters has.
+    ///
+    /// Proved: Tables are set in as many elements of memory as their limits ask for, by the count of the allocator.
+    /// (`taken` of what `Rooms::{new, drawn_with}` ensure)
     pub fn new(
-        alloc: Global,
+        alloc: &mut CountedAlloc,
         limits: PageLimits,
         cells: usize,
         characters: Option<Table>,
-    ) -> Result<Rooms, AllocError> {
+    ) -> Result<Rooms, AllocError>
+        ensures taken { IfOk result (λ made. alloc.new ≡ alloc.old + memory_of limits) }
+    {
         Ok(Rooms {
             tables: Tables::new(alloc, limits.formats, limits.row, cells, characters)?,
-            page: Buffer::new(&mut CountedAlloc::new(alloc), limits.page)?,
+            page: Buffer::new(alloc, limits.page)?,
         })
     }
 
     /// The same, where frames are drawn with these bytes.
     pub fn drawn_with(
-        alloc: Global,
+        alloc: &mut CountedAlloc,
         limits: PageLimits,
         cells: usize,
         signs: Signs,
-    ) -> Result<Rooms, AllocError> {
+    ) -> Result<Rooms, AllocError>
+        ensures taken { IfOk result (λ made. alloc.new ≡ alloc.old + memory_of limits) }
+    {
         Ok(Rooms {
             tables: Tables::drawn_with(alloc, limits.formats, limits.row, cells, signs)?,
-            page: Buffer::new(&mut CountedAlloc::new(alloc), limits.page)?,
+            page: Buffer::new(alloc, limits.page)?,
         })
     }
 }

@@ -1,5 +1,5 @@
 //! A sink in memory of its own.
-ghost use Rattle.std.specs.Prelude.{◌≡◌, ◌<◌, [], length, IfOk, true};
+ghost use Rattle.std.specs.Prelude.{◌≡◌, ◌+◌, ◌<◌, [], length, min, IfOk, true};
 
 use nr_units::sink::Sink;
 use nr_units::source::{Fault, next_count};
@@ -38,6 +38,7 @@ impl Buffer {
     /// Empty, with room for so many bytes, less than 2^40: `AllocError` where there is no memory for them.
     pub fn new(alloc: &mut CountedAlloc, room: usize) -> Result<Buffer, AllocError>
         ensures empty { IfOk result (λ made. made.bytes ≡ []) }
+        ensures taken { IfOk result (λ made. alloc.new ≡ alloc.old + min room 1099511627775) }
     {
         Ok(Buffer {
             bytes: FixedVec::new(alloc, room.min(MOST))?,

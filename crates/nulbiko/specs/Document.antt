@@ -10,12 +10,14 @@ use Rattle.nr_options.specs.Limits.{AreLimits}
 use Rattle.nr_options.specs.declared.options.Options.{Options}
 use Rattle.document_printing.specs.Document.{Setting}
 use Rattle.document_printing.specs.declared.setup.Outcome.{Outcome}
+use Rattle.document_printing.specs.declared.setup.PageLimits.{PageLimits}
 use Rattle.nulbiko.specs.Formatting.{bounds_of, faces_of}
 use Rattle.nulbiko.specs.Printed.{IsPrinted, code_of, form_of, limit_told, place_told}
 use Rattle.nulbiko.specs.Tables.{table_numbered}
 use Rattle.nulbiko.specs.Told.{IsHanded, code_within, count_told}
 use Rattle.nulbiko.specs.declared.document.DocumentOptions.{DocumentOptions}
 use Rattle.nulbiko.specs.declared.document.DocumentSetup.{DocumentSetup}
+use Rattle.nulbiko.specs.declared.document.TableLimits.{TableLimits}
 use Rattle.nulbiko.specs.declared.told.Report.{Report}
 
 -- ---- what may be asked for
@@ -57,6 +59,11 @@ has_tables page = has_table_from true page
 
 abbrev pub sets_of : DocumentSetup → List ℕ → Bool
 sets_of setup page = setup.options.tables && has_tables page
+
+-- the limits of tables; a page without any has no room for them
+abbrev pub page_limits : TableLimits → Bool → PageLimits
+page_limits asked true = record { formats = asked.formats; row = asked.row; page = asked.page }
+page_limits asked false = record { formats = 0; row = 0; page = 0 }
 
 -- after these macros, through mdoc where that is asked for, characters, and tables where there are some
 abbrev pub setting_for : DocumentSetup → List ℕ → List ℕ → Bounds → Options → Setting

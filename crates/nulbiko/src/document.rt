@@ -1,7 +1,9 @@
 // A whole page is printed in one call: through mdoc, characters and tables, after its macros.
-ghost use Rattle.std.specs.Prelude.{◌≡◌, ◌≢◌, ◌↔◌, [], Some, drop, length, IfOk, IfSome, IsSome};
+ghost use Rattle.std.specs.Prelude.{◌≡◌, ◌≢◌, ◌↔◌, ◌+◌, [], Some, drop, length, IfOk, IfSome, IsSome};
 ghost use Rattle.preconv_coding.specs.UnderCoding.{text_of};
+ghost use Rattle.nr_machine.specs.Lengths.{sizes_of, sum_of};
 ghost use Rattle.document_reader.specs.Page.{IsShort, man_of};
+ghost use Rattle.document_printing.specs.Rooms.{memory_of};
 ghost use Rattle.nulbiko.specs.Formatting.{bounds_of};
 ghost use Rattle.nulbiko.specs.Told.{nothing_told};
 ghost use Rattle.nulbiko.specs.Document as specs;
@@ -144,7 +146,9 @@ fn has_tables(page: &[u8]) -> bool
 }
 
 /// The limits of tables; a page without any has no room for them.
-fn table_limits(asked: TableLimits, sets: bool) -> PageLimits {
+fn table_limits(asked: TableLimits, sets: bool) -> PageLimits
+    ensures { result ≡ specs.page_limits asked sets }
+{
     if sets {
         PageLimits {
             formats: asked.formats,
@@ -169,23 +173,25 @@ struct Prepared {
     memory: Memory,
 }
 
-/// Takes the memory for a page of which so many bytes may go out.
+/// Takes the memory for a page with these characters, of which so many bytes may go out.
 fn prepare(
-    alloc: Global,
+    alloc: &mut CountedAlloc,
     limits: Limits,
     setup: &DocumentSetup,
     page: &[u8],
+    characters: Option<Table>,
     room: usize,
 ) -> Result<Prepared, AllocError>
     ensures sets { IfOk result (λ made. made.sets ≡ sets_of setup.now page.now) }
-    ensures characters { IfOk result (λ made. made.characters ≡ table_for setup.now.options.table page.now) }
+    ensures characters { IfOk result (λ made. made.characters ≡ characters) }
     ensures pages { IfOk result (λ made. ⟦<Pages as Sink>⟧.held made.pages ≡ Some []) }
     ensures limits { IfOk result (λ made. made.memory.desk ≡ limits) }
+    ensures taken { IfOk result (λ made. alloc.new ≡ alloc.old + sum_of (sizes_of limits) + room
+        + memory_of (specs.page_limits setup.now.tables made.sets)) }
 {
-    let characters = table_for(alloc, setup.options.table, page)?;
     let sets = setup.options.tables && has_tables(page);
     let tables = table_limits(setup.tables, sets);
-    let desk = Desk::new(&mut CountedAlloc::new(alloc), limits)?;
+    let desk = Desk::new(alloc, limits)?;
     let pages = Pages::new(alloc, room)?;
     let rooms = Rooms::new(alloc, tables, setup.options.width as usize, characters)?;
     Ok(Prepared {
@@ -281,7 +287,11 @@ pub extern "C" fn nulbiko_document_lent(
     let Ok(text) = text_of(alloc, page) else {
         return OUT_OF_MEMORY;
     };
-    match prepare(alloc, limits, setup, &text, output.len()) {
+    let Ok(characters) = table_for(alloc, setup.options.table, &text) else {
+        return OUT_OF_MEMORY;
+    };
+    let mut counted = CountedAlloc::new(alloc);
+    match prepare(&mut counted, limits, setup, &text, characters, output.len()) {
         Ok(prepared) => print_document(prepared, setup, macros, &text, output, told),
         Err(_) => OUT_OF_MEMORY,
     }

@@ -1,5 +1,6 @@
 // A text is formatted under limits.
-ghost use Rattle.std.specs.Prelude.{◌≡◌, ◌≢◌, ◌↔◌, drop, IfOk, OnErr};
+ghost use Rattle.std.specs.Prelude.{◌≡◌, ◌≢◌, ◌↔◌, ◌+◌, drop, length, IfOk, OnErr};
+ghost use Rattle.nr_machine.specs.Lengths.{sizes_of, sum_of};
 ghost use Rattle.nr_options.specs.Limits.{AreLimits};
 ghost use Rattle.nulbiko.specs.Told.{count_told, nothing_told};
 ghost use Rattle.nulbiko.specs.Formatting.{AreAsked, FormatsText, bounds_of, code_of, faces_of, limit_number, limit_told, place_told};
@@ -109,8 +110,11 @@ pub(crate) fn options_of(asked: TextOptions) -> Options
 }
 
 /// Formats the text in a desk, hands its pages over and gives the number of the outcome.
+///
+/// Proved: A call takes as many elements of memory as its limits and the caller's buffer ask for, by the count of the
+/// allocator. (`taken` of `format_text`, of `set_tables` in tbl.rt and of `prepare` in document.rt)
 fn run_desk(
-    alloc: Global,
+    alloc: &mut CountedAlloc,
     desk: &mut Desk,
     asked: TextOptions,
     input: &[u8],
@@ -118,6 +122,7 @@ fn run_desk(
     told: &mut Report,
 ) -> Result<u32, AllocError>
     ensures formatted { IfOk result (λ code. FormatsText desk.old asked input.now output.new told.new code) }
+    ensures taken { IfOk result (λ code. alloc.new ≡ alloc.old + length output.old) }
     ensures not_range { IfOk result (λ code. code ≢ 2) }
     ensures not_memory { IfOk result (λ code. code ≢ 5) }
     ensures untouched { OnErr result ((output.new ≡ output.old) × (told.new ≡ told.old)) }
@@ -136,7 +141,7 @@ fn run_desk(
 
 /// Formats the text in a desk of its own.
 fn format_text(
-    alloc: Global,
+    alloc: &mut CountedAlloc,
     limits: Limits,
     asked: TextOptions,
     input: &[u8],
@@ -144,12 +149,13 @@ fn format_text(
     told: &mut Report,
 ) -> Result<u32, AllocError>
     ensures formatted { IfOk result (λ code. FormatsText limits asked input.now output.new told.new code) }
+    ensures taken { IfOk result (λ code. alloc.new ≡ alloc.old + sum_of (sizes_of limits) + length output.old) }
     ensures not_range { IfOk result (λ code. code ≢ 2) }
     ensures not_memory { IfOk result (λ code. code ≢ 5) }
     ensures untouched { OnErr result ((output.new ≡ output.old) × (told.new ≡ told.old)) }
     ensures rest { drop told.new.written output.new ≡ drop told.new.written output.old }
 {
-    let mut desk = Desk::new(&mut CountedAlloc::new(alloc), limits)?;
+    let mut desk = Desk::new(alloc, limits)?;
     run_desk(alloc, &mut desk, asked, input, output, told)
 }
 
@@ -190,7 +196,8 @@ pub extern "C" fn nulbiko_format_lent(
     ) else {
         return OUT_OF_RANGE;
     };
-    match format_text(alloc, bounds, *options, input, output, told) {
+    let mut counted = CountedAlloc::new(alloc);
+    match format_text(&mut counted, bounds, *options, input, output, told) {
         Ok(code) => code,
         Err(_) => OUT_OF_MEMORY,
     }

@@ -7,6 +7,7 @@ use super::pages::{Pages, hand_over};
 use super::text::Text;
 use super::told::{DONE, FULL, OUT_OF_MEMORY, Report, TOO_LONG, UNREADABLE, code_within};
 use mdoc_converter::{Block, Outcome, convert};
+use nr_vectors::CountedAlloc;
 use std::alloc::{AllocError, Global};
 
 /// The bytes of what is to go out.
@@ -43,7 +44,7 @@ fn turn_page(
 {
     let mut pending = vec![in alloc; 0u8; PENDING_SIZE]?;
     let mut blocks = vec![in alloc; Block::NONE; MOST_BLOCKS]?;
-    let mut pages = Pages::new(alloc, output.len())?;
+    let mut pages = Pages::new(&mut CountedAlloc::new(alloc), output.len())?;
     let mut text = Text::over(input);
     let mut steps = 0;
     let outcome = convert(&mut text, &mut pages, &mut blocks, &mut pending, &mut steps);

@@ -1,11 +1,11 @@
 // A sink in memory of its own, with room for so many bytes.
-ghost use Rattle.std.specs.Prelude.{◌≡◌, [], length, take, drop, min, Some, IfOk};
+ghost use Rattle.std.specs.Prelude.{◌≡◌, ◌+◌, [], length, take, drop, min, Some, IfOk};
 ghost use Rattle.nr_units.specs.Failures.{no_failures};
 
 use nr_units::sink::Sink;
 use nr_units::source::{Fault, next_count};
 use nr_vectors::{CountedAlloc, FixedVec};
-use std::alloc::{AllocError, Global};
+use std::alloc::AllocError;
 
 /// Takes what fits, and fails at a call that brings more.
 #[derive(Drop)]
@@ -17,12 +17,16 @@ pub(crate) struct Pages {
 
 impl Pages {
     /// Nothing yet: `AllocError` where there is no memory for so many bytes.
-    pub(crate) fn new(alloc: Global, room: usize) -> Result<Pages, AllocError>
+    ///
+    /// Proved: The pages of a call have as many bytes of memory as the caller's buffer, by the count of the allocator.
+    /// (`taken` of what `Pages::new` ensures)
+    pub(crate) fn new(alloc: &mut CountedAlloc, room: usize) -> Result<Pages, AllocError>
         ensures held { IfOk result (λ pages. ⟦<Pages as Sink>⟧.held pages ≡ Some []) }
         ensures failures { IfOk result (λ pages. ⟦<Pages as Sink>⟧.failures pages ≡ no_failures) }
+        ensures taken { IfOk result (λ pages. alloc.new ≡ alloc.old + room) }
     {
         Ok(Pages {
-            bytes: FixedVec::new(&mut CountedAlloc::new(alloc), room)?,
+            bytes: FixedVec::new(alloc, room)?,
             passed_on: false,
             failed_puts: 0,
         })

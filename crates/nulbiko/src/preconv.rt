@@ -10,6 +10,7 @@ use super::text::Text;
 use super::told::{
     DONE, FULL, OUT_OF_MEMORY, OUT_OF_RANGE, Report, TOO_LONG, UNREADABLE, code_within,
 };
+use nr_vectors::CountedAlloc;
 use preconv_coding::UnderCoding;
 use preconv_converter::{Outcome, Target, convert};
 use std::alloc::{AllocError, Global};
@@ -47,7 +48,7 @@ fn turn_text(
     ensures rest { drop told.new.written output.new ≡ drop told.new.written output.old }
 {
     let mut pending = vec![in alloc; 0u8; PENDING_SIZE]?;
-    let mut pages = Pages::new(alloc, output.len())?;
+    let mut pages = Pages::new(&mut CountedAlloc::new(alloc), output.len())?;
     let mut text = UnderCoding::over(Text::over(input));
     let mut steps = 0;
     let target = Target::of(table);

@@ -1,8 +1,9 @@
 // The tables of a text become requests, as tbl makes them.
-ghost use Rattle.std.specs.Prelude.{◌≡◌, ◌≢◌, ◌↔◌, ◌<◌, drop, IfOk, OnErr};
+ghost use Rattle.std.specs.Prelude.{◌≡◌, ◌≢◌, ◌↔◌, ◌+◌, ◌<◌, drop, length, IfOk, OnErr};
 ghost use Rattle.nulbiko.specs.Tables.{table_numbered};
 ghost use Rattle.nulbiko.specs.Told.{nothing_told};
-ghost use Rattle.nulbiko.specs.Tbl.{SetsTables, code_of, first_kind, first_line, kind_number};
+ghost use Rattle.nulbiko.specs.Tbl.{SetsTables, code_of, first_kind, first_line, kind_number, limits};
+ghost use Rattle.tbl_setting.specs.Running.{memory_of};
 
 use super::pages::{Pages, hand_over};
 use super::tables::{MOST_TABLES, table_of};
@@ -10,6 +11,7 @@ use super::text::Text;
 use super::told::{
     DONE, FULL, OUT_OF_MEMORY, OUT_OF_RANGE, Report, TOO_LONG, UNREADABLE, code_within,
 };
+use nr_vectors::CountedAlloc;
 use nr_vectors::slice_vec::SliceVec;
 use std::alloc::{AllocError, Global};
 use tbl_setting::{Complaint, Kind, Outcome, Rooms, convert};
@@ -67,7 +69,7 @@ fn first_wrong(complaints: &[Complaint]) -> (u32, u64)
 
 /// Sets the tables, hands over what comes out and gives the number of the outcome.
 fn set_tables(
-    alloc: Global,
+    alloc: &mut CountedAlloc,
     table: Option<Table>,
     line: usize,
     input: &[u8],
@@ -75,6 +77,7 @@ fn set_tables(
     told: &mut Report,
 ) -> Result<u32, AllocError>
     ensures set { IfOk result (λ code. SetsTables table line input.now output.new told.new code) }
+    ensures taken { IfOk result (λ code. alloc.new ≡ alloc.old + memory_of limits + length output.old) }
     ensures not_range { IfOk result (λ code. code ≢ 2) }
     ensures not_memory { IfOk result (λ code. code ≢ 5) }
     ensures untouched { OnErr result ((output.new ≡ output.old) × (told.new ≡ told.old)) }
@@ -124,7 +127,8 @@ pub extern "C" fn nulbiko_tbl_lent(
     if table > MOST_TABLES {
         return OUT_OF_RANGE;
     }
-    match set_tables(alloc, table_of(table), line, input, output, told) {
+    let mut counted = CountedAlloc::new(alloc);
+    match set_tables(&mut counted, table_of(table), line, input, output, told) {
         Ok(code) => code,
         Err(_) => OUT_OF_MEMORY,
     }

@@ -13,6 +13,7 @@ use super::text::Text;
 use super::told::{
     DONE, FULL, OUT_OF_MEMORY, OUT_OF_RANGE, Report, TOO_LONG, UNREADABLE, code_within,
 };
+use nr_vectors::CountedAlloc;
 use std::alloc::{AllocError, Global};
 use utf8_characters::Table;
 use utf8_converter::{CHARACTERS, LOOKED_AT, Outcome, choose, convert};
@@ -50,7 +51,7 @@ fn turn_bytes(
     ensures rest { drop told.new.written output.new ≡ drop told.new.written output.old }
 {
     let mut pending = vec![in alloc; 0u8; PENDING_SIZE]?;
-    let mut pages = Pages::new(alloc, output.len())?;
+    let mut pages = Pages::new(&mut CountedAlloc::new(alloc), output.len())?;
     let mut text = Text::over(input);
     let mut dropped = 0;
     let outcome = convert(

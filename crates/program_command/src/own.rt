@@ -9,6 +9,7 @@ use document_printing::{Front, PageTable, Report, Rooms, Setup, Showing, Spellin
 use document_reader::{Places, read_own_page, read_page};
 use document_stages::Text;
 use nr_engine::{Desk, Sink, Source};
+use nr_vectors::CountedAlloc;
 use nr_vectors::slice_vec::SliceVec;
 use preconv_converter::Target;
 use std::alloc::AllocError;
@@ -236,7 +237,8 @@ fn print_coded<'a, R: Source + Drop, W: Sink>(
 ) -> Result<Report, AllocError>
     requires { Good table.now }
 {
-    let mut rooms = Rooms::drawn_with(means.alloc, means.limits, plan.cells, signs_of(table))?;
+    let mut alloc = CountedAlloc::new(means.alloc);
+    let mut rooms = Rooms::drawn_with(&mut alloc, means.limits, plan.cells, signs_of(table))?;
     let showing = showing_of(table, plan, means);
     let mut places = Places::new();
     let mut third = [0; ROOM];

@@ -12,6 +12,7 @@ use document_printing::{
     Outcome, PageLimits, PageTable, Report, Rooms, Setup, Showing, Spelling, print, print_shown,
 };
 use nr_engine::{Desk, Options, Sink, Source};
+use nr_vectors::CountedAlloc;
 use nr_vectors::slice_vec::SliceVec;
 use preconv_converter::Target;
 use std::alloc::{AllocError, Global};
@@ -53,7 +54,8 @@ pub(crate) fn print_fixed<R: Source + Drop, W: Sink>(
     desk: &mut Desk,
     output: &mut W,
 ) -> Result<Report, AllocError> {
-    let mut rooms = Rooms::new(means.alloc, means.limits, plan.cells, plan.characters)?;
+    let mut alloc = CountedAlloc::new(means.alloc);
+    let mut rooms = Rooms::new(&mut alloc, means.limits, plan.cells, plan.characters)?;
     let showing = Showing {
         setup: Setup {
             macros: means.macros,

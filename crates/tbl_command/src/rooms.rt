@@ -7,6 +7,7 @@ use super::complaints::tell_complaints;
 use filters::{BUFFER_SIZE, Ending, Turns};
 use nr_units::buffered::Buffered;
 use nr_units::sink::Sink;
+use nr_vectors::CountedAlloc;
 use nr_vectors::slice_vec::SliceVec;
 use std::alloc::{AllocError, Global};
 use std::io::Read;
@@ -34,7 +35,13 @@ impl Rooms {
         Ok(Rooms {
             input: vec![in alloc; 0u8; BUFFER_SIZE]?,
             complaints: vec![in alloc; Complaint::NONE; MOST_COMPLAINTS]?,
-            held: tbl_setting::Rooms::new(alloc, job.formats, job.row, job.line, job.characters)?,
+            held: tbl_setting::Rooms::new(
+                &mut CountedAlloc::new(alloc),
+                job.formats,
+                job.row,
+                job.line,
+                job.characters,
+            )?,
         })
     }
 }

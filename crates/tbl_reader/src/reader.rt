@@ -63,11 +63,7 @@ impl Reader {
     ///
     /// Proved: A page is read with one byte of memory more than the greater of the two limits, by the count of the
     /// allocator. (`taken` of what `Reader::new` ensures)
-    pub fn new(
-        alloc: &mut CountedAlloc,
-        limits: Limits,
-        cells: usize,
-    ) -> Result<Reader, AllocError>
+    pub fn new(alloc: &mut CountedAlloc, limits: Limits, cells: usize) -> Result<Reader, AllocError>
         ensures formats { IfOk result
             (λ made. made.limits.formats ≡ min limits.formats 18446744073709551614) }
         ensures row { IfOk result (λ made. made.limits.row ≡ min limits.row 18446744073709551614) }

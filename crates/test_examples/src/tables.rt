@@ -4,6 +4,7 @@ use super::formatted;
 use nr_engine::{Buffered, Desk, Outcome, Sink, Source};
 use nr_units::Name;
 use nr_units::fakes::{Script, Slate};
+use nr_vectors::CountedAlloc;
 use nr_vectors::slice_vec::SliceVec;
 use std::alloc::{AllocError, Global};
 use std::fs;
@@ -127,7 +128,7 @@ fn opened<R: Files + AllocGlobal>(rt: &R, name: &str) -> anyhow::Result<(Vec<u8>
 /// The rooms of tbl under these limits, and room for so many bytes of pages.
 fn rooms_of(alloc: Global, limits: Bounds, len: usize) -> Result<(Rooms, Vec<u8>), AllocError> {
     let rooms = Rooms::new(
-        alloc,
+        &mut CountedAlloc::new(alloc),
         limits.formats,
         limits.row,
         limits.line,

@@ -8,12 +8,12 @@ pub returns-in-Ok-prepare-clause-printed : goal.returns-in-Ok-prepare-clause-pri
 returns-in-Ok-prepare-clause-printed c = λ ranged remembered short.
     let setup = c.args.setup.now in
     let looked : c.deref.result.now ≡ text_of c.args.page.now = c.deref.ensures.value ∙ c.in-Ok.ensures in
+    let prepared : c.deref-2.result.now ≡ text_of c.args.page.now = c.deref-2.ensures.value ∙ c.in-Ok.ensures in
     let read : c.deref-in-Ok-prepare.result.now ≡ text_of c.args.page.now = c.deref-in-Ok-prepare.ensures.value ∙ c.in-Ok.ensures in
-    let same : c.deref.result.now ≡ c.deref-in-Ok-prepare.result.now = looked ∙ sym read in
     subst (λ (page : List ℕ). PrintsDocument setup c.args.macros.now page c.print_document.new.output c.print_document.new.told c.print_document.result) read
     (c.print_document.ensures.printed
-    (c.in-Ok-prepare.ensures.sets ∙ ap (λ (page : List ℕ). sets_of setup page) same)
-    (c.in-Ok-prepare.ensures.characters ∙ ap (λ (page : List ℕ). table_for setup.options.table page) same)
+    (c.in-Ok-prepare.ensures.sets ∙ ap (λ (page : List ℕ). sets_of setup page) (prepared ∙ sym read))
+    (c.in-Ok-prepare.ensures.characters ∙ c.in-Ok-table_for.ensures ∙ ap (λ (page : List ℕ). table_for setup.options.table page) (looked ∙ sym read))
     c.in-Ok-prepare.ensures.pages
     (c.in-Ok-prepare.ensures.limits ∙ c.in-Some.ensures.value)
     (subst (λ (page : List ℕ). IsShort page (man_of setup.options.mdoc page)) (sym read) short))
