@@ -1,5 +1,5 @@
 -- Bytes, and then those of a source.
-use Rattle.std.specs.Prelude.{ℕ, ◌+◌, List, [], ◌∷◌, ◌++◌, length, Option, None, Some}
+use Rattle.std.specs.Prelude.{◌≡◌, ℕ, ◌+◌, List, [], ◌∷◌, ◌++◌, length, Option, None, Some, ⊤}
 use Rattle.nr_units.specs.Source.{Faults, Never, After, Anytime, Supply}
 
 -- where it fails that has so many bytes more before it
@@ -18,3 +18,8 @@ joined first (Some q) = Some (behind first q)
 abbrev pub first_at_hand : List ℕ → List ℕ → List ℕ
 first_at_hand [] others = others
 first_at_hand (b ∷ bs) others = b ∷ bs
+
+-- what is to come begins with these bytes
+abbrev pub Begins : Option Supply → List ℕ → Type 0
+Begins None first = ⊤
+Begins (Some q) first = (rest : List ℕ) × (q.bytes ≡ first ++ rest)

@@ -1,7 +1,7 @@
 //! Bytes at hand, and then what a source gives.
 ghost use Rattle.std.specs.Prelude.{◌≡◌, Some};
 ghost use Rattle.nr_units.specs.Source.{Supply};
-ghost use Rattle.document_stages.specs.Joined.{joined};
+ghost use Rattle.document_stages.specs.Joined.{Begins, joined};
 
 use nr_units::source::{Fault, Source, next_count};
 
@@ -29,7 +29,11 @@ impl<'a, S: Source> Joined<'a, S> {
     }
 
     /// The bytes of the slice that were not given yet.
-    pub fn first(&self) -> &'a [u8] {
+    ///
+    /// Proved: What it is to give begins with them.
+    pub fn first(&self) -> &'a [u8]
+        ensures { Begins (⟦<Joined<'a, S> as Source>⟧.supply self.now) result.now }
+    {
         self.first
     }
 
