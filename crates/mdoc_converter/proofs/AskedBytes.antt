@@ -1,14 +1,16 @@
 -- The bytes of a line whose words are read for what they ask are not said.
-use Rattle.std.proofs.Common.{◌≡◌, ℕ, ◌≤◌, ◌+◌, [], length, Bool, true, false, not, nat_lt, ◌&&◌, ◌||◌, ◌==◌, if◌then◌else◌, refl, ◌∙◌, ap, arith}
+use Rattle.std.proofs.Common.{◌≡◌, ℕ, ◌≤◌, ◌+◌, [], ◌∷◌, length, Bool, true, false, not, nat_lt, ◌&&◌, ◌||◌, ◌==◌, if◌then◌else◌, Option, None, Some, refl, ◌∙◌, ap, arith}
 use Prim.Native.Char.{code}
 use Rattle.mdoc_converter.specs.declared.acts.Act.TheVariants as acts
+use Rattle.mdoc_converter.specs.declared.escaping.Escape.{Escape as Reached}
 use Rattle.mdoc_converter.specs.declared.macros.Macro.{Macro}
 use Rattle.mdoc_converter.specs.declared.page.Inside.TheVariants as insides
 use Rattle.mdoc_converter.specs.declared.page.Page.{Page}
 use Rattle.mdoc_converter.specs.declared.page.Scan.{Scan}
 use Rattle.mdoc_converter.specs.declared.page.Scan.TheVariants as scans
 use Rattle.mdoc_converter.specs.Calls.{with_scan}
-use Rattle.mdoc_converter.specs.Keeping.{comment, continued, ends_word, keep, keep_blank, keep_byte, keep_escape, keep_quote, whole_for}
+use Rattle.mdoc_converter.specs.Escaping.{escape_then}
+use Rattle.mdoc_converter.specs.Keeping.{after_name, comment, continued, ends_escape, ends_word, in_named, in_word_of, keep, keep_begun, keep_blank, keep_byte, keep_quote, keeping, turns, whole_for}
 use Rattle.mdoc_converter.specs.Options.{is_heading, reads_for}
 use Rattle.mdoc_converter.specs.Reading.{State}
 use Rattle.mdoc_converter.specs.Scanning.{meet, meet_at}
@@ -16,8 +18,9 @@ use Rattle.mdoc_converter.specs.Seeing.{Met, met, left, taken}
 use Rattle.mdoc_converter.specs.WrittenLines.{asks}
 use Rattle.mdoc_converter.proofs.AskedWords.{Asking, asking_as, Leading, Taking, left_leads, taken_takes, cell_takes, given_step, kept, kept_byte, asks_shown, asks_whole}
 use Rattle.mdoc_converter.proofs.ReadWords.{between_by}
-use Rattle.mdoc_converter.proofs.Meeting.{Takes, then_takes}
+use Rattle.mdoc_converter.proofs.Meeting.{with_page, Takes, then_takes, takes_with}
 use Rattle.mdoc_converter.proofs.Outcomes.{never}
+use Rattle.mdoc_converter.proofs.WordRoom.{after_met, named_met, named_rest}
 
 -- ---- between bytes
 
@@ -27,12 +30,14 @@ is_inside scans.Between = true
 is_inside scans.Word = true
 is_inside scans.Quoted = true
 is_inside scans.Closing = true
+is_inside (scans.Named reached quoted) = true
 is_inside scan = false
 
 -- a byte is taken in a few meetings, and the line is read further so
 pub record Heard (m : Macro) (b : ℕ) (s : State) (k : ℕ) : Type 0 where
   pub next : State
   pub steps : ℕ
+  pub some : 1 ≤ steps
   pub few : steps ≤ k
   pub takes : Takes b s next steps []
   pub scan : Scan
@@ -40,12 +45,13 @@ pub record Heard (m : Macro) (b : ℕ) (s : State) (k : ℕ) : Type 0 where
   pub inside : is_inside scan ≡ true
 
 heard_of : (m : Macro) (b : ℕ) (s : State) (k : ℕ) (scan : Scan) → 1 ≤ k → is_inside scan ≡ true → Taking m b s 1 scan → Heard m b s k
-heard_of m b s k scan l i t = record { next = t.next; steps = 1; few = l; takes = t.takes; scan = scan; at = t.at; inside = i }
+heard_of m b s k scan l i t = record { next = t.next; steps = 1; some = omega arith; few = l; takes = t.takes; scan = scan; at = t.at; inside = i }
 
 pub heard_after : (m : Macro) (b : ℕ) (s : State) (k : ℕ) (scan : Scan) (one : Leading m b s 1 scan) → Heard m b one.next k → Heard m b s (1 + k)
 heard_after m b s k scan one h = record {
   next = h.next;
   steps = 1 + h.steps;
+  some = omega arith;
   few = (let few = h.few in omega arith);
   takes = then_takes b s one.next h.next 1 h.steps [] [] one.leads h.takes;
   scan = h.scan;
@@ -55,7 +61,7 @@ heard_after m b s k scan one h = record {
 
 heard_within : (m : Macro) (b : ℕ) (s : State) (j k : ℕ) → j ≤ k → Heard m b s j → Heard m b s k
 heard_within m b s j k l h =
-    record { next = h.next; steps = h.steps; few = (let few = h.few in omega arith); takes = h.takes; scan = h.scan; at = h.at; inside = h.inside }
+    record { next = h.next; steps = h.steps; some = h.some; few = (let few = h.few in omega arith); takes = h.takes; scan = h.scan; at = h.at; inside = h.inside }
 
 -- ---- one byte that is no newline and no backslash
 
@@ -199,6 +205,56 @@ closing_byte false m b s h at e f g =
     (given_asking m true scans.Closing p at) in
     heard_after m b s 3 (scans.Given true) one (given_heard true m b one.next h one.at f g)
 
+-- in the name or the argument of an escape
+named_taken : (t : Bool) (reached : Reached) (quoted : Bool) (m : Macro) (b : ℕ) (s : State) → asks m ≡ true → Asking m s.page (scans.Named reached quoted)
+    → meet b s.page ≡ named_rest (nat_lt (length s.page.word) 30) reached quoted b s.page → nat_lt (length s.page.word) 30 ≡ t
+    → Taking m b s 1 (in_named (escape_then reached b) quoted)
+unfolding named_rest
+named_taken true reached quoted m b s h at e room =
+    let p = s.page in
+    let here = in_named (escape_then reached b) quoted in
+    taken_takes m b s (with_scan here (keeping (b ∷ []) p)) here (e ∙ ap (λ (t : Bool). named_rest t reached quoted b p) room)
+    (asking_as m here p _ refl refl refl refl refl refl refl at)
+named_taken false reached quoted m b s h at e room =
+    let p = s.page in
+    let here = in_named (escape_then reached b) quoted in
+    taken_takes m b s (with_scan here p) here
+    (e ∙ ap (λ (t : Bool). named_rest t reached quoted b p) room
+    ∙ ap (λ (k : Macro). if not (reads_for k) || is_heading k then turns (scans.Long (insides.Named reached quoted)) (left acts.Nothing) p else turns here (taken acts.Nothing) p) at.taker
+    ∙ ap (λ (t : Bool). if t then turns (scans.Long (insides.Named reached quoted)) (left acts.Nothing) p else turns here (taken acts.Nothing) p) (asks_shown m h))
+    (asking_as m here p _ refl refl refl refl refl refl refl at)
+
+pub inside_named : (o : Option Reached) (quoted : Bool) → is_inside (in_named o quoted) ≡ true
+unfolding is_inside
+inside_named None true = refl
+inside_named None false = refl
+inside_named (Some reached) quoted = refl
+
+word_or_quoted : (quoted : Bool) (m : Macro) (b : ℕ) (s : State) → asks m ≡ true → Asking m s.page (in_word_of quoted)
+    → (b == code "\n") ≡ false → (b == code "\\") ≡ false → Heard m b s 4
+word_or_quoted true m b s h at f g = quoted_byte (b == code "\"") m b s h at refl f g
+word_or_quoted false m b s h at f g = word_byte (ends_word b) m b s h at refl f g
+
+named_byte : (t : Bool) (reached : Reached) (quoted : Bool) (m : Macro) (b : ℕ) (s : State) → asks m ≡ true → Asking m s.page (scans.Named reached quoted)
+    → ends_escape b ≡ t → (b == code "\n") ≡ false → (b == code "\\") ≡ false → Heard m b s 4
+named_byte true reached quoted m b s h at e f g =
+    let here = in_word_of quoted in
+    let p = with_scan here s.page in
+    let w = word_or_quoted quoted m b (with_page p s) h (asking_as m here s.page p refl refl refl refl refl refl refl at) f g in
+    record {
+      next = w.next;
+      steps = w.steps;
+      some = w.some;
+      few = w.few;
+      takes = takes_with b s w.next here w.steps [] (named_met quoted reached b s.page true at.scan_is e ∙ after_met quoted b s.page) w.some w.takes;
+      scan = w.scan;
+      at = w.at;
+      inside = w.inside;
+    }
+named_byte false reached quoted m b s h at e f g =
+    heard_of m b s 4 (in_named (escape_then reached b) quoted) (omega arith) (inside_named (escape_then reached b) quoted)
+    (named_taken (nat_lt (length s.page.word) 30) reached quoted m b s h at (named_met quoted reached b s.page false at.scan_is e) refl)
+
 pub byte_heard : (scan : Scan) (m : Macro) (b : ℕ) (s : State) → asks m ≡ true → Asking m s.page scan → is_inside scan ≡ true
     → (b == code "\n") ≡ false → (b == code "\\") ≡ false → Heard m b s 4
 unfolding is_inside
@@ -207,6 +263,7 @@ byte_heard scans.Between m b s h at i f g =
 byte_heard scans.Word m b s h at i f g = word_byte (ends_word b) m b s h at refl f g
 byte_heard scans.Quoted m b s h at i f g = quoted_byte (b == code "\"") m b s h at refl f g
 byte_heard scans.Closing m b s h at i f g = closing_byte (b == code "\"") m b s h at refl f g
+byte_heard (scans.Named reached quoted) m b s h at i f g = named_byte (ends_escape b) reached quoted m b s h at refl f g
 byte_heard scan m b s h at i f g = never i
 
 -- ---- an escape
@@ -252,6 +309,19 @@ between_slash m s at =
     let one = left_leads m (code "\\") s (begun scans.Word p) scans.Word (between_met m (code "\\") p at) (begun_asking m scans.Word scans.Between p at) in
     slash_behind m s 1 scans.Word one (word_slash m one.next one.at)
 
+named_slash : (reached : Reached) (quoted : Bool) (m : Macro) (s : State) → Asking m s.page (scans.Named reached quoted) → Slash m s 1
+unfolding meet escape_of
+named_slash reached true m s at =
+    let p = s.page in
+    let t = taken_takes m (code "\\") s (with_scan scans.QuotedEscape p) scans.QuotedEscape (ap (λ (sc : Scan). meet_at sc (code "\\") p) at.scan_is)
+    (asking_as m scans.QuotedEscape p _ refl refl refl refl refl refl refl at) in
+    record { next = t.next; steps = 1; few = omega arith; takes = t.takes; quoted = true; at = t.at }
+named_slash reached false m s at =
+    let p = s.page in
+    let t = taken_takes m (code "\\") s (with_scan scans.Escape p) scans.Escape (ap (λ (sc : Scan). meet_at sc (code "\\") p) at.scan_is)
+    (asking_as m scans.Escape p _ refl refl refl refl refl refl refl at) in
+    record { next = t.next; steps = 1; few = omega arith; takes = t.takes; quoted = false; at = t.at }
+
 pub slash_heard : (scan : Scan) (m : Macro) (s : State) → asks m ≡ true → Asking m s.page scan → is_inside scan ≡ true → Slash m s 4
 unfolding meet is_inside escape_of quoted_rest
 slash_heard scans.Between m s h at i = slash_within m s 2 4 (omega arith) (between_slash m s at)
@@ -267,20 +337,16 @@ slash_heard scans.Closing m s h at i =
     (given_asking m true scans.Closing p at) in
     let two = given_step m true (code "\\") one.next h one.at in
     slash_behind m s 3 (scans.Given true) one (slash_behind m one.next 2 scans.Between two (between_slash m two.next two.at))
+slash_heard (scans.Named reached quoted) m s h at i = slash_within m s 1 4 (omega arith) (named_slash reached quoted m s at)
 slash_heard scan m s h at i = never i
 
-pub escape_met : (quoted : Bool) (b : ℕ) (p : Page) → p.scan ≡ escape_of quoted → (b == code "\"") ≡ false → (b == code "\n") ≡ false → meet b p ≡ keep_escape b quoted p
+pub escape_met : (quoted : Bool) (b : ℕ) (p : Page) → p.scan ≡ escape_of quoted → (b == code "\"") ≡ false → (b == code "\n") ≡ false → meet b p ≡ keep_begun b quoted p
 unfolding meet escape_of
 escape_met true b p e f g =
     ap (λ (sc : Scan). meet_at sc b p) e
-    ∙ ap (λ (t : Bool). if t then comment true p else if b == code "\n" then continued true p else keep_escape b true p) f
-    ∙ ap (λ (t : Bool). if t then continued true p else keep_escape b true p) g
+    ∙ ap (λ (t : Bool). if t then comment true p else if b == code "\n" then continued true p else keep_begun b true p) f
+    ∙ ap (λ (t : Bool). if t then continued true p else keep_begun b true p) g
 escape_met false b p e f g =
     ap (λ (sc : Scan). meet_at sc b p) e
-    ∙ ap (λ (t : Bool). if t then comment false p else if b == code "\n" then continued false p else keep_escape b false p) f
-    ∙ ap (λ (t : Bool). if t then continued false p else keep_escape b false p) g
-
-pub inside_by : (quoted : Bool) → is_inside (if quoted then scans.Quoted else scans.Word) ≡ true
-unfolding is_inside
-inside_by true = refl
-inside_by false = refl
+    ∙ ap (λ (t : Bool). if t then comment false p else if b == code "\n" then continued false p else keep_begun b false p) f
+    ∙ ap (λ (t : Bool). if t then continued false p else keep_begun b false p) g

@@ -4,6 +4,7 @@ use Prim.Native.Char.{code}
 use Rattle.mdoc_converter.specs.declared.acts.Act.{Act}
 use Rattle.mdoc_converter.specs.declared.acts.Act.TheVariants as acts
 use Rattle.mdoc_converter.specs.declared.acts.Request.TheVariants as requests
+use Rattle.mdoc_converter.specs.declared.escaping.Escape.TheVariants as escapes
 use Rattle.mdoc_converter.specs.declared.macros.Font.{Font}
 use Rattle.mdoc_converter.specs.declared.macros.Macro.{Macro}
 use Rattle.mdoc_converter.specs.declared.macros.Macro.TheVariants as macros
@@ -15,7 +16,8 @@ use Rattle.mdoc_converter.specs.declared.page.Scan.TheVariants as scans
 use Rattle.mdoc_converter.specs.declared.page.Wanted.{Wanted}
 use Rattle.mdoc_converter.specs.declared.page.Wanted.TheVariants as wanteds
 use Rattle.mdoc_converter.specs.Calls.{called_by, is_none, with_scan}
-use Rattle.mdoc_converter.specs.Keeping.{ends_in_hyphen, has_dashes, keep, keep_byte, keep_escape, keeping, looks_up, whole_for, widens, wider, within, within_escape}
+use Rattle.mdoc_converter.specs.Escaping.{escape_then}
+use Rattle.mdoc_converter.specs.Keeping.{ends_in_hyphen, has_dashes, in_named, keep, keep_begun, keep_byte, keep_escape, keeping, looks_up, whole_for, widens, wider, within, within_escape}
 use Rattle.mdoc_converter.specs.Laying.{with_lay}
 use Rattle.mdoc_converter.specs.LayingOut.{lay_out}
 use Rattle.mdoc_converter.specs.Options.{added_column, asked, block_asked, block_wanted, column, column_width, dated, date_word, font_named, font_or, is_column, is_heading, is_shown, is_version, none, option, option_for, option_word, reads_for, title_word, wants_column}
@@ -28,6 +30,7 @@ use Rattle.mdoc_converter.specs.WrittenLines.{asks}
 use Rattle.mdoc_converter.proofs.Meeting.{with_page, Leads, Takes, leads_by, takes_by}
 use Rattle.mdoc_converter.proofs.Outcomes.{is_quiet, never, Lays, quiet-page}
 use Rattle.mdoc_converter.proofs.WholeWords.{and_false}
+use Rattle.mdoc_converter.proofs.WordRoom.{begun_rest}
 
 -- ---- acts that say nothing of a word, and leave all of the page but how text is laid out
 
@@ -352,38 +355,37 @@ kept_byte m b quoted s p scan h e at =
 inside_of : Bool → Scan
 inside_of quoted = if quoted then scans.Quoted else scans.Word
 
-wide_asking : (t : Bool) (m : Macro) (quoted : Bool) (p : Page) → {from : Scan} → Asking m p from
-    → Asking m (with_scan (inside_of quoted) (if t then record p { call = record p.call { width = p.call.width + 1 } } else p)) (inside_of quoted)
-wide_asking true m quoted p {from} at = asking_as m (inside_of quoted) p _ refl refl refl refl refl refl refl at
-wide_asking false m quoted p {from} at = asking_as m (inside_of quoted) p _ refl refl refl refl refl refl refl at
+wide_asking : (t : Bool) (m : Macro) (here : Scan) (p : Page) → {from : Scan} → Asking m p from
+    → Asking m (with_scan here (if t then record p { call = record p.call { width = p.call.width + 1 } } else p)) here
+wide_asking true m here p {from} at = asking_as m here p _ refl refl refl refl refl refl refl at
+wide_asking false m here p {from} at = asking_as m here p _ refl refl refl refl refl refl refl at
 
-escape_wide : (t : Bool) (m : Macro) (b : ℕ) (quoted : Bool) (s : State) (p : Page) → meet b s.page ≡ met (with_scan (inside_of quoted) (if t then widens p else p)) (taken acts.Nothing)
-    → {from : Scan} → Asking m p from → Taking m b s 1 (inside_of quoted)
-escape_wide false m b quoted s p e {from} at =
-    taken_takes m b s (with_scan (inside_of quoted) p) (inside_of quoted) e (asking_as m (inside_of quoted) p _ refl refl refl refl refl refl refl at)
-escape_wide true m b quoted s p e {from} at =
-    taken_takes m b s (with_scan (inside_of quoted) (widens p)) (inside_of quoted) e
-    (wide_asking (nat_lt p.call.width 9999) m quoted p at)
+escape_wide : (t : Bool) (m : Macro) (b : ℕ) (here : Scan) (s : State) (p : Page) → meet b s.page ≡ met (with_scan here (if t then widens p else p)) (taken acts.Nothing)
+    → {from : Scan} → Asking m p from → Taking m b s 1 here
+escape_wide false m b here s p e {from} at =
+    taken_takes m b s (with_scan here p) here e (asking_as m here p _ refl refl refl refl refl refl refl at)
+escape_wide true m b here s p e {from} at =
+    taken_takes m b s (with_scan here (widens p)) here e
+    (wide_asking (nat_lt p.call.width 9999) m here p at)
 
-escape_by : (t : Bool) (m : Macro) (b : ℕ) (quoted : Bool) (s : State) (scan : Scan) → asks m ≡ true → meet b s.page ≡ keep_escape b quoted s.page
-    → Asking m s.page scan → nat_lt (length s.page.word) 30 ≡ t → Taking m b s 1 (inside_of quoted)
-unfolding inside_of
+escape_by : (t : Bool) (m : Macro) (b : ℕ) (quoted : Bool) (s : State) (scan : Scan) → asks m ≡ true → meet b s.page ≡ keep_begun b quoted s.page
+    → Asking m s.page scan → nat_lt (length s.page.word) 30 ≡ t → Taking m b s 1 (in_named (escape_then escapes.Begun b) quoted)
+unfolding inside_of begun_rest
 escape_by true m b quoted s scan h e at room =
     let p = s.page in
     let q = keeping (b ∷ []) (keeping (code "\\" ∷ []) p) in
-    escape_wide (not (b == code "&")) m b quoted s q
-    (e ∙ ap (λ (t : Bool). if t then met (with_scan (inside_of quoted) (wider b q)) (taken acts.Nothing) else if is_shown p then met (with_scan (scans.Long (within_escape quoted)) p) (left acts.Nothing) else met (with_scan (inside_of quoted) (wider b p)) (taken acts.Nothing)) room)
+    escape_wide (not (b == code "&")) m b (in_named (escape_then escapes.Begun b) quoted) s q
+    (e ∙ ap (λ (t : Bool). begun_rest b quoted (if t then met (with_scan (inside_of quoted) (wider b q)) (taken acts.Nothing) else if is_shown p then met (with_scan (scans.Long (within_escape quoted)) p) (left acts.Nothing) else met (with_scan (inside_of quoted) (wider b p)) (taken acts.Nothing))) room)
     (asking_as m scan p q at.scan_is refl refl refl refl refl refl at)
 escape_by false m b quoted s scan h e at room =
     let p = s.page in
     let q = keeping (b ∷ []) (keeping (code "\\" ∷ []) p) in
-    escape_wide (not (b == code "&")) m b quoted s p
-    (e ∙ ap (λ (t : Bool). if t then met (with_scan (inside_of quoted) (wider b q)) (taken acts.Nothing) else if is_shown p then met (with_scan (scans.Long (within_escape quoted)) p) (left acts.Nothing) else met (with_scan (inside_of quoted) (wider b p)) (taken acts.Nothing)) room
-    ∙ ap (λ (k : Macro). if not (reads_for k) || is_heading k then met (with_scan (scans.Long (within_escape quoted)) p) (left acts.Nothing) else met (with_scan (inside_of quoted) (wider b p)) (taken acts.Nothing)) at.taker
-    ∙ ap (λ (t : Bool). if t then met (with_scan (scans.Long (within_escape quoted)) p) (left acts.Nothing) else met (with_scan (inside_of quoted) (wider b p)) (taken acts.Nothing)) (asks_shown m h))
+    escape_wide (not (b == code "&")) m b (in_named (escape_then escapes.Begun b) quoted) s p
+    (e ∙ ap (λ (t : Bool). begun_rest b quoted (if t then met (with_scan (inside_of quoted) (wider b q)) (taken acts.Nothing) else if is_shown p then met (with_scan (scans.Long (within_escape quoted)) p) (left acts.Nothing) else met (with_scan (inside_of quoted) (wider b p)) (taken acts.Nothing))) room
+    ∙ ap (λ (k : Macro). begun_rest b quoted (if not (reads_for k) || is_heading k then met (with_scan (scans.Long (within_escape quoted)) p) (left acts.Nothing) else met (with_scan (inside_of quoted) (wider b p)) (taken acts.Nothing))) at.taker
+    ∙ ap (λ (t : Bool). begun_rest b quoted (if t then met (with_scan (scans.Long (within_escape quoted)) p) (left acts.Nothing) else met (with_scan (inside_of quoted) (wider b p)) (taken acts.Nothing))) (asks_shown m h))
     at
 
-pub kept_escape : (m : Macro) (b : ℕ) (quoted : Bool) (s : State) (scan : Scan) → asks m ≡ true → meet b s.page ≡ keep_escape b quoted s.page
-    → Asking m s.page scan → Taking m b s 1 (if quoted then scans.Quoted else scans.Word)
-unfolding inside_of
-kept_escape m b quoted s scan h e at = escape_by (nat_lt (length s.page.word) 30) m b quoted s scan h e at refl
+pub kept_begun : (m : Macro) (b : ℕ) (quoted : Bool) (s : State) (scan : Scan) → asks m ≡ true → meet b s.page ≡ keep_begun b quoted s.page
+    → Asking m s.page scan → Taking m b s 1 (in_named (escape_then escapes.Begun b) quoted)
+kept_begun m b quoted s scan h e at = escape_by (nat_lt (length s.page.word) 30) m b quoted s scan h e at refl

@@ -8,6 +8,8 @@ use Rattle.mdoc_converter.specs.declared.acts.Request.{Request}
 use Rattle.mdoc_converter.specs.declared.acts.Request.TheVariants as requests
 use Rattle.mdoc_converter.specs.declared.acts.Sized.TheVariants as sizes
 use Rattle.mdoc_converter.specs.declared.acts.Stack.TheVariants.{Opens}
+use Rattle.mdoc_converter.specs.declared.escaping.Escape.{Escape as Reached}
+use Rattle.mdoc_converter.specs.declared.escaping.Escape.TheVariants as escapes
 use Rattle.mdoc_converter.specs.declared.macros.Macro.{Macro}
 use Rattle.mdoc_converter.specs.declared.macros.Macro.TheVariants as macros
 use Rattle.mdoc_converter.specs.declared.page.Block.{Block}
@@ -19,7 +21,8 @@ use Rattle.mdoc_converter.specs.declared.page.Scan.TheVariants as scans
 use Rattle.mdoc_converter.specs.Blocks.{block_opens, display_begins_of, fresh_block, indent, inner, literal, space, stops, with_literal}
 use Rattle.mdoc_converter.specs.Calls.{is_due, is_due_from, is_none, leaves, with_scan}
 use Rattle.mdoc_converter.specs.Columns.{gap, hang_of}
-use Rattle.mdoc_converter.specs.Keeping.{ends_word}
+use Rattle.mdoc_converter.specs.Escaping.{escape_then}
+use Rattle.mdoc_converter.specs.Keeping.{ends_word, in_named}
 use Rattle.mdoc_converter.specs.Laying.{with_lay}
 use Rattle.mdoc_converter.specs.Lines.{begins, closes_last, end_of, ended_seen, ends, last_act, line_ends, turned}
 use Rattle.mdoc_converter.specs.Macros.{macro_of}
@@ -31,17 +34,17 @@ use Rattle.mdoc_converter.specs.Seeing.{Met, met, left, three, two, and_taken}
 use Rattle.mdoc_converter.specs.WordLaws.{reads_at}
 use Rattle.mdoc_converter.specs.WrittenLines.{begins_star, each, asks, opens_block, is_plain, Letter, Plain, Escape, bytes_of, is_asking, are_asking, begins_blank, asking_line, written, names_no_string}
 use Rattle.mdoc_converter.proofs.After.{after, after-append, next-state, Fresh}
-use Rattle.mdoc_converter.proofs.AskedBytes.{between_heard, between_met, byte_heard, escape_met, escape_of, given_asking, heard_after, inside_by, is_inside, quoted_rest, slash_heard, word_met}
-use Rattle.mdoc_converter.proofs.AskedWords.{Asking, asking_as, Leading, left_leads, given_step, kept_escape, is_hushed, three_page, three_words}
+use Rattle.mdoc_converter.proofs.AskedBytes.{between_heard, between_met, byte_heard, escape_met, escape_of, given_asking, heard_after, inside_named, is_inside, quoted_rest, slash_heard, word_met}
+use Rattle.mdoc_converter.proofs.AskedWords.{Asking, asking_as, Leading, left_leads, given_step, kept_begun, is_hushed, three_page, three_words}
 use Rattle.mdoc_converter.proofs.Endings.{is_laid, last_laid, last_word, three_laid}
 use Rattle.mdoc_converter.proofs.Escapes.{and_left, and_right, both, is_not}
-use Rattle.mdoc_converter.proofs.KeptWords.{no_comment, no_newline, one_enough}
 use Rattle.mdoc_converter.proofs.ReadWords.{between_by}
 use Rattle.mdoc_converter.proofs.MacroLines.{beginning, control_taken, macro_met, name_begun, name_more, name_more_state, no_slash, no_star, plain_names, reads_name, short_name}
 use Rattle.mdoc_converter.proofs.Meeting.{with_page, Takes, then_takes, leads_with, takes_by}
 use Rattle.mdoc_converter.proofs.OtherLines.{Said}
 use Rattle.mdoc_converter.proofs.Outcomes.{is_quiet, never}
 use Rattle.mdoc_converter.proofs.TextSaid.{next-words}
+use Rattle.mdoc_converter.proofs.WordRoom.{no_comment, no_newline, one_enough}
 
 -- ---- the line ends
 
@@ -256,6 +259,18 @@ given_ended quoted m s h at =
     let one = given_step m quoted (code "\n") s h at in
     ended_behind m (code "\n") s 2 scans.Between one (between_ended m one.next h one.at)
 
+named_newline : (reached : Reached) (quoted : Bool) (m : Macro) (s : State) → Asking m s.page (scans.Named reached quoted)
+    → Leading m (code "\n") s 1 (scans.Given quoted)
+unfolding meet
+named_newline reached true m s at =
+    let p = s.page in
+    left_leads m (code "\n") s (with_scan (scans.Given true) p) (scans.Given true) (ap (λ (sc : Scan). meet_at sc (code "\n") p) at.scan_is)
+    (given_asking m true (scans.Named reached true) p at)
+named_newline reached false m s at =
+    let p = s.page in
+    left_leads m (code "\n") s (with_scan (scans.Given false) p) (scans.Given false) (ap (λ (sc : Scan). meet_at sc (code "\n") p) at.scan_is)
+    (given_asking m false (scans.Named reached false) p at)
+
 newline_ended : (scan : Scan) (m : Macro) (s : State) → asks m ≡ true → Asking m s.page scan → is_inside scan ≡ true → Ended (code "\n") s 4
 unfolding meet is_inside quoted_rest
 newline_ended scans.Between m s h at i = ended_within (code "\n") s 2 4 (omega arith) (between_ended m s h at)
@@ -274,6 +289,9 @@ newline_ended scans.Closing m s h at i =
     let one = left_leads m (code "\n") s (with_scan (scans.Given true) p) (scans.Given true) (ap (λ (sc : Scan). meet_at sc (code "\n") p) at.scan_is)
     (given_asking m true scans.Closing p at) in
     ended_behind m (code "\n") s 3 (scans.Given true) one (given_ended true m one.next h one.at)
+newline_ended (scans.Named reached quoted) m s h at i =
+    let one = named_newline reached quoted m s at in
+    ended_behind m (code "\n") s 3 (scans.Given quoted) one (given_ended quoted m one.next h one.at)
 newline_ended scan m s h at i = never i
 
 -- ---- what stands behind the name
@@ -304,7 +322,7 @@ letter_read (Plain b) m s scan h at i good =
     }
 letter_read (Escape b) m s scan h at i good =
     let slash = slash_heard scan m s h at i in
-    let one = kept_escape m b slash.quoted slash.next (escape_of slash.quoted) h
+    let one = kept_begun m b slash.quoted slash.next (escape_of slash.quoted) h
     (escape_met slash.quoted b slash.next.page slash.at.scan_is (no_comment b good) (no_newline b good)) slash.at in
     record {
       next = one.next;
@@ -314,9 +332,9 @@ letter_read (Escape b) m s scan h at i good =
       state =
           next-state (code "\\") (b ∷ []) s slash.next slash.steps [] (few_enough slash.steps slash.few) slash.takes
           ∙ next-state b [] slash.next one.next 1 [] one_enough one.takes;
-      scan = if slash.quoted then scans.Quoted else scans.Word;
+      scan = in_named (escape_then escapes.Begun b) slash.quoted;
       at = one.at;
-      inside = inside_by slash.quoted;
+      inside = inside_named (escape_then escapes.Begun b) slash.quoted;
     }
 
 letters_read : (ls : List Letter) (m : Macro) (s : State) (scan : Scan) → asks m ≡ true → Asking m s.page scan → is_inside scan ≡ true → are_asking ls ≡ true

@@ -6,6 +6,7 @@ use Rattle.mdoc_converter.specs.declared.acts.Act.TheVariants as acts
 use Rattle.mdoc_converter.specs.declared.acts.Request.TheVariants as requests
 use Rattle.mdoc_converter.specs.declared.acts.Stack.TheVariants.{Empties}
 use Rattle.mdoc_converter.specs.declared.macros.Font.TheVariants.{Roman}
+use Rattle.mdoc_converter.specs.declared.escaping.Escape.{Escape as Reached}
 use Rattle.mdoc_converter.specs.declared.macros.Macro.{Macro}
 use Rattle.mdoc_converter.specs.declared.macros.Macro.TheVariants as macros
 use Rattle.mdoc_converter.specs.declared.page.Page.{Page}
@@ -13,7 +14,7 @@ use Rattle.mdoc_converter.specs.declared.page.Scan.{Scan}
 use Rattle.mdoc_converter.specs.declared.page.Scan.TheVariants as scans
 use Rattle.mdoc_converter.specs.declared.seen.Seen.{Seen}
 use Rattle.mdoc_converter.specs.Calls.{called_by, calls, encloses_address, is_due, is_due_from, is_none, with_scan}
-use Rattle.mdoc_converter.specs.Keeping.{is_whole, whole_for}
+use Rattle.mdoc_converter.specs.Keeping.{in_named, is_whole, whole_for}
 use Rattle.mdoc_converter.specs.LayingOut.{lay_out}
 use Rattle.mdoc_converter.specs.Lines.{begins, in_section, is_page}
 use Rattle.mdoc_converter.specs.Macros.{letters_macro}
@@ -213,20 +214,20 @@ given_first (Some m) b s word at e f =
     whole_within (behind_heads (way_of m)) b s 1 3 [] (omega arith)
     (calls_whole heads (behind_heads (way_of m)) m b s word at refl refl (prints_plain m f) (call_met b s word m at e))
 
-bare_behind : (s : State) (word : List ℕ) → In false heads s scans.Word word [] → none_or prints_words (called_by false word) ≡ true
+bare_behind : (reached : Option Reached) (s : State) (word : List ℕ) → In false heads s (in_named reached false) word [] → none_or prints_words (called_by false word) ≡ true
     → Behind (behind_heads (way_after Usual (called_by false word))) s (unless_called Headed (called_by false word) word)
-bare_behind s word at f =
+bare_behind reached s word at f =
     let o = called_by false word in
-    let inside = given_at false heads s word [] at in
+    let inside = given_at false heads s (in_named reached false) word [] at in
     after_of (behind_heads (way_after Usual o)) s (given s) (unless_called Headed o word)
-    (given_leads false heads (code " ") s word [] at refl) (given_leads false heads (code "\n") s word [] at refl)
+    (given_leads reached false heads (code " ") s word [] at refl) (given_leads reached false heads (code "\n") s word [] at refl)
     (given_first o (code " ") (given s) word inside refl f) (given_first o (code "\n") (given s) word inside refl f) refl
 
-long_behind : (s : State) (word : List ℕ) → In true heads s scans.Word word [] → Behind (behind_heads Usual) s word
-long_behind s word at =
-    let inside = given_at true heads s word [] at in
+long_behind : (reached : Option Reached) (s : State) (word : List ℕ) → In true heads s (in_named reached false) word [] → Behind (behind_heads Usual) s word
+long_behind reached s word at =
+    let inside = given_at true heads s (in_named reached false) word [] at in
     after_of (behind_heads Usual) s (given s) word
-    (given_leads true heads (code " ") s word [] at refl) (given_leads true heads (code "\n") s word [] at refl)
+    (given_leads reached true heads (code " ") s word [] at refl) (given_leads reached true heads (code "\n") s word [] at refl)
     (last_whole false (code " ") (given s) word inside) (last_whole false (code "\n") (given s) word inside) refl
 
 quoted_whole : (going : Bool) (b : ℕ) (s : State) (word : List ℕ) → In going heads s (scans.Given true) word [] → Whole (behind_heads Usual) b s 3 word
@@ -264,26 +265,28 @@ record First (way : Way) (s : State) (bs all : List ℕ) : Type 0 where
 first_total : (xs held word all : List ℕ) → xs ++ (held ++ word) ≡ all → held ≡ [] → xs ++ word ≡ all
 first_total xs held word all e f = ap (λ (hs : List ℕ). xs ++ (hs ++ word)) (sym f) ∙ e
 
-first_bare : (t : Bool) (s : State) (bs all : List ℕ) (first hyphen : Bool) (r : Read heads false false s scans.Word bs [] all first hyphen) → r.going ≡ t
+first_bare : (t : Bool) (reached : Option Reached) (s : State) (bs all : List ℕ) (first hyphen : Bool) (r : Read heads false false s (in_named reached false) bs [] all first hyphen) → r.going ≡ t
     → none_or prints_words (called_by false all) ≡ true
     → First (way_after Usual (called_by false all)) s bs (unless_called Headed (called_by false all) all)
-first_bare true s bs all first hyphen r e f =
+first_bare true reached s bs all first hyphen r e f =
+    let here = in_named reached false in
     let none = none_held r.going r.held r.clear r.same_marks in
-    let at = clear_at true r.next scans.Word r.word r.held none (going_at true r.going r.next scans.Word r.word r.held e r.at) in
+    let at = clear_at true r.next here r.word r.held none (going_at true r.going r.next here r.word r.held e r.at) in
     let long : First Usual s bs all = record {
       next = r.next;
       xs = r.xs;
       ys = r.word;
       said = r.said;
       state = r.state;
-      behind = long_behind r.next r.word at;
+      behind = long_behind reached r.next r.word at;
       total = first_total r.xs r.held r.word all r.total none;
     } in
     subst (λ (o : Option Macro). First (way_after Usual o) s bs (unless_called Headed o all)) (sym (long_calls false all (r.long e))) long
-first_bare false s bs all first hyphen r e f =
+first_bare false reached s bs all first hyphen r e f =
+    let here = in_named reached false in
     let none = none_held r.going r.held r.clear r.same_marks in
-    let short = clear_at false r.next scans.Word r.word r.held none (going_at false r.going r.next scans.Word r.word r.held e r.at) in
-    let at = subst (λ (w : List ℕ). In false heads r.next scans.Word w []) (r.same e) short in
+    let short = clear_at false r.next here r.word r.held none (going_at false r.going r.next here r.word r.held e r.at) in
+    let at = subst (λ (w : List ℕ). In false heads r.next here w []) (r.same e) short in
     let ys = unless_called Headed (called_by false all) all in
     record {
       next = r.next;
@@ -291,7 +294,7 @@ first_bare false s bs all first hyphen r e f =
       ys = ys;
       said = r.said;
       state = r.state;
-      behind = bare_behind r.next all at f;
+      behind = bare_behind reached r.next all at f;
       total = ap (λ (zs : List ℕ). zs ++ ys) (r.silent e);
     }
 
@@ -318,7 +321,8 @@ first_word : (w : Word) (s : State) (word : List ℕ) → In false heads s scans
 first_word (Bare []) s word at h = absurd (let no : false ≡ true = h in cc)
 first_word (Bare (l ∷ ls)) s word at h =
     let all = read_bare l ls heads s word [] at (word_letters false Headed l ls h) in
-    first_bare all.read.going s (written false (l ∷ ls)) (kept Headed false (l ∷ ls)) all.first all.hyphen all.read refl (word_prints false Headed l ls h)
+    let spelled = all.spelled in
+    first_bare spelled.read.going all.reached s (written false (l ∷ ls)) (kept Headed false (l ∷ ls)) spelled.first spelled.hyphen spelled.read refl (word_prints false Headed l ls h)
 first_word (Quoted ls) s word at h =
     let q = read_quoted ls heads s word [] at h in
     first_quoted s (code "\"" ∷ written true ls ++ codes "\"") ls q.whole q.spelled.first q.spelled.hyphen q.spelled.read

@@ -1,207 +1,33 @@
 -- The bytes of a word are kept, between quotes or not; where they have no room, what was kept goes out first.
-use Rattle.std.proofs.Common.{◌≡◌, ℕ, ◌≤◌, ◌<◌, ◌+◌, List, [], ◌∷◌, ◌++◌, length, Bool, true, false, not, ◌&&◌, ◌||◌, ◌==◌, nat_lt, if◌then◌else◌, refl, sym, ◌∙◌, ap, subst, append_assoc, append-nil, arith}
+use Rattle.std.proofs.Common.{◌≡◌, ℕ, ◌≤◌, ◌<◌, ◌+◌, List, [], ◌∷◌, ◌++◌, length, Bool, true, false, not, ◌&&◌, ◌||◌, ◌==◌, nat_lt, if◌then◌else◌, Option, None, Some, refl, sym, ◌∙◌, ap, subst, append-nil, arith}
 use Rattle.std.proofs.lemmas.Bool.Decides.{nat_tests}
 use Rattle.std.specs.Prelude.{codes}
 use Prim.Native.Char.{code}
 use Rattle.mdoc_converter.specs.declared.acts.Act.TheVariants as acts
-use Rattle.mdoc_converter.specs.declared.macros.Macro.{Macro}
+use Rattle.mdoc_converter.specs.declared.escaping.Escape.{Escape as Reached}
+use Rattle.mdoc_converter.specs.declared.escaping.Escape.TheVariants as escapes
 use Rattle.mdoc_converter.specs.declared.page.Inside.{Inside}
 use Rattle.mdoc_converter.specs.declared.page.Inside.TheVariants as insides
 use Rattle.mdoc_converter.specs.declared.page.Page.{Page}
 use Rattle.mdoc_converter.specs.declared.page.Scan.{Scan}
 use Rattle.mdoc_converter.specs.declared.page.Scan.TheVariants as scans
 use Rattle.mdoc_converter.specs.Calls.{is_none, with_scan}
-use Rattle.mdoc_converter.specs.Keeping.{comment, continued, ends_in_hyphen, ends_word, has_dashes, in_word_of, is_whole, keep, keep_blank, keep_byte, keep_escape, keep_quote, keeping, looks_up, turns, whole_for, widens, wider, within, within_escape}
-use Rattle.mdoc_converter.specs.LayingOut.{lay_out}
-use Rattle.mdoc_converter.specs.Options.{is_heading, is_shown, reads_for}
-use Rattle.mdoc_converter.specs.Reading.{State, said}
+use Rattle.mdoc_converter.specs.Escaping.{escape_then}
+use Rattle.mdoc_converter.specs.Keeping.{comment, continued, ends_escape, ends_in_hyphen, has_dashes, in_named, in_word_of, is_whole, keep, keep_begun, keep_blank, keep_byte, keep_escape, keep_quote, looks_up, turns, within, within_escape}
+use Rattle.mdoc_converter.specs.Options.{is_shown}
+use Rattle.mdoc_converter.specs.Reading.{State}
 use Rattle.mdoc_converter.specs.Scanning.{meet, meet_at}
 use Rattle.mdoc_converter.specs.Seeing.{Met, met, left, taken}
 use Rattle.mdoc_converter.specs.Words.{goes_to}
-use Rattle.mdoc_converter.specs.WrittenLines.{Way, holds_hyphen, Plain, is_escaped, is_held, is_letter, is_plain, is_quotable, kept_first, kept_letter}
-use Rattle.mdoc_converter.proofs.Escapes.{and_left, and_right, is_not, same_byte}
-use Rattle.mdoc_converter.proofs.Given.{plain_reads}
+use Rattle.mdoc_converter.specs.WrittenLines.{Way, reached_behind, holds_hyphen, Plain, is_escaped, is_held, is_letter, kept_first, kept_letter}
+use Rattle.mdoc_converter.proofs.Escapes.{and_left, and_right, same_byte}
 use Rattle.mdoc_converter.proofs.LongWords.{Flushed, flushed}
-use Rattle.mdoc_converter.proofs.Meeting.{with_page, Takes, then_takes, takes_by}
-use Rattle.mdoc_converter.proofs.Outcomes.{takes_as}
+use Rattle.mdoc_converter.proofs.Meeting.{with_page, Takes, then_takes, takes_with}
 use Rattle.mdoc_converter.proofs.Stepping.{In, Manner, in_as}
-use Rattle.mdoc_converter.proofs.Together.{whole_kept}
+use Rattle.mdoc_converter.proofs.Together.{same_whole}
 use Rattle.mdoc_converter.proofs.Ways.{plain_hyphen}
 use Rattle.mdoc_converter.proofs.WholeWords.{and_false}
-
--- ---- what a byte is not
-
-pub not_ending : (b : ℕ) → is_plain b ≡ true → ends_word b ≡ false
-not_ending b h = is_not (ends_word b) (and_left (not (ends_word b)) (not (b == code "\"")) (and_left (not (ends_word b) && not (b == code "\"")) (not (b == code "\\")) h))
-
-pub no_quote : (b : ℕ) → is_plain b ≡ true → (b == code "\"") ≡ false
-no_quote b h = is_not (b == code "\"") (and_right (not (ends_word b)) (not (b == code "\"")) (and_left (not (ends_word b) && not (b == code "\"")) (not (b == code "\\")) h))
-
-pub no_escape : (b : ℕ) → is_plain b ≡ true → (b == code "\\") ≡ false
-no_escape b h = is_not (b == code "\\") (and_right (not (ends_word b) && not (b == code "\"")) (not (b == code "\\")) h)
-
-pub no_end : (b : ℕ) → is_quotable b ≡ true → (b == code "\n") ≡ false
-no_end b h = is_not (b == code "\n") (and_left (not (b == code "\n")) (not (b == code "\\")) h)
-
-pub quotable_slash : (b : ℕ) → is_quotable b ≡ true → (b == code "\\") ≡ false
-quotable_slash b h = is_not (b == code "\\") (and_right (not (b == code "\n")) (not (b == code "\\")) h)
-
-pub no_comment : (b : ℕ) → is_escaped b ≡ true → (b == code "\"") ≡ false
-no_comment b h =
-    is_not (b == code "\"")
-    (and_left (not (b == code "\"")) (not (b == code "\n"))
-    (and_left (not (b == code "\"") && not (b == code "\n")) (not (b == code "*"))
-    (and_left (not (b == code "\"") && not (b == code "\n") && not (b == code "*")) (not (b == code "\\")) h)))
-
-pub no_newline : (b : ℕ) → is_escaped b ≡ true → (b == code "\n") ≡ false
-no_newline b h =
-    is_not (b == code "\n")
-    (and_right (not (b == code "\"")) (not (b == code "\n"))
-    (and_left (not (b == code "\"") && not (b == code "\n")) (not (b == code "*"))
-    (and_left (not (b == code "\"") && not (b == code "\n") && not (b == code "*")) (not (b == code "\\")) h)))
-
--- ---- pages that are the same but for the word
-
--- a page that is wider by one, or not
-unfoldable pub widened : Bool → Page → Page
-widened t p = if t then record p { call = record p.call { width = p.call.width + 1 } } else p
-
-widened_in : (t : Bool) (going : Bool) (head : Manner) (s : State) (p : Page) (scan : Scan) (word marks : List ℕ) → In going head (with_page p s) scan word marks
-    → In going head (with_page (widened t p) s) scan word marks
-unfolding widened
-widened_in true going head s p scan word marks at =
-    in_as going head (with_page p s) (record p { call = record p.call { width = p.call.width + 1 } }) scan scan word word marks at
-    at.scan_is at.word_is refl refl refl refl refl refl refl
-widened_in false going head s p scan word marks at = at
-
-whole_widened : (t : Bool) (p q : Page) → q.call.taker ≡ p.call.taker → q.place ≡ p.place → is_whole (widened t q) ≡ is_whole p
-unfolding widened
-whole_widened true p q e f =
-    whole_kept q.call.taker p (record q { call = record q.call { width = q.call.width + 1 } }) f ∙ ap (λ (m : Macro). whole_for m p) e
-whole_widened false p q e f = whole_kept q.call.taker p q f ∙ ap (λ (m : Macro). whole_for m p) e
-
-wider_is : (scan : Scan) (t u : Bool) (p : Page) → with_scan scan (if t then widened u p else p) ≡ widened (t && u) (with_scan scan p)
-unfolding widened
-wider_is scan true true p = refl
-wider_is scan true false p = refl
-wider_is scan false u p = refl
-
-pub scan_same : (p : Page) (scan : Scan) → p.scan ≡ scan → p ≡ with_scan scan p
-scan_same p scan e = ap (λ (sc : Scan). with_scan sc p) e
-
-pub room : (word : List ℕ) → length word < 30 → nat_lt (length word) 30 ≡ true
-room word l = grind (arith, nat_tests)
-
-no_room : (word : List ℕ) → 30 ≤ length word → nat_lt (length word) 30 ≡ false
-no_room word l = grind (arith, nat_tests)
-
-pub one_enough : 1 ≤ 16
-one_enough = omega arith
-
--- ---- a byte has room
-
--- it is taken, and the line is read further so
-pub record Kept (going : Bool) (head : Manner) (b : ℕ) (s : State) (scan : Scan) (word marks : List ℕ) : Type 0 where
-  pub next : State
-  pub takes : Takes b s next 1 []
-  pub at : In going head next scan word marks
-  pub whole : is_whole next.page ≡ is_whole s.page
-
-keep_rest : Bool → Page → Met
-keep_rest quoted p = if is_shown p then turns (scans.Long (within quoted)) (left acts.Nothing) p else met (widens p) (taken acts.Nothing)
-
-kept_plain : (going quoted : Bool) (head : Manner) (b c : ℕ) (s : State) (scan : Scan) (word marks : List ℕ) → In going head s scan word marks → length word < 30
-    → meet b s.page ≡ keep c quoted (with_scan (in_word_of quoted) s.page) → Kept going head b s (in_word_of quoted) (word ++ c ∷ []) marks
-unfolding said lay_out widened keep_rest
-kept_plain going quoted head b c s scan word marks at l e =
-    let p = with_scan (in_word_of quoted) s.page in
-    let q = keeping (c ∷ []) p in
-    let wide = nat_lt p.call.width 9999 in
-    record {
-      next = with_page (widened wide q) s;
-      takes =
-          takes_by b s (widened wide q) (widened wide q) acts.Nothing acts.Nothing acts.Nothing []
-          (e
-          ∙ ap (λ (t : Bool). if t then met (widens q) (taken acts.Nothing) else keep_rest quoted p)
-          (ap (λ (w : List ℕ). nat_lt (length w) 30) at.word_is ∙ room word l))
-          refl refl;
-      at =
-          widened_in wide going head s q (in_word_of quoted) (word ++ c ∷ []) marks
-          (in_as going head s q scan (in_word_of quoted) word (word ++ c ∷ []) marks at refl (ap (λ (xs : List ℕ). xs ++ c ∷ []) at.word_is)
-          refl refl refl refl refl refl refl);
-      whole = whole_widened wide s.page q refl refl;
-    }
-
-escape_rest : ℕ → Bool → Page → Met
-escape_rest c quoted p =
-    if is_shown p then turns (scans.Long (within_escape quoted)) (left acts.Nothing) p
-    else turns (in_word_of quoted) (taken acts.Nothing) (wider c p)
-
-kept_escape : (going quoted : Bool) (head : Manner) (b c : ℕ) (s : State) (scan : Scan) (word marks : List ℕ) → In going head s scan word marks → length word < 30
-    → meet b s.page ≡ keep_escape c quoted s.page → Kept going head b s (in_word_of quoted) (word ++ code "\\" ∷ c ∷ []) marks
-unfolding said lay_out widened escape_rest
-kept_escape going quoted head b c s scan word marks at l e =
-    let p = s.page in
-    let bytes = code "\\" ∷ c ∷ [] in
-    let here = in_word_of quoted in
-    let q = with_scan here (keeping bytes p) in
-    let r = keeping (c ∷ []) (keeping (code "\\" ∷ []) p) in
-    let wide = not (c == code "&") && nat_lt p.call.width 9999 in
-    record {
-      next = with_page (widened wide q) s;
-      takes =
-          takes_by b s (widened wide q) (widened wide q) acts.Nothing acts.Nothing acts.Nothing []
-          (e
-          ∙ ap (λ (t : Bool). if t then met (with_scan here (wider c r)) (taken acts.Nothing) else escape_rest c quoted p)
-          (ap (λ (w : List ℕ). nat_lt (length w) 30) at.word_is ∙ room word l)
-          ∙ ap (λ (ws : List ℕ). met (with_scan here (wider c (record p { word = ws }))) (taken acts.Nothing)) (append_assoc p.word (code "\\" ∷ []) (c ∷ []))
-          ∙ ap (λ (v : Page). met v (taken acts.Nothing)) (wider_is here (not (c == code "&")) (nat_lt p.call.width 9999) (keeping bytes p)))
-          refl refl;
-      at =
-          widened_in wide going head s q here (word ++ bytes) marks
-          (in_as going head s q scan here word (word ++ bytes) marks at refl (ap (λ (xs : List ℕ). xs ++ bytes) at.word_is)
-          refl refl refl refl refl refl refl);
-      whole = whole_widened wide s.page q refl refl;
-    }
-
--- ---- a byte has no room
-
-or_true : (t : Bool) → (t || true) ≡ true
-or_true true = refl
-or_true false = refl
-
-shown_by : (plain : Bool) (m : Macro) → takes_as plain m ≡ true → (not (reads_for m) || is_heading m) ≡ true
-shown_by true m h = ap (λ (t : Bool). not t || is_heading m) (plain_reads m h)
-shown_by false m h = ap (λ (t : Bool). not (reads_for m) || t) h ∙ or_true (not (reads_for m))
-
-shown : (going : Bool) (head : Manner) (s : State) (scan : Scan) (word marks : List ℕ) → In going head s scan word marks → is_shown s.page ≡ true
-shown going head s scan word marks at =
-    shown_by head.plain s.page.call.taker at.fits
-
-full_plain : (going quoted : Bool) (head : Manner) (b c : ℕ) (s : State) (scan : Scan) (word marks : List ℕ) → In going head s scan word marks → 30 ≤ length word
-    → meet b s.page ≡ keep c quoted (with_scan (in_word_of quoted) s.page)
-    → meet b s.page ≡ met (with_scan (scans.Long (within quoted)) s.page) (left acts.Nothing)
-unfolding keep_rest
-full_plain going quoted head b c s scan word marks at l e =
-    let p = with_scan (in_word_of quoted) s.page in
-    e
-    ∙ ap (λ (t : Bool). if t then met (widens (keeping (c ∷ []) p)) (taken acts.Nothing) else keep_rest quoted p)
-    (ap (λ (w : List ℕ). nat_lt (length w) 30) at.word_is ∙ no_room word l)
-    ∙ ap (λ (t : Bool). if t then turns (scans.Long (within quoted)) (left acts.Nothing) p else met (widens p) (taken acts.Nothing))
-    (shown going head s scan word marks at)
-
-full_escape : (going quoted : Bool) (head : Manner) (b c : ℕ) (s : State) (scan : Scan) (word marks : List ℕ) → In going head s scan word marks → 30 ≤ length word
-    → meet b s.page ≡ keep_escape c quoted s.page
-    → meet b s.page ≡ met (with_scan (scans.Long (within_escape quoted)) s.page) (left acts.Nothing)
-unfolding escape_rest
-full_escape going quoted head b c s scan word marks at l e =
-    let p = s.page in
-    let r = keeping (c ∷ []) (keeping (code "\\" ∷ []) p) in
-    e
-    ∙ ap (λ (t : Bool). if t then met (with_scan (in_word_of quoted) (wider c r)) (taken acts.Nothing) else escape_rest c quoted p)
-    (ap (λ (w : List ℕ). nat_lt (length w) 30) at.word_is ∙ no_room word l)
-    ∙ ap (λ (t : Bool). if t then turns (scans.Long (within_escape quoted)) (left acts.Nothing) p else turns (in_word_of quoted) (taken acts.Nothing) (wider c p))
-    (shown going head s scan word marks at)
+use Rattle.mdoc_converter.proofs.WordRoom.{after_met, full_begun, full_escape, full_named, full_plain, Kept, kept_begun, kept_escape, kept_named, kept_plain, named_met, no_comment, no_end, no_escape, no_newline, no_room, not_ending, quotable_slash, room, scan_same, shown}
 
 -- ---- a byte is kept
 
@@ -210,6 +36,7 @@ pub record Grown (going : Bool) (head : Manner) (b : ℕ) (s : State) (scan : Sc
   pub out : Bool
   pub next : State
   pub steps : ℕ
+  pub some : 1 ≤ steps
   pub few : steps ≤ 6
   pub takes : Takes b s next steps (if out then marks ++ word else [])
   pub at : In (out || going) head next scan (if out then piece else word ++ piece) (if out then [] else marks)
@@ -237,6 +64,7 @@ grown_by true going inside head b s scan from word marks piece e at none fits fu
       out = false;
       next = one.next;
       steps = 1;
+      some = omega arith;
       few = omega arith;
       takes = one.takes;
       at = one.at;
@@ -251,6 +79,7 @@ grown_by false going inside head b s scan from word marks piece e at none fits f
       out = true;
       next = one.next;
       steps = f.steps + 1;
+      some = omega arith;
       few = six f.steps f.few;
       takes =
           taken_as b s one.next (f.steps + 1) ((marks ++ word) ++ []) (marks ++ word) (append-nil (marks ++ word))
@@ -311,18 +140,18 @@ byte_met quoted going head b s scan word marks u v at none so =
     (plain_hyphen head.plain m (ends_in_hyphen word) at.fits ∙ ap (λ (way : Way). holds_hyphen way (ends_in_hyphen word)) at.way ∙ so)
 
 escape_met : (quoted going : Bool) (head : Manner) (b : ℕ) (s : State) (word marks : List ℕ) → In going head s (goes_to (within_escape quoted)) word marks
-    → (b == code "\"") ≡ false → (b == code "\n") ≡ false → meet b s.page ≡ keep_escape b quoted s.page
+    → (b == code "\"") ≡ false → (b == code "\n") ≡ false → meet b s.page ≡ keep_begun b quoted s.page
 unfolding meet
 escape_met false going head b s word marks at quote newline =
     let p = s.page in
     ap (λ (sc : Scan). meet_at sc b p) at.scan_is
-    ∙ ap (λ (t : Bool). if t then comment false p else if b == code "\n" then continued false p else keep_escape b false p) quote
-    ∙ ap (λ (t : Bool). if t then continued false p else keep_escape b false p) newline
+    ∙ ap (λ (t : Bool). if t then comment false p else if b == code "\n" then continued false p else keep_begun b false p) quote
+    ∙ ap (λ (t : Bool). if t then continued false p else keep_begun b false p) newline
 escape_met true going head b s word marks at quote newline =
     let p = s.page in
     ap (λ (sc : Scan). meet_at sc b p) at.scan_is
-    ∙ ap (λ (t : Bool). if t then comment true p else if b == code "\n" then continued true p else keep_escape b true p) quote
-    ∙ ap (λ (t : Bool). if t then continued true p else keep_escape b true p) newline
+    ∙ ap (λ (t : Bool). if t then comment true p else if b == code "\n" then continued true p else keep_begun b true p) quote
+    ∙ ap (λ (t : Bool). if t then continued true p else keep_begun b true p) newline
 
 -- ---- by what it is
 
@@ -351,17 +180,29 @@ grown_plain quoted going head b s word marks at none e again =
     kept_plain true quoted head b b f.next (in_word_of quoted) [] [] t (omega arith)
     (plain_scan quoted true head b f.next [] [] t (again f.next t f.whole)))
 
--- a byte that is kept as an escape
+-- a byte that is kept behind a backslash
+grown_slashed : (quoted going : Bool) (head : Manner) (b : ℕ) (s : State) (scan here : Scan) (word marks : List ℕ) → In going head s scan word marks
+    → (going ≡ true → marks ≡ []) → (length word < 30 → Kept going head b s here (word ++ code "\\" ∷ b ∷ []) marks)
+    → (30 ≤ length word → meet b s.page ≡ met (with_scan (scans.Long (within_escape quoted)) s.page) (left acts.Nothing))
+    → (b == code "\"") ≡ false → (b == code "\n") ≡ false → in_named (escape_then escapes.Begun b) quoted ≡ here
+    → Grown going head b s here word marks (code "\\" ∷ b ∷ [])
+grown_slashed quoted going head b s scan here word marks at none fits full quote newline e =
+    grown_by (nat_lt (length word) 30) going (within_escape quoted) head b s here scan word marks (code "\\" ∷ b ∷ []) refl at none fits full
+    (λ f.
+    subst (λ (sc : Scan). Kept true head b f.next sc (code "\\" ∷ b ∷ []) []) e
+    (kept_begun true quoted head b b f.next (goes_to (within_escape quoted)) [] [] f.at (omega arith)
+    (escape_met quoted true head b f.next [] [] f.at quote newline)))
+
+-- a hyphen that is kept as an escape
 grown_escape : (quoted going : Bool) (head : Manner) (b : ℕ) (s : State) (scan : Scan) (word marks : List ℕ) → In going head s scan word marks
-    → (going ≡ true → marks ≡ []) → meet b s.page ≡ keep_escape b quoted s.page → (b == code "\"") ≡ false → (b == code "\n") ≡ false
+    → (going ≡ true → marks ≡ []) → meet b s.page ≡ keep_escape b quoted s.page → code "-" ≡ b
     → Grown going head b s (in_word_of quoted) word marks (code "\\" ∷ b ∷ [])
-grown_escape quoted going head b s scan word marks at none e quote newline =
-    grown_by (nat_lt (length word) 30) going (within_escape quoted) head b s (in_word_of quoted) scan word marks (code "\\" ∷ b ∷ []) refl at none
+grown_escape quoted going head b s scan word marks at none e is =
+    grown_slashed quoted going head b s scan (in_word_of quoted) word marks at none
     (λ l. kept_escape going quoted head b b s scan word marks at l e)
     (λ l. full_escape going quoted head b b s scan word marks at l e)
-    (λ f.
-    kept_escape true quoted head b b f.next (goes_to (within_escape quoted)) [] [] f.at (omega arith)
-    (escape_met quoted true head b f.next [] [] f.at quote newline))
+    (ap (λ (k : ℕ). k == code "\"") (sym is)) (ap (λ (k : ℕ). k == code "\n") (sym is))
+    (ap (λ (k : ℕ). in_named (escape_then escapes.Begun k) quoted) (sym is))
 
 -- a blank that stays with others, between quotes
 blank_met : (going : Bool) (head : Manner) (b : ℕ) (s : State) (word marks : List ℕ) → In going head s scans.Quoted word marks → is_whole s.page ≡ true
@@ -438,10 +279,51 @@ grown_quote going head s word marks at none =
 
 -- behind a backslash
 pub grown_escaped : (quoted going : Bool) (head : Manner) (b : ℕ) (s : State) (word marks : List ℕ) → In going head s (goes_to (within_escape quoted)) word marks
-    → (going ≡ true → marks ≡ []) → is_escaped b ≡ true → Grown going head b s (in_word_of quoted) word marks (code "\\" ∷ b ∷ [])
+    → (going ≡ true → marks ≡ []) → is_escaped b ≡ true
+    → Grown going head b s (in_named (escape_then escapes.Begun b) quoted) word marks (code "\\" ∷ b ∷ [])
 grown_escaped quoted going head b s word marks at none h =
-    grown_escape quoted going head b s (goes_to (within_escape quoted)) word marks at none
-    (escape_met quoted going head b s word marks at (no_comment b h) (no_newline b h)) (no_comment b h) (no_newline b h)
+    let scan = goes_to (within_escape quoted) in
+    let e = escape_met quoted going head b s word marks at (no_comment b h) (no_newline b h) in
+    grown_slashed quoted going head b s scan (in_named (escape_then escapes.Begun b) quoted) word marks at none
+    (λ l. kept_begun going quoted head b b s scan word marks at l e)
+    (λ l. full_begun going quoted head b b s scan word marks at l e)
+    (no_comment b h) (no_newline b h) refl
+
+-- in the name or the argument of an escape
+grown_named : (quoted going : Bool) (head : Manner) (reached : Reached) (b : ℕ) (s : State) (word marks : List ℕ) → In going head s (scans.Named reached quoted) word marks
+    → (going ≡ true → marks ≡ []) → ends_escape b ≡ false → Grown going head b s (in_named (escape_then reached b) quoted) word marks (b ∷ [])
+grown_named quoted going head reached b s word marks at none h =
+    let here = in_named (escape_then reached b) quoted in
+    let scan = scans.Named reached quoted in
+    let e = named_met quoted reached b s.page false at.scan_is h in
+    grown_by (nat_lt (length word) 30) going (insides.Named reached quoted) head b s here scan word marks (b ∷ []) refl at none
+    (λ l. kept_named going quoted head reached b s scan word marks at l e)
+    (λ l. full_named going quoted head reached b s scan word marks at l e)
+    (λ f. kept_named true quoted head reached b f.next scan [] [] f.at (omega arith) (named_met quoted reached b f.next.page false f.at.scan_is h))
+
+-- what ends it is met as in the word
+grown_after : (quoted going : Bool) (head : Manner) (reached : Reached) (b : ℕ) (s : State) (word marks piece : List ℕ) → In going head s (scans.Named reached quoted) word marks
+    → ends_escape b ≡ true
+    → ((t : State) → In going head t (in_word_of quoted) word marks → is_whole t.page ≡ is_whole s.page → Grown going head b t (in_word_of quoted) word marks piece)
+    → Grown going head b s (in_word_of quoted) word marks piece
+grown_after quoted going head reached b s word marks piece at h then_grown =
+    let here = in_word_of quoted in
+    let p = with_scan here s.page in
+    let same = same_whole s.page p refl refl in
+    let g = then_grown (with_page p s)
+    (in_as going head s p (scans.Named reached quoted) here word word marks at refl at.word_is refl refl refl refl refl refl refl) same in
+    record {
+      out = g.out;
+      next = g.next;
+      steps = g.steps;
+      some = g.some;
+      few = g.few;
+      takes =
+          takes_with b s g.next here g.steps _ (named_met quoted reached b s.page true at.scan_is h ∙ after_met quoted b s.page) g.some g.takes;
+      at = g.at;
+      whole = g.whole ∙ same;
+      long = g.long;
+    }
 
 no_first : (t v : Bool) → (t && not true && v) ≡ false
 no_first true v = refl
@@ -469,7 +351,7 @@ grown_as false true quoted going whole head b s word marks u v at none together 
     (plain_met quoted going whole head b s word marks at together h quote ∙ ap (λ (t : Bool). in_rest quoted t b s.page) blank
     ∙ byte_met quoted going head b s (in_word_of quoted) word marks u v at is_first so
     ∙ ap (λ (t : Bool). byte_rest quoted t b s.page) hyphen)
-    (ap (λ (k : ℕ). k == code "\"") (sym is)) (ap (λ (k : ℕ). k == code "\n") (sym is)))
+    is)
 grown_as false false quoted going whole head b s word marks u v at none together h quote is_first so blank hyphen =
     grown_plain quoted going head b s word marks at none
     (plain_met quoted going whole head b s word marks at together h quote ∙ ap (λ (t : Bool). in_rest quoted t b s.page) blank
@@ -482,14 +364,35 @@ grown_as false false quoted going whole head b s word marks u v at none together
     ∙ ap (λ (x : Bool). byte_rest quoted x b t.page) (no_first (b == code "-") (is_kept_so head.way [])))
 
 -- behind others
-pub grown_behind : (behind quoted going whole : Bool) (head : Manner) (b : ℕ) (s : State) (word marks : List ℕ) → In going head s (in_word_of quoted) word marks
+grown_in : (behind quoted going whole : Bool) (head : Manner) (b : ℕ) (s : State) (word marks : List ℕ) → In going head s (in_word_of quoted) word marks
     → (going ≡ true → marks ≡ []) → (quoted && is_whole s.page) ≡ whole → is_letter quoted (Plain b) ≡ true → (quoted && (b == code "\"")) ≡ false
-    → is_none word ≡ false → ends_in_hyphen word ≡ behind → Grown going head b s (in_word_of quoted) word marks (kept_letter head.way whole behind (Plain b))
+    → is_none word ≡ false → ends_in_hyphen word ≡ behind → Grown going head b s (in_word_of quoted) word marks (kept_letter head.way whole None behind (Plain b))
 unfolding is_kept_so
-grown_behind behind quoted going whole head b s word marks at none together h quote some hyphen =
+grown_in behind quoted going whole head b s word marks at none together h quote some hyphen =
     let v = holds_hyphen head.way behind in
     grown_as ((b == code " ") && whole) (is_held head.way behind b) quoted going whole head b s word marks false v at none together h quote some
     (ap (holds_hyphen head.way) hyphen) refl (held_is (b == code "-") v)
+
+grown_within : (t : Bool) (reached : Reached) (behind quoted going whole : Bool) (head : Manner) (b : ℕ) (s : State) (word marks : List ℕ)
+    → In going head s (scans.Named reached quoted) word marks → (going ≡ true → marks ≡ []) → (quoted && is_whole s.page) ≡ whole
+    → is_letter quoted (Plain b) ≡ true → (quoted && (b == code "\"")) ≡ false → is_none word ≡ false → ends_in_hyphen word ≡ behind → ends_escape b ≡ t
+    → Grown going head b s (in_named (if t then None else escape_then reached b) quoted) word marks
+    (if not t then b ∷ [] else kept_letter head.way whole None behind (Plain b))
+grown_within true reached behind quoted going whole head b s word marks at none together h quote some hyphen e =
+    grown_after quoted going head reached b s word marks (kept_letter head.way whole None behind (Plain b)) at e
+    (λ t inner same.
+    grown_in behind quoted going whole head b t word marks inner none (ap (λ (x : Bool). quoted && x) same ∙ together) h quote some hyphen)
+grown_within false reached behind quoted going whole head b s word marks at none together h quote some hyphen e =
+    grown_named quoted going head reached b s word marks at none e
+
+pub grown_behind : (reached : Option Reached) (behind quoted going whole : Bool) (head : Manner) (b : ℕ) (s : State) (word marks : List ℕ)
+    → In going head s (in_named reached quoted) word marks → (going ≡ true → marks ≡ []) → (quoted && is_whole s.page) ≡ whole
+    → is_letter quoted (Plain b) ≡ true → (quoted && (b == code "\"")) ≡ false → is_none word ≡ false → ends_in_hyphen word ≡ behind
+    → Grown going head b s (in_named (reached_behind reached (Plain b)) quoted) word marks (kept_letter head.way whole reached behind (Plain b))
+grown_behind None behind quoted going whole head b s word marks at none together h quote some hyphen =
+    grown_in behind quoted going whole head b s word marks at none together h quote some hyphen
+grown_behind (Some reached) behind quoted going whole head b s word marks at none together h quote some hyphen =
+    grown_within (ends_escape b) reached behind quoted going whole head b s word marks at none together h quote some hyphen refl
 
 -- as the first
 pub grown_first : (quoted going whole : Bool) (head : Manner) (b : ℕ) (s : State) (word marks : List ℕ) → In going head s (in_word_of quoted) word marks

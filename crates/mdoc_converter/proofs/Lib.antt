@@ -34,3 +34,4 @@ mod Turning
 mod Unchanged
 mod Ways
 mod WholeWords
+mod WordRoom

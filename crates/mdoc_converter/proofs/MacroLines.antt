@@ -5,6 +5,7 @@ use Rattle.std.specs.Prelude.{codes}
 use Prim.Native.Char.{code}
 use Rattle.nr_units.specs.Name.{capacity, is_full}
 use Rattle.mdoc_converter.specs.declared.acts.Act.TheVariants as acts
+use Rattle.mdoc_converter.specs.declared.escaping.Escape.{Escape as Reached}
 use Rattle.mdoc_converter.specs.declared.macros.Macro.{Macro}
 use Rattle.mdoc_converter.specs.declared.macros.Macro.TheVariants as macros
 use Rattle.mdoc_converter.specs.declared.page.Block.{Block}
@@ -13,7 +14,7 @@ use Rattle.mdoc_converter.specs.declared.page.Scan.{Scan}
 use Rattle.mdoc_converter.specs.declared.page.Scan.TheVariants as scans
 use Rattle.mdoc_converter.specs.declared.pending.Pending.TheVariants.{Nothing}
 use Rattle.mdoc_converter.specs.Calls.{called_by, with_scan}
-use Rattle.mdoc_converter.specs.Keeping.{ends_word, keep_byte}
+use Rattle.mdoc_converter.specs.Keeping.{ends_word, in_named, keep_byte}
 use Rattle.mdoc_converter.specs.LayingOut.{lay_out}
 use Rattle.mdoc_converter.specs.Blocks.{is_diagnosis, item}
 use Rattle.mdoc_converter.specs.Lines.{begins, begins_or_other, call_of, calls_none, named_line}
@@ -30,13 +31,13 @@ use Rattle.mdoc_converter.proofs.BlockEnds.{Begun, display_step, heads_step, lis
 use Rattle.mdoc_converter.proofs.PartLines.{book_step, part_step}
 use Rattle.mdoc_converter.proofs.Endings.{ends_quiet, Ended, line_ended}
 use Rattle.mdoc_converter.proofs.Escapes.{and_left, and_right, both, is_not}
-use Rattle.mdoc_converter.proofs.KeptWords.{not_ending, no_escape, quotable_slash}
 use Rattle.mdoc_converter.proofs.Meeting.{with_page, Leads, Takes, then_takes, leads_by, takes_by}
 use Rattle.mdoc_converter.proofs.Outcomes.{Lined, lined_as, never}
 use Rattle.mdoc_converter.proofs.ReadWords.{not_of, between_by, between_met}
 use Rattle.mdoc_converter.proofs.TextSaid.{next-words, or_left, or_right}
 use Rattle.mdoc_converter.proofs.Stepping.{At, In, Head, Manner, plainly, Stepped, in_as, out_step, step_at}
 use Rattle.mdoc_converter.proofs.WholeWords.{heads_plain}
+use Rattle.mdoc_converter.proofs.WordRoom.{named_met, not_ending, no_escape, quotable_slash}
 
 -- ---- between words
 
@@ -95,28 +96,32 @@ over head s word marks at h =
 unfoldable pub given : State → State
 given s = with_page (with_scan (scans.Given false) s.page) s
 
-pub given_at : (going : Bool) (head : Manner) (s : State) (word marks : List ℕ) → In going head s scans.Word word marks
+pub given_at : (going : Bool) (head : Manner) (s : State) (scan : Scan) (word marks : List ℕ) → In going head s scan word marks
     → In going head (given s) (scans.Given false) word marks
 unfolding given
-given_at going head s word marks at =
-    in_as going head s (with_scan (scans.Given false) s.page) scans.Word (scans.Given false) word word marks at refl at.word_is refl refl refl refl refl refl refl
+given_at going head s scan word marks at =
+    in_as going head s (with_scan (scans.Given false) s.page) scan (scans.Given false) word word marks at refl at.word_is refl refl refl refl refl refl refl
 
 in_word_rest : ℕ → Page → Met
 in_word_rest b p = if b == code "\\" then met (with_scan scans.Escape p) (taken acts.Nothing) else keep_byte b false p
 
-given_met : (going : Bool) (head : Manner) (b : ℕ) (s : State) (word marks : List ℕ) → In going head s scans.Word word marks → ends_word b ≡ true
+given_met : (reached : Option Reached) (going : Bool) (head : Manner) (b : ℕ) (s : State) (word marks : List ℕ) → In going head s (in_named reached false) word marks → ends_word b ≡ true
     → meet b s.page ≡ met (with_scan (scans.Given false) s.page) (left acts.Nothing)
 unfolding meet in_word_rest
-given_met going head b s word marks at e =
+given_met None going head b s word marks at e =
     let p = s.page in
     ap (λ (sc : Scan). meet_at sc b p) at.scan_is ∙ ap (λ (t : Bool). if t then met (with_scan (scans.Given false) p) (left acts.Nothing) else in_word_rest b p) e
+given_met (Some reached) going head b s word marks at e =
+    let p = s.page in
+    named_met false reached b p true at.scan_is (ap (λ (t : Bool). t || (b == code "\"") || (b == code "\\")) e)
+    ∙ ap (λ (t : Bool). if t then met (with_scan (scans.Given false) p) (left acts.Nothing) else in_word_rest b (with_scan scans.Word p)) e
 
-pub given_leads : (going : Bool) (head : Manner) (b : ℕ) (s : State) (word marks : List ℕ) → In going head s scans.Word word marks → ends_word b ≡ true
+pub given_leads : (reached : Option Reached) (going : Bool) (head : Manner) (b : ℕ) (s : State) (word marks : List ℕ) → In going head s (in_named reached false) word marks → ends_word b ≡ true
     → Leads b s (given s) 1 []
 unfolding said lay_out given
-given_leads going head b s word marks at e =
+given_leads reached going head b s word marks at e =
     leads_by b s (with_scan (scans.Given false) s.page) (with_scan (scans.Given false) s.page) acts.Nothing acts.Nothing acts.Nothing []
-    (given_met going head b s word marks at e) refl refl
+    (given_met reached going head b s word marks at e) refl refl
 
 -- a blank ends a word: these bytes of words were said, and the line is read between words
 pub record Said (m : Head) (s : State) (all : List ℕ) : Type 0 where

@@ -3,6 +3,8 @@ use Rattle.std.proofs.Common.{◌≡◌, ℕ, suc, ◌+◌, ◌-◌, ◌≤◌, 
 use Rattle.mdoc_converter.specs.declared.acts.Act.{Act}
 use Rattle.mdoc_converter.specs.declared.acts.Stack.{Stack}
 use Rattle.mdoc_converter.specs.declared.page.Page.{Page}
+use Rattle.mdoc_converter.specs.declared.page.Scan.{Scan}
+use Rattle.mdoc_converter.specs.Calls.{with_scan}
 use Rattle.mdoc_converter.specs.Reading.{State, Told, told, behind, said, once, once_seen, stacked, heard_in, heard}
 use Rattle.mdoc_converter.specs.Saying.{parts_seen, parts_in, parts_at, words_of}
 use Rattle.mdoc_converter.specs.Scanning.{meet}
@@ -128,6 +130,37 @@ takes_by b s p q x y z xs e f g = record {
       ap (λ (i : ℕ). (heard_in i b s).state) (one_more n) ∙ ap (λ (t : Told). t.state) (heard-once n b s)
       ∙ ap (λ (m : Met). (told_once n b m s).state) e ∙ after_taken n b s p x y z ∙ ap (λ (r : Page). with_page r s) f;
 }
+
+-- ---- a byte is met as where the line is read otherwise
+
+one_of : (n k : ℕ) → 1 ≤ k → n + k ≡ suc (n + (k - 1))
+one_of n k l = omega arith
+
+state_by : (n b : ℕ) (s : State) (m : Met) (scan : Scan)
+    → (told_once n b m s).state ≡ (told_once n b m (with_page (with_scan scan s.page) s)).state
+unfolding told_once
+state_by n b s m scan = refl
+
+words_by : (n b : ℕ) (s : State) (m : Met) (scan : Scan) → words_once n b m s ≡ words_once n b m (with_page (with_scan scan s.page) s)
+unfolding words_once
+words_by n b s m scan = refl
+
+pub takes_with : (b : ℕ) (s t : State) (scan : Scan) (k : ℕ) (xs : List ℕ) → meet b s.page ≡ meet b (with_scan scan s.page) → 1 ≤ k
+    → Takes b (with_page (with_scan scan s.page) s) t k xs → Takes b s t k xs
+takes_with b s t scan k xs e l p =
+    let r = with_page (with_scan scan s.page) s in
+    let m = meet b r.page in
+    record {
+      words = λ n.
+          let i = n + (k - 1) in
+          ap (λ (j : ℕ). words_of (parts_in j b s)) (one_of n k l) ∙ words-once i b s ∙ ap (λ (m : Met). words_once i b m s) e
+          ∙ words_by i b s m scan ∙ sym (words-once i b r) ∙ ap (λ (j : ℕ). words_of (parts_in j b r)) (sym (one_of n k l)) ∙ p.words n;
+      state = λ n.
+          let i = n + (k - 1) in
+          ap (λ (j : ℕ). (heard_in j b s).state) (one_of n k l) ∙ ap (λ (t : Told). t.state) (heard-once i b s)
+          ∙ ap (λ (m : Met). (told_once i b m s).state) e ∙ state_by i b s m scan
+          ∙ sym (ap (λ (t : Told). t.state) (heard-once i b r)) ∙ ap (λ (j : ℕ). (heard_in j b r).state) (sym (one_of n k l)) ∙ p.state n;
+    }
 
 -- ---- sixteen meetings are enough
 

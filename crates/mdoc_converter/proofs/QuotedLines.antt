@@ -4,6 +4,7 @@ use Rattle.std.specs.Prelude.{codes}
 use Prim.Native.Char.{code}
 use Rattle.mdoc_converter.specs.declared.acts.Act.TheVariants as acts
 use Rattle.mdoc_converter.specs.declared.acts.Text.TheVariants as texts
+use Rattle.mdoc_converter.specs.declared.escaping.Escape.{Escape as Reached}
 use Rattle.mdoc_converter.specs.declared.macros.Macro.{Macro}
 use Rattle.mdoc_converter.specs.declared.macros.Macro.TheVariants as macros
 use Rattle.mdoc_converter.specs.declared.macros.Pair.TheVariants as pairs
@@ -12,7 +13,7 @@ use Rattle.mdoc_converter.specs.declared.page.Page.{Page}
 use Rattle.mdoc_converter.specs.declared.page.Scan.{Scan}
 use Rattle.mdoc_converter.specs.declared.page.Scan.TheVariants as scans
 use Rattle.mdoc_converter.specs.Calls.{callable, called_by, is_enclosure_due, is_none, with_scan}
-use Rattle.mdoc_converter.specs.Keeping.{keep_quote}
+use Rattle.mdoc_converter.specs.Keeping.{in_named, keep_quote}
 use Rattle.mdoc_converter.specs.LayingOut.{lay_out}
 use Rattle.mdoc_converter.specs.Macros.{macro_of}
 use Rattle.mdoc_converter.specs.Options.{option, reads_for}
@@ -256,22 +257,22 @@ after_of head s g all blank newline w v h =
           e.fresh;
     }
 
-behind_bare : (head : Head) (s : State) (word marks : List ℕ) → At head s scans.Word word marks
+behind_bare : (reached : Option Reached) (head : Head) (s : State) (word marks : List ℕ) → At head s (in_named reached false) word marks
     → ends_quiet head.line.macro ≡ true → none_or prints_words (called_by head.line.mute word) ≡ true
     → Behind (behind_head head (called_by head.line.mute word)) s (marks ++ of_kept head.line.mute head.way word)
 unfolding of_kept
-behind_bare head s word marks at h f =
-    let inside = given_at false (plainly head) s word marks at in
+behind_bare reached head s word marks at h f =
+    let inside = given_at false (plainly head) s (in_named reached false) word marks at in
     after_of (behind_head head (called_by head.line.mute word)) s (given s) (marks ++ of_kept head.line.mute head.way word)
-    (given_leads false (plainly head) (code " ") s word marks at refl) (given_leads false (plainly head) (code "\n") s word marks at refl)
+    (given_leads reached false (plainly head) (code " ") s word marks at refl) (given_leads reached false (plainly head) (code "\n") s word marks at refl)
     (given_whole head (code " ") (given s) word marks inside f) (given_whole head (code "\n") (given s) word marks inside f) h
 
-behind_bare_long : (head : Head) (s : State) (word : List ℕ) → In true (plainly head) s scans.Word word [] → ends_quiet head.line.macro ≡ true
+behind_bare_long : (reached : Option Reached) (head : Head) (s : State) (word : List ℕ) → In true (plainly head) s (in_named reached false) word [] → ends_quiet head.line.macro ≡ true
     → Behind (behind_head head None) s word
-behind_bare_long head s word at h =
-    let inside = given_at true (plainly head) s word [] at in
+behind_bare_long reached head s word at h =
+    let inside = given_at true (plainly head) s (in_named reached false) word [] at in
     after_of (behind_head head None) s (given s) word
-    (given_leads true (plainly head) (code " ") s word [] at refl) (given_leads true (plainly head) (code "\n") s word [] at refl)
+    (given_leads reached true (plainly head) (code " ") s word [] at refl) (given_leads reached true (plainly head) (code "\n") s word [] at refl)
     (called_nothing head (code " ") (given s) 3 word (plain_whole false head (code " ") (given s) word inside))
     (called_nothing head (code "\n") (given s) 3 word (plain_whole false head (code "\n") (given s) word inside)) h
 
@@ -310,27 +311,29 @@ going_at : (t : Bool) (going : Bool) (head : Manner) (s : State) (scan : Scan) (
     → In t head s scan word marks
 going_at t going head s scan word marks e at = subst (λ (g : Bool). In g head s scan word marks) e at
 
-bare_by : (t : Bool) (head : Head) (s : State) (bs marks word : List ℕ) (first hyphen : Bool)
-    (r : Read (plainly head) false false s scans.Word bs marks word first hyphen) → r.going ≡ t → ends_quiet head.line.macro ≡ true
+bare_by : (t : Bool) (reached : Option Reached) (head : Head) (s : State) (bs marks word : List ℕ) (first hyphen : Bool)
+    (r : Read (plainly head) false false s (in_named reached false) bs marks word first hyphen) → r.going ≡ t → ends_quiet head.line.macro ≡ true
     → none_or prints_words (called_by head.line.mute word) ≡ true
     → Ends (behind_head head (called_by head.line.mute word)) r.next r.xs marks (of_kept head.line.mute head.way word)
 unfolding of_kept
-bare_by true head s bs marks word first hyphen r e h f =
+bare_by true reached head s bs marks word first hyphen r e h f =
+    let here = in_named reached false in
     let long = r.long e in
     let none = r.clear e in
-    let at = subst (λ (hs : List ℕ). In true (plainly head) r.next scans.Word r.word hs) none (going_at true r.going (plainly head) r.next scans.Word r.word r.held e r.at) in
+    let at = subst (λ (hs : List ℕ). In true (plainly head) r.next here r.word hs) none (going_at true r.going (plainly head) r.next here r.word r.held e r.at) in
     record {
       ys = r.word;
-      behind = subst (λ (o : _). Behind (behind_head head o) r.next r.word) (sym (long_calls head.line.mute word long)) (behind_bare_long head r.next r.word at h);
+      behind = subst (λ (o : _). Behind (behind_head head o) r.next r.word) (sym (long_calls head.line.mute word long)) (behind_bare_long reached head r.next r.word at h);
       total =
           all_said r.xs r.held r.word marks word (of_kept head.line.mute head.way word) r.total none
           (sym (said_long head.way word long) ∙ ap (λ (o : _). unless_called head.way o word) (sym (long_calls head.line.mute word long)));
     }
-bare_by false head s bs marks word first hyphen r e h f =
-    let at = subst (λ (w : List ℕ). In false (plainly head) r.next scans.Word w r.held) (r.same e) (going_at false r.going (plainly head) r.next scans.Word r.word r.held e r.at) in
+bare_by false reached head s bs marks word first hyphen r e h f =
+    let here = in_named reached false in
+    let at = subst (λ (w : List ℕ). In false (plainly head) r.next here w r.held) (r.same e) (going_at false r.going (plainly head) r.next here r.word r.held e r.at) in
     record {
       ys = r.held ++ of_kept head.line.mute head.way word;
-      behind = behind_bare head r.next word r.held at h f;
+      behind = behind_bare reached head r.next word r.held at h f;
       total = none_said r.xs r.held (of_kept head.line.mute head.way word) marks (r.silent e) (r.same_marks e);
     }
 
@@ -397,8 +400,9 @@ in_words (Bare (l ∷ ls) ∷ ws) head s all behind h good =
     let then_way = way_then mute way (Bare (l ∷ ls)) in
     let one = behind.blank in
     let here = and_left (is_word mute way (l ∷ ls)) (are_written mute then_way ws) good in
-    let r = (read_bare l ls (plainly head) one.next one.word one.marks one.at (word_letters mute way l ls here)).read in
-    let e = bare_by r.going head one.next (written false (l ∷ ls)) one.marks word _ _ r refl h (word_prints mute way l ls here) in
+    let spelled = read_bare l ls (plainly head) one.next one.word one.marks one.at (word_letters mute way l ls here) in
+    let r = spelled.spelled.read in
+    let e = bare_by r.going spelled.reached head one.next (written false (l ∷ ls)) one.marks word _ _ r refl h (word_prints mute way l ls here) in
     let rest = in_words ws (behind_head head (called_by mute word)) r.next e.ys e.behind h
     (and_right (is_word mute way (l ∷ ls)) (are_written mute then_way ws) good) in
     record {

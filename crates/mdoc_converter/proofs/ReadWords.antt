@@ -1,29 +1,31 @@
 -- The letters of a word are read, between quotes or not: they are kept, or said where more come than are kept.
-use Rattle.std.proofs.Common.{◌≡◌, ℕ, ◌≤◌, ◌+◌, List, [], ◌∷◌, ◌++◌, length, Bool, true, false, not, ◌&&◌, ◌||◌, ◌==◌, if◌then◌else◌, refl, sym, ◌∙◌, ap, subst, append_assoc, append-nil, length-append, arith}
+use Rattle.std.proofs.Common.{◌≡◌, ℕ, ◌≤◌, ◌+◌, List, [], ◌∷◌, ◌++◌, length, Bool, true, false, not, ◌&&◌, ◌||◌, ◌==◌, if◌then◌else◌, Option, None, Some, refl, sym, ◌∙◌, ap, subst, append_assoc, append-nil, length-append, arith}
 use Rattle.std.proofs.lemmas.Bool.Decides.{nat_tests}
 use Rattle.std.specs.Prelude.{codes}
 use Prim.Native.Char.{code}
 use Rattle.mdoc_converter.specs.declared.acts.Act.TheVariants as acts
+use Rattle.mdoc_converter.specs.declared.escaping.Escape.{Escape as Reached}
 use Rattle.mdoc_converter.specs.declared.page.Page.{Page}
 use Rattle.mdoc_converter.specs.declared.page.Scan.{Scan}
 use Rattle.mdoc_converter.specs.declared.page.Scan.TheVariants as scans
 use Rattle.mdoc_converter.specs.Calls.{is_none, with_scan}
-use Rattle.mdoc_converter.specs.Keeping.{ends_in_hyphen, ends_word, in_word_of, is_whole, within_escape, word_begins}
+use Rattle.mdoc_converter.specs.Keeping.{ends_in_hyphen, ends_word, in_named, in_word_of, is_whole, within_escape, word_begins}
 use Rattle.mdoc_converter.specs.LayingOut.{lay_out}
 use Rattle.mdoc_converter.specs.Reading.{State, said}
 use Rattle.mdoc_converter.specs.Saying.{parts_of, words_of}
 use Rattle.mdoc_converter.specs.Scanning.{between, meet, meet_at}
 use Rattle.mdoc_converter.specs.Seeing.{Met, met, left, taken}
 use Rattle.mdoc_converter.specs.Words.{goes_to}
-use Rattle.mdoc_converter.specs.WrittenLines.{Letter, Plain, Escape, is_hyphen, is_letter, are_letters, bytes_of, kept, kept_first, kept_in, kept_letter, written}
+use Rattle.mdoc_converter.specs.WrittenLines.{Letter, Plain, Escape, reached_behind, is_hyphen, is_letter, are_letters, bytes_of, kept, kept_first, kept_in, kept_letter, written}
 use Rattle.mdoc_converter.proofs.Escapes.{and_left, and_right, same_byte}
 use Rattle.mdoc_converter.proofs.After.{after, after-append, next-state}
-use Rattle.mdoc_converter.proofs.KeptWords.{Grown, grown_behind, grown_escaped, grown_first, grown_quote, no_quote, not_ending}
+use Rattle.mdoc_converter.proofs.KeptWords.{Grown, grown_behind, grown_escaped, grown_first, grown_quote}
 use Rattle.mdoc_converter.proofs.Meeting.{with_page, Leads, Takes, then_takes, leads_by, takes_by}
 use Rattle.mdoc_converter.proofs.Stepping.{In, Manner, in_as}
 use Rattle.mdoc_converter.proofs.TextSaid.{next-words, or_left, or_right}
 use Rattle.mdoc_converter.proofs.Together.{same_whole}
 use Rattle.mdoc_converter.proofs.Ways.{first_last, first_some, letter_last, letter_some}
+use Rattle.mdoc_converter.proofs.WordRoom.{no_quote, not_ending}
 
 -- So many bytes of a word were read: what was said meanwhile, what is kept of it, and the marks that are held back. `first` is that
 -- nothing is kept yet, and `hyphen` that a hyphen was the last.
@@ -165,90 +167,107 @@ read_as head quoted whole s scan bs bs2 marks all all2 first hyphen e f r =
 
 -- ---- a backslash, and a quote between quotes
 
-slash_met : (quoted going : Bool) (head : Manner) (s : State) (word marks : List ℕ) → In going head s (in_word_of quoted) word marks
+slash_met : (quoted : Bool) (reached : Option Reached) (going : Bool) (head : Manner) (s : State) (word marks : List ℕ) → In going head s (in_named reached quoted) word marks
     → meet (code "\\") s.page ≡ met (with_scan (goes_to (within_escape quoted)) s.page) (taken acts.Nothing)
 unfolding meet
-slash_met true going head s word marks at = ap (λ (sc : Scan). meet_at sc (code "\\") s.page) at.scan_is
-slash_met false going head s word marks at = ap (λ (sc : Scan). meet_at sc (code "\\") s.page) at.scan_is
+slash_met true None going head s word marks at = ap (λ (sc : Scan). meet_at sc (code "\\") s.page) at.scan_is
+slash_met false None going head s word marks at = ap (λ (sc : Scan). meet_at sc (code "\\") s.page) at.scan_is
+slash_met true (Some reached) going head s word marks at = ap (λ (sc : Scan). meet_at sc (code "\\") s.page) at.scan_is
+slash_met false (Some reached) going head s word marks at = ap (λ (sc : Scan). meet_at sc (code "\\") s.page) at.scan_is
 
-then_slash : (head : Manner) (quoted whole : Bool) (s : State) (bs marks all : List ℕ) (first hyphen : Bool)
-    → Read head quoted whole s (in_word_of quoted) bs marks all first hyphen
+then_slash : (reached : Option Reached) (head : Manner) (quoted whole : Bool) (s : State) (bs marks all : List ℕ) (first hyphen : Bool)
+    → Read head quoted whole s (in_named reached quoted) bs marks all first hyphen
     → Read head quoted whole s (goes_to (within_escape quoted)) (bs ++ codes "\\") marks all first hyphen
 unfolding said lay_out
-then_slash head quoted whole s bs marks all first hyphen r =
+then_slash reached head quoted whole s bs marks all first hyphen r =
     let p = r.next.page in
     let scan = goes_to (within_escape quoted) in
     let q = with_scan scan p in
-    then_scan head quoted whole s (with_page q r.next) (in_word_of quoted) scan (code "\\") bs marks all first hyphen r
-    (takes_by (code "\\") r.next q q acts.Nothing acts.Nothing acts.Nothing [] (slash_met quoted r.going head r.next r.word r.held r.at) refl refl)
-    (in_as r.going head r.next q (in_word_of quoted) scan r.word r.word r.held r.at refl r.at.word_is refl refl refl refl refl refl refl)
+    then_scan head quoted whole s (with_page q r.next) (in_named reached quoted) scan (code "\\") bs marks all first hyphen r
+    (takes_by (code "\\") r.next q q acts.Nothing acts.Nothing acts.Nothing [] (slash_met quoted reached r.going head r.next r.word r.held r.at) refl refl)
+    (in_as r.going head r.next q (in_named reached quoted) scan r.word r.word r.held r.at refl r.at.word_is refl refl refl refl refl refl refl)
     (same_whole p q refl refl)
 
-closing_met : (going : Bool) (head : Manner) (s : State) (word marks : List ℕ) → In going head s scans.Quoted word marks
+closing_met : (reached : Option Reached) (going : Bool) (head : Manner) (s : State) (word marks : List ℕ) → In going head s (in_named reached true) word marks
     → meet (code "\"") s.page ≡ met (with_scan scans.Closing s.page) (taken acts.Nothing)
 unfolding meet
-closing_met going head s word marks at = ap (λ (sc : Scan). meet_at sc (code "\"") s.page) at.scan_is
+closing_met None going head s word marks at = ap (λ (sc : Scan). meet_at sc (code "\"") s.page) at.scan_is
+closing_met (Some reached) going head s word marks at = ap (λ (sc : Scan). meet_at sc (code "\"") s.page) at.scan_is
 
-then_quote : (head : Manner) (whole : Bool) (s : State) (bs marks all : List ℕ) (first hyphen : Bool)
-    → Read head true whole s scans.Quoted bs marks all first hyphen → Read head true whole s scans.Closing (bs ++ codes "\"") marks all first hyphen
+then_quote : (reached : Option Reached) (head : Manner) (whole : Bool) (s : State) (bs marks all : List ℕ) (first hyphen : Bool)
+    → Read head true whole s (in_named reached true) bs marks all first hyphen → Read head true whole s scans.Closing (bs ++ codes "\"") marks all first hyphen
 unfolding said lay_out
-then_quote head whole s bs marks all first hyphen r =
+then_quote reached head whole s bs marks all first hyphen r =
     let p = r.next.page in
     let q = with_scan scans.Closing p in
-    then_scan head true whole s (with_page q r.next) scans.Quoted scans.Closing (code "\"") bs marks all first hyphen r
-    (takes_by (code "\"") r.next q q acts.Nothing acts.Nothing acts.Nothing [] (closing_met r.going head r.next r.word r.held r.at) refl refl)
-    (in_as r.going head r.next q scans.Quoted scans.Closing r.word r.word r.held r.at refl r.at.word_is refl refl refl refl refl refl refl)
+    then_scan head true whole s (with_page q r.next) (in_named reached true) scans.Closing (code "\"") bs marks all first hyphen r
+    (takes_by (code "\"") r.next q q acts.Nothing acts.Nothing acts.Nothing [] (closing_met reached r.going head r.next r.word r.held r.at) refl refl)
+    (in_as r.going head r.next q (in_named reached true) scans.Closing r.word r.word r.held r.at refl r.at.word_is refl refl refl refl refl refl refl)
     (same_whole p q refl refl)
 
 -- ---- a letter more
 
 -- an escape
-then_escape : (b : ℕ) (head : Manner) (quoted whole : Bool) (s : State) (bs marks all : List ℕ) (first hyphen : Bool)
-    → Read head quoted whole s (in_word_of quoted) bs marks all first hyphen → is_letter quoted (Escape b) ≡ true
-    → Read head quoted whole s (in_word_of quoted) (bs ++ bytes_of quoted (Escape b)) marks (all ++ code "\\" ∷ b ∷ []) false (b == code "-")
-then_escape b head quoted whole s bs marks all first hyphen r h =
-    let slash = then_slash head quoted whole s bs marks all first hyphen r in
+then_escape : (b : ℕ) (reached : Option Reached) (head : Manner) (quoted whole : Bool) (s : State) (bs marks all : List ℕ) (first hyphen : Bool)
+    → Read head quoted whole s (in_named reached quoted) bs marks all first hyphen → is_letter quoted (Escape b) ≡ true
+    → Read head quoted whole s (in_named (reached_behind reached (Escape b)) quoted) (bs ++ bytes_of quoted (Escape b)) marks (all ++ code "\\" ∷ b ∷ []) false (b == code "-")
+then_escape b reached head quoted whole s bs marks all first hyphen r h =
+    let here = in_named (reached_behind reached (Escape b)) quoted in
+    let slash = then_slash reached head quoted whole s bs marks all first hyphen r in
     let piece = code "\\" ∷ b ∷ [] in
-    read_as head quoted whole s (in_word_of quoted) ((bs ++ codes "\\") ++ b ∷ []) (bs ++ piece) marks (all ++ piece) (all ++ piece) false (b == code "-")
+    read_as head quoted whole s here ((bs ++ codes "\\") ++ b ∷ []) (bs ++ piece) marks (all ++ piece) (all ++ piece) false (b == code "-")
     (append_assoc bs (codes "\\") (b ∷ [])) refl
-    (then_byte head quoted whole s (goes_to (within_escape quoted)) (in_word_of quoted) b (bs ++ codes "\\") marks all piece first hyphen (b == code "-") slash
+    (then_byte head quoted whole s (goes_to (within_escape quoted)) here b (bs ++ codes "\\") marks all piece first hyphen (b == code "-") slash
     (grown_escaped quoted slash.going head b slash.next slash.word slash.held slash.at slash.clear h) refl
-    (λ w. letter_last head.way whole false (Escape b) w))
+    (λ w. letter_last head.way whole reached false (Escape b) w))
 
 -- two quotes
-then_two : (head : Manner) (whole : Bool) (s : State) (bs marks all : List ℕ) (first hyphen : Bool) → Read head true whole s scans.Quoted bs marks all first hyphen
+then_two : (reached : Option Reached) (head : Manner) (whole : Bool) (s : State) (bs marks all : List ℕ) (first hyphen : Bool)
+    → Read head true whole s (in_named reached true) bs marks all first hyphen
     → Read head true whole s scans.Quoted (bs ++ codes "\"\"") marks (all ++ codes "\"") false false
-then_two head whole s bs marks all first hyphen r =
-    let one = then_quote head whole s bs marks all first hyphen r in
+then_two reached head whole s bs marks all first hyphen r =
+    let one = then_quote reached head whole s bs marks all first hyphen r in
     read_as head true whole s scans.Quoted ((bs ++ codes "\"") ++ codes "\"") (bs ++ codes "\"\"") marks (all ++ codes "\"") (all ++ codes "\"") false false
     (append_assoc bs (codes "\"") (codes "\"")) refl
     (then_byte head true whole s scans.Closing scans.Quoted (code "\"") (bs ++ codes "\"") marks all (codes "\"") first hyphen false one
     (grown_quote one.going head one.next one.word one.held one.at one.clear) refl
-    (λ w. letter_last head.way whole false (Plain (code "\"")) w))
+    (λ w. letter_last head.way whole None false (Plain (code "\"")) w))
 
 -- by whether it is a quote between quotes
 plain_bytes : Bool → ℕ → List ℕ
 plain_bytes t b = if t then codes "\"\"" else b ∷ []
 
-behind_by : (t : Bool) (b : ℕ) (behind : Bool) (head : Manner) (quoted whole : Bool) (s : State) (bs marks all : List ℕ)
-    → Read head quoted whole s (in_word_of quoted) bs marks all false behind → is_letter quoted (Plain b) ≡ true → (quoted && (b == code "\"")) ≡ t
-    → Read head quoted whole s (in_word_of quoted) (bs ++ plain_bytes t b) marks (all ++ kept_letter head.way whole behind (Plain b)) false (b == code "-")
-unfolding plain_bytes
-behind_by true b behind head true whole s bs marks all r h e =
-    subst (λ (k : ℕ). Read head true whole s scans.Quoted (bs ++ codes "\"\"") marks (all ++ kept_letter head.way whole behind (Plain k)) false (k == code "-"))
-    (same_byte b (code "\"") e) (then_two head whole s bs marks all false behind r)
-behind_by true b behind head false whole s bs marks all r h e = absurd (let no : false ≡ true = e in cc)
-behind_by false b behind head quoted whole s bs marks all r h e =
-    then_byte head quoted whole s (in_word_of quoted) (in_word_of quoted) b bs marks all (kept_letter head.way whole behind (Plain b)) false behind (b == code "-") r
-    (grown_behind behind quoted r.going whole head b r.next r.word r.held r.at r.clear r.together h e r.is_first r.is_hyphen)
-    (letter_some head.way whole behind (Plain b)) (λ w. letter_last head.way whole behind (Plain b) w)
+two_behind : (reached : Option Reached) (behind : Bool) (head : Manner) (whole : Bool) (s : State) (bs marks all : List ℕ)
+    → Read head true whole s (in_named reached true) bs marks all false behind
+    → Read head true whole s (in_named (reached_behind reached (Plain (code "\""))) true) (bs ++ codes "\"\"") marks
+    (all ++ kept_letter head.way whole reached behind (Plain (code "\""))) false false
+two_behind None behind head whole s bs marks all r = then_two None head whole s bs marks all false behind r
+two_behind (Some reached) behind head whole s bs marks all r = then_two (Some reached) head whole s bs marks all false behind r
 
-letter_behind : (l : Letter) (behind : Bool) (head : Manner) (quoted whole : Bool) (s : State) (bs marks all : List ℕ)
-    → Read head quoted whole s (in_word_of quoted) bs marks all false behind → is_letter quoted l ≡ true
-    → Read head quoted whole s (in_word_of quoted) (bs ++ bytes_of quoted l) marks (all ++ kept_letter head.way whole behind l) false (is_hyphen l)
+behind_by : (t : Bool) (b : ℕ) (reached : Option Reached) (behind : Bool) (head : Manner) (quoted whole : Bool) (s : State) (bs marks all : List ℕ)
+    → Read head quoted whole s (in_named reached quoted) bs marks all false behind → is_letter quoted (Plain b) ≡ true → (quoted && (b == code "\"")) ≡ t
+    → Read head quoted whole s (in_named (reached_behind reached (Plain b)) quoted) (bs ++ plain_bytes t b) marks
+    (all ++ kept_letter head.way whole reached behind (Plain b)) false (b == code "-")
 unfolding plain_bytes
-letter_behind (Plain b) behind head quoted whole s bs marks all r h = behind_by (quoted && (b == code "\"")) b behind head quoted whole s bs marks all r h refl
-letter_behind (Escape b) behind head quoted whole s bs marks all r h = then_escape b head quoted whole s bs marks all false behind r h
+behind_by true b reached behind head true whole s bs marks all r h e =
+    subst (λ (k : ℕ). Read head true whole s (in_named (reached_behind reached (Plain k)) true) (bs ++ codes "\"\"") marks
+    (all ++ kept_letter head.way whole reached behind (Plain k)) false (k == code "-"))
+    (same_byte b (code "\"") e) (two_behind reached behind head whole s bs marks all r)
+behind_by true b reached behind head false whole s bs marks all r h e = absurd (let no : false ≡ true = e in cc)
+behind_by false b reached behind head quoted whole s bs marks all r h e =
+    then_byte head quoted whole s (in_named reached quoted) (in_named (reached_behind reached (Plain b)) quoted) b bs marks all
+    (kept_letter head.way whole reached behind (Plain b)) false behind (b == code "-") r
+    (grown_behind reached behind quoted r.going whole head b r.next r.word r.held r.at r.clear r.together h e r.is_first r.is_hyphen)
+    (letter_some head.way whole reached behind (Plain b)) (λ w. letter_last head.way whole reached behind (Plain b) w)
+
+letter_behind : (l : Letter) (reached : Option Reached) (behind : Bool) (head : Manner) (quoted whole : Bool) (s : State) (bs marks all : List ℕ)
+    → Read head quoted whole s (in_named reached quoted) bs marks all false behind → is_letter quoted l ≡ true
+    → Read head quoted whole s (in_named (reached_behind reached l) quoted) (bs ++ bytes_of quoted l) marks
+    (all ++ kept_letter head.way whole reached behind l) false (is_hyphen l)
+unfolding plain_bytes
+letter_behind (Plain b) reached behind head quoted whole s bs marks all r h =
+    behind_by (quoted && (b == code "\"")) b reached behind head quoted whole s bs marks all r h refl
+letter_behind (Escape b) reached behind head quoted whole s bs marks all r h = then_escape b reached head quoted whole s bs marks all false behind r h
 
 first_plain : (t : Bool) (b : ℕ) (hyphen : Bool) (head : Manner) (quoted whole : Bool) (s : State) (bs marks all : List ℕ)
     → Read head quoted whole s (in_word_of quoted) bs marks all true hyphen → is_letter quoted (Plain b) ≡ true → (quoted && (b == code "\"")) ≡ t
@@ -256,7 +275,7 @@ first_plain : (t : Bool) (b : ℕ) (hyphen : Bool) (head : Manner) (quoted whole
 unfolding plain_bytes
 first_plain true b hyphen head true whole s bs marks all r h e =
     subst (λ (k : ℕ). Read head true whole s scans.Quoted (bs ++ codes "\"\"") marks (all ++ kept_first whole (Plain k)) false (k == code "-"))
-    (same_byte b (code "\"") e) (then_two head whole s bs marks all true hyphen r)
+    (same_byte b (code "\"") e) (then_two None head whole s bs marks all true hyphen r)
 first_plain true b hyphen head false whole s bs marks all r h e = absurd (let no : false ≡ true = e in cc)
 first_plain false b hyphen head quoted whole s bs marks all r h e =
     then_byte head quoted whole s (in_word_of quoted) (in_word_of quoted) b bs marks all (kept_first whole (Plain b)) true hyphen (b == code "-") r
@@ -265,10 +284,10 @@ first_plain false b hyphen head quoted whole s bs marks all r h e =
 
 letter_first : (l : Letter) (hyphen : Bool) (head : Manner) (quoted whole : Bool) (s : State) (bs marks all : List ℕ)
     → Read head quoted whole s (in_word_of quoted) bs marks all true hyphen → is_letter quoted l ≡ true
-    → Read head quoted whole s (in_word_of quoted) (bs ++ bytes_of quoted l) marks (all ++ kept_first whole l) false (is_hyphen l)
+    → Read head quoted whole s (in_named (reached_behind None l) quoted) (bs ++ bytes_of quoted l) marks (all ++ kept_first whole l) false (is_hyphen l)
 unfolding plain_bytes
 letter_first (Plain b) hyphen head quoted whole s bs marks all r h = first_plain (quoted && (b == code "\"")) b hyphen head quoted whole s bs marks all r h refl
-letter_first (Escape b) hyphen head quoted whole s bs marks all r h = then_escape b head quoted whole s bs marks all true hyphen r h
+letter_first (Escape b) hyphen head quoted whole s bs marks all r h = then_escape b None head quoted whole s bs marks all true hyphen r h
 
 -- ---- all letters
 
@@ -278,27 +297,41 @@ pub record Spelled (head : Manner) (quoted whole : Bool) (s : State) (scan : Sca
   pub hyphen : Bool
   pub read : Read head quoted whole s scan bs marks all first hyphen
 
+-- and an escape that has not ended may be the last of it
+pub record Lettered (head : Manner) (quoted whole : Bool) (s : State) (bs marks all : List ℕ) : Type 0 where
+  pub reached : Option Reached
+  pub spelled : Spelled head quoted whole s (in_named reached quoted) bs marks all
+
 spelled_as : (head : Manner) (quoted whole : Bool) (s : State) (scan : Scan) (bs bs2 marks all all2 : List ℕ) → bs ≡ bs2 → all ≡ all2
     → Spelled head quoted whole s scan bs marks all → Spelled head quoted whole s scan bs2 marks all2
 spelled_as head quoted whole s scan bs bs2 marks all all2 e f w =
     record { first = w.first; hyphen = w.hyphen; read = read_as head quoted whole s scan bs bs2 marks all all2 w.first w.hyphen e f w.read }
 
-letters_behind : (ls : List Letter) (behind : Bool) (head : Manner) (quoted whole : Bool) (s : State) (bs marks all : List ℕ)
-    → Read head quoted whole s (in_word_of quoted) bs marks all false behind → are_letters quoted ls ≡ true
-    → Spelled head quoted whole s (in_word_of quoted) (bs ++ written quoted ls) marks (all ++ kept_in head.way whole behind ls)
-letters_behind [] behind head quoted whole s bs marks all r h = record {
-  first = false;
-  hyphen = behind;
-  read = read_as head quoted whole s (in_word_of quoted) bs (bs ++ []) marks all (all ++ []) false behind (sym (append-nil bs)) (sym (append-nil all)) r;
+lettered_as : (head : Manner) (quoted whole : Bool) (s : State) (bs bs2 marks all all2 : List ℕ) → bs ≡ bs2 → all ≡ all2
+    → Lettered head quoted whole s bs marks all → Lettered head quoted whole s bs2 marks all2
+lettered_as head quoted whole s bs bs2 marks all all2 e f w =
+    record { reached = w.reached; spelled = spelled_as head quoted whole s (in_named w.reached quoted) bs bs2 marks all all2 e f w.spelled }
+
+letters_behind : (ls : List Letter) (reached : Option Reached) (behind : Bool) (head : Manner) (quoted whole : Bool) (s : State) (bs marks all : List ℕ)
+    → Read head quoted whole s (in_named reached quoted) bs marks all false behind → are_letters quoted ls ≡ true
+    → Lettered head quoted whole s (bs ++ written quoted ls) marks (all ++ kept_in head.way whole reached behind ls)
+letters_behind [] reached behind head quoted whole s bs marks all r h = record {
+  reached = reached;
+  spelled = record {
+    first = false;
+    hyphen = behind;
+    read = read_as head quoted whole s (in_named reached quoted) bs (bs ++ []) marks all (all ++ []) false behind (sym (append-nil bs)) (sym (append-nil all)) r;
+  };
 }
-letters_behind (l ∷ ls) behind head quoted whole s bs marks all r h =
+letters_behind (l ∷ ls) reached behind head quoted whole s bs marks all r h =
     let bytes = bytes_of quoted l in
-    let piece = kept_letter head.way whole behind l in
-    let one = letter_behind l behind head quoted whole s bs marks all r (and_left (is_letter quoted l) (are_letters quoted ls) h) in
-    spelled_as head quoted whole s (in_word_of quoted) ((bs ++ bytes) ++ written quoted ls) (bs ++ (bytes ++ written quoted ls)) marks
-    ((all ++ piece) ++ kept_in head.way whole (is_hyphen l) ls) (all ++ (piece ++ kept_in head.way whole (is_hyphen l) ls))
-    (append_assoc bs bytes (written quoted ls)) (append_assoc all piece (kept_in head.way whole (is_hyphen l) ls))
-    (letters_behind ls (is_hyphen l) head quoted whole s (bs ++ bytes) marks (all ++ piece) one (and_right (is_letter quoted l) (are_letters quoted ls) h))
+    let piece = kept_letter head.way whole reached behind l in
+    let later = kept_in head.way whole (reached_behind reached l) (is_hyphen l) ls in
+    let one = letter_behind l reached behind head quoted whole s bs marks all r (and_left (is_letter quoted l) (are_letters quoted ls) h) in
+    lettered_as head quoted whole s ((bs ++ bytes) ++ written quoted ls) (bs ++ (bytes ++ written quoted ls)) marks ((all ++ piece) ++ later) (all ++ (piece ++ later))
+    (append_assoc bs bytes (written quoted ls)) (append_assoc all piece later)
+    (letters_behind ls (reached_behind reached l) (is_hyphen l) head quoted whole s (bs ++ bytes) marks (all ++ piece) one
+    (and_right (is_letter quoted l) (are_letters quoted ls) h))
 
 -- ---- a word begins
 
@@ -378,7 +411,7 @@ seven k l = omega arith
 
 -- the first letter, not between quotes
 bare_first : (l : Letter) (head : Manner) (s : State) (word marks : List ℕ) → In false head s scans.Between word marks → is_letter false l ≡ true
-    → Read head false false s scans.Word (bytes_of false l) marks (kept_first false l) false (is_hyphen l)
+    → Read head false false s (in_named (reached_behind None l) false) (bytes_of false l) marks (kept_first false l) false (is_hyphen l)
 unfolding begun said lay_out
 bare_first (Plain b) head s word marks at h =
     let t = with_page (begun false s.page) s in
@@ -413,18 +446,18 @@ bare_first (Escape b) head s word marks at h =
     let inner = begun_at false head s word marks at in
     let q = with_scan scans.Escape t.page in
     let piece = slash ∷ b ∷ [] in
-    let taken_slash = takes_by slash t q q acts.Nothing acts.Nothing acts.Nothing [] (slash_met false false head t [] marks inner) refl refl in
+    let taken_slash = takes_by slash t q q acts.Nothing acts.Nothing acts.Nothing [] (slash_met false None false head t [] marks inner) refl refl in
     let start = opened head false false s (with_page q t) (1 + 1) scans.Escape slash marks (omega arith)
     (then_takes slash s t (with_page q t) 1 1 [] [] (begun_leads head slash s word marks at refl refl) taken_slash)
     (in_as false head t q scans.Word scans.Escape [] [] marks inner refl refl refl refl refl refl refl refl refl) refl in
-    then_byte head false false s scans.Escape scans.Word b (slash ∷ []) marks [] piece true false (b == code "-") start
+    then_byte head false false s scans.Escape (in_named (reached_behind None (Escape b)) false) b (slash ∷ []) marks [] piece true false (b == code "-") start
     (grown_escaped false start.going head b start.next start.word start.held start.at start.clear h) refl
-    (λ w. letter_last head.way false false (Escape b) w)
+    (λ w. letter_last head.way false None false (Escape b) w)
 
 pub read_bare : (l : Letter) (ls : List Letter) (head : Manner) (s : State) (word marks : List ℕ) → In false head s scans.Between word marks
-    → are_letters false (l ∷ ls) ≡ true → Spelled head false false s scans.Word (written false (l ∷ ls)) marks (kept head.way false (l ∷ ls))
+    → are_letters false (l ∷ ls) ≡ true → Lettered head false false s (written false (l ∷ ls)) marks (kept head.way false (l ∷ ls))
 read_bare l ls head s word marks at h =
-    letters_behind ls (is_hyphen l) head false false s (bytes_of false l) marks (kept_first false l)
+    letters_behind ls (reached_behind None l) (is_hyphen l) head false false s (bytes_of false l) marks (kept_first false l)
     (bare_first l head s word marks at (and_left (is_letter false l) (are_letters false ls) h)) (and_right (is_letter false l) (are_letters false ls) h)
 
 -- ---- a word between quotes
@@ -435,11 +468,11 @@ begun_takes head s word marks at =
     takes_by (code "\"") s (begun true s.page) (begun true s.page) acts.Nothing acts.Nothing acts.Nothing [] (between_met head (code "\"") s word marks at) refl refl
 
 letters_quoted : (ls : List Letter) (head : Manner) (whole : Bool) (s : State) (marks : List ℕ) → Read head true whole s scans.Quoted (codes "\"") marks [] true false
-    → are_letters true ls ≡ true → Spelled head true whole s scans.Quoted (code "\"" ∷ written true ls) marks (kept head.way whole ls)
-letters_quoted [] head whole s marks r h = record { first = true; hyphen = false; read = r }
+    → are_letters true ls ≡ true → Lettered head true whole s (code "\"" ∷ written true ls) marks (kept head.way whole ls)
+letters_quoted [] head whole s marks r h = record { reached = None; spelled = record { first = true; hyphen = false; read = r } }
 letters_quoted (l ∷ ls) head whole s marks r h =
     let bytes = bytes_of true l in
-    letters_behind ls (is_hyphen l) head true whole s (code "\"" ∷ bytes) marks (kept_first whole l)
+    letters_behind ls (reached_behind None l) (is_hyphen l) head true whole s (code "\"" ∷ bytes) marks (kept_first whole l)
     (letter_first l false head true whole s (codes "\"") marks [] r (and_left (is_letter true l) (are_letters true ls) h))
     (and_right (is_letter true l) (are_letters true ls) h)
 
@@ -458,8 +491,10 @@ read_quoted ls head s word marks at h =
     record {
       whole = whole;
       spelled = record {
-        first = all.first;
-        hyphen = all.hyphen;
-        read = then_quote head whole s (code "\"" ∷ written true ls) marks (kept head.way whole ls) all.first all.hyphen all.read;
+        first = all.spelled.first;
+        hyphen = all.spelled.hyphen;
+        read =
+            then_quote all.reached head whole s (code "\"" ∷ written true ls) marks (kept head.way whole ls) all.spelled.first all.spelled.hyphen
+            all.spelled.read;
       };
     }

@@ -1,9 +1,10 @@
 -- How macros take their words.
-use Rattle.std.proofs.Common.{◌≡◌, ℕ, ◌-◌, List, [], ◌∷◌, ◌++◌, length, length-append, Bool, true, false, not, ◌&&◌, ◌||◌, ◌==◌, nat_lt, if◌then◌else◌, refl, sym, ◌∙◌, ap, append_assoc, arith}
+use Rattle.std.proofs.Common.{◌≡◌, ℕ, ◌-◌, List, [], ◌∷◌, ◌++◌, length, length-append, Bool, true, false, not, ◌&&◌, ◌||◌, ◌==◌, nat_lt, if◌then◌else◌, Option, refl, sym, ◌∙◌, ap, append_assoc, arith}
 use Rattle.std.proofs.lemmas.Bool.Decides.{nat_tests}
 use Rattle.std.specs.Prelude.{codes, slice_index}
 use Rattle.std.proofs.Math.Seq.{get_or-append_seam}
 use Prim.Native.Char.{code}
+use Rattle.mdoc_converter.specs.declared.escaping.Escape.{Escape as Reached}
 use Rattle.mdoc_converter.specs.declared.macros.Macro.{Macro}
 use Rattle.mdoc_converter.specs.declared.macros.Macro.TheVariants as macros
 use Rattle.mdoc_converter.specs.declared.page.Page.{Page}
@@ -12,7 +13,7 @@ use Rattle.mdoc_converter.specs.Keeping.{ends_in_hyphen, has_dashes, is_title, l
 use Rattle.mdoc_converter.specs.Options.{is_heading, reads_for}
 use Rattle.mdoc_converter.specs.Taking.{is_bar, is_opening}
 use Rattle.mdoc_converter.specs.Words.{is_prefix}
-use Rattle.mdoc_converter.specs.WrittenLines.{is_held, is_hyphen, kept_first, kept_letter, Letter, Plain, Escape, prints_otherwise, Way, Usual, Titled, Authors, Headed, way_of, way_of_part, said_of, holds_hyphen}
+use Rattle.mdoc_converter.specs.WrittenLines.{is_held, is_hyphen, is_named, kept_first, kept_letter, Letter, Plain, Escape, prints_otherwise, Way, Usual, Titled, Authors, Headed, way_of, way_of_part, said_of, holds_hyphen}
 use Rattle.mdoc_converter.proofs.Escapes.{and_left, and_right, is_not, same_byte}
 use Rattle.mdoc_converter.proofs.Outcomes.{never, takes_as, takes_plain}
 
@@ -91,14 +92,15 @@ last_hyphen xs c =
     ∙ ap (λ (k : ℕ). slice_index (xs ++ c ∷ []) k == code "-") (one_less xs c)
     ∙ ap (λ (k : ℕ). k == code "-") (get_or-append_seam xs c [] 0)
 
-none_by : (t u : Bool) (b : ℕ) → is_none (if t then codes "\\~" else if u then codes "\\-" else b ∷ []) ≡ false
-none_by true u b = refl
-none_by false true b = refl
-none_by false false b = refl
+none_by : (n t u : Bool) (b : ℕ) → is_none (if n then b ∷ [] else if t then codes "\\~" else if u then codes "\\-" else b ∷ []) ≡ false
+none_by true t u b = refl
+none_by false true u b = refl
+none_by false false true b = refl
+none_by false false false b = refl
 
-pub letter_some : (way : Way) (whole behind : Bool) (l : Letter) → is_none (kept_letter way whole behind l) ≡ false
-letter_some way whole behind (Plain b) = none_by ((b == code " ") && whole) (is_held way behind b) b
-letter_some way whole behind (Escape b) = refl
+pub letter_some : (way : Way) (whole : Bool) (reached : Option Reached) (behind : Bool) (l : Letter) → is_none (kept_letter way whole reached behind l) ≡ false
+letter_some way whole reached behind (Plain b) = none_by (is_named reached b) ((b == code " ") && whole) (is_held way behind b) b
+letter_some way whole reached behind (Escape b) = refl
 
 first_none : (t : Bool) (b : ℕ) → is_none (if t then codes "\\~" else b ∷ []) ≡ false
 first_none true b = refl
@@ -126,15 +128,17 @@ blank_last : (word : List ℕ) → ends_in_hyphen (word ++ codes "\\~") ≡ fals
 blank_last word =
     ap ends_in_hyphen (sym (append_assoc word (code "\\" ∷ []) (code "~" ∷ []))) ∙ last_hyphen (word ++ code "\\" ∷ []) (code "~")
 
-letter_last_by : (t f v : Bool) (b : ℕ) (word : List ℕ) → (b == code " ") ≡ t
-    → ends_in_hyphen (word ++ (if t && f then codes "\\~" else if (b == code "-") && v then codes "\\-" else b ∷ [])) ≡ (b == code "-")
-letter_last_by true true v b word e = blank_last word ∙ sym (blank_no_hyphen b e)
-letter_last_by true false v b word e = plain_last (b == code "-") v b word refl
-letter_last_by false f v b word e = plain_last (b == code "-") v b word refl
+letter_last_by : (n t f v : Bool) (b : ℕ) (word : List ℕ) → (b == code " ") ≡ t
+    → ends_in_hyphen (word ++ (if n then b ∷ [] else if t && f then codes "\\~" else if (b == code "-") && v then codes "\\-" else b ∷ [])) ≡ (b == code "-")
+letter_last_by true t f v b word e = last_hyphen word b
+letter_last_by false true true v b word e = blank_last word ∙ sym (blank_no_hyphen b e)
+letter_last_by false true false v b word e = plain_last (b == code "-") v b word refl
+letter_last_by false false f v b word e = plain_last (b == code "-") v b word refl
 
-pub letter_last : (way : Way) (whole behind : Bool) (l : Letter) (word : List ℕ) → ends_in_hyphen (word ++ kept_letter way whole behind l) ≡ is_hyphen l
-letter_last way whole behind (Plain b) word = letter_last_by (b == code " ") whole (holds_hyphen way behind) b word refl
-letter_last way whole behind (Escape b) word = escape_last b word
+pub letter_last : (way : Way) (whole : Bool) (reached : Option Reached) (behind : Bool) (l : Letter) (word : List ℕ)
+    → ends_in_hyphen (word ++ kept_letter way whole reached behind l) ≡ is_hyphen l
+letter_last way whole reached behind (Plain b) word = letter_last_by (is_named reached b) (b == code " ") whole (holds_hyphen way behind) b word refl
+letter_last way whole reached behind (Escape b) word = escape_last b word
 
 first_last_by : (t f : Bool) (b : ℕ) (word : List ℕ) → (b == code " ") ≡ t
     → ends_in_hyphen (word ++ (if t && f then codes "\\~" else b ∷ [])) ≡ (b == code "-")

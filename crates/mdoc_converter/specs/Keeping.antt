@@ -1,7 +1,9 @@
 -- The bytes of a word are kept (mdoc(7), MACRO SYNTAX; groff(7), comments).
-use Rattle.std.specs.Prelude.{ℕ, ◌+◌, ◌-◌, List, [], ◌∷◌, ◌++◌, length, Bool, true, false, not, ◌==◌, ◌&&◌, ◌||◌, nat_lt, if◌then◌else◌, slice_index}
+use Rattle.std.specs.Prelude.{ℕ, ◌+◌, ◌-◌, List, [], ◌∷◌, ◌++◌, length, Bool, true, false, not, ◌==◌, ◌&&◌, ◌||◌, nat_lt, if◌then◌else◌, slice_index, Option, None, Some}
 use Prim.Native.Char.{code}
 use Rattle.mdoc_converter.specs.declared.acts.Act.TheVariants as acts
+use Rattle.mdoc_converter.specs.declared.escaping.Escape.{Escape}
+use Rattle.mdoc_converter.specs.declared.escaping.Escape.TheVariants as escapes
 use Rattle.mdoc_converter.specs.declared.macros.Macro.{Macro}
 use Rattle.mdoc_converter.specs.declared.macros.Macro.TheVariants as macros
 use Rattle.mdoc_converter.specs.declared.page.Inside.{Inside}
@@ -11,6 +13,7 @@ use Rattle.mdoc_converter.specs.declared.page.Scan.{Scan}
 use Rattle.mdoc_converter.specs.declared.page.Scan.TheVariants as scans
 use Rattle.mdoc_converter.specs.declared.seen.Seen.{Seen}
 use Rattle.mdoc_converter.specs.Calls.{with_scan, is_synopsis, is_none}
+use Rattle.mdoc_converter.specs.Escaping.{escape_then}
 use Rattle.mdoc_converter.specs.Options.{is_shown, reads_for}
 use Rattle.mdoc_converter.specs.Seeing.{Met, met, left, taken}
 use Rattle.mdoc_converter.specs.Taking.{is_outside}
@@ -149,8 +152,36 @@ continued quoted p =
     turns (if not quoted && is_none p.word && not p.call.going then scans.Between else in_word_of quoted)
     (taken acts.Nothing) p
 
+-- in what goes on of an escape of a word, or in the word
+abbrev pub in_named : Option Escape → Bool → Scan
+in_named None quoted = in_word_of quoted
+in_named (Some escape) quoted = scans.Named escape quoted
+
+-- an escape is kept, and its name or its argument may come
+abbrev pub keep_begun : ℕ → Bool → Page → Met
+keep_begun b quoted p =
+    let m = keep_escape b quoted p in
+    if m.seen.takes then met (with_scan (in_named (escape_then escapes.Begun b) quoted) m.page) m.seen else m
+
 -- a line whose last byte is a backslash goes on with the next
 abbrev pub in_escape : ℕ → Bool → Page → Met
 in_escape b quoted p =
     if b == code "\"" then comment quoted p else
-    if b == code "\n" then continued quoted p else keep_escape b quoted p
+    if b == code "\n" then continued quoted p else keep_begun b quoted p
+
+-- what ends an escape that has not ended: what ends the word, a quote and a backslash
+abbrev pub ends_escape : ℕ → Bool
+ends_escape b = ends_word b || (b == code "\"") || (b == code "\\")
+
+abbrev pub after_name : Bool → ℕ → Page → Met
+after_name quoted b p =
+    let q = with_scan (in_word_of quoted) p in if quoted then in_quotes b q else in_word b q
+
+-- in the name or the argument of an escape its bytes stay as they are
+abbrev pub in_name_of : Escape → Bool → ℕ → Page → Met
+in_name_of escape quoted b p =
+    let then_scan = in_named (escape_then escape b) quoted in
+    if ends_escape b then after_name quoted b p else
+    if nat_lt (length p.word) 30 then turns then_scan (taken acts.Nothing) (keeping (b ∷ []) p) else
+    if is_shown p then turns (scans.Long (insides.Named escape quoted)) (left acts.Nothing) p
+    else turns then_scan (taken acts.Nothing) p

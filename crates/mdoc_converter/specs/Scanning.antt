@@ -20,7 +20,7 @@ use Rattle.mdoc_converter.specs.declared.page.Front.TheVariants as fronts
 use Rattle.mdoc_converter.specs.declared.seen.Seen.{Seen}
 use Rattle.mdoc_converter.specs.Definitions.{in_definition}
 use Rattle.mdoc_converter.specs.Escaping.{escape_then}
-use Rattle.mdoc_converter.specs.Keeping.{ends_word, turns, word_begins, in_word, in_quotes, closing, in_escape}
+use Rattle.mdoc_converter.specs.Keeping.{ends_word, turns, word_begins, in_word, in_quotes, closing, in_escape, in_name_of}
 use Rattle.mdoc_converter.specs.Laying.{is_control}
 use Rattle.mdoc_converter.specs.Lines.{call_of, named_line, ends}
 use Rattle.mdoc_converter.specs.Rows.{in_table}
@@ -225,6 +225,7 @@ meet_at scans.Quoted b p = in_quotes b p
 meet_at scans.Escape b p = in_escape b false p
 meet_at scans.QuotedEscape b p = in_escape b true p
 meet_at scans.Closing b p = closing b p
+meet_at (scans.Named escape quoted) b p = in_name_of escape quoted b p
 meet_at scan b p = meet_whole b p
 
 unfoldable pub meet : ℕ → Page → Met

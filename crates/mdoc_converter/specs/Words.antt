@@ -164,6 +164,7 @@ goes_to insides.Escape = scans.Escape
 goes_to insides.Quoted = scans.Quoted
 goes_to insides.QuotedEscape = scans.QuotedEscape
 goes_to insides.Closing = scans.Closing
+goes_to (insides.Named escape quoted) = scans.Named escape quoted
 
 abbrev pub goes_on : Inside → Page → Met
 goes_on inside p = met (record p { scan = goes_to inside; word = [] }) (left acts.Nothing)

@@ -2,12 +2,15 @@
 use Rattle.std.specs.Prelude.{ℕ, List, [], ◌∷◌, ◌++◌, Bool, true, false, not, ◌==◌, ◌&&◌, ◌||◌, if◌then◌else◌, codes, Option, None, Some}
 use Rattle.std.specs.Str.{bytes_eq}
 use Prim.Native.Char.{code}
+use Rattle.mdoc_converter.specs.declared.escaping.Escape.{Escape as Reached}
+use Rattle.mdoc_converter.specs.declared.escaping.Escape.TheVariants as escapes
 use Rattle.mdoc_converter.specs.declared.macros.Macro.{Macro}
 use Rattle.mdoc_converter.specs.declared.macros.Macro.TheVariants as macros
 use Rattle.mdoc_converter.specs.declared.page.Block.{Block}
 use Rattle.mdoc_converter.specs.Blocks.{is_diagnosis}
 use Rattle.mdoc_converter.specs.Calls.{called_by}
-use Rattle.mdoc_converter.specs.Keeping.{ends_word, is_title}
+use Rattle.mdoc_converter.specs.Escaping.{escape_then}
+use Rattle.mdoc_converter.specs.Keeping.{ends_escape, ends_word, is_title}
 use Rattle.mdoc_converter.specs.Laying.{is_control}
 use Rattle.mdoc_converter.specs.Lines.{calls_none}
 use Rattle.mdoc_converter.specs.Macros.{is_callable, macro_of}
@@ -114,25 +117,38 @@ is_hyphen (Escape b) = b == code "-"
 abbrev pub is_held : Way → Bool → ℕ → Bool
 is_held way behind b = (b == code "-") && holds_hyphen way behind
 
+-- how far the escape behind which a letter stands has been read behind that too; none where it has ended
+abbrev pub reached_behind : Option Reached → Letter → Option Reached
+reached_behind reached (Escape b) = escape_then escapes.Begun b
+reached_behind None (Plain b) = None
+reached_behind (Some reached) (Plain b) = if ends_escape b then None else escape_then reached b
+
+-- whether a byte is of the name or the argument of that escape
+abbrev pub is_named : Option Reached → ℕ → Bool
+is_named None b = false
+is_named (Some reached) b = not (ends_escape b)
+
 -- a letter as it is kept, after a hyphen or not, where the blanks of its word stay together or not
-abbrev pub kept_letter : Way → Bool → Bool → Letter → List ℕ
-kept_letter way whole behind (Plain b) =
+abbrev pub kept_letter : Way → Bool → Option Reached → Bool → Letter → List ℕ
+kept_letter way whole reached behind (Plain b) =
+    if is_named reached b then b ∷ [] else
     if (b == code " ") && whole then codes "\\~" else if is_held way behind b then codes "\\-" else b ∷ []
-kept_letter way whole behind (Escape b) = code "\\" ∷ b ∷ []
+kept_letter way whole reached behind (Escape b) = code "\\" ∷ b ∷ []
 
 -- the first letter of a word
 abbrev pub kept_first : Bool → Letter → List ℕ
 kept_first whole (Plain b) = if (b == code " ") && whole then codes "\\~" else b ∷ []
 kept_first whole (Escape b) = code "\\" ∷ b ∷ []
 
-abbrev pub kept_in : Way → Bool → Bool → List Letter → List ℕ
-kept_in way whole behind [] = []
-kept_in way whole behind (l ∷ ls) = kept_letter way whole behind l ++ kept_in way whole (is_hyphen l) ls
+abbrev pub kept_in : Way → Bool → Option Reached → Bool → List Letter → List ℕ
+kept_in way whole reached behind [] = []
+kept_in way whole reached behind (l ∷ ls) =
+    kept_letter way whole reached behind l ++ kept_in way whole (reached_behind reached l) (is_hyphen l) ls
 
 -- a word as it is kept, of any length
 abbrev pub kept : Way → Bool → List Letter → List ℕ
 kept way whole [] = []
-kept way whole (l ∷ ls) = kept_first whole l ++ kept_in way whole (is_hyphen l) ls
+kept way whole (l ∷ ls) = kept_first whole l ++ kept_in way whole (reached_behind None l) (is_hyphen l) ls
 
 -- ---- macros whose words are printed as they stand
 

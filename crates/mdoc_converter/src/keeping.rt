@@ -4,6 +4,7 @@ ghost use Rattle.mdoc_converter.specs.Seeing.{met};
 ghost use Rattle.mdoc_converter.specs.Keeping as specs;
 
 use super::acts::Act;
+use super::escaping::{Escape, escape_then};
 use super::macros::Macro;
 use super::page::{Inside, Page, Parameters, Scan};
 use super::seen::Seen;
@@ -208,8 +209,69 @@ impl Page {
         match byte {
             b'"' => self.comment(quoted),
             b'\n' => self.continued(quoted),
-            _ => self.keep_escape(byte, quoted),
+            _ => self.keep_begun(byte, quoted),
         }
+    }
+
+    /// An escape is kept, and its name or its argument may come.
+    fn keep_begun(&mut self, byte: u8, quoted: bool) -> Seen
+        ensures { met self.new result ≡ specs.keep_begun byte quoted self.old }
+    {
+        let seen = self.keep_escape(byte, quoted);
+        if seen.takes {
+            self.scan = in_named(escape_then(Escape::Begun, byte), quoted);
+        }
+        seen
+    }
+
+    /// A byte that ends an escape is met as one of the word.
+    fn after_name(&mut self, quoted: bool, byte: u8) -> Seen
+        ensures { met self.new result ≡ specs.after_name quoted byte self.old }
+    {
+        self.scan = in_word_of(quoted);
+        if quoted {
+            self.in_quotes(byte)
+        } else {
+            self.in_word(byte)
+        }
+    }
+
+    /// In the name or the argument of an escape: its bytes stay as they are.
+    pub(crate) fn in_name_of(&mut self, escape: Escape, quoted: bool, byte: u8) -> Seen
+        ensures { met self.new result ≡ specs.in_name_of escape quoted byte self.old }
+    {
+        if ends_escape(byte) {
+            return self.after_name(quoted, byte);
+        }
+        if self.word.len() < MOST_KEPT {
+            self.word.push(byte);
+        } else if self.is_shown() {
+            return self.turns(
+                Scan::Long(Inside::Named(escape, quoted)),
+                Seen::left(Act::Nothing),
+            );
+        }
+        self.turns(
+            in_named(escape_then(escape, byte), quoted),
+            Seen::taken(Act::Nothing),
+        )
+    }
+}
+
+/// What ends an escape of a word that has not ended: what ends the word, a quote and a backslash.
+fn ends_escape(byte: u8) -> bool
+    ensures { result ≡ specs.ends_escape byte }
+{
+    ends_word(byte) || byte == b'"' || byte == b'\\'
+}
+
+/// In what goes on of an escape of a word, or in the word.
+fn in_named(escape: Option<Escape>, quoted: bool) -> Scan
+    ensures { result ≡ specs.in_named escape quoted }
+{
+    match escape {
+        Some(escape) => Scan::Named(escape, quoted),
+        None => in_word_of(quoted),
     }
 }
 

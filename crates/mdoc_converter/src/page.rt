@@ -81,6 +81,8 @@ pub(crate) enum Inside {
     QuotedEscape,
     /// After a quote between quotes.
     Closing,
+    /// In the name or the argument of an escape, between quotes or not.
+    Named(Escape, bool),
 }
 
 /// Where a line is read.
@@ -116,6 +118,8 @@ pub(crate) enum Scan {
     QuotedEscape,
     /// After a quote that may be the last of its word.
     Closing,
+    /// In the name or the argument of an escape of a word, between quotes or not.
+    Named(Escape, bool),
     /// A word is whole: between quotes or not.
     Given(bool),
     /// A word is longer than what is kept of one.

@@ -344,6 +344,7 @@ impl Page {
             Scan::Escape => self.in_escape(byte, false),
             Scan::QuotedEscape => self.in_escape(byte, true),
             Scan::Closing => self.closing(byte),
+            Scan::Named(escape, quoted) => self.in_name_of(escape, quoted, byte),
             _ => self.meet_whole(byte),
         }
     }

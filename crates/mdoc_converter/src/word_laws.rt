@@ -9,7 +9,7 @@ ghost use Rattle.mdoc_converter.specs.WordLaws.{HeadingsAreSaid, LastIsClosedFir
 /// (`text` of `words_are_said`)
 /// Proved: A line of a macro puts out, whatever the state of the page at its beginning if no closing marks are held
 /// back, parts whose words are those of its words that call no macro, once and in order, however long they are,
-/// hyphens in them as `\-`. In a description (`.Nd`), after `.Ss` and `.Sx` and in `%B`, `%N`, `%O`, `%R` and `%T`
+/// hyphens in them as `\-`, but for those of the name or the argument of an escape. In a description (`.Nd`), after `.Ss` and `.Sx` and in `%B`, `%N`, `%O`, `%R` and `%T`
 /// they stay, but for one after another, up to the next macro; of `.An`, on its line or called, `-split` and
 /// `-nosplit` are options and not said. On lines of `.Nd`, `.Fd`, `.Hf` and parts of references, and in the head of
 /// an item of `-diag`, words call no macro, so that all are said. What stands before and after them is what macros

@@ -233,6 +233,7 @@ impl Page {
             Inside::Quoted => Scan::Quoted,
             Inside::QuotedEscape => Scan::QuotedEscape,
             Inside::Closing => Scan::Closing,
+            Inside::Named(escape, quoted) => Scan::Named(escape, quoted),
         };
         Seen::left(Act::Nothing)
     }
