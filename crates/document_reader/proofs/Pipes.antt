@@ -5,9 +5,8 @@ use Rattle.std.proofs.Math.Seq.{take-length}
 use Rattle.nr_units.specs.Source.{Faults, Never, After, Anytime, Supply}
 use Rattle.preconv_converter.specs.declared.target.Target.{Target}
 use Rattle.preconv_converter.specs.declared.target.Target.TheVariants.{Utf8}
-use Rattle.utf8_own_characters.specs.Listening.{first}
 use Rattle.utf8_own_characters.specs.Table.{Characters}
-use Rattle.utf8_own_stage.specs.Coding.{coding}
+use Rattle.utf8_own_stage.specs.Coding.{coded_text}
 use Rattle.mdoc_converter.specs.Reading as mdoc
 use Rattle.mdoc_converter.specs.Staged as mdoc_part
 use Rattle.preconv_converter.specs.Reading as preconv
@@ -137,28 +136,28 @@ over-both a first second stages table w v says says' said said' fits fits' fitte
 -- ---- a stage behind them, which codes
 
 coded_pulled : (text result : Option Supply) (says : Bool → List ℕ → List ℕ) (fits : List ℕ → Bool) (wants room : ℕ) (t : Characters)
-    → result ≡ pulled text (nat_le wants room) says fits [] 0 false → wants ≡ 32 → 32 ≤ room → says ≡ coding t first → fits ≡ fits_always
-    → result ≡ pulled text true (coding t first) fits_always [] 0 false
+    → result ≡ pulled text (nat_le wants room) says fits [] 0 false → wants ≡ 32 → 32 ≤ room → says ≡ coded_text t → fits ≡ fits_always
+    → result ≡ pulled text true (coded_text t) fits_always [] 0 false
 coded_pulled text result says fits wants room t is few wide said fitted =
     is
     ∙ ap (λ (b : Bool). pulled text b says fits [] 0 false) (ap (λ (k : ℕ). nat_le k room) few ∙ wide-if true 32 room wide (omega (arith, wide)))
     ∙ ap (λ (z : Bool → List ℕ → List ℕ). pulled text true z fits [] 0 false) said
-    ∙ ap (λ (z : List ℕ → Bool). pulled text true (coding t first) z [] 0 false) fitted
+    ∙ ap (λ (z : List ℕ → Bool). pulled text true (coded_text t) z [] 0 false) fitted
 
 pub own-whole : (text result : Option Supply) (says : Bool → List ℕ → List ℕ) (fits : List ℕ → Bool) (wants room : ℕ) (t : Characters) (stages : Stages) (q : Supply)
-    → result ≡ pulled text (nat_le wants room) says fits [] 0 false → wants ≡ 32 → 32 ≤ room → says ≡ coding t first → fits ≡ fits_always
+    → result ≡ pulled text (nat_le wants room) says fits [] 0 false → wants ≡ 32 → 32 ≤ room → says ≡ coded_text t → fits ≡ fits_always
     → text ≡ Some (plain_supply stages Utf8 q) → breaks_off q.faults ≡ false → length (plain_of stages Utf8 q.bytes) < 1099511627776
     → result ≡ Some (own_supply stages t q)
 own-whole text result says fits wants room t stages q is few wide said fitted of kept short =
     coded_pulled text result says fits wants room t is few wide said fitted
-    ∙ ap (λ (x : Option Supply). pulled x true (coding t first) fits_always [] 0 false) of
-    ∙ kept-pulled (plain_of stages Utf8 q.bytes) q.faults (coding t first) fits_always kept short refl
+    ∙ ap (λ (x : Option Supply). pulled x true (coded_text t) fits_always [] 0 false) of
+    ∙ kept-pulled (plain_of stages Utf8 q.bytes) q.faults (coded_text t) fits_always kept short refl
 
 pub own-cut : (text result : Option Supply) (says : Bool → List ℕ → List ℕ) (fits : List ℕ → Bool) (wants room : ℕ) (t : Characters) (stages : Stages) (bytes : List ℕ)
-    → result ≡ pulled text (nat_le wants room) says fits [] 0 false → wants ≡ 32 → 32 ≤ room → says ≡ coding t first → fits ≡ fits_always
+    → result ≡ pulled text (nat_le wants room) says fits [] 0 false → wants ≡ 32 → 32 ≤ room → says ≡ coded_text t → fits ≡ fits_always
     → text ≡ Some (broken_off (plain_so_far stages Utf8 bytes)) → length (plain_so_far stages Utf8 bytes) < 1099511627776
     → result ≡ Some (broken_off (own_so_far stages t bytes))
 own-cut text result says fits wants room t stages bytes is few wide said fitted of short =
     coded_pulled text result says fits wants room t is few wide said fitted
-    ∙ ap (λ (x : Option Supply). pulled x true (coding t first) fits_always [] 0 false) of
-    ∙ broken-pulled (plain_so_far stages Utf8 bytes) (coding t first) fits_always short
+    ∙ ap (λ (x : Option Supply). pulled x true (coded_text t) fits_always [] 0 false) of
+    ∙ broken-pulled (plain_so_far stages Utf8 bytes) (coded_text t) fits_always short

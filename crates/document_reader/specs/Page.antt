@@ -7,9 +7,8 @@ use Rattle.mdoc_converter.specs.Staged as mdoc_part
 use Rattle.preconv_converter.specs.Reading as preconv
 use Rattle.preconv_converter.specs.Staged as preconv_part
 use Rattle.preconv_converter.specs.declared.target.Target.TheVariants.{Utf8}
-use Rattle.utf8_own_characters.specs.Listening.{first}
 use Rattle.utf8_own_characters.specs.Table.{Characters}
-use Rattle.utf8_own_stage.specs.Coding.{coding}
+use Rattle.utf8_own_stage.specs.Coding.{coded_text}
 use Rattle.document_reader.specs.declared.page.Stages.{Stages}
 
 abbrev pub man_of : Bool → List ℕ → List ℕ
@@ -36,7 +35,7 @@ plain_supply stages table q = record { bytes = plain_of stages table q.bytes; fa
 
 -- the text of a page that has a table of its own: coded (characters (mdoc page))
 abbrev pub own_of : Stages → Characters → List ℕ → List ℕ
-own_of stages table page = coding table first true (plain_of stages Utf8 page)
+own_of stages table page = coded_text table true (plain_of stages Utf8 page)
 
 abbrev pub own_supply : Stages → Characters → Supply → Supply
 own_supply stages table q = record { bytes = own_of stages table q.bytes; faults = q.faults }
@@ -55,7 +54,7 @@ abbrev pub plain_so_far : Stages → Target → List ℕ → List ℕ
 plain_so_far stages table bytes = characters_so_far stages.characters table (man_so_far stages.mdoc bytes)
 
 abbrev pub own_so_far : Stages → Characters → List ℕ → List ℕ
-own_so_far stages table bytes = coding table first false (plain_so_far stages Utf8 bytes)
+own_so_far stages table bytes = coded_text table false (plain_so_far stages Utf8 bytes)
 
 -- a page, and what mdoc makes of it, have less than 2^40 bytes
 pub record IsShort (page man : List ℕ) : Type 0 where

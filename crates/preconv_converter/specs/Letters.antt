@@ -18,6 +18,7 @@ use Rattle.preconv_converter.specs.Hyphens.{placed, begins_after, leaving_hyphen
 use Rattle.preconv_converter.specs.Words.{met_words, begins_word}
 use Rattle.preconv_converter.specs.Endings.{with_byte, keeping, going_on, ended, ends_with, dropped, kept_or}
 use Rattle.preconv_converter.specs.Skipping.{skip, embed}
+use Rattle.preconv_converter.specs.Likeness.{cut}
 use Rattle.preconv_converter.specs.Lines.{control}
 
 abbrev pub comment : Said → Half → Met
@@ -90,7 +91,8 @@ dot h =
     if h.defining || h.table || not (is_start h.line) then ends_with (code ".") h
     else control false (code ".") (without_escape h)
 
--- By the byte after the backslash. `\%` after an opening bracket or a quote only keeps a word whole, and is no place to cut it.
+-- By the byte after the backslash. `\:` is a place to cut a word; `\%` is none after an opening bracket or a quote, where it only keeps a
+-- word whole.
 abbrev pub letter : ℕ → Half → Met
 letter b h =
     if b == code "(" then going_on b (escapes.Pair kinds.Glyph) h else
@@ -106,7 +108,8 @@ letter b h =
     if b == code "o" then going_on b (escapes.Delimiter kinds.Overstruck) h else
     if b == code "\\" then backslash h else
     if b == code "?" then embed h else
-    if (b == code ",") || (b == code "/") || (b == code ")") || (b == code ":") then dropped h else
+    if b == code ":" then ended (says.Character cut) h else
+    if (b == code ",") || (b == code "/") || (b == code ")") then dropped h else
     if (b == code "%") && begins_after h then dropped h else
     if (b == code " ") || (b == code "~") then blank h else
     if b == code "$" then going_on b escapes.Argument h else

@@ -120,10 +120,15 @@ beyond_like c =
     if is_within 65281 65374 c then ascii_like (c - 65248) else
     byte_or (plain_letter c) (byte_or (box_like c) (sign_like c))
 
+-- U+200B prints nothing, and is a place to cut a word
+abbrev pub cut : ℕ
+cut = 8203
+
 -- a character of the table in force is its byte; in UTF-8 each is itself
 abbrev pub likeness : Target → ℕ → List ℕ
 likeness target c =
     if nat_lt c 128 then ascii_like c else
+    if c == cut then codes "\\(zb" else
     if is_utf8 target then itself c else
     byte_or (byte_in_force target c) (beyond_like c)
 

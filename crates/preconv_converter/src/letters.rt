@@ -5,6 +5,7 @@ ghost use Rattle.preconv_converter.specs.Hyphens.{may_hang};
 ghost use Rattle.preconv_converter.specs.Letters as specs;
 
 use super::half::{Before, Escape, Half, Kind, Line, Mark, Seen};
+use super::likeness::CUT;
 use super::said::Said;
 
 /// The letter of an escape with a number or a text.
@@ -148,7 +149,8 @@ impl Half {
             b'o' => self.goes_on(byte, Escape::Delimiter(Kind::Overstruck)),
             b'\\' => self.backslash(),
             b'?' => self.embed(),
-            b',' | b'/' | b')' | b':' => self.dropped(),
+            b':' => self.ended(Said::Character(CUT)),
+            b',' | b'/' | b')' => self.dropped(),
             b'%' if self.begins_after() => self.dropped(),
             b' ' | b'~' => self.blank(),
             b'$' => self.goes_on(byte, Escape::Argument),

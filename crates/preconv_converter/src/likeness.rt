@@ -7,6 +7,9 @@ use super::signs::{LATIN, LATIN_ADDITIONAL, SIGNS, WORDS};
 use super::target::Target;
 use nr_vectors::slice_vec::SliceVec;
 
+/// U+200B, which prints nothing, and is a place to cut a word.
+pub(crate) const CUT: u32 = 0x200B;
+
 /// A letter of Latin-1 beyond ASCII.
 pub(crate) fn is_latin_letter(code: u32) -> bool
     ensures { result ≡ is_latin_letter code }
@@ -139,7 +142,7 @@ fn word_text(code: u32) -> Option<[u8; 21]>
 fn put_sign(code: u32, out: &mut SliceVec<'_, u8>)
     requires { length out.old.items + 24 ≤ out.old.capacity }
     ensures items { out.new.items ≡ out.old.items ++ sign_like code }
-    ensures few { length out.new.items ≤ length out.old.items + 24 }
+    ensures few { length out.new.items ≤ length out.old.items + 21 }
     ensures room { out.new.capacity ≡ out.old.capacity }
 {
     if matches!(code, 0x3040..=0xFAFF) {
@@ -204,12 +207,12 @@ fn box_like(code: u32) -> Option<u8>
     }
 }
 
-/// Puts what a character beyond ASCII looks like: at most 24 bytes.
+/// Puts what a character beyond ASCII looks like: at most 21 bytes.
 #[tactic(auto, unfolding(crate::specs::Likeness::beyond_like))]
 fn put_beyond(code: u32, out: &mut SliceVec<'_, u8>)
     requires { length out.old.items + 24 ≤ out.old.capacity }
     ensures items { out.new.items ≡ out.old.items ++ beyond_like code }
-    ensures few { length out.new.items ≤ length out.old.items + 24 }
+    ensures few { length out.new.items ≤ length out.old.items + 21 }
     ensures room { out.new.capacity ≡ out.old.capacity }
 {
     if is_mark(code) {
@@ -261,15 +264,18 @@ pub(crate) fn put_struck(code: u32, target: Target, out: &mut SliceVec<'_, u8>)
     put_likeness(code, target, out);
 }
 
-/// Puts what a character becomes after what goes out: its byte, itself, or what it looks like. That is at most 24 bytes.
+/// Puts what a character becomes after what goes out: its byte, itself, a place to cut a word, or what it looks like. That is at most 21
+/// bytes, and room for 24 is needed.
 pub fn put_likeness(code: u32, target: Target, out: &mut SliceVec<'_, u8>)
     requires { length out.old.items + 24 ≤ out.old.capacity }
     ensures items { out.new.items ≡ out.old.items ++ likeness target code }
-    ensures few { length out.new.items ≤ length out.old.items + 24 }
+    ensures few { length out.new.items ≤ length out.old.items + 21 }
     ensures room { out.new.capacity ≡ out.old.capacity }
 {
     if code < 128 {
         put_ascii(code as u8, out);
+    } else if code == CUT {
+        out.extend(b"\\(zb");
     } else if target.is_utf8() {
         put_itself(code, out);
     } else if let Some(byte) = byte_in_force(target, code) {

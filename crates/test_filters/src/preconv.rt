@@ -12,7 +12,7 @@ struct Row {
     line: &'static [u8],
 }
 
-static TEXTS: [(&str, Page<'static>); 28] = [
+static TEXTS: [(&str, Page<'static>); 29] = [
     (
         "quotes",
         Page::Bytes(b"\xe2\x80\x9ca\xe2\x80\x9d \\(em \\fIb\\fP\n"),
@@ -48,6 +48,10 @@ static TEXTS: [(&str, Page<'static>); 28] = [
         ),
     ),
     ("begun", Page::Bytes(b".TH x\n.TP\na\n b\n.IP a\n  b\n c\n")),
+    (
+        "points",
+        Page::Bytes(b"a\\:b\xe2\x80\x8bc\n.UR d/\\:e\n\\:.f\n"),
+    ),
     ("over", Page::Bytes(b"a\\o'\\(aae'b\\o'c\\(bu'\\o''d\n")),
     (
         "translated",
@@ -99,7 +103,7 @@ static TEXTS: [(&str, Page<'static>); 28] = [
     ("cut", Page::Cut(b"a\\~b\n.BR c\\(l")),
 ];
 
-static ROWS: [Row; 36] = [
+static ROWS: [Row; 37] = [
     Row {
         words: &[b"preconv"],
         output: b"cafe\n",
@@ -210,6 +214,13 @@ static ROWS: [Row; 36] = [
     Row {
         words: &[b"preconv", b"begun"],
         output: b".TH x\n.TP\na\n.br\n b\n.IP a\n.br\n  b\n c\n",
+        status: 0,
+        line: b"",
+    },
+    // A word may be cut where the page says so.
+    Row {
+        words: &[b"preconv", b"points"],
+        output: b"a\\(zbb\\(zbc\n.UR d/\\(zbe\n\\(zb.f\n",
         status: 0,
         line: b"",
     },

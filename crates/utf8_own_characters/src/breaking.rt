@@ -1,6 +1,7 @@
 //! Where a line of East Asian text may be broken without a blank.
 ghost use Rattle.std.specs.Prelude.{◌≡◌};
 ghost use Rattle.utf8_own_characters.specs.Breaking as specs;
+ghost use Rattle.utf8_own_characters.specs.Cluster.{is_wide, single};
 
 use super::cluster::Cluster;
 use ucd_breaks::LineBreak;
@@ -69,11 +70,32 @@ fn is_korean(class: LineBreak) -> bool
     )
 }
 
+/// Whether a line may end with a character of a class.
+fn may_end(class: LineBreak) -> bool
+    ensures { result ≡ specs.may_end class }
+{
+    !(opens(class) || is_bound(class))
+}
+
+/// Whether a line may begin with one.
+fn may_begin(class: LineBreak) -> bool
+    ensures { result ≡ specs.may_begin class }
+{
+    !(closes(class) || is_bound(class))
+}
+
+/// Whether a character takes two columns.
+fn is_wide(character: char) -> bool
+    ensures { result ≡ is_wide (single character) }
+{
+    Cluster::single(character).is_wide()
+}
+
 /// Whether a character is an ideograph, kana, or a sign among them.
-fn is_east_asian(character: char) -> bool
+pub fn is_east_asian(character: char) -> bool
     ensures { result ≡ specs.is_east_asian character }
 {
-    Cluster::single(character).is_wide() && !is_korean(LineBreak::for_char(character))
+    is_wide(character) && !is_korean(LineBreak::for_char(character))
 }
 
 /// Whether a line may be broken between two characters that stand side by side: beside an ideograph, kana or a sign of two columns, where
@@ -81,10 +103,17 @@ fn is_east_asian(character: char) -> bool
 pub fn may_break_between(before: char, after: char) -> bool
     ensures { result ≡ specs.may_break before after }
 {
-    if !is_east_asian(before) && !is_east_asian(after) {
+    let wide = is_wide(before);
+    if !wide && !is_wide(after) {
         return false;
     }
     let last = LineBreak::for_char(before);
+    if !may_end(last) {
+        return false;
+    }
     let first = LineBreak::for_char(after);
-    !opens(last) && !is_bound(last) && !closes(first) && !is_bound(first)
+    if !may_begin(first) {
+        return false;
+    }
+    (wide && !is_korean(last)) || (is_wide(after) && !is_korean(first))
 }

@@ -18,7 +18,7 @@ mod ranking;
 mod reading;
 mod table;
 
-pub use breaking::may_break_between;
+pub use breaking::{is_east_asian, may_break_between};
 pub use choosing::{MOST_NARROW, MOST_WIDE, choose, halves_for};
 pub use cluster::{Cluster, is_mark};
 pub use counting::{Count, count_cluster};

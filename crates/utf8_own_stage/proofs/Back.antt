@@ -1,4 +1,4 @@
--- A coded text comes back.
+-- A coded text comes back, with points in it.
 use Rattle.std.proofs.Common.{◌≡◌, ℕ, ◌%◌, ◌<◌, List, [], ◌∷◌, ◌++◌, Bool, true, false, if◌then◌else◌, Option, None, Some, is_some, map, flat_map, refl, sym, ◌∙◌, ap, append_assoc, append-nil, arith}
 use Rattle.std.proofs.lemmas.Grind.{flat_map-append}
 use Rattle.utf8_own_characters.specs.declared.cluster.Cluster.{Cluster}
@@ -13,8 +13,12 @@ use Rattle.utf8_own_characters.specs.Table.{Characters, code, code_at, place_of,
 use Rattle.utf8_own_characters.proofs.Places.{cluster_same}
 use Rattle.utf8_own_characters.proofs.RowLaws.{inverse_whole}
 use Rattle.utf8_own_characters.proofs.Tests.{no_bool, no_some, some_of, and_first, and_second, and_true, if_so, lt_so}
-use Rattle.utf8_own_stage.specs.Coding.{coded_by, coded, coded_done, said, said_of, coding}
-use Rattle.utf8_own_stage.specs.Laws.{cells_of, cells_from, cells_in, ComesBack}
+use Rattle.utf8_own_stage.specs.declared.points.Place.{Place}
+use Rattle.utf8_own_stage.specs.declared.points.Point.{Point}
+use Rattle.utf8_own_stage.specs.declared.points.Point.TheVariants.{Nothing, Cut, Newline, Joint}
+use Rattle.utf8_own_stage.specs.Coding.{coded_by, coded, put_at, said_cluster, after_cluster, said_byte, after_byte, said, place_after, said_of, said_last, place_behind, coding}
+use Rattle.utf8_own_stage.specs.Laws.{cells_of, cells_from, cells_in, cell_at, pointed_from, pointed, ComesBack}
+use Rattle.utf8_own_stage.specs.Points.{first_place, holds, left, newline, passed, point, text_of}
 
 -- ---- what is covered
 
@@ -55,35 +59,107 @@ low_heard l (Some c) n e = low_hear (is_unseen c) (is_mark c) l c n e
 low_read : (l : Listener) (b n : ℕ) → (read l b).byte ≡ Some n → n < 128
 low_read l b n e = low_heard (record l { part = (decoded l.part b).part }) (decoded l.part b).character n e
 
--- ---- what comes of a byte
+-- ---- what goes out before a character
 
-said_by : (t : Characters) (done : Option Cluster) (byte : Option ℕ) → ((n : ℕ) → byte ≡ Some n → n < 128)
+point_back : (t : Characters) (x : Point) → text_of x ≡ flat_map (bytes t) (map single (text_of x))
+point_back t Nothing = refl
+point_back t Cut = refl
+point_back t Newline = refl
+point_back t Joint = refl
+
+point_covered : (t : Characters) (x : Point) → covers t (map single (text_of x)) ≡ true
+point_covered t Nothing = refl
+point_covered t Cut = refl
+point_covered t Newline = refl
+point_covered t Joint = refl
+
+left_by : (t : Characters) (waits : Bool) → (if waits then newline ∷ [] else []) ≡ flat_map (bytes t) (map single (if waits then newline ∷ [] else []))
+left_by t true = refl
+left_by t false = refl
+
+left_back : (t : Characters) (p : Place) → left p ≡ flat_map (bytes t) (map single (left p))
+left_back t p = left_by t p.waits
+
+left_covered_by : (t : Characters) (waits : Bool) → covers t (map single (if waits then newline ∷ [] else [])) ≡ true
+left_covered_by t true = refl
+left_covered_by t false = refl
+
+kept_back : (t : Characters) (c : Cluster) (waits : Bool) (bs : List ℕ) → bs ≡ bytes t c
+    → (if waits then [] else bs) ≡ flat_map (bytes t) (if waits then [] else c ∷ [])
+kept_back t c true bs is = refl
+kept_back t c false bs is = is ∙ sym (append-nil (bytes t c))
+
+joined : (t : Characters) (xs ys : List Cluster) (a b : List ℕ) → a ≡ flat_map (bytes t) xs → b ≡ flat_map (bytes t) ys → a ++ b ≡ flat_map (bytes t) (xs ++ ys)
+joined t xs ys a b first second =
+    ap (λ (z : List ℕ). z ++ b) first
+    ∙ ap (λ (z : List ℕ). flat_map (bytes t) xs ++ z) second
+    ∙ sym (flat_map-append (bytes t) xs ys)
+
+-- a cell with what goes out before it, and what comes then
+cell_back : (t : Characters) (p : Place) (c : Cluster) (bs rest : List ℕ) (cells : List Cluster) → bs ≡ bytes t c → rest ≡ flat_map (bytes t) cells
+    → put_at p c.letter bs ++ rest ≡ flat_map (bytes t) (cell_at p c ++ cells)
+cell_back t p c bs rest cells is after =
+    let x = point p c.letter in
+    let w = holds p c.letter in
+    joined t (cell_at p c) cells (put_at p c.letter bs) rest
+    (joined t (map single (text_of x)) (if w then [] else c ∷ []) (text_of x) (if w then [] else bs) (point_back t x) (kept_back t c w bs is)) after
+
+-- ---- what comes of a byte, and of the end
+
+step_back : (t : Characters) (p : Place) (done : Option Cluster) (byte : Option ℕ) (cells : List Cluster) (rest : List ℕ) → ((n : ℕ) → byte ≡ Some n → n < 128)
     → covers t (list_of done ++ map single (listed byte)) ≡ true
-    → coded_done t done ++ listed byte ≡ flat_map (bytes t) (list_of done ++ map single (listed byte))
-said_by t None None low p = refl
-said_by t None (Some n) low p = ascii_bytes t n (low n refl) ∙ sym (append-nil (bytes t (single n)))
-said_by t (Some c) None low p = ap (λ (z : List ℕ). z ++ []) (coded_bytes t c p)
-said_by t (Some c) (Some n) low p =
-    let both = covers-append t (c ∷ []) (single n ∷ []) p in
-    ap (λ (z : List ℕ). z ++ n ∷ []) (coded_bytes t c both.0)
-    ∙ ap (λ (z : List ℕ). bytes t c ++ z) (ascii_bytes t n (low n refl) ∙ sym (append-nil (bytes t (single n))))
+    → rest ≡ flat_map (bytes t) (pointed_from (after_byte (after_cluster p done) byte) cells)
+    → (said_cluster t p done ++ said_byte (after_cluster p done) byte) ++ rest ≡ flat_map (bytes t) (pointed_from p ((list_of done ++ map single (listed byte)) ++ cells))
+step_back t p None None cells rest low all after = after
+step_back t p None (Some n) cells rest low all after = cell_back t p (single n) (n ∷ []) rest (pointed_from (passed p n) cells) (ascii_bytes t n (low n refl)) after
+step_back t p (Some c) None cells rest low all after =
+    ap (λ (z : List ℕ). z ++ rest) (append-nil (put_at p c.letter (coded t c)))
+    ∙ cell_back t p c (coded t c) rest (pointed_from (passed p c.letter) cells) (coded_bytes t c all) after
+step_back t p (Some c) (Some n) cells rest low all after =
+    let q = passed p c.letter in
+    let both = covers-append t (c ∷ []) (single n ∷ []) all in
+    append_assoc (put_at p c.letter (coded t c)) (put_at q n (n ∷ [])) rest
+    ∙ cell_back t p c (coded t c) (put_at q n (n ∷ []) ++ rest) (pointed_from q (single n ∷ cells)) (coded_bytes t c both.0)
+    (cell_back t q (single n) (n ∷ []) rest (pointed_from (passed q n) cells) (ascii_bytes t n (low n refl)) after)
 
-held_by : (t : Characters) (held : Option Cluster) → covers t (list_of held) ≡ true → coded_done t held ≡ flat_map (bytes t) (list_of held)
-held_by t None p = refl
-held_by t (Some c) p = coded_bytes t c p ∙ sym (append-nil (bytes t c))
+last_back : (t : Characters) (p : Place) (held : Option Cluster) → covers t (list_of held) ≡ true → said_last t p held ≡ flat_map (bytes t) (pointed_from p (list_of held))
+last_back t p None all = left_back t p
+last_back t p (Some c) all =
+    let q = passed p c.letter in
+    cell_back t p c (coded t c) (left q) (map single (left q)) (coded_bytes t c all) (left_back t q)
 
 -- ---- a whole text
 
-coded_text : (t : Characters) (l : Listener) (bs : List ℕ) → covers t (cells_from l bs) ≡ true → coding t l true bs ≡ flat_map (bytes t) (cells_from l bs)
-coded_text t l [] p = held_by t l.held p
-coded_text t l (b ∷ bs) p =
+text_back : (t : Characters) (l : Listener) (p : Place) (bs : List ℕ) → covers t (cells_from l bs) ≡ true
+    → coding t l p true bs ≡ flat_map (bytes t) (pointed_from p (cells_from l bs))
+text_back t l p [] all = last_back t p l.held all
+text_back t l p (b ∷ bs) all =
     let x = read l b in
-    let both = covers-append t (cells_of x) (cells_from x.listener bs) p in
-    append_assoc (said t x) (said_of t x.listener bs) (coded_done t (after x.listener bs).held)
-    ∙ ap (λ (z : List ℕ). z ++ coding t x.listener true bs) (said_by t x.done x.byte (low_read l b) both.0)
-    ∙ ap (λ (z : List ℕ). flat_map (bytes t) (cells_of x) ++ z) (coded_text t x.listener bs both.1)
-    ∙ sym (flat_map-append (bytes t) (cells_of x) (cells_from x.listener bs))
+    let q = place_after p x in
+    let both = covers-append t (cells_of x) (cells_from x.listener bs) all in
+    append_assoc (said t p x) (said_of t x.listener q bs) (said_last t (place_behind x.listener q bs) (after x.listener bs).held)
+    ∙ step_back t p x.done x.byte (cells_from x.listener bs) (coding t x.listener q true bs) (low_read l b) both.0 (text_back t x.listener q bs both.1)
+
+covers-both : (t : Characters) (xs ys : List Cluster) → covers t xs ≡ true → covers t ys ≡ true → covers t (xs ++ ys) ≡ true
+covers-both t [] ys p q = q
+covers-both t (x ∷ xs) ys p q =
+    and_true (is_some (code t x)) (covers t (xs ++ ys)) (and_first (is_some (code t x)) (covers t xs) p)
+    (covers-both t xs ys (and_second (is_some (code t x)) (covers t xs) p) q)
+
+kept_covered : (t : Characters) (c : Cluster) (waits : Bool) → is_some (code t c) ≡ true → covers t (if waits then [] else c ∷ []) ≡ true
+kept_covered t c true all = refl
+kept_covered t c false all = and_true (is_some (code t c)) true all refl
+
+pointed_covered : (t : Characters) (p : Place) (cs : List Cluster) → covers t cs ≡ true → covers t (pointed_from p cs) ≡ true
+pointed_covered t p [] all = left_covered_by t p.waits
+pointed_covered t p (c ∷ cs) all =
+    let x = point p c.letter in
+    let w = holds p c.letter in
+    covers-both t (cell_at p c) (pointed_from (passed p c.letter) cs)
+    (covers-both t (map single (text_of x)) (if w then [] else c ∷ []) (point_covered t x) (kept_covered t c w (and_first (is_some (code t c)) (covers t cs) all)))
+    (pointed_covered t (passed p c.letter) cs (and_second (is_some (code t c)) (covers t cs) all))
 
 pub comes_back : ComesBack
-comes_back t text good p =
-    ap (λ (z : List ℕ). decode t z) (coded_text t first text p) ∙ inverse_whole t (cells_in text) good p
+comes_back t text good all =
+    ap (λ (z : List ℕ). decode t z) (text_back t first first_place text all)
+    ∙ inverse_whole t (pointed (cells_in text)) good (pointed_covered t first_place (cells_in text) all)

@@ -1,2 +1,5 @@
 pub mod Back
+pub mod Held
+pub mod NoPoints
+pub mod OnlyPoints
 pub mod Parts

@@ -1,5 +1,5 @@
--- The characters of a page become the bytes of its own table.
-use Rattle.std.specs.Prelude.{ℕ, List, [], ◌∷◌, ◌++◌, Bool, true, false, Option, None, Some}
+-- The characters of a page become the bytes of its own table, and points go between them.
+use Rattle.std.specs.Prelude.{ℕ, List, [], ◌∷◌, ◌++◌, Bool, true, false, Option, None, Some, if◌then◌else◌}
 use Rattle.preconv_converter.specs.Likeness.{likeness}
 use Rattle.preconv_converter.specs.declared.target.Target.TheVariants.{Ascii}
 use Rattle.utf8_own_characters.specs.declared.cluster.Cluster.{Cluster}
@@ -7,9 +7,10 @@ use Rattle.utf8_own_characters.specs.declared.table.Code.{Code}
 use Rattle.utf8_own_characters.specs.declared.table.Code.TheVariants.{One, Two}
 use Rattle.utf8_own_characters.specs.declared.listening.Listener.{Listener}
 use Rattle.utf8_own_characters.specs.declared.listening.Listened.{Listened}
-use Rattle.utf8_own_characters.specs.Decoding.{listed}
-use Rattle.utf8_own_characters.specs.Listening.{after, read}
+use Rattle.utf8_own_characters.specs.Listening.{after, read, first}
 use Rattle.utf8_own_characters.specs.Table.{Characters, code}
+use Rattle.utf8_own_stage.specs.declared.points.Place.{Place}
+use Rattle.utf8_own_stage.specs.Points.{first_place, holds, left, passed, point, text_of}
 
 -- its bytes in the table, or what its letter looks like
 abbrev pub coded_by : Option Code → ℕ → List ℕ
@@ -20,20 +21,50 @@ coded_by (Some (Two lead trail)) letter = lead ∷ trail ∷ []
 abbrev pub coded : Characters → Cluster → List ℕ
 coded t c = coded_by (code t c) c.letter
 
-abbrev pub coded_done : Characters → Option Cluster → List ℕ
-coded_done t None = []
-coded_done t (Some c) = coded t c
+-- these bytes of a character, after what goes out before it; a newline may wait
+abbrev pub put_at : Place → ℕ → List ℕ → List ℕ
+put_at p c bytes = text_of (point p c) ++ (if holds p c then [] else bytes)
+
+abbrev pub said_cluster : Characters → Place → Option Cluster → List ℕ
+said_cluster t p None = []
+said_cluster t p (Some c) = put_at p c.letter (coded t c)
+
+abbrev pub after_cluster : Place → Option Cluster → Place
+after_cluster p None = p
+after_cluster p (Some c) = passed p c.letter
+
+abbrev pub said_byte : Place → Option ℕ → List ℕ
+said_byte p None = []
+said_byte p (Some b) = put_at p b (b ∷ [])
+
+abbrev pub after_byte : Place → Option ℕ → Place
+after_byte p None = p
+after_byte p (Some b) = passed p b
 
 -- the cluster that ends, and then a byte of ASCII
-abbrev pub said : Characters → Listened → List ℕ
-said t l = coded_done t l.done ++ listed l.byte
+abbrev pub said : Characters → Place → Listened → List ℕ
+said t p l = said_cluster t p l.done ++ said_byte (after_cluster p l.done) l.byte
 
--- what goes out of a text
-abbrev pub said_of : Characters → Listener → List ℕ → List ℕ
-said_of t l [] = []
-said_of t l (b ∷ bs) = said t (read l b) ++ said_of t (read l b).listener bs
+abbrev pub place_after : Place → Listened → Place
+place_after p l = after_byte (after_cluster p l.done) l.byte
+
+-- what goes out of a text, and the place after it
+abbrev pub said_of : Characters → Listener → Place → List ℕ → List ℕ
+said_of t l p [] = []
+said_of t l p (b ∷ bs) = said t p (read l b) ++ said_of t (read l b).listener (place_after p (read l b)) bs
+
+abbrev pub place_behind : Listener → Place → List ℕ → Place
+place_behind l p [] = p
+place_behind l p (b ∷ bs) = place_behind (read l b).listener (place_after p (read l b)) bs
+
+-- of the end
+abbrev pub said_last : Characters → Place → Option Cluster → List ℕ
+said_last t p held = said_cluster t p held ++ left (after_cluster p held)
 
 -- of a text that is to come, and of its end, if it comes
-abbrev pub coding : Characters → Listener → Bool → List ℕ → List ℕ
-coding t l false bytes = said_of t l bytes
-coding t l true bytes = said_of t l bytes ++ coded_done t (after l bytes).held
+abbrev pub coding : Characters → Listener → Place → Bool → List ℕ → List ℕ
+coding t l p false bytes = said_of t l p bytes
+coding t l p true bytes = said_of t l p bytes ++ said_last t (place_behind l p bytes) (after l bytes).held
+
+abbrev pub coded_text : Characters → Bool → List ℕ → List ℕ
+coded_text t = coding t first first_place

@@ -1,2 +1,3 @@
 pub mod Coding
 pub mod Laws
+pub mod Points

@@ -1,9 +1,11 @@
-//! What stands for a cluster in a page's own table.
+//! What stands for a cluster in a page's own table, and the points between clusters.
 ghost use Rattle.std.specs.Prelude.{◌≡◌, ◌+◌, ◌*◌, ◌≤◌, ◌++◌, length};
 ghost use Rattle.utf8_own_characters.specs.Listening.{after};
 ghost use Rattle.utf8_own_characters.specs.Table.{Good};
 ghost use Rattle.utf8_own_stage.specs.Coding as specs;
+ghost use Rattle.utf8_own_stage.specs.Points.{left, passed, point, text_of};
 
+use super::points::{Place, Point};
 use nr_vectors::slice_vec::SliceVec;
 use preconv_converter::{Target, put_likeness};
 use utf8_own_characters::{Cluster, Code, Listened, Listener, Table};
@@ -11,12 +13,12 @@ use utf8_own_characters::{Cluster, Code, Listened, Listener, Table};
 /// The most bytes of what comes of one that is read.
 pub(crate) const MOST: usize = 32;
 
-/// Puts the bytes of a cluster, or what its letter looks like where the table lacks it: at most 24 bytes.
+/// Puts the bytes of a cluster, or what its letter looks like where the table lacks it: at most 21 bytes.
 fn put_cluster(cluster: &Cluster, table: &Table<'_>, out: &mut SliceVec<'_, u8>)
     requires good { Good table.now }
     requires room { length out.old.items + 24 ≤ out.old.capacity }
     ensures items { out.new.items ≡ out.old.items ++ specs.coded table.now cluster.now }
-    ensures few { length out.new.items ≤ length out.old.items + 24 }
+    ensures few { length out.new.items ≤ length out.old.items + 21 }
     ensures room { out.new.capacity ≡ out.old.capacity }
 {
     match table.code(cluster) {
@@ -26,49 +28,117 @@ fn put_cluster(cluster: &Cluster, table: &Table<'_>, out: &mut SliceVec<'_, u8>)
     }
 }
 
-/// Puts a cluster, if there is one.
-pub(crate) fn put_done(cluster: Option<Cluster>, table: &Table<'_>, out: &mut SliceVec<'_, u8>)
-    requires good { Good table.now }
-    requires room { length out.old.items + 24 ≤ out.old.capacity }
-    ensures items { out.new.items ≡ out.old.items ++ specs.coded_done table.now cluster }
-    ensures few { length out.new.items ≤ length out.old.items + 24 }
+/// Puts what goes out before a character: at most 5 bytes.
+fn put_point(place: &Place, character: char, out: &mut SliceVec<'_, u8>)
+    requires room { length out.old.items + 5 ≤ out.old.capacity }
+    ensures items { out.new.items ≡ out.old.items ++ text_of (point place.now character) }
+    ensures few { length out.new.items ≤ length out.old.items + 5 }
     ensures room { out.new.capacity ≡ out.old.capacity }
 {
-    if let Some(cluster) = cluster {
-        put_cluster(&cluster, table, out);
+    match place.point(character) {
+        Point::Nothing => {}
+        Point::Cut => out.extend(b"\\(zb"),
+        Point::Newline => out.push(b'\n'),
+        Point::Joint => out.extend(b"\\(zj\n"),
     }
 }
 
-/// Puts what comes of a byte: at most 25 bytes.
-fn put_listened(listened: &Listened, table: &Table<'_>, out: &mut SliceVec<'_, u8>)
+/// Puts a cluster, if there is one, after what goes out before it: at most 26 bytes.
+fn put_done(
+    cluster: Option<Cluster>,
+    place: &mut Place,
+    table: &Table<'_>,
+    out: &mut SliceVec<'_, u8>,
+)
+    requires good { Good table.now }
+    requires room { length out.old.items + 29 ≤ out.old.capacity }
+    ensures items { out.new.items ≡ out.old.items ++ specs.said_cluster table.now place.old cluster }
+    ensures place { place.new ≡ specs.after_cluster place.old cluster }
+    ensures few { length out.new.items ≤ length out.old.items + 26 }
+    ensures room { out.new.capacity ≡ out.old.capacity }
+{
+    if let Some(cluster) = cluster {
+        put_point(place, cluster.letter, out);
+        if !place.holds(cluster.letter) {
+            put_cluster(&cluster, table, out);
+        }
+        place.passes(cluster.letter);
+    }
+}
+
+/// Puts a byte, if there is one, after what goes out before it: at most 6 bytes.
+fn put_byte(byte: Option<u8>, place: &mut Place, out: &mut SliceVec<'_, u8>)
+    requires room { length out.old.items + 6 ≤ out.old.capacity }
+    ensures items { out.new.items ≡ out.old.items ++ specs.said_byte place.old byte }
+    ensures place { place.new ≡ specs.after_byte place.old byte }
+    ensures few { length out.new.items ≤ length out.old.items + 6 }
+    ensures room { out.new.capacity ≡ out.old.capacity }
+{
+    if let Some(byte) = byte {
+        let character = char::from(byte);
+        put_point(place, character, out);
+        if !place.holds(character) {
+            out.push(byte);
+        }
+        place.passes(character);
+    }
+}
+
+/// Puts what comes of a byte: at most 32 bytes.
+fn put_listened(
+    listened: &Listened,
+    place: &mut Place,
+    table: &Table<'_>,
+    out: &mut SliceVec<'_, u8>,
+)
     requires good { Good table.now }
     requires room { length out.old.items + 32 ≤ out.old.capacity }
-    ensures items { out.new.items ≡ out.old.items ++ specs.said table.now listened.now }
+    ensures items { out.new.items ≡ out.old.items ++ specs.said table.now place.old listened.now }
+    ensures place { place.new ≡ specs.place_after place.old listened.now }
     ensures few { length out.new.items ≤ length out.old.items + 32 }
     ensures room { out.new.capacity ≡ out.old.capacity }
 {
-    put_done(listened.done, table, out);
-    if let Some(byte) = listened.byte {
-        out.push(byte);
-    }
+    put_done(listened.done, place, table, out);
+    put_byte(listened.byte, place, out);
 }
 
 /// Puts what comes of these bytes, one after another.
 pub(crate) fn put_all(
     bytes: &[u8],
     listener: &mut Listener,
+    place: &mut Place,
     table: &Table<'_>,
     out: &mut SliceVec<'_, u8>,
 )
     requires good { Good table.now }
     requires room { length out.old.items + 32 * length bytes.now ≤ out.old.capacity }
-    ensures items { out.new.items ≡ out.old.items ++ specs.said_of table.now listener.old bytes.now }
+    ensures items { out.new.items ≡ out.old.items ++ specs.said_of table.now listener.old place.old bytes.now }
     ensures listener { listener.new ≡ after listener.old bytes.now }
+    ensures place { place.new ≡ specs.place_behind listener.old place.old bytes.now }
     ensures room { out.new.capacity ≡ out.old.capacity }
 {
     for byte in bytes {
         let listened = listener.read(*byte);
-        put_listened(&listened, table, out);
+        put_listened(&listened, place, table, out);
         *listener = listened.listener;
     }
+}
+
+/// Puts what comes of the end, where this cluster is half read: at most 27 bytes.
+pub(crate) fn put_last(
+    cluster: Option<Cluster>,
+    place: &mut Place,
+    table: &Table<'_>,
+    out: &mut SliceVec<'_, u8>,
+)
+    requires good { Good table.now }
+    requires room { length out.old.items + 32 ≤ out.old.capacity }
+    ensures items { out.new.items ≡ out.old.items ++ specs.said_last table.now place.old cluster }
+    ensures room { out.new.capacity ≡ out.old.capacity }
+{
+    put_done(cluster, place, table, out);
+    if place.waits {
+        out.push(b'\n');
+    }
+    place.waits = false;
 }

@@ -1,20 +1,22 @@
 //! A text is coded a part at a time.
 ghost use Rattle.std.specs.Prelude.{◌≡◌};
 ghost use Rattle.document_stages.specs.Pulling.{fits_always};
-ghost use Rattle.utf8_own_characters.specs.Listening.{first};
 ghost use Rattle.utf8_own_characters.specs.Table.{Good};
-ghost use Rattle.utf8_own_stage.specs.Coding.{coding};
+ghost use Rattle.utf8_own_stage.specs.Coding.{coded_text};
 
-use super::coding::{MOST, put_all, put_done};
+use super::coding::{MOST, put_all, put_last};
+use super::points::Place;
 use document_stages::Stage;
 use nr_vectors::slice_vec::SliceVec;
 use utf8_own_characters::{Listener, Table};
 
-/// Characters of UTF-8 become the bytes of a page's own table, or what they look like where it lacks them.
+/// Characters of UTF-8 become the bytes of a page's own table, or what they look like where it lacks them. Between those of East Asia go
+/// special characters at which a line may be cut.
 #[derive(Drop)]
 pub struct Coder<'a> {
     table: &'a Table<'a>,
     listener: Listener,
+    place: Place,
     ghost good: { Good table.now },
 }
 
@@ -22,13 +24,14 @@ impl<'a> Coder<'a> {
     /// A text begins.
     pub fn over(table: &'a Table<'a>) -> Coder<'a>
         requires { Good table.now }
-        ensures says { ⟦<Coder<'a> as Stage>⟧.says result ≡ coding table.now first }
+        ensures says { ⟦<Coder<'a> as Stage>⟧.says result ≡ coded_text table.now }
         ensures fits { ⟦<Coder<'a> as Stage>⟧.fits result ≡ fits_always }
         ensures wants { ⟦<Coder<'a> as Stage>⟧.wants result ≡ 32 }
     {
         Coder {
             table,
             listener: Listener::new(),
+            place: Place::new(),
         }
     }
 }
@@ -38,7 +41,7 @@ impl Stage for Coder<'_> {
     ghost use Rattle.document_stages.specs.Pulling.{fits_always};
     ghost use Rattle.utf8_own_stage.specs.Coding.{coding};
 
-    ghost says = { λ s. coding s.table.now s.listener };
+    ghost says = { λ s. coding s.table.now s.listener s.place };
 
     ghost fits = { λ s. fits_always };
 
@@ -52,12 +55,18 @@ impl Stage for Coder<'_> {
 
     fn turn(&mut self, bytes: &[u8], out: &mut SliceVec<'_, u8>) -> usize {
         let len = bytes.len().min(out.capacity() / MOST);
-        put_all(&bytes[..len], &mut self.listener, self.table, out);
+        put_all(
+            &bytes[..len],
+            &mut self.listener,
+            &mut self.place,
+            self.table,
+            out,
+        );
         len
     }
 
     fn finish(&mut self, out: &mut SliceVec<'_, u8>) -> bool {
-        put_done(self.listener.held, self.table, out);
+        put_last(self.listener.held, &mut self.place, self.table, out);
         self.listener.held = None;
         true
     }

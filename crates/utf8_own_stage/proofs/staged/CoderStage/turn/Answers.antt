@@ -7,6 +7,7 @@ pub returns-clause-says : goal.returns-clause-says
 returns-clause-says c =
     let t = c.args.self.now.table.now in
     let l = c.args.self.now.listener in
+    let p = c.args.self.now.place in
     let bytes : List ℕ = take c.min-len.result c.args.bytes.now in
-    coding-taken t l c.put_all.new.listener bytes c.put_all.new.out.items c.put_all.ensures.listener
-    (c.put_all.ensures.items ∙ ap (λ (z : List ℕ). z ++ said_of t l bytes) c.requires.empty)
+    coding-taken t l c.put_all.new.listener p c.put_all.new.place bytes c.put_all.new.out.items c.put_all.ensures.listener c.put_all.ensures.place
+    (c.put_all.ensures.items ∙ ap (λ (z : List ℕ). z ++ said_of t l p bytes) c.requires.empty)

@@ -1,0 +1,245 @@
+//! Where lines of East Asian text, which has no blanks, may be cut: by special characters that print nothing.
+ghost use Rattle.std.specs.Prelude.{◌≡◌};
+ghost use Rattle.utf8_own_stage.specs.Points as specs;
+
+use utf8_own_characters::{is_east_asian, may_break_between};
+
+/// Where a line is read.
+#[derive(Clone, Copy)]
+pub(crate) enum Line {
+    /// At its beginning.
+    Start,
+    /// After its control character.
+    Control,
+    /// After a control character and `T`.
+    Tee,
+    /// In the name of a control line.
+    Name,
+    /// In the rest of a control line.
+    Rest,
+    /// In a text line.
+    Text,
+}
+
+/// What part of an escape was read.
+#[derive(Clone, Copy)]
+pub(crate) enum Escape {
+    /// None.
+    Plain,
+    /// A backslash.
+    Begun,
+    /// The letter of one with a name.
+    Named,
+    /// All but so many characters of a name.
+    Left(u8),
+}
+
+/// What is read of a table.
+#[derive(Clone, Copy)]
+pub(crate) enum Table {
+    /// None is read.
+    Nowhere,
+    /// Its format.
+    Format,
+    /// Its rows.
+    Rows,
+    /// A block of text among them.
+    Block,
+}
+
+/// What stands before the next character.
+#[derive(Clone, Copy)]
+pub(crate) struct Place {
+    /// Where the line is read.
+    pub line: Line,
+    /// Which part of an escape was read.
+    pub escape: Escape,
+    /// What is read of a table.
+    pub table: Table,
+    /// The character of the line that is printed before it, or NUL.
+    pub before: char,
+    /// A newline waits for it, after an East Asian character.
+    pub waits: bool,
+}
+
+/// What goes out before a character.
+#[derive(Clone, Copy)]
+pub(crate) enum Point {
+    /// Nothing.
+    Nothing,
+    /// A place to cut a line.
+    Cut,
+    /// A newline that waited.
+    Newline,
+    /// The same, at which the word goes on.
+    Joint,
+}
+
+impl Place {
+    /// A text begins.
+    pub(crate) fn new() -> Place
+        ensures { result ≡ specs.first_place }
+    {
+        Place {
+            line: Line::Start,
+            escape: Escape::Plain,
+            table: Table::Nowhere,
+            before: '\0',
+            waits: false,
+        }
+    }
+
+    /// What goes out before a character.
+    pub(crate) fn point(&self, character: char) -> Point
+        ensures { result ≡ specs.point self.now character }
+    {
+        if self.waits {
+            return if is_east_asian(character) {
+                Point::Joint
+            } else {
+                Point::Newline
+            };
+        }
+        if self.is_open() && may_break_between(self.before, character) {
+            Point::Cut
+        } else {
+            Point::Nothing
+        }
+    }
+
+    /// Whether what is read is printed: no escape, and no format of a table.
+    fn is_open(&self) -> bool
+        ensures { result ≡ specs.is_open self.now }
+    {
+        matches!(self.escape, Escape::Plain) && !matches!(self.table, Table::Format)
+    }
+
+    /// Whether a newline would wait here: after an East Asian character in a text line, but not in a row of a table.
+    fn may_join(&self) -> bool
+        ensures { result ≡ specs.may_join self.now }
+    {
+        matches!(self.line, Line::Text)
+            && self.is_open()
+            && !matches!(self.table, Table::Rows)
+            && is_east_asian(self.before)
+    }
+
+    /// Whether a character is a newline that waits for the next one.
+    pub(crate) fn holds(&self, character: char) -> bool
+        ensures { result ≡ specs.holds self.now character }
+    {
+        character == '\n' && self.may_join()
+    }
+
+    /// The line ends. In a table the format ends with a dot, and before a block a row with a brace.
+    fn ends(&mut self)
+        ensures { self.new ≡ specs.line_ended self.old }
+    {
+        self.waits = self.may_join();
+        self.table = match (self.table, self.before) {
+            (Table::Format, '.') => Table::Rows,
+            (Table::Rows, '{') => Table::Block,
+            (table, _) => table,
+        };
+        self.line = Line::Start;
+        self.escape = Escape::Plain;
+        self.before = '\0';
+    }
+
+    /// The first character of a line. With `T` a block of a table ends.
+    fn begins(&mut self, character: char)
+        ensures { self.new ≡ specs.begun character self.old }
+    {
+        match character {
+            '.' | '\'' => self.line = Line::Control,
+            _ => {
+                self.line = Line::Text;
+                self.before = character;
+            }
+        }
+        self.table = match self.table {
+            Table::Block if character == 'T' => Table::Rows,
+            table => table,
+        };
+    }
+
+    /// A character of a control line's name, or the blank after it.
+    fn names(&mut self, character: char)
+        ensures { self.new ≡ specs.naming character self.old }
+    {
+        self.line = match (self.line, character) {
+            (_, ' ' | '\t') => Line::Rest,
+            (Line::Control, 'T') => Line::Tee,
+            _ => Line::Name,
+        };
+    }
+
+    /// A character after a control character and `T`.
+    fn names_table(&mut self, character: char)
+        ensures { self.new ≡ specs.naming_table character self.old }
+    {
+        self.table = match character {
+            'S' | '&' => Table::Format,
+            'E' => Table::Nowhere,
+            _ => self.table,
+        };
+        self.names(character);
+    }
+
+    /// A character in no escape that does not end the line.
+    fn goes_on(&mut self, character: char)
+        ensures { self.new ≡ specs.going_on character self.old }
+    {
+        if character == '\\' {
+            self.escape = Escape::Begun;
+            if matches!(self.line, Line::Start) {
+                self.line = Line::Text;
+            }
+            return;
+        }
+        match self.line {
+            Line::Text | Line::Rest => self.before = character,
+            Line::Start => self.begins(character),
+            Line::Control | Line::Name => self.names(character),
+            Line::Tee => self.names_table(character),
+        }
+    }
+
+    /// A character after a backslash. A font leaves what is printed before it.
+    fn escapes(&mut self, character: char)
+        ensures { self.new ≡ specs.escaping character self.old }
+    {
+        if character != 'f' {
+            self.before = '\0';
+        }
+        self.escape = match character {
+            'f' | '*' | 'n' => Escape::Named,
+            '(' => Escape::Left(2),
+            _ => Escape::Plain,
+        };
+    }
+
+    /// A character of a name in an escape.
+    fn spells(&mut self, character: char)
+        ensures { self.new ≡ specs.spelling character self.old }
+    {
+        self.escape = match self.escape {
+            Escape::Named if character == '(' => Escape::Left(2),
+            Escape::Left(2) => Escape::Left(1),
+            _ => Escape::Plain,
+        };
+    }
+
+    /// A character is read.
+    pub(crate) fn passes(&mut self, character: char)
+        ensures { self.new ≡ specs.passed self.old character }
+    {
+        self.waits = false;
+        match self.escape {
+            Escape::Begun => self.escapes(character),
+            _ if character == '\n' => self.ends(),
+            Escape::Plain => self.goes_on(character),
+            _ => self.spells(character),
+        }
+    }
+}
