@@ -13,7 +13,7 @@ use Rattle.utf8_own_stage.specs.declared.points.Line.TheVariants as lines
 use Rattle.utf8_own_stage.specs.declared.points.Place.{Place}
 use Rattle.utf8_own_stage.specs.declared.points.Point.TheVariants.{Nothing, Cut, Newline, Joint}
 use Rattle.utf8_own_stage.specs.Laws.{NoPoints, are_western, pointed_from}
-use Rattle.utf8_own_stage.specs.Points.{character_by, first_place, going_on, holds, is_control, is_open, is_rows, is_text, line_ended, line_of_escape, may_join, newline, none, passed, passed_by, point, spelling, text_of}
+use Rattle.utf8_own_stage.specs.Points.{character_by, first_place, going_on, holds, is_control, is_open, is_rows, is_text, line_ended, line_of_escape, may_cut, may_join, newline, none, passed, passed_by, point, spelling, text_of}
 use Rattle.utf8_own_stage.proofs.Held.{waits_where_held}
 
 -- no character is East Asian
@@ -63,8 +63,8 @@ no_break a b e f =
 
 no_point : (p : Place) (c : ℕ) → p.waits ≡ false → West p.before → West c → point p c ≡ Nothing
 no_point p c w e f =
-    ap (λ (x : Bool). if x then (if is_east_asian c then Joint else Newline) else (if is_open p && may_break p.before c then Cut else Nothing)) w
-    ∙ ap (λ (x : Bool). if x then Cut else Nothing) (and_not (is_open p) (may_break p.before c) (no_break p.before c e f))
+    ap (λ (x : Bool). if x then (if is_east_asian c then Joint else Newline) else (if may_cut p c then Cut else Nothing)) w
+    ∙ ap (λ (x : Bool). if x then Cut else Nothing) (and_not (not (c == 92) && is_open p) (may_break p.before c) (no_break p.before c e f))
 
 none_held : (p : Place) (c : ℕ) → West p.before → holds p c ≡ false
 unfolding West

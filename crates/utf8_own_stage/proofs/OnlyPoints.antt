@@ -1,13 +1,13 @@
 -- A text with points is the text, and points.
-use Rattle.std.proofs.Common.{◌≡◌, ℕ, List, [], ◌∷◌, ◌++◌, Bool, true, false, ◌&&◌, ◌==◌, if◌then◌else◌, map, refl, sym, append_assoc, subst, rules}
+use Rattle.std.proofs.Common.{◌≡◌, ℕ, List, [], ◌∷◌, ◌++◌, Bool, true, false, ◌==◌, if◌then◌else◌, map, refl, sym, append_assoc, subst, rules}
 use Rattle.utf8_own_characters.specs.declared.cluster.Cluster.{Cluster}
-use Rattle.utf8_own_characters.specs.Breaking.{is_east_asian, may_break}
+use Rattle.utf8_own_characters.specs.Breaking.{is_east_asian}
 use Rattle.utf8_own_characters.specs.Cluster.{single}
 use Rattle.utf8_own_characters.proofs.Tests.{and_first}
 use Rattle.utf8_own_stage.specs.declared.points.Place.{Place}
 use Rattle.utf8_own_stage.specs.declared.points.Point.TheVariants.{Nothing, Cut, Newline, Joint}
 use Rattle.utf8_own_stage.specs.Laws.{WithPoints, ends, same, line, joint, cut, OnlyPoints, pointed_from}
-use Rattle.utf8_own_stage.specs.Points.{first_place, holds, is_open, may_join, newline, passed, point, text_of}
+use Rattle.utf8_own_stage.specs.Points.{first_place, holds, may_cut, may_join, newline, passed, point, text_of}
 use Rattle.utf8_own_stage.proofs.Held.{waits_where_held}
 
 is_newline : (c : ℕ) → c == newline ≡ true → c ≡ newline
@@ -56,7 +56,7 @@ only_from (c ∷ cs) p =
     let ds = pointed_from (passed p c.letter) cs in
     let rest : Rest h cs ds = subst (λ (z : Bool). Rest z cs ds) (waits_where_held p c.letter) (only_from cs (passed p c.letter)) in
     subst (λ (z : List Cluster). Rest p.waits (c ∷ cs) z) (sym (append_assoc (map single (text_of x)) (if h then [] else c ∷ []) ds))
-    (before_by p.waits (is_east_asian c.letter) (is_open p && may_break p.before c.letter) (c ∷ cs) ((if h then [] else c ∷ []) ++ ds)
+    (before_by p.waits (is_east_asian c.letter) (may_cut p c.letter) (c ∷ cs) ((if h then [] else c ∷ []) ++ ds)
     (cell h c cs ds (held_newline p c.letter) rest))
 
 pub only_points : OnlyPoints

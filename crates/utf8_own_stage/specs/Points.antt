@@ -44,11 +44,13 @@ is_text line = false
 abbrev pub is_open : Place → Bool
 is_open p = is_plain p.escape && not (is_format p.table)
 
--- A line may be cut where JIS X 4051 has it so. A newline between two East Asian characters is no blank.
+-- a line may be cut where JIS X 4051 has it so, but not before an escape
+abbrev pub may_cut : Place → ℕ → Bool
+may_cut p c = not (c == code "\\") && is_open p && may_break p.before c
+
+-- a newline between two East Asian characters is no blank
 abbrev pub point : Place → ℕ → Point
-point p c =
-    if p.waits then (if is_east_asian c then Joint else Newline) else
-    if is_open p && may_break p.before c then Cut else Nothing
+point p c = if p.waits then (if is_east_asian c then Joint else Newline) else if may_cut p c then Cut else Nothing
 
 abbrev pub text_of : Point → List ℕ
 text_of Nothing = []

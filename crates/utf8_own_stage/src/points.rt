@@ -89,6 +89,13 @@ impl Place {
         }
     }
 
+    /// Whether a line may be cut before a character that is printed.
+    fn may_cut(&self, character: char) -> bool
+        ensures { result ≡ specs.may_cut self.now character }
+    {
+        character != '\\' && self.is_open() && may_break_between(self.before, character)
+    }
+
     /// What goes out before a character.
     pub(crate) fn point(&self, character: char) -> Point
         ensures { result ≡ specs.point self.now character }
@@ -100,7 +107,7 @@ impl Place {
                 Point::Newline
             };
         }
-        if self.is_open() && may_break_between(self.before, character) {
+        if self.may_cut(character) {
             Point::Cut
         } else {
             Point::Nothing
