@@ -1,6 +1,6 @@
 -- Which table a page takes: the one that has most of its characters, and so leaves the fewest out.
 use Prim.Native.Char.{code}
-use Rattle.std.specs.Prelude.{◌≡◌, ℕ, zero, suc, ◌+◌, ◌*◌, ◌%◌, ◌<◌, ◌≤◌, List, [], ◌∷◌, length, take, get_or, Bool, ◌==◌, ◌&&◌, nat_lt, if◌then◌else◌, Option, None, Some, Result, Ok, Err, ⊤, ◌⊎◌}
+use Rattle.std.specs.Prelude.{◌≡◌, ℕ, zero, suc, ◌+◌, ◌*◌, ◌%◌, ◌<◌, ◌≤◌, List, [], ◌∷◌, ◌++◌, length, take, get_or, Bool, ◌==◌, ◌&&◌, nat_lt, if◌then◌else◌, Option, None, Some, Result, Ok, Err, ⊤, ◌⊎◌}
 use Rattle.std.specs.List.{sum_by}
 use Rattle.nr_units.specs.Source.{Supply}
 use Rattle.utf8_characters.specs.declared.table.Table.{Table}
@@ -116,6 +116,12 @@ fullest_by counts = better_by counts (better_by counts (better_by counts English
 
 abbrev pub chosen_by : List ℕ → Table
 chosen_by counts = if_any (covered_by counts (fullest_by counts)) (fullest_by counts)
+
+-- some bytes came behind these
+pub record ComesBehind (old new : Option Supply) (before items : List ℕ) : Type 0 where
+  pub bytes : List ℕ
+  pub came : Comes old bytes new
+  pub all : items ≡ before ++ bytes
 
 -- these bytes came first, as many as there is room for, or all
 pub record IsFront (old new : Option Supply) (capacity : ℕ) (items : List ℕ) : Type 0 where

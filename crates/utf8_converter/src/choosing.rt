@@ -1,8 +1,9 @@
 //! The table that a page takes.
-ghost use Rattle.std.specs.Prelude.{◌≡◌, ◌<◌, ◌≤◌, [], length, get_or, OnOk};
+ghost use Rattle.std.specs.Prelude.{◌≡◌, ◌<◌, ◌≤◌, [], length, get_or, OnOk, true, false};
 ghost use Rattle.std.specs.List.{sum_by};
 ghost use Rattle.nr_units.specs.Failures.{counted};
 ghost use Rattle.utf8_converter.specs.Choosing as specs;
+ghost use Rattle.utf8_converter.specs.Running.{Ends};
 
 use super::names::{NAMES, Name};
 use nr_units::source::{Fault, Source};
@@ -178,6 +179,48 @@ fn chosen(counts: &[u32]) -> Table
     }
 }
 
+/// Takes bytes at hand, as many as there is room for, and tells whether there was one.
+fn take_at_hand<R: Source>(input: &mut R, page: &mut SliceVec<'_, u8>) -> bool
+    ensures took { result ≡ true → specs.ComesBehind (R.supply input.old) (R.supply input.new) page.old.items
+        page.new.items }
+    ensures some { result ≡ true → length page.old.items < length page.new.items }
+    ensures none { result ≡ false → (input.new ≡ input.old) × (page.new.items ≡ page.old.items) }
+    ensures failures { R.failures input.new ≡ R.failures input.old }
+    ensures room { page.new.capacity ≡ page.old.capacity }
+{
+    let window = input.window();
+    let count = window.len().min(page.capacity() - page.len());
+    if count == 0 {
+        return false;
+    }
+    page.extend_front(window, count);
+    input.skip(count);
+    true
+}
+
+/// Takes bytes at hand, or the next one. At the end there is none.
+fn take_more<R: Source>(input: &mut R, page: &mut SliceVec<'_, u8>) -> Result<bool, Fault>
+    requires { length page.old.items < page.old.capacity }
+    ensures took { OnOk result (specs.ComesBehind (R.supply input.old) (R.supply input.new) page.old.items
+        page.new.items) }
+    ensures some { result ≡ Ok true → length page.old.items < length page.new.items }
+    ensures ends { result ≡ Ok false → Ends (R.supply input.old) (R.supply input.new) }
+    ensures failures { R.failures input.new ≡ counted (R.failures input.old) result }
+    ensures room { page.new.capacity ≡ page.old.capacity }
+{
+    if take_at_hand(input, page) {
+        return Ok(true);
+    }
+    match input.next() {
+        Ok(Some(byte)) => {
+            page.push(byte);
+            Ok(true)
+        }
+        Ok(None) => Ok(false),
+        Err(Fault) => Err(Fault),
+    }
+}
+
 /// Takes what the input gives first, as much as there is room for.
 fn read_front<R: Source>(input: &mut R, page: &mut SliceVec<'_, u8>) -> Result<(), Fault>
     requires { page.old.items ≡ [] }
@@ -187,10 +230,8 @@ fn read_front<R: Source>(input: &mut R, page: &mut SliceVec<'_, u8>) -> Result<(
     ensures room { page.new.capacity ≡ page.old.capacity }
 {
     while !page.is_full() {
-        match input.next() {
-            Ok(Some(byte)) => page.push(byte),
-            Ok(None) => return Ok(()),
-            Err(Fault) => return Err(Fault),
+        if !take_more(input, page)? {
+            return Ok(());
         }
     }
     Ok(())
