@@ -1,7 +1,6 @@
 -- A run is taken at once: what is half read then is known by its last byte.
 use Prim.Native.Char.{code}
 use Rattle.std.proofs.Common.{◌≡◌, ℕ, zero, suc, ◌+◌, ◌-◌, ◌<◌, ◌≤◌, List, [], ◌∷◌, length, get_or, Bool, true, false, not, ◌==◌, ◌&&◌, ◌||◌, nat_lt, if◌then◌else◌, refl, sym, ◌∙◌, ap, subst, add-one, arith}
-use Rattle.std.specs.List.{prefix_len}
 use Rattle.std.proofs.lemmas.Bool.Decides.{nat_tests}
 use Rattle.std.proofs.lemmas.List.Sums.{prefix_len_passes, prefix_len-le-length}
 use Rattle.preconv_converter.specs.declared.half.Half.{Half}
@@ -13,8 +12,8 @@ use Rattle.preconv_converter.specs.declared.half.Mark.{Mark}
 use Rattle.preconv_converter.specs.declared.half.Mark.TheVariants.{Letter, Opening, Quote as QuoteMark, Stop, Closing, Closed, Other}
 use Rattle.preconv_converter.specs.declared.reader.Reader.{Reader}
 use Rattle.preconv_converter.specs.declared.reader.Pending.TheVariants.{Nothing}
-use Rattle.preconv_converter.specs.Half.{is_plain, is_open, next_line}
-use Rattle.preconv_converter.specs.Hyphens.{mark_of, followed, placed, gone_by, turns_hyphens, closes, carriage_return, is_ascii_letter, is_opening, is_stop, is_closing, is_closer, has_ended, mark_after}
+use Rattle.preconv_converter.specs.Half.{is_plain, is_open}
+use Rattle.preconv_converter.specs.Hyphens.{mark_of, followed, placed, gone_by, turns_hyphens, closes, carriage_return, is_ascii_letter, is_opening, is_stop, is_closing, is_closer, has_ended, mark_after, line_behind}
 use Rattle.preconv_converter.specs.declared.words.Words.{Words}
 use Rattle.preconv_converter.specs.declared.words.Place.{Place}
 use Rattle.preconv_converter.specs.declared.words.Place.TheVariants.{Quoted}
@@ -24,7 +23,8 @@ use Rattle.preconv_converter.specs.Words.{class_of, goes_on_at, goes_on_with, go
 use Rattle.preconv_converter.specs.Meeting.{is_raw, may_pass, is_as_is, is_as_is_at, line_on, line_taken, taken_as_is}
 use Rattle.preconv_converter.specs.Reading.{told, with_half, read}
 use Rattle.preconv_converter.specs.Passing.{Passes}
-use Rattle.preconv_converter.specs.Runs.{goes_on_text, goes_on_word, run_at, run_len}
+use Rattle.preconv_converter.specs.Runs.{goes_on_text, goes_on_word, goes_on_after, may_close, run_at, run_len, last_before, after_run}
+use Rattle.preconv_converter.proofs.TextRuns.{run_goes, run_within}
 use Rattle.preconv_converter.proofs.Plain.{and-first, and-second, quoted_space, read_as_is, Passes-more}
 
 -- ---- bytes that only go on
@@ -53,46 +53,94 @@ no_hyphen b p = grind (arith, nat_tests)
 pub no_newline : (b : ℕ) → goes_on_text b ≡ true → (b == code "\n") ≡ false
 no_newline b p = grind (arith, nat_tests)
 
--- in a line of this kind
-run_in : Line → ℕ → Bool
-run_in lines.Text = goes_on_text
-run_in lines.Request = goes_on_text
-run_in lines.Stored = goes_on_text
-run_in (lines.Words words) = goes_on_word words
-run_in line = λ b. false
+-- what may close a sentence
 
-is_text : (l : Line) (b : ℕ) → run_in l b ≡ true → goes_on_text b ≡ true
-unfolding run_in
-is_text lines.Text b p = p
-is_text lines.Request b p = p
-is_text lines.Stored b p = p
-is_text (lines.Words words) b p = and-first (goes_on_text b) (goes_on_with (class_of b) words) p
-is_text line b p = absurd (let no : false ≡ true = p in cc)
+closer_goes : (b : ℕ) → may_close b ≡ true → may_pass b ≡ true
+closer_goes b p = grind (arith, nat_tests)
 
-not_raw : (l : Line) (b : ℕ) → run_in l b ≡ true → is_raw l ≡ false
+closer_backslash : (b : ℕ) → may_close b ≡ true → (b == code "\\") ≡ false
+closer_backslash b p = grind (arith, nat_tests)
+
+closer_hyphen : (b : ℕ) → may_close b ≡ true → (b == code "-") ≡ false
+closer_hyphen b p = grind (arith, nat_tests)
+
+closer_newline : (b : ℕ) → may_close b ≡ true → (b == code "\n") ≡ false
+closer_newline b p = grind (arith, nat_tests)
+
+-- a byte of a run is of text, or may close a sentence after no stop
+data Goes (a b : ℕ) : Type 0 where
+  Plainly : goes_on_text b ≡ true → Goes a b
+  Closes : may_close b ≡ true → is_stop a ≡ false → Goes a b
+
+not_true : (x : Bool) → not x ≡ true → x ≡ false
+not_true false e = refl
+not_true true e = absurd (let no : false ≡ true = e in cc)
+
+goes_by : (x y z : Bool) (a b : ℕ) → goes_on_text b ≡ x → may_close b ≡ y → is_stop a ≡ z → (x || (y && not z)) ≡ true → Goes a b
+goes_by true y z a b e f g p = Plainly e
+goes_by false true false a b e f g p = Closes f g
+goes_by false true true a b e f g p = absurd (let no : false ≡ true = p in cc)
+goes_by false false z a b e f g p = absurd (let no : false ≡ true = p in cc)
+
+goes : (a b : ℕ) → goes_on_after a b ≡ true → Goes a b
+goes a b p = goes_by (goes_on_text b) (may_close b) (is_stop a) a b refl refl refl p
+
+run_goes_out : (a b : ℕ) → Goes a b → may_pass b ≡ true
+run_goes_out a b (Plainly p) = may_go b p
+run_goes_out a b (Closes p q) = closer_goes b p
+
+run_backslash : (a b : ℕ) → Goes a b → (b == code "\\") ≡ false
+run_backslash a b (Plainly p) = no_backslash b p
+run_backslash a b (Closes p q) = closer_backslash b p
+
+run_hyphen : (a b : ℕ) → Goes a b → (b == code "-") ≡ false
+run_hyphen a b (Plainly p) = no_hyphen b p
+run_hyphen a b (Closes p q) = closer_hyphen b p
+
+run_newline : (a b : ℕ) → Goes a b → (b == code "\n") ≡ false
+run_newline a b (Plainly p) = no_newline b p
+run_newline a b (Closes p q) = closer_newline b p
+
+-- in a line of this kind, after another byte
+run_in : Line → ℕ → ℕ → Bool
+run_in lines.Text a b = goes_on_after a b
+run_in lines.Request a b = goes_on_after a b
+run_in lines.Stored a b = goes_on_after a b
+run_in (lines.Words words) a b = goes_on_word words b
+run_in line a b = false
+
+is_run : (l : Line) (a b : ℕ) → run_in l a b ≡ true → Goes a b
 unfolding run_in
-not_raw lines.Text b p = refl
-not_raw lines.Request b p = refl
-not_raw lines.Stored b p = refl
-not_raw (lines.Words words) b p = refl
-not_raw line b p = absurd (let no : false ≡ true = p in cc)
+is_run lines.Text a b p = goes a b p
+is_run lines.Request a b p = goes a b p
+is_run lines.Stored a b p = goes a b p
+is_run (lines.Words words) a b p = Plainly (and-first (goes_on_text b) (goes_on_with (class_of b) words) p)
+is_run line a b p = absurd (let no : false ≡ true = p in cc)
+
+not_raw : (l : Line) (a b : ℕ) → run_in l a b ≡ true → is_raw l ≡ false
+unfolding run_in
+not_raw lines.Text a b p = refl
+not_raw lines.Request a b p = refl
+not_raw lines.Stored a b p = refl
+not_raw (lines.Words words) a b p = refl
+not_raw line a b p = absurd (let no : false ≡ true = p in cc)
 
 space_stays : (x : Bool) (y : Class) (words : Words) → goes_on_at words.place (if x then Space else y) ≡ true → (if x then words_at (after_space words.place) words else words) ≡ words
 space_stays true y words p = ap (λ (q : Place). words_at q words) (quoted_space words.place p)
 space_stays false y words p = refl
 
-stays : (l : Line) (b : ℕ) → run_in l b ≡ true → line_on l b ≡ l
+stays : (l : Line) (a b : ℕ) → run_in l a b ≡ true → line_on l b ≡ l
 unfolding run_in
-stays lines.Text b p = refl
-stays lines.Request b p = refl
-stays lines.Stored b p = refl
-stays (lines.Words words) b p =
+stays lines.Text a b p = refl
+stays lines.Request a b p = refl
+stays lines.Stored a b p = refl
+stays (lines.Words words) a b p =
     ap lines.Words (space_stays (b == code " ") (if b == code "\"" then Quote else AnyClass) words (and-second (goes_on_text b) (goes_on_with (class_of b) words) p))
-stays line b p = absurd (let no : false ≡ true = p in cc)
+stays line a b p = absurd (let no : false ≡ true = p in cc)
 
-same_line : (l : Line) (b : ℕ) → run_in l b ≡ true → line_taken l b ≡ l
-same_line l b p =
-    ap (λ (x : Bool). if x then lines.Start else line_on l b) (no_newline b (is_text l b p)) ∙ stays l b p
+same_line : (l : Line) (a b : ℕ) → run_in l a b ≡ true → line_taken l b ≡ l
+same_line l a b p =
+    ap (λ (x : Bool). if x then lines.Start else line_on l b) (run_newline a b (is_run l a b p)) ∙ stays l a b p
 
 or-true : (x : Bool) → (x || true) ≡ true
 or-true true = refl
@@ -108,31 +156,32 @@ spaces_by : (x : Bool) (y : Class) (words : Words) → goes_on_at words.place (i
 spaces_by true y words p = spaced_on words.place (is_ninth words) p
 spaces_by false y words p = p
 
-as_is_at : (l : Line) (b : ℕ) (h : Half) → run_in l b ≡ true → is_as_is_at l b h ≡ true
+as_is_at : (l : Line) (a b : ℕ) (h : Half) → run_in l a b ≡ true → is_as_is_at l b h ≡ true
 unfolding run_in
-as_is_at lines.Request b h p = refl
-as_is_at lines.Stored b h p = refl
-as_is_at lines.Text b h p =
-    ap (λ (x : Bool). (not (turns_hyphens h) || not x) && (not (closes h) || not (b == code "\n"))) (no_hyphen b p)
+as_is_at lines.Request a b h p = refl
+as_is_at lines.Stored a b h p = refl
+as_is_at lines.Text a b h p =
+    let kind = goes a b p in
+    ap (λ (x : Bool). (not (turns_hyphens h) || not x) && (not (closes h) || not (b == code "\n"))) (run_hyphen a b kind)
     ∙ ap (λ (x : Bool). x && (not (closes h) || not (b == code "\n"))) (or-true (not (turns_hyphens h)))
-    ∙ ap (λ (x : Bool). not (closes h) || not x) (no_newline b p)
+    ∙ ap (λ (x : Bool). not (closes h) || not x) (run_newline a b kind)
     ∙ or-true (not (closes h))
-as_is_at (lines.Words words) b h p =
+as_is_at (lines.Words words) a b h p =
     let text = and-first (goes_on_text b) (goes_on_with (class_of b) words) p in
     let on = and-second (goes_on_text b) (goes_on_with (class_of b) words) p in
     ap (λ (x : Bool). if x then not (is_ninth words) else if b == code " " then goes_on_with_space words else not (b == code "-") && goes_on_with (class_of b) words) (no_newline b text)
     ∙ ap (λ (x : Bool). if b == code " " then goes_on_with_space words else not x && goes_on_with (class_of b) words) (no_hyphen b text)
     ∙ spaces_by (b == code " ") (if b == code "\"" then Quote else AnyClass) words on
-as_is_at line b h p = absurd (let no : false ≡ true = p in cc)
+as_is_at line a b h p = absurd (let no : false ≡ true = p in cc)
 
-as_is : (l : Line) (b : ℕ) (h : Half) → h.line ≡ l → is_open h ≡ true → run_in l b ≡ true → is_as_is b h ≡ true
-as_is l b h line free p =
-    let text = is_text l b p in
-    ap (λ (x : Bool). x && not (b == code "\\") && is_open h && is_as_is_at h.line b h) (may_go b text)
-    ∙ ap (λ (x : Bool). not x && is_open h && is_as_is_at h.line b h) (no_backslash b text)
+as_is : (l : Line) (a b : ℕ) (h : Half) → h.line ≡ l → is_open h ≡ true → run_in l a b ≡ true → is_as_is b h ≡ true
+as_is l a b h line free p =
+    let kind = is_run l a b p in
+    ap (λ (x : Bool). x && not (b == code "\\") && is_open h && is_as_is_at h.line b h) (run_goes_out a b kind)
+    ∙ ap (λ (x : Bool). not x && is_open h && is_as_is_at h.line b h) (run_backslash a b kind)
     ∙ ap (λ (x : Bool). x && is_as_is_at h.line b h) free
     ∙ ap (λ (m : Line). is_as_is_at m b h) line
-    ∙ as_is_at l b h p
+    ∙ as_is_at l a b h p
 
 -- ---- what stands before the next character is known by the last one
 
@@ -197,80 +246,143 @@ placed_open x h = open_by h.manual x h
 taken_is : (b : ℕ) (h : Half) → (b == code "\n") ≡ false → line_taken h.line b ≡ h.line → taken_as_is b h ≡ placed (mark_of b) h
 taken_is b h line same =
     ap (λ (l : Line). gone_by b (record h { line = l })) same
-    ∙ ap (λ (x : Bool). if x then record h { before = Character Other; tag = next_line h.tag } else placed (mark_of b) h) line
+    ∙ ap (λ (x : Bool). if x then line_behind h else placed (mark_of b) h) line
 
-taken_twice : (a b : ℕ) (h : Half) → (a == code "\n") ≡ false → (b == code "\n") ≡ false → line_taken h.line a ≡ h.line → line_taken h.line b ≡ h.line
-    → is_closer (mark_of b) ≡ false → taken_as_is b (taken_as_is a h) ≡ taken_as_is b h
-taken_twice a b h first second here there last =
-    let x = mark_of a in
-    let line = placed_line x h in
-    let later : line_taken (placed x h).line b ≡ (placed x h).line =
-    ap (λ (l : Line). line_taken l b) line ∙ there ∙ sym line in
-    ap (taken_as_is b) (taken_is a h first here)
-    ∙ taken_is b (placed x h) second later
-    ∙ placed_twice x (mark_of b) h last
-    ∙ sym (taken_is b h second there)
+-- ---- what stands before the next character is the last byte of a run
+
+ended_by : (letter quote opening stop closing : Bool) → stop ≡ false
+    → has_ended (if letter then Letter else if quote then QuoteMark else if opening then Opening else if stop then Stop else if closing then Closing else Other) ≡ false
+ended_by true quote opening stop closing p = refl
+ended_by false true opening stop closing p = refl
+ended_by false false true stop closing p = refl
+ended_by false false false true closing p = absurd (let no : true ≡ false = p in cc)
+ended_by false false false false true p = refl
+ended_by false false false false false p = refl
+
+false-and : (x y : Bool) → x ≡ false → (x && y) ≡ false
+false-and false y e = refl
+false-and true y e = absurd (let no : true ≡ false = e in cc)
+
+no_end : (a b : ℕ) → Goes a b → (has_ended (mark_of a) && is_closer (mark_of b)) ≡ false
+no_end a b (Plainly p) = and-false (has_ended (mark_of a)) (is_closer (mark_of b)) (no_closer b p)
+no_end a b (Closes p q) =
+    false-and (has_ended (mark_of a)) (is_closer (mark_of b)) (ended_by (is_ascii_letter a) (a == code "\"") (is_opening a) (is_stop a) (is_closing a) q)
+
+last_by : Bool → Mark → Half → Half
+last_by m x h = if m then record h { before = last_before x h.before } else h
+
+last_followed : (x y : Mark) (b : Before) → (has_ended x && is_closer y) ≡ false → followed y (last_before x b) ≡ last_before y b
+last_followed x y Argument e = refl
+last_followed x y (Character z) e = ap (λ (w : Bool). Character (if w then Closed else y)) e
+
+first_followed : (y : Mark) (b : Before) → is_closer y ≡ false → followed y b ≡ last_before y b
+first_followed y Argument e = refl
+first_followed y (Character z) e = ap Character (after_any z y e)
+
+first_by : (m : Bool) (y : Mark) (h : Half) → is_closer y ≡ false → placed_as m y h ≡ last_by m y h
+unfolding last_by
+first_by true y h e = ap (λ (w : Before). record h { before = w }) (first_followed y h.before e)
+first_by false y h e = refl
+
+next_by : (m : Bool) (x y : Mark) (h : Half) → h.manual ≡ m → (has_ended x && is_closer y) ≡ false → placed y (last_by m x h) ≡ last_by m y h
+unfolding last_by
+next_by true x y h e last =
+    ap (λ (z : Bool). if z then record h { before = followed y (last_before x h.before) } else record h { before = last_before x h.before }) e
+    ∙ ap (λ (w : Before). record h { before = w }) (last_followed x y h.before last)
+next_by false x y h e last = ap (λ (z : Bool). if z then record h { before = followed y h.before } else h) e
+
+last_line : (m : Bool) (x : Mark) (h : Half) → (last_by m x h).line ≡ h.line
+unfolding last_by
+last_line true x h = refl
+last_line false x h = refl
+
+last_open : (m : Bool) (x : Mark) (h : Half) → is_open (last_by m x h) ≡ is_open h
+unfolding last_by
+last_open true x h = refl
+last_open false x h = refl
 
 -- ---- a run
 
-run_step : (b : ℕ) (l : Line) (r : Reader) → r.pending ≡ Nothing → is_open r.half ≡ true → r.half.line ≡ l → run_in l b ≡ true
-    → read b r ≡ told (with_half (taken_as_is b r.half) r) (b ∷ []) 1
-run_step b l r none free line p =
-    read_as_is b r none (ap is_raw line ∙ not_raw l b p) (as_is l b r.half line free p)
+run_step : (a b : ℕ) (l : Line) (r : Reader) → r.pending ≡ Nothing → is_open r.half ≡ true → r.half.line ≡ l → run_in l a b ≡ true
+    → read b r ≡ told (with_half (placed (mark_of b) r.half) r) (b ∷ []) 1
+run_step a b l r none free line p =
+    let on : line_taken r.half.line b ≡ r.half.line = ap (λ (m : Line). line_taken m b) line ∙ same_line l a b p ∙ sym line in
+    read_as_is b r none (ap is_raw line ∙ not_raw l a b p) (as_is l a b r.half line free p)
+    ∙ ap (λ (h : Half). told (with_half h r) (b ∷ []) 1) (taken_is b r.half (run_newline a b (is_run l a b p)) on)
 
-run_next : (a b : ℕ) (l : Line) (r : Reader) → r.pending ≡ Nothing → is_open r.half ≡ true → r.half.line ≡ l
-    → run_in l a ≡ true → run_in l b ≡ true
-    → read b (with_half (taken_as_is a r.half) r) ≡ told (with_half (taken_as_is b r.half) r) (b ∷ []) 1
-run_next a b l r none free line p q =
-    let first = no_newline a (is_text l a p) in
-    let second = no_newline b (is_text l b q) in
-    let here : line_taken r.half.line a ≡ r.half.line = ap (λ (m : Line). line_taken m a) line ∙ same_line l a p ∙ sym line in
-    let next : line_taken r.half.line b ≡ r.half.line = ap (λ (m : Line). line_taken m b) line ∙ same_line l b q ∙ sym line in
-    let is = taken_is a r.half first here in
+plainly : (x y : Bool) → (x || (y && false)) ≡ true → x ≡ true
+plainly true y p = refl
+plainly false true p = absurd (let no : false ≡ true = p in cc)
+plainly false false p = absurd (let no : false ≡ true = p in cc)
+
+-- where a stop may stand before it
+first_text : (l : Line) (b : ℕ) → run_in l (code ".") b ≡ true → goes_on_text b ≡ true
+unfolding run_in
+first_text lines.Text b p = plainly (goes_on_text b) (may_close b) p
+first_text lines.Request b p = plainly (goes_on_text b) (may_close b) p
+first_text lines.Stored b p = plainly (goes_on_text b) (may_close b) p
+first_text (lines.Words words) b p = and-first (goes_on_text b) (goes_on_with (class_of b) words) p
+first_text line b p = absurd (let no : false ≡ true = p in cc)
+
+run_first : (b : ℕ) (l : Line) (r : Reader) → r.pending ≡ Nothing → is_open r.half ≡ true → r.half.line ≡ l → run_in l (code ".") b ≡ true
+    → read b r ≡ told (with_half (after_run b r.half) r) (b ∷ []) 1
+unfolding last_by
+run_first b l r none free line p =
+    run_step (code ".") b l r none free line p
+    ∙ ap (λ (h : Half). told (with_half h r) (b ∷ []) 1) (first_by r.half.manual (mark_of b) r.half (no_closer b (first_text l b p)))
+
+run_next : (a b : ℕ) (l : Line) (r : Reader) → r.pending ≡ Nothing → is_open r.half ≡ true → r.half.line ≡ l → run_in l a b ≡ true
+    → read b (with_half (after_run a r.half) r) ≡ told (with_half (after_run b r.half) r) (b ∷ []) 1
+unfolding last_by
+run_next a b l r none free line p =
+    let m = r.half.manual in
     let x = mark_of a in
-    let s = with_half (taken_as_is a r.half) r in
-    let still : is_open s.half ≡ true = ap is_open is ∙ placed_open x r.half ∙ free in
-    let there : s.half.line ≡ l = ap (λ (h : Half). h.line) is ∙ placed_line x r.half ∙ line in
-    run_step b l s none still there q
-    ∙ ap (λ (h : Half). told (with_half h r) (b ∷ []) 1) (taken_twice a b r.half first second here next (no_closer b (is_text l b q)))
+    let s = with_half (after_run a r.half) r in
+    run_step a b l s none (last_open m x r.half ∙ free) (last_line m x r.half ∙ line) p
+    ∙ ap (λ (h : Half). told (with_half h r) (b ∷ []) 1) (next_by m x (mark_of b) r.half refl (no_end a b (is_run l a b p)))
 
 run_passes : (n : ℕ) (bs : List ℕ) (l : Line) (r : Reader) → r.pending ≡ Nothing → is_open r.half ≡ true → r.half.line ≡ l
-    → ((i : ℕ) → i < n + 1 → run_in l (get_or bs i 0) ≡ true) → n < length bs
-    → Passes (n + 1) bs r (with_half (taken_as_is (get_or bs n 0) r.half) r)
+    → ((i : ℕ) → i < n + 1 → run_in l (get_or (code "." ∷ bs) i 0) (get_or bs i 0) ≡ true) → n < length bs
+    → Passes (n + 1) bs r (with_half (after_run (get_or bs n 0) r.half) r)
 run_passes zero bs l r none free line goes within =
-    Passes-more r r (with_half (taken_as_is (get_or bs 0 0) r.half) r) bs 0 refl within
-    (run_step (get_or bs 0 0) l r none free line (goes 0 (omega arith)))
+    Passes-more r r (with_half (after_run (get_or bs 0 0) r.half) r) bs 0 refl within
+    (run_first (get_or bs 0 0) l r none free line (goes 0 (omega arith)))
 run_passes (suc n) bs l r none free line goes within =
-    let s = with_half (taken_as_is (get_or bs n 0) r.half) r in
+    let s = with_half (after_run (get_or bs n 0) r.half) r in
     let P : ℕ → Type 0 = λ k. Passes k bs r s in
     let before : Passes (suc n) bs r s =
     subst P (add-one n) (run_passes n bs l r none free line (λ i below. goes i (omega arith)) (omega arith)) in
-    Passes-more r s (with_half (taken_as_is (get_or bs (suc n) 0) r.half) r) bs (suc n) before within
-    (run_next (get_or bs n 0) (get_or bs (suc n) 0) l r none free line (goes n (omega arith)) (goes (suc n) (omega arith)))
+    Passes-more r s (with_half (after_run (get_or bs (suc n) 0) r.half) r) bs (suc n) before within
+    (run_next (get_or bs n 0) (get_or bs (suc n) 0) l r none free line (goes (suc n) (omega arith)))
 
-run_at-is : (l : Line) (bs : List ℕ) → 0 < run_at l bs → run_at l bs ≡ prefix_len (run_in l) bs
+run_at-goes : (l : Line) (bs : List ℕ) (i : ℕ) → i < run_at l bs → run_in l (get_or (code "." ∷ bs) i 0) (get_or bs i 0) ≡ true
 unfolding run_in
-run_at-is lines.Text bs some = refl
-run_at-is lines.Request bs some = refl
-run_at-is lines.Stored bs some = refl
-run_at-is (lines.Words words) bs some = refl
-run_at-is line bs some = absurd (omega arith)
+run_at-goes lines.Text bs i h = run_goes (code ".") bs i h
+run_at-goes lines.Request bs i h = run_goes (code ".") bs i h
+run_at-goes lines.Stored bs i h = run_goes (code ".") bs i h
+run_at-goes (lines.Words words) bs i h = prefix_len_passes (goes_on_word words) bs i 0 h
+run_at-goes line bs i h = absurd (omega arith)
+
+run_at-within : (l : Line) (bs : List ℕ) → run_at l bs ≤ length bs
+run_at-within lines.Text bs = run_within (code ".") bs
+run_at-within lines.Request bs = run_within (code ".") bs
+run_at-within lines.Stored bs = run_within (code ".") bs
+run_at-within (lines.Words words) bs = prefix_len-le-length (goes_on_word words) bs
+run_at-within line bs = omega arith
 
 run_plain : (x : Bool) (l : Line) (bs : List ℕ) → 0 < (if x then run_at l bs else 0) → x ≡ true
 run_plain true l bs some = refl
 run_plain false l bs some = absurd (omega arith)
 
 pub run_all : (n : ℕ) (bs : List ℕ) (r : Reader) → r.pending ≡ Nothing → n ≡ run_len bs r.half → 0 < n
-    → Passes n bs r (with_half (taken_as_is (get_or bs (n - 1) 0) r.half) r)
+    → Passes n bs r (with_half (after_run (get_or bs (n - 1) 0) r.half) r)
 run_all n bs r none is some =
     let l = r.half.line in
     let has : 0 < run_len bs r.half = subst (λ (k : ℕ). 0 < k) is some in
     let free = run_plain (is_open r.half) l bs has in
-    let there : run_len bs r.half ≡ run_at l bs = ap (λ (x : Bool). if x then run_at l bs else 0) free in
-    let at : 0 < run_at l bs = subst (λ (k : ℕ). 0 < k) there has in
-    let all : n ≡ prefix_len (run_in l) bs = is ∙ there ∙ run_at-is l bs at in
-    let within : prefix_len (run_in l) bs ≤ length bs = prefix_len-le-length (run_in l) bs in
+    let all : n ≡ run_at l bs = is ∙ ap (λ (x : Bool). if x then run_at l bs else 0) free in
+    let within : run_at l bs ≤ length bs = run_at-within l bs in
     let back : n - 1 + 1 ≡ n = omega arith in
-    let P : ℕ → Type 0 = λ k. Passes k bs r (with_half (taken_as_is (get_or bs (n - 1) 0) r.half) r) in
+    let P : ℕ → Type 0 = λ k. Passes k bs r (with_half (after_run (get_or bs (n - 1) 0) r.half) r) in
     subst P back (run_passes (n - 1) bs l r none free refl
-    (λ i below. prefix_len_passes (run_in l) bs i 0 (omega arith)) (omega arith))
+    (λ i below. run_at-goes l bs i (omega arith)) (omega arith))

@@ -20,6 +20,7 @@ pub mod Spots
 pub mod Steps
 pub mod Taking
 pub mod TextGoes
+pub mod TextRuns
 pub mod TextTable
 pub mod Turning
 pub mod Unchanged

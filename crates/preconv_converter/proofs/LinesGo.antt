@@ -8,9 +8,7 @@ use Rattle.preconv_converter.specs.declared.target.Target.{Target}
 use Rattle.preconv_converter.specs.declared.said.Said.TheVariants as says
 use Rattle.preconv_converter.specs.declared.half.Half.{Half}
 use Rattle.preconv_converter.specs.declared.half.Line.TheVariants as lines
-use Rattle.preconv_converter.specs.declared.half.Before.TheVariants as befores
 use Rattle.preconv_converter.specs.declared.half.Mark.{Mark}
-use Rattle.preconv_converter.specs.declared.half.Mark.TheVariants as marks
 use Rattle.preconv_converter.specs.declared.half.Coming.TheVariants as comings
 use Rattle.preconv_converter.specs.declared.beginnings.Opens.{Opens}
 use Rattle.preconv_converter.specs.declared.beginnings.Opens.TheVariants as opens
@@ -19,8 +17,8 @@ use Rattle.preconv_converter.specs.declared.words.Place.TheVariants as places
 use Rattle.preconv_converter.specs.declared.words.Fonts.{Fonts}
 use Rattle.preconv_converter.specs.declared.words.Fonts.TheVariants as fonts
 use Rattle.preconv_converter.specs.Words.{first_words}
-use Rattle.preconv_converter.specs.Half.{taken, left, next_line}
-use Rattle.preconv_converter.specs.Hyphens.{mark_of, placed, saying, in_text as text_met}
+use Rattle.preconv_converter.specs.Half.{taken, left}
+use Rattle.preconv_converter.specs.Hyphens.{mark_of, placed, saying, in_text as text_met, line_behind}
 use Rattle.preconv_converter.specs.Saying.{all_sent}
 use Rattle.preconv_converter.specs.Beginnings.{opened, said_name}
 use Rattle.preconv_converter.specs.Conditions.{is_gap}
@@ -71,7 +69,7 @@ control_hears n t b h e =
     (same_takes in_control t b (Controls (placed (mark_of b) h)) _ refl is.ascii
     (ap (λ (x : Bool). if x && true then beginning (open_half lines.Start h) else at_start b (open_half lines.Start h)) is.backslash
     ∙ ap (λ (x : Bool). if x then control_met false b (open_half lines.Start h) else if follows_tag h && begins_apart b then breaking b (open_half lines.Start h) else if b == code "\n" then saying b lines.Start (open_half lines.Start h) else text_met b (open_half lines.Start h)) e
-    ∙ ap (λ (x : Bool). taken (says.Byte b) (record (if x then record k { before = befores.Character marks.Other; tag = next_line h.tag } else placed (mark_of b) k) { line = lines.Control })) is.newline
+    ∙ ap (λ (x : Bool). taken (says.Byte b) (record (if x then line_behind k else placed (mark_of b) k) { line = lines.Control })) is.newline
     ∙ ap (taken (says.Byte b)) (control_by h.manual (mark_of b) h)) refl)
 
 -- ---- a name
@@ -176,8 +174,8 @@ rest_byte_at false n t b h is = hears_taken in_rest n t (Rests h) b (same_takes 
 
 rest_newline_at : (x : Bool) (n : ℕ) (t : Target) (h : Half) → Hears begins (suc n) t (stores x h) (code "\n")
 unfolding stores
-rest_newline_at true n t h = hears_taken begins n t (Stores h) (code "\n") (same_takes begins t (code "\n") (Starts (record h { before = befores.Character marks.Other; tag = next_line h.tag })) _ refl refl refl refl)
-rest_newline_at false n t h = hears_taken begins n t (Rests h) (code "\n") (same_takes begins t (code "\n") (Starts (record h { before = befores.Character marks.Other; tag = next_line h.tag })) _ refl refl refl refl)
+rest_newline_at true n t h = hears_taken begins n t (Stores h) (code "\n") (same_takes begins t (code "\n") (Starts (line_behind h)) _ refl refl refl refl)
+rest_newline_at false n t h = hears_taken begins n t (Rests h) (code "\n") (same_takes begins t (code "\n") (Starts (line_behind h)) _ refl refl refl refl)
 
 stores_none : (x : Bool) (h : Half) → held (stores x h) ≡ []
 unfolding stores

@@ -7,8 +7,6 @@ use Rattle.std.proofs.lemmas.List.{take-take}
 use Rattle.preconv_converter.specs.declared.half.Half.{Half}
 use Rattle.preconv_converter.specs.declared.half.Line.{Line}
 use Rattle.preconv_converter.specs.declared.half.Line.TheVariants as lines
-use Rattle.preconv_converter.specs.declared.half.Before.TheVariants as befores
-use Rattle.preconv_converter.specs.declared.half.Mark.TheVariants as marks
 use Rattle.preconv_converter.specs.declared.half.Coming.TheVariants as comings
 use Rattle.preconv_converter.specs.declared.said.Said.{Said}
 use Rattle.preconv_converter.specs.declared.said.Said.TheVariants as says
@@ -23,9 +21,9 @@ use Rattle.preconv_converter.specs.declared.words.Class.TheVariants.{Space, Quot
 use Rattle.preconv_converter.specs.declared.reader.Reader.{Reader}
 use Rattle.preconv_converter.specs.declared.reader.Pending.{Pending}
 use Rattle.preconv_converter.specs.declared.reader.Pending.TheVariants as pendings
-use Rattle.preconv_converter.specs.Half.{Met, taken, left, next_line, is_plain, is_open}
+use Rattle.preconv_converter.specs.Half.{Met, taken, left, is_plain, is_open, is_read}
 use Rattle.preconv_converter.specs.Translations.{translated}
-use Rattle.preconv_converter.specs.Hyphens.{mark_of, followed, gone_by, saying, hyphen, turns_hyphens, carriage_return, is_moved, moved, closes, newline_held, in_text}
+use Rattle.preconv_converter.specs.Hyphens.{mark_of, followed, gone_by, saying, hyphen, turns_hyphens, carriage_return, is_moved, moved, closes, newline_held, in_text, line_behind}
 use Rattle.preconv_converter.specs.Words.{goes_on_at, goes_on_with, goes_on_with_space, spaced_at, after_space, begins_word, is_ninth, class_of, words_at, blank_by, met_at}
 use Rattle.preconv_converter.specs.Words.{is_as_is as word_as_is, taken_as_is as word_taken}
 use Rattle.preconv_converter.specs.Saying.{bytes_of, sent}
@@ -109,7 +107,7 @@ fonts_met : (b : ℕ) (h : Half) → is_moved b h ≡ false → (not (b == code 
 fonts_met b h still p =
     let blank = not (b == code " ") in
     let whole = is_text_as_is b h in
-    ap (λ (x : Bool). if x && not h.table then left (says.Escape (code "&")) (record h { line = lines.Text }) else in_text b h)
+    ap (λ (x : Bool). if x && not (is_read h.table) then left (says.Escape (code "&")) (record h { line = lines.Text }) else in_text b h)
     (is_not (b == code " ") (and-first blank whole p))
     ∙ text_met b h still (and-second blank whole p)
 
@@ -211,7 +209,7 @@ line_met line b h e back still p = absurd (let no : false ≡ true = p in cc)
 -- ---- what is half read then
 
 gone_as : Bool → Bool → ℕ → Half → Half
-gone_as x m b h = if x then record h { before = befores.Character marks.Other; tag = next_line h.tag } else (if m then record h { before = followed (mark_of b) h.before } else h)
+gone_as x m b h = if x then line_behind h else (if m then record h { before = followed (mark_of b) h.before } else h)
 
 gone_line : (x m : Bool) (b : ℕ) (h : Half) (l : Line) → record (gone_as x m b h) { line = l } ≡ gone_as x m b (record h { line = l })
 unfolding gone_as

@@ -1,6 +1,6 @@
 -- No byte goes out that may not.
 use Prim.Native.Char.{code}
-use Rattle.std.proofs.Common.{◌≡◌, ℕ, zero, suc, List, [], ◌∷◌, ◌++◌, Bool, true, false, nat_lt, ◌||◌, if◌then◌else◌, Option, refl, sym, subst, ap}
+use Rattle.std.proofs.Common.{◌≡◌, ℕ, zero, suc, List, [], ◌∷◌, ◌++◌, Bool, true, false, nat_lt, ◌||◌, if◌then◌else◌, refl, sym, subst, ap}
 use Rattle.std.specs.List.{AllPass}
 use Rattle.std.proofs.lemmas.List.Elements.{All-nil, All-cons, All-append}
 use Rattle.preconv_converter.specs.declared.target.Target.{Target}

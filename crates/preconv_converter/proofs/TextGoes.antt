@@ -15,8 +15,8 @@ use Rattle.preconv_converter.specs.declared.half.Mark.{Mark}
 use Rattle.preconv_converter.specs.declared.half.Mark.TheVariants as marks
 use Rattle.preconv_converter.specs.declared.half.Tag.TheVariants as tags
 use Rattle.preconv_converter.specs.declared.half.Coming.TheVariants as comings
-use Rattle.preconv_converter.specs.Half.{Met, taken, left, next_line, is_whole, without_escape, abandoned}
-use Rattle.preconv_converter.specs.Hyphens.{is_ascii_letter, mark_of, placed, saying, in_text as text_met, hyphen, hyphen_by, turns_hyphens, closes, newline_held}
+use Rattle.preconv_converter.specs.Half.{Met, taken, left, is_whole, without_escape, abandoned, is_read, is_format}
+use Rattle.preconv_converter.specs.Hyphens.{is_ascii_letter, mark_of, placed, saying, in_text as text_met, hyphen, hyphen_by, hyphen_at, separated_by, turns_hyphens, closes, newline_held, line_behind, is_flowing}
 use Rattle.preconv_converter.specs.Saying.{bytes_of}
 use Rattle.preconv_converter.specs.Lines.{is_control, control as control_met, follows_tag, begins_apart, breaking, at_start, after_fonts}
 use Rattle.preconv_converter.specs.Meeting.{meet, beginning}
@@ -64,7 +64,7 @@ moved_by false m l k h = refl
 
 pub saying_is : (b : ℕ) (l k : Line) (h : Half) → (b == code "\n") ≡ false → saying b l (open_half k h) ≡ taken (says.Byte b) (open_half l (placed (mark_of b) h))
 saying_is b l k h e =
-    ap (λ (x : Bool). taken (says.Byte b) (record (if x then record (open_half k h) { before = befores.Character marks.Other; tag = next_line h.tag } else placed (mark_of b) (open_half k h)) { line = l })) e
+    ap (λ (x : Bool). taken (says.Byte b) (record (if x then line_behind (open_half k h) else placed (mark_of b) (open_half k h)) { line = l })) e
     ∙ ap (taken (says.Byte b)) (moved_by h.manual (mark_of b) l k h)
 
 -- ---- a hyphen
@@ -84,14 +84,20 @@ whole_takes true P f t h is =
 whole_takes false P f t h is =
     record { next = Holds f (record h { before = befores.Character marks.Other }); there = is.holds _; said = says.Nothing; pieces = []; met = refl; out = refl; all = refl }
 
-pub hyphen_takes : (before : Before) (P : Spot → Bool) (f : Flow) (t : Target) (h : Half) → IsFlow P f → Takes P t [] (code "-") (hyphen_by before (open_half (line_in f) h))
-hyphen_takes (befores.Character marks.Letter) P f t h is = whole_takes (is_whole h.tag) P f t h is
-hyphen_takes (befores.Character marks.Backslash) P f t h is =
+text_hyphen_takes : (before : Before) (P : Spot → Bool) (f : Flow) (t : Target) (h : Half) → IsFlow P f → Takes P t [] (code "-") (hyphen_by before (open_half (line_in f) h))
+text_hyphen_takes (befores.Character marks.Letter) P f t h is = whole_takes (is_whole h.tag) P f t h is
+text_hyphen_takes (befores.Character marks.Backslash) P f t h is =
     record { next = Flows f (record h { before = befores.Character marks.Other }); there = is.flows _; said = says.Byte (code "-"); pieces = Same (code "-") ∷ []; met = refl; out = refl; all = refl }
-hyphen_takes (befores.Character mark) P f t h is =
+text_hyphen_takes (befores.Character mark) P f t h is =
     record { next = Flows f (record h { before = befores.Character marks.Other }); there = is.flows _; said = says.Escape (code "-"); pieces = Hyphen ∷ []; met = refl; out = refl; all = refl }
-hyphen_takes befores.Argument P f t h is =
+text_hyphen_takes befores.Argument P f t h is =
     record { next = Flows f h; there = is.flows _; said = says.Byte (code "-"); pieces = Same (code "-") ∷ []; met = refl; out = refl; all = refl }
+
+pub hyphen_takes : (x : Bool) (before : Before) (P : Spot → Bool) (f : Flow) (t : Target) (h : Half) → IsFlow P f
+    → Takes P t [] (code "-") (hyphen_at x before (open_half (line_in f) h))
+hyphen_takes true before P f t h is =
+    record { next = Flows f (record h { before = befores.Character marks.Other; table = separated_by before }); there = is.flows _; said = says.Byte (code "-"); pieces = Same (code "-") ∷ []; met = refl; out = refl; all = refl }
+hyphen_takes false before P f t h is = text_hyphen_takes before P f t h is
 
 -- ---- a byte in a text line
 
@@ -103,7 +109,7 @@ same_takes P t b next m there ascii met none =
 either_takes : (x y : Bool) (t : Target) (l : Line) (b : ℕ) (h : Half) → IsText b → (b == code "-") ≡ y
     → Takes in_text t [] b (if x && y then hyphen lines.Text (open_half l h) else saying b lines.Text (open_half l h))
 either_takes true true t l b h is e =
-    subst (λ (c : ℕ). Takes in_text t [] c (hyphen_by h.before (open_half lines.Text h))) (sym (same_byte b (code "-") e)) (hyphen_takes h.before in_text Text t h text_flow)
+    subst (λ (c : ℕ). Takes in_text t [] c (hyphen_at (is_format h.table) h.before (open_half lines.Text h))) (sym (same_byte b (code "-") e)) (hyphen_takes (is_format h.table) h.before in_text Text t h text_flow)
 either_takes true false t l b h is e = same_takes in_text t b (Flows Text (placed (mark_of b) h)) _ refl is.ascii (saying_is b lines.Text l h is.newline) refl
 either_takes false y t l b h is e = same_takes in_text t b (Flows Text (placed (mark_of b) h)) _ refl is.ascii (saying_is b lines.Text l h is.newline) refl
 
@@ -128,15 +134,15 @@ text_hears n t b h is = hears_taken in_text n t (Flows Text h) b (takes_as in_te
 ended_takes : (x : Bool) (t : Target) (l : Line) (h : Half)
     → Takes begins t [] (code "\n") (if x then newline_held (open_half l h) else saying (code "\n") lines.Start (open_half l h))
 ended_takes true t l h =
-    record { next = Closes (record h { before = befores.Character marks.Other; tag = next_line h.tag }); there = refl; said = says.Nothing; pieces = []; met = refl; out = refl; all = refl }
+    record { next = Closes (line_behind h); there = refl; said = says.Nothing; pieces = []; met = refl; out = refl; all = refl }
 ended_takes false t l h =
-    record { next = Starts (record h { before = befores.Character marks.Other; tag = next_line h.tag }); there = refl; said = says.Byte (code "\n"); pieces = Same (code "\n") ∷ []; met = refl; out = refl; all = refl }
+    record { next = Starts (line_behind h); there = refl; said = says.Byte (code "\n"); pieces = Same (code "\n") ∷ []; met = refl; out = refl; all = refl }
 
 pub newline_hears : (n : ℕ) (t : Target) (h : Half) → Hears begins (suc n) t (Flows Text h) (code "\n")
 newline_hears n t h = hears_taken begins n t (Flows Text h) (code "\n") (ended_takes (closes h) t lines.Text h)
 
 -- where nothing but fonts was read a blank is printed
-faces_by : (x : Bool) (n : ℕ) (t : Target) (b : ℕ) (h : Half) → IsText b → ((b == code " ") && not h.table) ≡ x → Hears in_text (suc (suc n)) t (Flows Faces h) b
+faces_by : (x : Bool) (n : ℕ) (t : Target) (b : ℕ) (h : Half) → IsText b → ((b == code " ") && not (is_read h.table)) ≡ x → Hears in_text (suc (suc n)) t (Flows Faces h) b
 faces_by true n t b h is e =
     hears_left in_text (suc n) t (Flows Faces h) (Flows Text h) b (says.Escape (code "&")) (Printed ∷ [])
     (ap (λ (x : Bool). if x && true then beginning (open_half lines.Fonts h) else after_fonts b (open_half lines.Fonts h)) is.backslash
@@ -149,7 +155,7 @@ faces_by false n t b h is e =
     (text_takes t lines.Fonts b h is))
 
 pub faces_hears : (n : ℕ) (t : Target) (b : ℕ) (h : Half) → IsText b → Hears in_text (suc (suc n)) t (Flows Faces h) b
-faces_hears n t b h is = faces_by ((b == code " ") && not h.table) n t b h is refl
+faces_hears n t b h is = faces_by ((b == code " ") && not (is_read h.table)) n t b h is refl
 
 pub faces_newline : (n : ℕ) (t : Target) (h : Half) → Hears begins (suc n) t (Flows Faces h) (code "\n")
 faces_newline n t h = hears_taken begins n t (Flows Faces h) (code "\n") (ended_takes (closes h) t lines.Fonts h)
@@ -240,7 +246,7 @@ start_by n t b h is control true apart =
     subst (λ (c : ℕ). Hears in_text (suc (suc n)) t (Starts h) c) (sym e)
     (hears_twice in_text n t (Starts h) (Starts (record h { tag = tags.Nowhere })) (Flows Text (placed (mark_of (code " ")) (record h { tag = tags.Nowhere }))) (code " ") (says.Kept (codes ".br\n")) (says.Byte (code " ")) (BlankBelow ∷ []) refl
     (blank_broken h (subst (λ (c : ℕ). (follows_tag h && begins_apart c) ≡ true) e apart))
-    (blank_taken (record h { tag = tags.Nowhere }) (no_longer (turns_hyphens h) (begins_apart (code " ")))) refl refl)
+    (blank_taken (record h { tag = tags.Nowhere }) (no_longer (is_flowing h) (begins_apart (code " ")))) refl refl)
 
 pub start_hears : (n : ℕ) (t : Target) (b : ℕ) (h : Half) → IsText b → is_control b ≡ false → Hears in_text (suc (suc n)) t (Starts h) b
 start_hears n t b h is control = start_by n t b h is control (follows_tag h && begins_apart b) refl
@@ -250,12 +256,12 @@ empty_by : (x : Bool) (n : ℕ) (t : Target) (h : Half) → follows_tag h ≡ x 
 unfolding below
 empty_by true n t h e =
     let k : Half = record h { tag = tags.Nowhere } in
-    hears_twice begins n t (Starts h) (Starts k) (Starts (record k { before = befores.Character marks.Other })) (code "\n") (says.Kept (codes ".sp")) (says.Byte (code "\n")) (EmptyBelow ∷ []) refl
+    hears_twice begins n t (Starts h) (Starts k) (Starts (line_behind k)) (code "\n") (says.Kept (codes ".sp")) (says.Byte (code "\n")) (EmptyBelow ∷ []) refl
     (ap (λ (x : Bool). if x && true then breaking (code "\n") (open_half lines.Start h) else saying (code "\n") lines.Start (open_half lines.Start h)) e)
-    (ap (λ (x : Bool). if x then breaking (code "\n") (open_half lines.Start k) else saying (code "\n") lines.Start (open_half lines.Start k)) (no_longer (turns_hyphens h) true)) refl refl
+    (ap (λ (x : Bool). if x then breaking (code "\n") (open_half lines.Start k) else saying (code "\n") lines.Start (open_half lines.Start k)) (no_longer (is_flowing h) true)) refl refl
 empty_by false n t h e =
     hears_taken begins (suc n) t (Starts h) (code "\n")
-    (same_takes begins t (code "\n") (Starts (record h { before = befores.Character marks.Other; tag = next_line h.tag })) _ refl refl
+    (same_takes begins t (code "\n") (Starts (line_behind h)) _ refl refl
     (ap (λ (x : Bool). if x && true then breaking (code "\n") (open_half lines.Start h) else saying (code "\n") lines.Start (open_half lines.Start h)) e) refl)
 
 pub empty_hears : (n : ℕ) (t : Target) (h : Half) → Hears begins (suc (suc n)) t (Starts h) (code "\n")

@@ -1,6 +1,6 @@
 -- Plain text is what comes of it.
 use Prim.Native.Char.{code}
-use Rattle.std.proofs.Common.{◌≡◌, ℕ, suc, ◌+◌, ◌≤◌, List, [], ◌∷◌, ◌++◌, length, drop, Bool, true, false, not, ◌==◌, ◌&&◌, ◌||◌, nat_lt, if◌then◌else◌, Option, refl, sym, ◌∙◌, ap, append-nil, arith}
+use Rattle.std.proofs.Common.{◌≡◌, ℕ, suc, ◌+◌, ◌≤◌, List, [], ◌∷◌, ◌++◌, length, drop, Bool, true, false, not, ◌==◌, ◌&&◌, ◌||◌, nat_lt, if◌then◌else◌, refl, sym, ◌∙◌, ap, append-nil, arith}
 use Rattle.std.proofs.lemmas.List.{drop_all}
 use Rattle.preconv_converter.specs.declared.target.Target.{Target}
 use Rattle.preconv_converter.specs.declared.half.Half.{Half}

@@ -12,14 +12,12 @@ use Rattle.preconv_converter.specs.declared.words.Class.TheVariants.{Space, Quot
 use Rattle.preconv_converter.specs.declared.half.Half.{Half}
 use Rattle.preconv_converter.specs.declared.half.Line.{Line}
 use Rattle.preconv_converter.specs.declared.half.Line.TheVariants as lines
-use Rattle.preconv_converter.specs.declared.half.Before.TheVariants.{Character}
 use Rattle.preconv_converter.specs.declared.half.Mark.{Mark}
-use Rattle.preconv_converter.specs.declared.half.Mark.TheVariants as marks
 use Rattle.preconv_converter.specs.declared.half.Coming.TheVariants as comings
 use Rattle.preconv_converter.specs.declared.reader.Reader.{Reader}
 use Rattle.preconv_converter.specs.declared.reader.Pending.TheVariants.{Nothing, One}
-use Rattle.preconv_converter.specs.Half.{Met, taken, left, next_line, is_plain, is_open}
-use Rattle.preconv_converter.specs.Hyphens.{mark_of, placed, gone_by, saying, hyphen, turns_hyphens, is_closer}
+use Rattle.preconv_converter.specs.Half.{Met, taken, left, is_plain, is_open}
+use Rattle.preconv_converter.specs.Hyphens.{mark_of, placed, gone_by, saying, hyphen, turns_hyphens, is_closer, line_behind}
 use Rattle.preconv_converter.specs.Words.{begins_word, is_ninth, class_of, met_at, begun, font_said, inside}
 use Rattle.preconv_converter.specs.Saying.{bytes_of, sent}
 use Rattle.preconv_converter.specs.Escapes.{in_escape}
@@ -41,7 +39,7 @@ moved_by true x w v h = refl
 moved_by false x w v h = refl
 
 moved : (x : Bool) (b : ℕ) (w v : Words) (h : Half) → x ≡ false
-    → record (if x then record h { line = lines.Words w; before = Character marks.Other; tag = next_line h.tag } else placed (mark_of b) (record h { line = lines.Words w })) { line = lines.Words v }
+    → record (if x then line_behind (record h { line = lines.Words w }) else placed (mark_of b) (record h { line = lines.Words w })) { line = lines.Words v }
     ≡ record (placed (mark_of b) h) { line = lines.Words v }
 moved true b w v h e = absurd (let no : true ≡ false = e in cc)
 moved false b w v h e = moved_by h.manual (mark_of b) w v h
@@ -136,7 +134,7 @@ word_heard b w r free line text class between few =
     ∙ ap (λ (n : Met). behind [] 1 (behind (bytes_of e n.said) 1 (if n.takes then told (with_half n.half r) [] 0 else heard_in 4 c (with_half n.half r)))) (second_met b w p text class open_p)
     ∙ ap (λ (n : Met). behind [] 1 (behind [] 1 (behind (bytes_of e n.said) 1 (if n.takes then told (with_half n.half r) [] 0 else heard_in 3 c (with_half n.half r))))) (third_met b w q text class open_q)
     ∙ ap (λ (k : Half). told (with_half (record k { line = lines.Words (inside w) }) r) (sent e b ∷ []) 3) (thrice m h (no_closer b text))
-    ∙ ap (λ (x : Bool). told (with_half (record (if x then record h { before = Character marks.Other; tag = next_line h.tag } else placed m h) { line = lines.Words (inside w) }) r) (sent e b ∷ []) 3) (sym (no_newline b text))
+    ∙ ap (λ (x : Bool). told (with_half (record (if x then line_behind h else placed m h) { line = lines.Words (inside w) }) r) (sent e b ∷ []) 3) (sym (no_newline b text))
     ∙ ap (λ (x : ℕ). told (with_half (after_word w b h) r) (x ∷ []) 3) (sent_is e b (ascii-goes e b (is_ascii b text)))
 
 between_is : (place : Place) → is_between place ≡ true → place ≡ Between

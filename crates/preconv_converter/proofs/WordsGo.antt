@@ -7,8 +7,6 @@ use Rattle.preconv_converter.specs.declared.said.Said.TheVariants as says
 use Rattle.preconv_converter.specs.declared.half.Half.{Half}
 use Rattle.preconv_converter.specs.declared.half.Line.{Line}
 use Rattle.preconv_converter.specs.declared.half.Line.TheVariants as lines
-use Rattle.preconv_converter.specs.declared.half.Before.TheVariants as befores
-use Rattle.preconv_converter.specs.declared.half.Mark.TheVariants as marks
 use Rattle.preconv_converter.specs.declared.half.Coming.TheVariants as comings
 use Rattle.preconv_converter.specs.declared.words.Words.{Words}
 use Rattle.preconv_converter.specs.declared.words.Told.{Told as WordsTold}
@@ -18,8 +16,8 @@ use Rattle.preconv_converter.specs.declared.words.Place.{Place}
 use Rattle.preconv_converter.specs.declared.words.Place.TheVariants as places
 use Rattle.preconv_converter.specs.declared.words.Class.{Class}
 use Rattle.preconv_converter.specs.declared.words.Class.TheVariants.{Space, Quote as QuoteClass, Other}
-use Rattle.preconv_converter.specs.Half.{Met, taken, left, next_line}
-use Rattle.preconv_converter.specs.Hyphens.{mark_of, placed, gone_by, saying, hyphen, hyphen_by, turns_hyphens}
+use Rattle.preconv_converter.specs.Half.{Met, taken, left, is_format}
+use Rattle.preconv_converter.specs.Hyphens.{mark_of, placed, gone_by, saying, hyphen, hyphen_at, turns_hyphens, line_behind}
 use Rattle.preconv_converter.specs.Saying.{bytes_of, sent}
 use Rattle.preconv_converter.specs.Words.{begins_word, is_ninth, class_of, words_at, begun, turned, met_at, blank_by}
 use Rattle.preconv_converter.specs.Words.{has_hyphens as words_have}
@@ -37,7 +35,7 @@ as_is told h = record { half = open_half (lines.Words told.words) h; said = told
 
 pub as_met_is : (told : WordsTold) (b : ℕ) (l : Line) (h : Half) → (b == code "\n") ≡ false → as_met told (gone_by b (open_half l h)) ≡ as_is told (placed (mark_of b) h)
 as_met_is told b l h e =
-    ap (λ (x : Bool). as_met told (if x then record (open_half l h) { before = befores.Character marks.Other; tag = next_line h.tag } else placed (mark_of b) (open_half l h))) e
+    ap (λ (x : Bool). as_met told (if x then line_behind (open_half l h) else placed (mark_of b) (open_half l h))) e
     ∙ ap (λ (k : Half). record { half = k; said = told.said; takes = told.takes }) (moved_by h.manual (mark_of b) (lines.Words told.words) l h)
 
 word_met : (b : ℕ) (w : Words) (h : Half) → IsText b
@@ -109,9 +107,9 @@ pub quoted_flow : (w : Words) → IsFlow in_quotes (Among places.Quoted w)
 quoted_flow w = record { flows = λ h. refl; holds = λ h. refl }
 
 sign_takes : (y : Bool) (P : Spot → Bool) (place : Place) (w : Words) (t : Target) (h : Half) → IsFlow P (Among place w)
-    → Takes P t [] (code "-") (if not y then taken (says.Byte (code "-")) (open_half (lines.Words (words_at place w)) h) else hyphen_by h.before (open_half (lines.Words (words_at place w)) h))
+    → Takes P t [] (code "-") (if not y then taken (says.Byte (code "-")) (open_half (lines.Words (words_at place w)) h) else hyphen_at (is_format h.table) h.before (open_half (lines.Words (words_at place w)) h))
 sign_takes false P place w t h is = same_takes P t (code "-") (Flows (Among place w) h) _ (is.flows h) refl refl refl
-sign_takes true P place w t h is = hyphen_takes h.before P (Among place w) t h is
+sign_takes true P place w t h is = hyphen_takes (is_format h.table) h.before P (Among place w) t h is
 
 goes_by : (x : Bool) (P : Spot → Bool) (place : Place) (w : Words) (t : Target) (b : ℕ) (h k : Half) (m : Met) → IsFlow P (Among place w) → IsText b → (x ≡ true → (b == code "-") ≡ true)
     → m ≡ taken (says.Byte b) (open_half (lines.Words (words_at place w)) k)
@@ -377,18 +375,18 @@ last_quote t p there = absurd (let no : false ≡ true = there in cc)
 -- ---- the line's end
 
 pub newline_rest : (n : ℕ) (t : Target) (h : Half) → Hears begins (suc n) t (Rests h) (code "\n")
-newline_rest n t h = hears_taken begins n t (Rests h) (code "\n") (same_takes begins t (code "\n") (Starts (record h { before = befores.Character marks.Other; tag = next_line h.tag })) _ refl refl refl refl)
+newline_rest n t h = hears_taken begins n t (Rests h) (code "\n") (same_takes begins t (code "\n") (Starts (line_behind h)) _ refl refl refl refl)
 
 newline_met : (x : Bool) (place : Place) (w : Words) (h : Half) → is_ninth w ≡ x → meet (comings.Byte (code "\n")) (open_half (lines.Words (words_at place w)) h)
-    ≡ (if x then left (says.Byte (code "\"")) (open_half lines.Request h) else taken (says.Byte (code "\n")) (open_half lines.Start (record h { before = befores.Character marks.Other; tag = next_line h.tag })))
+    ≡ (if x then left (says.Byte (code "\"")) (open_half lines.Request h) else taken (says.Byte (code "\n")) (open_half lines.Start (line_behind h)))
 newline_met x place w h e =
-    ap (λ (y : Bool). if y then left (says.Byte (code "\"")) (open_half lines.Request h) else taken (says.Byte (code "\n")) (open_half lines.Start (record h { before = befores.Character marks.Other; tag = next_line h.tag }))) e
+    ap (λ (y : Bool). if y then left (says.Byte (code "\"")) (open_half lines.Request h) else taken (says.Byte (code "\n")) (open_half lines.Start (line_behind h))) e
 
 newline_by : (x : Bool) (n : ℕ) (t : Target) (place : Place) (w : Words) (h : Half) → is_ninth w ≡ x → Hears begins (suc (suc n)) t (Flows (Among place w) h) (code "\n")
 newline_by true n t place w h e =
     hears_left begins (suc n) t (Flows (Among place w) h) (Rests h) (code "\n") (says.Byte (code "\"")) (Quote ∷ []) (newline_met true place w h e) refl refl (newline_rest n t h)
 newline_by false n t place w h e =
-    hears_taken begins (suc n) t (Flows (Among place w) h) (code "\n") (same_takes begins t (code "\n") (Starts (record h { before = befores.Character marks.Other; tag = next_line h.tag })) _ refl refl (newline_met false place w h e) refl)
+    hears_taken begins (suc n) t (Flows (Among place w) h) (code "\n") (same_takes begins t (code "\n") (Starts (line_behind h)) _ refl refl (newline_met false place w h e) refl)
 
 pub newline_hears : (n : ℕ) (t : Target) (place : Place) (w : Words) (h : Half) → Hears begins (suc (suc n)) t (Flows (Among place w) h) (code "\n")
 newline_hears n t place w h = newline_by (is_ninth w) n t place w h refl

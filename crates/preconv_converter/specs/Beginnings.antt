@@ -37,14 +37,14 @@ group_of b =
     if b == code "P" then (22, 24) else
     if b == code "R" then (24, 27) else
     if b == code "S" then (27, 33) else
-    if b == code "T" then (33, 40) else
-    if b == code "U" then (40, 43) else
-    if b == code "a" then (43, 45) else
-    if b == code "d" then (45, 47) else
-    if b == code "e" then (47, 48) else
-    if b == code "f" then (48, 49) else
-    if b == code "i" then (49, 52) else
-    if b == code "t" then (52, 53) else
+    if b == code "T" then (33, 41) else
+    if b == code "U" then (41, 44) else
+    if b == code "a" then (44, 46) else
+    if b == code "d" then (46, 48) else
+    if b == code "e" then (48, 49) else
+    if b == code "f" then (49, 50) else
+    if b == code "i" then (50, 53) else
+    if b == code "t" then (53, 54) else
     (0, 0)
 
 abbrev pub group : ℕ → List (ℕ × ℕ × Opens)

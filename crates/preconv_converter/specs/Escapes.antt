@@ -12,7 +12,7 @@ use Rattle.preconv_converter.specs.Hyphens.{placed, after_hyphen, after_sentence
 use Rattle.preconv_converter.specs.Endings.{ended, ends_with}
 use Rattle.preconv_converter.specs.Skipping.{skip_from, skipped, embedded}
 use Rattle.preconv_converter.specs.Letters.{newline_hidden, after_backslash}
-use Rattle.preconv_converter.specs.Spelling.{target, pair, spelled_up_to, delimiter, bracketed, nested}
+use Rattle.preconv_converter.specs.Spelling.{target, font_escape, pair, spelled_up_to, delimiter, bracketed, nested}
 
 abbrev pub argument : ℕ → Half → Met
 argument b h =
@@ -28,6 +28,7 @@ in_part escapes.Plain b h = abandoned h
 in_part escapes.Begun b h = after_backslash b h
 in_part escapes.Argument b h = argument b h
 in_part (escapes.Target kind) b h = target kind b h
+in_part escapes.FontEscape b h = font_escape b h
 in_part (escapes.Pair kind) b h = pair kind b h
 in_part (escapes.Bracket kind) b h = bracketed kind b h
 in_part (escapes.Nested kind) b h = nested kind b h

@@ -7,8 +7,11 @@ use Rattle.preconv_converter.specs.declared.half.Half.{Half}
 use Rattle.preconv_converter.specs.declared.half.Seen.{Seen}
 use Rattle.preconv_converter.specs.declared.half.Line.{Line}
 use Rattle.preconv_converter.specs.declared.half.Line.TheVariants as lines
+use Rattle.preconv_converter.specs.declared.half.Before.{Before}
 use Rattle.preconv_converter.specs.declared.half.Before.TheVariants.{Character}
-use Rattle.preconv_converter.specs.declared.half.Mark.TheVariants.{Other}
+use Rattle.preconv_converter.specs.declared.half.Mark.TheVariants.{Other, Stop}
+use Rattle.preconv_converter.specs.declared.half.Table.{Table}
+use Rattle.preconv_converter.specs.declared.half.Table.TheVariants as tables
 use Rattle.preconv_converter.specs.declared.half.Tag.{Tag}
 use Rattle.preconv_converter.specs.declared.half.Tag.TheVariants as tags
 use Rattle.preconv_converter.specs.declared.half.Pair.{Pair}
@@ -48,7 +51,7 @@ first_half =
       dashes = false;
       quotes = false;
       manual = false;
-      table = false;
+      table = tables.Nowhere;
       before = Character Other;
       tag = tags.Nowhere;
       font = code "R";
@@ -112,6 +115,28 @@ is_whole tag = false
 abbrev pub is_in_last : Tag → Bool
 is_in_last tags.InLast = true
 is_in_last tag = false
+
+abbrev pub is_read : Table → Bool
+is_read tables.Nowhere = false
+is_read table = true
+
+abbrev pub is_format : Table → Bool
+is_format tables.Format = true
+is_format table = false
+
+abbrev pub is_separated : Table → Bool
+is_separated tables.Separated = true
+is_separated table = false
+
+-- a format begins, of a table or of more rows of it
+abbrev pub with_format : Table → Table
+with_format tables.Separated = tables.Separated
+with_format table = tables.Format
+
+-- what is read of a table when a line ends, before whose end this stands: a format ends with a dot
+abbrev pub table_behind : Table → Before → Table
+table_behind tables.Format (Character Stop) = tables.Rows
+table_behind table before = table
 
 -- a blank that isn't what separates words
 abbrev pub is_space : ℕ → Bool

@@ -10,10 +10,12 @@ use Rattle.preconv_converter.specs.declared.half.Before.{Before}
 use Rattle.preconv_converter.specs.declared.half.Before.TheVariants.{Character, Argument}
 use Rattle.preconv_converter.specs.declared.half.Mark.{Mark}
 use Rattle.preconv_converter.specs.declared.half.Mark.TheVariants.{Letter, Opening, Quote, Stop, Closing, Closed, Backslash, Other}
+use Rattle.preconv_converter.specs.declared.half.Table.{Table}
+use Rattle.preconv_converter.specs.declared.half.Table.TheVariants as tables
 use Rattle.preconv_converter.specs.declared.half.Escape.TheVariants as escapes
 use Rattle.preconv_converter.specs.Numbers.{is_within}
 use Rattle.preconv_converter.specs.Likeness.{is_latin_letter}
-use Rattle.preconv_converter.specs.Half.{Met, taken, left, next_line, is_whole, character_said, without_escape, abandoned}
+use Rattle.preconv_converter.specs.Half.{Met, taken, left, next_line, is_whole, is_read, is_format, is_separated, table_behind, character_said, without_escape, abandoned}
 use Rattle.preconv_converter.specs.Translations.{translated}
 use Rattle.preconv_converter.specs.Words.{has_hyphens as words_have}
 
@@ -77,9 +79,12 @@ followed mark (Character before) = Character (mark_after before mark)
 abbrev pub placed : Mark → Half → Half
 placed mark h = if h.manual then record h { before = followed mark h.before } else h
 
+-- a line ends
+abbrev pub line_behind : Half → Half
+line_behind h = record h { before = Character Other; tag = next_line h.tag; table = table_behind h.table h.before }
+
 abbrev pub gone_by : ℕ → Half → Half
-gone_by b h =
-    if b == code "\n" then record h { before = Character Other; tag = next_line h.tag } else placed (mark_of b) h
+gone_by b h = if b == code "\n" then line_behind h else placed (mark_of b) h
 
 -- a word begins there that no blank stands before
 abbrev pub is_begun : Before → Bool
@@ -96,9 +101,13 @@ leaving_hyphens h = if h.manual then record h { before = Argument } else h
 
 -- ---- hyphens
 
--- they are read after a title, and in no table
+-- they are read after a title, and in no table whose fields a hyphen separates
 abbrev pub turns_hyphens : Half → Bool
-turns_hyphens h = h.manual && not h.table
+turns_hyphens h = h.manual && not (is_separated h.table)
+
+-- text is that of a manual page, and of no table
+abbrev pub is_flowing : Half → Bool
+is_flowing h = h.manual && not (is_read h.table)
 
 -- After a letter what comes decides, but in a tag or an address; else it goes out as `\-`, after which no line is broken. One
 -- that copying a macro's word makes `\-` stays.
@@ -110,6 +119,16 @@ hyphen_by (Character Backslash) h = taken (says.Byte (code "-")) (record h { bef
 hyphen_by (Character mark) h = taken (says.Escape (code "-")) (record h { before = Character Other })
 hyphen_by Argument h = taken (says.Byte (code "-")) h
 
+-- in a format one stays, and after a bracket, as in `tab(-)`, it separates fields
+abbrev pub separated_by : Before → Table
+separated_by (Character Opening) = tables.Separated
+separated_by before = tables.Format
+
+abbrev pub hyphen_at : Bool → Before → Half → Met
+hyphen_at true before h =
+    taken (says.Byte (code "-")) (record h { before = Character Other; table = separated_by before })
+hyphen_at false before h = hyphen_by before h
+
 abbrev pub has_hyphens : Line → Bool
 has_hyphens (lines.Words words) = words_have words
 has_hyphens line = true
@@ -118,7 +137,7 @@ has_hyphens line = true
 abbrev pub hyphen : Line → Half → Met
 hyphen line h =
     if not (has_hyphens line) then taken (says.Byte (code "-")) (record h { line = line })
-    else hyphen_by h.before (record h { line = line })
+    else hyphen_at (is_format h.table) h.before (record h { line = line })
 
 -- between letters it stays, and so does one before an escape, which may be that of a font
 abbrev pub after_hyphen : ℕ → Half → Met
@@ -152,7 +171,7 @@ is_closed (Character Closed) = true
 is_closed before = false
 
 abbrev pub closes : Half → Bool
-closes h = turns_hyphens h && not h.defining && is_closed h.before
+closes h = is_flowing h && not h.defining && is_closed h.before
 
 abbrev pub newline_held : Half → Met
 newline_held h =
@@ -191,4 +210,4 @@ begins_line lines.Braced = true
 begins_line line = false
 
 abbrev pub may_hang : Half → Bool
-may_hang h = turns_hyphens h && begins_line h.line
+may_hang h = is_flowing h && begins_line h.line

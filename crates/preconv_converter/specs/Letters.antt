@@ -13,7 +13,7 @@ use Rattle.preconv_converter.specs.declared.half.Mark.TheVariants.{Backslash, Ot
 use Rattle.preconv_converter.specs.declared.half.Kind.TheVariants as kinds
 use Rattle.preconv_converter.specs.declared.words.Class.TheVariants as classes
 use Rattle.preconv_converter.specs.declared.words.Told.{Told}
-use Rattle.preconv_converter.specs.Half.{Met, taken, left, is_text, takes_brace, without_escape}
+use Rattle.preconv_converter.specs.Half.{Met, taken, left, is_text, is_read, takes_brace, without_escape}
 use Rattle.preconv_converter.specs.Hyphens.{placed, begins_after, leaving_hyphens, may_hang}
 use Rattle.preconv_converter.specs.Words.{met_words, begins_word}
 use Rattle.preconv_converter.specs.Endings.{with_byte, keeping, going_on, ended, ends_with, dropped, kept_or}
@@ -66,7 +66,7 @@ is_skipped b = (b == code "H") || (b == code "R") || (b == code "S") || (b == co
 
 -- in a table `\R` and a character is a field, the character repeated (tbl(1))
 abbrev pub repeats : ℕ → Half → Bool
-repeats b h = (b == code "R") && h.table
+repeats b h = (b == code "R") && is_read h.table
 
 -- `\'` is an acute accent (groff_char(7))
 abbrev pub acute : Half → Met
@@ -88,7 +88,7 @@ backslash h = ended (says.Kept (with_byte (code "\\") h.kept)) (placed (copied_m
 -- table it is a row.
 abbrev pub dot : Half → Met
 dot h =
-    if h.defining || h.table || not (is_start h.line) then ends_with (code ".") h
+    if h.defining || is_read h.table || not (is_start h.line) then ends_with (code ".") h
     else control false (code ".") (without_escape h)
 
 -- By the byte after the backslash. `\:` is a place to cut a word; `\%` is none after an opening bracket or a quote, where it only keeps a

@@ -9,6 +9,11 @@ use Rattle.preconv_converter.specs.declared.half.Line.{Line}
 use Rattle.preconv_converter.specs.declared.half.Line.TheVariants as lines
 use Rattle.preconv_converter.specs.declared.half.Tag.{Tag}
 use Rattle.preconv_converter.specs.declared.half.Tag.TheVariants as tags
+use Rattle.preconv_converter.specs.declared.half.Table.{Table}
+use Rattle.preconv_converter.specs.declared.half.Table.TheVariants as tables
+use Rattle.preconv_converter.specs.declared.half.Before.{Before}
+use Rattle.preconv_converter.specs.declared.half.Before.TheVariants as befores
+use Rattle.preconv_converter.specs.declared.half.Mark.TheVariants as marks
 use Rattle.preconv_converter.specs.declared.half.Pair.{Pair}
 use Rattle.preconv_converter.specs.declared.half.Pair.TheVariants.{First, Second, Other as OtherPair}
 use Rattle.preconv_converter.specs.declared.half.Dots.{Dots}
@@ -20,11 +25,11 @@ use Rattle.preconv_converter.specs.declared.words.Told.{Told}
 use Rattle.preconv_converter.specs.declared.words.Fonts.TheVariants.{Tag as TagFonts}
 use Rattle.preconv_converter.specs.declared.words.Class.{Class}
 use Rattle.preconv_converter.specs.declared.words.Class.TheVariants.{Other}
-use Rattle.preconv_converter.specs.Half.{Met, taken, left, is_in_last, character_said, with_text}
+use Rattle.preconv_converter.specs.Half.{Met, taken, left, is_in_last, is_read, with_format, character_said, with_text}
 use Rattle.preconv_converter.specs.Translations.{translated, with_pair}
 use Rattle.preconv_converter.specs.Beginnings.{opened, said_name, is_roman}
 use Rattle.preconv_converter.specs.Faces.{in_face, face_ended}
-use Rattle.preconv_converter.specs.Hyphens.{wide_mark, placed, gone_by, showing, carriage_return, is_moved, saying, in_text, hyphen, turns_hyphens}
+use Rattle.preconv_converter.specs.Hyphens.{wide_mark, placed, gone_by, showing, carriage_return, is_moved, saying, in_text, hyphen, turns_hyphens, is_flowing}
 use Rattle.preconv_converter.specs.Conditions.{is_gap, before_condition, in_number, in_strings, in_asked}
 use Rattle.preconv_converter.specs.Words.{first_words, begins_word, is_ninth, met_words, class_of}
 
@@ -42,7 +47,7 @@ control conditional b h = saying b lines.Control (record h { name = []; conditio
 
 -- the line before has the tag of a paragraph
 abbrev pub follows_tag : Half → Bool
-follows_tag h = turns_hyphens h && is_in_last h.tag
+follows_tag h = is_flowing h && is_in_last h.tag
 
 -- Text stands beside the tag that waits for it, where an empty line, or one that begins with a blank, would only end a
 -- word. The request breaks.
@@ -61,7 +66,7 @@ at_start b h =
 -- Blanks before the first word of a filled line are dropped. After fonts they are printed, as are those between words.
 abbrev pub after_fonts : ℕ → Half → Met
 after_fonts b h =
-    if (b == code " ") && not h.table then left (Escape (code "&")) (record h { line = lines.Text })
+    if (b == code " ") && not (is_read h.table) then left (Escape (code "&")) (record h { line = lines.Text })
     else in_text b h
 
 -- after a condition, where blanks are skipped
@@ -115,13 +120,18 @@ defining_by o before = before
 
 -- a title makes a manual page, but in a table it is the end of the table's heading
 abbrev pub manual_by : Opens → Half → Bool
-manual_by opens.Title h = h.manual || not h.table
+manual_by opens.Title h = h.manual || not (is_read h.table)
 manual_by o h = h.manual
 
-abbrev pub table_by : Opens → Bool → Bool
-table_by opens.Table before = true
-table_by opens.TableEnd before = false
-table_by o before = before
+-- the format of a table ends with a dot, but not with that of the line that begins it
+abbrev pub table_by : Opens → Table → Table
+table_by opens.Table table = with_format table
+table_by opens.TableEnd table = tables.Nowhere
+table_by o table = table
+
+abbrev pub before_by : Opens → Before → Before
+before_by opens.Table before = befores.Character marks.Other
+before_by o before = before
 
 -- the tag of a paragraph stands in the same line, or is the next one; an address stands in its line
 abbrev pub tag_by : Opens → Tag → Tag
@@ -136,6 +146,7 @@ opening o b h = record h {
   defining = defining_by o h.defining;
   manual = manual_by o h;
   table = table_by o h.table;
+  before = before_by o h.before;
   tag = tag_by o h.tag;
   font = if is_roman o then code "R" else h.font;
   previous = if is_roman o then code "R" else h.previous;

@@ -12,6 +12,7 @@ use Rattle.preconv_converter.specs.declared.half.Line.TheVariants as lines
 use Rattle.preconv_converter.specs.Half.{Met, taken, abandoned, is_plain, is_open}
 use Rattle.preconv_converter.specs.Hyphens.{gone_by, turns_hyphens, carriage_return, closes, after_sentence}
 use Rattle.preconv_converter.specs.Words.{is_as_is as word_as_is, taken_as_is as word_taken}
+use Rattle.preconv_converter.specs.Spelling.{font_left}
 use Rattle.preconv_converter.specs.Escapes.{in_escape}
 use Rattle.preconv_converter.specs.Lines.{is_control, follows_tag, begins_apart, in_line, wide_in_line, takes_escape}
 
@@ -32,6 +33,7 @@ wide_by escapes.Skip c h = taken Nothing h
 wide_by (escapes.Skipped end) c h = taken Nothing h
 wide_by (escapes.Embedded backslash) c h = taken Nothing h
 wide_by escapes.Note c h = taken Nothing h
+wide_by escapes.FontEscape c h = font_left h
 wide_by escapes.Sentence c h = after_sentence (code "?") h
 wide_by escape c h = abandoned h
 

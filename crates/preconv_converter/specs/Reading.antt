@@ -1,5 +1,5 @@
 -- Bytes become characters (RFC 3629; ISO 8859-1), and these are heard.
-use Rattle.std.specs.Prelude.{◌≡◌, ℕ, zero, suc, ◌+◌, ◌*◌, ◌%◌, List, [], ◌∷◌, ◌++◌, take, Bool, ◌==◌, nat_lt, if◌then◌else◌, Option}
+use Rattle.std.specs.Prelude.{◌≡◌, ℕ, zero, suc, ◌+◌, ◌*◌, ◌%◌, List, [], ◌∷◌, ◌++◌, take, Bool, ◌==◌, nat_lt, if◌then◌else◌}
 use Rattle.preconv_converter.specs.declared.target.Target.{Target}
 use Rattle.preconv_converter.specs.declared.half.Half.{Half}
 use Rattle.preconv_converter.specs.declared.half.Coming.{Coming}

@@ -1,16 +1,18 @@
 -- Runs of bytes that only go on a line.
 use Prim.Native.Char.{code}
-use Rattle.std.specs.Prelude.{ℕ, List, [], ◌∷◌, Bool, true, false, not, ◌==◌, ◌&&◌, ◌||◌, nat_lt, if◌then◌else◌, min}
+use Rattle.std.specs.Prelude.{ℕ, suc, List, [], ◌∷◌, get_or, Bool, true, false, not, ◌==◌, ◌&&◌, ◌||◌, nat_lt, if◌then◌else◌, min}
 use Rattle.std.specs.List.{prefix_len}
 use Rattle.nr_units.specs.Name.{capacity}
 use Rattle.preconv_converter.specs.declared.half.Half.{Half}
 use Rattle.preconv_converter.specs.declared.half.Line.{Line}
 use Rattle.preconv_converter.specs.declared.half.Line.TheVariants as lines
 use Rattle.preconv_converter.specs.declared.words.Words.{Words}
-use Rattle.preconv_converter.specs.declared.half.Before.TheVariants.{Character}
+use Rattle.preconv_converter.specs.declared.half.Before.{Before}
+use Rattle.preconv_converter.specs.declared.half.Before.TheVariants.{Character, Argument}
+use Rattle.preconv_converter.specs.declared.half.Mark.{Mark}
 use Rattle.preconv_converter.specs.declared.half.Mark.TheVariants.{Stop, Other}
 use Rattle.preconv_converter.specs.Half.{is_plain, is_open, without_escape, in_text, in_fonts}
-use Rattle.preconv_converter.specs.Hyphens.{placed, gone_by}
+use Rattle.preconv_converter.specs.Hyphens.{mark_of, is_stop, placed, gone_by}
 use Rattle.preconv_converter.specs.Faces.{faced}
 use Rattle.preconv_converter.specs.Numbers.{is_within}
 use Rattle.preconv_converter.specs.declared.beginnings.Opens.{Opens}
@@ -30,16 +32,45 @@ goes_on_text b =
 abbrev pub goes_on_word : Words → ℕ → Bool
 goes_on_word words b = goes_on_text b && goes_on_with (class_of b) words
 
+-- what closes a sentence after a stop
+abbrev pub may_close : ℕ → Bool
+may_close b = (b == code "\"") || (b == code "'") || (b == code ")") || (b == code "*") || (b == code "]")
+
+-- so it goes on a text line or a request after another byte
+abbrev pub goes_on_after : ℕ → ℕ → Bool
+goes_on_after a b = goes_on_text b || (may_close b && not (is_stop a))
+
+-- how many bytes come first, after this one, that only go on such a line
+abbrev pub run_after : ℕ → List ℕ → ℕ
+run_after a [] = 0
+run_after a (b ∷ bs) = if goes_on_after a b then suc (run_after b bs) else 0
+
+-- the byte before a place
+abbrev pub byte_before : List ℕ → ℕ → ℕ
+byte_before bs place = get_or (code "." ∷ bs) place 0
+
+-- where it is not known, a stop may stand before them
+abbrev pub text_run : List ℕ → ℕ
+text_run bs = run_after (code ".") bs
+
 -- how many bytes come first that only go on a line
 abbrev pub run_at : Line → List ℕ → ℕ
-run_at lines.Text bs = prefix_len goes_on_text bs
-run_at lines.Request bs = prefix_len goes_on_text bs
-run_at lines.Stored bs = prefix_len goes_on_text bs
+run_at lines.Text bs = text_run bs
+run_at lines.Request bs = text_run bs
+run_at lines.Stored bs = text_run bs
 run_at (lines.Words words) bs = prefix_len (goes_on_word words) bs
 run_at line bs = 0
 
 abbrev pub run_len : List ℕ → Half → ℕ
 run_len bs h = if is_open h then run_at h.line bs else 0
+
+-- the last of them stands before the next character
+abbrev pub last_before : Mark → Before → Before
+last_before mark Argument = Argument
+last_before mark (Character before) = Character mark
+
+abbrev pub after_run : ℕ → Half → Half
+after_run b h = if h.manual then record h { before = last_before (mark_of b) h.before } else h
 
 -- ---- comments
 

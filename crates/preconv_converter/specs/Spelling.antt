@@ -1,13 +1,14 @@
 -- How the name in an escape is spelled (the groff manual, Identifiers): by one byte, two, or between delimiters.
 use Prim.Native.Char.{code}
-use Rattle.std.specs.Prelude.{ℕ, length, Bool, true, false, not, ◌==◌, ◌&&◌, ◌||◌, if◌then◌else◌}
+use Rattle.std.specs.Prelude.{ℕ, ◌-◌, [], ◌∷◌, length, take, Bool, true, false, not, ◌==◌, ◌&&◌, ◌||◌, if◌then◌else◌}
 use Rattle.preconv_converter.specs.declared.said.Said.TheVariants as says
 use Rattle.preconv_converter.specs.declared.half.Half.{Half}
 use Rattle.preconv_converter.specs.declared.half.Escape.TheVariants as escapes
 use Rattle.preconv_converter.specs.declared.half.Kind.{Kind}
 use Rattle.preconv_converter.specs.declared.half.Kind.TheVariants as kinds
-use Rattle.preconv_converter.specs.Half.{Met, taken, abandoned}
+use Rattle.preconv_converter.specs.Half.{Met, taken, left, without_escape, in_text, abandoned}
 use Rattle.preconv_converter.specs.Endings.{keeping, spelling, going_on, ended_kept}
+use Rattle.preconv_converter.specs.Faces.{font_named}
 use Rattle.preconv_converter.specs.Named.{named}
 
 -- a name of one byte; the language has sizes of one digit
@@ -31,11 +32,33 @@ abbrev pub is_dropped : Kind → Bool
 is_dropped kinds.Dropped = true
 is_dropped kind = false
 
--- one that another escape gives, as `\f\*B`, is left to the formatter
+-- one of these escapes gives a name where it stands: a string, a register, an argument, or what the line goes on with
+abbrev pub gives_name : ℕ → Bool
+gives_name b =
+    (b == code "*") || (b == code "n") || (b == code "$") || (b == code "\\") || (b == code "\"") || (b == code "#")
+    || (b == code "\n")
+
+abbrev pub escaped : Kind → Half → Met
+escaped kinds.Font h = going_on (code "\\") escapes.FontEscape (spelling (code "\\") h)
+escaped kind h = abandoned h
+
+-- The name of no font: what comes is text.
+abbrev pub font_left : Half → Met
+font_left h = record (font_named h) { takes = false }
+
+abbrev pub font_given : Half → Met
+font_given h =
+    left (says.Kept (take (length h.kept - 1) h.kept))
+    (record (in_text (without_escape h)) { escape = escapes.Begun; kept = code "\\" ∷ [] })
+
+abbrev pub font_escape : ℕ → Half → Met
+font_escape b h = if gives_name b then font_given h else font_left h
+
+-- One that another escape gives, as `\f\*B`, is left to the formatter; before any other letter the backslash itself is a font's name.
 abbrev pub target : Kind → ℕ → Half → Met
 target kind b h =
     if b == code "\n" then abandoned h else
-    if (b == code "\\") && not (is_dropped kind) then abandoned h else
+    if (b == code "\\") && not (is_dropped kind) then escaped kind h else
     if b == code "(" then going_on b (escapes.Pair kind) h else
     if b == code "[" then going_on b (escapes.Bracket kind) h else
     if ((b == code "+") || (b == code "-")) && has_sign kind then going_on b (escapes.Target kind) h else

@@ -42,7 +42,7 @@ pub(crate) enum Opens {
     Face,
     /// A paragraph whose tag is the next line.
     Tagged,
-    /// A table.
+    /// A table, or another format of one.
     Table,
     /// Its end.
     TableEnd,
@@ -75,7 +75,7 @@ impl Opens {
 }
 
 /// The names that are of account here, those with the same first byte side by side.
-static OPENING: [(u8, u8, Opens); 53] = [
+static OPENING: [(u8, u8, Opens); 54] = [
     (b'.', b' ', Opens::End),
     (b'A', b'U', Opens::Words(Fonts::One)),
     (b'A', b'I', Opens::Words(Fonts::One)),
@@ -113,6 +113,7 @@ static OPENING: [(u8, u8, Opens); 53] = [
     (b'T', b'P', Opens::Tagged),
     (b'T', b'Q', Opens::Tagged),
     (b'T', b'S', Opens::Table),
+    (b'T', b'&', Opens::Table),
     (b'T', b'E', Opens::TableEnd),
     (b'T', b'L', Opens::Words(Fonts::One)),
     (b'T', b'O', Opens::Words(Fonts::One)),
@@ -253,7 +254,7 @@ fn known_entry(name: &[u8]) -> Option<bool>
 fn group_of(first: u8) -> (usize, usize)
     ensures value { result ≡ group_of first }
     ensures within { result.0 ≤ result.1 }
-    ensures few { result.1 ≤ 53 }
+    ensures few { result.1 ≤ 54 }
 {
     match first {
         b'.' => (0, 1),
@@ -270,14 +271,14 @@ fn group_of(first: u8) -> (usize, usize)
         b'P' => (22, 24),
         b'R' => (24, 27),
         b'S' => (27, 33),
-        b'T' => (33, 40),
-        b'U' => (40, 43),
-        b'a' => (43, 45),
-        b'd' => (45, 47),
-        b'e' => (47, 48),
-        b'f' => (48, 49),
-        b'i' => (49, 52),
-        b't' => (52, 53),
+        b'T' => (33, 41),
+        b'U' => (41, 44),
+        b'a' => (44, 46),
+        b'd' => (46, 48),
+        b'e' => (48, 49),
+        b'f' => (49, 50),
+        b'i' => (50, 53),
+        b't' => (53, 54),
         _ => (0, 0),
     }
 }

@@ -48,6 +48,7 @@ impl Half {
             Escape::Begun => self.after_backslash(byte),
             Escape::Argument => self.argument(byte),
             Escape::Target(kind) => self.target(kind, byte),
+            Escape::FontEscape => self.font_escape(byte),
             Escape::Pair(kind) => self.pair(kind, byte),
             Escape::Bracket(kind) => self.bracketed(kind, byte),
             Escape::Nested(kind) => self.nested(kind, byte),

@@ -1,7 +1,7 @@
 //! What is half read of a page.
 ghost use Rattle.std.specs.Prelude.{◌≡◌, true, false};
 ghost use Rattle.preconv_converter.specs.Named.{is_delimited};
-ghost use Rattle.preconv_converter.specs.Half.{after_other, character_said, first_half, is_beginning, is_space, is_text, is_whole, next_line, takes_brace, with_font, with_text};
+ghost use Rattle.preconv_converter.specs.Half.{after_other, character_said, first_half, is_beginning, is_read, is_space, is_text, is_whole, next_line, table_behind, takes_brace, with_font, with_format, with_text};
 
 use super::likeness::is_blank;
 use super::said::Said;
@@ -131,6 +131,19 @@ pub(crate) enum Tag {
     Address,
 }
 
+/// What is read of a table.
+#[derive(Clone, Copy)]
+pub(crate) enum Table {
+    /// None is read.
+    Nowhere,
+    /// Its options and format, in which a hyphen is no text.
+    Format,
+    /// Its rows.
+    Rows,
+    /// Any of these, where a hyphen separates its fields.
+    Separated,
+}
+
 /// What part of an escape is half read.
 #[derive(Clone, Copy)]
 pub(crate) enum Escape {
@@ -142,6 +155,8 @@ pub(crate) enum Escape {
     Argument,
     /// The letter of an escape with a name.
     Target(Kind),
+    /// `\\f` and a backslash.
+    FontEscape,
     /// `(` and a part of a name of two bytes.
     Pair(Kind),
     /// `[` and a part of a name.
@@ -241,8 +256,8 @@ pub(crate) struct Half {
     pub quotes: bool,
     /// It is a manual page: a title came.
     pub manual: bool,
-    /// A table is read.
-    pub table: bool,
+    /// What is read of a table.
+    pub table: Table,
     /// What stands before the next character, where it is a manual page.
     pub before: Before,
     /// In which line a tag stands.
@@ -366,6 +381,35 @@ impl Tag {
     }
 }
 
+impl Table {
+    /// Whether a table is read.
+    pub(crate) fn is_read(self) -> bool
+        ensures { result ≡ is_read self }
+    {
+        !matches!(self, Table::Nowhere)
+    }
+
+    /// What is read of it when another format begins, or one in a row of them.
+    pub(crate) fn with_format(self) -> Table
+        ensures { result ≡ with_format self }
+    {
+        match self {
+            Table::Separated => Table::Separated,
+            _ => Table::Format,
+        }
+    }
+
+    /// What is read of it when a line ends, before whose end this stands: a format ends with a dot.
+    pub(crate) fn next_line(self, before: Before) -> Table
+        ensures { result ≡ table_behind self before }
+    {
+        match (self, before) {
+            (Table::Format, Before::Character(Mark::Stop)) => Table::Rows,
+            (table, _) => table,
+        }
+    }
+}
+
 impl Escape {
     /// A name between delimiters is read.
     pub(crate) fn is_delimited(self) -> bool
@@ -391,7 +435,7 @@ impl Half {
             dashes: false,
             quotes: false,
             manual: false,
-            table: false,
+            table: Table::Nowhere,
             before: Before::Character(Mark::Other),
             tag: Tag::Nowhere,
             font: b'R',

@@ -1,9 +1,9 @@
 //! Hyphens of a manual page: a line may be broken after one only where it stands between two letters.
-ghost use Rattle.std.specs.Prelude.{◌≡◌};
+ghost use Rattle.std.specs.Prelude.{◌≡◌, true};
 ghost use Rattle.preconv_converter.specs.Half.{met};
 ghost use Rattle.preconv_converter.specs.Hyphens as specs;
 
-use super::half::{Before, Escape, Half, Line, Mark, Seen};
+use super::half::{Before, Escape, Half, Line, Mark, Seen, Table};
 use super::likeness::is_latin_letter;
 use super::said::Said;
 use nr_units::Name;
@@ -63,7 +63,7 @@ fn mark_by(letter: bool, code: u32) -> Mark
 }
 
 /// What an ASCII character is.
-fn mark_of(byte: u8) -> Mark
+pub(crate) fn mark_of(byte: u8) -> Mark
     ensures { result ≡ specs.mark_of byte }
 {
     mark_by(is_ascii_letter(byte), u32::from(byte))
@@ -143,6 +143,7 @@ impl Half {
         ensures { self.new ≡ specs.gone_by byte self.old }
     {
         if byte == b'\n' {
+            self.table = self.table.next_line(self.before);
             self.before = Before::Character(Mark::Other);
             self.tag = self.tag.next_line();
         } else {
@@ -166,11 +167,18 @@ impl Half {
         }
     }
 
-    /// Whether hyphens are read: after a title, and in no table.
+    /// Whether hyphens are read: after a title, and in no table whose fields a hyphen separates.
     pub(crate) fn turns_hyphens(&self) -> bool
         ensures { result ≡ specs.turns_hyphens self.now }
     {
-        self.manual && !self.table
+        self.manual && !matches!(self.table, Table::Separated)
+    }
+
+    /// Whether text is that of a manual page, and of no table.
+    pub(crate) fn is_flowing(&self) -> bool
+        ensures { result ≡ specs.is_flowing self.now }
+    {
+        self.manual && !self.table.is_read()
     }
 
     /// A hyphen among words of which this is a tag or none, or in text. In a tag or an address no line is broken after it.
@@ -181,6 +189,28 @@ impl Half {
         if !has_hyphens(line) {
             return Seen::taken(Said::Byte(b'-'));
         }
+        if matches!(self.table, Table::Format) {
+            return self.format_hyphen();
+        }
+        self.text_hyphen()
+    }
+
+    /// A hyphen in the format of a table. After a bracket, as in `tab(-)`, it separates fields.
+    fn format_hyphen(&mut self) -> Seen
+        ensures { met self.new result ≡ specs.hyphen_at true self.old.before self.old }
+    {
+        self.table = match self.before {
+            Before::Character(Mark::Opening) => Table::Separated,
+            _ => Table::Format,
+        };
+        self.before = Before::Character(Mark::Other);
+        Seen::taken(Said::Byte(b'-'))
+    }
+
+    /// One in text, or in a word that is text.
+    fn text_hyphen(&mut self) -> Seen
+        ensures { met self.new result ≡ specs.hyphen_by self.old.before self.old }
+    {
         let whole = self.tag.is_whole();
         match self.before {
             Before::Character(Mark::Backslash) => {

@@ -98,7 +98,7 @@ impl Half {
     fn dot(&mut self) -> Seen
         ensures { met self.new result ≡ specs.dot self.old }
     {
-        if self.defining || self.table || !matches!(self.line, Line::Start) {
+        if self.defining || self.table.is_read() || !matches!(self.line, Line::Start) {
             return self.ends_with(b'.');
         }
         self.forget();
@@ -109,7 +109,7 @@ impl Half {
     fn repeats(&self, byte: u8) -> bool
         ensures { result ≡ specs.repeats byte self.now }
     {
-        byte == b'R' && self.table
+        byte == b'R' && self.table.is_read()
     }
 
     /// Such a letter. By `\h` at the beginning of a line it may hang.
@@ -128,7 +128,7 @@ impl Half {
     fn may_hang(&self) -> bool
         ensures { result ≡ may_hang self.now }
     {
-        self.turns_hyphens() && matches!(self.line, Line::Start | Line::Braced)
+        self.is_flowing() && matches!(self.line, Line::Start | Line::Braced)
     }
 
     /// A byte after a backslash.

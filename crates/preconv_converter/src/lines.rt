@@ -4,7 +4,7 @@ ghost use Rattle.preconv_converter.specs.Half.{met};
 ghost use Rattle.preconv_converter.specs.Lines as specs;
 
 use super::beginnings::{Opens, opened, said_name};
-use super::half::{Dots, Half, Line, Pair, Seen, Tag};
+use super::half::{Before, Dots, Half, Line, Mark, Pair, Seen, Table, Tag};
 use super::hyphens::wide_mark;
 use super::said::Said;
 use super::words::{Class, Fonts, Words};
@@ -31,7 +31,7 @@ impl Half {
     pub(crate) fn follows_tag(&self) -> bool
         ensures { result ≡ specs.follows_tag self.now }
     {
-        self.turns_hyphens() && matches!(self.tag, Tag::InLast)
+        self.is_flowing() && matches!(self.tag, Tag::InLast)
     }
 
     /// Before a line that is empty or begins with a blank, as this byte says, a request breaks, also where text stands
@@ -149,9 +149,12 @@ impl Half {
             self.previous = b'R';
         }
         match opens {
-            Opens::Title if !self.table => self.manual = true,
-            Opens::Table => self.table = true,
-            Opens::TableEnd => self.table = false,
+            Opens::Title if !self.table.is_read() => self.manual = true,
+            Opens::Table => {
+                self.table = self.table.with_format();
+                self.before = Before::Character(Mark::Other);
+            }
+            Opens::TableEnd => self.table = Table::Nowhere,
             _ => {}
         }
     }
@@ -197,7 +200,7 @@ impl Half {
     fn after_fonts(&mut self, byte: u8) -> Seen
         ensures { met self.new result ≡ specs.after_fonts byte self.old }
     {
-        if byte == b' ' && !self.table {
+        if byte == b' ' && !self.table.is_read() {
             self.line = Line::Text;
             return Seen::left(Said::Escape(b'&'));
         }

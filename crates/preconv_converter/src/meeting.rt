@@ -56,6 +56,7 @@ impl Half {
             Escape::Skip | Escape::Skipped(_) | Escape::Embedded(_) | Escape::Note => {
                 Seen::taken(Said::Nothing)
             }
+            Escape::FontEscape => self.font_left(),
             Escape::Sentence => self.after_sentence(b'?'),
             _ => self.abandoned(),
         }

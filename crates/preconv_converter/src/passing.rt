@@ -67,7 +67,7 @@ impl Reader {
     {
         let run = self.half.run_len(bytes);
         if run > 0 {
-            self.half.takes(bytes[run - 1]);
+            self.half.takes_run(bytes[run - 1]);
         }
         run
     }

@@ -27,7 +27,7 @@ pub(crate) struct Reader {
     pub half: Half,
     /// Of a character.
     pub pending: Pending,
-    /// What bytes from 128 on stand for, if anything.
+    /// What characters beyond ASCII become.
     pub table: Target,
 }
 

@@ -183,8 +183,8 @@ fn run<R: Source, W: Sink>(
 }
 
 /// Turns what the input gives into the language of the formatter, and puts it to the output, which is not
-/// flushed. Characters of the table become its bytes. The buffer, of 1536 bytes at least,
-/// holds what goes out; what it held is of no account. Nothing is allocated.
+/// flushed. Characters beyond ASCII become what the target says. The buffer, of 1536 bytes at
+/// least, holds what goes out; what it held is of no account. Nothing is allocated.
 ///
 /// What goes out is one function of the bytes that came, however they came. At a read fault, and where the
 /// input is too long, it is that of the bytes before, but for a character, an escape or a name that is

@@ -1,10 +1,11 @@
 //! Runs of bytes that only go on a line, which are taken at once.
-ghost use Rattle.std.specs.Prelude.{◌≡◌, ◌+◌, ◌<◌, ◌≤◌, length, true};
+ghost use Rattle.std.specs.Prelude.{◌≡◌, ◌+◌, ◌<◌, ◌≤◌, get_or, length, true, false};
 ghost use Rattle.std.specs.List.{prefix_len};
 ghost use Rattle.preconv_converter.specs.Runs as specs;
 
 use super::beginnings::Opens;
 use super::half::{Before, Escape, Half, Line, Mark};
+use super::hyphens::mark_of;
 use super::words::{Class, Place, Words};
 use nr_units::Name;
 
@@ -12,8 +13,8 @@ use nr_units::Name;
 static TEXT: [u8; 256] =
     *b"-------------------------------- !-#$%&-(--+,-./0123456789:;<=>?@ABCDEFGHIJKLMNOPQRSTUVWXYZ[--^_`abcdefghijklmnopqrstuvwxyz{|}~---------------------------------------------------------------------------------------------------------------------------------";
 
-/// Whether a byte only goes on a text line or a request: it prints, and is neither a hyphen, a backslash nor what
-/// closes a sentence. One look at a table takes half the instructions of comparing with the ends of three ranges.
+/// Whether a byte only goes on a text line or a request, whatever stands before it: it prints, and is neither a hyphen, a
+/// backslash nor what closes a sentence. One look at a table takes half the instructions of comparing with the ends of three ranges.
 fn goes_on_text(byte: u8) -> bool
     ensures { result ≡ specs.goes_on_text byte }
 {
@@ -39,12 +40,54 @@ pub(crate) fn begins_word_with(words: Words, byte: u8) -> bool
         && words.count < 8
 }
 
-/// How many of these bytes come first that only go on a text line or a request.
-fn text_run(bytes: &[u8]) -> usize
+/// What closes a sentence after a stop.
+fn may_close(byte: u8) -> bool
+    ensures { result ≡ specs.may_close byte }
+{
+    matches!(byte, b'"' | b'\'' | b')' | b'*' | b']')
+}
+
+/// Whether a byte only goes on a text line or a request after this one: what may close a sentence does where none has ended.
+fn goes_on_after(before: u8, byte: u8) -> bool
+    ensures { result ≡ specs.goes_on_after before byte }
+{
+    goes_on_text(byte) || (may_close(byte) && !matches!(before, b'.' | b'?' | b'!'))
+}
+
+/// How many of these bytes come first that go on so whatever stands before them.
+fn plain_run(bytes: &[u8]) -> usize
     ensures len { result ≡ prefix_len specs.goes_on_text bytes.now }
     ensures within { result ≤ length bytes.now }
 {
     bytes.iter().take_while(|byte| goes_on_text(**byte)).count()
+}
+
+/// Whether there is a byte at this place that goes on so after the one before it; before the first a stop may stand.
+#[inline(always)]
+fn goes_on_at(bytes: &[u8], place: usize) -> bool
+    ensures goes { result ≡ true → (place < length bytes.now) × (specs.goes_on_after
+        (specs.byte_before bytes.now place) (get_or bytes.now place 0) ≡ true) }
+    ensures ends { result ≡ false → place < length bytes.now → specs.goes_on_after
+        (specs.byte_before bytes.now place) (get_or bytes.now place 0) ≡ false }
+{
+    if place >= bytes.len() {
+        return false;
+    }
+    let before = if place == 0 { b'.' } else { bytes[place - 1] };
+    goes_on_after(before, bytes[place])
+}
+
+/// How many of these bytes come first that only go on a text line or a request.
+fn text_run(bytes: &[u8]) -> usize
+    ensures len { result ≡ specs.text_run bytes.now }
+    ensures within { result ≤ length bytes.now }
+{
+    let mut run = plain_run(bytes);
+    while goes_on_at(bytes, run) {
+        let more = plain_run(&bytes[run + 1..]);
+        run += 1 + more;
+    }
+    run
 }
 
 /// How many of these bytes come first that only go on a word.
@@ -90,6 +133,19 @@ impl Half {
             Line::Text | Line::Request | Line::Stored => text_run(bytes),
             Line::Words(words) => word_run(words, bytes),
             _ => 0,
+        }
+    }
+
+    /// Takes a run that this byte is the last of.
+    #[inline(always)]
+    pub(crate) fn takes_run(&mut self, byte: u8)
+        ensures { self.new ≡ specs.after_run byte self.old }
+    {
+        if !self.manual {
+            return;
+        }
+        if let Before::Character(_) = self.before {
+            self.before = Before::Character(mark_of(byte));
         }
     }
 

@@ -43,7 +43,7 @@ impl Half {
     pub(crate) fn closes(&self) -> bool
         ensures { result ≡ specs.closes self.now }
     {
-        self.turns_hyphens()
+        self.is_flowing()
             && !self.defining
             && matches!(self.before, Before::Character(Mark::Closed))
     }

@@ -5,6 +5,15 @@ ghost use Rattle.preconv_converter.specs.Spelling as specs;
 
 use super::half::{Escape, Half, Kind, Seen};
 use super::said::Said;
+use nr_units::Name;
+
+/// Whether the escape of this letter gives a name where it stands: a string, a register, an argument, or what the line goes on
+/// with.
+fn gives_name(byte: u8) -> bool
+    ensures { result ≡ specs.gives_name byte }
+{
+    matches!(byte, b'*' | b'n' | b'$' | b'\\' | b'"' | b'#' | b'\n')
+}
 
 impl Half {
     /// A name of one byte.
@@ -19,6 +28,51 @@ impl Half {
         }
     }
 
+    /// A backslash after the letter of an escape with a name.
+    fn escaped(&mut self, kind: Kind) -> Seen
+        ensures { met self.new result ≡ specs.escaped kind self.old }
+    {
+        match kind {
+            Kind::Font => {
+                self.spell(b'\\');
+                self.goes_on(b'\\', Escape::FontEscape)
+            }
+            _ => self.abandoned(),
+        }
+    }
+
+    /// The backslash after `\f` is the name of no font, and what comes is text.
+    pub(crate) fn font_left(&mut self) -> Seen
+        ensures { met self.new result ≡ specs.font_left self.old }
+    {
+        let seen = self.font();
+        Seen::left(seen.said)
+    }
+
+    /// It begins an escape that gives the name.
+    fn font_given(&mut self) -> Seen
+        ensures { met self.new result ≡ specs.font_given self.old }
+    {
+        let kept = self.kept;
+        let bytes = kept.as_bytes();
+        let before = Name::of(&bytes[..bytes.len().saturating_sub(1)]);
+        self.forget();
+        self.line = self.line.with_text();
+        self.escape = Escape::Begun;
+        self.kept = Name::of(b"\\");
+        Seen::left(Said::Kept(before))
+    }
+
+    /// A byte after `\f` and a backslash.
+    pub(crate) fn font_escape(&mut self, byte: u8) -> Seen
+        ensures { met self.new result ≡ specs.font_escape byte self.old }
+    {
+        if gives_name(byte) {
+            return self.font_given();
+        }
+        self.font_left()
+    }
+
     /// A byte after the letter of an escape with a name. One that another escape gives, as `\f\*B`, is left to
     /// the formatter.
     pub(crate) fn target(&mut self, kind: Kind, byte: u8) -> Seen
@@ -26,7 +80,7 @@ impl Half {
     {
         match (byte, kind) {
             (b'\n', _) => self.abandoned(),
-            (b'\\', _) if !matches!(kind, Kind::Dropped) => self.abandoned(),
+            (b'\\', _) if !matches!(kind, Kind::Dropped) => self.escaped(kind),
             (b'(', _) => self.goes_on(byte, Escape::Pair(kind)),
             (b'[', _) => self.goes_on(byte, Escape::Bracket(kind)),
             (b'+' | b'-', Kind::Register | Kind::Size) => self.goes_on(byte, Escape::Target(kind)),

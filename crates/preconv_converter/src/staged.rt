@@ -19,14 +19,14 @@ pub struct Turner {
 }
 
 impl Turner {
-    /// A text begins. Bytes from 128 on stand for characters of the table, if there is one.
-    pub fn new(table: Target) -> Turner
-        ensures says { ⟦<Turner as Stage>⟧.says result ≡ said (first_reader table) }
+    /// A text begins, whose characters beyond ASCII become this.
+    pub fn new(characters: Target) -> Turner
+        ensures says { ⟦<Turner as Stage>⟧.says result ≡ said (first_reader characters) }
         ensures fits { ⟦<Turner as Stage>⟧.fits result ≡ fits_always }
         ensures wants { ⟦<Turner as Stage>⟧.wants result ≡ 1536 }
     {
         Turner {
-            reader: Reader::new(table),
+            reader: Reader::new(characters),
         }
     }
 }

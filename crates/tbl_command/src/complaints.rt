@@ -43,9 +43,15 @@ fn put_named<E: Sink>(kind: &Kind, errors: &mut E) -> Result<(), Fault> {
     }
 }
 
-/// Writes the line of a complaint about the text of this name.
-fn put_complaint<E: Sink>(name: &str, complaint: &Complaint, errors: &mut E) -> Result<(), Fault> {
-    put_all(&[b"tbl: ", name.as_bytes(), b":"], errors)?;
+/// Writes the line of a complaint of this program about the text of this name.
+fn put_complaint<E: Sink>(
+    program: &str,
+    name: &str,
+    complaint: &Complaint,
+    errors: &mut E,
+) -> Result<(), Fault> {
+    let (program, name) = (program.as_bytes(), name.as_bytes());
+    put_all(&[program, b": ", name, b":"], errors)?;
     put_number(complaint.line, errors)?;
     put_all(&[b": ", words_of(&complaint.kind)], errors)?;
     put_named(&complaint.kind, errors)?;
@@ -54,38 +60,46 @@ fn put_complaint<E: Sink>(name: &str, complaint: &Complaint, errors: &mut E) -> 
 
 /// Writes a line for each of the complaints, up to the first fault of a write.
 fn put_complaints<E: Sink>(
+    program: &str,
     name: &str,
     complaints: &[Complaint],
     errors: &mut E,
 ) -> Result<(), Fault> {
     for complaint in complaints {
-        put_complaint(name, complaint, errors)?;
+        put_complaint(program, name, complaint, errors)?;
     }
     Ok(())
 }
 
 /// Writes what a report tells beside the complaints, up to the first fault of a write.
-fn put_report<E: Sink>(name: &str, report: Report, errors: &mut E) -> Result<(), Fault> {
+fn put_report<E: Sink>(
+    program: &str,
+    name: &str,
+    report: Report,
+    errors: &mut E,
+) -> Result<(), Fault> {
+    let (program, name) = (program.as_bytes(), name.as_bytes());
     if report.missed {
-        put_all(&[b"tbl: ", name.as_bytes(), b": and more\n"], errors)?;
+        put_all(&[program, b": ", name, b": and more\n"], errors)?;
     }
     if report.uneven {
-        put_all(&[b"tbl: ", name.as_bytes(), UNEVEN], errors)?;
+        put_all(&[program, b": ", name, UNEVEN], errors)?;
     }
     Ok(())
 }
 
-/// Tells the complaints about the tables of the text of this name, as far as `errors` takes it, and whether something
-/// is wrong with them: that one is wider than the line is not, nor that one went out in parts.
+/// This program tells the complaints about the tables of the text of this name, as far as `errors` takes it, and whether
+/// something is wrong with them: that one is wider than the line is not, nor that one went out in parts.
 pub fn tell_complaints<E: Sink>(
+    program: &str,
     name: &str,
     report: Report,
     complaints: &[Complaint],
     errors: &mut E,
 ) -> bool {
-    let written = put_complaints(name, complaints, errors);
+    let written = put_complaints(program, name, complaints, errors);
     if written.is_ok() {
-        let _ = put_report(name, report, errors);
+        let _ = put_report(program, name, report, errors);
     }
     report.missed
         || complaints

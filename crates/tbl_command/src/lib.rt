@@ -9,4 +9,5 @@ mod complaints;
 mod program;
 mod rooms;
 
+pub use complaints::tell_complaints;
 pub use program::Tbl;

@@ -61,7 +61,7 @@ impl Turns for Rooms {
         let mut source = Buffered::over(text, &mut self.input);
         let mut complaints = SliceVec::over(&mut self.complaints);
         let (report, output) = convert(&mut source, output, &mut self.held, &mut complaints);
-        let wrong = tell_complaints(name, report, complaints.as_slice(), errors);
+        let wrong = tell_complaints("tbl", name, report, complaints.as_slice(), errors);
         (ended(report.outcome, wrong), output)
     }
 }

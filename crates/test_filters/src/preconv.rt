@@ -12,7 +12,7 @@ struct Row {
     line: &'static [u8],
 }
 
-static TEXTS: [(&str, Page<'static>); 29] = [
+static TEXTS: [(&str, Page<'static>); 32] = [
     (
         "quotes",
         Page::Bytes(b"\xe2\x80\x9ca\xe2\x80\x9d \\(em \\fIb\\fP\n"),
@@ -39,6 +39,18 @@ static TEXTS: [(&str, Page<'static>); 29] = [
     (
         "blanks",
         Page::Bytes(b"\\fB \\fIa b\n.RB \" a\" \" b\"\n\\fBa b\n.TS\n\\fB a\n.TE\n"),
+    ),
+    (
+        "fields",
+        Page::Bytes(b".TH x\n.TS\nl-l.\n--a\tb-c\n.T&\nl -.\nT{\n[-d]\nT}\n-2\t-\n.TE\n-e\n"),
+    ),
+    (
+        "separated",
+        Page::Bytes(b".TH x\n.TS\ntab(-);\nl l.\na-1\n.T&\nl l.\n-b\n.TE\n-c\n"),
+    ),
+    (
+        "backslashes",
+        Page::Bytes(b"\\f\\firejail \\fBb\\f\\fIc\\fP \\f\\*[B]d\n\\fIa\\f\\\xc3\xa9\n"),
     ),
     ("rows", Page::Bytes(b".TH x\n.TS\nl.\n\\.a\n.TE\n\\.B a\n")),
     (
@@ -103,7 +115,7 @@ static TEXTS: [(&str, Page<'static>); 29] = [
     ("cut", Page::Cut(b"a\\~b\n.BR c\\(l")),
 ];
 
-static ROWS: [Row; 37] = [
+static ROWS: [Row; 40] = [
     Row {
         words: &[b"preconv"],
         output: b"cafe\n",
@@ -200,6 +212,27 @@ static ROWS: [Row; 37] = [
     Row {
         words: &[b"preconv", b"rows"],
         output: b".TH x\n.TS\nl.\n\\.a\n.TE\n.B a\n",
+        status: 0,
+        line: b"",
+    },
+    // Hyphens of rows are those of text; in a format they are left.
+    Row {
+        words: &[b"preconv", b"fields"],
+        output: b".TH x\n.TS\nl-l.\n\\-\\-a\tb-c\n.T&\nl -.\nT{\n[\\-d]\nT}\n\\-2\t\\-\n.TE\n\\-e\n",
+        status: 0,
+        line: b"",
+    },
+    // One may separate fields.
+    Row {
+        words: &[b"preconv", b"separated"],
+        output: b".TH x\n.TS\ntab(-);\nl l.\na-1\n.T&\nl l.\n-b\n.TE\n\\-c\n",
+        status: 0,
+        line: b"",
+    },
+    // A backslash is the name of no font, but where an escape gives the name.
+    Row {
+        words: &[b"preconv", b"backslashes"],
+        output: b"\\fRfirejail \\fBb\\fBfIc\\fP \\f\\*[B]d\n\\fIa\\fIe\n",
         status: 0,
         line: b"",
     },
