@@ -11,10 +11,13 @@ const AHEAD: usize = 4_096;
 /// The most lists and displays of mdoc(7) that are open.
 const MOST_BLOCKS: usize = 64;
 
-/// Places for all that waits while a page is read: 290 kB.
+/// The room for what mdoc makes: more than one of its turns wants, so that it reads many bytes in one.
+const MAN_ROOM: usize = 81_920;
+
+/// Places for all that waits while a page is read: 300 kB.
 #[derive(Drop)]
 pub struct Places {
-    first: [u8; LEAST_ROOM],
+    first: [u8; MAN_ROOM],
     second: [u8; LEAST_ROOM],
     blocks: [Block; MOST_BLOCKS],
     man: [u8; AHEAD],
@@ -27,7 +30,7 @@ impl Places {
     /// Nothing waits.
     pub fn new() -> Places {
         Places {
-            first: [0; LEAST_ROOM],
+            first: [0; MAN_ROOM],
             second: [0; LEAST_ROOM],
             blocks: [Block::NONE; MOST_BLOCKS],
             man: [0; AHEAD],

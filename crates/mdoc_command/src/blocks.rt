@@ -4,6 +4,9 @@ ghost use Rattle.mdoc_command.specs.Blocks as specs;
 
 use nr_units::Name;
 
+/// How many blocks are watched at once.
+pub const MOST_OPEN: usize = 64;
+
 /// A block that is open.
 #[derive(Clone, Copy)]
 pub struct OpenBlock {

@@ -103,32 +103,45 @@ fn put_kind<E: Sink>(kind: Kind, errors: &mut E) -> Result<(), Fault> {
     }
 }
 
-/// Writes the line of a complaint about the text of this name.
-fn put_complaint<E: Sink>(name: &str, complaint: Complaint, errors: &mut E) -> Result<(), Fault> {
+/// Writes the line of a complaint of this program about the text of this name.
+fn put_complaint<E: Sink>(
+    program: &str,
+    name: &str,
+    complaint: Complaint,
+    errors: &mut E,
+) -> Result<(), Fault> {
     let mut digits = Buffer::new();
     let line = digits.format(complaint.line).as_bytes();
-    put_all(&[b"mdoc: ", name.as_bytes(), b":", line, b": "], errors)?;
+    let (program, name) = (program.as_bytes(), name.as_bytes());
+    put_all(&[program, b": ", name, b":", line, b": "], errors)?;
     put_kind(complaint.kind, errors)?;
     errors.put(b"\n")
 }
 
 /// Writes a line for each of the complaints, up to the first fault of a write.
 fn put_complaints<E: Sink>(
+    program: &str,
     name: &str,
     complaints: &[Complaint],
     errors: &mut E,
 ) -> Result<(), Fault> {
     for complaint in complaints {
-        put_complaint(name, *complaint, errors)?;
+        put_complaint(program, name, *complaint, errors)?;
     }
     Ok(())
 }
 
-/// Tells what is told of the text of this name, as far as `errors` takes it, and whether something is.
-pub fn tell_complaints<E: Sink>(name: &str, told: &Told<'_>, errors: &mut E) -> bool {
-    let written = put_complaints(name, told.complaints(), errors);
+/// This program tells what is told of the text of this name, as far as `errors` takes it, and whether something is.
+pub fn tell_complaints<E: Sink>(
+    program: &str,
+    name: &str,
+    told: &Told<'_>,
+    errors: &mut E,
+) -> bool {
+    let written = put_complaints(program, name, told.complaints(), errors);
     if told.has_missed() && written.is_ok() {
-        let _ = put_all(&[b"mdoc: ", name.as_bytes(), b": and more\n"], errors);
+        let (program, name) = (program.as_bytes(), name.as_bytes());
+        let _ = put_all(&[program, b": ", name, b": and more\n"], errors);
     }
     told.has_missed() || !told.complaints().is_empty()
 }

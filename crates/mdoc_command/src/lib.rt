@@ -2,12 +2,13 @@
 //! ended.
 //!
 //! It stands on filters, mdoc_converter, nr_units and nr_vectors. To read: `names`, `lines`, `blocks`, `telling`, `wording`,
-//! `watching`, `watched`; `shown`, `complaints`, `rooms`, `program`.
+//! `watching`, `watched`; `shown`, `complaints`, `looking`, `rooms`, `program`.
 #![tactic(auto)]
 
 mod blocks;
 mod complaints;
 mod lines;
+mod looking;
 mod names;
 mod program;
 mod rooms;
@@ -17,4 +18,5 @@ mod watched;
 mod watching;
 mod wording;
 
+pub use looking::tell_page;
 pub use program::Mdoc;

@@ -2,9 +2,9 @@
 ghost use Rattle.std.specs.Prelude.{◌≡◌, ◌≤◌, length};
 ghost use Rattle.mdoc_command.specs.Converting.{ending_of};
 
-use super::blocks::OpenBlock;
+use super::blocks::{MOST_OPEN, OpenBlock};
 use super::complaints::tell_complaints;
-use super::telling::{Complaint, room_for};
+use super::telling::{Complaint, MOST_COMPLAINTS, room_for};
 use super::watched::Watched;
 use super::watching::Watch;
 use filters::{BUFFER_SIZE, Ending, Turns};
@@ -19,12 +19,6 @@ const PENDING_SIZE: usize = 81_920;
 
 /// The room for lists and displays that are open.
 const MOST_BLOCKS: usize = 64;
-
-/// How many blocks are watched at once.
-const MOST_OPEN: usize = 64;
-
-/// How many complaints about a text are told.
-const MOST_COMPLAINTS: usize = 64;
 
 /// The memory that texts are turned in, taken once.
 #[derive(Drop)]
@@ -80,7 +74,7 @@ impl Turns for Rooms {
             &mut self.pending,
             &mut steps,
         );
-        let wrong = tell_complaints(name, watched.told(), errors);
+        let wrong = tell_complaints("mdoc", name, watched.told(), errors);
         (ended(outcome, wrong), output)
     }
 }

@@ -8,6 +8,9 @@ use nr_vectors::slice_vec::SliceVec;
 use std::alloc::{AllocError, Global};
 use std::marker::Model;
 
+/// How many complaints about a text are told.
+pub const MOST_COMPLAINTS: usize = 64;
+
 /// What is wrong with a line, and the macros that it is about.
 #[derive(Clone, Copy)]
 pub enum Kind {

@@ -15,6 +15,7 @@ mod KeptWords
 mod LinesSaid
 mod LongWords
 mod MacroLines
+mod ManyBytes
 mod MarksHeld
 mod Meeting
 mod OtherLines

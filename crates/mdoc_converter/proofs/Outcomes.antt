@@ -270,6 +270,7 @@ due_out macros.Argument p f = out p p (acts.Text texts.File) (acts.Text texts.Do
 due_out macros.Path p f = out p p (acts.Text texts.Home) acts.Nothing acts.Nothing [] refl refl refl refl (same_page p f)
 due_out macros.Mail p f = out p p (acts.Text texts.Home) acts.Nothing acts.Nothing [] refl refl refl refl (same_page p f)
 due_out macros.Att p f = out p p (acts.Text texts.Att) acts.Nothing acts.Nothing [] refl refl refl refl (same_page p f)
+due_out (macros.Stands system) p f = out p p (acts.Text (texts.System system)) acts.Nothing acts.Nothing [] refl refl refl refl (same_page p f)
 due_out macros.Bsd p f = out p p (acts.Text texts.Bsd) acts.Nothing acts.Nothing [] refl refl refl refl (same_page p f)
 due_out macros.Name p f =
     out_if (heads_line p) _ _ p []

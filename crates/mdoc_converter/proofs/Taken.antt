@@ -60,7 +60,6 @@ called_out (macros.Closes pair) q f =
     out_seen_if (is_nothing pair) _ _ _ q []
     (out _ q acts.Apart acts.Nothing acts.Nothing [] refl refl refl refl keeps)
     (out _ q (acts.Close (texts.Closing (closer pair))) (acts.Close texts.Empty) acts.Nothing [] refl refl refl refl keeps)
-called_out (macros.Stands system) q f = out q q (acts.Text (texts.System system)) acts.Nothing acts.Nothing [] refl refl refl refl (same_page q f)
 called_out macros.Joins q f =
     out_seen_if q.call.first _ _ q q []
     (out q q acts.Nothing acts.Nothing acts.Nothing [] refl refl refl refl (same_page q f))
@@ -325,7 +324,7 @@ taken_by_out macros.Subsection q e h f = subst (λ (k : Macro). Out (taken_alone
 taken_by_out macros.Link q e h f = link_out q f (usual_is macros.Link q e refl)
 taken_by_out macros.Function q e h f = function_out q f
 taken_by_out (macros.Stands system) q e h f =
-    out _ q (acts.Close texts.FixedSpace) (acts.Joined Roman) acts.Nothing q.word refl refl refl (append-nil q.word)
+    out _ q (acts.Text (texts.System system)) (acts.Close texts.FixedSpace) (acts.Joined Roman) q.word refl refl refl (append-nil q.word)
     (no_more q f (usual_is (macros.Stands system) q e refl))
 taken_by_out m q e h f = alone_is m q e h f (usual_is m q e refl)
 

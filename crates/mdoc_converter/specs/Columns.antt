@@ -51,7 +51,7 @@ abbrev pub put_row : Page → Laid
 put_row p =
     laid (row_begun p) (line_end p
     ++ (if is_past p.lay.cell p.block then moved (codes ".in -") (last_of p.block) else [])
-    ++ moved (codes ".ti -") (hang_of p.block))
+    ++ moved (codes ".)T -") (hang_of p.block))
 
 -- the first cell has the number 0
 abbrev pub next_cell : Page → ℕ

@@ -162,9 +162,10 @@ without_marks p = record p { marks = [] }
 abbrev pub put_marks : Page → Laid
 put_marks p = laid (without_marks (was_put p)) (gap true (first_of p.marks) p ++ p.marks)
 
-abbrev pub put_named : Option (List ℕ) → Page → Laid
-put_named None p = put_word (is_joined p) Roman p
-put_named (Some text) p = put (is_joined p) (before_nul text) p
+-- a version of AT&T UNIX that no table has stands after that name
+abbrev pub put_version : Option (List ℕ) → Page → Laid
+put_version None p = then_laid (put (is_joined p) (codes "AT&T UNIX ") p) (λ q. put_word true Roman q)
+put_version (Some text) p = put (is_joined p) (before_nul text) p
 
 -- a standard that no table has prints nothing
 abbrev pub put_standard : Option (List ℕ) → Page → Laid
@@ -221,7 +222,7 @@ lay_word (acts.LastHeld many) p = put_last_held many p
 lay_word acts.Marks p = put_marks p
 lay_word acts.Standard p = put_standard (standard_named p.word) p
 lay_word acts.Library p = put_library (library_named p.word) p
-lay_word acts.Att p = put_named (version_named p.word) p
+lay_word acts.Att p = put_version (version_named p.word) p
 lay_word acts.Release p = put_release p
 lay_word acts.HeadEnds p = put_head_end p
 lay_word act p = laid p []

@@ -61,7 +61,7 @@ abbrev pub end_hang : ℕ → Page → Laid
 end_hang width p =
     laid (fresh p) (line_end p ++ codes ".br\n.nr %h \\n(.nu-" ++ digits width
     ++ codes "n-1n\n.if \\n(nl-\\n(%tu>1v .nr %h \\n(.nu+1n\n.sp -1\n"
-    ++ codes ".if \\n(%h>0 .ti +\\n(%hu\n\\&\\c\n")
+    ++ codes ".if \\n(%h>0 .)T +\\n(%hu\n\\&\\c\n")
 
 abbrev pub quiet : Page → Page
 quiet p = with_lay (record p.lay { quiet = true }) p

@@ -10,6 +10,7 @@ use Rattle.mdoc_converter.specs.declared.macros.Font.TheVariants.{Roman, Bold, I
 use Rattle.mdoc_converter.specs.declared.macros.Macro.{Macro}
 use Rattle.mdoc_converter.specs.declared.macros.Macro.TheVariants as macros
 use Rattle.mdoc_converter.specs.declared.macros.Pair.TheVariants as pairs
+use Rattle.mdoc_converter.specs.declared.macros.System.{System}
 use Rattle.mdoc_converter.specs.declared.page.Behind.{Behind}
 use Rattle.mdoc_converter.specs.declared.page.Behind.TheVariants as behinds
 use Rattle.mdoc_converter.specs.declared.page.Page.{Page}
@@ -101,8 +102,10 @@ reference p =
     (acts.Close (texts.Closing (code ")"))))
 
 -- the version of a system stays with its name
-abbrev pub version : Page → Met
-version p = met (takes_no_more p) (two (acts.Close texts.FixedSpace) (acts.Joined Roman))
+abbrev pub version : System → Page → Met
+version system p =
+    met (takes_no_more p)
+    (three (acts.Text (texts.System system)) (acts.Close texts.FixedSpace) (acts.Joined Roman))
 
 abbrev pub splits : Split → Page → Met
 splits split p = met (with_place (record p.place { split = split }) p) (left acts.Nothing)
@@ -212,7 +215,7 @@ taken_by macros.Reference p = reference p
 taken_by macros.Author p = author p
 taken_by macros.Link p = link p
 taken_by macros.Function p = function p
-taken_by (macros.Stands system) p = version p
+taken_by (macros.Stands system) p = version system p
 taken_by m p = taken_alone p
 
 unfoldable pub taken_word : Page → Met

@@ -52,8 +52,13 @@ impl Page {
         ensures { result ≡ specs.is_due self.now }
     {
         match self.call.taker {
-            Macro::Flag | Macro::Argument | Macro::Path | Macro::Mail | Macro::Att | Macro::Bsd =>
-                !self.call.some,
+            Macro::Flag
+            | Macro::Argument
+            | Macro::Path
+            | Macro::Mail
+            | Macro::Att
+            | Macro::Bsd
+            | Macro::Stands(_) => !self.call.some,
             Macro::Name => !self.call.some && !self.name.is_empty(),
             Macro::Function | Macro::Link => self.call.some,
             _ => self.is_enclosure_due(),
@@ -109,6 +114,7 @@ impl Page {
             Macro::Path | Macro::Mail => Seen::left(Act::Text(Text::Home)),
             Macro::Att => Seen::left(Act::Text(Text::Att)),
             Macro::Bsd => Seen::left(Act::Text(Text::Bsd)),
+            Macro::Stands(system) => Seen::left(Act::Text(Text::System(system))),
             Macro::Name => self.own_name(),
             Macro::Function => self.function_closes(),
             Macro::Link => self.link_closes(),
@@ -215,7 +221,6 @@ impl Page {
             Macro::Encloses(pair) => self.encloses(pair),
             Macro::Opens(_) => self.opens(),
             Macro::Closes(pair) => self.closes(pair),
-            Macro::Stands(system) => Seen::left(Act::Text(Text::System(system))),
             Macro::Joins => self.joins(),
             Macro::Apostrophe => Seen::two(Act::Close(Text::Apostrophe), Act::Join),
             Macro::FunctionCloses => self.function_closes(),

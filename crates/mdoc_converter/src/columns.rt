@@ -111,7 +111,7 @@ impl Page {
         if self.is_past() {
             put_moved(b".in -", last_of(self.block), out);
         }
-        put_moved(b".ti -", hang_of(self.block), out);
+        put_moved(b".)T -", hang_of(self.block), out);
         self.lay.cell = 0;
         self.lay.kept = stays_whole(0, self.block);
     }

@@ -335,18 +335,21 @@ impl Page {
         self.marks = Name::new();
     }
 
-    /// What a table has for the word, or the word itself.
-    fn put_named(&mut self, text: Option<[u8; 78]>, out: &mut SliceVec<'_, u8>)
+    /// The version of AT&T UNIX that the word names, or the word after that name.
+    fn put_version(&mut self, text: Option<[u8; 78]>, out: &mut SliceVec<'_, u8>)
         requires { length out.old.items + 96 ≤ out.old.capacity }
-        ensures page { self.new ≡ (specs.put_named text self.old).page }
-        ensures items { out.new.items ≡ out.old.items ++ (specs.put_named text self.old).bytes }
+        ensures page { self.new ≡ (specs.put_version text self.old).page }
+        ensures items { out.new.items ≡ out.old.items ++ (specs.put_version text self.old).bytes }
         ensures few { length out.new.items ≤ length out.old.items + 96 }
         ensures room { out.new.capacity ≡ out.old.capacity }
     {
         let joined = self.is_joined();
         match text {
             Some(text) => self.put(joined, before_nul(&text), out),
-            None => self.put_word(joined, Font::Roman, out),
+            None => {
+                self.put(joined, b"AT&T UNIX ", out);
+                self.put_word(true, Font::Roman, out);
+            }
         }
     }
 
@@ -445,7 +448,7 @@ impl Page {
             Act::Marks => self.put_marks(out),
             Act::Standard => self.put_standard(standard_named(self.word), out),
             Act::Library => self.put_library(library_named(self.word), out),
-            Act::Att => self.put_named(version_named(self.word), out),
+            Act::Att => self.put_version(version_named(self.word), out),
             Act::Release => self.put_release(out),
             Act::HeadEnds => self.put_head_end(out),
             _ => {}

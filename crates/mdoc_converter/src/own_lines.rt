@@ -99,7 +99,7 @@ impl Page {
         out.extend(b".br\n.nr %h \\n(.nu-");
         put_number(width, out);
         out.extend(b"n-1n\n.if \\n(nl-\\n(%tu>1v .nr %h \\n(.nu+1n\n.sp -1\n");
-        out.extend(b".if \\n(%h>0 .ti +\\n(%hu\n\\&\\c\n");
+        out.extend(b".if \\n(%h>0 .)T +\\n(%hu\n\\&\\c\n");
     }
 
     /// The same, and nothing was put since space was made.

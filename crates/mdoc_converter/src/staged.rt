@@ -1,8 +1,8 @@
 //! A page is turned a part at a time.
-ghost use Rattle.std.specs.Prelude.{◌≡◌, ◌<◌, ◌≤◌, List, [], length, take};
+ghost use Rattle.std.specs.Prelude.{◌≡◌, ◌+◌, ◌<◌, ◌≤◌, List, [], false, length, take};
 ghost use Rattle.mdoc_converter.specs.declared.page.Block.{Block as BlockValue};
 ghost use Rattle.mdoc_converter.specs.AtHand.{Passes};
-ghost use Rattle.mdoc_converter.specs.Reading.{first_state, state};
+ghost use Rattle.mdoc_converter.specs.Reading.{fed, first_state, state};
 
 use super::page::Block;
 use super::reader::Reader;
@@ -31,6 +31,42 @@ fn passing_of(reader: &Reader, bytes: &[u8]) -> usize
     }
     let len = bytes.len().min(LEAST_ROOM);
     reader.passing(&bytes[..len])
+}
+
+/// Whether no more bytes are read at once: for what one of them may say there may be no room, or lines pass.
+fn pauses(reader: &Reader, out: &SliceVec<'_, u8>) -> bool
+    ensures { result ≡ false → length out.now.items + 73984 ≤ out.now.capacity }
+{
+    reader.is_asleep() || out.capacity() - out.len() < LEAST_ROOM
+}
+
+/// Bytes are read, the first of them at least. Tells how many.
+fn read_some(
+    reader: &mut Reader,
+    bytes: &[u8],
+    blocks: &mut SliceVec<'_, Block>,
+    out: &mut SliceVec<'_, u8>,
+) -> usize
+    requires some { 0 < length bytes.now }
+    requires empty { out.old.items ≡ [] }
+    requires room { 73984 ≤ out.old.capacity }
+    requires blocks { 64 ≤ blocks.old.capacity }
+    ensures some { 0 < result }
+    ensures within { result ≤ length bytes.now }
+    ensures state { state reader.new blocks.new.items
+        ≡ (fed (state reader.old blocks.old.items) (take result bytes.now)).state }
+    ensures items { out.new.items ≡ (fed (state reader.old blocks.old.items) (take result bytes.now)).bytes }
+    ensures room { out.new.capacity ≡ out.old.capacity }
+    ensures blocks { blocks.new.capacity ≡ blocks.old.capacity }
+{
+    reader.read(bytes[0], blocks, out);
+    for i in 1..bytes.len() {
+        if pauses(reader, out) {
+            return i;
+        }
+        reader.read(bytes[i], blocks, out);
+    }
+    bytes.len()
 }
 
 impl<'a> Turner<'a> {
@@ -78,8 +114,7 @@ impl Stage for Turner<'_> {
             out.extend(&bytes[..count]);
             return count;
         }
-        self.reader.read(bytes[0], &mut self.blocks, out);
-        1
+        read_some(&mut self.reader, bytes, &mut self.blocks, out)
     }
 
     fn finish(&mut self, out: &mut SliceVec<'_, u8>) -> bool {

@@ -5,7 +5,7 @@ ghost use Rattle.mdoc_converter.specs.Taking as specs;
 
 use super::acts::{Act, Request, Text};
 use super::calls::hanging;
-use super::macros::{Font, Macro, Pair, part_font};
+use super::macros::{Font, Macro, Pair, System, part_font};
 use super::page::{Behind, Last, Page, Parameters, Scan, Section, Split};
 use super::seen::Seen;
 use nr_units::Name;
@@ -76,7 +76,7 @@ impl Page {
             Macro::Author => self.author(),
             Macro::Link => self.link(),
             Macro::Function => self.function(),
-            Macro::Stands(_) => self.version(),
+            Macro::Stands(system) => self.version(system),
             _ => self.taken_alone(),
         }
     }
@@ -180,12 +180,16 @@ impl Page {
         )
     }
 
-    /// The version of a system, which stays with its name.
-    fn version(&mut self) -> Seen
-        ensures { met self.new result ≡ specs.version self.old }
+    /// A system and its version, which stays with its name.
+    fn version(&mut self, system: System) -> Seen
+        ensures { met self.new result ≡ specs.version system self.old }
     {
         self.takes_no_more();
-        Seen::two(Act::Close(Text::FixedSpace), Act::Joined(Font::Roman))
+        Seen::three(
+            Act::Text(Text::System(system)),
+            Act::Close(Text::FixedSpace),
+            Act::Joined(Font::Roman),
+        )
     }
 
     /// Authors begin lines, or not.

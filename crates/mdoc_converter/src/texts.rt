@@ -166,7 +166,7 @@ pub(crate) fn request_of(request: Request) -> &'static [u8]
         Request::Centered => b".nf\n.ce 9999\n",
         Request::LiteralEnds => b".fi\n.DT\n",
         Request::CenteredEnds => b".ce 0\n.fi\n",
-        Request::Hangs => b".in +4n\n.ti -4n\n",
+        Request::Hangs => b".in +4n\n.)T -4n\n",
         Request::HangEnds => b".br\n.in -4n\n",
         Request::Link => b".ds %L \"",
         Request::Font(Font::Roman) => b".ft R\n",

@@ -1,6 +1,6 @@
-use Rattle.std.proofs.Common.{rules, ◌<◌, length, get_or, refl}
+use Rattle.std.proofs.Common.{refl}
 use Rattle.mdoc_converter.specs.Reading.{state}
-use Rattle.mdoc_converter.proofs.SaidParts.{said-byte, said-passing}
+use Rattle.mdoc_converter.proofs.SaidParts.{said-passing, said-taken}
 use Rattle.mdoc_converter.proofs.staged.TurnerStage.turn.Goals as goal
 
 pub returns-then-count-gt0-clause-says : goal.returns-then-count-gt0-clause-says
@@ -12,7 +12,4 @@ returns-then-count-gt0-clause-says c =
 pub returns-clause-says : goal.returns-clause-says
 returns-clause-says c =
     let s = c.args.self.now in
-    let bytes = c.args.bytes.now in
-    let some : 0 < length bytes = search rules in
-    said-byte (state s.reader s.blocks.items) _ bytes c.args.out.now.items c.read.new.out.items (get_or bytes 0 0) some refl c.requires.empty
-    c.read.ensures.state c.read.ensures.items
+    said-taken (state s.reader s.blocks.items) _ _ _ c.read_some.ensures.state c.read_some.ensures.items
