@@ -1,6 +1,7 @@
 //! The memory of tables.
 ghost use Rattle.std.specs.Prelude.{◌≡◌, ◌+◌, IfOk};
-ghost use Rattle.document_printing.specs.Rooms.{memory_of};
+ghost use Rattle.tbl_setting.specs.Drawing.{signs_of};
+ghost use Rattle.document_printing.specs.Rooms.{bounds_of, memory_of};
 
 use super::setup::PageLimits;
 use document_stages::Buffer;
@@ -23,12 +24,15 @@ impl Rooms {
     ///
     /// Proved: Tables are set in as many elements of memory as their limits ask for, by the count of the allocator.
     /// (`taken` of what `Rooms::{new, drawn_with}` ensure)
+    /// Proved: Frames are drawn with the table of characters or the bytes that are given, for the line that is given, and
+    /// tables have these limits. (`tables` of what they ensure)
     pub fn new(
         alloc: &mut CountedAlloc,
         limits: PageLimits,
         cells: usize,
         characters: Option<Table>,
     ) -> Result<Rooms, AllocError>
+        ensures tables { IfOk result (λ made. made.tables ≡ bounds_of limits cells (signs_of characters)) }
         ensures taken { IfOk result (λ made. alloc.new ≡ alloc.old + memory_of limits) }
     {
         Ok(Rooms {
@@ -44,6 +48,7 @@ impl Rooms {
         cells: usize,
         signs: Signs,
     ) -> Result<Rooms, AllocError>
+        ensures tables { IfOk result (λ made. made.tables ≡ bounds_of limits cells signs) }
         ensures taken { IfOk result (λ made. alloc.new ≡ alloc.old + memory_of limits) }
     {
         Ok(Rooms {

@@ -1,7 +1,9 @@
 -- What the program comes to, part by part.
-use Rattle.std.proofs.Common.{◌≡◌, ℕ, List, [], ◌++◌, append-nil, Bool, Option, None, Some, Result, Ok, Err, ◌⊎◌, inl, inr, refl, sym, subst}
+use Rattle.std.proofs.Common.{◌≡◌, ℕ, List, [], append-nil, Bool, Option, None, Some, Result, Ok, ◌⊎◌, inl, inr, refl, sym, subst}
 use Rattle.nr_command_options.specs.Inputs.{Reading}
-use Rattle.nr_command.specs.Opening.{Opening, Asks}
+use Rattle.nr_units.specs.Source.{Supply}
+use Rattle.preconv_coding.specs.declared.names.Coding.{Coding}
+use Rattle.nr_command.specs.Opening.{AreOpen, Opening, Asks}
 use Rattle.nr_command.specs.Program.{IsRefused}
 use Rattle.nr_command.specs.declared.opening.NotRun.TheVariants as not_run
 use Rattle.nr_command_options.specs.declared.inputs.Input.{Input}
@@ -9,7 +11,10 @@ use Rattle.program_options.specs.Job.{Asked}
 use Rattle.program_options.specs.Reading.{Complaint, is_bad}
 use Rattle.program_options.specs.declared.usage.Usage.{Usage}
 use Rattle.program_plan.specs.Texts.{readings_of}
-use Rattle.program_command.specs.Program.{Comes, IsOfRun, IsUnopened, Opens, Passes}
+use Rattle.program_command.specs.Program.{Comes, ComesTo, ComesToPages, IsNotRun, IsOfRun, IsUnopened, Opens, Passes}
+use Rattle.program_command.specs.Running.{IsNamed, Runs, files_of, text_of}
+use Rattle.program_command.specs.declared.surroundings.Surroundings.{Surroundings}
+use Rattle.program_command.proofs.Kept.{Keeps-refl}
 use Rattle.program_command.specs.declared.endings.Ending.{Ending}
 use Rattle.program_command.specs.declared.endings.Ending.TheVariants.{BadWord, CannotOpen, Done, Limit, NoMacros, NeedsOthers, NoRoom, OutOfMemory, ReadFault, TooLong, WriteFault}
 
@@ -56,14 +61,50 @@ pub Opens-refused : (may_come : Reading → Opening → Type 0) (asked asked' : 
 Opens-refused may_come asked asked' readings others input same refused =
     subst (λ (rs : List Reading). IsRefused may_come asked asked' rs (not_run.CannotOpen input)) same refused
 
-pub Comes-good : (answer : Result Asked Complaint) (job : Asked) (may_come : Reading → Opening → Type 0) (asked asked' : Option (List Reading))
-    (unopened unprinted : Type 0) (passed_on : Bool) (ending : Ending) → Ok job ≡ answer → Opens may_come asked asked' (readings_of job) ending
-    → (unprinted ⊎ Passes ending passed_on) → Comes answer may_come asked asked' unopened unprinted passed_on ending
-Comes-good answer job may_come asked asked' unopened unprinted passed_on ending is opens prints =
-    subst (λ (a : Result Asked Complaint). Comes a may_come asked asked' unopened unprinted passed_on ending) is (opens, prints)
+-- why a job isn't run
+IsNotRun-unopened : (ending : Ending) → IsUnopened ending → IsNotRun ending
+IsNotRun-unopened (BadWord usage) unopened = tt
+IsNotRun-unopened (NoMacros name) unopened = tt
+IsNotRun-unopened Done unopened = absurd unopened
+IsNotRun-unopened (Limit place which) unopened = absurd unopened
+IsNotRun-unopened (NoRoom place) unopened = absurd unopened
+IsNotRun-unopened TooLong unopened = absurd unopened
+IsNotRun-unopened (CannotOpen input) unopened = absurd unopened
+IsNotRun-unopened (ReadFault place) unopened = absurd unopened
+IsNotRun-unopened WriteFault unopened = absurd unopened
+IsNotRun-unopened OutOfMemory unopened = absurd unopened
+IsNotRun-unopened NeedsOthers unopened = absurd unopened
 
-pub Comes-bad : (answer : Result Asked Complaint) (usage : Usage) (may_come : Reading → Opening → Type 0) (asked asked' : Option (List Reading))
-    (unopened unprinted : Type 0) (passed_on : Bool) → is_bad usage.case usage.word.now ≡ answer → unopened → unprinted
-    → Comes answer may_come asked asked' unopened unprinted passed_on (BadWord usage)
-Comes-bad answer usage may_come asked asked' unopened unprinted passed_on is same_opener same_output =
-    subst (λ (a : Result Asked Complaint). Comes a may_come asked asked' unopened unprinted passed_on (BadWord usage)) is ((refl, refl), same_opener, same_output)
+-- nothing goes out then
+pub ComesTo-unopened : (may_come : Reading → Opening → Type 0) (job : Asked) (around : Surroundings) (ending : Ending) (a : Option (List ℕ))
+    → IsUnopened ending → ComesTo may_come job around ending a a
+ComesTo-unopened may_come job around ending a unopened = inl (record { unrun = IsNotRun-unopened ending unopened; kept = Keeps-refl a })
+
+pub ComesTo-unrun : (may_come : Reading → Opening → Type 0) (job : Asked) (around : Surroundings) (ending : Ending) (a : Option (List ℕ))
+    → IsNotRun ending → ComesTo may_come job around ending a a
+ComesTo-unrun may_come job around ending a unrun = inl (record { unrun = unrun; kept = Keeps-refl a })
+
+-- or what its texts come to
+pub ComesTo-run : (may_come : Reading → Opening → Type 0) (job : Asked) (around : Surroundings) (readings : List Reading) (given : List (Option Supply))
+    (coding : Option Coding) (ending : Ending) (a b : Option (List ℕ)) → readings ≡ readings_of job → AreOpen may_come readings given
+    → IsNamed job.coding coding → Runs job around (files_of job given) (text_of job coding given) ending a b → ComesTo may_come job around ending a b
+ComesTo-run may_come job around readings given coding ending a b same opened named runs = inr (record {
+  given = given;
+  opened = subst (λ (rs : List Reading). AreOpen may_come rs given) same opened;
+  coding = coding;
+  named = named;
+  runs = runs;
+})
+
+pub Comes-good : (answer : Result Asked Complaint) (job : Asked) (around : Surroundings) (may_come : Reading → Opening → Type 0) (asked asked' : Option (List Reading))
+    (unopened unprinted : Type 0) (held held' : Option (List ℕ)) (passed_on : Bool) (ending : Ending) → Ok job ≡ answer
+    → Opens may_come asked asked' (readings_of job) ending → ComesToPages may_come job around ending held held'
+    → (unprinted ⊎ Passes ending passed_on) → Comes answer around may_come asked asked' unopened unprinted held held' passed_on ending
+Comes-good answer job around may_come asked asked' unopened unprinted held held' passed_on ending is opens pages prints =
+    subst (λ (a : Result Asked Complaint). Comes a around may_come asked asked' unopened unprinted held held' passed_on ending) is (opens, pages, prints)
+
+pub Comes-bad : (answer : Result Asked Complaint) (usage : Usage) (around : Surroundings) (may_come : Reading → Opening → Type 0) (asked asked' : Option (List Reading))
+    (unopened unprinted : Type 0) (held held' : Option (List ℕ)) (passed_on : Bool) → is_bad usage.case usage.word.now ≡ answer → unopened → unprinted
+    → Comes answer around may_come asked asked' unopened unprinted held held' passed_on (BadWord usage)
+Comes-bad answer usage around may_come asked asked' unopened unprinted held held' passed_on is same_opener same_output =
+    subst (λ (a : Result Asked Complaint). Comes a around may_come asked asked' unopened unprinted held held' passed_on (BadWord usage)) is ((refl, refl), same_opener, same_output)

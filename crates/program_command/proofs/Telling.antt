@@ -1,5 +1,5 @@
 -- The line of an ending, part by part.
-use Rattle.std.proofs.Common.{◌≡◌, ℕ, List, [], ◌++◌, append_assoc, Option, codes, sym, subst, ap, ◌∙◌}
+use Rattle.std.proofs.Common.{◌≡◌, ℕ, List, ◌++◌, append_assoc, Option, codes, sym, subst, ap, ◌∙◌}
 use Rattle.nr_command_options.specs.Inputs.{macro_path, reading_of}
 use Rattle.nr_command_options.specs.declared.inputs.Input.{Input}
 use Rattle.nr_command.specs.Opening.{name_of}

@@ -1,12 +1,17 @@
 -- What the program comes to over its words.
-use Rattle.std.specs.Prelude.{◌≡◌, ◌≢◌, ℕ, List, [], Bool, IsTrue, Option, Result, Ok, Err, ◌⊎◌, ⊤}
+use Rattle.std.specs.Prelude.{◌≡◌, ◌≢◌, ℕ, List, [], Bool, IsTrue, Option, None, Result, Ok, Err, ◌⊎◌, ⊤}
+use Rattle.std.specs.Io.KnownBytes.{Keeps}
+use Rattle.nr_units.specs.Source.{Supply}
 use Rattle.nr_command_options.specs.Inputs.{Reading, reading_of}
-use Rattle.nr_command.specs.Opening.{Opening, Asks, IsFirstRefused}
+use Rattle.nr_command.specs.Opening.{AreOpen, Opening, Asks, IsFirstRefused}
+use Rattle.preconv_coding.specs.declared.names.Coding.{Coding}
 use Rattle.program_options.specs.Job.{Asked}
 use Rattle.program_options.specs.Reading.{Complaint}
 use Rattle.program_plan.specs.Texts.{readings_of}
+use Rattle.program_command.specs.Running.{IsNamed, Runs, files_of, text_of}
 use Rattle.program_command.specs.declared.endings.Ending.{Ending}
-use Rattle.program_command.specs.declared.endings.Ending.TheVariants.{BadWord, CannotOpen, NoMacros, WriteFault}
+use Rattle.program_command.specs.declared.endings.Ending.TheVariants.{BadWord, CannotOpen, NoMacros, OutOfMemory, WriteFault}
+use Rattle.program_command.specs.declared.surroundings.Surroundings.{Surroundings}
 
 -- why a job of good words isn't run
 abbrev pub IsUnopened : Ending → Type 0
@@ -38,10 +43,43 @@ abbrev pub IsBadWord : Complaint → Ending → Type 0
 IsBadWord complaint (BadWord usage) = (usage.case ≡ complaint.case) × (usage.word.now ≡ complaint.word)
 IsBadWord complaint other = ⊥
 
--- Where a word is bad nothing is opened and nothing printed. Else the texts of the job are opened, and what is printed is passed on.
-abbrev pub Comes : Result Asked Complaint → (Reading → Opening → Type 0) → Option (List Reading)
-    → Option (List Reading) → Type 0 → Type 0 → Bool → Ending → Type 0
-Comes (Err complaint) may_come asked asked' unopened unprinted passed_on ending =
+-- a job is not run
+abbrev pub IsNotRun : Ending → Type 0
+IsNotRun (BadWord usage) = ⊤
+IsNotRun (CannotOpen input) = ⊤
+IsNotRun (NoMacros name) = ⊤
+IsNotRun OutOfMemory = ⊤
+IsNotRun other = ⊥
+
+pub record EndsUnrun (ending : Ending) (held new : Option (List ℕ)) : Type 0 where
+  pub unrun : IsNotRun ending
+  pub kept : Keeps held new
+
+-- The texts of a job were opened, each its own, and this is what the pages among them come to.
+pub record RunsOver (may_come : Reading → Opening → Type 0) (job : Asked) (around : Surroundings) (ending : Ending)
+    (held new : Option (List ℕ)) : Type 0 where
+  pub given : List (Option Supply)
+  pub opened : AreOpen may_come (readings_of job) given
+  pub coding : Option Coding
+  pub named : IsNamed job.coding coding
+  pub runs : Runs job around (files_of job given) (text_of job coding given) ending held new
+
+-- WHAT A JOB COMES TO that is to print pages: nothing goes out where it isn't run
+abbrev pub ComesTo : (Reading → Opening → Type 0) → Asked → Surroundings → Ending → Option (List ℕ) → Option (List ℕ)
+    → Type 0
+ComesTo may_come job around ending held new = EndsUnrun ending held new ⊎ RunsOver may_come job around ending held new
+
+-- the same of a job that may ask for the version or for help
+abbrev pub ComesToPages : (Reading → Opening → Type 0) → Asked → Surroundings → Ending → Option (List ℕ)
+    → Option (List ℕ) → Type 0
+ComesToPages may_come job around ending held new = job.plain.says ≡ None → ComesTo may_come job around ending held new
+
+-- Where a word is bad nothing is opened and nothing printed. Else the texts of the job are opened, what they come to is printed, and
+-- passed on.
+abbrev pub Comes : Result Asked Complaint → Surroundings → (Reading → Opening → Type 0) → Option (List Reading)
+    → Option (List Reading) → Type 0 → Type 0 → Option (List ℕ) → Option (List ℕ) → Bool → Ending → Type 0
+Comes (Err complaint) around may_come asked asked' unopened unprinted held held' passed_on ending =
     IsBadWord complaint ending × unopened × unprinted
-Comes (Ok job) may_come asked asked' unopened unprinted passed_on ending =
-    Opens may_come asked asked' (readings_of job) ending × (unprinted ⊎ Passes ending passed_on)
+Comes (Ok job) around may_come asked asked' unopened unprinted held held' passed_on ending =
+    Opens may_come asked asked' (readings_of job) ending × ComesToPages may_come job around ending held held'
+    × (unprinted ⊎ Passes ending passed_on)

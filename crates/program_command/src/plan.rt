@@ -1,4 +1,7 @@
 //! How a page is printed.
+ghost use Rattle.std.specs.Prelude.{◌≡◌, ◌==◌, ◌||◌, IfOk, length};
+ghost use Rattle.program_options.specs.Job.{asked_of};
+ghost use Rattle.program_command.specs.Plan.{AreOptions, IsSelected, has_escapes, page_limits_of, plan_of, table_for, table_with_most};
 
 use crate::surroundings::Surroundings;
 use arrayvec::ArrayVec;
@@ -46,12 +49,17 @@ pub(crate) struct Plan {
 }
 
 /// How pages are printed that begin with these bytes.
+///
+/// Proved: How a page is printed is one function of the words, the locale, the terminal and the bytes that were looked
+/// at: its stages, whether it has tables, its fixed table of characters, and how its looks go out. (`plan_of`)
 pub(crate) fn plan_of(
     job: &Job<'_>,
     kind: Macros,
     around: &Surroundings,
     front: &[u8],
-) -> Result<Plan, AllocError> {
+) -> Result<Plan, AllocError>
+    ensures { IfOk result (λ plan. plan ≡ plan_of (asked_of job.now) around.now kind front.now) }
+{
     let device = job.plain.device.unwrap_or(around.device);
     let characters = table_of(device, front, around.alloc)?;
     let spells = device == Device::Utf8 && characters.is_some();
@@ -71,28 +79,41 @@ pub(crate) fn plan_of(
 }
 
 /// Whether more of a page may come than was looked at.
-fn is_cut(front: &[u8]) -> bool {
+fn is_cut(front: &[u8]) -> bool
+    ensures { result ≡ ((length front.now == 65536) || (length front.now == 1048576)) }
+{
     front.len() == LOOKED_AT || front.len() == MORE_LOOKED_AT
 }
 
 /// The table of the characters of a text, by its first bytes: none where ASCII is printed.
-fn table_of(device: Device, front: &[u8], alloc: Global) -> Result<Option<Table>, AllocError> {
+fn table_of(device: Device, front: &[u8], alloc: Global) -> Result<Option<Table>, AllocError>
+    ensures { IfOk result (λ table. table ≡ table_for device front.now) }
+{
     match device {
-        Device::Utf8 => {
-            let mut page = vec![in alloc; 0u8; LOOKED_AT]?;
-            let mut counts = vec![in alloc; 0u32; CHARACTERS]?;
-            match choose(&mut Text::over(front), &mut page, &mut counts) {
-                Ok(table) => Ok(Some(table)),
-                Err(_) => Ok(None),
-            }
-        }
+        Device::Utf8 => Ok(Some(fullest(front, alloc)?)),
         Device::Latin1 => Ok(Some(Table::Latin1)),
         Device::Ascii => Ok(None),
     }
 }
 
+/// The table that has most of the characters of a text, by its first bytes.
+fn fullest(front: &[u8], alloc: Global) -> Result<Table, AllocError>
+    ensures { IfOk result (λ table. table ≡ table_with_most front.now) }
+{
+    let mut page = vec![in alloc; 0u8; LOOKED_AT]?;
+    let mut counts = vec![in alloc; 0u32; CHARACTERS]?;
+    let mut text = Text::over(front);
+    match choose(&mut text, &mut page, &mut counts) {
+        Ok(table) => Ok(table),
+        // A slice doesn't fail.
+        Err(_) => unreachable!(),
+    }
+}
+
 /// Whether what is underlined or bold stands between escape sequences, where `shows` says that the output is a terminal.
-fn escapes(faces: Faces, shows: bool) -> bool {
+fn escapes(faces: Faces, shows: bool) -> bool
+    ensures { result ≡ has_escapes faces shows }
+{
     match faces {
         Faces::Auto => shows,
         Faces::On => true,
@@ -101,7 +122,10 @@ fn escapes(faces: Faces, shows: bool) -> bool {
 }
 
 /// What the formatter is given. Bold shows where it is asked for, and between escape sequences.
-pub(crate) fn options_of(job: &Job<'_>, plan: &Plan, select: Select) -> Options {
+pub(crate) fn options_of(job: &Job<'_>, plan: &Plan, select: Select) -> Options
+    requires { IsSelected (asked_of job.now).pages select }
+    ensures { AreOptions (asked_of job.now) plan.now result }
+{
     Options {
         first: job.plain.first.min(LAST_PAGE) as i64,
         registers: ArrayVec::new(),
@@ -115,7 +139,9 @@ pub(crate) fn options_of(job: &Job<'_>, plan: &Plan, select: Select) -> Options 
 }
 
 /// The limits of the stages before the formatter.
-pub(crate) fn limits_of(job: &Job<'_>) -> PageLimits {
+pub(crate) fn limits_of(job: &Job<'_>) -> PageLimits
+    ensures { result ≡ page_limits_of (asked_of job.now) }
+{
     PageLimits {
         formats: job.plain.formats as usize,
         row: job.plain.row as usize,

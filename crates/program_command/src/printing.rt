@@ -1,9 +1,10 @@
 //! A page goes out: as a reader is shown it, without what is struck over, or not at all.
-ghost use Rattle.std.specs.Prelude.{◌≡◌, Some, false, true};
+ghost use Rattle.std.specs.Prelude.{◌≡◌, IfErr, IfOk, Some, false, true};
 ghost use Rattle.nr_units.specs.Source.{Supply};
 ghost use Rattle.document_reader.specs.Page.{IsShort, breaks_off, man_of};
 ghost use Rattle.document_printing.specs.Document.{setting_of, source_of};
 ghost use Rattle.document_printing.specs.Showing.{Shows};
+ghost use Rattle.program_command.specs.Printing.{FixedShows, Where, fixed_showing, fixed_spelling, given_by};
 
 use crate::bare::Bare;
 use crate::nowhere::Nowhere;
@@ -36,7 +37,9 @@ pub(crate) struct Means<'a> {
 }
 
 /// How bytes go out: in UTF-8, or as those of their fixed table.
-fn spelling_of<'a>(plan: &Plan) -> Spelling<'a> {
+fn spelling_of<'a>(plan: &Plan) -> Spelling<'a>
+    ensures { result ≡ fixed_spelling plan.now }
+{
     match plan.characters {
         Some(table) if plan.spells => Spelling::Utf8 {
             table: PageTable::Fixed(table),
@@ -46,17 +49,11 @@ fn spelling_of<'a>(plan: &Plan) -> Spelling<'a> {
     }
 }
 
-/// Prints a page with the fixed table of its plan. Nothing is flushed.
-pub(crate) fn print_fixed<R: Source + Drop, W: Sink>(
-    page: R,
-    plan: &Plan,
-    means: Means<'_>,
-    desk: &mut Desk,
-    output: &mut W,
-) -> Result<Report, AllocError> {
-    let mut alloc = CountedAlloc::new(means.alloc);
-    let mut rooms = Rooms::new(&mut alloc, means.limits, plan.cells, plan.characters)?;
-    let showing = Showing {
+/// How a page shows with the fixed table of its plan.
+fn fixed_showing<'a>(plan: &Plan, means: Means<'a>) -> Showing<'a>
+    ensures { result ≡ fixed_showing plan.now means.entry }
+{
+    Showing {
         setup: Setup {
             macros: means.macros,
             stages: plan.stages,
@@ -65,9 +62,30 @@ pub(crate) fn print_fixed<R: Source + Drop, W: Sink>(
             options: means.options,
         },
         spelling: spelling_of(plan),
+    }
+}
+
+/// Prints a page with the fixed table of its plan. Nothing is flushed. Gives the output back; where there was not enough
+/// memory nothing was printed.
+pub(crate) fn print_fixed<R: Source + Drop, W: Sink + Drop>(
+    page: R,
+    plan: &Plan,
+    means: Means<'_>,
+    desk: &mut Desk,
+    output: W,
+) -> (W, Result<Report, AllocError>)
+    ensures prints { IfOk result.1 (λ report. Where plan.now (R.supply page)
+        (λ q. FixedShows plan.now (given_by means.entry desk.old) q report (W.held output) (W.held result.0))) }
+    ensures checks { plan.now.checks ≡ true → result.0 ≡ output }
+    ensures unprinted { IfErr result.1 (λ _. result.0 ≡ output) }
+{
+    let mut alloc = CountedAlloc::new(means.alloc);
+    let Ok(mut rooms) = Rooms::new(&mut alloc, means.limits, plan.cells, plan.characters) else {
+        return (output, Err(AllocError));
     };
-    let (_output, report) = print_page(page, &showing, plan, &mut rooms, desk, output);
-    Ok(report)
+    let showing = fixed_showing(plan, means);
+    let (output, report) = print_page(page, &showing, plan, &mut rooms, desk, output);
+    (output, Ok(report))
 }
 
 /// Prints a page by its plan. Nothing is flushed. Gives the output back.

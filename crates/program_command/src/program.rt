@@ -1,6 +1,6 @@
 //! The program over its words.
-ghost use Rattle.std.specs.Prelude.{◌≡◌, ◌⊎◌, IfErr, OnOk};
-ghost use Rattle.nr_command.specs.Opening.{Asks};
+ghost use Rattle.std.specs.Prelude.{◌≡◌, ◌⊎◌, IfErr, IfOk, OnOk, map};
+ghost use Rattle.nr_command.specs.Opening.{AreOpen, Asks};
 ghost use Rattle.nr_command.specs.Program.{IsRefused};
 ghost use Rattle.nr_command_options.specs.Inputs.{readings};
 ghost use Rattle.nr_command_options.specs.Job.{asked_of as texts_asked};
@@ -10,7 +10,9 @@ ghost use Rattle.program_options.specs.Reading.{asked};
 ghost use Rattle.program_command.specs.declared.endings.Ending.{Ending};
 ghost use Rattle.program_command.specs.Endings.{line_of, status_of};
 ghost use Rattle.program_plan.specs.Texts.{readings_of};
-ghost use Rattle.program_command.specs.Program.{Comes, IsOfRun, IsUnopened, Opens, Passes};
+ghost use Rattle.program_command.specs.Plan.{IsSelected};
+ghost use Rattle.program_command.specs.Program.{Comes, ComesTo, ComesToPages, IsOfRun, IsUnopened, Opens, Passes};
+ghost use Rattle.program_command.specs.Running.{IsNamed, IsReading};
 
 use crate::endings::{Ending, tell};
 use crate::running::{Reading, run_texts};
@@ -57,18 +59,19 @@ pub fn run_program<R: Env + Files, I: Read + Copy + Drop, W: Write + Drop, E: Wr
     let Ok(output) = BufWriter::with_capacity(alloc, OUTPUT_SIZE, output) else {
         return tell(Ending::OutOfMemory, &mut errors);
     };
-    let mut output = ToWriter::over(output);
+    let output = ToWriter::over(output);
     let around = Surroundings::of(system, alloc, shows);
     let mut buffers = Vec::new(alloc);
     let mut disk = Disk::new(Tree::new(system), input);
-    run_words(
+    let (status, _) = run_words(
         &around,
         &words,
         &mut disk,
         &mut buffers,
-        &mut output,
+        output,
         &mut errors,
-    )
+    );
+    status
 }
 
 /// The words as they are borrowed.
@@ -81,7 +84,8 @@ fn borrowed(words: &[String], alloc: Global) -> Result<Vec<&str>, AllocError> {
 }
 
 /// Runs the program over the words after its name, and gives its status: 0 done, 1 a limit, 2 a bad word, 3 a text that
-/// can't be opened or read, 4 the output can't be written, 5 there is not enough memory, 6 other programs are needed.
+/// can't be opened or read, 4 the output can't be written, 5 there is not enough memory, 6 other programs are needed. The
+/// output comes back.
 ///
 /// All texts are opened before the first is read, each over its part of `buffers`.
 ///
@@ -91,52 +95,66 @@ fn borrowed(words: &[String], alloc: Global) -> Result<Vec<&str>, AllocError> {
 /// Proved: All texts of a job are opened, each once and in order, before the first is read; or the first that can't
 /// be is reported, those before it were opened, and none after it was asked for; or none was asked for.
 /// Proved: Where no write fault is reported, all that was printed was passed on.
-pub fn run_words<'b, O: Opener<'b>, W: Sink, E: Sink>(
+/// Proved: **What a reader gets of the program.** Where words ask for pages with what is struck over, what goes out is the
+/// document of document_printing: of the text that the opened files make one after the other, under the coding that a
+/// word or the text names, after what words set and macro files, through the stages that words or the text ask for, in the table of
+/// characters that `print_by_plan` chooses, for the first page, the pages, the looks and the limits of the words. Status
+/// and line report how that document ended, and the line of the text that was read last. So it is where the text and
+/// what each stage makes of it have less than 2^40 bytes; the text breaks off nowhere. (`run_words`; `ComesToPages` in
+/// Program.antt, `Runs` in Running.antt, `Printed` in Printing.antt)
+/// Proved: Nothing goes out where a job isn't run, where a macro file fails or memory is wanting before its page, and
+/// where texts are only checked. Where words ask not to print a text that asks for other programs, 6 tells such a text,
+/// and nothing goes out.
+pub fn run_words<'b, O: Opener<'b>, W: Sink + Drop, E: Sink>(
     around: &Surroundings,
     words: &[&str],
     opener: &mut O,
     buffers: &'b mut Vec<u8>,
-    output: &mut W,
+    output: W,
     errors: &mut E,
-) -> u8
-    ensures { (ending : Ending) × (result ≡ status_of ending)
+) -> (u8, W)
+    ensures { (ending : Ending) × (result.0 ≡ status_of ending)
         × Tells (E.held errors.old) (E.held errors.new) (E.failures errors.old) (E.failures errors.new)
         (line_of ending)
-        × Comes (asked (texts words.now)) (O.may_come opener.old) (O.asked opener.old) (O.asked opener.new)
-        (opener.new ≡ opener.old) (output.new ≡ output.old) (W.passed_on output.new) ending }
+        × Comes (asked (texts words.now)) around.now (O.may_come opener.old) (O.asked opener.old) (O.asked opener.new)
+        (opener.new ≡ opener.old) (result.1 ≡ output) (W.held output) (W.held result.1) (W.passed_on result.1)
+        ending }
 {
-    let ending = ending_of(around, words, opener, buffers, output);
-    tell(ending, errors)
+    let (ending, output) = ending_of(around, words, opener, buffers, output);
+    (tell(ending, errors), output)
 }
 
 /// How the program ends over these words.
-fn ending_of<'a, 'b, O: Opener<'b>, W: Sink>(
+fn ending_of<'a, 'b, O: Opener<'b>, W: Sink + Drop>(
     around: &Surroundings,
     words: &'a [&'a str],
     opener: &mut O,
     buffers: &'b mut Vec<u8>,
-    output: &mut W,
-) -> Ending<'a>
-    ensures { Comes (asked (texts words.now)) (O.may_come opener.old) (O.asked opener.old) (O.asked opener.new)
-        (opener.new ≡ opener.old) (output.new ≡ output.old) (W.passed_on output.new) result }
+    output: W,
+) -> (Ending<'a>, W)
+    ensures { Comes (asked (texts words.now)) around.now (O.may_come opener.old) (O.asked opener.old)
+        (O.asked opener.new) (opener.new ≡ opener.old) (result.1 ≡ output) (W.held output) (W.held result.1)
+        (W.passed_on result.1) result.0 }
 {
     match read_words(words) {
         Ok(job) => run_job(around, &job, opener, buffers, output),
-        Err(usage) => Ending::BadWord(usage),
+        Err(usage) => (Ending::BadWord(usage), output),
     }
 }
 
 /// Runs a job.
-fn run_job<'a, 'b, O: Opener<'b>, W: Sink>(
+fn run_job<'a, 'b, O: Opener<'b>, W: Sink + Drop>(
     around: &Surroundings,
     job: &Job<'a>,
     opener: &mut O,
     buffers: &'b mut Vec<u8>,
-    output: &mut W,
-) -> Ending<'a>
+    output: W,
+) -> (Ending<'a>, W)
     ensures opens { Opens (O.may_come opener.old) (O.asked opener.old) (O.asked opener.new)
-        (readings_of (asked_of job.now)) result }
-    ensures prints { (output.new ≡ output.old) ⊎ Passes result (W.passed_on output.new) }
+        (readings_of (asked_of job.now)) result.0 }
+    ensures pages { ComesToPages (O.may_come opener.old) (asked_of job.now) around.now result.0 (W.held output)
+        (W.held result.1) }
+    ensures prints { (result.1 ≡ output) ⊎ Passes result.0 (W.passed_on result.1) }
 {
     match job.plain.says {
         Some(says) => say(says, output),
@@ -145,27 +163,30 @@ fn run_job<'a, 'b, O: Opener<'b>, W: Sink>(
 }
 
 /// Runs a job that prints pages.
-fn format_job<'a, 'b, O: Opener<'b>, W: Sink>(
+fn format_job<'a, 'b, O: Opener<'b>, W: Sink + Drop>(
     around: &Surroundings,
     job: &Job<'a>,
     opener: &mut O,
     buffers: &'b mut Vec<u8>,
-    output: &mut W,
-) -> Ending<'a>
+    output: W,
+) -> (Ending<'a>, W)
     ensures opens { Opens (O.may_come opener.old) (O.asked opener.old) (O.asked opener.new)
-        (readings_of (asked_of job.now)) result }
-    ensures prints { (output.new ≡ output.old) ⊎ Passes result (W.passed_on output.new) }
+        (readings_of (asked_of job.now)) result.0 }
+    ensures pages { ComesTo (O.may_come opener.old) (asked_of job.now) around.now result.0 (W.held output)
+        (W.held result.1) }
+    ensures prints { (result.1 ≡ output) ⊎ Passes result.0 (W.passed_on result.1) }
 {
     match read_of(job) {
         Ok(reading) => open_and_run(around, job, reading, opener, buffers, output),
-        Err(ending) => ending,
+        Err(ending) => (ending, output),
     }
 }
 
 /// The pages that a job prints and the coding of its texts, or why it isn't run: the list of pages is bad, the coding is
 /// not known, or macros are not in the program.
 fn read_of<'a>(job: &Job<'a>) -> Result<Reading, Ending<'a>>
-    ensures { IfErr result IsUnopened }
+    ensures read { IfOk result (λ reading. IsReading (asked_of job.now) reading) }
+    ensures unopened { IfErr result IsUnopened }
 {
     let select = match selected(job) {
         Ok(select) => select,
@@ -184,17 +205,18 @@ fn read_of<'a>(job: &Job<'a>) -> Result<Reading, Ending<'a>>
 }
 
 /// Prints the version, or how the program is called.
-fn say<'a, W: Sink>(says: Says, output: &mut W) -> Ending<'a>
-    ensures run { IsOfRun result }
-    ensures passed_on { Passes result (W.passed_on output.new) }
+fn say<'a, W: Sink>(says: Says, output: W) -> (Ending<'a>, W)
+    ensures run { IsOfRun result.0 }
+    ensures passed_on { Passes result.0 (W.passed_on result.1) }
 {
+    let mut output = output;
     let put = match says {
         Says::Version => output.put(VERSION),
         Says::Help => output.put(HELP),
     };
     match output.flush() {
-        Ok(()) => said(put),
-        Err(_) => Ending::WriteFault,
+        Ok(()) => (said(put), output),
+        Err(_) => (Ending::WriteFault, output),
     }
 }
 
@@ -209,7 +231,9 @@ fn said<'a>(put: Result<(), Fault>) -> Ending<'a>
 }
 
 /// The pages that a job prints.
-fn selected<'a>(job: &Job<'a>) -> Result<Select, Usage<'a>> {
+fn selected<'a>(job: &Job<'a>) -> Result<Select, Usage<'a>>
+    ensures { IfOk result (IsSelected (asked_of job.now).pages) }
+{
     let Some(pages) = job.pages else {
         return Ok(Select::all());
     };
@@ -223,7 +247,9 @@ fn selected<'a>(job: &Job<'a>) -> Result<Select, Usage<'a>> {
 }
 
 /// The coding that a job names.
-fn coding_of<'a>(job: &Job<'a>) -> Result<Option<Coding>, Usage<'a>> {
+fn coding_of<'a>(job: &Job<'a>) -> Result<Option<Coding>, Usage<'a>>
+    ensures { IfOk result (IsNamed (asked_of job.now).coding) }
+{
     let Some(name) = job.coding else {
         return Ok(None);
     };
@@ -237,24 +263,27 @@ fn coding_of<'a>(job: &Job<'a>) -> Result<Option<Coding>, Usage<'a>> {
 }
 
 /// Opens the texts of a job, and runs it.
-fn open_and_run<'a, 'b, O: Opener<'b>, W: Sink>(
+fn open_and_run<'a, 'b, O: Opener<'b>, W: Sink + Drop>(
     around: &Surroundings,
     job: &Job<'a>,
     reading: Reading,
     opener: &mut O,
     buffers: &'b mut Vec<u8>,
-    output: &mut W,
-) -> Ending<'a>
+    output: W,
+) -> (Ending<'a>, W)
+    requires { IsReading (asked_of job.now) reading }
     ensures opens { Opens (O.may_come opener.old) (O.asked opener.old) (O.asked opener.new)
-        (readings_of (asked_of job.now)) result }
-    ensures prints { (output.new ≡ output.old) ⊎ Passes result (W.passed_on output.new) }
+        (readings_of (asked_of job.now)) result.0 }
+    ensures pages { ComesTo (O.may_come opener.old) (asked_of job.now) around.now result.0 (W.held output)
+        (W.held result.1) }
+    ensures prints { (result.1 ≡ output) ⊎ Passes result.0 (W.passed_on result.1) }
 {
     let texts = texts_of(job);
     match open_all(&texts, around.alloc, opener, buffers) {
         Ok(mut opened) => run_texts(job, reading, around, &mut opened, output),
         Err(why) => match why {
-            NotRun::CannotOpen(input) => Ending::CannotOpen(input),
-            NotRun::OutOfMemory => Ending::OutOfMemory,
+            NotRun::CannotOpen(input) => (Ending::CannotOpen(input), output),
+            NotRun::OutOfMemory => (Ending::OutOfMemory, output),
         },
     }
 }
@@ -266,6 +295,8 @@ fn open_all<'a, 'b, O: Opener<'b>>(
     opener: &mut O,
     buffers: &'b mut Vec<u8>,
 ) -> Result<Vec<O::Text>, NotRun<'a>>
+    ensures opened { IfOk result (λ opened. AreOpen (O.may_come opener.old) (readings (texts_asked texts.now))
+        (map O.Text.supply opened.items)) }
     ensures asked { OnOk result
         (Asks (O.asked opener.old) (O.asked opener.new) (readings (texts_asked texts.now))) }
     ensures refused { IfErr result (λ why. IsRefused (O.may_come opener.old) (O.asked opener.old)

@@ -1,15 +1,23 @@
 //! A run over texts that are open.
-ghost use Rattle.std.specs.Prelude.{IfOk};
+ghost use Rattle.std.specs.Prelude.{◌≡◌, ◌++◌, IfErr, IfOk, IfSome, Some, length, map, true};
+ghost use Rattle.nr_units.specs.Source.{Supply};
+ghost use Rattle.nr_command_options.specs.Files.{files_supply};
+ghost use Rattle.program_options.specs.Job.{asked_of};
+ghost use Rattle.program_plan.specs.Kinds.{is_manual};
+ghost use Rattle.program_plan.specs.Macros.{macros_of};
+ghost use Rattle.program_plan.specs.Texts.{macro_names};
+ghost use Rattle.program_command.specs.Plan.{AreOptions, IsSelected, plan_of};
 ghost use Rattle.program_command.specs.Program.{IsOfRun, Passes};
+ghost use Rattle.program_command.specs.Running.{AreMacros, FrontGives, IsReading, IsTold, Runs, files_of, first_of, is_for_others, text_of, under};
 
 use crate::endings::{Ending, Place};
-use crate::own::{is_beyond_ascii, may_need_own, print_beyond};
-use crate::plan::{LOOKED_AT, MORE_LOOKED_AT, limits_of, options_of, plan_of};
-use crate::printing::{Means, print_fixed};
+use crate::own::{is_beyond_ascii, print_by_plan};
+use crate::plan::{LOOKED_AT, MORE_LOOKED_AT, Plan, limits_of, options_of, plan_of};
+use crate::printing::Means;
 use crate::surroundings::Surroundings;
 use document_printing::{Front, Outcome, Report, hold};
 use nr_command_options::chain;
-use nr_engine::{CountedAlloc, Desk, Sink, Source};
+use nr_engine::{CountedAlloc, Desk, Options, Sink, Source};
 use nr_page::Select;
 use preconv_coding::{Coding, UnderCoding};
 use program_options::Job;
@@ -27,7 +35,8 @@ pub(crate) struct Reading {
 
 /// What a report comes to, for texts of which the first has this name.
 fn ending_of<'a>(report: &Report, name: &'a str) -> Ending<'a>
-    ensures { IsOfRun result }
+    ensures run { IsOfRun result }
+    ensures told { IsTold name.entry.now report.now result }
 {
     let place = Place {
         name,
@@ -44,7 +53,9 @@ fn ending_of<'a>(report: &Report, name: &'a str) -> Ending<'a>
 }
 
 /// The name of the first text.
-fn first_name<'a>(job: &Job<'a>) -> &'a str {
+fn first_name<'a>(job: &Job<'a>) -> &'a str
+    ensures { result.now ≡ first_of (asked_of job.now).files }
+{
     match job.files.first() {
         Some(name) => *name,
         None => "-",
@@ -52,7 +63,9 @@ fn first_name<'a>(job: &Job<'a>) -> &'a str {
 }
 
 /// How many of the texts of a job are macro files.
-fn macro_count(job: &Job<'_>) -> usize {
+fn macro_count(job: &Job<'_>) -> usize
+    ensures { result ≡ length (macro_names (asked_of job.now)) }
+{
     if job.folder.is_some() {
         job.macros.len()
     } else {
@@ -60,30 +73,35 @@ fn macro_count(job: &Job<'_>) -> usize {
     }
 }
 
-/// Runs a job over its texts, and flushes the output, after a fault too.
-pub(crate) fn run_texts<'a, T: Source + Drop, W: Sink>(
+/// Runs a job over its texts, and flushes the output, after a fault too. Gives the output back.
+pub(crate) fn run_texts<'a, T: Source + Drop, W: Sink + Drop>(
     job: &Job<'a>,
     reading: Reading,
     around: &Surroundings,
     texts: &mut [T],
-    output: &mut W,
-) -> Ending<'a>
-    ensures run { IsOfRun result }
-    ensures passed_on { Passes result (W.passed_on output.new) }
+    output: W,
+) -> (Ending<'a>, W)
+    requires { IsReading (asked_of job.now) reading }
+    ensures run { IsOfRun result.0 }
+    ensures runs { Runs (asked_of job.now) around.now (files_of (asked_of job.now) (map T.supply texts.old))
+        (text_of (asked_of job.now) reading.coding (map T.supply texts.old))
+        result.0 (W.held output) (W.held result.1) }
+    ensures passed_on { Passes result.0 (W.passed_on result.1) }
 {
     let count = macro_count(job).min(texts.len());
     let (macros, pages) = texts.split_at_mut(count);
-    let ending = settled(run_all(job, reading, around, macros, pages, output));
+    let (mut output, ran) = run_all(job, reading, around, macros, pages, output);
+    let ending = settled(ran);
     match output.flush() {
-        Ok(()) => ending,
-        Err(_) => Ending::WriteFault,
+        Ok(()) => (ending, output),
+        Err(_) => (Ending::WriteFault, output),
     }
 }
 
 /// How a run ended, for which there was enough memory or not.
 fn settled<'a>(ran: Result<Ending<'a>, AllocError>) -> Ending<'a>
-    requires { IfOk ran IsOfRun }
-    ensures { IsOfRun result }
+    ensures ended { IfOk ran.entry (λ ending. result ≡ ending) }
+    ensures refused { IfErr ran.entry (λ _. result ≡ Ending.OutOfMemory) }
 {
     match ran {
         Ok(ending) => ending,
@@ -92,74 +110,146 @@ fn settled<'a>(ran: Result<Ending<'a>, AllocError>) -> Ending<'a>
 }
 
 /// Runs a job over its texts, macro files first. `AllocError` where there was not enough memory: then nothing is printed.
-fn run_all<'a, T: Source + Drop, W: Sink>(
+fn run_all<'a, T: Source + Drop, W: Sink + Drop>(
     job: &Job<'a>,
     reading: Reading,
     around: &Surroundings,
     macros: &mut [T],
     pages: &mut [T],
-    output: &mut W,
-) -> Result<Ending<'a>, AllocError>
-    ensures { IfOk result IsOfRun }
+    output: W,
+) -> (W, Result<Ending<'a>, AllocError>)
+    requires { IsReading (asked_of job.now) reading }
+    ensures run { IfOk result.1 IsOfRun }
+    ensures runs { IfOk result.1 (λ ending. Runs (asked_of job.now) around.now (files_supply (map T.supply macros.old))
+        (under reading.coding (files_supply (map T.supply pages.old))) ending (W.held output) (W.held result.0)) }
+    ensures unprinted { IfErr result.1 (λ _. result.0 ≡ output) }
 {
     let Reading { select, coding } = reading;
-    let mut room = vec![in around.alloc; 0u8; LOOKED_AT]?;
+    let Ok(mut room) = vec![in around.alloc; 0u8; LOOKED_AT] else {
+        return (output, Err(AllocError));
+    };
     let front = hold(under_coding(chain(pages), coding), &mut room);
-    if job.plain.is_alone && asks_for_others(front.first()) {
-        return Ok(Ending::NeedsOthers);
+    let first = front.first();
+    if is_for_others(job, first) {
+        return (output, Ok(Ending::NeedsOthers));
     }
-    if front.first().len() == LOOKED_AT && is_beyond_ascii(front.first()) {
-        let mut more = vec![in around.alloc; 0u8; MORE_LOOKED_AT]?;
+    if first.len() == LOOKED_AT && is_beyond_ascii(first) {
+        let Ok(mut more) = vec![in around.alloc; 0u8; MORE_LOOKED_AT] else {
+            return (output, Err(AllocError));
+        };
         let front = hold(front, &mut more);
         return run_front(job, select, around, macros, front, output);
     }
     run_front(job, select, around, macros, front, output)
 }
 
+/// Whether words ask not to print a text that asks for other programs, as one does that begins with these bytes.
+fn is_for_others(job: &Job<'_>, first: &[u8]) -> bool
+    ensures { result ≡ is_for_others (asked_of job.now) first.now }
+{
+    job.plain.is_alone && asks_for_others(first)
+}
+
 /// Texts under the coding that is named for them, or under that which the first of them says.
-fn under_coding<S: Source + Drop>(texts: S, coding: Option<Coding>) -> UnderCoding<S> {
+fn under_coding<S: Source + Drop>(texts: S, coding: Option<Coding>) -> UnderCoding<S>
+    ensures { ⟦<UnderCoding<S> as Source>⟧.supply result ≡ under coding (S.supply texts) }
+{
     match coding {
         Some(coding) => UnderCoding::under(texts, coding),
         None => UnderCoding::over(texts),
     }
 }
 
+/// What a page is printed with.
+#[derive(Drop)]
+struct Ready {
+    /// What is read before it.
+    before: Vec<u8>,
+    plan: Plan,
+    options: Options,
+    desk: Desk,
+}
+
+/// Makes ready for pages that begin with these bytes. Nothing where a macro file fails.
+fn make_ready<T: Source + Drop>(
+    job: &Job<'_>,
+    select: Select,
+    around: &Surroundings,
+    macros: &mut [T],
+    front: &[u8],
+) -> Result<Option<Ready>, AllocError>
+    requires { IsSelected (asked_of job.now).pages select }
+    ensures plan { IfOk result (λ made. IfSome made (λ ready. ready.plan
+        ≡ plan_of (asked_of job.now) around.now (macros_of (is_manual front.now) (asked_of job.now)) front.now)) }
+    ensures macros { IfOk result (λ made. IfSome made (λ ready. AreMacros (asked_of job.now)
+        (macros_of (is_manual front.now) (asked_of job.now)) (files_supply (map T.supply macros.old)) ready.before.items)) }
+    ensures options { IfOk result (λ made. IfSome made (λ ready. AreOptions (asked_of job.now) ready.plan ready.options)) }
+    ensures limits { IfOk result (λ made. IfSome made (λ ready. ready.desk ≡ (asked_of job.now).limits)) }
+{
+    let kind = macros_of(job, is_manual(front));
+    let mut before = text_before(job, kind, around.alloc)?;
+    if !add_all(&mut chain(macros), &mut before)? {
+        return Ok(None);
+    }
+    let plan = plan_of(job, kind, around, front)?;
+    let desk = Desk::new(&mut CountedAlloc::new(around.alloc), job.limits)?;
+    let options = options_of(job, &plan, select);
+    Ok(Some(Ready {
+        before,
+        plan,
+        options,
+        desk,
+    }))
+}
+
 /// The same over pages of which the first bytes were read.
-fn run_front<'a, T: Source + Drop, R: Source + Drop, W: Sink>(
+fn run_front<'a, 'p, T: Source + Drop, R: Source + Drop, W: Sink + Drop>(
     job: &Job<'a>,
     select: Select,
     around: &Surroundings,
     macros: &mut [T],
-    front: Front<'_, R>,
-    output: &mut W,
-) -> Result<Ending<'a>, AllocError>
-    ensures { IfOk result IsOfRun }
+    front: Front<'p, R>,
+    output: W,
+) -> (W, Result<Ending<'a>, AllocError>)
+    requires { IsSelected (asked_of job.now).pages select }
+    ensures run { IfOk result.1 IsOfRun }
+    ensures prints { IfOk result.1 (λ ending. FrontGives (asked_of job.now) around.now (files_supply (map T.supply macros.old))
+        (⟦<Front<'p, R> as Source>⟧.supply front.entry) ending (W.held output) (W.held result.0)) }
+    ensures checks { (asked_of job.now).plain.checks ≡ true → result.0 ≡ output }
+    ensures unprinted { IfErr result.1 (λ _. result.0 ≡ output) }
 {
     let name = first_name(job);
-    let kind = macros_of(job, is_manual(front.first()));
-    let mut before = text_before(job, kind, around.alloc)?;
-    if !add_all(&mut chain(macros), &mut before)? {
-        return Ok(Ending::ReadFault(Place { name, line: 0 }));
-    }
-    let plan = plan_of(job, kind, around, front.first())?;
-    let mut desk = Desk::new(&mut CountedAlloc::new(around.alloc), job.limits)?;
-    let options = options_of(job, &plan, select);
+    let first = front.first();
+    let Ok(made) = make_ready(job, select, around, macros, first) else {
+        return (output, Err(AllocError));
+    };
+    let Some(ready) = made else {
+        return (output, Ok(Ending::ReadFault(Place { name, line: 0 })));
+    };
+    let Ready {
+        before,
+        plan,
+        options,
+        mut desk,
+    } = ready;
     let means = Means {
         macros: &before,
         options: &options,
         limits: limits_of(job),
         alloc: around.alloc,
     };
-    let report = if may_need_own(&plan, front.first()) {
-        print_beyond(front, &plan, means, &mut desk, output)?
-    } else {
-        print_fixed(front, &plan, means, &mut desk, output)?
-    };
-    Ok(ending_of(&report, name))
+    let (output, printed) = print_by_plan(front, first, &plan, means, &mut desk, output);
+    match printed {
+        Ok(report) => (output, Ok(ending_of(&report, name))),
+        Err(error) => (output, Err(error)),
+    }
 }
 
 /// Adds what a source gives, to its end. Tells whether the source failed nowhere.
-fn add_all<S: Source>(source: &mut S, text: &mut Vec<u8>) -> Result<bool, AllocError> {
+fn add_all<S: Source>(source: &mut S, text: &mut Vec<u8>) -> Result<bool, AllocError>
+    ensures { IfOk result (λ whole. whole ≡ true → (q : Supply) → S.supply source.old ≡ Some q →
+        text.new.items ≡ text.old.items ++ q.bytes) }
+{
     for _ in 0..u64::MAX {
         match source.next() {
             Ok(Some(byte)) => text.push(byte)?,

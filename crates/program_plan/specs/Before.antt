@@ -1,5 +1,5 @@
--- The cells of a line.
-use Rattle.std.specs.Prelude.{ℕ, List, [], ◌∷◌, Bool, Option, None, Some, ◌||◌, if◌then◌else◌, codes}
+-- The cells of a line, and what is read before a text.
+use Rattle.std.specs.Prelude.{◌≡◌, ℕ, List, [], ◌∷◌, ◌++◌, Bool, true, false, Option, None, Some, ◌||◌, if◌then◌else◌, codes}
 use Rattle.std.specs.Str.{bytes_eq}
 use Rattle.program_options.specs.Job.{Asked}
 use Rattle.program_plan.specs.declared.macros.Macros.{Macros}
@@ -26,3 +26,13 @@ or_usual None usual = usual
 -- where no word sets them, those of the macro files
 abbrev pub cells_of : Macros → Asked → ℕ
 cells_of macros asked = or_usual asked.plain.width (usual_cells macros asked.macros)
+
+-- the macros of manual pages
+abbrev pub is_of_manual : Macros → Bool
+is_of_manual Manual = true
+is_of_manual other = false
+
+-- these bytes come first
+pub record BeginsWith (first all : List ℕ) : Type 0 where
+  pub rest : List ℕ
+  pub is : all ≡ first ++ rest

@@ -1,7 +1,8 @@
 //! What is read before a text.
-ghost use Rattle.std.specs.Prelude.{◌≡◌};
+ghost use Rattle.std.specs.Prelude.{◌≡◌, OnOk, IfOk};
 ghost use Rattle.program_options.specs.Job.{asked_of, texts};
-ghost use Rattle.program_plan.specs.Before.{cells_of, is_paper, usual_cells};
+ghost use Rattle.program_plan.specs.Before.{BeginsWith, cells_of, is_of_manual, is_paper, usual_cells};
+ghost use Rattle.program_plan.specs.Prefix.{prefix};
 
 use crate::macros::{Macros, file_name};
 use crate::prefix::put_prefix;
@@ -50,26 +51,60 @@ fn usual_cells(macros: Macros, names: &[&str]) -> usize
     }
 }
 
+/// Whether these are the macros of manual pages.
+fn is_of_manual(macros: Macros) -> bool
+    ensures { result ≡ is_of_manual macros }
+{
+    match macros {
+        Macros::Manual => true,
+        Macros::None | Macros::Named => false,
+    }
+}
+
 /// What is read before a text: the lines of the words, and the macro files of the program, if they are from there.
-pub fn text_before(job: &Job<'_>, macros: Macros, alloc: Global) -> Result<Vec<u8>, AllocError> {
+///
+/// Proved: What is read before a text begins with what the words set. (`text_before`)
+pub fn text_before(job: &Job<'_>, macros: Macros, alloc: Global) -> Result<Vec<u8>, AllocError>
+    ensures { IfOk result (λ text. BeginsWith (prefix (is_of_manual macros) (asked_of job.now)) text.items) }
+{
     let mut text = Vec::new(alloc);
-    put_prefix(job, macros == Macros::Manual, &mut text)?;
-    if job.macros.is_empty() {
-        if macros == Macros::Manual {
-            put_file("an", &mut text)?;
-        }
-        return Ok(text);
-    }
-    if job.folder.is_none() {
-        for name in &job.macros {
-            put_file(file_name(name), &mut text)?;
-        }
-    }
+    put_prefix(job, is_of_manual(macros), &mut text)?;
+    put_files(job, macros, &mut text)?;
     Ok(text)
 }
 
+/// Adds the macro files of the program, if they are from there.
+fn put_files(job: &Job<'_>, macros: Macros, text: &mut Vec<u8>) -> Result<(), AllocError>
+    ensures { OnOk result (BeginsWith text.old.items text.new.items) }
+{
+    if job.macros.is_empty() {
+        return if is_of_manual(macros) {
+            put_file("an", text)
+        } else {
+            Ok(())
+        };
+    }
+    if job.folder.is_none() {
+        put_named(job.macros.as_slice(), text)
+    } else {
+        Ok(())
+    }
+}
+
+/// Adds the files of these macros, as far as the program has them.
+fn put_named(names: &[&str], text: &mut Vec<u8>) -> Result<(), AllocError>
+    ensures { OnOk result (BeginsWith text.old.items text.new.items) }
+{
+    for name in names {
+        put_file(file_name(name), text)?;
+    }
+    Ok(())
+}
+
 /// Adds the macro file of that name, if the program has it.
-fn put_file(name: &str, text: &mut Vec<u8>) -> Result<(), AllocError> {
+fn put_file(name: &str, text: &mut Vec<u8>) -> Result<(), AllocError>
+    ensures { OnOk result (BeginsWith text.old.items text.new.items) }
+{
     match macro_file(name.as_bytes()) {
         Some(file) => text.extend_from_slice(file),
         None => Ok(()),

@@ -6,7 +6,7 @@ use Rattle.program_command.proofs.program.format_job.Goals as goal
 
 pub returns-in-Err-clause-opens : goal.returns-in-Err-clause-opens
 returns-in-Err-clause-opens g c =
-    Opens-none (g.O.Opener.may_come c.args.opener.now) (g.O.Opener.asked c.args.opener.now) (readings_of (asked_of c.args.job.now)) c.in-Err.ending c.in-Err.ensures
+    Opens-none (g.O.Opener.may_come c.args.opener.now) (g.O.Opener.asked c.args.opener.now) (readings_of (asked_of c.args.job.now)) c.in-Err.ending c.in-Err.ensures.unopened
 
 pub returns-in-Err-clause-prints : goal.returns-in-Err-clause-prints
 returns-in-Err-clause-prints g c = inl refl

@@ -1,0 +1,21 @@
+use Rattle.std.proofs.Common.{ℕ, List, map, sym, subst}
+use Rattle.nr_command_options.specs.Files.{files_supply}
+use Rattle.program_options.specs.Job.{Asked, asked_of}
+use Rattle.program_plan.specs.Kinds.{is_manual}
+use Rattle.program_plan.specs.Macros.{macros_of}
+use Rattle.program_command.specs.Running.{AreMacros, IsTold}
+use Rattle.program_command.proofs.Texts.{FrontGives-of}
+use Rattle.program_command.proofs.running.run_front.Goals as goal
+
+pub returns-in-Ok-printed-clause-prints : goal.returns-in-Ok-printed-clause-prints
+returns-in-Ok-printed-clause-prints g c =
+    let job : Asked = asked_of c.args.job.now in
+    let ready = c.in-Some.ready in
+    let first = c.first-first.result.now in
+    let files = files_supply (map g.T.Source.supply c.args.macros.now) in
+    FrontGives-of job c.args.around.now files _ first ready.plan c.deref.result.now ready.options c.limits_of.result ready.desk c.in-Ok-printed.report c.ending_of.result
+    (g.W.Sink.held c.args.output) (g.W.Sink.held c.print_by_plan-output.result.0) c.first-first.ensures (rw c.in-Some.is at c.in-Ok.ensures.plan)
+    (subst (λ (m : List ℕ). AreMacros job (macros_of (is_manual first) job) files m) (sym c.deref.ensures.value) (rw c.in-Some.is at c.in-Ok.ensures.macros))
+    (rw c.in-Some.is at c.in-Ok.ensures.options) c.limits_of.ensures (rw c.in-Some.is at c.in-Ok.ensures.limits)
+    (rw c.in-Ok-printed.is at c.print_by_plan-output.ensures.prints)
+    (subst (λ (n : List ℕ). IsTold n c.in-Ok-printed.report c.ending_of.result) c.first_name-name.ensures c.ending_of.ensures.told)

@@ -1,0 +1,6 @@
+-- What was there comes first.
+use Rattle.program_plan.specs.Before.{BeginsWith}
+use Rattle.program_plan.proofs.before.put_named.Given as goal
+
+abbrev pub invariant-loop-name : goal.invariant-loop-name
+invariant-loop-name l = BeginsWith l.initial.text.items l.text.items
