@@ -89,7 +89,8 @@ enum nulbiko_table {
     NULBIKO_CYRILLIC = 3,
     NULBIKO_GREEK = 4,
     NULBIKO_LATIN1 = 5, /* Latin-1 at its own bytes: for a program that prints it as it is. */
-    NULBIKO_CHOSEN = 6,  /* Of nulbiko_document: the one that nulbiko_choose gives for the page. */
+    NULBIKO_CHOSEN = 6,  /* Of nulbiko_document: the one that nulbiko_choose gives for the page, or in UTF-8, where that lacks
+                          * a letter with its marks that the page prints, one of the page's own. */
     NULBIKO_UNCHOSEN = 7 /* Of nulbiko_choose: malloc gave no memory to look at the page. No call takes it. */
 };
 
@@ -166,7 +167,9 @@ struct nulbiko_report {
 #define NULBIKO_REPORT {sizeof(struct nulbiko_report), 0, 0, 0, 0, 0, 0}
 
 /* Prints a whole page: mdoc, preconv, tbl, nroff and utf8 in one call. The page is read under its coding before that, as
- * nulbiko_preconv reads one. Of a page in UTF-8 the bytes are those of the five calls below, one after the other. */
+ * nulbiko_preconv reads one. Of a page in UTF-8 the bytes are those of the five calls below, one after the other, but of one
+ * that has a table of its own, as of Japanese, Chinese, Korean, Czech and Vietnamese: these calls have the fixed tables
+ * alone. A page beyond ASCII takes 1 MB of memory more, and 600 kB of the stack. */
 enum nulbiko_outcome nulbiko_document(const struct nulbiko_limits *limits, const struct nulbiko_document_options *options,
                                       const void *input, size_t length, void *output, size_t capacity,
                                       struct nulbiko_report *report);

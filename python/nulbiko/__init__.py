@@ -146,7 +146,7 @@ def document(text, macros=b'', width=78, limits=LIMITS, first=1, table='chosen',
     the page under its coding.
 
     The width is that of the macros and of tables: a text without macro files begins with `.ll`. The table is that which `choose`
-    gives where it is nothing else; without one (None) the form is 'bytes'. What `form` may be is in `FORMS`. `bold` is that of
+    gives where it is nothing else, or in UTF-8 one of the page's own, where that lacks a letter of the page; without one (None) the form is 'bytes'. What `form` may be is in `FORMS`. `bold` is that of
     `format`. With `long_page` it is one page; with `mdoc` a page of mdoc(7) is turned; with `tables` tables are set.
     """
     for name, number, most in ('width', width, 2**32), ('first', abs(first), 2**31):

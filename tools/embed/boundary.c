@@ -311,6 +311,13 @@ static void outcomes(void)
 static const char macros[] = ".de TH\n..\n.pl 3\n.ll \\nLn\n";
 static const char whole[] = ".TH A 1\n\xe2\x80\x93 \\fIx\\fP\n.TS\nl l.\na\tb\n.TE\n";
 
+/* Letters that no fixed table has, of one column and of two, and a letter with a mark of its own. */
+static const char native[] =
+    ".TH A 1\n\xe6\x97\xa5\xe6\x9c\xac \\fI\xc5\x98\\fP x\xcc\xa3\n.TS\nbox;\nl.\n\xe6\x97\xa5\n.TE\n";
+static const char shown[] =
+    "\xe6\x97\xa5\xe6\x9c\xac \xc5\x98 x\xcc\xa3\n\xe2\x94\x8c\xe2\x94\x80\xe2\x94\x80\xe2\x94\x80\xe2\x94\x90\n"
+    "\xe2\x94\x82\xe6\x97\xa5 \xe2\x94\x82\n\xe2\x94\x94\xe2\x94\x80\xe2\x94\x80\xe2\x94\x80\xe2\x94\x98\n\n\n";
+
 static void documents(void)
 {
     struct nulbiko_document_options set = plainly();
@@ -327,6 +334,9 @@ static void documents(void)
     judge("document: UTF-8", document(&plain, set, whole, sizeof out) == NULBIKO_DONE &&
                                  put_out("\xe2\x80\x93 _\bx\na   b\n\n") && report.dropped == 0);
     judge("document: UTF-8, full", document(&plain, set, whole, 2) == NULBIKO_FULL && put_out("\xe2\x80"));
+    judge("document: its own table", document(&plain, set, native, sizeof out) == NULBIKO_DONE && put_out(shown) &&
+                                         report.dropped == 0);
+    judge("document: its own table, full", document(&plain, set, native, 2) == NULBIKO_FULL && put_out("\xe6\x97"));
     set.form = NULBIKO_ESCAPES;
     judge("document: escapes", document(&plain, set, whole, sizeof out) == NULBIKO_DONE &&
                                    put_out("\xe2\x80\x93 \033[4mx\033[24m\na   b\n\n"));

@@ -1,5 +1,6 @@
 mod CodedRun
 mod FormattingRun
+mod OwnRun
 mod PreconvRun
 mod MdocRun
 mod TblRun

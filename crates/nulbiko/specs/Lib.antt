@@ -3,6 +3,7 @@ pub mod Tables
 pub mod Formatting
 pub mod Preconv
 pub mod Mdoc
+pub mod Own
 pub mod Tbl
 pub mod Utf8
 pub mod Printed

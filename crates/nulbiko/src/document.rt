@@ -8,9 +8,11 @@ ghost use Rattle.nulbiko.specs.Formatting.{bounds_of};
 ghost use Rattle.nulbiko.specs.Told.{nothing_told};
 ghost use Rattle.nulbiko.specs.Document as specs;
 ghost use Rattle.nulbiko.specs.Document.{AreSet, IsAllowed, PrintsDocument, sets_of, table_for};
+ghost use Rattle.nulbiko.specs.Own.{AreShort, PrintsPage, asks_for_own, stages_of};
 
 use super::coded::text_of;
 use super::formatting::{TextLimits, TextOptions, options_of};
+use super::own::{own_cells, prepare as prepare_own, print_own};
 use super::pages::{Pages, hand_over};
 use super::printed::{Memory, code, form_of, print_pages, report_of};
 use super::tables::table_of;
@@ -24,6 +26,7 @@ use nr_units::sink::Sink;
 use preconv_converter::Target;
 use std::alloc::{AllocError, Global};
 use utf8_characters::Table;
+use utf8_own_page::may_need_own;
 
 /// The number of the table that the page takes.
 const CHOSEN: u32 = 6;
@@ -123,7 +126,7 @@ fn registers_for(asked: DocumentOptions) -> ArrayVec<(u8, i64), MOST_REGISTERS>
 }
 
 /// What the formatter is given.
-fn options_for(asked: DocumentOptions) -> Options
+pub(crate) fn options_for(asked: DocumentOptions) -> Options
     ensures { AreSet asked result }
 {
     let mut options = options_of(asked.text);
@@ -146,7 +149,7 @@ fn has_tables(page: &[u8]) -> bool
 }
 
 /// The limits of tables; a page without any has no room for them.
-fn table_limits(asked: TableLimits, sets: bool) -> PageLimits
+pub(crate) fn table_limits(asked: TableLimits, sets: bool) -> PageLimits
     ensures { result ≡ specs.page_limits asked sets }
 {
     if sets {
@@ -189,7 +192,7 @@ fn prepare(
     ensures taken { IfOk result (λ made. alloc.new ≡ alloc.old + sum_of (sizes_of limits) + room
         + memory_of (specs.page_limits setup.now.tables made.sets)) }
 {
-    let sets = setup.options.tables && has_tables(page);
+    let sets = sets_tables(setup, page);
     let tables = table_limits(setup.tables, sets);
     let desk = Desk::new(alloc, limits)?;
     let pages = Pages::new(alloc, room)?;
@@ -253,6 +256,30 @@ fn print_document(
     code_within(code(printed.outcome), bytes.len(), output.len())
 }
 
+/// The stages that a page goes through.
+pub(crate) fn stages_of(setup: &DocumentSetup) -> Stages
+    ensures { result ≡ stages_of setup.now }
+{
+    Stages {
+        mdoc: setup.options.mdoc,
+        characters: true,
+    }
+}
+
+/// Whether tables are set.
+pub(crate) fn sets_tables(setup: &DocumentSetup, text: &[u8]) -> bool
+    ensures { result ≡ sets_of setup.now text.now }
+{
+    setup.options.tables && has_tables(text)
+}
+
+/// Whether a page may have a table of its own.
+pub(crate) fn asks_for_own(setup: &DocumentSetup, text: &[u8]) -> bool
+    ensures { result ≡ asks_for_own setup.now text.now }
+{
+    setup.options.table == CHOSEN && setup.options.form != 0 && may_need_own(text)
+}
+
 /// Prints a page after macros, under limits, into a buffer, reports how it went, and gives the number of the outcome: 0 done,
 /// 1 a limit would be passed, 2 a limit or a number is out of range, 4 the buffer is full, 5 there is not enough memory, 6 a
 /// text is too long.
@@ -262,6 +289,10 @@ fn print_document(
 /// its coding, in their form: the bytes of the table, or what utf8 makes of them, which is a text for a terminal. Where
 /// not all fit the number is 4, and as many stand there as fit; where a limit would be passed it is 1, and the pages that
 /// had ended stand there. So it is where the text and what mdoc makes of it have less than 2^40 bytes. (`printed` of `nulbiko_document_lent`)
+/// Proved: **A page in UTF-8 that takes its table has one of its own** exactly where the fixed one that it takes lacks a letter with its
+/// marks that its first MiB prints. Then it goes out as `print_shown` of document_printing shows it, of the page in the bytes of that
+/// table, which has the most frequent ones that have room. So it is where what each stage is given has less than 2^40 bytes.
+/// (`takes_own` and `PrintsOwn` in Own.antt)
 /// Proved: The number is 2 exactly where a limit or a number is out of its range. Then, and where memory is refused (5),
 /// the output is as it was, and the report has zeros.
 #[unsafe(no_mangle)]
@@ -274,8 +305,8 @@ pub extern "C" fn nulbiko_document_lent(
     told: &mut Report,
 ) -> u32
     ensures ranges { (result ≡ 2) ↔ (IsAllowed setup.now → ⊥) }
-    ensures printed { result ≢ 2 → result ≢ 5 → IsShort (text_of page.now) (man_of setup.now.options.mdoc (text_of page.now))
-        → PrintsDocument setup.now macros.now (text_of page.now) output.new told.new result }
+    ensures printed { result ≢ 2 → result ≢ 5 → AreShort setup.now (text_of page.now)
+        → PrintsPage setup.now macros.now (text_of page.now) output.new told.new result }
     ensures bad { result ≡ 2 → (output.new ≡ output.old) × (told.new ≡ nothing_told) }
     ensures no_memory { result ≡ 5 → (output.new ≡ output.old) × (told.new ≡ nothing_told) }
     ensures rest { drop told.new.written output.new ≡ drop told.new.written output.old }
@@ -290,9 +321,19 @@ pub extern "C" fn nulbiko_document_lent(
     let Ok(characters) = table_for(alloc, setup.options.table, &text) else {
         return OUT_OF_MEMORY;
     };
+    let Ok(own) = own_cells(alloc, setup, &text, characters) else {
+        return OUT_OF_MEMORY;
+    };
     let mut counted = CountedAlloc::new(alloc);
-    match prepare(&mut counted, limits, setup, &text, characters, output.len()) {
-        Ok(prepared) => print_document(prepared, setup, macros, &text, output, told),
-        Err(_) => OUT_OF_MEMORY,
+    let room = output.len();
+    match own {
+        Some(cells) => match prepare_own(&mut counted, limits, setup, &text, cells, room) {
+            Ok(prepared) => print_own(prepared, setup, macros, &text, output, told),
+            Err(_) => OUT_OF_MEMORY,
+        },
+        None => match prepare(&mut counted, limits, setup, &text, characters, room) {
+            Ok(prepared) => print_document(prepared, setup, macros, &text, output, told),
+            Err(_) => OUT_OF_MEMORY,
+        },
     }
 }

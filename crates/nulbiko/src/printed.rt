@@ -3,7 +3,11 @@ ghost use Rattle.std.specs.Prelude.{◌≡◌, ◌≢◌, List, ℕ, [], Some};
 ghost use Rattle.document_stages.specs.Pulling.{whole};
 ghost use Rattle.document_reader.specs.Page.{IsShort, man_of};
 ghost use Rattle.document_printing.specs.Document.{Prints, setting_of, source_of};
+ghost use Rattle.utf8_own_characters.specs.Table.{Good};
+ghost use Rattle.document_printing.specs.declared.showing.PageTable.TheVariants as page_tables;
 ghost use Rattle.nulbiko.specs.Told.{count_told};
+ghost use Rattle.document_printing.specs.declared.showing.Spelling.TheVariants as spellings;
+ghost use Rattle.nulbiko.specs.Own.{IsCodedShort, ShowsCoded, coded_setup};
 ghost use Rattle.nulbiko.specs.Printed as specs;
 ghost use Rattle.nulbiko.specs.Printed.{IsPrinted};
 
@@ -11,14 +15,19 @@ use super::formatting::limit_number;
 use super::pages::Pages;
 use super::text::Text;
 use super::told::{DONE, FULL, LIMIT, Report, TOO_LONG, UNREADABLE, count_told};
-use document_printing::{Outcome, Report as Run, Rooms, Setup, print};
+use document_printing::{
+    Outcome, PageTable, Report as Run, Rooms, Setup, Showing, Spelling, Stages, print, print_shown,
+};
+use document_reader::{Places, read_own_page};
 use nr_engine::Desk;
 use nr_units::sink::Sink;
 use nr_units::source::Fault;
 use nr_vectors::slice_vec::SliceVec;
+use preconv_converter::Target;
 use tbl_setting::Complaint;
 use utf8_characters::Table;
 use utf8_converter::Shown;
+use utf8_own_characters::Table as OwnTable;
 
 /// The bytes of characters that go out at once.
 const ROOM: usize = 2_048;
@@ -110,8 +119,8 @@ fn ended(run: Run, strays: Result<u64, Fault>) -> Printed
     }
 }
 
-/// Prints a page as characters of a table.
-fn print_shown(
+/// Prints a page as characters of a fixed table.
+fn print_fixed(
     page: &[u8],
     table: Table,
     escapes: bool,
@@ -130,6 +139,57 @@ fn print_shown(
     let run = print_page(page, setup, memory, &mut shown);
     let (pages, strays) = shown.finish();
     (pages, ended(run, strays))
+}
+
+/// How a page is shown that has become the bytes of a table of its own.
+fn coded_showing<'a>(table: &'a OwnTable<'a>, escapes: bool, setup: Setup<'a>) -> Showing<'a>
+    ensures setup { result.setup ≡ coded_setup setup.entry }
+    ensures spelling { result.spelling ≡ spellings.Utf8 (page_tables.Own table.entry) escapes }
+{
+    Showing {
+        setup: Setup {
+            stages: Stages {
+                mdoc: false,
+                characters: false,
+            },
+            characters: Target::Ascii,
+            ..setup
+        },
+        spelling: Spelling::Utf8 {
+            table: PageTable::Own(table),
+            escapes,
+        },
+    }
+}
+
+/// Prints a page in the bytes of a table of its own, which are shown in UTF-8.
+pub(crate) fn print_coded<'a>(
+    page: &[u8],
+    table: &'a OwnTable<'a>,
+    escapes: bool,
+    setup: Setup<'a>,
+    memory: &mut Memory,
+    pages: Pages,
+) -> (Pages, Printed)
+    requires good { Good table.now }
+    ensures shown { ⟦<Pages as Sink>⟧.held pages ≡ Some [] →
+        IsCodedShort setup.entry.stages table.entry.now page.now →
+        (bytes : List ℕ) → ⟦<Pages as Sink>⟧.held result.0 ≡ Some bytes →
+        ShowsCoded (setting_of setup.entry memory.old.rooms.tables memory.old.desk)
+        table.entry.now escapes page.now bytes result.1.moves result.1.outcome }
+    ensures none_dropped { result.1.dropped ≡ 0 }
+{
+    let stages = setup.stages;
+    let showing = coded_showing(table, escapes, setup);
+    let mut places = Places::new();
+    let mut room = [0; ROOM];
+    let text = Text::over(page);
+    let coded = read_own_page(text, stages, table, places.lend(), &mut room);
+    let Memory { rooms, desk } = memory;
+    let mut slots = [Complaint::NONE];
+    let mut complaints = SliceVec::over(&mut slots);
+    let (pages, run) = print_shown(coded, &showing, rooms, &mut complaints, desk, pages);
+    (pages, ended(run, Ok(0)))
 }
 
 /// Prints a page in its form.
@@ -153,7 +213,7 @@ pub(crate) fn print_pages(
             (pages, ended(run, Ok(0)))
         }
         Form::Characters(table, escapes) => {
-            print_shown(page, table, escapes, setup, memory, pages)
+            print_fixed(page, table, escapes, setup, memory, pages)
         }
     }
 }

@@ -1,0 +1,168 @@
+// A page that has characters which no fixed table has is printed with a table of its own.
+ghost use Rattle.std.specs.Prelude.{◌≡◌, ◌≢◌, ◌+◌, [], Some, drop, true, IfOk};
+ghost use Rattle.nr_machine.specs.Lengths.{sizes_of, sum_of};
+ghost use Rattle.document_printing.specs.Rooms.{memory_of};
+ghost use Rattle.utf8_own_characters.specs.Counting.{is_once};
+ghost use Rattle.utf8_own_characters.specs.Ranking.{ranked};
+ghost use Rattle.utf8_own_page.specs.Looking.{counts_of};
+ghost use Rattle.utf8_own_page.specs.Needing.{front_of};
+ghost use Rattle.preconv_converter.specs.declared.target.Target.TheVariants.{Utf8};
+ghost use Rattle.document_reader.specs.Page.{plain_of};
+ghost use Rattle.nulbiko.specs.Document.{page_limits, sets_of, table_for};
+ghost use Rattle.nulbiko.specs.Formatting.{bounds_of};
+ghost use Rattle.nulbiko.specs.Own as specs;
+ghost use Rattle.nulbiko.specs.Own.{HasOwn, IsShortIf, LookIsShort, OwnIsShort, PrintsOwn};
+
+use super::document::{
+    DocumentSetup, asks_for_own, options_for, sets_tables, stages_of, table_limits,
+};
+use super::pages::{Pages, hand_over};
+use super::printed::{Memory, code, print_coded, report_of};
+use super::text::Text;
+use super::told::{Report, code_within};
+use document_printing::{Rooms, Setup, Stages};
+use document_reader::{Places, read_page};
+use nr_engine::{CountedAlloc, Desk, Limits};
+use nr_units::sink::Sink;
+use preconv_converter::Target;
+use std::alloc::{AllocError, Global};
+use utf8_characters::Table as Fixed;
+use utf8_own_characters::Count;
+use utf8_own_page::{Cells, counted, front_of, has_all, signs_of};
+
+/// Counts what the first of a page prints beyond ASCII, after what frames are drawn with.
+fn count_front(
+    alloc: Global,
+    stages: Stages,
+    frames: bool,
+    front: &[u8],
+) -> Result<Vec<Count>, AllocError>
+    ensures items { LookIsShort stages front.now →
+        IfOk result (λ counts. counts.items ≡ counts_of 4352 frames (plain_of stages Utf8 front.now)) }
+    ensures once { IfOk result (λ counts. is_once counts.items ≡ true) }
+{
+    let mut places = Places::new();
+    let text = Text::over(front);
+    let mut page = read_page(text, stages, Target::Utf8, places.lend());
+    counted(alloc, &mut page, frames)
+}
+
+/// Counts what a page prints beyond ASCII, and what frames are drawn with.
+fn count_page(alloc: Global, setup: &DocumentSetup, text: &[u8]) -> Result<Vec<Count>, AllocError>
+    ensures items { LookIsShort (specs.stages_of setup.now) (front_of text.now) →
+        IfOk result (λ counts. counts.items ≡ specs.counts_for setup.now text.now) }
+    ensures once { IfOk result (λ counts. is_once counts.items ≡ true) }
+{
+    let stages = stages_of(setup);
+    let frames = sets_tables(setup, text);
+    count_front(alloc, stages, frames, front_of(text))
+}
+
+/// Whether the fixed table that a page takes lacks one of these.
+fn lacks(characters: Option<Fixed>, counts: &[Count]) -> bool
+    ensures { result ≡ specs.lacks characters counts.now }
+{
+    match characters {
+        Some(table) => !has_all(table, counts),
+        None => false,
+    }
+}
+
+/// The characters of a page's own table, where no fixed one has all that it prints.
+pub(crate) fn own_cells(
+    alloc: Global,
+    setup: &DocumentSetup,
+    text: &[u8],
+    characters: Option<Fixed>,
+) -> Result<Option<Cells>, AllocError>
+    ensures { IfOk result (λ own. IsShortIf (specs.asks_for_own setup.now text.now) setup.now text.now →
+        characters ≡ table_for setup.now.options.table text.now → HasOwn setup.now text.now own) }
+{
+    if !asks_for_own(setup, text) {
+        return Ok(None);
+    }
+    let counts = count_page(alloc, setup, text)?;
+    if !lacks(characters, &counts) {
+        return Ok(None);
+    }
+    Ok(Some(Cells::of(alloc, &counts)?))
+}
+
+/// What a page is printed with that has a table of its own.
+pub(crate) struct Prepared {
+    /// Its tables are set.
+    sets: bool,
+    cells: Cells,
+    pages: Pages,
+    memory: Memory,
+}
+
+/// Takes the memory for a page with these characters, of which so many bytes may go out.
+pub(crate) fn prepare(
+    alloc: &mut CountedAlloc,
+    limits: Limits,
+    setup: &DocumentSetup,
+    text: &[u8],
+    cells: Cells,
+    room: usize,
+) -> Result<Prepared, AllocError>
+    ensures sets { IfOk result (λ made. made.sets ≡ sets_of setup.now text.now) }
+    ensures cells { IfOk result (λ made. made.cells ≡ cells) }
+    ensures pages { IfOk result (λ made. ⟦<Pages as Sink>⟧.held made.pages ≡ Some []) }
+    ensures limits { IfOk result (λ made. made.memory.desk ≡ limits) }
+    ensures taken { IfOk result (λ made. alloc.new ≡ alloc.old + sum_of (sizes_of limits) + room
+        + memory_of (page_limits setup.now.tables made.sets)) }
+{
+    let sets = sets_tables(setup, text);
+    let tables = table_limits(setup.tables, sets);
+    let signs = signs_of(&cells.table());
+    let desk = Desk::new(alloc, limits)?;
+    let pages = Pages::new(alloc, room)?;
+    let rooms = Rooms::drawn_with(alloc, tables, setup.options.width as usize, signs)?;
+    Ok(Prepared {
+        sets,
+        cells,
+        pages,
+        memory: Memory { rooms, desk },
+    })
+}
+
+/// Prints a page with a table of its own, hands its pages over and gives the number of the outcome.
+pub(crate) fn print_own(
+    prepared: Prepared,
+    setup: &DocumentSetup,
+    macros: &[u8],
+    text: &[u8],
+    output: &mut [u8],
+    told: &mut Report,
+) -> u32
+    ensures printed { prepared.sets ≡ sets_of setup.now text.now →
+        ⟦<Pages as Sink>⟧.held prepared.pages ≡ Some [] → prepared.memory.desk ≡ bounds_of setup.now.limits →
+        prepared.cells ≡ ranked (specs.counts_for setup.now text.now) → OwnIsShort setup.now text.now →
+        PrintsOwn setup.now macros.now text.now output.new told.new result }
+    ensures not_range { result ≢ 2 }
+    ensures not_memory { result ≢ 5 }
+    ensures rest { drop told.new.written output.new ≡ drop told.new.written output.old }
+{
+    let Prepared {
+        sets,
+        cells,
+        pages,
+        mut memory,
+    } = prepared;
+    let options = options_for(setup.options);
+    let set = Setup {
+        macros,
+        stages: stages_of(setup),
+        tables: sets,
+        characters: Target::Ascii,
+        options: &options,
+    };
+    let table = cells.table();
+    let escapes = setup.options.form == 2;
+    let (pages, printed) = print_coded(text, &table, escapes, set, &mut memory, pages);
+    let bytes = pages.as_slice();
+    let written = hand_over(bytes, output);
+    *told = report_of(printed, written, macros.len());
+    code_within(code(printed.outcome), bytes.len(), output.len())
+}

@@ -1,0 +1,40 @@
+-- Whether a page needs a table of its own, and which that is.
+use Rattle.std.specs.Prelude.{◌≡◌, ℕ, List, [], ◌∷◌, length, take, Bool, true, false, ◌&&◌, ◌||◌, nat_le, is_some}
+use Rattle.utf8_characters.specs.declared.table.Table as fixed
+use Rattle.utf8_characters.specs.Tables.{byte_of}
+use Rattle.utf8_own_characters.specs.declared.cluster.Cluster.{Cluster}
+use Rattle.utf8_own_characters.specs.declared.counting.Count.{Count}
+use Rattle.utf8_own_characters.specs.Choosing.{IsFewest, chosen, nothing}
+use Rattle.utf8_own_characters.specs.Cluster.{is_same, single}
+use Rattle.utf8_own_characters.specs.Ranking.{ranked}
+use Rattle.utf8_own_characters.specs.Table.{Characters}
+
+abbrev pub is_beyond_ascii : List ℕ → Bool
+is_beyond_ascii [] = false
+is_beyond_ascii (b ∷ bs) = nat_le 128 b || is_beyond_ascii bs
+
+-- its first 64 KiB say whether it may
+abbrev pub may_need_own : List ℕ → Bool
+may_need_own page = is_beyond_ascii (take 65536 page)
+
+-- and its first MiB which characters it has
+abbrev pub front_of : List ℕ → List ℕ
+front_of page = take 1048576 page
+
+-- a fixed table has characters without marks
+abbrev pub has : fixed.Table → Cluster → Bool
+has table c = is_same c (single c.letter) && is_some (byte_of table c.letter)
+
+abbrev pub has_all : fixed.Table → List Count → Bool
+has_all table [] = true
+has_all table (x ∷ xs) = has table x.cluster && has_all table xs
+
+-- the first ones that have room, in as few pairs as can be
+pub record IsMadeOf (xs : List Count) (t : Characters) : Type 0 where
+  pub narrow : t.narrow ≡ (chosen nothing xs).narrow
+  pub wide : t.wide ≡ (chosen nothing xs).wide
+  pub halves : IsFewest t.halves (length t.wide)
+
+-- THE TABLE of what was counted: the most frequent come first, and are in it where they have room
+abbrev pub IsTableOf : List Count → Characters → Type 0
+IsTableOf xs t = IsMadeOf (ranked xs) t

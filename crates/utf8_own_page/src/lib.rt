@@ -1,0 +1,14 @@
+//! The table of a page's own characters: what a page prints is looked at, and where no fixed table has all of it, one is made of it.
+//!
+//! It stands on utf8_own_characters, utf8_characters, tbl_layout, nr_vectors and nr_units. To read: `looking`, `needing`, `making`, `cells`, `signs`.
+#![tactic(auto)]
+
+mod cells;
+mod looking;
+mod making;
+mod needing;
+mod signs;
+
+pub use cells::{Cells, counted};
+pub use needing::{MORE_LOOKED_AT, front_of, has_all, may_need_own};
+pub use signs::signs_of;

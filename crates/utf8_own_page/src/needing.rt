@@ -1,0 +1,65 @@
+//! Whether a page needs a table of its own.
+ghost use Rattle.std.specs.Prelude.{◌≡◌, take};
+ghost use Rattle.utf8_own_page.specs.Needing as specs;
+
+use utf8_characters::Table as Fixed;
+use utf8_own_characters::{Cluster, Count};
+
+/// The first bytes of a page, which say whether it may need a table of its own.
+const LOOKED_AT: usize = 65_536;
+
+/// Those of which such a table is made.
+pub const MORE_LOOKED_AT: usize = 1_048_576;
+
+/// Whether bytes beyond ASCII are among these.
+fn is_beyond_ascii(page: &[u8]) -> bool
+    ensures { result ≡ specs.is_beyond_ascii page.now }
+{
+    for byte in page {
+        if *byte >= 128 {
+            return true;
+        }
+    }
+    false
+}
+
+/// The first bytes of a page, as many as this at most.
+fn first_of(page: &[u8], most: usize) -> &[u8]
+    ensures { result.now ≡ take most page.now }
+{
+    &page[..page.len().min(most)]
+}
+
+/// Whether no fixed table may have all that a page prints, by its first 64 KiB: there are characters beyond ASCII.
+pub fn may_need_own(page: &[u8]) -> bool
+    ensures { result ≡ specs.may_need_own page.now }
+{
+    is_beyond_ascii(first_of(page, LOOKED_AT))
+}
+
+/// What is looked at of a page that may need a table of its own: its first MiB.
+pub fn front_of(page: &[u8]) -> &[u8]
+    ensures { result.now ≡ specs.front_of page.now }
+{
+    first_of(page, MORE_LOOKED_AT)
+}
+
+/// Whether a fixed table has a cluster.
+fn has(table: Fixed, cluster: &Cluster) -> bool
+    ensures { result ≡ specs.has table cluster.now }
+{
+    cluster.is_same(&Cluster::single(cluster.letter))
+        && table.byte(u32::from(cluster.letter)).is_some()
+}
+
+/// Whether a fixed table has all of these.
+pub fn has_all(table: Fixed, counts: &[Count]) -> bool
+    ensures { result ≡ specs.has_all table counts.now }
+{
+    for count in counts {
+        if !has(table, &count.cluster) {
+            return false;
+        }
+    }
+    true
+}
