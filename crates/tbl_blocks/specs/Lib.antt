@@ -1,0 +1,10 @@
+pub mod Arguments
+pub mod Blocks
+pub mod Filling
+pub mod Laws
+pub mod Lists
+pub mod Parts
+pub mod Reading
+pub mod Requests
+pub mod Units
+pub mod Words

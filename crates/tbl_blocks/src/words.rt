@@ -1,0 +1,260 @@
+//! The lines of a block are read: words become parts, and requests what stands between them.
+ghost use Rattle.std.specs.Prelude.{◌≡◌, ◌+◌, ◌<◌, ◌≤◌, ◌^◌, length};
+ghost use Rattle.tbl_blocks.specs.Arguments.{IsWithin};
+ghost use Rattle.tbl_blocks.specs.Words as specs;
+
+use super::arguments::{
+    Argument, blanks_len, find_argument, first_argument, request_len, spaces_len,
+};
+use super::blocks::Blocks;
+use super::lists::add_item;
+use super::parts::Font;
+use super::reading::{Face, Manner, Word};
+use super::requests::{Request, request_of};
+use super::units::unit_of;
+
+/// Whether a line of text is joined with the next one.
+fn goes_on(line: &[u8]) -> bool
+    ensures { result ≡ specs.goes_on line.now }
+{
+    let len = line.len();
+    len >= 2 && line[len - 2] == b'\\' && line[len - 1] == b'c'
+}
+
+/// Whether a line is a request's.
+fn is_request(line: &[u8]) -> bool
+    ensures { result ≡ specs.is_request line.now }
+{
+    match line.split_first() {
+        None => false,
+        Some((first, _rest)) => *first == b'.' || *first == b'\'',
+    }
+}
+
+impl Blocks {
+    /// The part of the word under way ends before a place.
+    fn end_part(&mut self, to: usize)
+        ensures { self.new ≡ specs.part_ended to self.old }
+    {
+        let reading = self.reading;
+        if reading.word.from < to {
+            add_item(&mut self.parts, reading.part(to));
+            self.reading = reading.after_part(to);
+        }
+    }
+
+    /// The unit at a place is read, which begins with a byte.
+    fn take_unit(&mut self, byte: u8, rest: &[u8], at: usize)
+        ensures { self.new ≡ specs.unit_taken byte rest.now at self.old }
+    {
+        let unit = unit_of(byte, rest, self.strings.as_slice());
+        if self.reading.parts_before(unit) {
+            self.end_part(at);
+        }
+        self.reading = self.reading.taken(unit, at);
+    }
+
+    /// The byte at a place is read: it belongs to the unit before it, or begins one.
+    fn take_byte(&mut self, byte: u8, rest: &[u8], at: usize)
+        ensures { self.new ≡ specs.byte_taken byte rest.now at self.old }
+    {
+        if self.reading.word.more > 0 {
+            self.reading = self.reading.skipped();
+        } else {
+            self.take_unit(byte, rest, at);
+        }
+    }
+
+    /// The words of a text that begins at a place.
+    pub(crate) fn read_words(&mut self, text: &[u8], place: usize)
+        requires { place + length text.now < 2 ^ 64 }
+        ensures { self.new ≡ specs.words_read text.now place self.old }
+    {
+        self.reading.word = Word::at(place);
+        for (at, byte) in text.iter().enumerate() {
+            self.take_byte(*byte, &text[at + 1..], place + at);
+        }
+        self.end_part(place + text.len());
+    }
+
+    /// A line of text.
+    fn read_text(&mut self, line: &[u8], place: usize)
+        requires { place + length line.now < 2 ^ 64 }
+        ensures { self.new ≡ specs.text_read line.now place self.old }
+    {
+        let blanks = spaces_len(line);
+        if blanks == line.len() {
+            self.reading = self.reading.breaks(1);
+            return;
+        }
+        let rest = &line[blanks..];
+        self.reading = self.reading.indented(blanks).once_set();
+        if goes_on(rest) {
+            self.read_words(&rest[..rest.len() - 2], place + blanks);
+            self.reading = self.reading.once_left();
+        } else {
+            self.read_words(rest, place + blanks);
+            self.reading = self.reading.once_left().line_ends();
+        }
+    }
+
+    /// A word of a request, after so many others.
+    fn read_argument(
+        &mut self,
+        argument: Argument,
+        text: &[u8],
+        place: usize,
+        count: usize,
+        manner: Manner,
+    )
+        requires within { IsWithin argument (length text.now) }
+        requires room { place + length text.now < 2 ^ 64 }
+        ensures { self.new ≡ specs.argument_read argument text.now place count manner self.old }
+    {
+        let Argument {
+            start,
+            end,
+            next: _,
+        } = argument;
+        self.reading = self.reading.word_begun(count, manner);
+        self.read_words(&text[start..end], place + start);
+    }
+
+    /// The words of a request.
+    fn read_arguments(&mut self, text: &[u8], place: usize, manner: Manner)
+        requires { place + length text.now < 2 ^ 64 }
+        ensures { self.new ≡ specs.arguments_read text.now place manner self.old }
+    {
+        let mut at = 0;
+        for count in 0..text.len() {
+            let rest = &text[at..];
+            let Some(argument) = find_argument(rest) else {
+                return;
+            };
+            self.read_argument(argument, rest, place + at, count, manner);
+            at += argument.next;
+        }
+    }
+
+    /// A request whose words are in fonts.
+    fn read_faces(&mut self, text: &[u8], place: usize, manner: Manner)
+        requires { place + length text.now < 2 ^ 64 }
+        ensures { self.new ≡ specs.faces_read text.now place manner self.old }
+    {
+        self.read_arguments(text, place, manner);
+        self.reading = self.reading.faced(Face::of(Font::Roman)).line_ends();
+    }
+
+    /// A request whose words are in one font; without words the next line is.
+    fn read_face(&mut self, text: &[u8], place: usize, font: Font)
+        requires { place + length text.now < 2 ^ 64 }
+        ensures { self.new ≡ specs.face_read text.now place font self.old }
+    {
+        if find_argument(text).is_none() {
+            self.reading = self.reading.waits_for(font);
+            return;
+        }
+        let manner = Manner {
+            first: font,
+            second: font,
+            joined: false,
+        };
+        self.read_faces(text, place, manner);
+    }
+
+    /// A request that is not known: its words are printed.
+    fn read_unknown(&mut self, text: &[u8], place: usize)
+        requires { place + length text.now < 2 ^ 64 }
+        ensures { self.new ≡ specs.unknown_read text.now place self.old }
+    {
+        let face = self.reading.face;
+        let manner = Manner {
+            first: face.font,
+            second: face.font,
+            joined: false,
+        };
+        self.reading = self.reading.unset();
+        self.read_arguments(text, place, manner);
+        self.reading = self.reading.faced(face).line_ends();
+    }
+
+    /// A request, with what stands after its name.
+    fn obey(&mut self, request: Request, text: &[u8], place: usize)
+        requires { place + length text.now < 2 ^ 64 }
+        ensures { self.new ≡ specs.obeyed request text.now place self.old }
+    {
+        match request {
+            Request::Face(font) => self.read_face(text, place, font),
+            Request::Faces(first, second) => {
+                let manner = Manner {
+                    first,
+                    second,
+                    joined: true,
+                };
+                self.read_faces(text, place, manner);
+            }
+            Request::Unknown => self.read_unknown(text, place),
+            _ => self.reading = self.reading.obeyed(request, first_argument(text)),
+        }
+    }
+
+    /// A line of a request, after its first byte.
+    fn read_request(&mut self, line: &[u8], place: usize)
+        requires { place + length line.now < 2 ^ 64 }
+        ensures { self.new ≡ specs.request_read line.now place self.old }
+    {
+        let start = blanks_len(line);
+        let rest = &line[start..];
+        let len = request_len(rest);
+        let request = request_of(&rest[..len]);
+        self.obey(request, &rest[len..], place + start + len);
+    }
+
+    /// The words or the request of a line.
+    fn read_as(&mut self, line: &[u8], place: usize)
+        requires { place + length line.now < 2 ^ 64 }
+        ensures { self.new ≡ specs.line_as (specs.is_request line.now) line.now place self.old }
+    {
+        if is_request(line) {
+            self.read_request(&line[1..], place + 1);
+        } else {
+            self.read_text(line, place);
+        }
+    }
+
+    /// A line of a block.
+    fn read_line(&mut self, line: &[u8], place: usize)
+        requires { place + length line.now < 2 ^ 64 }
+        ensures { self.new ≡ specs.line_read line.now place self.old }
+    {
+        self.read_as(line, place);
+        self.reading = self.reading.line_read();
+    }
+
+    /// The lines of a block.
+    pub(crate) fn read_lines(&mut self, text: &[u8], place: usize)
+        requires { place + length text.now < 2 ^ 64 }
+        ensures { self.new ≡ specs.lines_read text.now place self.old }
+    {
+        let mut from = 0;
+        for (at, byte) in text.iter().enumerate() {
+            if *byte == b'\n' {
+                self.read_line(&text[from..at], place + from);
+                from = at + 1;
+            }
+        }
+        if from < text.len() {
+            self.read_line(&text[from..text.len()], place + from);
+        }
+    }
+
+    /// A block ends: empty lines at its end are a line without text.
+    pub(crate) fn end_block(&mut self, place: usize)
+        ensures { self.new ≡ specs.block_ended place self.old }
+    {
+        let reading = self.reading;
+        if reading.ends_in_space() {
+            add_item(&mut self.parts, reading.space_part(place));
+        }
+    }
+}
