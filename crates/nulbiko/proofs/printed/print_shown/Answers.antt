@@ -1,7 +1,0 @@
-use Rattle.nulbiko.proofs.DocumentRun.{shown_printed}
-use Rattle.nulbiko.proofs.printed.print_shown.Goals as goal
-
-pub returns : goal.returns
-returns c held short bytes is =
-    shown_printed _ _ _ _ _ _ _ _ _ _ _ _ _ _ _ _ _ c.over-shown.ensures.held (c.print_page-run.ensures short) c.finish-pages.ensures.shown held is
-    c.ended.ensures.moves c.ended.ensures.outcome c.ended.ensures.dropped
