@@ -219,8 +219,8 @@ impl Reading {
     }
 
     /// The part of the word that ends before a place.
-    pub(crate) fn part(self, to: usize) -> Part
-        ensures { result ≡ specs.part_to to self }
+    pub(crate) fn part(&self, to: usize) -> Part
+        ensures { result ≡ specs.part_to to self.now }
     {
         Part {
             start: self.word.from,
@@ -233,24 +233,18 @@ impl Reading {
     }
 
     /// That part is read.
-    pub(crate) fn after_part(self, to: usize) -> Reading
-        ensures { result ≡ specs.after_part to self }
+    pub(crate) fn end_part(&mut self, to: usize)
+        ensures { self.new ≡ specs.after_part to self.old }
     {
-        Reading {
-            join: Join::Glued,
-            begun: true,
-            word: Word {
-                from: to,
-                cells: 0,
-                ..self.word
-            },
-            ..self
-        }
+        self.join = Join::Glued;
+        self.begun = true;
+        self.word.from = to;
+        self.word.cells = 0;
     }
 
     /// Whether the part under way ends before a unit.
-    pub(crate) fn parts_before(self, unit: Unit) -> bool
-        ensures { result ≡ specs.parts_before unit self }
+    pub(crate) fn parts_before(&self, unit: Unit) -> bool
+        ensures { result ≡ specs.parts_before unit self.now }
     {
         match unit.does {
             Does::Blank | Does::Font(_) | Does::Back | Does::Comment => true,
@@ -259,24 +253,9 @@ impl Reading {
         }
     }
 
-    /// The next part begins at a place, in this font and after this.
-    fn from(self, next: usize, face: Face, join: Join) -> Reading
-        ensures { result ≡ specs.from_here next face join self }
-    {
-        Reading {
-            face,
-            join,
-            word: Word {
-                from: next,
-                ..self.word
-            },
-            ..self
-        }
-    }
-
     /// A word may be cut here, if it has begun.
-    fn cut_join(self, join: Join) -> Join
-        ensures { result ≡ specs.cut_join join self }
+    fn cut_join(&self, join: Join) -> Join
+        ensures { result ≡ specs.cut_join join self.now }
     {
         if self.word.begun && self.fills {
             join
@@ -286,8 +265,8 @@ impl Reading {
     }
 
     /// Whether a sentence ends with a unit.
-    fn ends_after(self, does: Does) -> bool
-        ensures { result ≡ specs.ends_after does self }
+    fn ends_after(&self, does: Does) -> bool
+        ensures { result ≡ specs.ends_after does self.now }
     {
         match does {
             Does::Stop => true,
@@ -296,68 +275,62 @@ impl Reading {
         }
     }
 
-    /// With a unit that prints, or is nothing.
-    fn printed(self, unit: Unit) -> Reading
-        ensures { result ≡ specs.printed unit self }
+    /// A unit is read that prints, or is nothing.
+    fn print(&mut self, unit: Unit)
+        ensures { self.new ≡ specs.printed unit self.old }
     {
-        let cut = self.fills && self.word.is_cut_before(unit);
-        Reading {
-            join: if cut { Join::Cut } else { self.join },
-            ends: self.ends_after(unit.does),
-            word: self.word.printed(unit),
-            seen: Seen {
-                sure: self.seen.sure && unit.is_sure(),
-                ..self.seen
-            },
-            ..self
+        if self.fills && self.word.is_cut_before(unit) {
+            self.join = Join::Cut;
         }
+        self.ends = self.ends_after(unit.does);
+        self.word = self.word.printed(unit);
+        self.seen.sure = self.seen.sure && unit.is_sure();
     }
 
-    /// With a unit, after which the next one begins at a place.
-    fn with(self, unit: Unit, next: usize) -> Reading
-        ensures { result ≡ specs.unit_read unit next self }
+    /// A unit is read, after which the next one begins at a place.
+    fn read(&mut self, unit: Unit, next: usize)
+        ensures { self.new ≡ specs.unit_read unit next self.old }
     {
         match unit.does {
-            Does::Blank => Reading {
-                join: with_blank(self.join, self.fills),
-                word: Word::at(next),
-                ..self
-            },
-            Does::Font(font) => self.from(next, self.face.set(font), self.join),
-            Does::Back => self.from(next, self.face.back(), self.join),
-            Does::Point => self.from(next, self.face, self.cut_join(Join::Point)),
-            Does::Cut => self.from(next, self.face, self.cut_join(Join::Cut)),
-            Does::Comment => self.from(next, self.face, self.join),
-            _ => self.printed(unit),
+            Does::Blank => {
+                self.join = with_blank(self.join, self.fills);
+                self.word = Word::at(next);
+            }
+            Does::Font(font) => {
+                self.face = self.face.set(font);
+                self.word.from = next;
+            }
+            Does::Back => {
+                self.face = self.face.back();
+                self.word.from = next;
+            }
+            Does::Point => {
+                self.join = self.cut_join(Join::Point);
+                self.word.from = next;
+            }
+            Does::Cut => {
+                self.join = self.cut_join(Join::Cut);
+                self.word.from = next;
+            }
+            Does::Comment => self.word.from = next,
+            _ => self.print(unit),
         }
     }
 
     /// A unit at a place is read.
-    pub(crate) fn taken(self, unit: Unit, at: usize) -> Reading
-        ensures { result ≡ specs.taken unit at self }
+    pub(crate) fn take(&mut self, unit: Unit, at: usize)
+        ensures { self.new ≡ specs.taken unit at self.old }
     {
         let next = at.saturating_add(1).saturating_add(unit.more);
-        let read = self.with(unit, next);
-        Reading {
-            word: Word {
-                more: unit.more,
-                ..read.word
-            },
-            ..read
-        }
+        self.read(unit, next);
+        self.word.more = unit.more;
     }
 
     /// A byte that belongs to the unit before it is read.
-    pub(crate) fn skipped(self) -> Reading
-        ensures { result ≡ specs.skipped self }
+    pub(crate) fn skip(&mut self)
+        ensures { self.new ≡ specs.skipped self.old }
     {
-        Reading {
-            word: Word {
-                more: self.word.more.saturating_sub(1),
-                ..self.word
-            },
-            ..self
-        }
+        self.word.more = self.word.more.saturating_sub(1);
     }
 
     /// The line ends here, and so many empty ones follow.

@@ -36,10 +36,9 @@ impl Blocks {
     fn end_part(&mut self, to: usize)
         ensures { self.new ≡ specs.part_ended to self.old }
     {
-        let reading = self.reading;
-        if reading.word.from < to {
-            add_item(&mut self.parts, reading.part(to));
-            self.reading = reading.after_part(to);
+        if self.reading.word.from < to {
+            add_item(&mut self.parts, self.reading.part(to));
+            self.reading.end_part(to);
         }
     }
 
@@ -51,7 +50,7 @@ impl Blocks {
         if self.reading.parts_before(unit) {
             self.end_part(at);
         }
-        self.reading = self.reading.taken(unit, at);
+        self.reading.take(unit, at);
     }
 
     /// The byte at a place is read: it belongs to the unit before it, or begins one.
@@ -59,7 +58,7 @@ impl Blocks {
         ensures { self.new ≡ specs.byte_taken byte rest.now at self.old }
     {
         if self.reading.word.more > 0 {
-            self.reading = self.reading.skipped();
+            self.reading.skip();
         } else {
             self.take_unit(byte, rest, at);
         }
