@@ -3,5 +3,7 @@ pub mod Follows
 pub mod InTurn
 pub mod Lines
 pub mod Once
+pub mod Quiet
+pub mod Rooms
 pub mod Stays
 pub mod Widths

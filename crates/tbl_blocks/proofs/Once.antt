@@ -163,10 +163,10 @@ byte_blank b h = elim two [
   | inr e ↦ ap byte_does e
 ]
   where
-    two : (b ≡ 32) ⊎ (b ≡ 9)
-    two = either (b == 32) (b == 9) h refl refl
+    two : (b ≡ code " ") ⊎ (b ≡ code "\t")
+    two = either (b == code " ") (b == code "\t") h refl refl
       where
-        either : (x y : Bool) → (x || y) ≡ true → (b == 32) ≡ x → (b == 9) ≡ y → (b ≡ 32) ⊎ (b ≡ 9)
+        either : (x y : Bool) → (x || y) ≡ true → (b == code " ") ≡ x → (b == code "\t") ≡ y → (b ≡ code " ") ⊎ (b ≡ code "\t")
         either true y k e f = inl (grind (arith, nat_tests, e))
         either false true k e f = inr (grind (arith, nat_tests, f))
         either false false k e f = cc

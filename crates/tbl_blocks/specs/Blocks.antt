@@ -34,6 +34,15 @@ cleared s = record s { parts = none_of s.parts; lines = none_of s.lines; reading
 abbrev pub without_lines : Blocks → Blocks
 without_lines s = record s { lines = none_of s.lines }
 
+-- its rooms: as much as there is room for, and nothing held
+abbrev pub emptied : Blocks → Blocks
+emptied s = record {
+  parts = none_of s.parts;
+  lines = none_of s.lines;
+  strings = none_of s.strings;
+  reading = reading_of fonts.Roman false;
+}
+
 -- ---- reading
 
 abbrev pub block_read : List ℕ → ℕ → Font → Bool → Blocks → Blocks

@@ -21,7 +21,8 @@ use Rattle.tbl_blocks.specs.declared.units.Does.TheVariants as does
 use Rattle.tbl_blocks.specs.declared.units.Unit.{Unit}
 use Rattle.tbl_blocks.specs.Arguments.{number_or}
 use Rattle.tbl_blocks.specs.Parts.{font_of, no_part, sum}
-use Rattle.tbl_blocks.specs.Units.{is_sure}
+use Rattle.tbl_blocks.specs.Units.{is_plain, is_stop, is_sure}
+use Rattle.tbl_blocks.specs.Units.{is_letter as is_letter_byte}
 
 -- ---- fonts
 
@@ -166,6 +167,24 @@ unit_read u next r = read_as u.does u next r
 
 abbrev pub with_more : ℕ → Reading → Reading
 with_more n r = record r { word = record r.word { more = n } }
+
+-- a plain byte after one that cuts no word: no part ends before it
+abbrev pub cuts_none : Last → Bool
+cuts_none lasts.Letter = true
+cuts_none lasts.Other = true
+cuts_none last = false
+
+abbrev pub is_quiet : ℕ → Reading → Bool
+is_quiet b r = is_plain b && cuts_none r.word.last
+
+abbrev pub letter_or : Bool → Last
+letter_or letter = if letter then lasts.Letter else lasts.Other
+
+abbrev pub plain_read : ℕ → Reading → Reading
+plain_read b r = record r {
+  ends = is_stop b && not (is_letter_byte b);
+  word = record r.word { cells = sum r.word.cells 1; begun = true; last = letter_or (is_letter_byte b); more = 0 };
+}
 
 -- a unit at a place
 abbrev pub taken : Unit → ℕ → Reading → Reading

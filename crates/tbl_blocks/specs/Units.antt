@@ -1,6 +1,6 @@
 -- What a text is made of (CSTR 54, special character names and escape sequences): characters, blanks, changes of font, and places where a word may be
 -- cut. Escapes are those of `\w` (nr_settings, Escapes and Widths): as long, and as wide where the page shows it.
-use Rattle.std.specs.Prelude.{ℕ, ◌+◌, min, Bool, true, false, ◌==◌, ◌&&◌, ◌||◌, nat_le, List, [], ◌∷◌, length, take, codes, Option, None, Some, if◌then◌else◌}
+use Rattle.std.specs.Prelude.{ℕ, ◌+◌, min, Bool, true, false, ◌==◌, ◌&&◌, ◌||◌, nat_le, List, [], ◌∷◌, length, take, codes, Option, None, Some, if◌then◌else◌, not}
 use Rattle.std.specs.Str.{bytes_eq}
 use Prim.Native.Char.{code}
 use Rattle.nr_settings.specs.Characters.{prints as is_printed}
@@ -26,11 +26,19 @@ name_in (b ∷ bs) = if b == code "(" then take 2 bs else if b == code "[" then 
 abbrev pub is_letter : ℕ → Bool
 is_letter b = (nat_le (code "a") b && nat_le b (code "z")) || (nat_le (code "A") b && nat_le b (code "Z"))
 
+-- what ends a sentence
+abbrev pub is_stop : ℕ → Bool
+is_stop b = (b == code ".") || (b == code "?") || (b == code "!")
+
+-- a byte that prints as it is, and neither separates words nor cuts one
+abbrev pub is_plain : ℕ → Bool
+is_plain b = is_printed b && not (b == code " ") && not (b == code "-") && not (b == code "\\")
+
 abbrev pub byte_does : ℕ → Does
 byte_does b =
     if is_letter b then does.Letter
     else if b == code "-" then does.Hyphen
-    else if (b == code ".") || (b == code "?") || (b == code "!") then does.Stop
+    else if is_stop b then does.Stop
     else if (b == code " ") || (b == code "\t") then does.Blank
     else if is_printed b then does.Print
     else does.Unsure

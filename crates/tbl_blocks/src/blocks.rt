@@ -88,7 +88,8 @@ impl Blocks {
 
     /// Parts and lines are forgotten; strings stay.
     pub fn clear(&mut self)
-        ensures { self.new ≡ specs.cleared self.old }
+        ensures value { self.new ≡ specs.cleared self.old }
+        ensures room { specs.emptied self.new ≡ specs.emptied self.old }
     {
         self.parts.clear();
         self.lines.clear();
@@ -97,7 +98,8 @@ impl Blocks {
 
     /// Lines are forgotten, and parts stay.
     pub fn clear_lines(&mut self)
-        ensures { self.new ≡ specs.without_lines self.old }
+        ensures value { self.new ≡ specs.without_lines self.old }
+        ensures room { specs.emptied self.new ≡ specs.emptied self.old }
     {
         self.lines.clear();
     }
@@ -106,9 +108,18 @@ impl Blocks {
     pub fn fill(&mut self, first: usize, end: usize, width: usize, spread: bool)
         requires order { first ≤ «end» }
         requires within { «end» ≤ length self.old.parts.items }
-        ensures { self.new ≡ specs.filled first «end» width spread self.old }
+        ensures value { self.new ≡ specs.filled first «end» width spread self.old }
+        ensures room { specs.emptied self.new ≡ specs.emptied self.old }
     {
-        let measure = Measure { width, spread };
+        self.fill_in(first, end, Measure { width, spread });
+    }
+
+    /// The same, in a measure.
+    fn fill_in(&mut self, first: usize, end: usize, measure: Measure)
+        requires order { first ≤ «end» }
+        requires within { «end» ≤ length self.old.parts.items }
+        ensures { self.new ≡ specs.filled first «end» measure.width measure.spread self.old }
+    {
         let parts = &self.parts.as_slice()[first..end];
         fill(parts, first, measure, &mut self.lines);
     }
@@ -135,23 +146,41 @@ impl Blocks {
     pub fn read_block(&mut self, text: &[u8], place: usize, font: Font, spread: bool) -> Seen
         requires { place + length text.now < 2 ^ 64 }
         ensures value { self.new ≡ specs.block_read text.now place font spread self.old }
+        ensures room { specs.emptied self.new ≡ specs.emptied self.old }
         ensures seen { result ≡ self.new.reading.seen }
+    {
+        self.read_all_lines(text, place, font, spread);
+        self.reading.seen
+    }
+
+    /// Its lines, and what stands after them.
+    fn read_all_lines(&mut self, text: &[u8], place: usize, font: Font, spread: bool)
+        requires { place + length text.now < 2 ^ 64 }
+        ensures { self.new ≡ specs.block_read text.now place font spread self.old }
     {
         self.reading = Reading::begin(font, spread);
         self.read_lines(text, place);
         self.end_block(place + text.len());
-        self.reading.seen
     }
 
     /// A field is read as the words of a block.
     pub fn read_field(&mut self, text: &[u8], place: usize, font: Font) -> Seen
         requires { place + length text.now < 2 ^ 64 }
         ensures value { self.new ≡ specs.field_read text.now place font self.old }
+        ensures room { specs.emptied self.new ≡ specs.emptied self.old }
         ensures seen { result ≡ self.new.reading.seen }
+    {
+        self.read_all_words(text, place, font);
+        self.reading.seen
+    }
+
+    /// Its words.
+    fn read_all_words(&mut self, text: &[u8], place: usize, font: Font)
+        requires { place + length text.now < 2 ^ 64 }
+        ensures { self.new ≡ specs.field_read text.now place font self.old }
     {
         self.reading = Reading::begin(font, false);
         self.read_words(text, place);
-        self.reading.seen
     }
 
     /// How many cells a text takes in one line.

@@ -3,7 +3,7 @@ ghost use Rattle.std.specs.Prelude.{◌≡◌};
 ghost use Rattle.tbl_blocks.specs.Reading as specs;
 
 use super::parts::{Font, Join, Part, Seen};
-use super::units::{Does, Unit};
+use super::units::{Does, Unit, is_letter, is_plain, is_stop};
 
 /// The most empty lines that `.sp` gives.
 const MOST_SPACE: usize = 50;
@@ -114,6 +114,15 @@ impl Face {
             font: self.last,
             last: self.font,
         }
+    }
+}
+
+impl Last {
+    /// Whether no word is cut after it.
+    fn cuts_none(self) -> bool
+        ensures { result ≡ specs.cuts_none self }
+    {
+        matches!(self, Last::Letter | Last::Other)
     }
 }
 
@@ -324,6 +333,28 @@ impl Reading {
         let next = at.saturating_add(1).saturating_add(unit.more);
         self.read(unit, next);
         self.word.more = unit.more;
+    }
+
+    /// Whether a byte is plain, and no part ends before it.
+    pub(crate) fn is_quiet(&self, byte: u8) -> bool
+        ensures { result ≡ specs.is_quiet byte self.now }
+    {
+        is_plain(byte) && self.word.last.cuts_none()
+    }
+
+    /// Such a byte is read.
+    pub(crate) fn print_plain(&mut self, byte: u8)
+        ensures { self.new ≡ specs.plain_read byte self.old }
+    {
+        let letter = is_letter(byte);
+        self.ends = is_stop(byte) && !letter;
+        self.word = Word {
+            from: self.word.from,
+            cells: self.word.cells.saturating_add(1),
+            begun: true,
+            last: if letter { Last::Letter } else { Last::Other },
+            more: 0,
+        };
     }
 
     /// A byte that belongs to the unit before it is read.

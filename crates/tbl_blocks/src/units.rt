@@ -158,6 +158,27 @@ fn byte_does(byte: u8) -> Does
     }
 }
 
+/// A letter of ASCII.
+pub(crate) fn is_letter(byte: u8) -> bool
+    ensures { result ≡ specs.is_letter byte }
+{
+    matches!(byte, b'a'..=b'z' | b'A'..=b'Z')
+}
+
+/// What ends a sentence.
+pub(crate) fn is_stop(byte: u8) -> bool
+    ensures { result ≡ specs.is_stop byte }
+{
+    byte == b'.' || byte == b'?' || byte == b'!'
+}
+
+/// A byte that prints as it is, and neither separates words nor cuts one.
+pub(crate) fn is_plain(byte: u8) -> bool
+    ensures { result ≡ specs.is_plain byte }
+{
+    prints(byte) && byte != b' ' && byte != b'-' && byte != b'\\'
+}
+
 impl Unit {
     /// Whether the page shows how wide it is.
     pub(crate) fn is_sure(self) -> bool

@@ -53,6 +53,17 @@ impl Blocks {
         self.reading.take(unit, at);
     }
 
+    /// The same: a plain byte before which no part ends is read at once.
+    fn take_whole(&mut self, byte: u8, rest: &[u8], at: usize)
+        ensures { self.new ≡ specs.unit_taken byte rest.now at self.old }
+    {
+        if self.reading.is_quiet(byte) {
+            self.reading.print_plain(byte);
+        } else {
+            self.take_unit(byte, rest, at);
+        }
+    }
+
     /// The byte at a place is read: it belongs to the unit before it, or begins one.
     fn take_byte(&mut self, byte: u8, rest: &[u8], at: usize)
         ensures { self.new ≡ specs.byte_taken byte rest.now at self.old }
@@ -60,7 +71,7 @@ impl Blocks {
         if self.reading.word.more > 0 {
             self.reading.skip();
         } else {
-            self.take_unit(byte, rest, at);
+            self.take_whole(byte, rest, at);
         }
     }
 
