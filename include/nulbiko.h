@@ -63,7 +63,7 @@ enum nulbiko_limit {
     NULBIKO_PAGE_CELLS = 4,
     NULBIKO_EXPANSIONS = 5,
     NULBIKO_MOVES = 6,
-    NULBIKO_SET_PAGE = 7 /* Of nulbiko_document: the bytes of a page whose tables are set. Nothing was printed. */
+    NULBIKO_SET_PAGE = 7 /* Of nulbiko_document: the bytes that go out of a table at once. */
 };
 
 /* What nulbiko_tbl finds wrong with a table. It sets what it can, and goes on. */
@@ -141,7 +141,7 @@ struct nulbiko_document_options {
     bool tables;              /* Tables are set, where a line begins with `.TS`. */
     size_t formats;           /* Bytes of a table that are held, and of its formats. */
     size_t row;               /* Bytes of a line of a row. */
-    size_t set_page;          /* Bytes of a page whose tables are set. */
+    size_t set_page;          /* Bytes that go out of a table at once. */
 };
 
 /* One long page of 78 columns in UTF-8. For a manual page `macros` is set to tmac.an. */
@@ -160,8 +160,7 @@ struct nulbiko_report {
     uint32_t limit; /* Of nulbiko_document and nulbiko_format: which limit. Of nulbiko_tbl: what was wrong first. Else 0. */
     uint64_t dropped; /* Of nulbiko_utf8 and of nulbiko_document in UTF-8: bytes that are no character, which became nothing.
                        * Else 0. */
-    uint64_t line;    /* Of nulbiko_document: the line of the page that was read last, counted from 1; of a page that has
-                       * tables the last line. Else 0. */
+    uint64_t line;    /* Of nulbiko_document: the line of the page that was read last, counted from 1. Else 0. */
 };
 
 #define NULBIKO_REPORT {sizeof(struct nulbiko_report), 0, 0, 0, 0, 0, 0}

@@ -23,7 +23,7 @@ TABLES = {None: 0, 'english': 1, 'latin': 2, 'cyrillic': 3, 'greek': 4, 'latin1'
 FORMS = {'bytes': 0, 'utf8': 1, 'escapes': 2}
 # The number of the table that `choose` gives, and what the library answers where there is no memory to choose one.
 CHOSEN, UNCHOSEN = 6, 7
-# What is held of a table, of a line of a row, and of a page whose tables are set, in bytes.
+# What is held of a table, of a line of a row, and what goes out of a table at once, in bytes.
 HELD = 1 << 18, 1 << 14, 1 << 24
 # The most bytes that a call makes.
 MOST = 1 << 26
@@ -58,7 +58,7 @@ class Stopped(Exception):
     `call` is its name, `outcome` the outcome's, `limit` the name of the limit that would be passed or None, `at` how many
     bytes of the call's text had been taken, and `made` what was whole before: of `page` a str, else bytes. Of `document` and
     `page` the place is counted in what the formatter reads after the macros, and 0 in these, and `line` is the line of the
-    page that was read last; of a page that has tables the last line. Of other calls it is 0.
+    page that was read last. Of other calls it is 0.
     """
 
     def __init__(self, call, outcome, limit, at, made, line=0):

@@ -311,6 +311,9 @@ static void outcomes(void)
 static const char macros[] = ".de TH\n..\n.pl 3\n.ll \\nLn\n";
 static const char whole[] = ".TH A 1\n\xe2\x80\x93 \\fIx\\fP\n.TS\nl l.\na\tb\n.TE\n";
 
+/* Pages of one row, the third of them a table's. */
+static const char paged[] = "a\n.br\nb\n.br\n.TS\nl l.\nc\td\n.TE\n";
+
 /* Letters that no fixed table has, of one column and of two, and a letter with a mark of its own. */
 static const char native[] =
     ".TH A 1\n\xe6\x97\xa5\xe6\x9c\xac \\fI\xc5\x98\\fP x\xcc\xa3\n.TS\nbox;\nl.\n\xe6\x97\xa5\n.TE\n";
@@ -348,6 +351,17 @@ static void documents(void)
     set.set_page = 3;
     judge("document: no room for a table", document(&plain, set, whole, sizeof out) == NULBIKO_LIMIT && put_out("") &&
                                                report.limit == NULBIKO_SET_PAGE && report.at == 0);
+    set.macros = ".pl 1\n";
+    set.macros_length = 6;
+    judge("document: pages before a table without room", document(&plain, set, paged, sizeof out) == NULBIKO_LIMIT &&
+                                                             put_out("a\n") && report.limit == NULBIKO_SET_PAGE &&
+                                                             report.line == 7);
+    set.set_page = 6;
+    judge("document: just enough room for a table", document(&plain, set, paged, sizeof out) == NULBIKO_DONE &&
+                                                        put_out("a\nb\nc   d\n"));
+    set.set_page = 0;
+    judge("document: room for nothing", document(&plain, set, paged, sizeof out) == NULBIKO_LIMIT && put_out("") &&
+                                            report.limit == NULBIKO_SET_PAGE);
     set = plainly();
     set.first = 5;
     judge("document: the first page's number", document(&plain, set, "\\n%\n", 1) == NULBIKO_FULL && put_out("5"));

@@ -2,7 +2,6 @@
 use Rattle.std.proofs.Common.{◌≡◌, ◌≢◌, ℕ, ◌+◌, ◌≤◌, suc, List, [], ◌∷◌, ◌++◌, append-nil, Bool, true, false, Option, None, Some, Result, Ok, Err, IsOk, refl, sym, ◌∙◌, ap, subst, arith}
 use Rattle.std.specs.Io.KnownBytes.{Appends}
 use Rattle.std.specs.Result.{is_err}
-use Rattle.std.proofs.KnownBytes.{Appends-nil}
 use Rattle.nr_units.specs.Failures.{SinkFailures, next_count, no_failures}
 use Rattle.nr_units.specs.Sink.{AppendsFront}
 use Rattle.nr_units.specs.Source.{Supply}
@@ -39,11 +38,9 @@ shows_goes s source n ended held new g = record { ran = g.ran; out = g.out }
 pub shows-bytes : (s : Setting) (source : Supply) (n : ℕ) (o : Outcome) (held new : Option (List ℕ)) → Prints s source n o held new → Shows s Bytes source n o held new
 shows-bytes s source n outcomes.Done held new p = shows_goes s source n machines.Done held new p
 shows-bytes s source n (outcomes.Limit which at) held new p = shows_goes s source n (machines.Limit which at) held new p
-shows-bytes s source n outcomes.NoRoom held new p =
-    let P : Option (List ℕ) → Type 0 = λ x. Appends held x [] in
-    (p.0, subst P (sym p.1) (Appends-nil held))
-shows-bytes s source n outcomes.ReadFault held new p = λ plain. fronts held new (pages_of s source n) (p plain)
-shows-bytes s source n outcomes.TooLong held new p = λ plain. fronts held new (pages_of s source n) (p plain)
+shows-bytes s source n outcomes.NoRoom held new p = p
+shows-bytes s source n outcomes.ReadFault held new p = fronts held new (pages_of s source n) p
+shows-bytes s source n outcomes.TooLong held new p = fronts held new (pages_of s source n) p
 shows-bytes s source n outcomes.WriteFault held new p = record { made = suc n; few = omega arith; front = p }
 
 pub shows-bytes-as : (w : Spelling) (s : Setting) (source : Supply) (n : ℕ) (o : Outcome) (held new : Option (List ℕ)) → w ≡ Bytes → Prints s source n o held new → Shows s w source n o held new
@@ -62,7 +59,6 @@ pub record Ended (T : Type 0) (w : Spelling) (begun : Option (List ℕ)) (failed
   pub shows : (came : List ℕ) → bytes ≡ before ++ came → Ends w begun failed new after came x
   pub broke : (came more : List ℕ) → bytes ≡ before ++ came → puts ≢ 0 → AppendsFront begun new (shown w (came ++ more))
   pub fails : IsOk x → puts ≡ 0
-  pub nothing : shown w [] ≡ []
 
 next_some : next_count 0 ≢ 0
 unfolding next_count
@@ -95,49 +91,18 @@ short_shown s w begun failed source n before bytes puts new after x e came some 
     let P : List ℕ → Type 0 = λ xs. AppendsFront begun new (shown w xs) in
     record { made = suc n; few = omega arith; front = subst P (sym came.2) (e.broke came.0 came.1 came.3 some) }
 
--- nothing came
-none_came : (before bytes : List ℕ) → Some bytes ≡ Some before → bytes ≡ before ++ []
-none_came before bytes same = let kept : bytes ≡ before = cc in kept ∙ sym (append-nil before)
-
-none_shown : {T : Type 0} (w : Spelling) (begun : Option (List ℕ)) (failed : ℕ) (before bytes : List ℕ) (puts : ℕ) (new : Option (List ℕ)) (after : ℕ) (k : T)
-    → Ended T w begun failed before bytes puts new after (Ok k) → Some bytes ≡ Some before → Appends begun new []
-none_shown w begun failed before bytes puts new after k e same =
-    let P : List ℕ → Type 0 = λ xs. Appends begun new xs in
-    let done : Appends begun new (shown w []) × (after ≡ failed) = e.shows [] (none_came before bytes same) in
-    subst P e.nothing done.0
-
-nothing_first : (front rest : List ℕ) → [] ≡ front ++ rest → front ≡ []
-nothing_first [] rest e = refl
-nothing_first (b ∷ front) rest e = absurd (let never : [] ≡ b ∷ (front ++ rest) = e in cc)
-
-no_front : (held new : Option (List ℕ)) (bytes : List ℕ) → AppendsFront held new [] → AppendsFront held new bytes
-no_front held new bytes f =
-    let P : List ℕ → Type 0 = λ xs. Appends held new xs in
-    ([], bytes, refl, subst P (nothing_first f.0 f.1 f.2) f.3)
-
-none_front : {T : Type 0} (s : Setting) (w : Spelling) (begun : Option (List ℕ)) (failed : ℕ) (source : Supply) (n : ℕ) (before bytes : List ℕ) (puts : ℕ) (new : Option (List ℕ)) (after : ℕ) (f : Fault)
-    → Ended T w begun failed before bytes puts new after (Err f) → Some bytes ≡ Some before → IsFront s w source n begun new
-none_front s w begun failed source n before bytes puts new after f e same =
-    let P : List ℕ → Type 0 = λ xs. AppendsFront begun new xs in
-    let cut : AppendsFront begun new (shown w []) × (after ≡ next_count failed) = e.shows [] (none_came before bytes same) in
-    record {
-      made = n;
-      few = omega arith;
-      front = no_front begun new (document s w source n) (subst P e.nothing cut.0);
-    }
-
 pub shows-ended : {T : Type 0} (s : Setting) (w : Spelling) (begun : Option (List ℕ)) (failed : ℕ) (source : Supply) (n : ℕ) (o : Outcome) (before bytes : List ℕ) (none puts : ℕ) (new : Option (List ℕ)) (after : ℕ) (x : Result T Fault) → none ≡ 0 → Ended T w begun failed before bytes puts new after x → Prints s source n o (Some before) (Some bytes) → TellsWrites o none puts
     → Shows s w source n (told_shown o (is_err x)) begun new
 shows-ended s w begun failed source n outcomes.Done before bytes none puts new after (Ok k) zero e p tells = record { ran = p.ran; out = all_shown s w begun failed source n before bytes puts new after k e p.out }
 shows-ended s w begun failed source n outcomes.Done before bytes none puts new after (Err f) zero e p tells = record { made = n; few = omega arith; front = front_shown s w begun failed source n before bytes puts new after f e p.out }
 shows-ended s w begun failed source n (outcomes.Limit which at) before bytes none puts new after (Ok k) zero e p tells = record { ran = p.ran; out = all_shown s w begun failed source n before bytes puts new after k e p.out }
 shows-ended s w begun failed source n (outcomes.Limit which at) before bytes none puts new after (Err f) zero e p tells = record { made = n; few = omega arith; front = front_shown s w begun failed source n before bytes puts new after f e p.out }
-shows-ended s w begun failed source n outcomes.NoRoom before bytes none puts new after (Ok k) zero e p tells = (p.0, none_shown w begun failed before bytes puts new after k e p.1)
-shows-ended s w begun failed source n outcomes.NoRoom before bytes none puts new after (Err f) zero e p tells = none_front s w begun failed source n before bytes puts new after f e p.1
-shows-ended s w begun failed source n outcomes.ReadFault before bytes none puts new after (Ok k) zero e p tells = λ plain. some_shown s w begun failed source n before bytes puts new after (Ok k) e (p plain)
-shows-ended s w begun failed source n outcomes.ReadFault before bytes none puts new after (Err f) zero e p tells = λ plain. some_shown s w begun failed source n before bytes puts new after (Err f) e (p plain)
-shows-ended s w begun failed source n outcomes.TooLong before bytes none puts new after (Ok k) zero e p tells = λ plain. some_shown s w begun failed source n before bytes puts new after (Ok k) e (p plain)
-shows-ended s w begun failed source n outcomes.TooLong before bytes none puts new after (Err f) zero e p tells = λ plain. some_shown s w begun failed source n before bytes puts new after (Err f) e (p plain)
+shows-ended s w begun failed source n outcomes.NoRoom before bytes none puts new after (Ok k) zero e p tells = (p.0, all_shown s w begun failed source n before bytes puts new after k e p.1)
+shows-ended s w begun failed source n outcomes.NoRoom before bytes none puts new after (Err f) zero e p tells = record { made = n; few = omega arith; front = front_shown s w begun failed source n before bytes puts new after f e p.1 }
+shows-ended s w begun failed source n outcomes.ReadFault before bytes none puts new after (Ok k) zero e p tells = some_shown s w begun failed source n before bytes puts new after (Ok k) e p
+shows-ended s w begun failed source n outcomes.ReadFault before bytes none puts new after (Err f) zero e p tells = some_shown s w begun failed source n before bytes puts new after (Err f) e p
+shows-ended s w begun failed source n outcomes.TooLong before bytes none puts new after (Ok k) zero e p tells = some_shown s w begun failed source n before bytes puts new after (Ok k) e p
+shows-ended s w begun failed source n outcomes.TooLong before bytes none puts new after (Err f) zero e p tells = some_shown s w begun failed source n before bytes puts new after (Err f) e p
 shows-ended s w begun failed source n outcomes.WriteFault before bytes none puts new after (Ok k) zero e p tells =
     short_shown s w begun failed source n before bytes puts new after (Ok k) e p (λ none_did. next_some (sym (ap next_count zero) ∙ sym tells ∙ none_did))
 shows-ended s w begun failed source n outcomes.WriteFault before bytes none puts new after (Err f) zero e p tells =
@@ -172,8 +137,8 @@ tells-ended s w begun failed source n outcomes.Done before bytes none puts new a
 tells-ended s w begun failed source n outcomes.Done before bytes none puts new after (Err f) zero e p tells = cut w begun failed before bytes (pages_of s source n) puts new after f e p.out
 tells-ended s w begun failed source n (outcomes.Limit which at) before bytes none puts new after (Ok k) zero e p tells = went w begun failed before bytes (pages_of s source n) puts new after k e p.out
 tells-ended s w begun failed source n (outcomes.Limit which at) before bytes none puts new after (Err f) zero e p tells = cut w begun failed before bytes (pages_of s source n) puts new after f e p.out
-tells-ended s w begun failed source n outcomes.NoRoom before bytes none puts new after (Ok k) zero e p tells = went w begun failed before bytes [] puts new after k e (none_came before bytes p.1)
-tells-ended s w begun failed source n outcomes.NoRoom before bytes none puts new after (Err f) zero e p tells = cut w begun failed before bytes [] puts new after f e (none_came before bytes p.1)
+tells-ended s w begun failed source n outcomes.NoRoom before bytes none puts new after (Ok k) zero e p tells = went w begun failed before bytes (pages_of s source n) puts new after k e p.1
+tells-ended s w begun failed source n outcomes.NoRoom before bytes none puts new after (Err f) zero e p tells = cut w begun failed before bytes (pages_of s source n) puts new after f e p.1
 tells-ended s w begun failed source n outcomes.ReadFault before bytes none puts new after (Ok k) zero e p tells = tt
 tells-ended s w begun failed source n outcomes.ReadFault before bytes none puts new after (Err f) zero e p tells = tt
 tells-ended s w begun failed source n outcomes.TooLong before bytes none puts new after (Ok k) zero e p tells = tt
@@ -189,14 +154,6 @@ tells-as s w begun failed source n o said before bytes none puts new after x sam
     subst (λ (y : Outcome). TellsWrites y failed after) (sym same) (tells-ended s w begun failed source n o before bytes none puts new after x zero e p tells)
 
 -- ---- the sinks that show bytes
-
-nothing_fixed : (t : Table) (escapes : Bool) → fixed.converted t escapes [] ≡ []
-nothing_fixed t true = refl
-nothing_fixed t false = refl
-
-nothing_own : (t : Characters) (escapes : Bool) → own.converted t escapes [] ≡ []
-nothing_own t true = refl
-nothing_own t false = refl
 
 fixed_ends : (w : Spelling) (m : utf8.Making) (came : List ℕ) (new : Option (List ℕ)) (after : ℕ) (x : Result ℕ Fault) → shown w came ≡ fixed.converted m.table m.escapes came
     → utf8.Finishes m came new after x → Ends w m.begun m.failed new after came x
@@ -217,7 +174,6 @@ fixed-ended w m before bytes puts new after x is first shows broke fails = recor
   shows = λ came so. fixed_ends w m came new after x (is came) (shows m came (so ∙ ap (λ (z : List ℕ). z ++ came) first));
   broke = λ came more so some. subst (λ (z : List ℕ). AppendsFront m.begun new z) (sym (is (came ++ more))) (broke m came more (so ∙ ap (λ (z : List ℕ). z ++ came) first) some);
   fails = fails;
-  nothing = is [] ∙ nothing_fixed m.table m.escapes;
 }
 
 own_ends : (w : Spelling) (m : owns.Making) (came : List ℕ) (new : Option (List ℕ)) (after : ℕ) (x : Result (Unit {0}) Fault) → shown w came ≡ own.converted m.table m.escapes came
@@ -240,7 +196,6 @@ own-ended w m before bytes puts new after x is first shows broke fails = record 
   broke = λ came more so some. subst (λ (z : List ℕ). AppendsFront m.begun new z) (sym (is (came ++ more)))
       (broke m came more (so ∙ ap (λ (z : List ℕ). z ++ came) first ∙ sym (told-append m [] came)) some);
   fails = fails;
-  nothing = is [] ∙ nothing_own m.table m.escapes;
 }
 
 -- ---- a text for a terminal
@@ -255,8 +210,7 @@ pub reached : (s : Setting) (table : Table) (escapes : Bool) (source : Supply) (
     → is_whole o ≡ true → Shows s (Utf8 (Fixed table) escapes) source n o (Some []) (Some bytes) → IsText escapes bytes
 reached s table escapes source n outcomes.Done bytes all shows = text_of table escapes (pages_of s source n) bytes shows.out
 reached s table escapes source n (outcomes.Limit which at) bytes all shows = text_of table escapes (pages_of s source n) bytes shows.out
-reached s table escapes source n outcomes.NoRoom bytes all shows =
-    text_of table escapes [] bytes (shows.1 ∙ sym (nothing_fixed table escapes))
+reached s table escapes source n outcomes.NoRoom bytes all shows = text_of table escapes (pages_of s source n) bytes shows.1
 reached s table escapes source n outcomes.ReadFault bytes all shows = absurd (let never : false ≡ true = all in cc)
 reached s table escapes source n outcomes.TooLong bytes all shows = absurd (let never : false ≡ true = all in cc)
 reached s table escapes source n outcomes.WriteFault bytes all shows = absurd (let never : false ≡ true = all in cc)

@@ -1,13 +1,11 @@
 -- What a page is to print: the composition of the stages' definitions.
-use Rattle.std.specs.Prelude.{◌≡◌, ◌≤◌, ℕ, suc, ◌+◌, ◌*◌, List, ◌++◌, Option, Bool, true, false, if◌then◌else◌}
+use Rattle.std.specs.Prelude.{◌≡◌, ◌≤◌, ℕ, suc, ◌+◌, ◌*◌, List, Option, Bool, true, false}
 use Rattle.std.specs.Io.KnownBytes.{Appends}
 use Rattle.nr_units.specs.Failures.{next_count}
 use Rattle.nr_units.specs.Sink.{AppendsFront}
-use Rattle.nr_units.specs.Source.{Never, Supply}
+use Rattle.nr_units.specs.Source.{Supply}
 use Rattle.preconv_converter.specs.declared.target.Target.{Target}
-use Rattle.tbl_setting.specs.Running.{Bounds, set_page}
-use Rattle.tbl_reader.specs.declared.running.Outcome as tbl
-use Rattle.tbl_reader.specs.declared.running.Outcome.TheVariants as tbls
+use Rattle.tbl_stage.specs.Text.{Bounds, set_text}
 use Rattle.nr_options.specs.Limits as limits
 use Rattle.nr_options.specs.declared.options.Options.{Options}
 use Rattle.nr_machine.specs.Machine.{state_after}
@@ -16,17 +14,18 @@ use Rattle.nr_machine.specs.Run.{Ends, Runs, moves_a_byte}
 use Rattle.nr_machine.specs.State.{State, start}
 use Rattle.nr_machine.specs.declared.outcome.Outcome as machine
 use Rattle.nr_machine.specs.declared.outcome.Outcome.TheVariants as machines
+use Rattle.document_stages.specs.Joined.{behind}
 use Rattle.document_stages.specs.Pulling.{broken_off}
 use Rattle.document_printing.specs.declared.setup.Outcome.{Outcome}
 use Rattle.document_printing.specs.declared.setup.Outcome.TheVariants as outcomes
 use Rattle.document_printing.specs.declared.setup.Setup.{Setup}
 use Rattle.document_reader.specs.declared.page.Stages.{Stages}
-use Rattle.document_reader.specs.Page.{plain_of, plain_so_far}
+use Rattle.document_reader.specs.Page.{plain_so_far, plain_supply}
 
 -- ---- what the formatter reads of a page, after the macros
 
-abbrev pub tables_of : Bool → Bounds → List ℕ → List ℕ
-tables_of true b page = set_page b.signs b.limits b.cells page
+abbrev pub tables_of : Bool → Bounds → Supply → Supply
+tables_of true b page = set_text b page
 tables_of false b page = page
 
 -- ---- the pages
@@ -41,16 +40,17 @@ pub record Setting : Type 0 where
   pub limits : limits.Bounds
   pub options : Options
 
--- what the machine reads of a page: it fails where the page does, but for a page whose tables are set, which is read before
-abbrev pub source_of : Setting → Supply → Supply
-source_of s page = record {
-  bytes = s.macros ++ tables_of s.sets s.tables (plain_of s.stages s.characters page.bytes);
-  faults = if s.sets then Never else page.faults;
-}
+-- what the machine reads where it reads this text of a page: the macros, and then that with its tables set
+abbrev pub read_after : Setting → Supply → Supply
+read_after s page = behind s.macros (tables_of s.sets s.tables page)
 
--- the same of a page that breaks off after these bytes, where no tables are set: but for what is half read
+-- WHAT THE MACHINE READS of a page, macros ++ tables (characters (mdoc page)): it fails where the page does
+abbrev pub source_of : Setting → Supply → Supply
+source_of s page = read_after s (plain_supply s.stages s.characters page)
+
+-- the same of a page that breaks off after these bytes: but for what is half read
 abbrev pub source_so_far : Setting → List ℕ → Supply
-source_so_far s bytes = broken_off (s.macros ++ plain_so_far s.stages s.characters bytes)
+source_so_far s bytes = read_after s (broken_off (plain_so_far s.stages s.characters bytes))
 
 -- the machine over what it reads, after so many moves
 abbrev pub state_of : Setting → Supply → ℕ → State
@@ -76,13 +76,13 @@ pub record GoesOut (s : Setting) (source : Supply) (n : ℕ) (ended : machine.Ou
   pub out : Appends held new (pages_of s source n)
 
 -- HOW A DOCUMENT ENDS. Where the output fails, a prefix of the pages that stand after one move more went out; where the page
--- breaks off and no tables are set, the pages until then did.
+-- breaks off, or tables have no room, the pages until then did.
 abbrev pub Prints : Setting → Supply → ℕ → Outcome → Option (List ℕ) → Option (List ℕ) → Type 0
 Prints s source n outcomes.Done held new = GoesOut s source n machines.Done held new
 Prints s source n (outcomes.Limit which at) held new = GoesOut s source n (machines.Limit which at) held new
-Prints s source n outcomes.NoRoom held new = (s.sets ≡ true) × (new ≡ held)
-Prints s source n outcomes.ReadFault held new = s.sets ≡ false → Appends held new (pages_of s source n)
-Prints s source n outcomes.TooLong held new = s.sets ≡ false → Appends held new (pages_of s source n)
+Prints s source n outcomes.NoRoom held new = (s.sets ≡ true) × Appends held new (pages_of s source n)
+Prints s source n outcomes.ReadFault held new = Appends held new (pages_of s source n)
+Prints s source n outcomes.TooLong held new = Appends held new (pages_of s source n)
 Prints s source n outcomes.WriteFault held new = AppendsFront held new (pages_of s source (suc n))
 
 -- One put failed where that is told, and none where all went out, by the counts of those that did.
@@ -105,17 +105,11 @@ setting_of setup tables limits = record {
   options = setup.options.now;
 }
 
--- how the formatter's end is told of a page that came whole
-abbrev pub told : machine.Outcome → Outcome
-told machines.Done = outcomes.Done
-told (machines.Limit which at) = outcomes.Limit which at
-told (machines.ReadFault at) = outcomes.ReadFault
-told machines.TooLong = outcomes.TooLong
-told machines.WriteFault = outcomes.WriteFault
-
--- the same of a page whose tables ended so
-abbrev pub told_with : tbl.Outcome → Outcome → Outcome
-told_with tbls.Done outcome = outcome
-told_with (tbls.ReadFault at) outcome = outcomes.ReadFault
-told_with tbls.TooLong outcome = outcomes.TooLong
-told_with tbls.WriteFault outcome = outcomes.NoRoom
+-- how the formatter's end is told of a page whose tables have no room, or have
+abbrev pub told : machine.Outcome → Bool → Outcome
+told machines.Done full = outcomes.Done
+told (machines.Limit which at) full = outcomes.Limit which at
+told (machines.ReadFault at) true = outcomes.NoRoom
+told (machines.ReadFault at) false = outcomes.ReadFault
+told machines.TooLong full = outcomes.TooLong
+told machines.WriteFault full = outcomes.WriteFault

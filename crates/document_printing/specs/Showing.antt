@@ -1,5 +1,5 @@
 -- What a reader gets of a page.
-use Rattle.std.specs.Prelude.{◌≡◌, ℕ, ◌≤◌, suc, List, [], Option, Bool, true, false}
+use Rattle.std.specs.Prelude.{◌≡◌, ℕ, ◌≤◌, suc, List, Option, Bool, true, false}
 use Rattle.std.specs.Io.KnownBytes.{Appends}
 use Rattle.nr_units.specs.Sink.{AppendsFront}
 use Rattle.nr_units.specs.Source.{Supply}
@@ -46,9 +46,9 @@ abbrev pub Shows : Setting → Spelling → Supply → ℕ → Outcome → Optio
 Shows s spelling source n outcomes.Done held new = IsShown s spelling source n machines.Done held new
 Shows s spelling source n (outcomes.Limit which at) held new =
     IsShown s spelling source n (machines.Limit which at) held new
-Shows s spelling source n outcomes.NoRoom held new = (s.sets ≡ true) × Appends held new []
-Shows s spelling source n outcomes.ReadFault held new = s.sets ≡ false → AppendsFront held new (document s spelling source n)
-Shows s spelling source n outcomes.TooLong held new = s.sets ≡ false → AppendsFront held new (document s spelling source n)
+Shows s spelling source n outcomes.NoRoom held new = (s.sets ≡ true) × Appends held new (document s spelling source n)
+Shows s spelling source n outcomes.ReadFault held new = AppendsFront held new (document s spelling source n)
+Shows s spelling source n outcomes.TooLong held new = AppendsFront held new (document s spelling source n)
 Shows s spelling source n outcomes.WriteFault held new = IsFront s spelling source n held new
 
 -- how an end is told of a page whose characters did not all go out: that its input failed first

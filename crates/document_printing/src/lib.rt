@@ -1,7 +1,7 @@
 //! A whole page in one program: what the formatter reads of it is formatted after macros.
 //!
-//! It stands on document_reader, document_stages, mdoc_converter, tbl_setting, tbl_reader, nr_engine, nr_machine, nr_options, utf8_converter, utf8_own_sink,
-//! utf8_own_characters, utf8_characters, nr_vectors and nr_units. To read: `setup`, `rooms`, `front`; `pulling`, `setting`, `printing`; `showing`, `laws`.
+//! It stands on document_reader, document_stages, mdoc_converter, tbl_stage, tbl_setting, nr_engine, nr_machine, nr_options, utf8_converter, utf8_own_sink,
+//! utf8_own_characters, utf8_characters, nr_vectors and nr_units. To read: `setup`, `front`; `pulling`, `setting`, `printing`; `showing`, `laws`.
 //!
 //! Proved: A write fault is reported where a put failed, and none failed where all went out. (`write_faults` of
 //! `print` and `print_shown`)
@@ -11,7 +11,6 @@ mod front;
 mod laws;
 mod printing;
 mod pulling;
-mod rooms;
 mod setting;
 mod setup;
 mod showing;
@@ -20,6 +19,6 @@ pub use document_reader::Stages;
 pub use front::{Front, has_tables, hold};
 pub use laws::{lines_stay, reaches_terminal};
 pub use printing::print;
-pub use rooms::Rooms;
-pub use setup::{Outcome, PageLimits, Report, Setup};
+pub use setup::{Outcome, Report, Setup};
 pub use showing::{PageTable, Showing, Spelling, print_shown};
+pub use tbl_stage::{PageLimits, Rooms};

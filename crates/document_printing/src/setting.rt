@@ -1,56 +1,65 @@
-//! A page whose tables are set is whole before it is formatted.
-ghost use Rattle.std.specs.Prelude.{◌≡◌, ◌++◌, Some};
+//! A page is formatted as it comes, with its tables set.
+ghost use Rattle.std.specs.Prelude.{◌≡◌, ◌≤◌, ℕ, Some, false, length, take};
 ghost use Rattle.nr_units.specs.Failures.{put_counted_if};
-ghost use Rattle.nr_units.specs.Source.{Supply};
+ghost use Rattle.nr_units.specs.Source.{After, Supply};
 ghost use Rattle.nr_machine.specs.Run.{Answers, is_write_fault};
 ghost use Rattle.nr_machine.specs.State.{start};
-ghost use Rattle.document_stages.specs.Pulling.{whole};
-ghost use Rattle.tbl_setting.specs.Running.{set_page};
-ghost use Rattle.tbl_reader.specs.declared.running.Outcome.TheVariants as outcomes;
+ghost use Rattle.document_stages.specs.Joined.{behind};
+ghost use Rattle.document_stages.specs.Pulling.{broken_off};
+ghost use Rattle.document_reader.specs.Page.{IsShort, breaks_off, man_of, man_so_far, plain_so_far, plain_supply};
+ghost use Rattle.tbl_stage.specs.Text.{bounds_in, set_text};
 
-use super::pulling::Pulled;
+use super::pulling::{Pulled, SetTables};
 use super::setup::Setup;
-use document_stages::{Buffer, Joined, Text};
+use document_reader::{Places, read_page};
+use document_stages::{Joined, Lines};
 use nr_engine::{Desk, format};
 use nr_units::sink::Sink;
 use nr_units::source::Source;
-use nr_vectors::slice_vec::SliceVec;
-use tbl_setting::{Complaint, Report, Rooms as Tables, convert};
+use tbl_setting::Complaint;
+use tbl_stage::{Rooms, Turning, set_tables};
 
-/// The tables of a page are set into a buffer, which comes back.
-pub(crate) fn set<'p, R: Source>(
-    input: &mut R,
-    tables: &mut Tables,
-    complaints: &mut SliceVec<'_, Complaint>,
-    page: &'p mut Buffer,
-) -> (Report, &'p mut Buffer)
-    ensures whole { (q : Supply) → R.supply input.old ≡ Some q → result.0.outcome ≡ outcomes.Done →
-        result.1.now.bytes ≡ set_page tables.old.signs tables.old.limits tables.old.cells q.bytes }
-    ensures same { tables.new ≡ tables.old }
-{
-    page.clear();
-    convert(input, page, tables, complaints)
-}
-
-/// A text is formatted after macros. Nothing is allocated.
-pub(crate) fn format_text<W: Sink>(
-    text: &[u8],
+/// A page is formatted after its macros, with its tables. Nothing is allocated.
+pub(crate) fn pull_set<R: Source + Drop, W: Sink>(
+    input: R,
     setup: &Setup<'_>,
-    line: u64,
+    rooms: &mut Rooms,
+    complaints: &mut [Complaint],
     desk: &mut Desk,
     output: &mut W,
 ) -> Pulled
-    ensures answers { Answers desk.old (start desk.old setup.now.options.now (whole (setup.now.macros.now ++ text.now)))
+    // What is formatted is the composition of the stages.
+    ensures whole { (q : Supply) → R.supply input ≡ Some q → breaks_off q.faults ≡ false →
+        IsShort q.bytes (man_of setup.now.stages.mdoc q.bytes) →
+        Answers desk.old (start desk.old setup.now.options.now (behind setup.now.macros.now
+        (set_text (bounds_in rooms.old) (plain_supply setup.now.stages setup.now.characters q))))
+        result.moves result.outcome (W.held output.old) (W.held output.new) }
+    // Where the source fails after so many bytes, it is that of these, but for what is half read.
+    ensures cut { (q : Supply) → (n : ℕ) → R.supply input ≡ Some q → q.faults ≡ After n → n ≤ length q.bytes →
+        IsShort q.bytes (man_so_far setup.now.stages.mdoc (take n q.bytes)) →
+        Answers desk.old (start desk.old setup.now.options.now (behind setup.now.macros.now
+        (set_text (bounds_in rooms.old) (broken_off (plain_so_far setup.now.stages setup.now.characters (take n q.bytes))))))
         result.moves result.outcome (W.held output.old) (W.held output.new) }
     ensures write_faults { W.failures output.new ≡ put_counted_if (is_write_fault result.outcome) (W.failures output.old) }
 {
-    let rest = Text::over(text);
-    let mut all = Joined::over(setup.macros, rest);
+    let mut places = Places::new();
+    let page = read_page(input, setup.stages, setup.characters, places.lend());
+    let text = set_tables(page, rooms, complaints);
+    let mut all = Joined::over(setup.macros, text);
     let mut moves = 0;
     let outcome = format(desk.lend(), setup.options, &mut all, output, &mut moves);
+    let text = all.second();
+    let line = text.line();
+    let turner = text.stage();
+    let tables = SetTables {
+        full: turner.is_full(),
+        complaints: turner.complaints().len(),
+        missed: turner.has_missed(),
+    };
     Pulled {
         outcome,
         line,
         moves,
+        tables,
     }
 }

@@ -4,17 +4,6 @@ use document_reader::Stages;
 use nr_engine::{Measure, Options};
 use preconv_converter::Target;
 
-/// The limits of what stands before the formatter, in bytes.
-#[derive(Clone, Copy, Debug, PartialEq, Eq)]
-pub struct PageLimits {
-    /// Of the options and formats of a table.
-    pub formats: usize,
-    /// Of a line of a table's row.
-    pub row: usize,
-    /// Of a page whose tables are set.
-    pub page: usize,
-}
-
 /// How a page is set.
 #[derive(Clone, Copy)]
 pub struct Setup<'a> {
@@ -42,7 +31,7 @@ pub enum Outcome {
         /// Where.
         at: u64,
     },
-    /// A page whose tables are set has no room.
+    /// What goes out of a table at once has no room.
     NoRoom,
     /// The input failed.
     ReadFault,
@@ -57,10 +46,12 @@ pub enum Outcome {
 pub struct Report {
     /// How it ended.
     pub outcome: Outcome,
-    /// The line of the page that was read last, from 1 on; 0 where none was read. Where tables are set that is the last line.
+    /// The line of the page that was read last, from 1 on; 0 where none was read.
     pub line: u64,
     /// How many moves the formatter made.
     pub moves: u128,
-    /// There were more complaints about tables than there was room for.
+    /// How many complaints there are about tables, in the first of the slots.
+    pub complaints: usize,
+    /// There were more than there was room for.
     pub missed: bool,
 }

@@ -2,18 +2,18 @@
 ghost use Rattle.std.specs.Prelude.{◌≡◌, ◌≤◌, ℕ, Some, false, length, take};
 ghost use Rattle.nr_units.specs.Source.{After, Supply};
 ghost use Rattle.document_reader.specs.Page.{IsShort, breaks_off, man_of, man_so_far};
+ghost use Rattle.tbl_stage.specs.Text.{bounds_in};
 ghost use Rattle.document_printing.specs.Document.{TellsWrites, setting_of, source_of, source_so_far};
 ghost use Rattle.document_printing.specs.Showing as specs;
 ghost use Rattle.document_printing.specs.Showing.{Shows};
 
 use super::printing::print;
-use super::rooms::Rooms;
 use super::setup::{Outcome, Report, Setup};
 use nr_engine::Desk;
 use nr_units::sink::Sink;
 use nr_units::source::Source;
-use nr_vectors::slice_vec::SliceVec;
 use tbl_setting::Complaint;
+use tbl_stage::Rooms;
 use utf8_characters::Table;
 use utf8_converter::Shown;
 use utf8_own_characters::Table as OwnTable;
@@ -84,13 +84,13 @@ fn report_shown(printed: Report, failed: bool) -> Report
 ///
 /// Proved: **What a reader gets is one equation.** What goes out of `print_shown` is `shown (pages)` of these pages,
 /// each word a definition: their bytes as they are, or the UTF-8 of their characters, as utf8_converter defines it for a
-/// fixed table and utf8_own_sink for the page's own. At a limit it is that of the pages until then; where the output fails, or the page breaks off and no tables are set,
-/// a prefix of it; no byte goes out twice. (`print_shown`; `Shows` in Showing.antt)
+/// fixed table and utf8_own_sink for the page's own. At a limit it is that of the pages until then; where the output
+/// fails, or the page breaks off, a prefix of it; no byte goes out twice. (`print_shown`; `Shows` in Showing.antt)
 pub fn print_shown<R: Source + Drop, W: Sink>(
     input: R,
     showing: &Showing<'_>,
     rooms: &mut Rooms,
-    complaints: &mut SliceVec<'_, Complaint>,
+    complaints: &mut [Complaint],
     desk: &mut Desk,
     output: W,
 ) -> (W, Report)
@@ -98,15 +98,14 @@ pub fn print_shown<R: Source + Drop, W: Sink>(
     // page. At a refusal it is a prefix of that.
     ensures whole { (q : Supply) → R.supply input ≡ Some q → breaks_off q.faults ≡ false →
         IsShort q.bytes (man_of showing.now.setup.stages.mdoc q.bytes) →
-        Shows (setting_of showing.now.setup rooms.old.tables desk.old) showing.now.spelling
-        (source_of (setting_of showing.now.setup rooms.old.tables desk.old) q)
+        Shows (setting_of showing.now.setup (bounds_in rooms.old) desk.old) showing.now.spelling
+        (source_of (setting_of showing.now.setup (bounds_in rooms.old) desk.old) q)
         result.1.moves result.1.outcome (W.held output) (W.held result.0) }
-    // Of a page that breaks off after so many bytes, where no tables are set, it is what the stages make of these.
+    // Of a page that breaks off after so many bytes it is what the stages make of these.
     ensures cut { (q : Supply) → (n : ℕ) → R.supply input ≡ Some q → q.faults ≡ After n → n ≤ length q.bytes →
         IsShort q.bytes (man_so_far showing.now.setup.stages.mdoc (take n q.bytes)) →
-        showing.now.setup.tables ≡ false →
-        Shows (setting_of showing.now.setup rooms.old.tables desk.old) showing.now.spelling
-        (source_so_far (setting_of showing.now.setup rooms.old.tables desk.old) (take n q.bytes))
+        Shows (setting_of showing.now.setup (bounds_in rooms.old) desk.old) showing.now.spelling
+        (source_so_far (setting_of showing.now.setup (bounds_in rooms.old) desk.old) (take n q.bytes))
         result.1.moves result.1.outcome (W.held output) (W.held result.0) }
     // A write fault is told where a put failed, and nowhere else.
     ensures write_faults { (q : Supply) → R.supply input ≡ Some q → breaks_off q.faults ≡ false →

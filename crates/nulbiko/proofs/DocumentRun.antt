@@ -7,7 +7,7 @@ use Rattle.preconv_converter.specs.declared.target.Target.{Target}
 use Rattle.utf8_converter.specs.Cells.{converted}
 use Rattle.utf8_converter.specs.Lines.{KeepsLines}
 use Rattle.utf8_converter.specs.Showing.{Finishes, Making, made_of}
-use Rattle.tbl_setting.specs.Running.{Bounds}
+use Rattle.tbl_stage.specs.Text.{Bounds}
 use Rattle.nr_options.specs.Limits as limits
 use Rattle.nr_options.specs.declared.options.Options.{Options}
 use Rattle.document_stages.specs.Pulling.{whole}
@@ -38,10 +38,11 @@ came s source n Done before (Some ys) p =
 came s source n (Limit which at) before None p = absurd p.out
 came s source n (Limit which at) before (Some ys) p =
     record { pages = pages_of s source n; prints = record { ran = p.ran; out = refl }; is = λ _. ap Some p.out }
-came s source n NoRoom before held p =
-    record { pages = []; prints = (p.0, refl); is = λ _. p.1 ∙ ap Some (sym (append-nil before)) }
-came s source n ReadFault before held p = record { pages = pages_of s source n; prints = λ _. refl; is = λ known. absurd known }
-came s source n TooLong before held p = record { pages = pages_of s source n; prints = λ _. refl; is = λ known. absurd known }
+came s source n NoRoom before None p = absurd p.1
+came s source n NoRoom before (Some ys) p =
+    record { pages = pages_of s source n; prints = (p.0, refl); is = λ _. ap Some p.1 }
+came s source n ReadFault before held p = record { pages = pages_of s source n; prints = refl; is = λ known. absurd known }
+came s source n TooLong before held p = record { pages = pages_of s source n; prints = refl; is = λ known. absurd known }
 came s source n WriteFault before None p = absurd p.3
 came s source n WriteFault before (Some ys) p = record { pages = p.0; prints = (p.0, p.1, p.2, refl); is = λ _. ap Some p.3 }
 

@@ -10,7 +10,7 @@ use Rattle.utf8_own_page.specs.Needing.{IsMadeOf, IsTableOf}
 use Rattle.preconv_converter.specs.declared.target.Target.{Target}
 use Rattle.preconv_converter.specs.declared.target.Target.TheVariants.{Ascii}
 use Rattle.preconv_converter.specs.declared.target.Target.TheVariants as targets
-use Rattle.tbl_setting.specs.Running.{Bounds}
+use Rattle.tbl_stage.specs.Text.{Bounds}
 use Rattle.nr_options.specs.Limits as limits
 use Rattle.nr_options.specs.declared.options.Options.{Options}
 use Rattle.document_stages.specs.Pulling.{whole}

@@ -2,7 +2,7 @@
 use Rattle.std.specs.Prelude.{◌≡◌, ℕ, ℤ, pos, List, [], ◌∷◌, length, take, Bool, true, false, ◌==◌, ◌&&◌, ◌||◌, nat_lt, if◌then◌else◌, Option, None, Some, codes}
 use Rattle.std.specs.List.{starts_with}
 use Prim.Native.Char.{code}
-use Rattle.tbl_setting.specs.Running.{Bounds}
+use Rattle.tbl_stage.specs.Text.{Bounds}
 use Rattle.utf8_characters.specs.declared.table.Table.{Table}
 use Rattle.preconv_converter.specs.Targets.{target_of}
 use Rattle.utf8_converter.specs.Choosing.{chosen, looked_at}
@@ -10,7 +10,7 @@ use Rattle.nr_options.specs.Limits.{AreLimits}
 use Rattle.nr_options.specs.declared.options.Options.{Options}
 use Rattle.document_printing.specs.Document.{Setting}
 use Rattle.document_printing.specs.declared.setup.Outcome.{Outcome}
-use Rattle.document_printing.specs.declared.setup.PageLimits.{PageLimits}
+use Rattle.tbl_stage.specs.declared.rooms.PageLimits.{PageLimits}
 use Rattle.nulbiko.specs.Formatting.{bounds_of, faces_of}
 use Rattle.nulbiko.specs.Printed.{IsPrinted, code_of, form_of, limit_told, place_told}
 use Rattle.nulbiko.specs.Tables.{table_numbered}
@@ -62,8 +62,8 @@ sets_of setup page = setup.options.tables && has_tables page
 
 -- the limits of tables; a page without any has no room for them
 abbrev pub page_limits : TableLimits → Bool → PageLimits
-page_limits asked true = record { formats = asked.formats; row = asked.row; page = asked.page }
-page_limits asked false = record { formats = 0; row = 0; page = 0 }
+page_limits asked true = record { formats = asked.formats; row = asked.row; set = asked.page }
+page_limits asked false = record { formats = 0; row = 0; set = 0 }
 
 -- after these macros, through mdoc where that is asked for, characters, and tables where there are some
 abbrev pub setting_for : DocumentSetup → List ℕ → List ℕ → Bounds → Options → Setting

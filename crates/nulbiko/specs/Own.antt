@@ -7,7 +7,7 @@ use Rattle.utf8_own_characters.specs.Table.{Characters}
 use Rattle.utf8_own_page.specs.Looking.{counts_of}
 use Rattle.utf8_own_page.specs.Needing.{IsTableOf, front_of, has_all, may_need_own}
 use Rattle.preconv_converter.specs.declared.target.Target.TheVariants.{Ascii, Utf8}
-use Rattle.tbl_setting.specs.Running.{Bounds}
+use Rattle.tbl_stage.specs.Text.{Bounds}
 use Rattle.nr_options.specs.declared.options.Options.{Options}
 use Rattle.document_stages.specs.Pulling.{whole}
 use Rattle.document_reader.specs.Page.{IsShort, man_of, own_of, plain_of}

@@ -87,7 +87,7 @@ code_of WriteFault = 4
 code_of TooLong = 6
 code_of ReadFault = 9
 
--- which limit would be passed, 7 that of a page whose tables are set, and 0 where none would
+-- which limit would be passed, 7 that of what goes out of a table at once, and 0 where none would
 abbrev pub limit_told : Outcome → ℕ
 limit_told (Limit which at) = limit_number which
 limit_told NoRoom = 7

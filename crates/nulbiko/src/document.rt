@@ -3,7 +3,7 @@ ghost use Rattle.std.specs.Prelude.{◌≡◌, ◌≢◌, ◌↔◌, ◌+◌, []
 ghost use Rattle.preconv_coding.specs.UnderCoding.{text_of};
 ghost use Rattle.nr_machine.specs.Lengths.{sizes_of, sum_of};
 ghost use Rattle.document_reader.specs.Page.{IsShort, man_of};
-ghost use Rattle.document_printing.specs.Rooms.{memory_of};
+ghost use Rattle.tbl_stage.specs.Memory.{memory_of};
 ghost use Rattle.nulbiko.specs.Formatting.{bounds_of};
 ghost use Rattle.nulbiko.specs.Told.{nothing_told};
 ghost use Rattle.nulbiko.specs.Document as specs;
@@ -42,7 +42,7 @@ pub struct TableLimits {
     pub formats: usize,
     /// A line of a row.
     pub row: usize,
-    /// A page whose tables are set.
+    /// What goes out of a table at once.
     pub page: usize,
 }
 
@@ -156,13 +156,13 @@ pub(crate) fn table_limits(asked: TableLimits, sets: bool) -> PageLimits
         PageLimits {
             formats: asked.formats,
             row: asked.row,
-            page: asked.page,
+            set: asked.page,
         }
     } else {
         PageLimits {
             formats: 0,
             row: 0,
-            page: 0,
+            set: 0,
         }
     }
 }

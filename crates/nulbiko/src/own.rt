@@ -1,7 +1,7 @@
 // A page that has characters which no fixed table has is printed with a table of its own.
 ghost use Rattle.std.specs.Prelude.{◌≡◌, ◌≢◌, ◌+◌, [], Some, drop, true, IfOk};
 ghost use Rattle.nr_machine.specs.Lengths.{sizes_of, sum_of};
-ghost use Rattle.document_printing.specs.Rooms.{memory_of};
+ghost use Rattle.tbl_stage.specs.Memory.{memory_of};
 ghost use Rattle.utf8_own_characters.specs.Counting.{is_once};
 ghost use Rattle.utf8_own_characters.specs.Ranking.{ranked};
 ghost use Rattle.utf8_own_page.specs.Looking.{counts_of};

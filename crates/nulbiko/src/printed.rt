@@ -2,6 +2,7 @@
 ghost use Rattle.std.specs.Prelude.{◌≡◌, ◌≢◌, List, ℕ, [], Some};
 ghost use Rattle.document_stages.specs.Pulling.{whole};
 ghost use Rattle.document_reader.specs.Page.{IsShort, man_of};
+ghost use Rattle.tbl_stage.specs.Text.{bounds_in};
 ghost use Rattle.document_printing.specs.Document.{Prints, setting_of, source_of};
 ghost use Rattle.utf8_own_characters.specs.Table.{Good};
 ghost use Rattle.document_printing.specs.declared.showing.PageTable.TheVariants as page_tables;
@@ -22,7 +23,6 @@ use document_reader::{Places, read_own_page};
 use nr_engine::Desk;
 use nr_units::sink::Sink;
 use nr_units::source::Fault;
-use nr_vectors::slice_vec::SliceVec;
 use preconv_converter::Target;
 use tbl_setting::Complaint;
 use utf8_characters::Table;
@@ -32,7 +32,7 @@ use utf8_own_characters::Table as OwnTable;
 /// The bytes of characters that go out at once.
 const ROOM: usize = 2_048;
 
-/// The number of the limit of a page whose tables are set.
+/// The number of the limit of what goes out of a table at once.
 const SET_PAGE: u32 = 7;
 
 /// How pages go out.
@@ -80,13 +80,12 @@ pub(crate) struct Printed {
 /// Prints a page as the formatter gives its bytes.
 fn print_page<W: Sink>(page: &[u8], setup: &Setup<'_>, memory: &mut Memory, output: &mut W) -> Run
     ensures { IsShort page.now (man_of setup.now.stages.mdoc page.now) →
-        Prints (setting_of setup.now memory.old.rooms.tables memory.old.desk)
-        (source_of (setting_of setup.now memory.old.rooms.tables memory.old.desk) (whole page.now))
+        Prints (setting_of setup.now (bounds_in memory.old.rooms) memory.old.desk)
+        (source_of (setting_of setup.now (bounds_in memory.old.rooms) memory.old.desk) (whole page.now))
         result.moves result.outcome (W.held output.old) (W.held output.new) }
 {
     let Memory { rooms, desk } = memory;
-    let mut slots = [Complaint::NONE];
-    let mut complaints = SliceVec::over(&mut slots);
+    let mut complaints = [Complaint::NONE];
     let text = Text::over(page);
     print(text, setup, rooms, &mut complaints, desk, output)
 }
@@ -131,7 +130,7 @@ fn print_fixed(
     ensures { ⟦<Pages as Sink>⟧.held pages ≡ Some [] →
         IsShort page.now (man_of setup.now.stages.mdoc page.now) →
         (bytes : List ℕ) → ⟦<Pages as Sink>⟧.held result.0 ≡ Some bytes →
-        IsPrinted (setting_of setup.now memory.old.rooms.tables memory.old.desk)
+        IsPrinted (setting_of setup.now (bounds_in memory.old.rooms) memory.old.desk)
         (specs.characters table escapes) page.now bytes result.1.moves result.1.outcome result.1.dropped }
 {
     let mut room = [0; ROOM];
@@ -175,7 +174,7 @@ pub(crate) fn print_coded<'a>(
     ensures shown { ⟦<Pages as Sink>⟧.held pages ≡ Some [] →
         IsCodedShort setup.entry.stages table.entry.now page.now →
         (bytes : List ℕ) → ⟦<Pages as Sink>⟧.held result.0 ≡ Some bytes →
-        ShowsCoded (setting_of setup.entry memory.old.rooms.tables memory.old.desk)
+        ShowsCoded (setting_of setup.entry (bounds_in memory.old.rooms) memory.old.desk)
         table.entry.now escapes page.now bytes result.1.moves result.1.outcome }
     ensures none_dropped { result.1.dropped ≡ 0 }
 {
@@ -186,8 +185,7 @@ pub(crate) fn print_coded<'a>(
     let text = Text::over(page);
     let coded = read_own_page(text, stages, table, places.lend(), &mut room);
     let Memory { rooms, desk } = memory;
-    let mut slots = [Complaint::NONE];
-    let mut complaints = SliceVec::over(&mut slots);
+    let mut complaints = [Complaint::NONE];
     let (pages, run) = print_shown(coded, &showing, rooms, &mut complaints, desk, pages);
     (pages, ended(run, Ok(0)))
 }
@@ -203,7 +201,7 @@ pub(crate) fn print_pages(
     ensures { ⟦<Pages as Sink>⟧.held pages ≡ Some [] →
         IsShort page.now (man_of setup.now.stages.mdoc page.now) →
         (bytes : List ℕ) → ⟦<Pages as Sink>⟧.held result.0 ≡ Some bytes →
-        IsPrinted (setting_of setup.now memory.old.rooms.tables memory.old.desk)
+        IsPrinted (setting_of setup.now (bounds_in memory.old.rooms) memory.old.desk)
         form page.now bytes result.1.moves result.1.outcome result.1.dropped }
 {
     match form {

@@ -50,8 +50,8 @@ pub Shows-kept : (s : Setting) (spelling : Spelling) (source : Supply) (n : ℕ)
 Shows-kept s spelling source n Done a b c shows q = IsShown-kept s spelling source n _ a b c shows q
 Shows-kept s spelling source n (Limit which at) a b c shows q = IsShown-kept s spelling source n _ a b c shows q
 Shows-kept s spelling source n NoRoom a b c (sets, grown) q = (sets, Appends-kept a b c _ grown q)
-Shows-kept s spelling source n ReadFault a b c shows q = λ unset. AppendsFront-kept a b c _ (shows unset) q
-Shows-kept s spelling source n TooLong a b c shows q = λ unset. AppendsFront-kept a b c _ (shows unset) q
+Shows-kept s spelling source n ReadFault a b c shows q = AppendsFront-kept a b c _ shows q
+Shows-kept s spelling source n TooLong a b c shows q = AppendsFront-kept a b c _ shows q
 Shows-kept s spelling source n WriteFault a b c shows q = record {
   made = shows.made;
   few = shows.few;

@@ -4,13 +4,13 @@ use Rattle.std.specs.Borrow.{Bor}
 use Rattle.nr_units.specs.Source.{Supply}
 use Rattle.nr_options.specs.Limits.{Bounds}
 use Rattle.tbl_setting.specs.Drawing.{signs_of}
-use Rattle.tbl_setting.specs.Running as tbl
+use Rattle.tbl_stage.specs.Text as tbl
 use Rattle.utf8_own_characters.specs.Table.{Characters}
 use Rattle.utf8_own_characters.specs.Ranking.{ranked}
 use Rattle.utf8_own_characters.specs.declared.counting.Count.{Count}
 use Rattle.document_reader.specs.Page.{IsShort, man_of, own_of, own_supply}
 use Rattle.document_printing.specs.Document.{setting_of, source_of}
-use Rattle.document_printing.specs.Rooms.{bounds_of}
+use Rattle.tbl_stage.specs.Memory.{limits_of}
 use Rattle.document_printing.specs.Showing.{Shows}
 use Rattle.document_printing.specs.declared.setup.Report.{Report}
 use Rattle.document_printing.specs.declared.showing.Showing.{Showing}
@@ -32,7 +32,7 @@ short-fixed plan means showing page is short =
     subst (λ (s : Showing). IsShort page (man_of s.setup.stages.mdoc page)) (sym is) (short-whole plan.stages page short).man_is
 
 pub FixedShows-of : (plan : Plan) (means : Means) (limits : Bounds) (showing : Showing) (tables : tbl.Bounds) (q : Supply) (report : Report)
-    (held new : Option (List ℕ)) → showing ≡ fixed_showing plan means → tables ≡ bounds_of means.limits plan.cells (signs_of plan.characters)
+    (held new : Option (List ℕ)) → showing ≡ fixed_showing plan means → tables ≡ limits_of means.limits plan.cells (signs_of plan.characters)
     → Shows (setting_of showing.setup tables limits) showing.spelling (source_of (setting_of showing.setup tables limits) q) report.moves report.outcome held new
     → FixedShows plan (given_by means limits) q report held new
 FixedShows-of plan means limits showing tables q report held new is drawn shows =
@@ -52,7 +52,7 @@ short-own plan table means showing page is short =
 
 pub OwnShows-of : (plan : Plan) (table : Bor Characters) (means : Means) (limits : Bounds) (showing : Showing) (tables : tbl.Bounds) (q : Supply)
     (report : Report) (held new : Option (List ℕ)) → showing ≡ own_showing plan table means
-    → tables ≡ bounds_of means.limits plan.cells (signs_for table.now)
+    → tables ≡ limits_of means.limits plan.cells (signs_for table.now)
     → Shows (setting_of showing.setup tables limits) showing.spelling (source_of (setting_of showing.setup tables limits) (own_supply plan.stages table.now q)) report.moves report.outcome held new
     → OwnShows plan table (given_by means limits) q report held new
 OwnShows-of plan table means limits showing tables q report held new is drawn shows =

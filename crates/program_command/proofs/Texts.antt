@@ -12,7 +12,7 @@ use Rattle.nr_command_options.specs.Files.{files_supply}
 use Rattle.document_stages.specs.Joined.{Begins}
 use Rattle.document_stages.specs.Pulling.{Stays}
 use Rattle.document_reader.specs.Page.{breaks_off}
-use Rattle.document_printing.specs.declared.setup.PageLimits.{PageLimits}
+use Rattle.tbl_stage.specs.declared.rooms.PageLimits.{PageLimits}
 use Rattle.document_printing.specs.declared.setup.Report.{Report}
 use Rattle.program_options.specs.Job.{Asked}
 use Rattle.program_options.specs.declared.plain.Faces.{Faces}

@@ -48,7 +48,7 @@ told_at name line what end = placed name (decimal line) what end
 abbrev pub line_of : Ending → List ℕ
 line_of Done = []
 line_of (Limit place which) = told_at place.name.now place.line (limit_text which) (codes " limit passed")
-line_of (NoRoom place) = told_at place.name.now place.line (codes "no room for a page with tables") []
+line_of (NoRoom place) = told_at place.name.now place.line (codes "no room for a table") []
 line_of TooLong = told (codes "input too long") []
 line_of (BadWord usage) = usage_text usage.case usage.word.now
 line_of (CannotOpen input) = told (codes "cannot open ") (name_of (reading_of input))

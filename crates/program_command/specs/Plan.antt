@@ -10,7 +10,7 @@ use Rattle.nr_page.specs.declared.selection.PageRange.{PageRange}
 use Rattle.nr_options.specs.declared.options.Options.{Options}
 use Rattle.document_reader.specs.declared.page.Stages.{Stages}
 use Rattle.document_printing.specs.Tables.{has_tables}
-use Rattle.document_printing.specs.declared.setup.PageLimits.{PageLimits}
+use Rattle.tbl_stage.specs.declared.rooms.PageLimits.{PageLimits}
 use Rattle.program_options.specs.Job.{Asked}
 use Rattle.program_options.specs.declared.plain.Device.{Device}
 use Rattle.program_options.specs.declared.plain.Device.TheVariants.{Utf8, Latin1, Ascii}
@@ -96,4 +96,4 @@ pub record AreOptions (job : Asked) (plan : Plan) (options : Options) : Type 0 w
 
 -- the limits of tables, and of a page that has some
 abbrev pub page_limits_of : Asked → PageLimits
-page_limits_of job = record { formats = job.plain.formats; row = job.plain.row; page = 268435456 }
+page_limits_of job = record { formats = job.plain.formats; row = job.plain.row; set = 268435456 }

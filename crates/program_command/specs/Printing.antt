@@ -13,9 +13,9 @@ use Rattle.utf8_own_characters.specs.declared.counting.Count.{Count}
 use Rattle.document_reader.specs.Page.{IsShort, breaks_off, man_of, own_of, own_supply, plain_of}
 use Rattle.document_reader.specs.declared.page.Stages.{Stages}
 use Rattle.document_printing.specs.Document.{Setting, source_of}
-use Rattle.document_printing.specs.Rooms.{bounds_of}
+use Rattle.tbl_stage.specs.Memory.{limits_of}
 use Rattle.document_printing.specs.Showing.{Shows}
-use Rattle.document_printing.specs.declared.setup.PageLimits.{PageLimits}
+use Rattle.tbl_stage.specs.declared.rooms.PageLimits.{PageLimits}
 use Rattle.document_printing.specs.declared.setup.Report.{Report}
 use Rattle.document_printing.specs.declared.showing.Showing.{Showing}
 use Rattle.document_printing.specs.declared.showing.Spelling.{Spelling}
@@ -79,7 +79,7 @@ fixed_setting plan given = record {
   stages = plan.stages;
   sets = plan.tables;
   characters = target_of plan.characters;
-  tables = bounds_of given.page_limits plan.cells (signs_of plan.characters);
+  tables = limits_of given.page_limits plan.cells (signs_of plan.characters);
   limits = given.limits;
   options = given.options;
 }
@@ -113,7 +113,7 @@ own_setting plan table given = record {
   stages = no_stages;
   sets = plan.tables;
   characters = Ascii;
-  tables = bounds_of given.page_limits plan.cells (signs_for table);
+  tables = limits_of given.page_limits plan.cells (signs_for table);
   limits = given.limits;
   options = given.options;
 }

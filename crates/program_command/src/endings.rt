@@ -28,7 +28,7 @@ pub enum Ending<'a> {
     Done,
     /// The next move would have passed a limit.
     Limit(Place<'a>, Measure),
-    /// A page whose tables are set makes more than there is room for.
+    /// What goes out of a table at once has no room.
     NoRoom(Place<'a>),
     /// The texts have 2^40 bytes or more.
     TooLong,
@@ -161,7 +161,7 @@ fn put_ending<E: Sink>(ending: Ending<'_>, errors: &mut E)
         Ending::Limit(place, which) => {
             put_placed(place, limit_text(which), " limit passed", errors)
         }
-        Ending::NoRoom(place) => put_placed(place, "no room for a page with tables", "", errors),
+        Ending::NoRoom(place) => put_placed(place, "no room for a table", "", errors),
         Ending::TooLong => put_line("input too long", "", errors),
         Ending::BadWord(usage) => {
             let _ = usage_line(&usage, errors);

@@ -21,8 +21,8 @@ pub(crate) const LOOKED_AT: usize = 65_536;
 /// The same of a page that has characters beyond ASCII, whose own table is made of them.
 pub(crate) const MORE_LOOKED_AT: usize = 1_048_576;
 
-/// The most bytes of a page whose tables are set.
-const LONGEST_PAGE: usize = 268_435_456;
+/// The most bytes that go out of a table at once.
+const MOST_SET: usize = 268_435_456;
 
 /// The greatest number of a page.
 const LAST_PAGE: u64 = 2_147_483_647;
@@ -145,6 +145,6 @@ pub(crate) fn limits_of(job: &Job<'_>) -> PageLimits
     PageLimits {
         formats: job.plain.formats as usize,
         row: job.plain.row as usize,
-        page: LONGEST_PAGE,
+        set: MOST_SET,
     }
 }

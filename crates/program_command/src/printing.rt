@@ -2,6 +2,7 @@
 ghost use Rattle.std.specs.Prelude.{◌≡◌, IfErr, IfOk, Some, false, true};
 ghost use Rattle.nr_units.specs.Source.{Supply};
 ghost use Rattle.document_reader.specs.Page.{IsShort, breaks_off, man_of};
+ghost use Rattle.tbl_stage.specs.Text.{bounds_in};
 ghost use Rattle.document_printing.specs.Document.{setting_of, source_of};
 ghost use Rattle.document_printing.specs.Showing.{Shows};
 ghost use Rattle.program_command.specs.Printing.{FixedShows, Where, fixed_showing, fixed_spelling, given_by};
@@ -14,7 +15,6 @@ use document_printing::{
 };
 use nr_engine::{Desk, Options, Sink, Source};
 use nr_vectors::CountedAlloc;
-use nr_vectors::slice_vec::SliceVec;
 use preconv_converter::Target;
 use std::alloc::{AllocError, Global};
 use tbl_setting::Complaint;
@@ -105,8 +105,8 @@ pub(crate) fn print_page<R: Source + Drop, W: Sink + Drop>(
     ensures whole { plan.now.checks ≡ false → plan.now.strikes ≡ true →
         (q : Supply) → R.supply page ≡ Some q → breaks_off q.faults ≡ false →
         IsShort q.bytes (man_of showing.now.setup.stages.mdoc q.bytes) →
-        Shows (setting_of showing.now.setup rooms.old.tables desk.old) showing.now.spelling
-        (source_of (setting_of showing.now.setup rooms.old.tables desk.old) q)
+        Shows (setting_of showing.now.setup (bounds_in rooms.old) desk.old) showing.now.spelling
+        (source_of (setting_of showing.now.setup (bounds_in rooms.old) desk.old) q)
         result.1.moves result.1.outcome (W.held output) (W.held result.0) }
     ensures checks { plan.now.checks ≡ true → result.0 ≡ output }
 {
@@ -117,8 +117,7 @@ pub(crate) fn print_page<R: Source + Drop, W: Sink + Drop>(
     if !plan.strikes {
         return print_bare(page, showing, rooms, desk, output);
     }
-    let mut slots = [Complaint::NONE; MOST_COMPLAINTS];
-    let mut complaints = SliceVec::over(&mut slots);
+    let mut complaints = [Complaint::NONE; MOST_COMPLAINTS];
     print_shown(page, showing, rooms, &mut complaints, desk, output)
 }
 
@@ -185,7 +184,6 @@ fn print_bytes<R: Source + Drop, W: Sink>(
     desk: &mut Desk,
     output: &mut W,
 ) -> Report {
-    let mut slots = [Complaint::NONE; MOST_COMPLAINTS];
-    let mut complaints = SliceVec::over(&mut slots);
+    let mut complaints = [Complaint::NONE; MOST_COMPLAINTS];
     print(page, setup, rooms, &mut complaints, desk, output)
 }

@@ -26,7 +26,7 @@ use Rattle.tbl_reader.specs.Heads.{options_end, is_dotted}
 use Rattle.tbl_reader.specs.Measure.{cells_of}
 use Rattle.tbl_reader.specs.Options.{options_of}
 use Rattle.tbl_reader.specs.Outside.{passed, line_passed, plain_passed, plain_line_passed, given_up}
-use Rattle.tbl_reader.specs.Pages.{Page, Effect, effect, and_then, with_state, at_mode, line_counted, forgotten, rest_of, line_of, wrong}
+use Rattle.tbl_reader.specs.Pages.{Page, Effect, effect, and_then, with_state, line_counted, forgotten, rest_of, line_of, wrong}
 use Rattle.tbl_reader.specs.Reading.{read, read_in, fed, kept, limit_of, with_kept, block_goes_on, kept_more, line_ended, line_ended_in, overflown, overflown_in}
 use Rattle.tbl_reader.specs.RowLines.{Said, saying, trimmed, solid, are_empty, text_said, shape_said, field_said, last_said, widths_wrong, ended_at, fields_ended, all_ended, line_cleaned, last_ended, rest_said, rest_told, line_continued, row_line, row_so_far, line_between, long_end, row_overflown}
 use Rattle.tbl_reader.specs.States as states

@@ -9,6 +9,7 @@ pub mod Lines
 pub mod Pairs
 pub mod Parts
 pub mod Plain
+pub mod Passed
 pub mod Runs
 pub mod Steady
 pub mod Tableless

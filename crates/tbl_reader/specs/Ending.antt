@@ -1,5 +1,5 @@
 -- The end of the input: a line of a table that is half read ends first, and then the table.
-use Rattle.std.specs.Prelude.{ℕ, ◌-◌, List, [], ◌∷◌, ◌++◌, length, Bool, true, false, ◌&&◌, if◌then◌else◌, nat_lt}
+use Rattle.std.specs.Prelude.{◌≡◌, ℕ, ◌+◌, ◌≤◌, ◌-◌, List, [], ◌∷◌, ◌++◌, length, Bool, true, false, ◌&&◌, Option, None, Some, if◌then◌else◌, nat_lt}
 use Prim.Native.Char.{code}
 use Rattle.tbl_reader.specs.declared.command.Start.{Start}
 use Rattle.tbl_reader.specs.declared.command.Start.TheVariants as starts
@@ -12,7 +12,7 @@ use Rattle.tbl_reader.specs.declared.state.State.{State}
 use Rattle.tbl_reader.specs.declared.telling.Tell.TheVariants as tells
 use Rattle.tbl_reader.specs.Commands.{begins_command}
 use Rattle.tbl_reader.specs.Pages.{Page, Effect, effect, and_then, rest_of}
-use Rattle.tbl_reader.specs.Reading.{read, fed}
+use Rattle.tbl_reader.specs.Reading.{Fits, read, fed}
 use Rattle.tbl_reader.specs.RowLines.{last_field}
 use Rattle.tbl_reader.specs.States.{first_state}
 use Rattle.tbl_reader.specs.Telling.{Piece, piece, each}
@@ -79,6 +79,17 @@ abbrev pub finished : Page → Effect
 finished p =
     if is_begin p.state.mode then effect p (wrong_at_end (OpenTable p.state.line) false p.state ∷ [])
     else and_then (line_closed p) closed
+
+-- ---- what comes next: a byte, or the end
+
+abbrev pub next_read : Option ℕ → Page → Effect
+next_read None p = finished p
+next_read (Some b) p = read b p
+
+-- the limits stay, and after a byte the next may come
+abbrev pub GoesOn : Option ℕ → Page → Page → Type 0
+GoesOn None p q = q.limits ≡ p.limits
+GoesOn (Some b) p q = (q.limits ≡ p.limits) × Fits q × (q.state.line ≤ p.state.line + 1)
 
 -- ---- the definition: what is said of all bytes of an input, where so many bytes are kept and the line has so many cells
 

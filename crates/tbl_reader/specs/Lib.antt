@@ -11,6 +11,7 @@ pub mod Options
 pub mod Outside
 pub mod Pages
 pub mod Passing
+pub mod Quiet
 pub mod Reading
 pub mod RowLines
 pub mod Running

@@ -126,4 +126,20 @@ impl Reader {
         self.ends_line(setter);
         self.ends_in_table(setter);
     }
+
+    /// What comes next is read: a byte, or the end, where there is none.
+    pub fn read_next<S: Setter>(&mut self, next: Option<u8>, setter: &mut S)
+        requires lines { self.old.state.line + 1 < 2 ^ 64 }
+        requires fits { Fits self.old }
+        ensures page { self.new ≡ (specs.next_read next self.old).page }
+        ensures told { Tells S.shows S.hears (specs.next_read next self.old).pieces setter.old setter.new }
+        ensures goes_on { specs.GoesOn next self.old self.new }
+    {
+        match next {
+            Some(byte) => {
+                self.read(&[byte], setter);
+            }
+            None => self.finish(setter),
+        }
+    }
 }

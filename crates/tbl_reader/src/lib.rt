@@ -1,8 +1,8 @@
 //! tbl: the tables of a page are read, and what they say is told to who sets them.
 //!
 //! It stands on nr_units and nr_vectors. To read: `complaint`, `passing`, `command`; `options`, `numbers`, `formats`,
-//! `widths`, `measure`, `field`; `telling`, `state`, `reader`, `head`, `rows`, `blocks`, `ending`; `running`;
-//! `untouched`.
+//! `widths`, `measure`, `field`; `telling`, `state`, `reader`, `head`, `rows`, `blocks`, `ending`, `quiet`;
+//! `running`; `untouched`.
 #![tactic(auto)]
 
 mod blocks;
@@ -16,6 +16,7 @@ mod measure;
 mod numbers;
 mod options;
 mod passing;
+mod quiet;
 mod reader;
 mod rows;
 mod running;

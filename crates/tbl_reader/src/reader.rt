@@ -85,7 +85,7 @@ impl Reader {
     }
 
     /// A page begins.
-    pub(crate) fn begins(&mut self)
+    pub fn begins(&mut self)
         ensures { self.new ≡ forgotten (with_state (first_state self.old.state.measure.line) self.old) }
     {
         self.state = State::new(self.state.measure.line);
@@ -116,7 +116,7 @@ impl Reader {
     }
 
     /// How much may be kept.
-    fn limit(&self) -> usize
+    pub(crate) fn limit(&self) -> usize
         ensures { result ≡ reading.limit_of self.now }
     {
         match self.state.mode {

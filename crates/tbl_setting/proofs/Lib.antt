@@ -1,2 +1,3 @@
-mod Setting
 mod Runs
+pub mod Setting
+mod Steps

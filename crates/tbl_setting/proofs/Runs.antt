@@ -24,12 +24,12 @@ use Rattle.tbl_setting.specs.Running.{Puts, PutsFront, IsBroken, Ran, said_so_fa
 use Rattle.tbl_setting.specs.Setting.{EndsAs, IsSame, Shown, Shows, first_tape, hears, page_table, set, set_bytes, strokes}
 use Rattle.tbl_setting.proofs.Setting.{heard-said}
 
-went_out : (f : Bool) (h now : Option (List ℕ)) (left out : List ℕ) → SendsIn false f h [] now left out → f ≡ false → left ≡ [] → Appends h now out
+pub went_out : (f : Bool) (h now : Option (List ℕ)) (left out : List ℕ) → SendsIn false f h [] now left out → f ≡ false → left ≡ [] → Appends h now out
 went_out true h now left out sends live empty = absurd (let no : true ≡ false = live in cc)
 went_out false h now left out sends live empty =
     subst (Appends h now) (sym (sends.2 ∙ ap (λ l. sends.0 ++ l) empty ∙ append-nil sends.0)) sends.1
 
-front_out : (f : Bool) (h now : Option (List ℕ)) (left out : List ℕ) → SendsIn false f h [] now left out → AppendsFront h now out
+pub front_out : (f : Bool) (h now : Option (List ℕ)) (left out : List ℕ) → SendsIn false f h [] now left out → AppendsFront h now out
 front_out true h now left out sends = sends
 front_out false h now left out sends = (sends.0, left, sends.2, sends.1)
 

@@ -82,11 +82,11 @@ pass-pen : (text : List ℕ) (t : Table) (p : Pen) → after_all (strokes (each 
 pass-pen [] t p = refl
 pass-pen (b ∷ bs) t p = pass-pen bs t p
 
-pass-bytes : (text : List ℕ) (t : Table) (p : Pen) → bytes_of (strokes (each tells.Pass text) t) p ≡ text ++ []
+pub pass-bytes : (text : List ℕ) (t : Table) (p : Pen) → bytes_of (strokes (each tells.Pass text) t) p ≡ text ++ []
 pass-bytes [] t p = refl
 pass-bytes (b ∷ bs) t p = ap (λ l. b ∷ l) (pass-bytes bs t p)
 
-pass-set : (text : List ℕ) (t : Table) → set (each tells.Pass text) t ≡ t
+pub pass-set : (text : List ℕ) (t : Table) → set (each tells.Pass text) t ≡ t
 pass-set [] t = refl
 pass-set (b ∷ bs) t = pass-set bs t
 

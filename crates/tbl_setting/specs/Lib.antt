@@ -2,3 +2,4 @@ pub mod Drawing
 pub mod Hearing
 pub mod Setting
 pub mod Running
+pub mod Stepping

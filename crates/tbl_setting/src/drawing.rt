@@ -30,7 +30,7 @@ fn boxes_in(table: Table) -> Option<Signs>
 }
 
 /// What frames and rules are drawn with: the characters of the table, or ASCII where it lacks one.
-pub(crate) fn signs_of(table: Option<Table>) -> Signs
+pub fn signs_of(table: Option<Table>) -> Signs
     ensures { result ≡ specs.signs_of table }
 {
     let Some(table) = table else {

@@ -49,7 +49,7 @@ pub enum Limit {
     Expansions,
     /// All moves.
     Moves,
-    /// Bytes of a page whose tables are set, to [`document`](crate::document()).
+    /// Bytes that go out of a table at once, to [`document`](crate::document()).
     SetPage,
 }
 
@@ -153,7 +153,7 @@ pub struct Options {
     pub mdoc: bool,
     /// Tables are set, where a line begins with `.TS`.
     pub tables: bool,
-    /// What may be held of a table, of a line of a row, and of a page whose tables are set, in bytes.
+    /// What may be held of a table and of a line of a row, and what may go out of a table at once, in bytes.
     pub held: [usize; 3],
 }
 
@@ -244,7 +244,7 @@ pub struct Stopped {
     pub call: &'static str,
     /// Why it stopped.
     pub why: Why,
-    /// Of `document`: the line of the page that was read last, counted from 1; of a page that has tables the last line. Else 0.
+    /// Of `document`: the line of the page that was read last, counted from 1. Else 0.
     pub line: u64,
     /// What was whole before.
     pub bytes: Vec<u8>,

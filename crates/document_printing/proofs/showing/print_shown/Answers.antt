@@ -3,6 +3,7 @@ use Rattle.std.proofs.Common.{◌≡◌, Bool, refl, ◌∙◌, ap, take}
 use Rattle.nr_units.specs.Failures.{SinkFailures}
 use Rattle.utf8_converter.specs.Showing as utf8
 use Rattle.utf8_own_sink.specs.Showing as owns
+use Rattle.tbl_stage.specs.Text.{bounds_in}
 use Rattle.document_printing.specs.Document.{setting_of, source_of, source_so_far}
 use Rattle.document_printing.specs.Showing.{told_shown}
 use Rattle.document_printing.specs.declared.showing.PageTable.{PageTable}
@@ -17,15 +18,15 @@ returns-in-Bytes-clause-whole g c q is kept short =
     shows-bytes-as _ _ _ _ _ _ _ c.in-Bytes.is (c.print-report.ensures.whole q is kept short)
 
 pub returns-in-Bytes-clause-cut : goal.returns-in-Bytes-clause-cut
-returns-in-Bytes-clause-cut g c q n is after few short plain =
-    shows-bytes-as _ _ _ _ _ _ _ c.in-Bytes.is (c.print-report.ensures.cut q n is after few short plain)
+returns-in-Bytes-clause-cut g c q n is after few short =
+    shows-bytes-as _ _ _ _ _ _ _ c.in-Bytes.is (c.print-report.ensures.cut q n is after few short)
 
 pub returns-in-Bytes-clause-write_faults : goal.returns-in-Bytes-clause-write_faults
 returns-in-Bytes-clause-write_faults g c q is kept short = c.print-report.ensures.write_faults
 
 pub returns-in-Fixed-clause-whole : goal.returns-in-Fixed-clause-whole
 returns-in-Fixed-clause-whole g c q is kept short =
-    let s = setting_of c.args.showing.now.setup c.args.rooms.now.tables c.args.desk.now in
+    let s = setting_of c.args.showing.now.setup (bounds_in c.args.rooms.now) c.args.desk.now in
     let held = g.W.Sink.held in
     let failures = g.W.Sink.failures in
     let w : Spelling = Utf8 (Fixed c.in-Fixed.fixed) c.in-Utf8.escapes in
@@ -43,8 +44,8 @@ returns-in-Fixed-clause-whole g c q is kept short =
     (c.print-printed.ensures.whole q is kept short) c.print-printed.ensures.write_faults
 
 pub returns-in-Fixed-clause-cut : goal.returns-in-Fixed-clause-cut
-returns-in-Fixed-clause-cut g c q n is after few short plain =
-    let s = setting_of c.args.showing.now.setup c.args.rooms.now.tables c.args.desk.now in
+returns-in-Fixed-clause-cut g c q n is after few short =
+    let s = setting_of c.args.showing.now.setup (bounds_in c.args.rooms.now) c.args.desk.now in
     let held = g.W.Sink.held in
     let failures = g.W.Sink.failures in
     let w : Spelling = Utf8 (Fixed c.in-Fixed.fixed) c.in-Utf8.escapes in
@@ -59,11 +60,11 @@ returns-in-Fixed-clause-cut g c q n is after few short plain =
     (c.in-Utf8.is ∙ ap (λ (x : PageTable). Utf8 x c.in-Utf8.escapes) c.in-Fixed.is) c.report_shown-report.ensures.moves
     (c.report_shown-report.ensures.outcome ∙ ap (λ (z : Bool). told_shown c.print-printed.result.outcome z) c.is_err-failed.ensures.value) none
     (fixed-ended w m start.bytes end.bytes end.failures.puts (held new) (failures new).puts c.finish-output.result.1 (λ z. refl) c.over-shown.ensures.held e.shown e.broke e.fails)
-    (c.print-printed.ensures.cut q n is after few short plain) c.print-printed.ensures.write_faults
+    (c.print-printed.ensures.cut q n is after few short) c.print-printed.ensures.write_faults
 
 pub returns-in-Fixed-clause-write_faults : goal.returns-in-Fixed-clause-write_faults
 returns-in-Fixed-clause-write_faults g c q is kept short =
-    let s = setting_of c.args.showing.now.setup c.args.rooms.now.tables c.args.desk.now in
+    let s = setting_of c.args.showing.now.setup (bounds_in c.args.rooms.now) c.args.desk.now in
     let held = g.W.Sink.held in
     let failures = g.W.Sink.failures in
     let w : Spelling = Utf8 (Fixed c.in-Fixed.fixed) c.in-Utf8.escapes in
@@ -81,7 +82,7 @@ returns-in-Fixed-clause-write_faults g c q is kept short =
 
 pub returns-in-Own-clause-whole : goal.returns-in-Own-clause-whole
 returns-in-Own-clause-whole g c q is kept short =
-    let s = setting_of c.args.showing.now.setup c.args.rooms.now.tables c.args.desk.now in
+    let s = setting_of c.args.showing.now.setup (bounds_in c.args.rooms.now) c.args.desk.now in
     let held = g.W.Sink.held in
     let failures = g.W.Sink.failures in
     let w : Spelling = Utf8 (Own c.in-Own.own) c.in-Utf8.escapes in
@@ -99,8 +100,8 @@ returns-in-Own-clause-whole g c q is kept short =
     (c.print-made.ensures.whole q is kept short) c.print-made.ensures.write_faults
 
 pub returns-in-Own-clause-cut : goal.returns-in-Own-clause-cut
-returns-in-Own-clause-cut g c q n is after few short plain =
-    let s = setting_of c.args.showing.now.setup c.args.rooms.now.tables c.args.desk.now in
+returns-in-Own-clause-cut g c q n is after few short =
+    let s = setting_of c.args.showing.now.setup (bounds_in c.args.rooms.now) c.args.desk.now in
     let held = g.W.Sink.held in
     let failures = g.W.Sink.failures in
     let w : Spelling = Utf8 (Own c.in-Own.own) c.in-Utf8.escapes in
@@ -115,11 +116,11 @@ returns-in-Own-clause-cut g c q n is after few short plain =
     (c.in-Utf8.is ∙ ap (λ (x : PageTable). Utf8 x c.in-Utf8.escapes) c.in-Own.is) c.report_shown-told.ensures.moves
     (c.report_shown-told.ensures.outcome ∙ ap (λ (z : Bool). told_shown c.print-made.result.outcome z) c.is_err-is_cut.ensures.value) none
     (own-ended w m start.bytes end.bytes end.failures.puts (held new) (failures new).puts c.finish-below.result.1 (λ z. refl) c.over-letters.ensures.held e.shown e.broke e.fails)
-    (c.print-made.ensures.cut q n is after few short plain) c.print-made.ensures.write_faults
+    (c.print-made.ensures.cut q n is after few short) c.print-made.ensures.write_faults
 
 pub returns-in-Own-clause-write_faults : goal.returns-in-Own-clause-write_faults
 returns-in-Own-clause-write_faults g c q is kept short =
-    let s = setting_of c.args.showing.now.setup c.args.rooms.now.tables c.args.desk.now in
+    let s = setting_of c.args.showing.now.setup (bounds_in c.args.rooms.now) c.args.desk.now in
     let held = g.W.Sink.held in
     let failures = g.W.Sink.failures in
     let w : Spelling = Utf8 (Own c.in-Own.own) c.in-Utf8.escapes in

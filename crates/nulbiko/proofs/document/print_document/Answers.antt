@@ -1,5 +1,6 @@
 use Rattle.std.proofs.Common.{◌∙◌, ap, rules}
 use Rattle.preconv_converter.specs.Targets.{target_of}
+use Rattle.tbl_stage.specs.Text.{bounds_in}
 use Rattle.nulbiko.specs.Printed.{form_of}
 use Rattle.nulbiko.proofs.DocumentRun.{set_printed}
 use Rattle.nulbiko.proofs.document.print_document.Goals as goal
@@ -8,7 +9,7 @@ pub returns-clause-printed : goal.returns-clause-printed
 returns-clause-printed c sets characters held limits short = record {
   options = c.options_for-options.result;
   asked = c.options_for-options.ensures;
-  tables = c.args.prepared.memory.rooms.tables;
+  tables = bounds_in c.args.prepared.memory.rooms;
   moves = c.print_pages-pages.result.1.moves;
   outcome = c.print_pages-pages.result.1.outcome;
   bytes = c.as_slice-bytes.result.now;

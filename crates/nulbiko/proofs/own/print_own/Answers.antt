@@ -1,6 +1,7 @@
 use Rattle.std.proofs.Common.{rules}
 use Rattle.preconv_converter.specs.Targets.{target_of}
 use Rattle.preconv_converter.specs.declared.target.Target.TheVariants.{Ascii}
+use Rattle.tbl_stage.specs.Text.{bounds_in}
 use Rattle.nulbiko.specs.Document.{table_for}
 use Rattle.nulbiko.specs.Own.{counts_for}
 use Rattle.nulbiko.proofs.OwnRun.{coded-short, is-own, made-as, set-own}
@@ -16,7 +17,7 @@ returns-clause-printed c sets held limits is short =
       is = is-own counts _ _ shown.1 made;
       options = c.options_for-options.result;
       asked = c.options_for-options.ensures;
-      tables = c.args.prepared.memory.rooms.tables;
+      tables = bounds_in c.args.prepared.memory.rooms;
       bytes = c.as_slice-bytes.result.now;
       moves = c.print_coded-pages.result.1.moves;
       outcome = c.print_coded-pages.result.1.outcome;

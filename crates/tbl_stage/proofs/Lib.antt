@@ -1,0 +1,7 @@
+pub mod Complaints
+pub mod Filled
+pub mod Pages
+pub mod Parts
+pub mod Pens
+pub mod Texts
+pub mod Turns

@@ -1,0 +1,9 @@
+use Rattle.std.proofs.Common.{rules, ◌-◌, take, drop, sym}
+use Rattle.std.proofs.lemmas.List.{take-append-drop}
+use Rattle.tbl_stage.proofs.filling.FillingSink.put.Goals as goal
+
+-- what fits
+pub returns-clause-err : goal.returns-clause-err
+returns-clause-err c =
+    let room = c.capacity.result - c.len.result in
+    (take room c.args.bytes.now, drop room c.args.bytes.now, sym (take-append-drop room c.args.bytes.now), search rules)
