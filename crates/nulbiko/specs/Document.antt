@@ -2,6 +2,9 @@
 use Rattle.std.specs.Prelude.{◌≡◌, ℕ, ℤ, pos, List, [], ◌∷◌, length, take, Bool, true, false, ◌==◌, ◌&&◌, ◌||◌, nat_lt, if◌then◌else◌, Option, None, Some, codes}
 use Rattle.std.specs.List.{starts_with}
 use Prim.Native.Char.{code}
+use Rattle.tbl_layout.specs.declared.signs.Signs.{Signs}
+use Rattle.tbl_setting.specs.Drawing.{signs_of}
+use Rattle.tbl_stage.specs.Memory.{limits_of}
 use Rattle.tbl_stage.specs.Text.{Bounds}
 use Rattle.utf8_characters.specs.declared.table.Table.{Table}
 use Rattle.preconv_converter.specs.Targets.{target_of}
@@ -65,6 +68,10 @@ abbrev pub page_limits : TableLimits → Bool → PageLimits
 page_limits asked true = record { formats = asked.formats; row = asked.row; set = asked.page }
 page_limits asked false = record { formats = 0; row = 0; set = 0 }
 
+-- tables are set by these, for the width of a line, and drawn with these
+abbrev pub tables_by : DocumentSetup → Bool → Signs → Bounds
+tables_by setup sets signs = limits_of (page_limits setup.tables sets) setup.options.width signs
+
 -- after these macros, through mdoc where that is asked for, characters, and tables where there are some
 abbrev pub setting_for : DocumentSetup → List ℕ → List ℕ → Bounds → Options → Setting
 setting_for setup macros page tables options =
@@ -85,6 +92,7 @@ pub record PrintsDocument (setup : DocumentSetup) (macros page output : List ℕ
   pub options : Options
   pub asked : AreSet setup.options options
   pub tables : Bounds
+  pub set_by : tables ≡ tables_by setup (sets_of setup page) (signs_of (table_for setup.options.table page))
   pub bytes : List ℕ
   pub moves : ℕ
   pub outcome : Outcome

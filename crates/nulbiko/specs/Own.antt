@@ -19,7 +19,7 @@ use Rattle.document_printing.specs.declared.setup.Setup.{Setup}
 use Rattle.document_printing.specs.declared.showing.PageTable.{PageTable}
 use Rattle.document_printing.specs.declared.showing.PageTable.TheVariants.{Fixed, Own}
 use Rattle.document_printing.specs.declared.showing.Spelling.TheVariants as spellings
-use Rattle.nulbiko.specs.Document.{AreSet, PrintsDocument, setting_for, sets_of, table_for}
+use Rattle.nulbiko.specs.Document.{AreSet, PrintsDocument, setting_for, sets_of, table_for, tables_by}
 use Rattle.nulbiko.specs.Printed.{code_of, limit_told, place_told}
 use Rattle.nulbiko.specs.Told.{IsHanded, code_within, count_told}
 use Rattle.nulbiko.specs.declared.document.DocumentSetup.{DocumentSetup}
@@ -118,6 +118,7 @@ pub record PrintsOwn (setup : DocumentSetup) (macros text output : List ℕ) (re
   pub options : Options
   pub asked : AreSet setup.options options
   pub tables : Bounds
+  pub set_by : tables ≡ tables_by setup (sets_of setup text) tables.signs
   pub bytes : List ℕ
   pub moves : ℕ
   pub outcome : Outcome

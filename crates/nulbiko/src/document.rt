@@ -3,11 +3,13 @@ ghost use Rattle.std.specs.Prelude.{◌≡◌, ◌≢◌, ◌↔◌, ◌+◌, []
 ghost use Rattle.preconv_coding.specs.UnderCoding.{text_of};
 ghost use Rattle.nr_machine.specs.Lengths.{sizes_of, sum_of};
 ghost use Rattle.document_reader.specs.Page.{IsShort, man_of};
+ghost use Rattle.tbl_setting.specs.Drawing.{signs_of};
 ghost use Rattle.tbl_stage.specs.Memory.{memory_of};
+ghost use Rattle.tbl_stage.specs.Text.{bounds_in};
 ghost use Rattle.nulbiko.specs.Formatting.{bounds_of};
 ghost use Rattle.nulbiko.specs.Told.{nothing_told};
 ghost use Rattle.nulbiko.specs.Document as specs;
-ghost use Rattle.nulbiko.specs.Document.{AreSet, IsAllowed, PrintsDocument, sets_of, table_for};
+ghost use Rattle.nulbiko.specs.Document.{AreSet, IsAllowed, PrintsDocument, sets_of, table_for, tables_by};
 ghost use Rattle.nulbiko.specs.Own.{AreShort, PrintsPage, asks_for_own, stages_of};
 
 use super::coded::text_of;
@@ -189,6 +191,8 @@ fn prepare(
     ensures characters { IfOk result (λ made. made.characters ≡ characters) }
     ensures pages { IfOk result (λ made. ⟦<Pages as Sink>⟧.held made.pages ≡ Some []) }
     ensures limits { IfOk result (λ made. made.memory.desk ≡ limits) }
+    ensures tables { IfOk result (λ made. bounds_in made.memory.rooms
+        ≡ tables_by setup.now made.sets (signs_of made.characters)) }
     ensures taken { IfOk result (λ made. alloc.new ≡ alloc.old + sum_of (sizes_of limits) + room
         + memory_of (specs.page_limits setup.now.tables made.sets)) }
 {
@@ -217,6 +221,7 @@ fn print_document(
     ensures printed { prepared.sets ≡ sets_of setup.now page.now → prepared.characters ≡ table_for setup.now.options.table page.now →
         ⟦<Pages as Sink>⟧.held prepared.pages ≡ Some [] →
         prepared.memory.desk ≡ bounds_of setup.now.limits →
+        bounds_in prepared.memory.rooms ≡ tables_by setup.now prepared.sets (signs_of prepared.characters) →
         IsShort page.now (man_of setup.now.options.mdoc page.now) →
         PrintsDocument setup.now macros.now page.now output.new told.new result }
     ensures not_range { result ≢ 2 }
@@ -286,7 +291,8 @@ pub(crate) fn asks_for_own(setup: &DocumentSetup, text: &[u8]) -> bool
 ///
 /// Proved: **One call prints a whole document.** What stands at the front of the output are the pages of the machine
 /// over `macros ++ tables (characters (mdoc text))`, as `print` of document_printing has them, of the page's text under
-/// its coding, in their form: the bytes of the table, or what utf8 makes of them, which is a text for a terminal. Where
+/// its coding, in their form: the bytes of the table, or what utf8 makes of them, which is a text for a terminal. Tables
+/// are set for the width, by the limits and with the table of characters that are asked for (`tables_by`). Where
 /// not all fit the number is 4, and as many stand there as fit; where a limit would be passed it is 1, and the pages that
 /// had ended stand there. So it is where the text and what mdoc makes of it have less than 2^40 bytes. (`printed` of `nulbiko_document_lent`)
 /// Proved: **A page in UTF-8 that takes its table has one of its own** exactly where the fixed one that it takes lacks a letter with its

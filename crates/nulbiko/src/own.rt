@@ -2,13 +2,14 @@
 ghost use Rattle.std.specs.Prelude.{◌≡◌, ◌≢◌, ◌+◌, [], Some, drop, true, IfOk};
 ghost use Rattle.nr_machine.specs.Lengths.{sizes_of, sum_of};
 ghost use Rattle.tbl_stage.specs.Memory.{memory_of};
+ghost use Rattle.tbl_stage.specs.Text.{bounds_in};
 ghost use Rattle.utf8_own_characters.specs.Counting.{is_once};
 ghost use Rattle.utf8_own_characters.specs.Ranking.{ranked};
 ghost use Rattle.utf8_own_page.specs.Looking.{counts_of};
 ghost use Rattle.utf8_own_page.specs.Needing.{front_of};
 ghost use Rattle.preconv_converter.specs.declared.target.Target.TheVariants.{Utf8};
 ghost use Rattle.document_reader.specs.Page.{plain_of};
-ghost use Rattle.nulbiko.specs.Document.{page_limits, sets_of, table_for};
+ghost use Rattle.nulbiko.specs.Document.{page_limits, sets_of, table_for, tables_by};
 ghost use Rattle.nulbiko.specs.Formatting.{bounds_of};
 ghost use Rattle.nulbiko.specs.Own as specs;
 ghost use Rattle.nulbiko.specs.Own.{HasOwn, IsShortIf, LookIsShort, OwnIsShort, PrintsOwn};
@@ -110,6 +111,8 @@ pub(crate) fn prepare(
     ensures cells { IfOk result (λ made. made.cells ≡ cells) }
     ensures pages { IfOk result (λ made. ⟦<Pages as Sink>⟧.held made.pages ≡ Some []) }
     ensures limits { IfOk result (λ made. made.memory.desk ≡ limits) }
+    ensures tables { IfOk result (λ made. bounds_in made.memory.rooms
+        ≡ tables_by setup.now made.sets (bounds_in made.memory.rooms).signs) }
     ensures taken { IfOk result (λ made. alloc.new ≡ alloc.old + sum_of (sizes_of limits) + room
         + memory_of (page_limits setup.now.tables made.sets)) }
 {
@@ -138,6 +141,7 @@ pub(crate) fn print_own(
 ) -> u32
     ensures printed { prepared.sets ≡ sets_of setup.now text.now →
         ⟦<Pages as Sink>⟧.held prepared.pages ≡ Some [] → prepared.memory.desk ≡ bounds_of setup.now.limits →
+        bounds_in prepared.memory.rooms ≡ tables_by setup.now prepared.sets (bounds_in prepared.memory.rooms).signs →
         prepared.cells ≡ ranked (specs.counts_for setup.now text.now) → OwnIsShort setup.now text.now →
         PrintsOwn setup.now macros.now text.now output.new told.new result }
     ensures not_range { result ≢ 2 }

@@ -47,7 +47,7 @@ returns-in-Ok-prepare_own-clause-printed c = λ one two short.
     short.own c.in-Ok-prepare_own.ensures.cells
     (c.print_own.ensures.printed
     (c.in-Ok-prepare_own.ensures.sets ∙ ap (λ (z : List ℕ). sets_of setup z) (third ∙ sym last))
-    c.in-Ok-prepare_own.ensures.pages (c.in-Ok-prepare_own.ensures.limits ∙ c.in-Some.ensures.value))
+    c.in-Ok-prepare_own.ensures.pages (c.in-Ok-prepare_own.ensures.limits ∙ c.in-Some.ensures.value) c.in-Ok-prepare_own.ensures.tables)
 
 pub returns-in-Ok-prepare-clause-printed : goal.returns-in-Ok-prepare-clause-printed
 returns-in-Ok-prepare-clause-printed c = λ one two short.
@@ -63,4 +63,4 @@ returns-in-Ok-prepare-clause-printed c = λ one two short.
     (c.print_document.ensures.printed
     (c.in-Ok-prepare.ensures.sets ∙ ap (λ (z : List ℕ). sets_of setup z) (third ∙ sym last))
     (c.in-Ok-prepare.ensures.characters ∙ c.in-Ok-table_for.ensures ∙ ap (λ (z : List ℕ). table_for setup.options.table z) (first ∙ sym last))
-    c.in-Ok-prepare.ensures.pages (c.in-Ok-prepare.ensures.limits ∙ c.in-Some.ensures.value))
+    c.in-Ok-prepare.ensures.pages (c.in-Ok-prepare.ensures.limits ∙ c.in-Some.ensures.value) c.in-Ok-prepare.ensures.tables)

@@ -1,15 +1,19 @@
-use Rattle.std.proofs.Common.{◌∙◌, ap, rules}
+use Rattle.std.proofs.Common.{◌∙◌, Bool, ap, rules}
 use Rattle.preconv_converter.specs.Targets.{target_of}
+use Rattle.tbl_setting.specs.Drawing.{signs_of}
 use Rattle.tbl_stage.specs.Text.{bounds_in}
+use Rattle.nulbiko.specs.Document.{sets_of, tables_by}
 use Rattle.nulbiko.specs.Printed.{form_of}
 use Rattle.nulbiko.proofs.DocumentRun.{set_printed}
 use Rattle.nulbiko.proofs.document.print_document.Goals as goal
 
 pub returns-clause-printed : goal.returns-clause-printed
-returns-clause-printed c sets characters held limits short = record {
+returns-clause-printed c sets characters held limits drawn short = record {
   options = c.options_for-options.result;
   asked = c.options_for-options.ensures;
   tables = bounds_in c.args.prepared.memory.rooms;
+  set_by = drawn ∙ ap (λ (z : Bool). tables_by c.args.setup.now z (signs_of c.args.prepared.characters)) sets
+      ∙ ap (λ t. tables_by c.args.setup.now (sets_of c.args.setup.now c.args.page.now) (signs_of t)) characters;
   moves = c.print_pages-pages.result.1.moves;
   outcome = c.print_pages-pages.result.1.outcome;
   bytes = c.as_slice-bytes.result.now;

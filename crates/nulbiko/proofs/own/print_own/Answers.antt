@@ -1,14 +1,14 @@
-use Rattle.std.proofs.Common.{rules}
+use Rattle.std.proofs.Common.{◌∙◌, Bool, ap, rules}
 use Rattle.preconv_converter.specs.Targets.{target_of}
 use Rattle.preconv_converter.specs.declared.target.Target.TheVariants.{Ascii}
 use Rattle.tbl_stage.specs.Text.{bounds_in}
-use Rattle.nulbiko.specs.Document.{table_for}
+use Rattle.nulbiko.specs.Document.{table_for, tables_by}
 use Rattle.nulbiko.specs.Own.{counts_for}
 use Rattle.nulbiko.proofs.OwnRun.{coded-short, is-own, made-as, set-own}
 use Rattle.nulbiko.proofs.own.print_own.Goals as goal
 
 pub returns-clause-printed : goal.returns-clause-printed
-returns-clause-printed c sets held limits is short =
+returns-clause-printed c sets held limits drawn is short =
     let counts = counts_for c.args.setup.now c.args.text.now in
     let made = made-as counts _ _ c.table-table.ensures.made is in
     let shown = c.print_coded-pages.ensures.shown held (coded-short c.args.setup.now c.args.text.now _ _ c.stages_of.ensures short made) _ c.as_slice-bytes.ensures in
@@ -18,6 +18,7 @@ returns-clause-printed c sets held limits is short =
       options = c.options_for-options.result;
       asked = c.options_for-options.ensures;
       tables = bounds_in c.args.prepared.memory.rooms;
+      set_by = drawn ∙ ap (λ (z : Bool). tables_by c.args.setup.now z (bounds_in c.args.prepared.memory.rooms).signs) sets;
       bytes = c.as_slice-bytes.result.now;
       moves = c.print_coded-pages.result.1.moves;
       outcome = c.print_coded-pages.result.1.outcome;
