@@ -85,22 +85,65 @@ pub trait UnicodeWidthChar {{
 }}
 
 impl UnicodeWidthChar for char {{
+    #[inline]
     fn width(self) -> Option<usize> {{
         let code = self as u32;
-        if code < 0x20 || (0x7F..0xA0).contains(&code) {{
-            None
-        }} else if code < 0xA0 {{
-            Some(1)
-        }} else if has(&WIDE, code) {{
-            Some(2)
-        }} else if has(&NONE, code) {{
-            Some(0)
-        }} else {{
-            Some(1)
+        if code < 0xA0 {{
+            return if (0x20..0x7F).contains(&code) {{ Some(1) }} else {{ None }};
+        }}
+        match ALIKE[code as usize / 64] >> (code as usize / 16 % 4 * 2) & 3 {{
+            0 => Some(sought(code)),
+            columns => Some(columns as usize),
         }}
     }}
 }}
+
+fn sought(code: u32) -> usize {{
+    if has(&WIDE, code) {{
+        2
+    }} else if has(&NONE, code) {{
+        0
+    }} else {{
+        1
+    }}
+}}
 {SEARCH}
+/// Two bits for each sixteen characters: how many columns each of them takes, and 0 where they differ.
+static ALIKE: [u8; 0x4400] = alike();
+
+const fn alike() -> [u8; 0x4400] {{
+    let mut columns = [1; 0x1_1000];
+    let mut place = 0;
+    while place < WIDE.len() {{
+        let (first, last) = WIDE[place];
+        let mut sixteen = first / 16;
+        while sixteen <= last / 16 {{
+            let whole = first <= sixteen * 16 && sixteen * 16 + 15 <= last;
+            columns[sixteen as usize] = if whole {{ 2 }} else {{ 0 }};
+            sixteen += 1;
+        }}
+        place += 1;
+    }}
+    place = 0;
+    while place < NONE.len() {{
+        let (first, last) = NONE[place];
+        let mut sixteen = first / 16;
+        while sixteen <= last / 16 {{
+            columns[sixteen as usize] = 0;
+            sixteen += 1;
+        }}
+        place += 1;
+    }}
+    let mut packed = [0; 0x4400];
+    place = 0;
+    while place < 0x4400 {{
+        let four = place * 4;
+        packed[place] = columns[four] | columns[four + 1] << 2 | columns[four + 2] << 4 | columns[four + 3] << 6;
+        place += 1;
+    }}
+    packed
+}}
+
 {table('WIDE', 'Characters of two columns.', ranges(found, (2, 9, 10)))}
 {table('NONE', 'Characters that take no column.', ranges(found, (0,)))}'''
 
@@ -158,10 +201,32 @@ pub enum LineBreak {{
 
 impl LineBreak {{
     /// That of a character.
+    #[inline]
     pub fn for_char(character: char) -> LineBreak {{
-        let place = RUNS.partition_point(|run| run.0 <= character as u32);
+        let code = character as usize;
+        if code < CLASSES.len() {{
+            return ALL[CLASSES[code] as usize];
+        }}
+        let place = RUNS.partition_point(|run| run.0 <= code as u32);
         ALL[RUNS[place].1 as usize]
     }}
+}}
+
+/// Those of the first 65,536 characters.
+static CLASSES: [u8; 0x1_0000] = classes();
+
+const fn classes() -> [u8; 0x1_0000] {{
+    let mut values = [0; 0x1_0000];
+    let mut place = 0;
+    let mut code = 0;
+    while code < values.len() {{
+        if RUNS[place].0 as usize <= code {{
+            place += 1;
+        }}
+        values[code] = RUNS[place].1 as u8;
+        code += 1;
+    }}
+    values
 }}
 
 static ALL: [LineBreak; {len(names)}] = [

@@ -56,10 +56,32 @@ pub enum LineBreak {
 
 impl LineBreak {
     /// That of a character.
+    #[inline]
     pub fn for_char(character: char) -> LineBreak {
-        let place = RUNS.partition_point(|run| run.0 <= character as u32);
+        let code = character as usize;
+        if code < CLASSES.len() {
+            return ALL[CLASSES[code] as usize];
+        }
+        let place = RUNS.partition_point(|run| run.0 <= code as u32);
         ALL[RUNS[place].1 as usize]
     }
+}
+
+/// Those of the first 65,536 characters.
+static CLASSES: [u8; 0x1_0000] = classes();
+
+const fn classes() -> [u8; 0x1_0000] {
+    let mut values = [0; 0x1_0000];
+    let mut place = 0;
+    let mut code = 0;
+    while code < values.len() {
+        if RUNS[place].0 as usize <= code {
+            place += 1;
+        }
+        values[code] = RUNS[place].1 as u8;
+        code += 1;
+    }
+    values
 }
 
 static ALL: [LineBreak; 49] = [

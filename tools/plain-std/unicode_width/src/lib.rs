@@ -7,19 +7,26 @@ pub trait UnicodeWidthChar {
 }
 
 impl UnicodeWidthChar for char {
+    #[inline]
     fn width(self) -> Option<usize> {
         let code = self as u32;
-        if code < 0x20 || (0x7F..0xA0).contains(&code) {
-            None
-        } else if code < 0xA0 {
-            Some(1)
-        } else if has(&WIDE, code) {
-            Some(2)
-        } else if has(&NONE, code) {
-            Some(0)
-        } else {
-            Some(1)
+        if code < 0xA0 {
+            return if (0x20..0x7F).contains(&code) { Some(1) } else { None };
         }
+        match ALIKE[code as usize / 64] >> (code as usize / 16 % 4 * 2) & 3 {
+            0 => Some(sought(code)),
+            columns => Some(columns as usize),
+        }
+    }
+}
+
+fn sought(code: u32) -> usize {
+    if has(&WIDE, code) {
+        2
+    } else if has(&NONE, code) {
+        0
+    } else {
+        1
     }
 }
 
@@ -33,6 +40,42 @@ fn has(runs: &[(u32, u32)], code: u32) -> bool {
             core::cmp::Ordering::Equal
         }
     }).is_ok()
+}
+
+/// Two bits for each sixteen characters: how many columns each of them takes, and 0 where they differ.
+static ALIKE: [u8; 0x4400] = alike();
+
+const fn alike() -> [u8; 0x4400] {
+    let mut columns = [1; 0x1_1000];
+    let mut place = 0;
+    while place < WIDE.len() {
+        let (first, last) = WIDE[place];
+        let mut sixteen = first / 16;
+        while sixteen <= last / 16 {
+            let whole = first <= sixteen * 16 && sixteen * 16 + 15 <= last;
+            columns[sixteen as usize] = if whole { 2 } else { 0 };
+            sixteen += 1;
+        }
+        place += 1;
+    }
+    place = 0;
+    while place < NONE.len() {
+        let (first, last) = NONE[place];
+        let mut sixteen = first / 16;
+        while sixteen <= last / 16 {
+            columns[sixteen as usize] = 0;
+            sixteen += 1;
+        }
+        place += 1;
+    }
+    let mut packed = [0; 0x4400];
+    place = 0;
+    while place < 0x4400 {
+        let four = place * 4;
+        packed[place] = columns[four] | columns[four + 1] << 2 | columns[four + 2] << 4 | columns[four + 3] << 6;
+        place += 1;
+    }
+    packed
 }
 
 /// Characters of two columns.
