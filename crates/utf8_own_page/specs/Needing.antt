@@ -1,5 +1,6 @@
 -- Whether a page needs a table of its own, and which that is.
-use Rattle.std.specs.Prelude.{◌≡◌, ℕ, List, [], ◌∷◌, length, take, Bool, true, false, ◌&&◌, ◌||◌, nat_le, is_some}
+use Prim.Native.Char.{code}
+use Rattle.std.specs.Prelude.{◌≡◌, ℕ, List, [], ◌∷◌, length, take, Bool, true, false, ◌==◌, ◌&&◌, ◌||◌, nat_le, is_some}
 use Rattle.utf8_characters.specs.declared.table.Table as fixed
 use Rattle.utf8_characters.specs.Tables.{byte_of}
 use Rattle.utf8_own_characters.specs.declared.cluster.Cluster.{Cluster}
@@ -9,9 +10,16 @@ use Rattle.utf8_own_characters.specs.Cluster.{is_same, single}
 use Rattle.utf8_own_characters.specs.Ranking.{ranked}
 use Rattle.utf8_own_characters.specs.Table.{Characters}
 
+-- after a backslash a character is named by its number (groff_char(7))
+abbrev pub begins_number : List ℕ → Bool
+begins_number [] = false
+begins_number (a ∷ []) = false
+begins_number (a ∷ b ∷ bs) = (a == code "[") && (b == code "u")
+
+-- there are characters beyond ASCII, or one is named by its number
 abbrev pub is_beyond_ascii : List ℕ → Bool
 is_beyond_ascii [] = false
-is_beyond_ascii (b ∷ bs) = nat_le 128 b || is_beyond_ascii bs
+is_beyond_ascii (b ∷ bs) = nat_le 128 b || ((b == code "\\") && begins_number bs) || is_beyond_ascii bs
 
 -- its first 64 KiB say whether it may
 abbrev pub may_need_own : List ℕ → Bool

@@ -11,12 +11,23 @@ const LOOKED_AT: usize = 65_536;
 /// Those of which such a table is made.
 pub const MORE_LOOKED_AT: usize = 1_048_576;
 
-/// Whether bytes beyond ASCII are among these.
+/// Whether these bytes, after a backslash, name a character by its number, as `\[u0159]` does.
+fn begins_number(bytes: &[u8]) -> bool
+    ensures { result ≡ specs.begins_number bytes.now }
+{
+    match bytes {
+        [bracket, letter, ..] => *bracket == b'[' && *letter == b'u',
+        _ => false,
+    }
+}
+
+/// Whether bytes beyond ASCII are among these, or a character is named by its number.
 fn is_beyond_ascii(page: &[u8]) -> bool
     ensures { result ≡ specs.is_beyond_ascii page.now }
 {
-    for byte in page {
-        if *byte >= 128 {
+    for place in 0..page.len() {
+        let byte = page[place];
+        if byte >= 128 || (byte == b'\\' && begins_number(&page[place + 1..])) {
             return true;
         }
     }
@@ -30,7 +41,8 @@ fn first_of(page: &[u8], most: usize) -> &[u8]
     &page[..page.len().min(most)]
 }
 
-/// Whether no fixed table may have all that a page prints, by its first 64 KiB: there are characters beyond ASCII.
+/// Whether no fixed table may have all that a page prints, by its first 64 KiB: there are characters beyond ASCII, or one is named by its
+/// number.
 pub fn may_need_own(page: &[u8]) -> bool
     ensures { result ≡ specs.may_need_own page.now }
 {
