@@ -7,6 +7,7 @@ use super::cluster::Cluster;
 use ucd_breaks::LineBreak;
 
 /// What opens: it ends no line.
+#[inline]
 fn opens(class: LineBreak) -> bool
     ensures { result ≡ specs.opens class }
 {
@@ -17,6 +18,7 @@ fn opens(class: LineBreak) -> bool
 }
 
 /// What closes: it begins no line.
+#[inline]
 fn closes(class: LineBreak) -> bool
     ensures { result ≡ specs.closes class }
 {
@@ -36,6 +38,7 @@ fn closes(class: LineBreak) -> bool
 }
 
 /// What is bound to what stands beside it.
+#[inline]
 fn is_bound(class: LineBreak) -> bool
     ensures { result ≡ specs.is_bound class }
 {
@@ -61,6 +64,7 @@ fn is_bound(class: LineBreak) -> bool
 }
 
 /// A syllable of Korean, or a part of one.
+#[inline]
 fn is_korean(class: LineBreak) -> bool
     ensures { result ≡ specs.is_korean class }
 {
@@ -71,6 +75,7 @@ fn is_korean(class: LineBreak) -> bool
 }
 
 /// Whether a line may end with a character of a class.
+#[inline]
 fn may_end(class: LineBreak) -> bool
     ensures { result ≡ specs.may_end class }
 {
@@ -78,6 +83,7 @@ fn may_end(class: LineBreak) -> bool
 }
 
 /// Whether a line may begin with one.
+#[inline]
 fn may_begin(class: LineBreak) -> bool
     ensures { result ≡ specs.may_begin class }
 {
@@ -85,6 +91,7 @@ fn may_begin(class: LineBreak) -> bool
 }
 
 /// Whether a character takes two columns.
+#[inline]
 fn is_wide(character: char) -> bool
     ensures { result ≡ is_wide (single character) }
 {

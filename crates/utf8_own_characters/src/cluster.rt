@@ -15,6 +15,7 @@ pub struct Cluster {
 }
 
 /// Whether a character is a mark on the one before it: it takes no column.
+#[inline]
 pub fn is_mark(character: char) -> bool
     ensures { result ≡ specs.is_mark character }
 {
@@ -66,6 +67,7 @@ impl Cluster {
     }
 
     /// Whether it takes two columns. All others take one.
+    #[inline]
     pub fn is_wide(&self) -> bool
         ensures { result ≡ specs.is_wide self.now }
     {

@@ -35,6 +35,7 @@ fn guess(counts: &[Count], slots: &[u16], cluster: &Cluster) -> usize {
 }
 
 /// The count at a place.
+#[inline]
 fn at(counts: &[Count], place: usize) -> Count
     requires { place < length counts.now }
     ensures { slice_get counts.now place ≡ Some result }
@@ -43,6 +44,7 @@ fn at(counts: &[Count], place: usize) -> Count
 }
 
 /// Whether the cluster is counted at this place.
+#[inline]
 fn stands(counts: &[Count], place: usize, cluster: &Cluster) -> bool
     requires { is_once counts.now ≡ true }
     ensures { IsTrue result → count_from 0 counts.now cluster.now ≡ Some place }
@@ -81,6 +83,7 @@ fn place_in(counts: &[Count], slots: &[u16], cluster: &Cluster) -> Option<usize>
 }
 
 /// A count, once more.
+#[inline]
 fn once_more(count: Count) -> Count
     ensures { result ≡ raised count }
 {
@@ -93,6 +96,7 @@ fn once_more(count: Count) -> Count
 }
 
 /// The cluster that is counted at a place comes once more.
+#[inline]
 fn raise(counts: &mut SliceVec<'_, Count>, place: usize)
     requires { place < length counts.old.items }
     ensures items { (x : Counted) → slice_get counts.old.items place ≡ Some x → counts.new.items ≡ slice_set counts.old.items place (raised x) }

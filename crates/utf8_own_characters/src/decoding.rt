@@ -20,6 +20,7 @@ pub struct Decoded {
 }
 
 /// The character of a number, if it is one.
+#[inline(always)]
 fn character_of(code: u32) -> Option<char>
     ensures { result ≡ specs.character_of code }
 {
@@ -28,6 +29,7 @@ fn character_of(code: u32) -> Option<char>
 
 impl Part {
     /// Nothing was read.
+    #[inline(always)]
     pub fn none() -> Part
         ensures { result ≡ specs.none }
     {
@@ -35,6 +37,7 @@ impl Part {
     }
 
     /// A character of several bytes goes on.
+    #[inline(always)]
     fn going(bits: u32, left: u8) -> Decoded
         ensures { result ≡ specs.going bits left }
     {
@@ -45,6 +48,7 @@ impl Part {
     }
 
     /// A byte comes that goes on a character.
+    #[inline(always)]
     fn more(self, byte: u8) -> Decoded
         ensures { result ≡ specs.more self byte }
     {
@@ -60,6 +64,7 @@ impl Part {
     }
 
     /// A byte comes.
+    #[inline(always)]
     pub fn read(self, byte: u8) -> Decoded
         ensures { result ≡ specs.decoded self byte }
     {

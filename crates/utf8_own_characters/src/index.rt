@@ -10,6 +10,7 @@ pub(crate) const PROBES: usize = 8;
 pub(crate) const NOWHERE: usize = 65_535;
 
 /// The first slot of a cluster.
+#[inline]
 pub(crate) fn slot_of(cluster: &Cluster, slots: usize) -> usize
     requires { 0 < slots }
     ensures { result < slots }
@@ -22,6 +23,7 @@ pub(crate) fn slot_of(cluster: &Cluster, slots: usize) -> usize
 }
 
 /// The slot after one.
+#[inline]
 pub(crate) fn next(slot: usize, slots: usize) -> usize
     requires { slot < slots }
     ensures { result < slots }
@@ -30,6 +32,7 @@ pub(crate) fn next(slot: usize, slots: usize) -> usize
 }
 
 /// Whether a cluster stands at a place, from 128 on among the wide ones.
+#[inline]
 fn is_at(narrow: &[Cluster], wide: &[Cluster], place: usize, cluster: &Cluster) -> bool {
     if place < 128 {
         return place < narrow.len() && narrow[place].is_same(cluster);

@@ -28,6 +28,7 @@ pub struct Listened {
 }
 
 /// Whether a character is a sign that shows nothing and takes no column.
+#[inline(always)]
 fn is_unseen(character: char) -> bool
     ensures { result ≡ specs.is_unseen character }
 {
@@ -38,6 +39,7 @@ fn is_unseen(character: char) -> bool
 }
 
 /// Whether marks may come on a character: on a letter of ASCII that is no part of an escape, and on all beyond ASCII.
+#[inline(always)]
 fn takes_marks(character: char, is_plain: bool) -> bool
     ensures { result ≡ specs.takes_marks character is_plain }
 {
@@ -49,6 +51,7 @@ fn takes_marks(character: char, is_plain: bool) -> bool
 }
 
 /// Whether letters after a character are no names of escapes, if those before it are or are not.
+#[inline(always)]
 fn plain_after(character: char, is_plain: bool) -> bool
     ensures { result ≡ specs.plain_after character is_plain }
 {
@@ -72,6 +75,7 @@ impl Listener {
     }
 
     /// Nothing ends.
+    #[inline(always)]
     fn going(self, held: Option<Cluster>) -> Listened
         ensures { result ≡ specs.going self held }
     {
@@ -93,6 +97,7 @@ impl Listener {
     }
 
     /// A character comes that is no mark.
+    #[inline(always)]
     fn hear_letter(self, character: char) -> Listened
         ensures { result ≡ specs.hear_letter self character }
     {
@@ -117,9 +122,13 @@ impl Listener {
     }
 
     /// A character comes.
+    #[inline(always)]
     fn hear(self, character: char) -> Listened
         ensures { result ≡ specs.hear self character }
     {
+        if u32::from(character) < 128 {
+            return self.hear_letter(character);
+        }
         if is_unseen(character) {
             return self.going(self.held);
         }
@@ -130,6 +139,7 @@ impl Listener {
     }
 
     /// A byte comes.
+    #[inline(always)]
     pub fn read(self, byte: u8) -> Listened
         ensures { result ≡ specs.read self byte }
     {

@@ -11,6 +11,7 @@ use nr_vectors::slice_vec::SliceVec;
 use unicode_width::UnicodeWidthChar;
 
 /// Whether a character is a blank, or a hyphen that shows only where a line ends.
+#[inline]
 fn is_gap(character: char) -> bool
     ensures { result ≡ specs.is_gap character }
 {
@@ -21,6 +22,7 @@ fn is_gap(character: char) -> bool
 }
 
 /// Whether a character takes columns.
+#[inline]
 fn takes_columns(character: char) -> bool
     ensures { result ≡ specs.takes_columns character }
 {
@@ -31,6 +33,7 @@ fn takes_columns(character: char) -> bool
 }
 
 /// Whether a cluster takes a place in a page's table: it is beyond ASCII, and shows something.
+#[inline]
 pub fn takes_place(cluster: &Cluster) -> bool
     ensures { result ≡ specs.takes_place cluster.now }
 {
@@ -38,6 +41,7 @@ pub fn takes_place(cluster: &Cluster) -> bool
 }
 
 /// A cluster ends. Tells whether it has room among the counts, or needs none.
+#[inline]
 fn note(counts: &mut SliceVec<'_, Count>, slots: &mut [u16], cluster: Option<Cluster>) -> bool
     requires { is_once counts.old.items ≡ true }
     ensures items { counts.new.items ≡ specs.noted counts.old.capacity counts.old.items cluster }

@@ -15,6 +15,7 @@ pub struct Read {
 }
 
 /// Blanks for what is no character.
+#[inline]
 fn strays(blanks: u8) -> Read
     ensures { result ≡ specs.strays blanks }
 {
@@ -26,6 +27,7 @@ fn strays(blanks: u8) -> Read
 }
 
 /// A cluster.
+#[inline]
 fn shows(cluster: Cluster) -> Read
     ensures { result ≡ specs.shows cluster }
 {
@@ -38,6 +40,7 @@ fn shows(cluster: Cluster) -> Read
 
 impl<'a> Table<'a> {
     /// A byte that is no half of a pair.
+    #[inline]
     fn alone(&self, byte: u8) -> Read
         ensures { result ≡ specs.alone self.now byte }
     {
@@ -51,6 +54,7 @@ impl<'a> Table<'a> {
     }
 
     /// A byte before which none waits.
+    #[inline]
     fn begun(&self, byte: u8) -> Read
         ensures { result ≡ specs.begun self.now byte }
     {
@@ -65,6 +69,7 @@ impl<'a> Table<'a> {
     }
 
     /// A lead and its trail.
+    #[inline]
     fn both(&self, lead: u8, trail: u8) -> Read
         ensures { result ≡ specs.both self.now lead trail }
     {
@@ -75,6 +80,7 @@ impl<'a> Table<'a> {
     }
 
     /// The next byte of a row, where a lead may wait. A row's end makes a blank of one that waits.
+    #[inline]
     pub fn read(&self, held: Option<u8>, byte: u8) -> Read
         ensures { result ≡ specs.read self.now held byte }
     {

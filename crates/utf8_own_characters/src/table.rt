@@ -49,6 +49,7 @@ fn place_of(cells: &[Cluster], cluster: &Cluster) -> Option<usize>
 }
 
 /// The cluster at a place.
+#[inline]
 fn at(cells: &[Cluster], place: usize) -> Cluster
     requires { place < length cells.now }
     ensures { slice_get cells.now place ≡ Some result }
@@ -57,6 +58,7 @@ fn at(cells: &[Cluster], place: usize) -> Cluster
 }
 
 /// Whether the cluster stands at this place.
+#[inline]
 fn stands(cells: &[Cluster], place: usize, cluster: &Cluster) -> bool
     ensures { IsTrue result → slice_get cells.now place ≡ Some cluster.now }
 {
@@ -87,6 +89,7 @@ impl<'a> Table<'a> {
     }
 
     /// How many trails there are.
+    #[inline]
     fn trails(&self) -> usize
         ensures value { result ≡ specs.trails self.now }
         ensures within { result < 256 }
@@ -95,6 +98,7 @@ impl<'a> Table<'a> {
     }
 
     /// The first lead.
+    #[inline]
     fn first_lead(&self) -> usize
         ensures { result ≡ specs.first_lead self.now }
     {
@@ -102,6 +106,7 @@ impl<'a> Table<'a> {
     }
 
     /// The first trail.
+    #[inline]
     fn first_trail(&self) -> usize
         ensures { result ≡ specs.first_trail self.now }
     {
@@ -109,6 +114,7 @@ impl<'a> Table<'a> {
     }
 
     /// The pair at a place.
+    #[inline]
     fn pair(&self, place: usize) -> Code
         requires good { Good self.now }
         requires there { place < length self.now.wide }
@@ -206,6 +212,7 @@ impl<'a> Table<'a> {
     }
 
     /// What stands at a byte that is greater by 128.
+    #[inline]
     pub(crate) fn narrow_at(&self, place: usize) -> Option<Cluster>
         ensures { result ≡ slice_get self.now.narrow place }
     {
@@ -213,6 +220,7 @@ impl<'a> Table<'a> {
     }
 
     /// What a pair stands for.
+    #[inline]
     pub(crate) fn wide_at(&self, lead: u8, trail: u8) -> Option<Cluster>
         ensures { result ≡ slice_get self.now.wide ((lead - specs.first_lead self.now) * specs.trails self.now + (trail - specs.first_trail self.now)) }
     {

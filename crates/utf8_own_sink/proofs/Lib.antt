@@ -1,3 +1,4 @@
 pub mod Finishing
 pub mod Going
 pub mod Passing
+pub mod Plain

@@ -73,5 +73,10 @@ abbrev pub printed : Way → List Letter → List ℕ
 printed way [] = ends_look way
 printed way (l ∷ ls) = drawn way l ++ printed (way_past way l) ls
 
+-- what is plain goes out as it is
+abbrev pub is_plain : Way → Bool
+is_plain Backspaces = true
+is_plain (Escapes look) = is_same look Plain
+
 abbrev pub first_way : Bool → Way
 first_way escapes = if escapes then Escapes Plain else Backspaces

@@ -1,11 +1,12 @@
 -- What goes out byte by byte.
 use Prim.Native.Char.{code}
-use Rattle.std.specs.Prelude.{ℕ, List, [], ◌∷◌, ◌++◌, Bool, ◌==◌, nat_le, if◌then◌else◌, Option, None, Some}
+use Rattle.std.specs.Prelude.{ℕ, List, [], ◌∷◌, ◌++◌, Bool, not, ◌==◌, ◌&&◌, ◌||◌, nat_le, nat_lt, is_some, if◌then◌else◌, Option, None, Some}
 use Rattle.nr_vectors.specs.declared.cell.Look.{Look}
 use Rattle.nr_vectors.specs.declared.cell.Look.TheVariants.{Plain}
-use Rattle.utf8_own_characters.specs.Table.{Characters}
+use Rattle.utf8_converter.specs.Cells.{is_same}
+use Rattle.utf8_own_characters.specs.Table.{Characters, is_lead}
 use Rattle.utf8_own_sink.specs.Cells.{alone, cells, lead_after, letters, letters_of, plain, strikes, struck}
-use Rattle.utf8_own_sink.specs.Letters.{Letter, drawn, first_way, printed, way_past}
+use Rattle.utf8_own_sink.specs.Letters.{Letter, drawn, first_way, is_plain, printed, way_past}
 use Rattle.utf8_own_sink.specs.declared.cells.Cell.{Cell}
 use Rattle.utf8_own_sink.specs.declared.cells.Half.{Half}
 use Rattle.utf8_own_sink.specs.declared.cells.Half.TheVariants.{Nothing, Byte, Backspaced}
@@ -29,6 +30,18 @@ cell_said t c r = drawn_all r.way (letters_of t r.lead c)
 
 abbrev pub cell_after : Characters → Cell → Reader → Reader
 cell_after t c r = record r { before = c.look; lead = lead_after t r.lead c; way = ways_past r.way (letters_of t r.lead c) }
+
+-- what is shown of ASCII
+abbrev pub is_as_is : ℕ → Bool
+is_as_is b = (b == 10) || (nat_le 32 b && nat_lt b 127)
+
+-- a plain one goes out as its byte, where no first half waits and no look is open
+abbrev pub passes : Reader → Cell → Bool
+passes r c = is_as_is c.byte && is_same c.look Plain && not (is_some r.lead) && is_plain r.way
+
+-- the first half of a pair waits for the other one
+abbrev pub holds : Characters → Reader → Cell → Bool
+holds t r c = nat_le 128 c.byte && not (is_some r.lead) && is_lead t c.byte
 
 -- ---- a byte comes, where nothing of a cell is read
 

@@ -1,7 +1,7 @@
 //! The bytes of cells are read, one after the other, and what they show goes out.
 ghost use Rattle.std.specs.Prelude.{◌≡◌, ◌+◌, ◌≤◌, [], ◌∷◌, ◌++◌, length};
 ghost use Rattle.utf8_own_sink.specs.Cells as specs;
-ghost use Rattle.utf8_own_sink.specs.Reading.{after, begun_after, begun_said, cell_after, cell_said, drawn_all, ended, first, next_after, next_said, released, released_said, said, ways_past, with_half};
+ghost use Rattle.utf8_own_sink.specs.Reading.{after, begun_after, begun_said, cell_after, cell_said, drawn_all, ended, first, holds, next_after, next_said, passes, released, released_said, said, ways_past, with_half};
 ghost use Rattle.utf8_own_sink.specs.declared.cells.Half.TheVariants.{Nothing};
 
 use super::letters::Way;
@@ -44,6 +44,7 @@ pub(crate) struct Reader {
 }
 
 /// A byte that nothing is struck over.
+#[inline]
 fn plain(byte: u8) -> Cell
     ensures { result ≡ specs.plain byte }
 {
@@ -54,6 +55,7 @@ fn plain(byte: u8) -> Cell
 }
 
 /// Whether a byte is struck over another one.
+#[inline]
 fn strikes(over: u8, byte: u8) -> bool
     ensures { result ≡ specs.strikes over byte }
 {
@@ -74,6 +76,7 @@ fn struck(before: Look, over: u8, byte: u8) -> Cell
 }
 
 /// The byte of a cell, if there is one.
+#[inline]
 fn byte_of(lead: Option<Cell>) -> Option<u8>
     ensures { result ≡ specs.byte_of lead }
 {
@@ -84,6 +87,7 @@ fn byte_of(lead: Option<Cell>) -> Option<u8>
 }
 
 /// What comes of a byte where a first half may wait. One of ASCII is its character, whatever the table.
+#[inline]
 fn read_byte(table: &Table<'_>, lead: Option<u8>, byte: u8) -> Read
     ensures { result ≡ specs.read_byte table.now lead byte }
 {
@@ -98,6 +102,7 @@ fn read_byte(table: &Table<'_>, lead: Option<u8>, byte: u8) -> Read
 }
 
 /// How a letter looks: a pair as its first half.
+#[inline]
 fn look_of(lead: Option<Cell>, blanks: u8, look: Look) -> Look
     ensures { result ≡ specs.look_of lead blanks look }
 {
@@ -108,6 +113,7 @@ fn look_of(lead: Option<Cell>, blanks: u8, look: Look) -> Look
 }
 
 /// The first half of a pair that waits for the other one.
+#[inline]
 fn waiting(cell: Cell, held: Option<u8>) -> Option<Cell>
     ensures { result ≡ specs.waiting cell held }
 {
@@ -146,6 +152,7 @@ fn put_alone(way: Way, lead: Option<Cell>, out: &mut SliceVec<'_, u8>) -> Way
 }
 
 /// Puts blanks for what is no character, two at most, and tells the way after them: at most 66 bytes.
+#[inline]
 fn put_blanks(way: Way, blanks: u8, out: &mut SliceVec<'_, u8>) -> Way
     requires { length out.old.items + 66 ≤ out.old.capacity }
     ensures items { out.new.items ≡ out.old.items ++ drawn_all way (specs.blanks blanks) }
@@ -164,6 +171,7 @@ fn put_blanks(way: Way, blanks: u8, out: &mut SliceVec<'_, u8>) -> Way
 }
 
 /// Puts a cluster, if there is one, and tells the way after it: at most 33 bytes.
+#[inline(always)]
 fn put_cluster(way: Way, cluster: Option<Cluster>, look: Look, out: &mut SliceVec<'_, u8>) -> Way
     requires { length out.old.items + 33 ≤ out.old.capacity }
     ensures items { out.new.items ≡ out.old.items ++ drawn_all way (specs.lettered cluster look) }
@@ -178,6 +186,7 @@ fn put_cluster(way: Way, cluster: Option<Cluster>, look: Look, out: &mut SliceVe
 }
 
 /// Puts what comes of a cell where a first half may wait, and tells the way after it: at most 99 bytes.
+#[inline(always)]
 fn put_read(way: Way, lead: Option<Cell>, look: Look, read: Read, out: &mut SliceVec<'_, u8>) -> Way
     requires { length out.old.items + 99 ≤ out.old.capacity }
     ensures items { out.new.items ≡ out.old.items ++ drawn_all way (specs.come lead look read) }
@@ -202,7 +211,27 @@ impl Reader {
         }
     }
 
+    /// Whether a cell goes out as its byte.
+    #[inline]
+    fn passes(&self, cell: Cell) -> bool
+        ensures { result ≡ passes self.now cell }
+    {
+        (cell.byte == b'\n' || matches!(cell.byte, b' '..=b'~'))
+            && matches!(cell.look, Look::Plain)
+            && self.lead.is_none()
+            && self.way.is_plain()
+    }
+
+    /// Whether a cell is the first half of a pair, which waits for the other one.
+    #[inline]
+    fn holds(&self, cell: Cell, table: &Table<'_>) -> bool
+        ensures { result ≡ holds table.now self.now cell }
+    {
+        cell.byte >= 128 && self.lead.is_none() && table.is_lead(cell.byte)
+    }
+
     /// A cell goes out, or waits for the other half of its pair: at most 99 bytes.
+    #[inline]
     fn put_cell(&mut self, cell: Cell, table: &Table<'_>, out: &mut SliceVec<'_, u8>)
         requires { length out.old.items + 99 ≤ out.old.capacity }
         ensures items { out.new.items ≡ out.old.items ++ drawn_all self.old.way (specs.letters_of table.now self.old.lead cell) }
@@ -214,6 +243,16 @@ impl Reader {
           way = ways_past self.old.way (specs.letters_of table.now self.old.lead cell);
         } }
     {
+        if self.passes(cell) {
+            out.push(cell.byte);
+            self.before = cell.look;
+            return;
+        }
+        if self.holds(cell, table) {
+            self.lead = Some(cell);
+            self.before = cell.look;
+            return;
+        }
         let read = read_byte(table, byte_of(self.lead), cell.byte);
         self.way = put_read(self.way, self.lead, cell.look, read, out);
         self.lead = waiting(cell, read.held);
@@ -221,6 +260,7 @@ impl Reader {
     }
 
     /// A byte comes, and nothing of a cell is read: at most 99 bytes go out.
+    #[inline]
     fn begin(&mut self, byte: u8, table: &Table<'_>, out: &mut SliceVec<'_, u8>)
         requires { length out.old.items + 99 ≤ out.old.capacity }
         ensures items { out.new.items ≡ out.old.items ++ begun_said table.now byte self.old }
@@ -237,6 +277,7 @@ impl Reader {
     }
 
     /// A byte comes behind another: at most 198 bytes go out.
+    #[inline]
     fn go_on(&mut self, held: u8, byte: u8, table: &Table<'_>, out: &mut SliceVec<'_, u8>)
         requires { length out.old.items + 198 ≤ out.old.capacity }
         ensures items { out.new.items ≡ out.old.items ++ next_said table.now held byte self.old }
@@ -261,6 +302,7 @@ impl Reader {
     }
 
     /// A byte comes: at most 198 bytes go out.
+    #[inline(always)]
     pub(crate) fn read(&mut self, byte: u8, table: &Table<'_>, out: &mut SliceVec<'_, u8>)
         requires { length out.old.items + 256 ≤ out.old.capacity }
         ensures items { out.new.items ≡ out.old.items ++ said table.now self.old.half byte self.old }

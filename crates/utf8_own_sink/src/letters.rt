@@ -42,6 +42,7 @@ fn opening(look: Look) -> &'static [u8]
 }
 
 /// Whether two looks are the same.
+#[inline]
 fn is_same(first: Look, second: Look) -> bool
     ensures { result ≡ is_same first second }
 {
@@ -53,6 +54,7 @@ fn is_same(first: Look, second: Look) -> bool
 }
 
 /// Puts a character: at most 4 bytes.
+#[inline]
 fn put_character(character: char, out: &mut SliceVec<'_, u8>)
     requires { length out.old.items + 4 ≤ out.old.capacity }
     ensures items { out.new.items ≡ out.old.items ++ encode_utf8 character }
@@ -65,6 +67,7 @@ fn put_character(character: char, out: &mut SliceVec<'_, u8>)
 }
 
 /// Puts a mark, if it is one: at most 4 bytes.
+#[inline]
 fn put_mark(mark: char, out: &mut SliceVec<'_, u8>)
     requires { length out.old.items + 4 ≤ out.old.capacity }
     ensures items { out.new.items ≡ out.old.items ++ specs.mark_text mark }
@@ -77,6 +80,7 @@ fn put_mark(mark: char, out: &mut SliceVec<'_, u8>)
 }
 
 /// Puts a letter and its marks: at most 16 bytes.
+#[inline]
 fn put_text(cluster: &Cluster, out: &mut SliceVec<'_, u8>)
     requires { length out.old.items + 16 ≤ out.old.capacity }
     ensures items { out.new.items ≡ out.old.items ++ specs.text_of cluster.now }
@@ -90,6 +94,7 @@ fn put_text(cluster: &Cluster, out: &mut SliceVec<'_, u8>)
 }
 
 /// Whether a cluster is no control character but a newline.
+#[inline]
 fn is_shown(cluster: &Cluster) -> bool
     ensures { result ≡ specs.is_shown cluster.now }
 {
@@ -98,6 +103,7 @@ fn is_shown(cluster: &Cluster) -> bool
 }
 
 /// How a cluster looks: a blank and a newline are plain.
+#[inline]
 fn look_of(cluster: &Cluster, look: Look) -> Look
     ensures { result ≡ specs.look_of cluster.now look }
 {
@@ -109,6 +115,7 @@ fn look_of(cluster: &Cluster, look: Look) -> Look
 }
 
 /// Puts what a cluster is struck over: at most 17 bytes.
+#[inline]
 fn put_struck(cluster: &Cluster, look: Look, out: &mut SliceVec<'_, u8>)
     requires { length out.old.items + 17 ≤ out.old.capacity }
     ensures items { out.new.items ≡ out.old.items ++ specs.struck_text cluster.now look }
@@ -126,6 +133,7 @@ fn put_struck(cluster: &Cluster, look: Look, out: &mut SliceVec<'_, u8>)
 }
 
 /// What is open becomes this look: at most 9 bytes.
+#[inline]
 fn put_turn(was: Look, look: Look, out: &mut SliceVec<'_, u8>)
     requires { length out.old.items + 9 ≤ out.old.capacity }
     ensures items { out.new.items ≡ out.old.items ++ specs.turned was look }
@@ -150,7 +158,19 @@ impl Way {
         }
     }
 
+    /// Whether what is plain goes out as it is.
+    #[inline]
+    pub(crate) fn is_plain(self) -> bool
+        ensures { result ≡ specs.is_plain self }
+    {
+        match self {
+            Way::Backspaces => true,
+            Way::Escapes(look) => matches!(look, Look::Plain),
+        }
+    }
+
     /// Puts what stands before a cluster that looks so, and tells the way after it: at most 17 bytes.
+    #[inline]
     fn put_before(self, cluster: &Cluster, look: Look, out: &mut SliceVec<'_, u8>) -> Way
         requires { length out.old.items + 17 ≤ out.old.capacity }
         ensures items { out.new.items ≡ out.old.items ++ specs.before self cluster.now look }
@@ -171,6 +191,7 @@ impl Way {
     }
 
     /// Puts a cluster, and tells the way after it: at most 33 bytes.
+    #[inline]
     pub(crate) fn put_letter(self, cluster: &Cluster, look: Look, out: &mut SliceVec<'_, u8>) -> Way
         requires { length out.old.items + 33 ≤ out.old.capacity }
         ensures items { out.new.items ≡ out.old.items ++ specs.drawn self (specs.letter cluster.now look) }

@@ -35,6 +35,7 @@ fn put_waiting<W: Sink>(out: &mut SliceVec<'_, u8>, output: &mut W) -> Result<()
 }
 
 /// Room is made for what comes of one byte: where there is none, all that waits goes out.
+#[inline]
 fn make_room<W: Sink>(out: &mut SliceVec<'_, u8>, output: &mut W) -> Result<(), Fault>
     requires { 512 ≤ out.old.capacity }
     ensures ok { OnOk result (Flushes (W.held output.old) (W.held output.new) out.old.items out.new.items) }
@@ -63,6 +64,7 @@ impl<'a> Turner<'a> {
     }
 
     /// A byte is read, and what it comes to goes out or waits.
+    #[inline]
     fn take<W: Sink>(&mut self, byte: u8, table: &Table<'_>, output: &mut W) -> Result<(), Fault>
         ensures takes { specs.Takes table.now (W.held output.old) (W.held output.new) self.old.reader self.new.reader
             self.old.out.items self.new.out.items (byte ∷ []) result }

@@ -29,6 +29,7 @@ fn put_cluster(cluster: &Cluster, table: &Table<'_>, out: &mut SliceVec<'_, u8>)
 }
 
 /// Puts what goes out before a character: at most 5 bytes.
+#[inline]
 fn put_point(place: &Place, character: char, out: &mut SliceVec<'_, u8>)
     requires room { length out.old.items + 5 ≤ out.old.capacity }
     ensures items { out.new.items ≡ out.old.items ++ text_of (point place.now character) }
@@ -67,6 +68,7 @@ fn put_done(
 }
 
 /// Puts a byte, if there is one, after what goes out before it: at most 6 bytes.
+#[inline]
 fn put_byte(byte: Option<u8>, place: &mut Place, out: &mut SliceVec<'_, u8>)
     requires room { length out.old.items + 6 ≤ out.old.capacity }
     ensures items { out.new.items ≡ out.old.items ++ specs.said_byte place.old byte }
@@ -85,6 +87,7 @@ fn put_byte(byte: Option<u8>, place: &mut Place, out: &mut SliceVec<'_, u8>)
 }
 
 /// Puts what comes of a byte: at most 32 bytes.
+#[inline]
 fn put_listened(
     listened: &Listened,
     place: &mut Place,

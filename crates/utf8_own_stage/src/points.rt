@@ -90,6 +90,7 @@ impl Place {
     }
 
     /// Whether a line may be cut before a character that is printed.
+    #[inline]
     fn may_cut(&self, character: char) -> bool
         ensures { result ≡ specs.may_cut self.now character }
     {
@@ -97,6 +98,7 @@ impl Place {
     }
 
     /// What goes out before a character.
+    #[inline]
     pub(crate) fn point(&self, character: char) -> Point
         ensures { result ≡ specs.point self.now character }
     {
@@ -115,6 +117,7 @@ impl Place {
     }
 
     /// Whether what is read is printed: no escape, and no format of a table.
+    #[inline]
     fn is_open(&self) -> bool
         ensures { result ≡ specs.is_open self.now }
     {
@@ -122,6 +125,7 @@ impl Place {
     }
 
     /// Whether a newline would wait here: after an East Asian character in a text line, but not in a row of a table.
+    #[inline]
     fn may_join(&self) -> bool
         ensures { result ≡ specs.may_join self.now }
     {
@@ -132,6 +136,7 @@ impl Place {
     }
 
     /// Whether a character is a newline that waits for the next one.
+    #[inline]
     pub(crate) fn holds(&self, character: char) -> bool
         ensures { result ≡ specs.holds self.now character }
     {
@@ -194,6 +199,7 @@ impl Place {
     }
 
     /// A character in no escape that does not end the line.
+    #[inline]
     fn goes_on(&mut self, character: char)
         ensures { self.new ≡ specs.going_on character self.old }
     {
@@ -238,6 +244,7 @@ impl Place {
     }
 
     /// A character is read.
+    #[inline]
     pub(crate) fn passes(&mut self, character: char)
         ensures { self.new ≡ specs.passed self.old character }
     {
