@@ -44,22 +44,22 @@ tail b low high = within 128 191 b low (omega (arith, high))
 
 -- ---- one after the other
 
-cooked_read : (b : ℕ) (r : Reader) → is_raw r.half.line ≡ false → read b r ≡ heard_byte b r
+pub cooked_read : (b : ℕ) (r : Reader) → is_raw r.half.line ≡ false → read b r ≡ heard_byte b r
 cooked_read b r cooked = ap (λ (x : Bool). if x then told (with_half (passing b r.half) r) (sent r.table b ∷ []) 1 else heard_byte b r) cooked
 
 fresh_read : (b : ℕ) (r : Reader) → is_raw r.half.line ≡ false → r.pending ≡ Nothing → read b r ≡ fresh b r
 fresh_read b r cooked none = cooked_read b r cooked ∙ nothing_pending b r none
 
-silent : (b : ℕ) (r p : Reader) (bs : List ℕ) → read b r ≡ told p [] 0 → fed r (b ∷ bs) ≡ fed p bs
+pub silent : (b : ℕ) (r p : Reader) (bs : List ℕ) → read b r ≡ told p [] 0 → fed r (b ∷ bs) ≡ fed p bs
 silent b r p bs e = ap (λ (t : Told). then_told t (λ s. fed s bs)) e ∙ behind-none (fed p bs)
 
 no_more : (n : ℕ) → n + 0 ≡ n
 no_more n = omega arith
 
-last : (b : ℕ) (r : Reader) (t : Told) → read b r ≡ t → fed r (b ∷ []) ≡ t
+pub last : (b : ℕ) (r : Reader) (t : Told) → read b r ≡ t → fed r (b ∷ []) ≡ t
 last b r t e = ap (λ (u : Told). then_told u (λ s. told s [] 0)) e ∙ told-eq _ _ _ _ _ _ refl (append-nil t.bytes) (no_more t.steps)
 
-lead : (a : ℕ) (r : Reader) → 194 ≤ a → a ≤ 244 → is_raw r.half.line ≡ false → r.pending ≡ Nothing → read a r ≡ told (pending_with (One a) r) [] 0
+pub lead : (a : ℕ) (r : Reader) → 194 ≤ a → a ≤ 244 → is_raw r.half.line ≡ false → r.pending ≡ Nothing → read a r ≡ told (pending_with (One a) r) [] 0
 lead a r low high cooked none =
     fresh_read a r cooked none
     ∙ ap (λ (x : Bool). if x then heard (Byte a) r else (if is_lead a then told (pending_with (One a) r) [] 0 else stray a r)) (le-ltb a 127 (omega (arith, low)))

@@ -15,6 +15,7 @@ pub mod PlainEscapes
 pub mod Reading
 pub mod SaidParts
 pub mod Sent
+pub mod SentWhole
 pub mod SignsGo
 pub mod Spots
 pub mod Steps
@@ -25,6 +26,8 @@ pub mod TextTable
 pub mod Turning
 pub mod Unchanged
 pub mod Unread
+pub mod WideText
+pub mod WholeTaken
 pub mod WordSigns
 pub mod WordsBegun
 pub mod WordsGo

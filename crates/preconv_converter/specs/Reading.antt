@@ -1,5 +1,5 @@
 -- Bytes become characters (RFC 3629; ISO 8859-1), and these are heard.
-use Rattle.std.specs.Prelude.{◌≡◌, ℕ, zero, suc, ◌+◌, ◌*◌, ◌%◌, List, [], ◌∷◌, ◌++◌, take, Bool, ◌==◌, nat_lt, if◌then◌else◌}
+use Rattle.std.specs.Prelude.{◌≡◌, ℕ, zero, suc, ◌+◌, ◌*◌, ◌%◌, List, [], ◌∷◌, ◌++◌, take, Bool, ◌&&◌, ◌==◌, nat_lt, if◌then◌else◌}
 use Rattle.preconv_converter.specs.declared.target.Target.{Target}
 use Rattle.preconv_converter.specs.declared.half.Half.{Half}
 use Rattle.preconv_converter.specs.declared.half.Coming.{Coming}
@@ -70,6 +70,19 @@ is_second first b =
 
 abbrev pub low_six : ℕ → ℕ
 low_six b = b % 64
+
+-- a character of two bytes, and one of three
+abbrev pub is_two : ℕ → ℕ → Bool
+is_two a b = is_within 194 223 a && is_tail b
+
+abbrev pub is_three : ℕ → ℕ → ℕ → Bool
+is_three a b c = is_within 224 239 a && is_second a b && is_tail c
+
+abbrev pub two_code : ℕ → ℕ → ℕ
+two_code a b = (a % 32) * 64 + low_six b
+
+abbrev pub three_code : ℕ → ℕ → ℕ → ℕ
+three_code a b c = (a % 16) * 4096 + low_six b * 64 + low_six c
 
 -- a byte that is no part of one comes as Latin-1
 abbrev pub stray : ℕ → Reader → Told

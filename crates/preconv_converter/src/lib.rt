@@ -34,6 +34,7 @@ mod spelling;
 mod staged;
 mod target;
 mod translations;
+mod whole;
 mod word_laws;
 mod words;
 

@@ -1,9 +1,12 @@
 //! A character meets what is half read.
-ghost use Rattle.std.specs.Prelude.{◌≡◌};
-ghost use Rattle.preconv_converter.specs.Half.{is_open, met};
+ghost use Rattle.std.specs.Prelude.{◌≡◌, true, false};
+ghost use Rattle.preconv_converter.specs.declared.half.Coming.TheVariants.{Wide};
+ghost use Rattle.preconv_converter.specs.declared.said.Said.TheVariants.{Character};
+ghost use Rattle.preconv_converter.specs.Half.{is_open, met, taken};
 ghost use Rattle.preconv_converter.specs.Meeting as specs;
 
 use super::half::{Coming, Escape, Half, Line, Seen};
+use super::hyphens::wide_mark;
 use super::said::Said;
 use nr_units::Name;
 
@@ -59,6 +62,24 @@ impl Half {
             Escape::FontEscape => self.font_left(),
             Escape::Sentence => self.after_sentence(b'?'),
             _ => self.abandoned(),
+        }
+    }
+
+    /// Takes a character beyond ASCII that only goes on a text line. Tells whether it does.
+    #[inline]
+    pub(crate) fn takes_wide(&mut self, code: u32) -> bool
+        ensures taken { result ≡ true → taken (Character code) self.new ≡ specs.meet (Wide code) self.old }
+        ensures left { result ≡ false → self.new ≡ self.old }
+    {
+        match self.escape {
+            Escape::Plain => match self.line {
+                Line::Text => {
+                    self.places(wide_mark(code));
+                    true
+                }
+                _ => false,
+            },
+            _ => false,
         }
     }
 

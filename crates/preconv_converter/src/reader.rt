@@ -1,9 +1,10 @@
 //! Bytes become characters: UTF-8, and Latin-1 where they are none.
 ghost use Rattle.std.specs.Prelude.{◌≡◌, ◌+◌, ◌*◌, ◌<◌, ◌≤◌, ◌++◌, length, true, false};
+ghost use Rattle.preconv_converter.specs.declared.half.Coming.TheVariants.{Wide};
 ghost use Rattle.preconv_converter.specs.Reading as specs;
 
 use super::half::{Coming, Half, Line};
-use super::said::{put_sent, say, sent};
+use super::said::{put_sent, say, say_character, sent};
 use super::target::Target;
 use nr_vectors::slice_vec::SliceVec;
 
@@ -54,14 +55,14 @@ fn is_lead(byte: u8) -> bool
 }
 
 /// Whether a byte goes on a character.
-fn is_tail(byte: u8) -> bool
+pub(crate) fn is_tail(byte: u8) -> bool
     ensures { result ≡ specs.is_tail byte }
 {
     matches!(byte, 0x80..=0xBF)
 }
 
 /// Whether a byte may be the second of a character.
-fn is_second(first: u8, byte: u8) -> bool
+pub(crate) fn is_second(first: u8, byte: u8) -> bool
     ensures { result ≡ specs.is_second first byte }
 {
     match first {
@@ -74,7 +75,7 @@ fn is_second(first: u8, byte: u8) -> bool
 }
 
 /// The low six bits of a byte.
-fn low_six(byte: u8) -> u32
+pub(crate) fn low_six(byte: u8) -> u32
     ensures value { result ≡ specs.low_six byte }
     ensures small { result < 64 }
 {
@@ -223,6 +224,23 @@ impl Reader {
         self.hear_pending(out) + self.hear_fresh(byte, out)
     }
 
+    /// A character beyond ASCII comes: in a text line in one step.
+    pub(crate) fn hear_wide(&mut self, code: u32, out: &mut SliceVec<'_, u8>) -> u64
+        requires { length out.old.items + 384 ≤ out.old.capacity }
+        ensures reader { self.new ≡ (specs.heard (Wide code) self.old).reader }
+        ensures items { out.new.items ≡ out.old.items ++ (specs.heard (Wide code) self.old).bytes }
+        ensures steps { result ≡ (specs.heard (Wide code) self.old).steps }
+        ensures few { length out.new.items ≤ length out.old.items + 384 }
+        ensures quick { result ≤ 6 }
+        ensures room { out.new.capacity ≡ out.old.capacity }
+    {
+        if self.half.takes_wide(code) {
+            say_character(code, self.table, out);
+            return 1;
+        }
+        self.hear(Coming::Wide(code), out)
+    }
+
     /// A character of several bytes is whole.
     fn hear_whole(&mut self, code: u32, out: &mut SliceVec<'_, u8>) -> u64
         requires { length out.old.items + 384 ≤ out.old.capacity }
@@ -234,7 +252,7 @@ impl Reader {
         ensures room { out.new.capacity ≡ out.old.capacity }
     {
         self.pending = Pending::Nothing;
-        self.hear(Coming::Wide(code), out)
+        self.hear_wide(code, out)
     }
 
     /// A byte comes that is read.
@@ -318,6 +336,23 @@ impl Reader {
         steps
     }
 
+    /// Takes the first of these bytes. Tells in how many steps.
+    #[inline]
+    pub(crate) fn take_one(&mut self, bytes: &[u8], out: &mut SliceVec<'_, u8>) -> Taken
+        requires some { 0 < length bytes.now }
+        requires room { length out.old.items + 1536 ≤ out.old.capacity }
+        ensures taken { specs.Takes result.count bytes.now self.old self.new out.old.items out.new.items
+            result.steps }
+        ensures within { result.count ≤ length bytes.now }
+        ensures some { 0 < result.count }
+        ensures few { length out.new.items ≤ length out.old.items + 1536 * result.count }
+        ensures quick { result.steps ≤ 24 * result.count }
+        ensures room { out.new.capacity ≡ out.old.capacity }
+    {
+        let steps = self.read(bytes[0], out);
+        Taken { count: 1, steps }
+    }
+
     /// Takes the first of these bytes, or the beginning of a comment or of a control line. Tells how many, and in how many
     /// steps.
     #[inline(always)]
@@ -349,8 +384,7 @@ impl Reader {
                 steps: len as u64 + 1,
             };
         }
-        let steps = self.read(bytes[0], out);
-        Taken { count: 1, steps }
+        self.take_one(bytes, out)
     }
 
     /// Takes those of these bytes that come first: a run, the beginning of a control line, or what `take_first` takes. Tells
@@ -367,6 +401,9 @@ impl Reader {
         ensures quick { result.steps ≤ 24 * result.count }
         ensures room { out.new.capacity ≡ out.old.capacity }
     {
+        if bytes[0] >= 128 {
+            return self.take_beyond(bytes, out);
+        }
         let run = self.pass(bytes);
         if run > 0 {
             out.extend_front(bytes, run);

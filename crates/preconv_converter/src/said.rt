@@ -1,8 +1,9 @@
 //! What goes out.
 ghost use Rattle.std.specs.Prelude.{◌≡◌, ◌+◌, ◌≤◌, ◌++◌, length};
+ghost use Rattle.preconv_converter.specs.declared.said.Said.TheVariants.{Character};
 ghost use Rattle.preconv_converter.specs.Saying.{all_sent, arguments, bytes_of, may_go_out, native, sent, text_of};
 
-use super::likeness::{byte_in_force, put_itself, put_likeness, put_struck};
+use super::likeness::{CUT, byte_in_force, put_itself, put_likeness, put_struck};
 use super::target::Target;
 use nr_units::Name;
 use nr_vectors::slice_vec::SliceVec;
@@ -145,6 +146,27 @@ fn say_through(said: Said, target: Target, out: &mut SliceVec<'_, u8>)
     put_sent(text.as_slice(), target, out);
 }
 
+/// Puts a character, as it may go out: at most 64 bytes. Itself and the byte of a table go out as they are.
+pub(crate) fn say_character(code: u32, target: Target, out: &mut SliceVec<'_, u8>)
+    requires { length out.old.items + 64 ≤ out.old.capacity }
+    ensures items { out.new.items ≡ out.old.items ++ bytes_of target (Character code) }
+    ensures few { length out.new.items ≤ length out.old.items + 64 }
+    ensures room { out.new.capacity ≡ out.old.capacity }
+{
+    if code < 128 || code == CUT {
+        say_through(Said::Character(code), target, out);
+        return;
+    }
+    if target.is_utf8() {
+        put_itself(code, out);
+        return;
+    }
+    match byte_in_force(target, code) {
+        Some(byte) => out.push(byte),
+        None => say_through(Said::Character(code), target, out),
+    }
+}
+
 /// Puts what is said, as it may go out, after what goes out: at most 64 bytes.
 pub(crate) fn say(said: Said, target: Target, out: &mut SliceVec<'_, u8>)
     requires { length out.old.items + 64 ≤ out.old.capacity }
@@ -158,6 +180,7 @@ pub(crate) fn say(said: Said, target: Target, out: &mut SliceVec<'_, u8>)
         Said::Kept(name) => put_sent(name.as_bytes(), target, out),
         Said::Escape(byte) => put_sent(&[b'\\', byte], target, out),
         Said::Font(letter) => put_sent(&[b'\\', b'f', letter], target, out),
+        Said::Character(code) => say_character(code, target, out),
         _ => say_through(said, target, out),
     }
 }

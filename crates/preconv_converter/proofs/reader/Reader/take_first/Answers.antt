@@ -33,10 +33,8 @@ pub returns-clause-taken : goal.returns-clause-taken
 returns-clause-taken c =
     let same : c.pass_comment.new.self ≡ c.args.self.now = c.pass_comment.ensures.left c.if-pass_comment.false ∙ c.pass_word.ensures.left c.if-pass_word.false in
     let still : c.pass_name-len.new.self ≡ c.args.self.now = c.pass_name-len.ensures.none (omega arith) ∙ same in
-    let P : Reader → Type 0 = λ r. Takes 1 c.args.bytes.now r c.read-steps.new.self c.args.out.now.items c.read-steps.new.out.items c.read-steps.result in
-    subst P still
-    (Takes-byte c.args.bytes.now c.pass_name-len.new.self c.read-steps.new.self c.args.out.now.items c.read-steps.new.out.items c.read-steps.result
-    c.requires.some c.read-steps.ensures.reader c.read-steps.ensures.items c.read-steps.ensures.steps)
+    let P : Reader → Type 0 = λ r. Takes c.take_one.result.count c.args.bytes.now r c.take_one.new.self c.args.out.now.items c.take_one.new.out.items c.take_one.result.steps in
+    subst P still c.take_one.ensures.taken
 
 pub returns-then-pass_word-clause-few : goal.returns-then-pass_word-clause-few
 returns-then-pass_word-clause-few c = grind (arith, common_steps)
