@@ -54,7 +54,7 @@ hushed_page (acts.Request request) p h = (_, refl)
 hushed_page (acts.Sized sized n) p h = quiet-page (acts.Sized sized n) p refl
 hushed_page acts.Cell p h = (_, refl)
 hushed_page acts.Columns p h = (_, refl)
-hushed_page (acts.Column width) p h = (p.lay, refl)
+hushed_page (acts.Column width) p h = (_, refl)
 hushed_page act p h = never h
 
 pub hushed_word : (act : Act) (p : Page) → is_hushed act ≡ true → (part_of act p).word ≡ []

@@ -20,7 +20,7 @@ use Rattle.mdoc_converter.specs.declared.page.Scan.{Scan}
 use Rattle.mdoc_converter.specs.declared.page.Scan.TheVariants as scans
 use Rattle.mdoc_converter.specs.Blocks.{block_opens, display_begins_of, fresh_block, indent, inner, literal, space, stops, with_literal}
 use Rattle.mdoc_converter.specs.Calls.{is_due, is_due_from, is_none, leaves, with_scan}
-use Rattle.mdoc_converter.specs.Columns.{gap, hang_of}
+use Rattle.mdoc_converter.specs.Columns.{gap}
 use Rattle.mdoc_converter.specs.Escaping.{escape_then}
 use Rattle.mdoc_converter.specs.Keeping.{ends_word, in_named}
 use Rattle.mdoc_converter.specs.Laying.{with_lay}
@@ -126,27 +126,16 @@ space_word true q = refl
 space_word false q = refl
 
 columns_over : (t : Bool) (p : Page) → p.marks ≡ []
-    → Over (met p (three (space p.block.compact) (indent p) (if t then acts.Sized sizes.Inner (hang_of p.block) else acts.Stops (gap p.block.columns) (hang_of p.block))))
+    → Over (met p (three (space p.block.compact) (indent p) (if t then acts.Nothing else acts.Stops (gap p.block.columns))))
 unfolding line_over is_laid is_quiet
-columns_over true p none = record {
-  page = p;
-  x = space p.block.compact;
-  y = indent p;
-  z = acts.Sized sizes.Inner (hang_of p.block);
-  is = refl;
-  marks = none;
-  laid_x = space_laid p.block.compact;
-  laid_y = refl;
-  laid_z = refl;
-  no_x = space_word p.block.compact;
-  no_y = λ q. refl;
-  no_z = λ q. refl;
-}
+columns_over true p none =
+    over_two p (space p.block.compact) (indent p) none (space_laid p.block.compact) refl (space_word p.block.compact)
+    (λ q. refl)
 columns_over false p none = record {
   page = p;
   x = space p.block.compact;
   y = indent p;
-  z = acts.Stops (gap p.block.columns) (hang_of p.block);
+  z = acts.Stops (gap p.block.columns);
   is = refl;
   marks = none;
   laid_x = space_laid p.block.compact;

@@ -9,7 +9,7 @@ use Rattle.mdoc_converter.specs.declared.page.Kind.{Kind}
 use Rattle.mdoc_converter.specs.declared.page.Kind.TheVariants as kinds
 use Rattle.mdoc_converter.specs.declared.page.Page.{Page}
 use Rattle.mdoc_converter.specs.declared.page.Scan.TheVariants as scans
-use Rattle.mdoc_converter.specs.Blocks.{breaking, display_ends_of, is_list, list_ends, literal_ends, with_literal}
+use Rattle.mdoc_converter.specs.Blocks.{display_ends_of, is_list, list_ends, literal_ends, with_literal}
 use Rattle.mdoc_converter.specs.Laying.{with_lay}
 use Rattle.mdoc_converter.specs.Lines.{heads, is_page, subsection}
 use Rattle.mdoc_converter.specs.Options.{is_column, none}
@@ -122,7 +122,7 @@ ends_list : Bool → Bool → Page → Met
 ends_list list column p =
     if not list then none p else
     if not column then met p (with_stack Closes (left (acts.Request requests.IndentEnds))) else
-    met (breaking p) (with_stack Closes (two (acts.Request requests.Tabs) (acts.Request requests.IndentEnds)))
+    met p (with_stack Closes (two (acts.Request requests.Tabs) (acts.Request requests.IndentEnds)))
 
 list_is : (p : Page) → list_ends p ≡ ends_list (is_list p.block.kind) (is_column p.block.kind) p
 unfolding ends_list
@@ -133,7 +133,7 @@ list_by : (t u : Bool) (head : Head) (b : ℕ) (s : State) (p : Page) (word : Li
 unfolding ends_list is_quiet of_word
 list_by false u head b s p word begun e = none_step head b s p word begun e
 list_by true true head b s p word begun e =
-    ends_step head b s (breaking p) (acts.Request requests.Tabs) (acts.Request requests.IndentEnds) acts.Nothing word
+    ends_step head b s p (acts.Request requests.Tabs) (acts.Request requests.IndentEnds) acts.Nothing word
     (record {
       scan_is = begun.scan_is;
       word_is = begun.word_is;

@@ -4,7 +4,7 @@ use Rattle.mdoc_converter.specs.declared.acts.Act.{Act}
 use Rattle.mdoc_converter.specs.declared.acts.Act.TheVariants as acts
 use Rattle.mdoc_converter.specs.declared.page.Page.{Page}
 use Rattle.mdoc_converter.specs.declared.seen.Seen.{Seen}
-use Rattle.mdoc_converter.specs.Columns.{begins_row, put_row}
+use Rattle.mdoc_converter.specs.Columns.{begins_row, put_text_row}
 use Rattle.mdoc_converter.specs.Laying.{Laid, laid, before_hyphen, first_of, gap, word_end}
 use Rattle.mdoc_converter.specs.LayingOut.{lay_out}
 use Rattle.mdoc_converter.specs.Reading.{State, Told, told, said, once, heard_in, heard}
@@ -32,7 +32,7 @@ only_before : (xs : List ℕ) → xs ≡ xs ++ [] ++ []
 only_before xs = sym (append-nil (xs ++ []) ∙ append-nil xs)
 
 begun : Bool → Page → Laid
-begun row p = if row then put_row p else laid p []
+begun row p = if row then put_text_row p else laid p []
 
 pub part-text : (act : Act) (p : Page) → (lay_out act p).bytes ≡ (part_of act p).before ++ (part_of act p).word ++ (part_of act p).behind
 unfolding lay_out begun

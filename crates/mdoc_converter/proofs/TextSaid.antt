@@ -11,7 +11,7 @@ use Rattle.mdoc_converter.specs.declared.page.Page.{Page}
 use Rattle.mdoc_converter.specs.declared.page.Scan.TheVariants as scans
 use Rattle.mdoc_converter.specs.Calls.{with_scan}
 use Rattle.mdoc_converter.specs.Keeping.{ends_word}
-use Rattle.mdoc_converter.specs.Columns.{begins_row, put_row}
+use Rattle.mdoc_converter.specs.Columns.{begins_row, put_text_row}
 use Rattle.mdoc_converter.specs.Laying.{is_control, is_middle, laid, put, then_laid, with_lay}
 use Rattle.mdoc_converter.specs.LayingOut.{lay_out}
 use Rattle.mdoc_converter.specs.Reading.{State, said, heard}
@@ -219,7 +219,7 @@ start_met b s c e f g = rw (c, e, f, g) refl
 
 -- where a row begins or not, only how text is laid out is another
 begun_by : (t : Bool) (b : ℕ) (p : Page)
-    → Lays p (then_laid (if t then put_row p else laid p []) (λ q. put q.lay.joined (b ∷ []) q)).page
+    → Lays p (then_laid (if t then put_text_row p else laid p []) (λ q. put q.lay.joined (b ∷ []) q)).page
 begun_by true b p = (_, refl)
 begun_by false b p = (_, refl)
 

@@ -14,7 +14,7 @@ use Rattle.mdoc_converter.specs.declared.page.Kind.{Kind}
 use Rattle.mdoc_converter.specs.declared.page.Kind.TheVariants as kinds
 use Rattle.mdoc_converter.specs.declared.page.Page.{Page}
 use Rattle.mdoc_converter.specs.declared.seen.Seen.{Seen}
-use Rattle.mdoc_converter.specs.Columns.{gap, hang_of}
+use Rattle.mdoc_converter.specs.Columns.{gap}
 use Rattle.mdoc_converter.specs.Options.{at_most, is_column, none}
 use Rattle.mdoc_converter.specs.Seeing.{Met, met, left, two, three, with_stack}
 
@@ -89,9 +89,7 @@ indent p = acts.Sized sizes.Indent (at_most 999 p.block.offset)
 
 -- where its columns stand
 abbrev pub stops : Page → Act
-stops p =
-    if p.block.columns == 0 then acts.Sized sizes.Inner (hang_of p.block)
-    else acts.Stops (gap p.block.columns) (hang_of p.block)
+stops p = if p.block.columns == 0 then acts.Nothing else acts.Stops (gap p.block.columns)
 
 abbrev pub list_begins : Page → Met
 list_begins p =
@@ -114,17 +112,12 @@ display_begins_of kind p = met p (two (space p.block.compact) (indent p))
 abbrev pub display_begins : Page → Met
 display_begins p = display_begins_of p.block.kind p
 
--- lines are broken between words again
-abbrev pub breaking : Page → Page
-breaking p = record p { lay = record p.lay { kept = false } }
-
 abbrev pub list_ends : Page → Met
 list_ends p =
     if not (is_list p.block.kind) then none p else
     if not (is_column p.block.kind)
     then met p (with_stack Closes (left (acts.Request requests.IndentEnds))) else
-    met (breaking p)
-    (with_stack Closes (two (acts.Request requests.Tabs) (acts.Request requests.IndentEnds)))
+    met p (with_stack Closes (two (acts.Request requests.Tabs) (acts.Request requests.IndentEnds)))
 
 abbrev pub literal_ends : Request → Page → Met
 literal_ends request p =

@@ -3,7 +3,7 @@ use Rattle.std.specs.Prelude.{ℕ, [], ◌∷◌, true, false, if◌then◌else�
 use Rattle.mdoc_converter.specs.declared.acts.Act.{Act}
 use Rattle.mdoc_converter.specs.declared.acts.Act.TheVariants as acts
 use Rattle.mdoc_converter.specs.declared.page.Page.{Page}
-use Rattle.mdoc_converter.specs.Columns.{begins_row, column_text, put_cell, put_row, put_stops}
+use Rattle.mdoc_converter.specs.Columns.{begins_row, put_cell, put_column, put_row, put_stops, put_text_row}
 use Rattle.mdoc_converter.specs.Laying.{Laid, laid, then_laid, with_lay, put, is_joined, end_line, lay_word}
 use Rattle.mdoc_converter.specs.OwnLines.{freshen, end_tag, end_hang, quiet_down, put_space, put_request, put_sized, put_hanging, put_tag, put_numbered, put_title, end_title, put_head, put_control, put_naming}
 use Rattle.mdoc_converter.specs.References.{put_part_begin, put_reference}
@@ -25,8 +25,8 @@ lay_request acts.TitleEnds p = end_title p
 lay_request acts.Section p = put_head (codes ".SH") p
 lay_request acts.Subsection p = put_head (codes ".SS") p
 lay_request acts.Columns p = put_head (codes ".ds %c") p
-lay_request (acts.Stops gap hang) p = put_stops gap hang p
-lay_request (acts.Column width) p = laid p (column_text width)
+lay_request (acts.Column width) p = put_column width p
+lay_request (acts.Stops gap) p = put_stops gap p
 lay_request acts.Cell p = put_cell p
 lay_request acts.Row p = put_row p
 lay_request (acts.Part letter) p = put_part_begin letter p
@@ -38,7 +38,7 @@ lay_request act p = lay_word act p
 -- a text line begins: in a list of columns without items as a row
 abbrev pub put_begin : ℕ → Page → Laid
 put_begin b p =
-    then_laid (if begins_row p then put_row p else laid p []) (λ q. put q.lay.joined (b ∷ []) q)
+    then_laid (if begins_row p then put_text_row p else laid p []) (λ q. put q.lay.joined (b ∷ []) q)
 
 unfoldable pub lay_out : Act → Page → Laid
 lay_out acts.Nothing p = laid p []

@@ -1,5 +1,5 @@
 -- Lines of their own: requests, the title and headings.
-use Rattle.std.specs.Prelude.{ℕ, ◌+◌, ◌-◌, ◌/◌, ◌%◌, List, [], ◌∷◌, ◌++◌, length, Bool, true, false, not, ◌==◌, ◌&&◌, nat_lt, if◌then◌else◌, slice_index, codes}
+use Rattle.std.specs.Prelude.{ℕ, ◌+◌, ◌-◌, ◌/◌, ◌%◌, List, [], ◌∷◌, ◌++◌, length, Bool, true, false, not, ◌==◌, ◌&&◌, ◌||◌, nat_lt, if◌then◌else◌, slice_index, codes}
 use Rattle.std.specs.Str.{bytes_eq}
 use Prim.Native.Char.{code}
 use Rattle.mdoc_converter.specs.declared.acts.Request.{Request}
@@ -134,9 +134,17 @@ names_system m = false
 abbrev pub other_system : Page → List ℕ
 other_system p = if names_system p.call.line && not p.call.some then codes "\\*()O" else []
 
--- the manual, where that of its section has another name in pages of mdoc
+-- a section of which the macro file has no manual
+abbrev pub is_other : List ℕ → Bool
+is_other [] = false
+is_other (b ∷ []) = nat_lt b (code "1") || nat_lt (code "9") b
+is_other (b ∷ c ∷ rest) = true
+
+-- the manual, where that of its section has another name in pages of mdoc, or none
 abbrev pub manual : Page → List ℕ
-manual p = if bytes_eq p.chapter (codes "4") then codes " \"Device Drivers Manual\"" else []
+manual p =
+    if bytes_eq p.chapter (codes "4") then codes " \"Device Drivers Manual\"" else
+    if is_other p.chapter then codes " \"" ++ p.chapter ++ codes "\"" else []
 
 -- the system stands on both sides of the footer
 abbrev pub end_title : Page → Laid

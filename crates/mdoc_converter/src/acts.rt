@@ -199,8 +199,8 @@ pub(crate) enum Act {
     Columns,
     /// The width of a column.
     Column(u16),
-    /// Tab stops, by the space after each column, and how far the last column stands from the first.
-    Stops(u16, u16),
+    /// Tab stops, by the space after each column.
+    Stops(u16),
     /// A cell of a table ends.
     Cell,
     /// A row of columns begins.

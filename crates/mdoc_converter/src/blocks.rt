@@ -4,7 +4,7 @@ ghost use Rattle.mdoc_converter.specs.Seeing.{met};
 ghost use Rattle.mdoc_converter.specs.Blocks as specs;
 
 use super::acts::{Act, Request, Sized, Stack};
-use super::columns::{gap, hang_of};
+use super::columns::gap;
 use super::macros::{Font, Macro};
 use super::options::at_most;
 use super::page::{Block, Kind, Page};
@@ -132,11 +132,10 @@ impl Page {
     fn stops(&self) -> Act
         ensures { result ≡ specs.stops self.now }
     {
-        let hang = hang_of(self.block);
         if self.block.columns == 0 {
-            return Act::Sized(Sized::Inner, hang);
+            return Act::Nothing;
         }
-        Act::Stops(gap(self.block.columns), hang)
+        Act::Stops(gap(self.block.columns))
     }
 
     /// A list begins.
@@ -180,7 +179,6 @@ impl Page {
         }
         let end = Act::Request(Request::IndentEnds);
         if matches!(self.block.kind, Kind::Column) {
-            self.lay.kept = false;
             return Seen::two(Act::Request(Request::Tabs), end).with(Stack::Closes);
         }
         Seen::left(end).with(Stack::Closes)

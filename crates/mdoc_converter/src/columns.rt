@@ -1,20 +1,11 @@
-//! Rows of columns: a tab before each cell but the first, and what is too long for the last cell below it.
+//! Rows of columns: a cell begins where its column does, on the line of the cell before it if that has room in its own.
 ghost use Rattle.std.specs.Prelude.{◌≡◌, ◌+◌, ◌≤◌, ◌++◌, length};
 ghost use Rattle.mdoc_converter.specs.Columns as specs;
 
-use super::acts::Sized;
 use super::options::at_most;
 use super::own_lines::put_number;
 use super::page::{Block, Kind, Page};
 use nr_vectors::slice_vec::SliceVec;
-
-/// Whether no line is broken in a cell, since it stands before the last of its columns.
-fn stays_whole(cell: u16, block: Block) -> bool
-    requires { cell ≤ 100 }
-    ensures { result ≡ specs.stays_whole cell block }
-{
-    cell + 1 < block.columns
-}
 
 /// The space after each of so many columns.
 pub(crate) fn gap(columns: u16) -> u16
@@ -29,7 +20,7 @@ pub(crate) fn gap(columns: u16) -> u16
 }
 
 /// How far the last column stands from the first.
-pub(crate) fn hang_of(block: Block) -> u16
+fn hang_of(block: Block) -> u16
     ensures value { result ≡ specs.hang_of block }
     ensures few { result ≤ 999 }
 {
@@ -37,49 +28,48 @@ pub(crate) fn hang_of(block: Block) -> u16
     at_most(999, at_most(999, block.hang) + between)
 }
 
-/// How wide it is, with the space after it.
-fn last_of(block: Block) -> u16
-    ensures value { result ≡ specs.last_of block }
-    ensures few { result ≤ 1003 }
-{
-    at_most(999, block.last) + gap(block.columns)
-}
-
-/// A request with a width.
-fn put_moved(request: &[u8], width: u16, out: &mut SliceVec<'_, u8>)
-    requires short { length request.now ≤ 8 }
-    requires space { length out.old.items + 16 ≤ out.old.capacity }
-    ensures items { out.new.items ≡ out.old.items ++ specs.moved request.now width }
-    ensures few { length out.new.items ≤ length out.old.items + 16 }
+/// The width of the column before a cell, and the space after it.
+fn put_step_to(cell: u16, block: Block, out: &mut SliceVec<'_, u8>)
+    requires { length out.old.items + 20 ≤ out.old.capacity }
+    ensures items { out.new.items ≡ out.old.items ++ specs.step_to cell block }
+    ensures few { length out.new.items ≤ length out.old.items + 20 }
     ensures room { out.new.capacity ≡ out.old.capacity }
 {
-    out.extend(request);
-    put_number(at_most(999, width), out);
-    out.extend(b"n\n");
+    out.extend(b"\\n[%");
+    put_number(cell, out);
+    out.extend(b"]u+");
+    put_number(gap(block.columns), out);
+    out.extend(b"n");
 }
 
 impl Page {
-    /// A tab stop after the ones before.
-    pub(crate) fn put_column(&self, width: u16, out: &mut SliceVec<'_, u8>)
-        requires { length out.old.items + 20 ≤ out.old.capacity }
-        ensures items { out.new.items ≡ out.old.items ++ specs.column_text width }
-        ensures few { length out.new.items ≤ length out.old.items + 20 }
+    /// The width of the newest column, and a tab stop after the ones before.
+    pub(crate) fn put_column(&mut self, width: u16, out: &mut SliceVec<'_, u8>)
+        requires { length out.old.items + 64 ≤ out.old.capacity }
+        ensures page { self.new ≡ (specs.put_column width self.old).page }
+        ensures items { out.new.items ≡ out.old.items ++ (specs.put_column width self.old).bytes }
+        ensures few { length out.new.items ≤ length out.old.items + 64 }
         ensures room { out.new.capacity ≡ out.old.capacity }
     {
-        out.extend(b" +");
+        self.freshen(out);
+        out.extend(b".nr %");
+        put_number(self.block.columns, out);
+        out.extend(b" ");
         put_number(width, out);
-        out.extend(b"n+\\\\n(%gu");
+        out.extend(b"n\n.as %c \" +");
+        put_number(width, out);
+        out.extend(b"n+\\\\n(%gu\n");
     }
 
-    /// Tab stops of columns, and their text as far to the right as that of the last.
-    pub(crate) fn put_stops(&mut self, gap: u16, hang: u16, out: &mut SliceVec<'_, u8>)
-        requires { length out.old.items + 80 ≤ out.old.capacity }
-        ensures page { self.new ≡ (specs.put_stops gap hang self.old).page }
-        ensures items { out.new.items ≡ out.old.items ++ (specs.put_stops gap hang self.old).bytes }
-        ensures few { length out.new.items ≤ length out.old.items + 80 }
+    /// Tab stops of columns.
+    pub(crate) fn put_stops(&mut self, gap: u16, out: &mut SliceVec<'_, u8>)
+        requires { length out.old.items + 64 ≤ out.old.capacity }
+        ensures page { self.new ≡ (specs.put_stops gap self.old).page }
+        ensures items { out.new.items ≡ out.old.items ++ (specs.put_stops gap self.old).bytes }
+        ensures few { length out.new.items ≤ length out.old.items + 64 }
         ensures room { out.new.capacity ≡ out.old.capacity }
     {
-        self.put_sized(Sized::Inner, hang, out);
+        self.freshen(out);
         out.extend(b".nr %g ");
         put_number(gap, out);
         out.extend(b"n\n.ta \\*(%c\n");
@@ -92,14 +82,24 @@ impl Page {
         matches!(self.block.kind, Kind::Column) && !self.block.begun
     }
 
-    /// Whether the row has a cell after its last column.
-    fn is_past(&self) -> bool
-        ensures { result ≡ specs.is_past self.now.lay.cell self.now.block }
+    /// A text line begins as a row.
+    pub(crate) fn put_text_row(&mut self, out: &mut SliceVec<'_, u8>)
+        requires { length out.old.items + 64 ≤ out.old.capacity }
+        ensures page { self.new ≡ (specs.put_text_row self.old).page }
+        ensures items { out.new.items ≡ out.old.items ++ (specs.put_text_row self.old).bytes }
+        ensures few { length out.new.items ≤ length out.old.items + 64 }
+        ensures room { out.new.capacity ≡ out.old.capacity }
     {
-        0 < self.block.columns && self.block.columns <= self.lay.cell
+        let hang = hang_of(self.block);
+        self.freshen(out);
+        out.extend(b".in \\n_u+");
+        put_number(hang, out);
+        out.extend(b"n\n.)T -");
+        put_number(hang, out);
+        out.extend(b"n\n");
     }
 
-    /// A row begins.
+    /// A row begins, where two lines have room.
     pub(crate) fn put_row(&mut self, out: &mut SliceVec<'_, u8>)
         requires { length out.old.items + 40 ≤ out.old.capacity }
         ensures page { self.new ≡ (specs.put_row self.old).page }
@@ -108,32 +108,45 @@ impl Page {
         ensures room { out.new.capacity ≡ out.old.capacity }
     {
         self.freshen(out);
-        if self.is_past() {
-            put_moved(b".in -", last_of(self.block), out);
-        }
-        put_moved(b".)T -", hang_of(self.block), out);
+        out.extend(b".in \\n_u\n.)N 2\n.nr %t \\n(nl\n");
         self.lay.cell = 0;
-        self.lay.kept = stays_whole(0, self.block);
     }
 
-    /// A cell ends, and another begins.
+    /// The place of the next cell: beside the last line of the one before if that leaves a blank.
+    fn put_step(&self, cell: u16, out: &mut SliceVec<'_, u8>)
+        requires cell { cell ≡ specs.next_cell self.now }
+        requires space { length out.old.items + 140 ≤ out.old.capacity }
+        ensures items { out.new.items ≡ out.old.items ++ specs.put_step self.now }
+        ensures few { length out.new.items ≤ length out.old.items + 140 }
+        ensures room { out.new.capacity ≡ out.old.capacity }
+    {
+        out.extend(b".in +");
+        put_step_to(cell, self.block, out);
+        out.extend(b"\n.if \\n(nl>\\n(%tu&(\\n(.nu<(");
+        put_step_to(cell, self.block, out);
+        out.extend(b")) \\{\\\n.sp -1\n\\&\\c\n.\\}\n.nr %t \\n(nl\n");
+    }
+
+    /// A cell ends, and another begins: one after the last column's joins what is before.
     pub(crate) fn put_cell(&mut self, out: &mut SliceVec<'_, u8>)
-        requires { length out.old.items + 40 ≤ out.old.capacity }
+        requires { length out.old.items + 150 ≤ out.old.capacity }
         ensures page { self.new ≡ (specs.put_cell self.old).page }
         ensures items { out.new.items ≡ out.old.items ++ (specs.put_cell self.old).bytes }
-        ensures few { length out.new.items ≤ length out.old.items + 40 }
+        ensures few { length out.new.items ≤ length out.old.items + 150 }
         ensures room { out.new.capacity ≡ out.old.capacity }
     {
         let cell = at_most(99, self.lay.cell) + 1;
-        let columns = self.block.columns;
-        if columns > 0 && cell == columns {
-            out.extend(self.line_end());
-            put_moved(b"'in +", last_of(self.block), out);
+        if cell <= self.block.columns {
+            self.freshen(out);
+            self.put_step(cell, out);
+            self.lay.cell = cell;
+            return;
         }
-        out.push(b'\t');
+        if self.block.columns == 0 {
+            out.push(b'\t');
+        }
         self.was_put();
         self.lay.joined = true;
         self.lay.cell = cell;
-        self.lay.kept = self.lay.kept && (columns == 0 || stays_whole(cell, self.block));
     }
 }

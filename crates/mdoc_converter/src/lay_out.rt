@@ -33,7 +33,7 @@ impl Page {
             Act::Subsection => self.put_head(b".SS", out),
             Act::Columns => self.put_head(b".ds %c", out),
             Act::Column(width) => self.put_column(width, out),
-            Act::Stops(gap, hang) => self.put_stops(gap, hang, out),
+            Act::Stops(gap) => self.put_stops(gap, out),
             Act::Cell => self.put_cell(out),
             Act::Row => self.put_row(out),
             Act::Part(letter) => self.put_part_begin(letter, out),
@@ -56,7 +56,7 @@ impl Page {
             self.put(self.lay.joined, &[byte], out);
             return;
         }
-        self.put_row(out);
+        self.put_text_row(out);
         self.put(self.lay.joined, &[byte], out);
     }
 

@@ -21,6 +21,17 @@ fn after_day(day: &[u8]) -> &'static [u8]
     }
 }
 
+/// Whether the macro file has no manual of a section.
+fn is_other(chapter: &[u8]) -> bool
+    ensures { result ≡ specs.is_other chapter.now }
+{
+    match chapter {
+        [] => false,
+        [section] => *section < b'1' || *section > b'9',
+        _ => true,
+    }
+}
+
 /// The last digit of a number.
 fn digit(n: u16) -> u8
     ensures { result ≡ specs.digit n }
@@ -257,15 +268,20 @@ impl Page {
         }
     }
 
-    /// The manual, where that of its section has another name in pages of mdoc.
-    fn manual(&self) -> &'static [u8]
-        ensures value { result.now ≡ specs.manual self.now }
-        ensures few { length result.now ≤ 32 }
+    /// The manual, where that of its section has another name in pages of mdoc, or none.
+    fn put_manual(&self, out: &mut SliceVec<'_, u8>)
+        requires { length out.old.items + 40 ≤ out.old.capacity }
+        ensures items { out.new.items ≡ out.old.items ++ specs.manual self.now }
+        ensures few { length out.new.items ≤ length out.old.items + 40 }
+        ensures room { out.new.capacity ≡ out.old.capacity }
     {
-        if self.chapter.as_bytes() == b"4".as_slice() {
-            b" \"Device Drivers Manual\""
-        } else {
-            b""
+        let chapter = self.chapter.as_bytes();
+        if chapter == b"4".as_slice() {
+            out.extend(b" \"Device Drivers Manual\"");
+        } else if is_other(chapter) {
+            out.extend(b" \"");
+            out.extend(chapter);
+            out.push(b'"');
         }
     }
 
@@ -279,7 +295,7 @@ impl Page {
     {
         out.extend(self.other_system());
         out.push(b'"');
-        out.extend(self.manual());
+        self.put_manual(out);
         out.extend(b"\n.ds )9 \\*()4\n.nr IN 5n\n.ad l\n");
         self.lay.at = At::Start;
         self.lay.joined = false;
