@@ -1,6 +1,6 @@
 -- Whether a page has a table of characters of its own, and which.
 use Prim.Native.Char.{code}
-use Rattle.std.specs.Prelude.{◌≡◌, ℕ, List, [], ◌∷◌, Bool, true, false, not, ◌&&◌, nat_le, is_some, if◌then◌else◌, Option, None, Some}
+use Rattle.std.specs.Prelude.{◌≡◌, ℕ, List, [], ◌∷◌, Bool, true, false, not, ◌&&◌, is_some, if◌then◌else◌, Option, None, Some}
 use Rattle.utf8_characters.specs.declared.table.Table.{Table}
 use Rattle.utf8_characters.specs.Tables.{byte_of}
 use Rattle.tbl_layout.specs.declared.signs.Signs.{Signs}
@@ -17,14 +17,10 @@ use Rattle.utf8_own_characters.specs.Looking.{noted, seen}
 use Rattle.utf8_own_characters.specs.Ranking.{ranked}
 use Rattle.utf8_own_characters.specs.Table as characters
 use Rattle.utf8_own_characters.specs.Table.{Characters, Good}
+use Rattle.utf8_own_page.specs.Needing as needing
 use Rattle.document_reader.specs.Page.{plain_of}
 use Rattle.program_command.specs.declared.own.TheConstants.{FRAMES}
 use Rattle.program_command.specs.declared.plan.Plan.{Plan}
-
--- some byte is none of ASCII
-abbrev pub is_beyond_ascii : List ℕ → Bool
-is_beyond_ascii [] = false
-is_beyond_ascii (byte ∷ bytes) = if nat_le 128 byte then true else is_beyond_ascii bytes
 
 -- ---- what is counted: 4,352 clusters at most
 
@@ -63,7 +59,7 @@ has_all (Some table) counts = has_each table counts
 
 -- A page has a table of its own where UTF-8 is printed, and the fixed table lacks one of its characters.
 abbrev pub may_need_own : Plan → List ℕ → Bool
-may_need_own plan first = plan.spells && (not plan.checks && is_beyond_ascii first)
+may_need_own plan first = plan.spells && (not plan.checks && needing.may_need_own first)
 
 abbrev pub needs_own : Plan → List ℕ → Bool
 needs_own plan first = may_need_own plan first && not (has_all plan.characters (counts_of plan first))

@@ -9,7 +9,7 @@ ghost use Rattle.utf8_own_characters.specs.Listening.{after, done_in};
 ghost use Rattle.utf8_own_characters.specs.Looking.{seen};
 ghost use Rattle.utf8_own_characters.specs.Ranking.{ranked};
 ghost use Rattle.utf8_own_characters.specs.Table.{Good};
-ghost use Rattle.program_command.specs.Own.{count_all, counts_of, frame_counts, has, has_all, is_beyond_ascii, may_need_own, sign_for, signs_for};
+ghost use Rattle.program_command.specs.Own.{count_all, counts_of, frame_counts, has, has_all, may_need_own, sign_for, signs_for};
 ghost use Rattle.program_command.specs.Printing.{OwnShows, Printed, TableShows, Where, given_by, own_showing};
 
 use crate::plan::Plan;
@@ -40,18 +40,6 @@ const ROOM: usize = 2_048;
 
 /// What frames are drawn with.
 const FRAMES: [char; 11] = ['─', '│', '┌', '┬', '┐', '├', '┼', '┤', '└', '┴', '┘'];
-
-/// Whether a page has bytes beyond ASCII.
-pub(crate) fn is_beyond_ascii(page: &[u8]) -> bool
-    ensures { result ≡ is_beyond_ascii page.now }
-{
-    for byte in page {
-        if *byte >= 128 {
-            return true;
-        }
-    }
-    false
-}
 
 /// No cluster, counted never.
 fn none() -> Count {
@@ -200,11 +188,12 @@ fn signs_of(table: &Table<'_>) -> Signs
 fn may_need_own(plan: &Plan, front: &[u8]) -> bool
     ensures { result ≡ may_need_own plan.now front.now }
 {
-    plan.spells && !plan.checks && is_beyond_ascii(front)
+    plan.spells && !plan.checks && utf8_own_page::may_need_own(front)
 }
 
-/// Prints a page that begins with these bytes, beyond ASCII: with the fixed table of its plan, if that has all of its
-/// characters, or with one of its own. Gives the output back; where there was not enough memory nothing was printed.
+/// Prints a page that begins with these bytes, and may need a table of its own: with the fixed table of its plan, if that
+/// has all of its characters, or with one of its own. Gives the output back; where there was not enough memory nothing was
+/// printed.
 fn print_beyond<R: Source + Drop, W: Sink + Drop>(
     page: R,
     first: &[u8],
@@ -237,9 +226,10 @@ fn print_beyond<R: Source + Drop, W: Sink + Drop>(
 /// Prints a page that begins with these bytes, by its plan. Gives the output back; where there was not enough memory
 /// nothing was printed.
 ///
-/// Proved: A page has a table of its own exactly where UTF-8 is printed, it is beyond ASCII, and the fixed table of its
-/// plan lacks a cluster of what the stages make of the bytes that were looked at. That table has the clusters that come
-/// most often there, as many as have room. (`print_by_plan`; `needs_own`, `IsTableOf` in Own.antt)
+/// Proved: A page has a table of its own exactly where UTF-8 is printed, its first 64 KiB have a character beyond ASCII or
+/// name one by its number, and the fixed table of its plan lacks a cluster of what the stages make of the bytes that were
+/// looked at. That table has the clusters that come most often there, as many as have room. (`print_by_plan`; `needs_own`,
+/// `IsTableOf` in Own.antt)
 pub(crate) fn print_by_plan<R: Source + Drop, W: Sink + Drop>(
     page: R,
     first: &[u8],

@@ -11,7 +11,7 @@ ghost use Rattle.program_command.specs.Program.{IsOfRun, Passes};
 ghost use Rattle.program_command.specs.Running.{AreMacros, FrontGives, IsReading, IsTold, Runs, files_of, first_of, is_for_others, text_of, under};
 
 use crate::endings::{Ending, Place};
-use crate::own::{is_beyond_ascii, print_by_plan};
+use crate::own::print_by_plan;
 use crate::plan::{LOOKED_AT, MORE_LOOKED_AT, Plan, limits_of, options_of, plan_of};
 use crate::printing::Means;
 use crate::surroundings::Surroundings;
@@ -23,6 +23,7 @@ use preconv_coding::{Coding, UnderCoding};
 use program_options::Job;
 use program_plan::{asks_for_others, is_manual, macros_of, text_before};
 use std::alloc::AllocError;
+use utf8_own_page::may_need_own;
 
 /// What of a job's texts is read, and what of their pages goes out.
 #[derive(Drop)]
@@ -133,7 +134,7 @@ fn run_all<'a, T: Source + Drop, W: Sink + Drop>(
     if is_for_others(job, first) {
         return (output, Ok(Ending::NeedsOthers));
     }
-    if first.len() == LOOKED_AT && is_beyond_ascii(first) {
+    if first.len() == LOOKED_AT && may_need_own(first) {
         let Ok(mut more) = vec![in around.alloc; 0u8; MORE_LOOKED_AT] else {
             return (output, Err(AllocError));
         };

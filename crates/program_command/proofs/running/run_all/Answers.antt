@@ -14,13 +14,13 @@ returns-then-is_for_others-clause-runs g c =
     (under c.args.reading.coding (files_supply (map g.T.Source.supply c.args.pages.now))) _ c.first-first.result.now (g.W.Sink.held c.args.output)
     (Stays-from _ _ _ same c.hold-front.ensures) c.first-first.ensures (sym c.is_for_others.ensures ∙ c.if-is_for_others.true)
 
-pub returns-then-is_beyond_ascii-clause-runs : goal.returns-then-is_beyond_ascii-clause-runs
-returns-then-is_beyond_ascii-clause-runs g c =
+pub returns-then-may_need_own-clause-runs : goal.returns-then-may_need_own-clause-runs
+returns-then-may_need_own-clause-runs g c =
     let same = c.under_coding.ensures ∙ ap (λ (f : Option Supply). under c.args.reading.coding f) c.chain.ensures.supply in
     Runs-front (asked_of c.args.job.now) c.args.around.now (files_supply (map g.T.Source.supply c.args.macros.now)) c.args.reading.coding
     (files_supply (map g.T.Source.supply c.args.pages.now)) _ _ c.first-first.result.now c.run_front.result.1 (g.W.Sink.held c.args.output) (g.W.Sink.held c.run_front.result.0)
     (Stays-from _ _ _ same c.hold-front.ensures) c.first-first.ensures (sym c.is_for_others.ensures ∙ c.if-is_for_others.false)
-    c.hold-front-then-is_beyond_ascii.ensures
+    c.hold-front-then-may_need_own.ensures
     (λ only. Keeps-same g.W.Sink.held c.args.output c.run_front.result.0 (c.run_front.ensures.checks only)) c.run_front.ensures.prints
 
 pub returns-clause-runs : goal.returns-clause-runs
