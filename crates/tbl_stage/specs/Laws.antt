@@ -14,7 +14,7 @@ abbrev pub TurnsSoFar : Type 0
 TurnsSoFar = (most : ℕ) (g : Signs) (l : Limits) (cells : ℕ) (bytes : List ℕ)
     → has_all most (first_held g l cells) bytes ≡ true → said most (first_held g l cells) false bytes ≡ set_so_far g l cells bytes
 
--- and else a front of it
+-- and else a prefix of it
 abbrev pub TurnsFront : Type 0
 TurnsFront = (most : ℕ) (g : Signs) (l : Limits) (cells : ℕ) (bytes : List ℕ)
     → (rest : List ℕ) × (said most (first_held g l cells) true bytes ++ rest ≡ set_page g l cells bytes)
