@@ -6,3 +6,5 @@ pub mod Changes
 pub mod Exchange
 pub mod Rooms
 mod Rotating
+pub mod Giving
+pub mod Shared

@@ -116,7 +116,7 @@ apart_of_unused p id other free is_open same =
 -- ---- how many elements all texts have
 
 -- a number is given another text
-used-with_entry : {T : Type 0} (p : Texts T) (id : ℕ) (t : Held T) → id < length p.texts
+pub used-with_entry : {T : Type 0} (p : Texts T) (id : ℕ) (t : Held T) → id < length p.texts
     → used (with_entry p id t) + length (text p id) ≡ used p + length t.elements
 used-with_entry p id t within = sum_by-set (λ (u : Held _). length u.elements) p.texts id t no_text within
 

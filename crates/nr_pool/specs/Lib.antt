@@ -5,3 +5,4 @@ pub mod Rooms
 pub mod Laws
 pub mod Exchange
 pub mod Removal
+pub mod Sharing

@@ -1,5 +1,5 @@
 -- Where the texts of a pool lie among its elements.
-use Rattle.std.specs.Prelude.{◌≡◌, ◌≢◌, ℕ, ◌+◌, ◌-◌, ◌^◌, ◌<◌, ◌≤◌, ◌&&◌, nat_lt, nat_le, Bool, if◌then◌else◌, List, map, length, take, drop, sum_by, slice_index_or}
+use Rattle.std.specs.Prelude.{◌≡◌, ◌≢◌, ℕ, ◌+◌, ◌-◌, ◌^◌, ◌<◌, ◌≤◌, ◌&&◌, nat_lt, nat_le, Bool, if◌then◌else◌, List, map, length, take, drop, sum_by, slice_index_or, slice_set}
 use Rattle.nr_pool.specs.declared.slot.Slot.{Slot}
 use Rattle.nr_pool.specs.Texts.{Held, Texts}
 
@@ -37,3 +37,10 @@ pub record IsPacked (capacity : ℕ) (slots : List Slot) (used : ℕ) : Type 0 w
   pub apart : (i j : ℕ) → i ≢ j → 0 < (slot_at slots i).len → 0 < (slot_at slots j).len
       → (slot_at slots j).start < (slot_at slots i).start + (slot_at slots i).len
       → (slot_at slots j).start + (slot_at slots j).len ≤ (slot_at slots i).start
+
+-- the slots, where one has given its text to another, which had no elements
+abbrev pub given : List Slot → ℕ → ℕ → List Slot
+given slots i j =
+    let s = slot_at slots i in
+    let mid = slice_set slots i (record s { len = 0 }) in
+    slice_set mid j (record (slot_at mid j) { start = s.start; len = s.len })

@@ -1,6 +1,6 @@
 //! Where the texts of a pool lie.
 ghost use Rattle.std.specs.Prelude.{◌≡◌, ◌≢◌, ℕ, ◌+◌, ◌-◌, ◌^◌, ◌<◌, ◌≤◌, ◌⊎◌, [], ◌∷◌, ◌++◌, length, map, take, drop, IfSome, None};
-ghost use Rattle.nr_pool.specs.Slot.{texts_of, slot_at, blank_slot, is_after, shifted, IsPacked};
+ghost use Rattle.nr_pool.specs.Slot.{texts_of, slot_at, blank_slot, is_after, shifted, given, IsPacked};
 ghost use Rattle.nr_pool.specs.Spares.{HasSpares};
 ghost use Rattle.nr_pool.specs.Exchange.{LiesAt, IsSwapped, IsExchanged};
 ghost use Rattle.nr_pool.specs.Removal.{spare_before, IsRemoved};
@@ -235,6 +235,20 @@ pub(crate) fn bring_last<T: Copy>(
         return;
     }
     move_last(elements.as_mut_slice(), slots.as_mut_slice(), used, index);
+}
+
+// Gives the text at `from`, which lies last, to `to`, which has no elements.
+pub(crate) fn give_last(slots: &mut ReservedVec<Slot>, from: usize, to: usize)
+    requires from_within { from < length slots.old.items }
+    requires to_within { to < length slots.old.items }
+    ensures given { slots.new.items ≡ given slots.old.items from to }
+    ensures room { slots.new.capacity ≡ slots.old.capacity }
+{
+    let Slot { start, len, .. } = slots[from];
+    slots[from].len = 0;
+    let slot = &mut slots[to];
+    slot.start = start;
+    slot.len = len;
 }
 
 // Removes the text at `index`, after which others lie; its slot is the first spare one then, before `next`. What lies

@@ -1,0 +1,6 @@
+use Rattle.std.proofs.Common.{arith}
+use Rattle.std.proofs.lemmas.Grind.{common_steps}
+use Rattle.nr_pool.proofs.packed.Packed.len.Goals as goal
+
+pub index-requires : goal.index-requires
+index-requires g c = grind (arith, common_steps)
