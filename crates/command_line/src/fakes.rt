@@ -1,10 +1,12 @@
 //! A system of words and texts in memory, its standard input, and an output that fails: for tests.
 
+use std::alloc::Allocator;
 use std::cell::Cell;
 use std::env::FillError;
 use std::fs::{Metadata, OpenFile, OpenOptions};
 use std::io;
 use std::io::{ErrorKind, Read, Seek, SeekFrom, Write};
+use std::path::{Path, PathBuf};
 use std::rt::{Env, Files};
 
 /// A text in memory.
@@ -14,12 +16,14 @@ pub enum Page<'a> {
     Bytes(&'a [u8]),
     /// These bytes, after which each call fails.
     Cut(&'a [u8]),
+    /// The text of another path.
+    Link(&'a str),
 }
 
 impl Read for Page<'_> {
     fn read(&mut self, buffer: &mut [u8]) -> io::Result<usize> {
         match self {
-            Page::Cut([]) => Err(io::Error::from(ErrorKind::IsADirectory)),
+            Page::Cut([]) | Page::Link(_) => Err(io::Error::from(ErrorKind::IsADirectory)),
             Page::Bytes(bytes) | Page::Cut(bytes) => bytes.read(buffer),
         }
     }
@@ -92,6 +96,28 @@ impl Env for System<'_> {
     }
 }
 
+impl<'a> System<'a> {
+    /// The text of this path.
+    fn page(&self, path: &str) -> Option<Page<'a>> {
+        for (name, page) in self.texts {
+            if *name == path {
+                return Some(*page);
+            }
+        }
+        None
+    }
+
+    /// Whether a text lies in the folder of this path.
+    fn has_folder(&self, path: &str) -> bool {
+        for (name, _) in self.texts {
+            if let Some([b'/', ..]) = name.as_bytes().strip_prefix(path.as_bytes()) {
+                return true;
+            }
+        }
+        false
+    }
+}
+
 /// What no text in memory can do.
 fn unsupported() -> io::Error {
     io::Error::from(ErrorKind::Unsupported)
@@ -104,12 +130,20 @@ impl<'a> Files for System<'a> {
 
     fn open_file(&self, how: &OpenOptions, path: &str) -> io::Result<Page<'a>> {
         how.check()?;
-        for (name, page) in self.texts {
-            if *name == path {
-                return Ok(*page);
-            }
+        match self.page(path) {
+            Some(page) => Ok(page),
+            None => Err(io::Error::from(ErrorKind::NotFound)),
         }
-        Err(io::Error::from(ErrorKind::NotFound))
+    }
+
+    fn canonicalize<B: Allocator>(&self, alloc: B, path: &str) -> io::Result<PathBuf<B>> {
+        let path = match self.page(path) {
+            Some(Page::Link(to)) => to,
+            Some(_) => path,
+            None if self.has_folder(path) => path,
+            None => return Err(io::Error::from(ErrorKind::NotFound)),
+        };
+        Ok(Path::new(path).to_path_buf(alloc)?)
     }
 
     fn open_dir(&self, _path: &str) -> io::Result<Page<'a>> {
@@ -144,7 +178,7 @@ impl<'a> Files for System<'a> {
         Err(unsupported())
     }
 
-    fn remove_dir_all<B: std::alloc::Allocator>(&self, _alloc: B, _path: &str) -> io::Result<()> {
+    fn remove_dir_all<B: Allocator>(&self, _alloc: B, _path: &str) -> io::Result<()> {
         Err(unsupported())
     }
 }

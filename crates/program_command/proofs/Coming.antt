@@ -1,7 +1,9 @@
 -- What the program comes to, part by part.
 use Rattle.std.proofs.Common.{◌≡◌, ℕ, List, [], append-nil, Bool, Option, None, Some, Result, Ok, ◌⊎◌, inl, inr, refl, sym, subst}
 use Rattle.nr_command_options.specs.Inputs.{Reading}
+use Rattle.std.specs.Option.{option_map}
 use Rattle.nr_units.specs.Source.{Supply}
+use Rattle.document_sources.specs.Joining.{Texts}
 use Rattle.preconv_coding.specs.declared.names.Coding.{Coding}
 use Rattle.nr_command.specs.Opening.{AreOpen, Opening, Asks}
 use Rattle.nr_command.specs.Program.{IsRefused}
@@ -16,7 +18,7 @@ use Rattle.program_command.specs.Running.{IsNamed, Runs, files_of, text_of}
 use Rattle.program_command.specs.declared.surroundings.Surroundings.{Surroundings}
 use Rattle.program_command.proofs.Kept.{Keeps-refl}
 use Rattle.program_command.specs.declared.endings.Ending.{Ending}
-use Rattle.program_command.specs.declared.endings.Ending.TheVariants.{BadWord, CannotOpen, Done, Limit, NoMacros, NeedsOthers, NoRoom, OutOfMemory, ReadFault, TooLong, WriteFault}
+use Rattle.program_command.specs.declared.endings.Ending.TheVariants.{BadWord, CannotOpen, Done, Limit, NoMacros, NeedsOthers, LeftOut, NoFolder, NoRoom, OutOfMemory, ReadFault, TooLong, WriteFault}
 
 -- nothing was asked for
 pub Asks-same : {A : Type 0} (xs : Option (List A)) → Asks xs xs []
@@ -40,6 +42,7 @@ pub Opens-none : (may_come : Reading → Opening → Type 0) (asked : Option (Li
     → IsUnopened ending → Opens may_come asked asked readings ending
 Opens-none may_come asked readings (BadWord usage) unopened = inl (Asks-same asked)
 Opens-none may_come asked readings (NoMacros name) unopened = inl (Asks-same asked)
+Opens-none may_come asked readings (NoFolder path) unopened = inl (Asks-same asked)
 Opens-none may_come asked readings Done unopened = absurd unopened
 Opens-none may_come asked readings (Limit place which) unopened = absurd unopened
 Opens-none may_come asked readings (NoRoom place) unopened = absurd unopened
@@ -49,6 +52,7 @@ Opens-none may_come asked readings (ReadFault place) unopened = absurd unopened
 Opens-none may_come asked readings WriteFault unopened = absurd unopened
 Opens-none may_come asked readings OutOfMemory unopened = absurd unopened
 Opens-none may_come asked readings NeedsOthers unopened = absurd unopened
+Opens-none may_come asked readings (LeftOut place why) unopened = absurd unopened
 
 pub Opens-memory : (may_come : Reading → Opening → Type 0) (asked asked' : Option (List Reading)) (readings others : List Reading)
     → readings ≡ others → IsRefused may_come asked asked' readings not_run.OutOfMemory → Opens may_come asked asked' others OutOfMemory
@@ -65,6 +69,7 @@ Opens-refused may_come asked asked' readings others input same refused =
 IsNotRun-unopened : (ending : Ending) → IsUnopened ending → IsNotRun ending
 IsNotRun-unopened (BadWord usage) unopened = tt
 IsNotRun-unopened (NoMacros name) unopened = tt
+IsNotRun-unopened (NoFolder path) unopened = tt
 IsNotRun-unopened Done unopened = absurd unopened
 IsNotRun-unopened (Limit place which) unopened = absurd unopened
 IsNotRun-unopened (NoRoom place) unopened = absurd unopened
@@ -74,37 +79,43 @@ IsNotRun-unopened (ReadFault place) unopened = absurd unopened
 IsNotRun-unopened WriteFault unopened = absurd unopened
 IsNotRun-unopened OutOfMemory unopened = absurd unopened
 IsNotRun-unopened NeedsOthers unopened = absurd unopened
+IsNotRun-unopened (LeftOut place why) unopened = absurd unopened
 
 -- nothing goes out then
-pub ComesTo-unopened : (may_come : Reading → Opening → Type 0) (job : Asked) (around : Surroundings) (ending : Ending) (a : Option (List ℕ))
-    → IsUnopened ending → ComesTo may_come job around ending a a
-ComesTo-unopened may_come job around ending a unopened = inl (record { unrun = IsNotRun-unopened ending unopened; kept = Keeps-refl a })
+pub ComesTo-unopened : (may_come : Reading → Opening → Type 0) (texts_in : List ℕ → Option Texts) (job : Asked) (around : Surroundings) (ending : Ending) (a : Option (List ℕ))
+    → IsUnopened ending → ComesTo may_come texts_in job around ending a a
+ComesTo-unopened may_come texts_in job around ending a unopened = inl (record { unrun = IsNotRun-unopened ending unopened; kept = Keeps-refl a })
 
-pub ComesTo-unrun : (may_come : Reading → Opening → Type 0) (job : Asked) (around : Surroundings) (ending : Ending) (a : Option (List ℕ))
-    → IsNotRun ending → ComesTo may_come job around ending a a
-ComesTo-unrun may_come job around ending a unrun = inl (record { unrun = unrun; kept = Keeps-refl a })
+pub ComesTo-unrun : (may_come : Reading → Opening → Type 0) (texts_in : List ℕ → Option Texts) (job : Asked) (around : Surroundings) (ending : Ending) (a : Option (List ℕ))
+    → IsNotRun ending → ComesTo may_come texts_in job around ending a a
+ComesTo-unrun may_come texts_in job around ending a unrun = inl (record { unrun = unrun; kept = Keeps-refl a })
+
+pub AreOpen-same : (may_come : Reading → Opening → Type 0) (readings : List Reading) (given others : List (Option Supply)) → given ≡ others
+    → AreOpen may_come readings given → AreOpen may_come readings others
+AreOpen-same may_come readings given others same opened = subst (λ (ss : List (Option Supply)). AreOpen may_come readings ss) same opened
 
 -- or what its texts come to
-pub ComesTo-run : (may_come : Reading → Opening → Type 0) (job : Asked) (around : Surroundings) (readings : List Reading) (given : List (Option Supply))
-    (coding : Option Coding) (ending : Ending) (a b : Option (List ℕ)) → readings ≡ readings_of job → AreOpen may_come readings given
-    → IsNamed job.coding coding → Runs job around (files_of job given) (text_of job coding given) ending a b → ComesTo may_come job around ending a b
-ComesTo-run may_come job around readings given coding ending a b same opened named runs = inr (record {
+pub ComesTo-run : (may_come : Reading → Opening → Type 0) (texts_in : List ℕ → Option Texts) (job : Asked) (around : Surroundings) (readings : List Reading) (given : List (Option Supply))
+    (coding : Option Coding) (folder : Option (Option Texts)) (ending : Ending) (a b : Option (List ℕ)) → readings ≡ readings_of job → AreOpen may_come readings given
+    → IsNamed job.coding coding → folder ≡ option_map texts_in job.within → Runs job around (files_of job given) (text_of job coding folder given) ending a b
+    → ComesTo may_come texts_in job around ending a b
+ComesTo-run may_come texts_in job around readings given coding folder ending a b same opened named within runs = inr (record {
   given = given;
   opened = subst (λ (rs : List Reading). AreOpen may_come rs given) same opened;
   coding = coding;
   named = named;
-  runs = runs;
+  runs = subst (λ (f : Option (Option Texts)). Runs job around (files_of job given) (text_of job coding f given) ending a b) within runs;
 })
 
-pub Comes-good : (answer : Result Asked Complaint) (job : Asked) (around : Surroundings) (may_come : Reading → Opening → Type 0) (asked asked' : Option (List Reading))
+pub Comes-good : (answer : Result Asked Complaint) (job : Asked) (around : Surroundings) (may_come : Reading → Opening → Type 0) (texts_in : List ℕ → Option Texts) (asked asked' : Option (List Reading))
     (unopened unprinted : Type 0) (held held' : Option (List ℕ)) (passed_on : Bool) (ending : Ending) → Ok job ≡ answer
-    → Opens may_come asked asked' (readings_of job) ending → ComesToPages may_come job around ending held held'
-    → (unprinted ⊎ Passes ending passed_on) → Comes answer around may_come asked asked' unopened unprinted held held' passed_on ending
-Comes-good answer job around may_come asked asked' unopened unprinted held held' passed_on ending is opens pages prints =
-    subst (λ (a : Result Asked Complaint). Comes a around may_come asked asked' unopened unprinted held held' passed_on ending) is (opens, pages, prints)
+    → Opens may_come asked asked' (readings_of job) ending → ComesToPages may_come texts_in job around ending held held'
+    → (unprinted ⊎ Passes ending passed_on) → Comes answer around may_come texts_in asked asked' unopened unprinted held held' passed_on ending
+Comes-good answer job around may_come texts_in asked asked' unopened unprinted held held' passed_on ending is opens pages prints =
+    subst (λ (a : Result Asked Complaint). Comes a around may_come texts_in asked asked' unopened unprinted held held' passed_on ending) is (opens, pages, prints)
 
-pub Comes-bad : (answer : Result Asked Complaint) (usage : Usage) (around : Surroundings) (may_come : Reading → Opening → Type 0) (asked asked' : Option (List Reading))
+pub Comes-bad : (answer : Result Asked Complaint) (usage : Usage) (around : Surroundings) (may_come : Reading → Opening → Type 0) (texts_in : List ℕ → Option Texts) (asked asked' : Option (List Reading))
     (unopened unprinted : Type 0) (held held' : Option (List ℕ)) (passed_on : Bool) → is_bad usage.case usage.word.now ≡ answer → unopened → unprinted
-    → Comes answer around may_come asked asked' unopened unprinted held held' passed_on (BadWord usage)
-Comes-bad answer usage around may_come asked asked' unopened unprinted held held' passed_on is same_opener same_output =
-    subst (λ (a : Result Asked Complaint). Comes a around may_come asked asked' unopened unprinted held held' passed_on (BadWord usage)) is ((refl, refl), same_opener, same_output)
+    → Comes answer around may_come texts_in asked asked' unopened unprinted held held' passed_on (BadWord usage)
+Comes-bad answer usage around may_come texts_in asked asked' unopened unprinted held held' passed_on is same_opener same_output =
+    subst (λ (a : Result Asked Complaint). Comes a around may_come texts_in asked asked' unopened unprinted held held' passed_on (BadWord usage)) is ((refl, refl), same_opener, same_output)

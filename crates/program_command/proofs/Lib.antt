@@ -1,6 +1,7 @@
 pub mod Coming
 pub mod Fullest
 pub mod Kept
+pub mod Leaving
 pub mod Looking
 pub mod Reading
 pub mod Shown

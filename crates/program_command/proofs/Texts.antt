@@ -22,7 +22,8 @@ use Rattle.program_plan.specs.Macros.{macros_of}
 use Rattle.program_plan.specs.Texts.{macro_names}
 use Rattle.program_command.specs.Plan.{AreOptions, has_strikes, page_limits_of, plan_of}
 use Rattle.program_command.specs.Printing.{Printed, Where}
-use Rattle.program_command.specs.Running.{AreMacros, EndsBefore, EndsBy, FrontGives, IsDocument, IsTold, Runs, files_of, first_of, is_for_others, text_of, under}
+use Rattle.program_command.specs.Running.{AreMacros, EndsBefore, EndsBy, FrontGives, IsDocument, IsTold, Runs, files_of, first_of, is_for_others, text_of, under, with_named}
+use Rattle.document_sources.specs.Joining.{Texts}
 use Rattle.program_command.specs.declared.endings.Ending.{Ending}
 use Rattle.program_command.specs.declared.endings.Ending.TheVariants as endings
 use Rattle.program_command.specs.declared.plan.Plan.{Plan}
@@ -119,21 +120,25 @@ files-are {T} supply job texts macros count few are =
     let all : take count texts ≡ take (length (macro_names job)) texts = ap (λ (n : ℕ). take n texts) few ∙ take_min (length (macro_names job)) texts in
     ap files_supply (ap (λ (ps : List T). map supply ps) (are ∙ all) ∙ sym (take-map supply (length (macro_names job)) texts))
 
-pub pages-are : {T : Type 0} → (supply : T → Option Supply) (job : Asked) (named : Option Coding) (texts pages : List T) (count : ℕ)
+pub pages-are : {T : Type 0} → (supply : T → Option Supply) (job : Asked) (named : Option Coding) (folder : Option (Option Texts)) (texts pages : List T) (count : ℕ)
     → count ≡ min (length (macro_names job)) (length texts) → pages ≡ drop count texts
-    → under named (files_supply (map supply pages)) ≡ text_of job named (map supply texts)
-pages-are {T} supply job named texts pages count few are =
+    → under named (with_named folder (files_supply (map supply pages))) ≡ text_of job named folder (map supply texts)
+pages-are {T} supply job named folder texts pages count few are =
     let all : drop count texts ≡ drop (length (macro_names job)) texts = ap (λ (n : ℕ). drop n texts) few ∙ drop_min (length (macro_names job)) texts in
-    ap (λ (ps : List (Option Supply)). under named (files_supply ps))
+    ap (λ (ps : List (Option Supply)). under named (with_named folder (files_supply ps)))
     (ap (λ (ps : List T). map supply ps) (are ∙ all) ∙ sym (drop-map supply (length (macro_names job)) texts))
 
-pub Runs-texts : {T : Type 0} → (supply : T → Option Supply) (job : Asked) (around : Surroundings) (named : Option Coding) (texts macros pages : List T)
+pub Runs-texts : {T : Type 0} → (supply : T → Option Supply) (job : Asked) (around : Surroundings) (named : Option Coding) (folder : Option (Option Texts)) (texts macros pages : List T)
     (count : ℕ) (ending : Ending) (a b : Option (List ℕ)) → count ≡ min (length (macro_names job)) (length texts) → macros ≡ take count texts → pages ≡ drop count texts
-    → Runs job around (files_supply (map supply macros)) (under named (files_supply (map supply pages))) ending a b
-    → Runs job around (files_of job (map supply texts)) (text_of job named (map supply texts)) ending a b
-Runs-texts {T} supply job around named texts macros pages count ending a b few macros_are pages_are runs =
-    subst (λ (f : Option Supply). Runs job around f (text_of job named (map supply texts)) ending a b) (files-are supply job texts macros count few macros_are)
-    (subst (λ (t : Option Supply). Runs job around (files_supply (map supply macros)) t ending a b) (pages-are supply job named texts pages count few pages_are) runs)
+    → Runs job around (files_supply (map supply macros)) (under named (with_named folder (files_supply (map supply pages)))) ending a b
+    → Runs job around (files_of job (map supply texts)) (text_of job named folder (map supply texts)) ending a b
+Runs-texts {T} supply job around named folder texts macros pages count ending a b few macros_are pages_are runs =
+    subst (λ (f : Option Supply). Runs job around f (text_of job named folder (map supply texts)) ending a b) (files-are supply job texts macros count few macros_are)
+    (subst (λ (t : Option Supply). Runs job around (files_supply (map supply macros)) t ending a b) (pages-are supply job named folder texts pages count few pages_are) runs)
+
+pub Runs-same : (job : Asked) (around : Surroundings) (macros s t : Option Supply) (ending : Ending) (a b : Option (List ℕ)) → s ≡ t
+    → Runs job around macros s ending a b → Runs job around macros t ending a b
+Runs-same job around macros s t ending a b same runs = subst (λ (x : Option Supply). Runs job around macros x ending a b) same runs
 
 -- ---- a page by its plan
 

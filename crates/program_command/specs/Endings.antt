@@ -7,7 +7,10 @@ use Rattle.nr_command_options.specs.Inputs.{reading_of}
 use Rattle.nr_command.specs.Opening.{name_of}
 use Rattle.program_options.specs.Usage.{usage_text}
 use Rattle.program_command.specs.declared.endings.Ending.{Ending}
-use Rattle.program_command.specs.declared.endings.Ending.TheVariants.{Done, Limit, NoRoom, TooLong, BadWord, CannotOpen, NoMacros, ReadFault, WriteFault, OutOfMemory, NeedsOthers}
+use Rattle.program_command.specs.declared.endings.Ending.TheVariants.{Done, Limit, NoRoom, TooLong, BadWord, CannotOpen, NoMacros, ReadFault, WriteFault, OutOfMemory, NeedsOthers, LeftOut, NoFolder}
+use Rattle.document_sources.specs.declared.folder.Why.{Why}
+use Rattle.document_sources.specs.declared.folder.Why.TheVariants.{Nothing, Outside, TooMany, Unreadable}
+use Rattle.document_sources.specs.declared.folder.Why.TheVariants as whys
 
 -- the status of the program
 abbrev pub status_of : Ending → ℕ
@@ -22,6 +25,8 @@ status_of (ReadFault place) = 3
 status_of WriteFault = 4
 status_of OutOfMemory = 5
 status_of NeedsOthers = 6
+status_of (LeftOut place why) = 3
+status_of (NoFolder path) = 3
 
 -- what is limited
 abbrev pub limit_text : Measure → List ℕ
@@ -31,6 +36,14 @@ limit_text LineCells = codes "line cells"
 limit_text PageCells = codes "page cells"
 limit_text Expansions = codes "expansions"
 limit_text Moves = codes "moves"
+
+-- why a text is left out
+abbrev pub why_text : Why → List ℕ
+why_text Nothing = codes "is not in the folder"
+why_text Outside = codes "is out of the folder"
+why_text whys.TooLong = codes "makes too many bytes"
+why_text Unreadable = codes "can't be read"
+why_text TooMany = codes "is one too many"
 
 -- a line of the program
 abbrev pub told : List ℕ → List ℕ → List ℕ
@@ -57,3 +70,5 @@ line_of (ReadFault place) = told_at place.name.now place.line (codes "read fault
 line_of WriteFault = told (codes "write fault") []
 line_of OutOfMemory = told (codes "out of memory") []
 line_of NeedsOthers = []
+line_of (LeftOut place why) = told_at place.name.now place.line (codes "the text that .so names ") (why_text why)
+line_of (NoFolder path) = told (codes "no folder ") path.now

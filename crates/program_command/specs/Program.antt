@@ -1,7 +1,9 @@
 -- What the program comes to over its words.
 use Rattle.std.specs.Prelude.{◌≡◌, ◌≢◌, ℕ, List, [], Bool, IsTrue, Option, None, Result, Ok, Err, ◌⊎◌, ⊤}
 use Rattle.std.specs.Io.KnownBytes.{Keeps}
+use Rattle.std.specs.Option.{option_map}
 use Rattle.nr_units.specs.Source.{Supply}
+use Rattle.document_sources.specs.Joining.{Texts}
 use Rattle.nr_command_options.specs.Inputs.{Reading, reading_of}
 use Rattle.nr_command.specs.Opening.{AreOpen, Opening, Asks, IsFirstRefused}
 use Rattle.preconv_coding.specs.declared.names.Coding.{Coding}
@@ -10,13 +12,14 @@ use Rattle.program_options.specs.Reading.{Complaint}
 use Rattle.program_plan.specs.Texts.{readings_of}
 use Rattle.program_command.specs.Running.{IsNamed, Runs, files_of, text_of}
 use Rattle.program_command.specs.declared.endings.Ending.{Ending}
-use Rattle.program_command.specs.declared.endings.Ending.TheVariants.{BadWord, CannotOpen, NoMacros, OutOfMemory, WriteFault}
+use Rattle.program_command.specs.declared.endings.Ending.TheVariants.{BadWord, CannotOpen, NoFolder, NoMacros, OutOfMemory, WriteFault}
 use Rattle.program_command.specs.declared.surroundings.Surroundings.{Surroundings}
 
 -- why a job of good words isn't run
 abbrev pub IsUnopened : Ending → Type 0
 IsUnopened (BadWord usage) = ⊤
 IsUnopened (NoMacros name) = ⊤
+IsUnopened (NoFolder path) = ⊤
 IsUnopened other = ⊥
 
 -- the ending of a run over texts that were opened
@@ -24,6 +27,7 @@ abbrev pub IsOfRun : Ending → Type 0
 IsOfRun (BadWord usage) = ⊥
 IsOfRun (CannotOpen input) = ⊥
 IsOfRun (NoMacros name) = ⊥
+IsOfRun (NoFolder path) = ⊥
 IsOfRun other = ⊤
 
 -- What was asked to be opened of these texts: the first that can't be is reported, and those before it were opened; else all of
@@ -48,6 +52,7 @@ abbrev pub IsNotRun : Ending → Type 0
 IsNotRun (BadWord usage) = ⊤
 IsNotRun (CannotOpen input) = ⊤
 IsNotRun (NoMacros name) = ⊤
+IsNotRun (NoFolder path) = ⊤
 IsNotRun OutOfMemory = ⊤
 IsNotRun other = ⊥
 
@@ -55,31 +60,34 @@ pub record EndsUnrun (ending : Ending) (held new : Option (List ℕ)) : Type 0 w
   pub unrun : IsNotRun ending
   pub kept : Keeps held new
 
--- The texts of a job were opened, each its own, and this is what the pages among them come to.
-pub record RunsOver (may_come : Reading → Opening → Type 0) (job : Asked) (around : Surroundings) (ending : Ending)
+-- The texts of a job were opened, each its own, and this is what the pages among them come to, with the texts of the folder that
+-- words name.
+pub record RunsOver (may_come : Reading → Opening → Type 0) (texts_in : List ℕ → Option Texts) (job : Asked) (around : Surroundings) (ending : Ending)
     (held new : Option (List ℕ)) : Type 0 where
   pub given : List (Option Supply)
   pub opened : AreOpen may_come (readings_of job) given
   pub coding : Option Coding
   pub named : IsNamed job.coding coding
-  pub runs : Runs job around (files_of job given) (text_of job coding given) ending held new
+  pub runs : Runs job around (files_of job given) (text_of job coding (option_map texts_in job.within) given) ending held new
 
 -- WHAT A JOB COMES TO that is to print pages: nothing goes out where it isn't run
-abbrev pub ComesTo : (Reading → Opening → Type 0) → Asked → Surroundings → Ending → Option (List ℕ) → Option (List ℕ)
-    → Type 0
-ComesTo may_come job around ending held new = EndsUnrun ending held new ⊎ RunsOver may_come job around ending held new
+abbrev pub ComesTo : (Reading → Opening → Type 0) → (List ℕ → Option Texts) → Asked → Surroundings → Ending → Option (List ℕ)
+    → Option (List ℕ) → Type 0
+ComesTo may_come texts_in job around ending held new =
+    EndsUnrun ending held new ⊎ RunsOver may_come texts_in job around ending held new
 
 -- the same of a job that may ask for the version or for help
-abbrev pub ComesToPages : (Reading → Opening → Type 0) → Asked → Surroundings → Ending → Option (List ℕ)
-    → Option (List ℕ) → Type 0
-ComesToPages may_come job around ending held new = job.plain.says ≡ None → ComesTo may_come job around ending held new
+abbrev pub ComesToPages : (Reading → Opening → Type 0) → (List ℕ → Option Texts) → Asked → Surroundings → Ending
+    → Option (List ℕ) → Option (List ℕ) → Type 0
+ComesToPages may_come texts_in job around ending held new =
+    job.plain.says ≡ None → ComesTo may_come texts_in job around ending held new
 
 -- Where a word is bad nothing is opened and nothing printed. Else the texts of the job are opened, what they come to is printed, and
 -- passed on.
-abbrev pub Comes : Result Asked Complaint → Surroundings → (Reading → Opening → Type 0) → Option (List Reading)
-    → Option (List Reading) → Type 0 → Type 0 → Option (List ℕ) → Option (List ℕ) → Bool → Ending → Type 0
-Comes (Err complaint) around may_come asked asked' unopened unprinted held held' passed_on ending =
+abbrev pub Comes : Result Asked Complaint → Surroundings → (Reading → Opening → Type 0) → (List ℕ → Option Texts)
+    → Option (List Reading) → Option (List Reading) → Type 0 → Type 0 → Option (List ℕ) → Option (List ℕ) → Bool → Ending → Type 0
+Comes (Err complaint) around may_come texts_in asked asked' unopened unprinted held held' passed_on ending =
     IsBadWord complaint ending × unopened × unprinted
-Comes (Ok job) around may_come asked asked' unopened unprinted held held' passed_on ending =
-    Opens may_come asked asked' (readings_of job) ending × ComesToPages may_come job around ending held held'
+Comes (Ok job) around may_come texts_in asked asked' unopened unprinted held held' passed_on ending =
+    Opens may_come asked asked' (readings_of job) ending × ComesToPages may_come texts_in job around ending held held'
     × (unprinted ⊎ Passes ending passed_on)

@@ -6,6 +6,7 @@ use Rattle.nr_command_options.specs.Files.{files_supply}
 use Rattle.preconv_coding.specs.UnderCoding.{coded_supply, coding_of, text_supply}
 use Rattle.preconv_coding.specs.declared.names.Coding.{Coding}
 use Rattle.nr_options.specs.declared.options.Options.{Options}
+use Rattle.document_sources.specs.Joining.{Texts, followed}
 use Rattle.document_reader.specs.Page.{breaks_off}
 use Rattle.document_printing.specs.declared.setup.Outcome.TheVariants as outcomes
 use Rattle.document_printing.specs.declared.setup.Report.{Report}
@@ -21,7 +22,7 @@ use Rattle.program_plan.specs.Texts.{macro_names}
 use Rattle.program_command.specs.Plan.{AreOptions, IsSelected, page_limits_of, plan_of}
 use Rattle.program_command.specs.Printing.{AreAllShort, Printed}
 use Rattle.program_command.specs.declared.endings.Ending.{Ending}
-use Rattle.program_command.specs.declared.endings.Ending.TheVariants.{Done, Limit, NoRoom, TooLong, ReadFault, WriteFault, OutOfMemory, NeedsOthers}
+use Rattle.program_command.specs.declared.endings.Ending.TheVariants.{Done, Limit, NoRoom, TooLong, ReadFault, WriteFault, OutOfMemory, NeedsOthers, LeftOut}
 use Rattle.program_command.specs.declared.endings.Place.{Place}
 use Rattle.program_command.specs.declared.plan.Plan.{Plan}
 use Rattle.program_command.specs.declared.running.Reading.{Reading}
@@ -40,9 +41,15 @@ pages_of job texts = drop (length (macro_names job)) texts
 abbrev pub files_of : Asked → List (Option Supply) → Option Supply
 files_of job given = files_supply (take (length (macro_names job)) given)
 
--- THE TEXT of a job
-abbrev pub text_of : Asked → Option Coding → List (Option Supply) → Option Supply
-text_of job coding given = under coding (files_supply (pages_of job given))
+-- pages, and in the places of the lines that name them the texts of a folder, where there is one: 64 lines are followed, and
+-- 64 MiB are read
+abbrev pub with_named : Option (Option Texts) → Option Supply → Option Supply
+with_named None pages = pages
+with_named (Some texts) pages = followed texts pages 8192 64 67108864
+
+-- THE TEXT of a job, with the texts of its folder, where they are known
+abbrev pub text_of : Asked → Option Coding → Option (Option Texts) → List (Option Supply) → Option Supply
+text_of job coding folder given = under coding (with_named folder (files_supply (pages_of job given)))
 
 -- ---- how its end is told
 
@@ -64,7 +71,17 @@ IsTold name report (NoRoom place) = (report.outcome ≡ outcomes.NoRoom) × IsPl
 IsTold name report TooLong = report.outcome ≡ outcomes.TooLong
 IsTold name report (ReadFault place) = (report.outcome ≡ outcomes.ReadFault) × IsPlace name report.line place
 IsTold name report WriteFault = ⊤
+IsTold name report (LeftOut place why) = (report.outcome ≡ outcomes.Done) × (place.name.now ≡ name)
 IsTold name report other = ⊥
+
+-- a text is left out
+abbrev pub IsLeftOut : List ℕ → Ending → Type 0
+IsLeftOut name (LeftOut place why) = place.name.now ≡ name
+IsLeftOut name other = ⊥
+
+-- it ended as before, or where all was printed a text was left out
+abbrev pub MayLeaveOut : List ℕ → Ending → Ending → Type 0
+MayLeaveOut name before after = (after ≡ before) ⊎ ((before ≡ Done) × IsLeftOut name after)
 
 -- A run may end so before its page: a macro file fails, memory is wanting; or the output, which was flushed, failed.
 abbrev pub IsBefore : Ending → Type 0

@@ -3,8 +3,9 @@ ghost use Rattle.std.specs.Prelude.{◌≡◌, codes};
 ghost use Rattle.nr_command_options.specs.Inputs.{macro_path, reading_of};
 ghost use Rattle.nr_command.specs.Opening.{name_of};
 ghost use Rattle.filters.specs.Endings.{Tells};
-ghost use Rattle.program_command.specs.Endings.{line_of, limit_text, placed, status_of, told, told_at};
+ghost use Rattle.program_command.specs.Endings.{line_of, limit_text, placed, status_of, told, told_at, why_text};
 
+use document_sources::Why;
 use filters::put_all;
 use itoa::Buffer;
 use nr_command_options::Input;
@@ -46,6 +47,10 @@ pub enum Ending<'a> {
     OutOfMemory,
     /// The texts ask for other programs. Nothing was printed.
     NeedsOthers,
+    /// All went out but a text that is named at that place.
+    LeftOut(Place<'a>, Why),
+    /// The folder of texts that may be named can't be found. Nothing was printed.
+    NoFolder(&'a str),
 }
 
 /// The status of an ending.
@@ -56,7 +61,11 @@ fn status(ending: Ending<'_>) -> u8
         Ending::Done => 0,
         Ending::Limit(_, _) | Ending::NoRoom(_) | Ending::TooLong => 1,
         Ending::BadWord(_) => 2,
-        Ending::CannotOpen(_) | Ending::NoMacros(_) | Ending::ReadFault(_) => 3,
+        Ending::CannotOpen(_)
+        | Ending::NoMacros(_)
+        | Ending::ReadFault(_)
+        | Ending::LeftOut(_, _)
+        | Ending::NoFolder(_) => 3,
         Ending::WriteFault => 4,
         Ending::OutOfMemory => 5,
         Ending::NeedsOthers => 6,
@@ -74,6 +83,19 @@ fn limit_text(which: Measure) -> &'static str
         Measure::PageCells => "page cells",
         Measure::Expansions => "expansions",
         Measure::Moves => "moves",
+    }
+}
+
+/// Why a text is left out.
+fn why_text(why: Why) -> &'static str
+    ensures { result.now ≡ why_text why }
+{
+    match why {
+        Why::Nothing => "is not in the folder",
+        Why::Outside => "is out of the folder",
+        Why::TooLong => "makes too many bytes",
+        Why::Unreadable => "can't be read",
+        Why::TooMany => "is one too many",
     }
 }
 
@@ -169,6 +191,10 @@ fn put_ending<E: Sink>(ending: Ending<'_>, errors: &mut E)
         Ending::CannotOpen(input) => put_unopened(input, errors),
         Ending::NoMacros(name) => put_line("no macros of the name ", name, errors),
         Ending::ReadFault(place) => put_placed(place, "read fault", "", errors),
+        Ending::LeftOut(place, why) => {
+            put_placed(place, "the text that .so names ", why_text(why), errors)
+        }
+        Ending::NoFolder(path) => put_line("no folder ", path, errors),
         Ending::WriteFault => put_line("write fault", "", errors),
         Ending::OutOfMemory => put_line("out of memory", "", errors),
     }

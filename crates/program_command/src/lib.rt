@@ -1,6 +1,6 @@
 //! The program nulbiko but for its `main`: a run through all stages, the lines that report how it ended, and its status.
 //!
-//! It stands on program_options, program_plan, nr_command, document_printing and what these stand on. To read: `endings`; `bare`, `nowhere`; `surroundings`, `plan`, `printing`, `own`, `running`, `program`.
+//! It stands on program_options, program_plan, nr_command, document_printing, document_sources and what these stand on. To read: `endings`; `bare`, `nowhere`; `surroundings`, `plan`, `printing`, `own`, `reaching`, `running`, `program`.
 #![tactic(auto)]
 
 mod bare;
@@ -10,9 +10,11 @@ mod own;
 mod plan;
 mod printing;
 mod program;
+mod reaching;
 mod running;
 mod surroundings;
 
 pub use endings::{Ending, Place};
 pub use program::{run_program, run_words};
+pub use reaching::{Reach, Reaches};
 pub use surroundings::Surroundings;

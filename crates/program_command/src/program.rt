@@ -1,5 +1,6 @@
 //! The program over its words.
 ghost use Rattle.std.specs.Prelude.{◌≡◌, ◌⊎◌, IfErr, IfOk, OnOk, map};
+ghost use Rattle.std.specs.Option.{option_map};
 ghost use Rattle.nr_command.specs.Opening.{AreOpen, Asks};
 ghost use Rattle.nr_command.specs.Program.{IsRefused};
 ghost use Rattle.nr_command_options.specs.Inputs.{readings};
@@ -15,6 +16,7 @@ ghost use Rattle.program_command.specs.Program.{Comes, ComesTo, ComesToPages, Is
 ghost use Rattle.program_command.specs.Running.{IsNamed, IsReading};
 
 use crate::endings::{Ending, tell};
+use crate::reaching::{Reach, Reaches};
 use crate::running::{Reading, run_texts};
 use crate::surroundings::Surroundings;
 use command_line::{SystemWords, words_of};
@@ -36,7 +38,7 @@ const OUTPUT_SIZE: usize = 8_192;
 /// How the program is called.
 const HELP: &[u8] = b"\
 nulbiko [-man | -mdoc | -mandoc | -ms | -me | -ml | -m NAME] [-T utf8 | latin1 | ascii] [-w CELLS] [-p] [-o PAGES]\n\
-        [-b] [--faces on | off | auto | none] [--alone] [FILE ..]\n\
+        [-b] [--faces on | off | auto | none] [--alone] [--within FOLDER] [FILE ..]\n\
 nulbiko --version | --help\n";
 
 /// Runs the program in a system: over its words, its files and these streams. Gives its status. `shows` says that the
@@ -62,11 +64,15 @@ pub fn run_program<R: Env + Files, I: Read + Copy + Drop, W: Write + Drop, E: Wr
     let output = ToWriter::over(output);
     let around = Surroundings::of(system, alloc, shows);
     let mut buffers = Vec::new(alloc);
-    let mut disk = Disk::new(Tree::new(system), input);
+    let mut reach = Reach {
+        system,
+        alloc,
+        opener: Disk::new(Tree::new(system), input),
+    };
     let (status, _) = run_words(
         &around,
         &words,
-        &mut disk,
+        &mut reach,
         &mut buffers,
         output,
         &mut errors,
@@ -96,16 +102,17 @@ fn borrowed(words: &[String], alloc: Global) -> Result<Vec<&str>, AllocError> {
 /// be is reported, those before it were opened, and none after it was asked for; or none was asked for.
 /// Proved: Where no write fault is reported, all that was printed was passed on.
 /// Proved: **What a reader gets of the program.** Where words ask for pages with what is struck over, what goes out is the
-/// document of document_printing: of the text that the opened files make one after the other, under the coding that a
-/// word or the text names, after what words set and macro files, through the stages that words or the text ask for, in the table of
+/// document of document_printing: of the text that the opened files make one after the other, where a word names a
+/// folder with the texts of it that lines `.so` name in the places of these, under the coding that a word or the text
+/// names, after what words set and macro files, through the stages that words or the text ask for, in the table of
 /// characters that `print_by_plan` chooses, for the first page, the pages, the looks and the limits of the words. Status
-/// and line report how that document ended, and the line of the text that was read last. So it is where the text and
-/// what each stage makes of it have less than 2^40 bytes; the text breaks off nowhere. (`run_words`; `ComesToPages` in
-/// Program.antt, `Runs` in Running.antt, `Printed` in Printing.antt)
+/// and line report how that document ended, and the line of the text that was read last, or the first text of the folder
+/// that was left out. So it is where the text and what each stage makes of it have less than 2^40 bytes; the text breaks
+/// off nowhere. (`run_words`; `ComesToPages` in Program.antt, `Runs` in Running.antt, `Printed` in Printing.antt)
 /// Proved: Nothing goes out where a job isn't run, where a macro file fails or memory is wanting before its page, and
 /// where texts are only checked. Where words ask not to print a text that asks for other programs, 6 tells such a text,
 /// and nothing goes out.
-pub fn run_words<'b, O: Opener<'b>, W: Sink + Drop, E: Sink>(
+pub fn run_words<'b, O: Opener<'b> + Reaches, W: Sink + Drop, E: Sink>(
     around: &Surroundings,
     words: &[&str],
     opener: &mut O,
@@ -116,8 +123,8 @@ pub fn run_words<'b, O: Opener<'b>, W: Sink + Drop, E: Sink>(
     ensures { (ending : Ending) × (result.0 ≡ status_of ending)
         × Tells (E.held errors.old) (E.held errors.new) (E.failures errors.old) (E.failures errors.new)
         (line_of ending)
-        × Comes (asked (texts words.now)) around.now (O.may_come opener.old) (O.asked opener.old) (O.asked opener.new)
-        (opener.new ≡ opener.old) (result.1 ≡ output) (W.held output) (W.held result.1) (W.passed_on result.1)
+        × Comes (asked (texts words.now)) around.now (O.may_come opener.old) (O.texts_in opener.old) (O.asked opener.old)
+        (O.asked opener.new) (opener.new ≡ opener.old) (result.1 ≡ output) (W.held output) (W.held result.1) (W.passed_on result.1)
         ending }
 {
     let (ending, output) = ending_of(around, words, opener, buffers, output);
@@ -125,15 +132,15 @@ pub fn run_words<'b, O: Opener<'b>, W: Sink + Drop, E: Sink>(
 }
 
 /// How the program ends over these words.
-fn ending_of<'a, 'b, O: Opener<'b>, W: Sink + Drop>(
+fn ending_of<'a, 'b, O: Opener<'b> + Reaches, W: Sink + Drop>(
     around: &Surroundings,
     words: &'a [&'a str],
     opener: &mut O,
     buffers: &'b mut Vec<u8>,
     output: W,
 ) -> (Ending<'a>, W)
-    ensures { Comes (asked (texts words.now)) around.now (O.may_come opener.old) (O.asked opener.old)
-        (O.asked opener.new) (opener.new ≡ opener.old) (result.1 ≡ output) (W.held output) (W.held result.1)
+    ensures { Comes (asked (texts words.now)) around.now (O.may_come opener.old) (O.texts_in opener.old)
+        (O.asked opener.old) (O.asked opener.new) (opener.new ≡ opener.old) (result.1 ≡ output) (W.held output) (W.held result.1)
         (W.passed_on result.1) result.0 }
 {
     match read_words(words) {
@@ -143,7 +150,7 @@ fn ending_of<'a, 'b, O: Opener<'b>, W: Sink + Drop>(
 }
 
 /// Runs a job.
-fn run_job<'a, 'b, O: Opener<'b>, W: Sink + Drop>(
+fn run_job<'a, 'b, O: Opener<'b> + Reaches, W: Sink + Drop>(
     around: &Surroundings,
     job: &Job<'a>,
     opener: &mut O,
@@ -152,7 +159,7 @@ fn run_job<'a, 'b, O: Opener<'b>, W: Sink + Drop>(
 ) -> (Ending<'a>, W)
     ensures opens { Opens (O.may_come opener.old) (O.asked opener.old) (O.asked opener.new)
         (readings_of (asked_of job.now)) result.0 }
-    ensures pages { ComesToPages (O.may_come opener.old) (asked_of job.now) around.now result.0 (W.held output)
+    ensures pages { ComesToPages (O.may_come opener.old) (O.texts_in opener.old) (asked_of job.now) around.now result.0 (W.held output)
         (W.held result.1) }
     ensures prints { (result.1 ≡ output) ⊎ Passes result.0 (W.passed_on result.1) }
 {
@@ -163,7 +170,7 @@ fn run_job<'a, 'b, O: Opener<'b>, W: Sink + Drop>(
 }
 
 /// Runs a job that prints pages.
-fn format_job<'a, 'b, O: Opener<'b>, W: Sink + Drop>(
+fn format_job<'a, 'b, O: Opener<'b> + Reaches, W: Sink + Drop>(
     around: &Surroundings,
     job: &Job<'a>,
     opener: &mut O,
@@ -172,12 +179,12 @@ fn format_job<'a, 'b, O: Opener<'b>, W: Sink + Drop>(
 ) -> (Ending<'a>, W)
     ensures opens { Opens (O.may_come opener.old) (O.asked opener.old) (O.asked opener.new)
         (readings_of (asked_of job.now)) result.0 }
-    ensures pages { ComesTo (O.may_come opener.old) (asked_of job.now) around.now result.0 (W.held output)
+    ensures pages { ComesTo (O.may_come opener.old) (O.texts_in opener.old) (asked_of job.now) around.now result.0 (W.held output)
         (W.held result.1) }
     ensures prints { (result.1 ≡ output) ⊎ Passes result.0 (W.passed_on result.1) }
 {
     match read_of(job) {
-        Ok(reading) => open_and_run(around, job, reading, opener, buffers, output),
+        Ok(reading) => find_and_run(around, job, reading, opener, buffers, output),
         Err(ending) => (ending, output),
     }
 }
@@ -262,8 +269,8 @@ fn coding_of<'a>(job: &Job<'a>) -> Result<Option<Coding>, Usage<'a>>
     }
 }
 
-/// Opens the texts of a job, and runs it.
-fn open_and_run<'a, 'b, O: Opener<'b>, W: Sink + Drop>(
+/// Finds the folder that words name, and runs a job.
+fn find_and_run<'a, 'b, O: Opener<'b> + Reaches, W: Sink + Drop>(
     around: &Surroundings,
     job: &Job<'a>,
     reading: Reading,
@@ -274,17 +281,57 @@ fn open_and_run<'a, 'b, O: Opener<'b>, W: Sink + Drop>(
     requires { IsReading (asked_of job.now) reading }
     ensures opens { Opens (O.may_come opener.old) (O.asked opener.old) (O.asked opener.new)
         (readings_of (asked_of job.now)) result.0 }
-    ensures pages { ComesTo (O.may_come opener.old) (asked_of job.now) around.now result.0 (W.held output)
+    ensures pages { ComesTo (O.may_come opener.old) (O.texts_in opener.old) (asked_of job.now) around.now result.0
+        (W.held output) (W.held result.1) }
+    ensures prints { (result.1 ≡ output) ⊎ Passes result.0 (W.passed_on result.1) }
+{
+    match folder_of(job, opener) {
+        Ok(folder) => open_and_run(around, job, (reading, folder), opener, buffers, output),
+        Err(ending) => (ending, output),
+    }
+}
+
+/// Opens the texts of a job, and runs it.
+fn open_and_run<'a, 'b, O: Opener<'b> + Reaches, W: Sink + Drop>(
+    around: &Surroundings,
+    job: &Job<'a>,
+    with: (Reading, Option<O::Folder>),
+    opener: &mut O,
+    buffers: &'b mut Vec<u8>,
+    output: W,
+) -> (Ending<'a>, W)
+    requires reading { IsReading (asked_of job.now) with.0 }
+    requires folder { option_map O.Folder.texts with.1
+        ≡ option_map (O.texts_in opener.old) (asked_of job.now).within }
+    ensures opens { Opens (O.may_come opener.old) (O.asked opener.old) (O.asked opener.new)
+        (readings_of (asked_of job.now)) result.0 }
+    ensures pages { ComesTo (O.may_come opener.old) (O.texts_in opener.old) (asked_of job.now) around.now result.0 (W.held output)
         (W.held result.1) }
     ensures prints { (result.1 ≡ output) ⊎ Passes result.0 (W.passed_on result.1) }
 {
     let texts = texts_of(job);
+    let (reading, folder) = with;
     match open_all(&texts, around.alloc, opener, buffers) {
-        Ok(mut opened) => run_texts(job, reading, around, &mut opened, output),
+        Ok(mut opened) => run_texts(job, reading, around, &mut opened, folder, output),
         Err(why) => match why {
             NotRun::CannotOpen(input) => (Ending::CannotOpen(input), output),
             NotRun::OutOfMemory => (Ending::OutOfMemory, output),
         },
+    }
+}
+
+/// The folder whose texts the pages of a job may name, if words name one.
+fn folder_of<'a, O: Reaches>(job: &Job<'a>, opener: &O) -> Result<Option<O::Folder>, Ending<'a>>
+    ensures folder { IfOk result (λ folder. option_map O.Folder.texts folder
+        ≡ option_map (O.texts_in opener.now) (asked_of job.now).within) }
+    ensures unopened { IfErr result IsUnopened }
+{
+    let Some(path) = job.within else {
+        return Ok(None);
+    };
+    match opener.folder(path) {
+        Ok(folder) => Ok(Some(folder)),
+        Err(_) => Err(Ending::NoFolder(path)),
     }
 }
 

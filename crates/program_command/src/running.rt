@@ -1,6 +1,7 @@
 //! A run over texts that are open.
 ghost use Rattle.std.specs.Prelude.{◌≡◌, ◌++◌, IfErr, IfOk, IfSome, Some, length, map, true};
 ghost use Rattle.nr_units.specs.Source.{Supply};
+ghost use Rattle.std.specs.Option.{option_map};
 ghost use Rattle.nr_command_options.specs.Files.{files_supply};
 ghost use Rattle.program_options.specs.Job.{asked_of};
 ghost use Rattle.program_plan.specs.Kinds.{is_manual};
@@ -8,7 +9,7 @@ ghost use Rattle.program_plan.specs.Macros.{macros_of};
 ghost use Rattle.program_plan.specs.Texts.{macro_names};
 ghost use Rattle.program_command.specs.Plan.{AreOptions, IsSelected, plan_of};
 ghost use Rattle.program_command.specs.Program.{IsOfRun, Passes};
-ghost use Rattle.program_command.specs.Running.{AreMacros, FrontGives, IsReading, IsTold, Runs, files_of, first_of, is_for_others, text_of, under};
+ghost use Rattle.program_command.specs.Running.{AreMacros, FrontGives, IsReading, IsTold, Runs, files_of, first_of, is_for_others, text_of, under, with_named, MayLeaveOut};
 
 use crate::endings::{Ending, Place};
 use crate::own::print_by_plan;
@@ -16,6 +17,7 @@ use crate::plan::{LOOKED_AT, MORE_LOOKED_AT, Plan, limits_of, options_of, plan_o
 use crate::printing::Means;
 use crate::surroundings::Surroundings;
 use document_printing::{Front, Outcome, Report, hold};
+use document_sources::{Folder, Joining, LeftOut, Limits, Told};
 use nr_command_options::chain;
 use nr_engine::{CountedAlloc, Desk, Options, Sink, Source};
 use nr_page::Select;
@@ -24,6 +26,15 @@ use program_options::Job;
 use program_plan::{asks_for_others, is_manual, macros_of, text_before};
 use std::alloc::AllocError;
 use utf8_own_page::may_need_own;
+
+/// The bytes of the longest line that names a text, and one more: a path of Linux has 4,095 at most.
+const LONGEST_LINE: usize = 8_192;
+
+/// How much is followed of lines that name texts: 64 of them, and 64 MiB.
+const FOLLOWED: Limits = Limits {
+    files: 64,
+    bytes: 67_108_864,
+};
 
 /// What of a job's texts is read, and what of their pages goes out.
 #[derive(Drop)]
@@ -74,24 +85,27 @@ fn macro_count(job: &Job<'_>) -> usize
     }
 }
 
-/// Runs a job over its texts, and flushes the output, after a fault too. Gives the output back.
-pub(crate) fn run_texts<'a, T: Source + Drop, W: Sink + Drop>(
+/// Runs a job over its texts, and flushes the output, after a fault too. Where there is a folder the pages may name texts of it.
+/// Gives the output back.
+pub(crate) fn run_texts<'a, T: Source + Drop, F: Folder + Drop, W: Sink + Drop>(
     job: &Job<'a>,
     reading: Reading,
     around: &Surroundings,
     texts: &mut [T],
+    folder: Option<F>,
     output: W,
 ) -> (Ending<'a>, W)
     requires { IsReading (asked_of job.now) reading }
     ensures run { IsOfRun result.0 }
     ensures runs { Runs (asked_of job.now) around.now (files_of (asked_of job.now) (map T.supply texts.old))
-        (text_of (asked_of job.now) reading.coding (map T.supply texts.old))
+        (text_of (asked_of job.now) reading.coding (option_map F.texts folder) (map T.supply texts.old))
         result.0 (W.held output) (W.held result.1) }
     ensures passed_on { Passes result.0 (W.passed_on result.1) }
 {
     let count = macro_count(job).min(texts.len());
     let (macros, pages) = texts.split_at_mut(count);
-    let (mut output, ran) = run_all(job, reading, around, macros, pages, output);
+    let pages = chain(pages);
+    let (mut output, ran) = run_pages(job, reading, around, macros, (pages, folder), output);
     let ending = settled(ran);
     match output.flush() {
         Ok(()) => (ending, output),
@@ -110,26 +124,98 @@ fn settled<'a>(ran: Result<Ending<'a>, AllocError>) -> Ending<'a>
     }
 }
 
-/// Runs a job over its texts, macro files first. `AllocError` where there was not enough memory: then nothing is printed.
-fn run_all<'a, T: Source + Drop, W: Sink + Drop>(
+/// Runs a job over macro files and pages, which may name texts of a folder where there is one.
+fn run_pages<'a, T: Source + Drop, S: Source + Drop, F: Folder + Drop, W: Sink + Drop>(
     job: &Job<'a>,
     reading: Reading,
     around: &Surroundings,
     macros: &mut [T],
-    pages: &mut [T],
+    within: (S, Option<F>),
     output: W,
 ) -> (W, Result<Ending<'a>, AllocError>)
     requires { IsReading (asked_of job.now) reading }
     ensures run { IfOk result.1 IsOfRun }
     ensures runs { IfOk result.1 (λ ending. Runs (asked_of job.now) around.now (files_supply (map T.supply macros.old))
-        (under reading.coding (files_supply (map T.supply pages.old))) ending (W.held output) (W.held result.0)) }
+        (under reading.coding (with_named (option_map F.texts within.1) (S.supply within.0))) ending (W.held output)
+        (W.held result.0)) }
+    ensures unprinted { IfErr result.1 (λ _. result.0 ≡ output) }
+{
+    let (pages, folder) = within;
+    match folder {
+        None => run_all(job, reading, around, macros, pages, output),
+        Some(folder) => run_within(job, reading, around, macros, (pages, folder), output),
+    }
+}
+
+/// The same where there is a folder.
+fn run_within<'a, T: Source + Drop, S: Source + Drop, F: Folder + Drop, W: Sink + Drop>(
+    job: &Job<'a>,
+    reading: Reading,
+    around: &Surroundings,
+    macros: &mut [T],
+    within: (S, F),
+    output: W,
+) -> (W, Result<Ending<'a>, AllocError>)
+    requires { IsReading (asked_of job.now) reading }
+    ensures run { IfOk result.1 IsOfRun }
+    ensures runs { IfOk result.1 (λ ending. Runs (asked_of job.now) around.now (files_supply (map T.supply macros.old))
+        (under reading.coding (with_named (Some (F.texts within.1)) (S.supply within.0))) ending (W.held output)
+        (W.held result.0)) }
+    ensures unprinted { IfErr result.1 (λ _. result.0 ≡ output) }
+{
+    let (pages, folder) = within;
+    let Ok(mut room) = vec![in around.alloc; 0u8; LONGEST_LINE] else {
+        return (output, Err(AllocError));
+    };
+    let mut first = None;
+    let told = Told::over(&mut first);
+    let pages = Joining::over(pages, folder, FOLLOWED, &mut room, told, around.alloc);
+    let (output, ran) = run_all(job, reading, around, macros, pages, output);
+    match ran {
+        Ok(ending) => (output, Ok(with_left_out(ending, first_name(job), first))),
+        Err(error) => (output, Err(error)),
+    }
+}
+
+/// How a run ended of which a text was left out, or none.
+fn with_left_out<'a>(ending: Ending<'a>, name: &'a str, first: Option<LeftOut>) -> Ending<'a>
+    ensures { MayLeaveOut name.entry.now ending.entry result }
+{
+    let Some(left) = first else {
+        return ending;
+    };
+    match ending {
+        Ending::Done => {
+            let place = Place {
+                name,
+                line: left.line,
+            };
+            Ending::LeftOut(place, left.why)
+        }
+        other => other,
+    }
+}
+
+/// Runs a job over its texts, macro files first. `AllocError` where there was not enough memory: then nothing is printed.
+fn run_all<'a, T: Source + Drop, S: Source + Drop, W: Sink + Drop>(
+    job: &Job<'a>,
+    reading: Reading,
+    around: &Surroundings,
+    macros: &mut [T],
+    pages: S,
+    output: W,
+) -> (W, Result<Ending<'a>, AllocError>)
+    requires { IsReading (asked_of job.now) reading }
+    ensures run { IfOk result.1 IsOfRun }
+    ensures runs { IfOk result.1 (λ ending. Runs (asked_of job.now) around.now (files_supply (map T.supply macros.old))
+        (under reading.coding (S.supply pages)) ending (W.held output) (W.held result.0)) }
     ensures unprinted { IfErr result.1 (λ _. result.0 ≡ output) }
 {
     let Reading { select, coding } = reading;
     let Ok(mut room) = vec![in around.alloc; 0u8; LOOKED_AT] else {
         return (output, Err(AllocError));
     };
-    let front = hold(under_coding(chain(pages), coding), &mut room);
+    let front = hold(under_coding(pages, coding), &mut room);
     let first = front.first();
     if is_for_others(job, first) {
         return (output, Ok(Ending::NeedsOthers));

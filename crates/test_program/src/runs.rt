@@ -14,7 +14,7 @@ struct Row {
     line: &'static [u8],
 }
 
-static TEXTS: [(&str, Page<'static>); 6] = [
+static TEXTS: [(&str, Page<'static>); 12] = [
     ("one", Page::Bytes(b"one\n.br\ntwo")),
     ("-i", Page::Bytes(b".br\nthree")),
     (
@@ -27,10 +27,19 @@ static TEXTS: [(&str, Page<'static>); 6] = [
     ),
     ("lib/tmac.line", Page::Bytes(b".ll 20")),
     ("lib/tmac.page", Page::Bytes(b".pl 1")),
+    ("man/man1/b.1", Page::Bytes(b"b\n")),
+    (
+        "man/man1/c.1",
+        Page::Bytes(b"c\n'\tso  man1/b.1 and no more\nd"),
+    ),
+    ("man/man1/round.1", Page::Bytes(b".so man1/round.1\n")),
+    ("man/man1/latin.1", Page::Bytes(b"n\xe9e\n")),
+    ("man/man1/cut.1", Page::Cut(b"cut\n")),
+    ("man/man1/out.1", Page::Link("one")),
 ];
 
 /// What is formatted.
-static PRINTED: [Row; 16] = [
+static PRINTED: [Row; 19] = [
     Row {
         words: &[b"nulbiko"],
         input: b".pl 2\n.ll 8\na bb ccc dddd\n",
@@ -148,6 +157,29 @@ here              today              A(1)\n",
         status: 0,
         line: b"",
     },
+    // texts of a folder that a page names, which name others; read as the page is
+    Row {
+        words: &[b"nulbiko", b"--within", b"man"],
+        input: b".pl 1\na\n.so man1/c.1\ne\n.so man1/b.1",
+        output: b"a c b d e b\n",
+        status: 0,
+        line: b"",
+    },
+    Row {
+        words: &[b"nulbiko", b"--within=man/", b"--alone", b"-Tutf8"],
+        input: b".pl 1\n.so man1/latin.1\n",
+        output: b"n\xc3\xa9e\n",
+        status: 0,
+        line: b"",
+    },
+    // no line of the text: behind what is no line's beginning, and with no name
+    Row {
+        words: &[b"nulbiko", b"--within=man"],
+        input: b".pl 1\na .so man1/b.1\n.so\n.sox man1/b.1\n",
+        output: b"a .so man1/b.1\n",
+        status: 0,
+        line: b"",
+    },
     Row {
         words: &[b"nulbiko", b"--version"],
         input: b"",
@@ -158,7 +190,7 @@ here              today              A(1)\n",
 ];
 
 /// What is reported.
-static REPORTED: [Row; 10] = [
+static REPORTED: [Row; 16] = [
     Row {
         words: &[b"nulbiko", b"-c", b"-V", b"-y"],
         input: b".pl 1\na\n",
@@ -215,6 +247,49 @@ static REPORTED: [Row; 10] = [
         output: b"",
         status: 6,
         line: b"",
+    },
+    // texts that are left out
+    Row {
+        words: &[b"nulbiko", b"--within=man"],
+        input: b".pl 1\na\n.so man1/no.1\nb\n.so man1/../../one\n",
+        output: b"a b\n",
+        status: 3,
+        line: b"nulbiko: -:3: the text that .so names is not in the folder\n",
+    },
+    Row {
+        words: &[b"nulbiko", b"--within=man"],
+        input: b".pl 1\na\n.so man1/../../one\nb\n",
+        output: b"a b\n",
+        status: 3,
+        line: b"nulbiko: -:3: the text that .so names is out of the folder\n",
+    },
+    Row {
+        words: &[b"nulbiko", b"--within=man"],
+        input: b".pl 1\n.so man1/b.1\n.so man1/out.1\n.so one\n.so /one\n",
+        output: b"b\n",
+        status: 3,
+        line: b"nulbiko: -:3: the text that .so names is out of the folder\n",
+    },
+    Row {
+        words: &[b"nulbiko", b"--within=man"],
+        input: b".pl 1\n.so man1/round.1\na\n",
+        output: b"a\n",
+        status: 3,
+        line: b"nulbiko: -:2: the text that .so names is one too many\n",
+    },
+    Row {
+        words: &[b"nulbiko", b"--within=man"],
+        input: b".pl 1\na\n.so man1/cut.1\n",
+        output: b"a\n",
+        status: 3,
+        line: b"nulbiko: -:3: the text that .so names can't be read\n",
+    },
+    Row {
+        words: &[b"nulbiko", b"--within=nowhere"],
+        input: b".pl 1\na\n",
+        output: b"",
+        status: 3,
+        line: b"nulbiko: no folder nowhere\n",
     },
     Row {
         words: &[b"nulbiko", b"-Kmorse", b"one"],

@@ -7,3 +7,8 @@ use crate::rt::Files;
 pub fn open<R: Files>(files: &R, path: &str) -> io::Result<R::File> {
     files.open(path)
 }
+
+/// What is known of the file of a path.
+pub fn metadata<R: Files>(files: &R, path: &str) -> io::Result<std::fs::Metadata> {
+    files.metadata(path)
+}

@@ -10,6 +10,7 @@ mod boxed;
 pub mod env;
 pub mod fs;
 pub mod io;
+pub mod path;
 pub mod process;
 pub mod rt;
 pub mod snapshot;

@@ -3,9 +3,10 @@
 
 use crate::alloc::Global;
 use crate::env::FillError;
-use crate::io::{IsTerminal, Read, Result, Write};
+use crate::io::{Error, ErrorKind, IsTerminal, Read, Result, Write};
+use crate::path::PathBuf;
 use std::ffi::{CStr, c_char};
-use std::fs::File;
+use std::fs::{File, Metadata};
 use std::mem::ManuallyDrop;
 #[cfg(unix)]
 use std::os::fd::FromRawFd;
@@ -26,6 +27,12 @@ pub trait Files {
 
     /// Opens a file to read it.
     fn open(&self, path: &str) -> Result<Self::File>;
+
+    /// What is known of the file of a path.
+    fn metadata(&self, path: &str) -> Result<Metadata>;
+
+    /// Where a path leads, all links followed.
+    fn canonicalize(&self, alloc: Global, path: &str) -> Result<PathBuf>;
 }
 
 /// The system.
@@ -91,6 +98,16 @@ impl Files for HostRuntime {
 
     fn open(&self, path: &str) -> Result<File> {
         File::open(path)
+    }
+
+    fn metadata(&self, path: &str) -> Result<Metadata> {
+        std::fs::metadata(path)
+    }
+
+    fn canonicalize(&self, alloc: Global, path: &str) -> Result<PathBuf> {
+        let path = std::fs::canonicalize(path)?;
+        let text = path.to_str().ok_or(Error::from(ErrorKind::InvalidData))?;
+        PathBuf::from_str(alloc, text)
     }
 }
 

@@ -8,6 +8,25 @@ use std::ops::Deref;
 pub struct String(std::string::String);
 
 impl String {
+    /// An empty text.
+    pub fn new(_alloc: Global) -> Self {
+        String(std::string::String::new())
+    }
+
+    /// A text like this one.
+    pub fn from_str(alloc: Global, text: &str) -> Result<Self, AllocError> {
+        let mut made = String::new(alloc);
+        made.push_str(text)?;
+        Ok(made)
+    }
+
+    /// Adds a text at the end, or nothing.
+    pub fn push_str(&mut self, text: &str) -> Result<(), AllocError> {
+        self.0.try_reserve(text.len())?;
+        self.0.push_str(text);
+        Ok(())
+    }
+
     /// A text of these bytes, in which what is no UTF-8 is U+FFFD.
     pub fn from_utf8_lossy(_alloc: Global, bytes: &[u8]) -> Result<Self, AllocError> {
         let mut text = std::string::String::new();

@@ -25,6 +25,12 @@ returns-in-NoMacros g c = Tells-at _ _ _ _ _ _ c.in-NoMacros.is c.put_line-in-No
 pub returns-in-ReadFault : goal.returns-in-ReadFault
 returns-in-ReadFault g c = Tells-at _ _ _ _ _ _ c.in-ReadFault.is c.put_placed-in-ReadFault.ensures
 
+pub returns-in-LeftOut : goal.returns-in-LeftOut
+returns-in-LeftOut g c = Tells-at _ _ _ _ _ _ c.in-LeftOut.is (rw c.why_text.ensures at c.put_placed-in-LeftOut.ensures)
+
+pub returns-in-NoFolder : goal.returns-in-NoFolder
+returns-in-NoFolder g c = Tells-at _ _ _ _ _ _ c.in-NoFolder.is c.put_line-in-NoFolder.ensures
+
 pub returns-in-WriteFault : goal.returns-in-WriteFault
 returns-in-WriteFault g c = Tells-at _ _ _ _ _ _ c.in-WriteFault.is c.put_line-in-WriteFault.ensures
 
