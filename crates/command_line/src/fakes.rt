@@ -137,6 +137,7 @@ impl<'a> Files for System<'a> {
     }
 
     fn canonicalize<B: Allocator>(&self, alloc: B, path: &str) -> io::Result<PathBuf<B>> {
+        let path = path.strip_suffix('/').unwrap_or(path);
         let path = match self.page(path) {
             Some(Page::Link(to)) => to,
             Some(_) => path,
