@@ -1,3 +1,4 @@
+pub mod After
 pub mod Joining
 pub mod Opening
 pub mod Runs

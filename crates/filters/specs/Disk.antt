@@ -1,12 +1,12 @@
 -- The texts of a system, by their names.
-use Rattle.std.specs.Prelude.{◌≡◌, ℕ, List, [], ◌∷◌, ◌++◌, Bool, true, false, Option, None, Some, Result, Ok, Err, ⊤, codes}
+use Rattle.std.specs.Prelude.{◌≡◌, ℕ, List, [], ◌∷◌, ◌++◌, Bool, true, false, Option, None, Some, Result, Ok, Err, ⊤, ◌⊎◌, codes}
 use Rattle.std.specs.List.{AllZip}
 use Rattle.std.specs.Str.{bytes_eq}
 use Rattle.filters.specs.declared.disk.Stream.{Stream}
 use Rattle.filters.specs.declared.disk.Stream.TheVariants.{File, Standard}
 use Rattle.filters.specs.declared.disk.Text.{Text}
 use Rattle.filters.specs.declared.endings.Ending.{Ending}
-use Rattle.filters.specs.declared.endings.Ending.TheVariants.{CannotOpen, OutOfMemory}
+use Rattle.filters.specs.declared.endings.Ending.TheVariants.{CannotOpen, CannotRead, OutOfMemory}
 
 -- the bytes that are left to be read, where they are known
 abbrev pub left_of :
@@ -105,3 +105,18 @@ AreUnread may_come asked asked' names (CannotOpen name) =
     IsFirstRefused may_come asked asked' names name.now
 AreUnread may_come asked asked' names OutOfMemory = Asks asked asked' []
 AreUnread may_come asked asked' names ending = ⊥
+
+-- ---- a text that is looked at
+
+-- before the text of this name was opened, or after it
+abbrev pub AsksOrNot : Option (List (List ℕ)) → Option (List (List ℕ)) → List ℕ → Type 0
+AsksOrNot asked asked' name = Asks asked asked' [] ⊎ Asks asked asked' (paths_of name)
+
+-- why it was not looked at: it can't be opened or read, or there was not enough memory
+abbrev pub IsUnlooked : (List ℕ → Opening → Type 0) → Option (List (List ℕ)) → Option (List (List ℕ)) → List ℕ
+    → Ending → Type 0
+IsUnlooked may_come asked asked' name (CannotOpen reported) =
+    (reported.now ≡ name) × may_come name Refuses × Asks asked asked' (paths_of name)
+IsUnlooked may_come asked asked' name (CannotRead reported) = (reported.now ≡ name) × Asks asked asked' (paths_of name)
+IsUnlooked may_come asked asked' name OutOfMemory = AsksOrNot asked asked' name
+IsUnlooked may_come asked asked' name ending = ⊥

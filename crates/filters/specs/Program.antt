@@ -1,9 +1,9 @@
 -- What a program comes to over its words.
-use Rattle.std.specs.Prelude.{◌≡◌, ℕ, List, [], Bool, true, false, IsTrue, Option, None, Some, ⊤}
+use Rattle.std.specs.Prelude.{◌≡◌, ℕ, List, [], Bool, true, false, IsTrue, Option, None, Some, ◌⊎◌}
 use Rattle.std.specs.Io.KnownBytes.{Appends}
 use Rattle.nr_units.specs.Failures.{SinkFailures}
 use Rattle.nr_units.specs.Sink.{AppendsFront}
-use Rattle.filters.specs.Disk.{AreOpened, AreUnread, Asks, Opened, Opening, Opens, Refuses, all_paths, named, paths_of}
+use Rattle.filters.specs.Disk.{AreOpened, AreUnread, Asks, IsUnlooked, Opened, Opening, Opens, all_paths, named, paths_of}
 use Rattle.filters.specs.Endings.{Tells, line_of, status_of}
 use Rattle.filters.specs.Turning.{Filter, Ran}
 use Rattle.filters.specs.declared.endings.Ending.{Ending}
@@ -13,8 +13,10 @@ use Rattle.filters.specs.declared.endings.Ending.TheVariants.{Done, WriteFault, 
 pub data Job : Type 0 where
   -- the texts of these names are turned, or standard input where there is none
   TurnsTexts : Filter → List (List ℕ) → Job
-  -- this is printed of the text of this name
-  Answers : (List ℕ → List ℕ) → List ℕ → Job
+  -- a text is looked at first, and then the texts of these names are turned
+  TurnsAfter : Opened → Filter → List (List ℕ) → Job
+  -- this is printed of a text
+  Answers : Opened → List ℕ → Job
   -- this is printed
   Prints : List ℕ → Job
   -- a word is bad: what is wrong, and the word, if it is one
@@ -52,31 +54,44 @@ Puts line held new passed_on Done = Appends held new line × IsTrue passed_on
 Puts line held new passed_on WriteFault = AppendsFront held new line
 Puts line held new passed_on ending = ⊥
 
--- what is printed of a text, where it is known
-abbrev pub PutsOf : (List ℕ → List ℕ) → Option (List ℕ) → Option (List ℕ) → Option (List ℕ) → Bool → Ending → Type 0
-PutsOf line None held new passed_on ending = ⊤
-PutsOf line (Some text) held new passed_on ending = Puts (line text) held new passed_on ending
+-- ---- a text that is looked at
 
--- a text was opened, and this was printed of it
-pub record IsAnswered (may_come : List ℕ → Opening → Type 0) (held new : Option (List ℕ)) (passed_on : Bool)
-    (line : List ℕ → List ℕ) (name : List ℕ) (ending : Ending) : Type 0 where
-  pub left : Option (List ℕ)
-  pub opened : may_come name (Opens left)
-  pub puts : PutsOf line left held new passed_on ending
+-- the text can't be opened or read, or there was not enough memory; nothing went out
+pub record IsUnread (may_come : List ℕ → Opening → Type 0) (asked asked' : Option (List (List ℕ)))
+    (held new : Option (List ℕ)) (writes writes' : SinkFailures) (name : List ℕ) (ending : Ending) : Type 0 where
+  pub unlooked : IsUnlooked may_come asked asked' name ending
+  pub silent : IsSilent held new writes writes'
 
--- the text can't be opened or read, there was not enough memory, or it was answered
-abbrev pub AnswersName : (List ℕ → Opening → Type 0) → Option (List (List ℕ)) → Option (List (List ℕ))
-    → Option (List ℕ) → Option (List ℕ) → SinkFailures → SinkFailures → Bool → (List ℕ → List ℕ) → List ℕ
+-- it was opened, and this was printed of it
+pub record IsAnswered (may_come : List ℕ → Opening → Type 0) (asked asked' : Option (List (List ℕ)))
+    (held new : Option (List ℕ)) (passed_on : Bool) (text : Opened) (line : List ℕ) (ending : Ending) : Type 0 where
+  pub opened : may_come text.name (Opens text.left)
+  pub asks : Asks asked asked' (paths_of text.name)
+  pub puts : Puts line held new passed_on ending
+
+abbrev pub AnswersText : (List ℕ → Opening → Type 0) → Option (List (List ℕ)) → Option (List (List ℕ))
+    → Option (List ℕ) → Option (List ℕ) → SinkFailures → SinkFailures → Bool → Opened → List ℕ → Ending → Type 0
+AnswersText may_come asked asked' held new writes writes' passed_on text line ending =
+    IsUnread may_come asked asked' held new writes writes' text.name ending
+    ⊎ IsAnswered may_come asked asked' held new passed_on text line ending
+
+-- it was opened before the texts of these names, and these were turned
+pub record IsTurnedAfter (may_come : List ℕ → Opening → Type 0) (asked asked' : Option (List (List ℕ)))
+    (held new : Option (List ℕ)) (writes writes' : SinkFailures) (passed_on : Bool) (text : Opened) (f : Filter)
+    (names : List (List ℕ)) (ending : Ending) : Type 0 where
+  pub opened : may_come text.name (Opens text.left)
+  pub between : Option (List (List ℕ))
+  pub asks : Asks asked between (paths_of text.name)
+  pub turns : TurnsNames may_come between asked' held new writes writes' passed_on f names ending
+
+abbrev pub TurnsAfterText : (List ℕ → Opening → Type 0) → Option (List (List ℕ)) → Option (List (List ℕ))
+    → Option (List ℕ) → Option (List ℕ) → SinkFailures → SinkFailures → Bool → Opened → Filter → List (List ℕ)
     → Ending → Type 0
-AnswersName may_come asked asked' held new writes writes' passed_on line name (CannotOpen reported) =
-    (reported.now ≡ name) × may_come name Refuses × Asks asked asked' (paths_of name)
-    × IsSilent held new writes writes'
-AnswersName may_come asked asked' held new writes writes' passed_on line name (CannotRead reported) =
-    (reported.now ≡ name) × Asks asked asked' (paths_of name) × IsSilent held new writes writes'
-AnswersName may_come asked asked' held new writes writes' passed_on line name OutOfMemory =
-    Asks asked asked' [] × IsSilent held new writes writes'
-AnswersName may_come asked asked' held new writes writes' passed_on line name ending =
-    IsAnswered may_come held new passed_on line name ending × Asks asked asked' (paths_of name)
+TurnsAfterText may_come asked asked' held new writes writes' passed_on text f names ending =
+    IsUnread may_come asked asked' held new writes writes' text.name ending
+    ⊎ IsTurnedAfter may_come asked asked' held new writes writes' passed_on text f names ending
+
+-- ---- a bad word
 
 -- what is wrong with a word is reported, and the word
 abbrev pub IsReportedWord : List ℕ → List ℕ → Ending → Type 0
@@ -90,8 +105,10 @@ abbrev pub Comes : (List ℕ → Opening → Type 0) → Option (List (List ℕ)
     → Option (List ℕ) → Option (List ℕ) → SinkFailures → SinkFailures → Bool → Job → Ending → Type 0
 Comes may_come asked asked' held new writes writes' passed_on (TurnsTexts f names) ending =
     TurnsNames may_come asked asked' held new writes writes' passed_on f names ending
-Comes may_come asked asked' held new writes writes' passed_on (Answers line name) ending =
-    AnswersName may_come asked asked' held new writes writes' passed_on line name ending
+Comes may_come asked asked' held new writes writes' passed_on (TurnsAfter text f names) ending =
+    TurnsAfterText may_come asked asked' held new writes writes' passed_on text f names ending
+Comes may_come asked asked' held new writes writes' passed_on (Answers text line) ending =
+    AnswersText may_come asked asked' held new writes writes' passed_on text line ending
 Comes may_come asked asked' held new writes writes' passed_on (Prints line) ending =
     Asks asked asked' [] × Puts line held new passed_on ending
 Comes may_come asked asked' held new writes writes' passed_on (IsBad what word) ending =

@@ -1,1 +1,4 @@
+pub mod Owning
+pub mod Parts
+pub mod Running
 pub mod Turns

@@ -5,14 +5,20 @@ use Rattle.std.specs.Io.KnownBytes.{Appends}
 use Rattle.nr_units.specs.Sink.{AppendsFront}
 use Rattle.preconv_coding.specs.UnderCoding as coding
 use Rattle.preconv_converter.specs.Reading.{converted, fed, first_reader}
-use Rattle.preconv_converter.specs.Targets.{target_of}
 use Rattle.preconv_converter.specs.declared.target.Target.{Target}
+use Rattle.preconv_converter.specs.declared.target.Target.TheVariants.{Ascii, Bytes, Utf8}
 use Rattle.preconv_converter.specs.declared.running.Outcome.{Outcome}
 use Rattle.preconv_converter.specs.declared.running.Outcome.TheVariants as outcomes
+use Rattle.utf8_own_characters.specs.Table.{Characters}
+use Rattle.utf8_own_stage.specs.Coding.{coded_text}
 use Rattle.filters.specs.Program as programs
 use Rattle.filters.specs.Turning.{Filter, MayEnd}
 use Rattle.filters.specs.declared.endings.Ending.{Ending}
 use Rattle.filters.specs.declared.endings.Ending.TheVariants.{Done, Complained, TooLong, ReadFault, WriteFault, BadWord, CannotOpen, CannotRead, OutOfMemory}
+use Rattle.filters_own.specs.declared.names.Named.{Named}
+use Rattle.filters_own.specs.declared.names.Named.TheVariants.{Fixed, Own}
+use Rattle.filters_own.specs.Looking.{AsksForOwn}
+use Rattle.filters_own.specs.Names.{file_at}
 use Rattle.preconv_command.specs.declared.arguments.Job.{Job}
 use Rattle.preconv_command.specs.declared.arguments.Wrong.{Wrong}
 use Rattle.preconv_command.specs.declared.arguments.Wrong.TheVariants.{UnknownOption, UnknownTable, NoTable}
@@ -23,6 +29,17 @@ preconv target = record {
   text_of = coding.text_of;
   whole = converted target;
   begun = λ text. (fed (first_reader target) text).bytes;
+  may_end_line = true;
+  complains = λ text. None;
+  is_naming = true;
+}
+
+-- The same, where each letter with its marks becomes its bytes in a page's own table, or what it looks like.
+abbrev pub own : Characters → Filter
+own table = record {
+  text_of = coding.text_of;
+  whole = λ text. coded_text table true (converted Utf8 text);
+  begun = λ text. coded_text table false (fed (first_reader Utf8) text).bytes;
   may_end_line = true;
   complains = λ text. None;
   is_naming = true;
@@ -39,10 +56,16 @@ word_of words (UnknownOption place) = get_or words place []
 word_of words (UnknownTable place) = get_or words place []
 word_of words NoTable = []
 
--- the files are turned, or a word is bad
-abbrev pub job_of : List (List ℕ) → Result Job Wrong → programs.Job
-job_of words (Ok job) = programs.TurnsTexts (preconv (target_of job.table)) (drop job.files words)
-job_of words (Err wrong) = programs.IsBad (what_of wrong) (word_of words wrong)
+-- the files are turned, by the last table that is named
+abbrev pub AsksBy : Option Named → List (List ℕ) → ℕ → programs.Job → Type 0
+AsksBy None words files job = job ≡ programs.TurnsTexts (preconv Ascii) (drop files words)
+AsksBy (Some (Fixed table)) words files job = job ≡ programs.TurnsTexts (preconv (Bytes table)) (drop files words)
+AsksBy (Some (Own place)) words files job = AsksForOwn own (file_at words place) (drop files words) job
+
+-- or a word is bad
+abbrev pub AsksFor : List (List ℕ) → Result Job Wrong → programs.Job → Type 0
+AsksFor words (Ok asked) job = AsksBy asked.table words asked.files job
+AsksFor words (Err wrong) job = job ≡ programs.IsBad (what_of wrong) (word_of words wrong)
 
 -- ---- the end of a text
 

@@ -4,13 +4,14 @@ ghost use Rattle.filters.specs.Arguments.{texts};
 ghost use Rattle.preconv_command.specs.Arguments.{IsWithin, asked};
 
 use filters::is_option;
+use filters_own::{Named, table_at};
 use utf8_characters::Table;
 
 /// What the words ask for.
 #[derive(Clone, Copy)]
 pub struct Job {
     /// What bytes from 128 on stand for, if anything.
-    pub table: Option<Table>,
+    pub table: Option<Named>,
     /// The place of the first file among the words: there may be none.
     pub files: usize,
 }
@@ -39,7 +40,7 @@ pub fn read_words(words: &[&str]) -> Result<Job, Wrong>
     for (place, word) in words.iter().enumerate() {
         let bytes = word.as_bytes();
         if awaits {
-            match Table::named(word) {
+            match table_at(word, place) {
                 Some(named) => table = Some(named),
                 None => return Err(Wrong::UnknownTable(place)),
             }
@@ -50,7 +51,7 @@ pub fn read_words(words: &[&str]) -> Result<Job, Wrong>
                 files: place,
             });
         } else if bytes == b"-8".as_slice() {
-            table = Some(Table::Latin1);
+            table = Some(Named::Fixed(Table::Latin1));
         } else if bytes == b"-u".as_slice() {
             awaits = true;
         } else {

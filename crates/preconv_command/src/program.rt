@@ -3,14 +3,17 @@ ghost use Rattle.std.specs.Prelude.{◌≡◌, length, true, false, Err};
 ghost use Rattle.nr_units.specs.Failures.{put_counted_if};
 ghost use Rattle.preconv_converter.specs.Running.{is_write_fault};
 ghost use Rattle.filters.specs.Arguments.{texts};
-ghost use Rattle.filters.specs.Program.{IsReportedWord};
+ghost use Rattle.filters.specs.Disk.{MayCome};
+ghost use Rattle.filters.specs.Program.{IsReportedWord, TurnsNames, is_unread};
 ghost use Rattle.filters.specs.Turning as turning;
 ghost use Rattle.preconv_command.specs.Arguments.{IsWithin};
-ghost use Rattle.preconv_command.specs.Converting.{Ended, complained_by, what_of, word_of};
+ghost use Rattle.preconv_command.specs.Converting.{Ended, complained_by, preconv, what_of, word_of};
 
 use super::arguments::{Wrong, read_words};
 use super::lines::Lines;
+use super::own::turn_own;
 use filters::{Buffers, Disk, Ending, Filter, Paths, Turns, put_all, turn_names};
+use filters_own::{Named, file_at};
 use itoa::Buffer;
 use nr_units::buffered::Buffered;
 use nr_units::sink::Sink;
@@ -22,17 +25,18 @@ use std::io::Read;
 ///
 /// Proved: What preconv's words ask for comes about: its files are opened in order and turned, each under its coding,
 /// into the language of the table that the words name, a newline after a text or none; or its first bad word is
-/// reported, and no file is opened. Status and line are those of how that ended.
+/// reported, and no file is opened. Where they name `own:FILE`, that file is opened before all others, and the table is that of
+/// what it prints. Status and line are those of how that ended.
 pub struct Preconv;
 
 impl Filter for Preconv {
-    ghost use Rattle.std.specs.Prelude.{◌≡◌, codes};
+    ghost use Rattle.std.specs.Prelude.{codes};
     ghost use Rattle.preconv_command.specs.Arguments.{asked};
-    ghost use Rattle.preconv_command.specs.Converting.{job_of};
+    ghost use Rattle.preconv_command.specs.Converting.{AsksFor};
 
     ghost called = { codes "preconv" };
 
-    ghost asks = { λ program words job. job ≡ job_of words (asked words) };
+    ghost asks = { λ program words job. AsksFor words (asked words) job };
 
     fn name(&self) -> &'static str {
         "preconv"
@@ -49,15 +53,38 @@ impl Filter for Preconv {
             Ok(job) => job,
             Err(wrong) => return (bad_word(wrong, words), output),
         };
-        let Ok(buffers) = Buffers::new(disk.alloc) else {
-            return (Ending::OutOfMemory, output);
-        };
-        let mut turner = Turner {
-            target: Target::of(job.table),
-            buffers,
-        };
-        turn_names(&mut turner, &words[job.files..], disk, output, errors)
+        let names = &words[job.files..];
+        match job.table {
+            Some(Named::Own(place)) => {
+                turn_own(file_at(words, place), names, disk, output, errors)
+            }
+            Some(Named::Fixed(table)) => {
+                turn_fixed(Target::Bytes(table), names, disk, output, errors)
+            }
+            None => turn_fixed(Target::Ascii, names, disk, output, errors),
+        }
     }
+}
+
+/// Turns the texts of these names into the bytes of a fixed table, or ASCII.
+fn turn_fixed<'a, P: Paths, I: Read + Copy + Drop, W: Sink, E: Sink>(
+    target: Target,
+    names: &[&'a str],
+    disk: &mut Disk<P, I>,
+    output: W,
+    errors: &mut E,
+) -> (Ending<'a>, W)
+    ensures turns { TurnsNames (MayCome (I.remaining disk.old.standard) (P.may_open disk.old.paths))
+        (P.asked disk.old.paths) (P.asked disk.new.paths) (W.held output) (W.held result.1)
+        (W.failures output) (W.failures result.1) (W.passed_on result.1) (preconv target)
+        (texts names.now) result.0 }
+    ensures quiet { is_unread result.0 ≡ true → errors.new ≡ errors.old }
+{
+    let Ok(buffers) = Buffers::new(disk.alloc) else {
+        return (Ending::OutOfMemory, output);
+    };
+    let mut turner = Turner { target, buffers };
+    turn_names(&mut turner, names, disk, output, errors)
 }
 
 /// What is reported of a bad word.
@@ -110,7 +137,11 @@ impl Turns for Turner {
 }
 
 /// How a text ended. Where it is whole, a line that it left open is ended.
-fn ended<'a, W: Sink>(outcome: Outcome, name: &'a str, lines: &mut Lines<W>) -> Ending<'a>
+pub(crate) fn ended<'a, W: Sink>(
+    outcome: Outcome,
+    name: &'a str,
+    lines: &mut Lines<W>,
+) -> Ending<'a>
     ensures ended { Ended outcome name.entry (W.held lines.old.output) (W.held lines.new.output) result }
     ensures failures { is_write_fault outcome ≡ false → W.failures lines.new.output
         ≡ put_counted_if (turning.is_write_fault result) (W.failures lines.old.output) }
@@ -129,7 +160,7 @@ fn ended<'a, W: Sink>(outcome: Outcome, name: &'a str, lines: &mut Lines<W>) -> 
 
 /// Tells of a coding that the text of this name names and that is not known, as far as `errors` takes it, and so how
 /// the text ended.
-fn complained<'a, E: Sink>(
+pub(crate) fn complained<'a, E: Sink>(
     name: &'a str,
     unknown: Unknown,
     ending: Ending<'a>,

@@ -3,8 +3,8 @@ use Rattle.std.proofs.Common.{◌≡◌, ℕ, ◌+◌, ◌<◌, ◌≤◌, List,
 use Rattle.std.proofs.lemmas.List.{drop_all}
 use Rattle.std.specs.Borrow.{Bor}
 use Rattle.std.specs.Str.{bytes_eq}
-use Rattle.utf8_characters.specs.declared.table.Table.{Table}
-use Rattle.utf8_characters.specs.Tables.{table_named}
+use Rattle.filters_own.specs.declared.names.Named.{Named}
+use Rattle.filters_own.specs.Names.{table_at}
 use Rattle.tbl_command.specs.declared.arguments.BadWord.{BadWord}
 use Rattle.tbl_command.specs.declared.arguments.Job.{Job}
 use Rattle.tbl_command.specs.declared.arguments.Setting.{Setting}
@@ -12,21 +12,21 @@ use Rattle.tbl_command.specs.declared.arguments.Which.{Which}
 use Rattle.tbl_command.specs.declared.arguments.Which.TheVariants.{Formats, Row, Line}
 use Rattle.tbl_command.specs.declared.arguments.Wrong.{Wrong}
 use Rattle.tbl_command.specs.declared.arguments.Wrong.TheVariants.{UnknownTable}
-use Rattle.tbl_command.specs.Arguments.{ComesTo, IsAnswer, IsBad, Means, Named, Sets, Stands, at, is_option, is_wrong, texts, usual_job, with_number, with_setting, with_table}
+use Rattle.tbl_command.specs.Arguments.{ComesTo, IsAnswer, IsBad, Means, Names, Sets, Stands, at, is_option, is_wrong, texts, usual_job, with_number, with_setting, with_table}
 use Rattle.tbl_command.proofs.Parting.{texts-from}
 use Rattle.tbl_command.proofs.Reading.{Bad-means, Bad-one, Means-one}
 
 -- ---- a word, and those after it
 
-pub named : (job : Job) (place : ℕ) (name : List ℕ) (words : List (List ℕ)) (answer : Result Job BadWord) (t : Table) → table_named name ≡ Some t
+pub named : (job : Job) (place : ℕ) (name : List ℕ) (words : List (List ℕ)) (answer : Result Job BadWord) (t : Named) → table_at place name ≡ Some t
     → ComesTo false (with_table t job) (place + 1) words answer → ComesTo true job place (name ∷ words) answer
 named job place name words answer t is rest =
-    subst (λ (o : Option Table). Named o place answer (λ t. ComesTo false (with_table t job) (place + 1) words answer)) (sym is) rest
+    subst (λ (o : Option Named). Names o place answer (λ t. ComesTo false (with_table t job) (place + 1) words answer)) (sym is) rest
 
-pub unnamed : (job : Job) (place : ℕ) (name : List ℕ) (words : List (List ℕ)) → table_named name ≡ None
+pub unnamed : (job : Job) (place : ℕ) (name : List ℕ) (words : List (List ℕ)) → table_at place name ≡ None
     → ComesTo true job place (name ∷ words) (is_wrong place UnknownTable)
 unnamed job place name words is =
-    subst (λ (o : Option Table). Named o place (is_wrong place UnknownTable) (λ t. ComesTo false (with_table t job) (place + 1) words (is_wrong place UnknownTable))) (sym is) refl
+    subst (λ (o : Option Named). Names o place (is_wrong place UnknownTable) (λ t. ComesTo false (with_table t job) (place + 1) words (is_wrong place UnknownTable))) (sym is) refl
 
 stands-file : (option names : Bool) (F T O : Type 0) → option ≡ false → F → Stands option names F T O
 stands-file false names F T O is x = x
@@ -63,8 +63,8 @@ file_stands job place word words is = stands-file (is_option word) (bytes_eq wor
 
 -- ---- no other answer
 
-one_named : (o : Option Table) (place : ℕ) (a b : Result Job BadWord) (P Q : Table → Type 0)
-    → ((t : Table) → P t → Q t → b ≡ a) → Named o place a P → Named o place b Q → b ≡ a
+one_named : (o : Option Named) (place : ℕ) (a b : Result Job BadWord) (P Q : Named → Type 0)
+    → ((t : Named) → P t → Q t → b ≡ a) → Names o place a P → Names o place b Q → b ≡ a
 one_named None place a b P Q same x y = y ∙ sym x
 one_named (Some t) place a b P Q same x y = same t x y
 
@@ -86,7 +86,7 @@ pub one_answer : (awaits : Bool) (job : Job) (place : ℕ) (words : List (List �
 one_answer true job place [] a b x y = y ∙ sym x
 one_answer false job place [] a b x y = y ∙ sym x
 one_answer true job place (name ∷ words) a b x y =
-    one_named (table_named name) place a b _ _ (λ t. one_answer false (with_table t job) (place + 1) words a b) x y
+    one_named (table_at place name) place a b _ _ (λ t. one_answer false (with_table t job) (place + 1) words a b) x y
 one_answer false job place (word ∷ words) a b x y =
     one_stands (is_option word) (bytes_eq word (codes "-u")) (b ≡ a) _ _ _ _ _ _ (λ p q. q ∙ sym p)
     (one_answer true job (place + 1) words a b)

@@ -2,17 +2,16 @@
 use Rattle.std.proofs.Common.{◌≡◌, ℕ, ap, ◌∙◌}
 use Rattle.std.specs.Prelude.{min}
 use Rattle.tbl_layout.specs.declared.signs.Signs.{Signs}
-use Rattle.tbl_setting.specs.Drawing.{signs_of}
 use Rattle.tbl_setting.specs.Running.{Bounds}
 use Rattle.tbl_command.specs.declared.arguments.Job.{Job}
 use Rattle.tbl_command.specs.Converting.{bounds_of}
 
 -- bounds are those of a job, part by part
-pub bounds-made : (b : Bounds) (job : Job) → b.signs ≡ signs_of job.characters → b.limits.formats ≡ min job.formats 18446744073709551614
-    → b.limits.row ≡ min job.row 18446744073709551614 → b.cells ≡ job.line → b ≡ bounds_of job
-bounds-made b job signs formats row cells =
+pub bounds-made : (b : Bounds) (signs : Signs) (job : Job) → b.signs ≡ signs → b.limits.formats ≡ min job.formats 18446744073709551614
+    → b.limits.row ≡ min job.row 18446744073709551614 → b.cells ≡ job.line → b ≡ bounds_of signs job
+bounds-made b drawn job signs formats row cells =
     let made : Signs → ℕ → ℕ → ℕ → Bounds = λ g f r n. record { signs = g; limits = record { formats = f; row = r }; cells = n } in
-    let of = bounds_of job in
+    let of = bounds_of drawn job in
     ap (λ (g : Signs). made g b.limits.formats b.limits.row b.cells) signs
     ∙ ap (λ (f : ℕ). made of.signs f b.limits.row b.cells) formats
     ∙ ap (λ (r : ℕ). made of.signs of.limits.formats r b.cells) row

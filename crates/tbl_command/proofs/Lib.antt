@@ -2,4 +2,5 @@ pub mod Answering
 pub mod Bounding
 pub mod Parting
 pub mod Reading
+pub mod Running
 pub mod Turns

@@ -4,8 +4,8 @@ use Rattle.std.specs.Prelude.{◌≡◌, ℕ, ◌+◌, ◌-◌, ◌≤◌, ◌�
 use Rattle.std.specs.Borrow.{Bor}
 use Rattle.std.specs.Str.{bytes_eq}
 use Rattle.std.specs.Str.Parse.{IsNumeral, digits_value}
-use Rattle.utf8_characters.specs.declared.table.Table.{Table}
-use Rattle.utf8_characters.specs.Tables.{table_named}
+use Rattle.filters_own.specs.declared.names.Named.{Named}
+use Rattle.filters_own.specs.Names.{table_at}
 use Rattle.tbl_command.specs.declared.arguments.BadWord.{BadWord}
 use Rattle.tbl_command.specs.declared.arguments.Job.{Job}
 use Rattle.tbl_command.specs.declared.arguments.Setting.{Setting}
@@ -72,7 +72,7 @@ abbrev pub usual_job : Job
 usual_job = record { formats = 262144; row = 16384; line = 65; characters = None; files = 0 }
 
 -- with a table of characters, and with the place of the first file
-abbrev pub with_table : Table → Job → Job
+abbrev pub with_table : Named → Job → Job
 with_table table job = record job { characters = Some table }
 
 abbrev pub at : ℕ → Job → Job
@@ -82,9 +82,9 @@ abbrev pub is_wrong : ℕ → Wrong → Result Job BadWord
 is_wrong place wrong = Err (record { place = place; wrong = wrong })
 
 -- what a name comes to that stands at this place
-abbrev pub Named : Option Table → ℕ → Result Job BadWord → (Table → Type 0) → Type 0
-Named None place answer next = answer ≡ is_wrong place UnknownTable
-Named (Some table) place answer next = next table
+abbrev pub Names : Option Named → ℕ → Result Job BadWord → (Named → Type 0) → Type 0
+Names None place answer next = answer ≡ is_wrong place UnknownTable
+Names (Some table) place answer next = next table
 
 -- a file, the option that a table's name follows, or another option
 abbrev pub Stands : Bool → Bool → Type 0 → Type 0 → Type 0 → Type 0
@@ -104,7 +104,7 @@ abbrev pub ComesTo : Bool → Job → ℕ → List (List ℕ) → Result Job Bad
 ComesTo true job place [] answer = answer ≡ is_wrong (place - 1) NoTable
 ComesTo false job place [] answer = answer ≡ Ok (at place job)
 ComesTo true job place (name ∷ words) answer =
-    Named (table_named name) place answer (λ t. ComesTo false (with_table t job) (place + 1) words answer)
+    Names (table_at place name) place answer (λ t. ComesTo false (with_table t job) (place + 1) words answer)
 ComesTo false job place (word ∷ words) answer =
     Stands (is_option word) (bytes_eq word (codes "-u")) (answer ≡ Ok (at place job))
     (ComesTo true job (place + 1) words answer)

@@ -1,14 +1,21 @@
 -- What tbl makes of texts, and what its words ask for.
-use Rattle.std.specs.Prelude.{◌≡◌, ℕ, List, [], drop, get_or, min, Bool, true, false, None, Result, Ok, Err, codes}
+use Rattle.std.specs.Prelude.{◌≡◌, ℕ, List, [], drop, get_or, min, Bool, true, false, Option, None, Some, Result, Ok, Err, codes}
+use Rattle.tbl_layout.specs.declared.signs.Signs.{Signs}
 use Rattle.tbl_reader.specs.declared.running.Outcome.{Outcome}
 use Rattle.tbl_reader.specs.declared.running.Outcome.TheVariants as outcomes
 use Rattle.tbl_setting.specs.Drawing.{signs_of}
 use Rattle.tbl_setting.specs.Running.{Bounds, set_page, set_so_far}
+use Rattle.utf8_own_characters.specs.Table.{Characters}
 use Rattle.filters.specs.Program as programs
 use Rattle.filters.specs.Turning.{Filter}
 use Rattle.filters.specs.declared.endings.Ending.{Ending}
 use Rattle.filters.specs.declared.endings.Ending.TheVariants.{Done, Complained, TooLong, ReadFault, WriteFault}
+use Rattle.filters_own.specs.declared.names.Named.{Named}
+use Rattle.filters_own.specs.declared.names.Named.TheVariants.{Fixed, Own}
+use Rattle.filters_own.specs.Looking.{AsksForOwn}
+use Rattle.filters_own.specs.Names.{file_at}
 use Rattle.tbl_command.specs.Arguments.{IsAnswer}
+use Rattle.tbl_command.specs.Signs.{signs_for}
 use Rattle.tbl_command.specs.declared.arguments.BadWord.{BadWord}
 use Rattle.tbl_command.specs.declared.arguments.Job.{Job}
 use Rattle.tbl_command.specs.declared.arguments.Wrong.{Wrong}
@@ -25,10 +32,10 @@ tbl bounds = record {
   is_naming = false;
 }
 
--- what a job asks for
-abbrev pub bounds_of : Job → Bounds
-bounds_of job = record {
-  signs = signs_of job.characters;
+-- what a job asks for whose frames are drawn with these
+abbrev pub bounds_of : Signs → Job → Bounds
+bounds_of signs job = record {
+  signs = signs;
   limits = record {
     formats = min job.formats 18446744073709551614;
     row = min job.row 18446744073709551614;
@@ -49,14 +56,26 @@ word_of word BadValue = word
 word_of word UnknownTable = word
 word_of word NoTable = []
 
--- the files are turned, or a word is bad
-abbrev pub job_of : List (List ℕ) → Result Job BadWord → programs.Job
-job_of words (Ok job) = programs.TurnsTexts (tbl (bounds_of job)) (drop job.files words)
-job_of words (Err bad) = programs.IsBad (what_of bad.wrong) (word_of (get_or words bad.place []) bad.wrong)
+-- The tables of a text are set with frames of a page's own table.
+abbrev pub own : Job → Characters → Filter
+own job table = tbl (bounds_of (signs_for table) job)
+
+-- the files are turned, by the last table that is named
+abbrev pub AsksBy : Option Named → List (List ℕ) → Job → programs.Job → Type 0
+AsksBy None words asked job = job ≡ programs.TurnsTexts (tbl (bounds_of (signs_of None) asked)) (drop asked.files words)
+AsksBy (Some (Fixed table)) words asked job =
+    job ≡ programs.TurnsTexts (tbl (bounds_of (signs_of (Some table)) asked)) (drop asked.files words)
+AsksBy (Some (Own place)) words asked job = AsksForOwn (own asked) (file_at words place) (drop asked.files words) job
+
+-- or a word is bad
+abbrev pub AsksAs : List (List ℕ) → Result Job BadWord → programs.Job → Type 0
+AsksAs words (Ok asked) job = AsksBy asked.characters words asked job
+AsksAs words (Err bad) job =
+    job ≡ programs.IsBad (what_of bad.wrong) (word_of (get_or words bad.place []) bad.wrong)
 
 -- they ask for it by the one answer that they come to
 abbrev pub AsksFor : List (List ℕ) → programs.Job → Type 0
-AsksFor words job = (answer : Result Job BadWord) × IsAnswer words answer × (job ≡ job_of words answer)
+AsksFor words job = (answer : Result Job BadWord) × IsAnswer words answer × AsksAs words answer job
 
 -- how a text ended, complained of or not
 abbrev pub ending_of : Bool → Outcome → Ending

@@ -4,7 +4,7 @@ ghost use Rattle.std.specs.Option.{SomeIff};
 ghost use Rattle.std.specs.Str.Parse.{IsNumeral, digits_value};
 ghost use Rattle.tbl_command.specs.Arguments.{IsAnswer, Reads, at, front_of, is_option, least_of, texts, usual_job, with_setting, with_table};
 
-use utf8_characters::Table;
+use filters_own::{Named, table_at};
 
 /// The greatest limit that a word may set.
 const MOST: u64 = 1_048_576;
@@ -30,7 +30,7 @@ pub struct Job {
     /// The length of the line, in n.
     pub line: usize,
     /// What bytes from 128 on stand for, if anything.
-    pub characters: Option<Table>,
+    pub characters: Option<Named>,
     /// The place of the first file among the words: there may be none.
     pub files: usize,
 }
@@ -157,7 +157,7 @@ impl Job {
     }
 
     /// With a table of characters.
-    fn with_table(self, table: Table) -> Job
+    fn with_table(self, table: Named) -> Job
         ensures { result ≡ with_table table self }
     {
         Job {
@@ -216,7 +216,7 @@ pub fn read_words(words: &[&str]) -> Result<Job, BadWord>
     let mut awaits = false;
     for (place, word) in words.iter().enumerate() {
         if awaits {
-            let Some(table) = Table::named(word) else {
+            let Some(table) = table_at(word, place) else {
                 return Err(BadWord {
                     place,
                     wrong: Wrong::UnknownTable,

@@ -1,13 +1,15 @@
 //! The program tbl but for its `main`: its words, the rooms that it takes, its files in order, and the lines that tell
 //! how it ended.
 //!
-//! It stands on filters, tbl_setting, utf8_characters, nr_units and nr_vectors. To read: `arguments`, `complaints`, `rooms`, `program`.
+//! It stands on filters, filters_own, tbl_setting, utf8_own_page and what these stand on. To read: `arguments`, `complaints`, `signs`,
+//! `rooms`, `program`.
 #![tactic(auto)]
 
 mod arguments;
 mod complaints;
 mod program;
 mod rooms;
+mod signs;
 
 pub use complaints::tell_complaints;
 pub use program::Tbl;

@@ -1,5 +1,6 @@
 // The memory that texts are turned in.
 ghost use Rattle.std.specs.Prelude.{◌≡◌, IfOk};
+ghost use Rattle.tbl_setting.specs.Drawing.{signs_of};
 ghost use Rattle.tbl_command.specs.Converting.{bounds_of, ending_of};
 
 use super::arguments::Job;
@@ -11,7 +12,8 @@ use nr_vectors::CountedAlloc;
 use nr_vectors::slice_vec::SliceVec;
 use std::alloc::{AllocError, Global};
 use std::io::Read;
-use tbl_setting::{Complaint, Outcome, convert};
+use tbl_setting::{Complaint, Outcome, Signs, convert};
+use utf8_characters::Table;
 
 /// How many complaints about the tables of a text are reported.
 const MOST_COMPLAINTS: usize = 64;
@@ -28,21 +30,39 @@ pub struct Rooms {
 }
 
 impl Rooms {
-    /// Takes the memory of a job.
-    pub fn new(job: Job, alloc: Global) -> Result<Rooms, AllocError>
-        ensures { IfOk result (λ rooms. rooms.held ≡ bounds_of job) }
+    /// Takes the memory of a job beside what is held of a table.
+    fn around(held: tbl_setting::Rooms, alloc: Global) -> Result<Rooms, AllocError>
+        ensures { IfOk result (λ rooms. rooms.held ≡ held) }
     {
         Ok(Rooms {
             input: vec![in alloc; 0u8; BUFFER_SIZE]?,
             complaints: vec![in alloc; Complaint::NONE; MOST_COMPLAINTS]?,
-            held: tbl_setting::Rooms::new(
-                &mut CountedAlloc::new(alloc),
-                job.formats,
-                job.row,
-                job.line,
-                job.characters,
-            )?,
+            held,
         })
+    }
+
+    /// Takes the memory of a job whose frames are drawn with what a fixed table has, or in ASCII.
+    pub fn new(job: Job, fixed: Option<Table>, alloc: Global) -> Result<Rooms, AllocError>
+        ensures { IfOk result (λ rooms. rooms.held ≡ bounds_of (signs_of fixed) job) }
+    {
+        let mut counted = CountedAlloc::new(alloc);
+        let held = tbl_setting::Rooms::new(&mut counted, job.formats, job.row, job.line, fixed)?;
+        Rooms::around(held, alloc)
+    }
+
+    /// The same, where they are drawn with these bytes.
+    pub fn drawn_with(job: Job, signs: Signs, alloc: Global) -> Result<Rooms, AllocError>
+        ensures { IfOk result (λ rooms. rooms.held ≡ bounds_of signs job) }
+    {
+        let mut counted = CountedAlloc::new(alloc);
+        let held = tbl_setting::Rooms::drawn_with(
+            &mut counted,
+            job.formats,
+            job.row,
+            job.line,
+            signs,
+        )?;
+        Rooms::around(held, alloc)
     }
 }
 

@@ -403,6 +403,53 @@ fn runs_in_a_system(rt: HostRuntime) {
     }
 }
 
+static OWN_TEXTS: [(&str, Page<'static>); 3] = [
+    ("scripts", Page::Bytes(b"\xc5\x98\xe5\x90\x8d a\n")),
+    ("latin", Page::Bytes(b"na\xefve \xc3\xa9\n")),
+    ("cut", Page::Cut(b"a\\~b\n.BR c\\(l")),
+];
+
+// The table of what a file prints: 11 bytes for frames, and then those of the file; a character of two columns is two.
+static OWN_ROWS: [Row; 3] = [
+    Row {
+        words: &[b"preconv", b"-u", b"own:scripts", b"scripts", b"-"],
+        output: b"\x8b\\(zb\xfe\xff a\ncafe\n",
+        status: 0,
+        line: b"",
+    },
+    Row {
+        words: &[b"preconv", b"-u", b"own:none", b"missing"],
+        output: b"",
+        status: 3,
+        line: b"preconv: cannot open none\n",
+    },
+    Row {
+        words: &[b"preconv", b"-u", b"own:cut", b"latin"],
+        output: b"",
+        status: 3,
+        line: b"preconv: cannot read cut\n",
+    },
+];
+
+#[test]
+fn turns_by_a_table_of_its_own(rt: HostRuntime) {
+    for row in &OWN_ROWS {
+        let system = System {
+            words: row.words,
+            texts: &OWN_TEXTS,
+        };
+        let left = Cell::new(b"caf\xc3\xa9".as_slice());
+        let input = Typed { left: &left };
+        let mut output = Vec::new(rt.alloc());
+        let mut line = Vec::new(rt.alloc());
+        let status = run_program(&Preconv, &system, rt.alloc(), input, &mut output, &mut line);
+        let words = row.words;
+        assert!(rt; output.as_slice() == row.output, "{words:?}");
+        assert!(rt; line.as_slice() == row.line, "{words:?}");
+        assert_eq!(rt; status, row.status, "{words:?}");
+    }
+}
+
 // A write that fails, and a flush; a read fault is not reported then.
 #[test]
 fn tells_an_output_that_fails(rt: HostRuntime) {

@@ -12,16 +12,30 @@ struct Row {
     lines: &'static [u8],
 }
 
-static TEXTS: [(&str, Page<'static>); 6] = [
+static TEXTS: [(&str, Page<'static>); 7] = [
     ("plain", Page::Bytes(b"T{ _\n.TSX\n\xc3\xa9\\fIb\\fP\n")),
     ("open", Page::Bytes(b".ds x y")),
     ("folder", Page::Cut(b"")),
     ("cut", Page::Cut(b"a\n.BR c d")),
     ("empty", Page::Bytes(b"")),
+    ("scripts", Page::Bytes(b"\xc5\x98\xe5\x90\x8d a\n")),
     ("box", Page::Bytes(b".TS\nbox;\nl.\n\xe9\n.TE\n")),
 ];
 
-static ROWS: [Row; 27] = [
+static ROWS: [Row; 29] = [
+    // The table of what a file prints has what frames are drawn with first.
+    Row {
+        words: &[b"tbl", b"-u", b"own:scripts", b"box"],
+        output: b".TS\n.br\n.nr *u \\n(.u\n.nr *I \\n(.i\n.nf\n.nr *box 1\n.if '\\n(.z'' .if 3v<\\n(.p .ne 3v\n.if !'\\n(.z'' \\{\\\n\\!.ne 3v\n.\\}\n\x82\x80\x80\x84\n\x81\xe9 \x81\n\x88\x80\x80\x8a\n.in \\n(*Iu\n.if \\n(*u .fi\n.TE\n",
+        status: 0,
+        lines: b"",
+    },
+    Row {
+        words: &[b"tbl", b"-u", b"own:none", b"missing"],
+        output: b"",
+        status: 3,
+        lines: b"tbl: cannot open none\n",
+    },
     // Frames have the characters of the table, and what it names is no file.
     Row {
         words: &[b"tbl", b"-u", b"english", b"box"],

@@ -12,7 +12,7 @@ struct Row {
     line: &'static [u8],
 }
 
-static TEXTS: [(&str, Page<'static>); 16] = [
+static TEXTS: [(&str, Page<'static>); 19] = [
     ("underlined", Page::Bytes(b"_\x08a_\x08b c__\x08_\n_")),
     (
         "bold",
@@ -35,9 +35,15 @@ static TEXTS: [(&str, Page<'static>); 16] = [
     ("accents", Page::Bytes(b"\\'a \\(14 \xe2\x80\x94")),
     ("ordinals", Page::Bytes(b"N\\(Om 1\xc2\xaa")),
     ("arrow", Page::Bytes(b"a \xe2\x86\x92 b")),
+    ("scripts", Page::Bytes(b"\xc5\x98\xe5\x90\x8d a\n")),
+    (
+        "coded",
+        Page::Bytes(b"\x8b_\x08\xfe_\x08\xff \x81\xfe\xff\x81\n"),
+    ),
+    ("boxed", Page::Bytes(b".TS\nbox;\nl.\n\xc4\x99\n.TE\n")),
 ];
 
-static ROWS: [Row; 33] = [
+static ROWS: [Row; 40] = [
     Row {
         words: &[b"utf8", b"latin"],
         output: b"caf\xc3\xa9_",
@@ -140,7 +146,7 @@ static ROWS: [Row; 33] = [
     },
     Row {
         words: &[b"utf8", b"--choose", b"russian"],
-        output: b"cyrillic\n",
+        output: b"own:russian\n",
         status: 0,
         line: b"",
     },
@@ -244,6 +250,52 @@ static ROWS: [Row; 33] = [
         output: b"\x1b[1m_",
         status: 3,
         line: b"utf8: struck: read fault at byte 5\n",
+    },
+    // The table of what a file prints: after what frames are drawn with comes what is in the file.
+    Row {
+        words: &[b"utf8", b"own:scripts", b"coded"],
+        output: b"\xc5\x98_\x08\xe5\x90\x8d \xe2\x94\x82\xe5\x90\x8d\xe2\x94\x82\n",
+        status: 0,
+        line: b"",
+    },
+    Row {
+        words: &[b"utf8", b"-c", b"own:scripts", b"coded"],
+        output: b"\xc5\x98\x1b[4m\xe5\x90\x8d\x1b[24m \xe2\x94\x82\xe5\x90\x8d\xe2\x94\x82\n",
+        status: 0,
+        line: b"",
+    },
+    // It is opened before the others, and told by its name.
+    Row {
+        words: &[b"utf8", b"own:none", b"missing"],
+        output: b"",
+        status: 3,
+        line: b"utf8: cannot open none\n",
+    },
+    Row {
+        words: &[b"utf8", b"own:cut", b"coded"],
+        output: b"",
+        status: 3,
+        line: b"utf8: cannot read cut\n",
+    },
+    Row {
+        words: &[b"utf8", b"--choose", b"scripts"],
+        output: b"own:scripts\n",
+        status: 0,
+        line: b"",
+    },
+    // A page with a table needs what frames are drawn with, which the table of Latin letters lacks.
+    Row {
+        words: &[b"utf8", b"--choose", b"boxed"],
+        output: b"own:boxed\n",
+        status: 0,
+        line: b"",
+    },
+    // Of standard input the name of a fixed table is told.
+    Row {
+        words: &[b"utf8", b"--choose", b"-"],
+        output: b"english\n",
+        status: 0,
+        line: b"",
     },
 ];
 

@@ -1,36 +1,39 @@
 -- The table of a page is printed.
-use Rattle.std.proofs.Common.{◌≡◌, ℕ, List, ◌++◌, Bool, Option, Some, None, Ok, ap, subst, ◌∙◌, codes}
+use Rattle.std.proofs.Common.{◌≡◌, ℕ, List, [], Bool, true, false, Option, None, Some, inr, refl, subst}
 use Rattle.nr_units.specs.Failures.{SinkFailures}
-use Rattle.nr_units.specs.Source.{reader_supply}
-use Rattle.nr_units.specs.declared.source.Fault.{Fault}
-use Rattle.utf8_characters.specs.declared.table.Table.{Table}
-use Rattle.utf8_characters.specs.Tables.{name_of}
-use Rattle.preconv_coding.specs.UnderCoding.{text_supply}
-use Rattle.utf8_converter.specs.Choosing.{Chooses}
-use Rattle.filters.specs.Disk.{Asks, Opening, Opens, paths_of}
-use Rattle.filters.specs.Program.{AnswersName, Puts, PutsOf}
+use Rattle.filters.specs.Disk.{IsUnlooked, Opened, Opening}
+use Rattle.filters.specs.Program.{Answers, Comes, Puts}
 use Rattle.filters.specs.declared.endings.Ending.{Ending}
-use Rattle.filters.specs.declared.endings.Ending.TheVariants.{Done, Complained, TooLong, ReadFault, WriteFault, BadWord, CannotOpen, CannotRead, OutOfMemory}
-use Rattle.utf8_command.specs.Converting.{choice_of}
+use Rattle.filters.specs.declared.endings.Ending.TheVariants.{OutOfMemory}
+use Rattle.filters.proofs.After.{unanswered}
+use Rattle.filters_own.specs.Looking.{IsFrontIn, IsOf}
+use Rattle.utf8_command.specs.Choosing.{ComesToChoice, IsLine, IsLineIn}
 
--- the line of a table that was chosen
-pub choice_puts : (left held new : Option (List ℕ)) (passed_on : Bool) (table : Table) (line : List ℕ) (ending : Ending)
-    → Chooses {E = Fault} (text_supply (reader_supply left)) (Ok table) → line ≡ name_of table ++ codes "\n" → Puts line held new passed_on ending
-    → PutsOf choice_of left held new passed_on ending
-choice_puts None held new passed_on table line ending chooses is puts = tt
-choice_puts (Some bytes) held new passed_on table line ending chooses is puts =
-    subst (λ (l : List ℕ). Puts l held new passed_on ending) (is ∙ ap (λ (t : Table). name_of t ++ codes "\n") chooses.0) puts
+line-in : (name : List ℕ) (left : Option (List ℕ)) (front line : List ℕ) → IsFrontIn left front → IsLine name front line → IsLineIn name left line
+line-in name None front line is chosen = tt
+line-in name (Some bytes) front line is chosen = subst (λ (f : List ℕ). IsLine name f line) is chosen
 
-pub answered : (may_come : List ℕ → Opening → Type 0) (asked asked' : Option (List (List ℕ))) (held new : Option (List ℕ)) (writes writes' : SinkFailures)
-    (passed_on : Bool) (line : List ℕ → List ℕ) (name : List ℕ) (left : Option (List ℕ)) (any : List ℕ) (ending : Ending)
-    → may_come name (Opens left) → Asks asked asked' (paths_of name) → Puts any held new passed_on ending → PutsOf line left held new passed_on ending
-    → AnswersName may_come asked asked' held new writes writes' passed_on line name ending
-answered may_come asked asked' held new writes writes' passed_on line name left any Done opened asks puts of = (record { left = left; opened = opened; puts = of }, asks)
-answered may_come asked asked' held new writes writes' passed_on line name left any WriteFault opened asks puts of = (record { left = left; opened = opened; puts = of }, asks)
-answered may_come asked asked' held new writes writes' passed_on line name left any Complained opened asks puts of = absurd puts
-answered may_come asked asked' held new writes writes' passed_on line name left any (TooLong n) opened asks puts of = absurd puts
-answered may_come asked asked' held new writes writes' passed_on line name left any (ReadFault n at) opened asks puts of = absurd puts
-answered may_come asked asked' held new writes writes' passed_on line name left any (BadWord what word) opened asks puts of = absurd puts
-answered may_come asked asked' held new writes writes' passed_on line name left any (CannotOpen n) opened asks puts of = absurd puts
-answered may_come asked asked' held new writes writes' passed_on line name left any (CannotRead n) opened asks puts of = absurd puts
-answered may_come asked asked' held new writes writes' passed_on line name left any OutOfMemory opened asks puts of = absurd puts
+-- a line that was chosen
+pub chosen : (may_come : List ℕ → Opening → Type 0) (asked asked' : Option (List (List ℕ))) (held new : Option (List ℕ)) (writes writes' : SinkFailures)
+    (passed_on : Bool) (name front line : List ℕ) (ending : Ending) → IsOf may_come asked asked' name (λ left. IsFrontIn left front) → IsLine name front line
+    → Puts line held new passed_on ending → ComesToChoice name (Comes may_come asked asked' held new writes writes' passed_on) ending
+chosen may_come asked asked' held new writes writes' passed_on name front line ending look is puts =
+    let text : Opened = record { name = name; left = look.left } in (
+      Answers text line,
+      record { left = look.left; line = line; is = line-in name look.left front line look.is is; job_is = refl },
+      inr (record { opened = look.opened; asks = look.asks; puts = puts }),
+    )
+
+-- the text was not looked at
+pub unchosen : (may_come : List ℕ → Opening → Type 0) (asked asked' : Option (List (List ℕ))) (held : Option (List ℕ)) (writes : SinkFailures)
+    (passed_on : Bool) (name : List ℕ) (ending : Ending) → IsUnlooked may_come asked asked' name ending
+    → ComesToChoice name (Comes may_come asked asked' held held writes writes passed_on) ending
+unchosen may_come asked asked' held writes passed_on name ending un =
+    let text : Opened = record { name = name; left = None } in
+    (Answers text [], record { left = None; line = []; is = tt; job_is = refl }, unanswered may_come asked asked' held writes passed_on text [] ending un)
+
+-- there was not enough memory
+pub no-memory : (may_come : List ℕ → Opening → Type 0) (asked asked' : Option (List (List ℕ))) (held : Option (List ℕ)) (writes : SinkFailures)
+    (passed_on : Bool) (name front : List ℕ) → IsOf may_come asked asked' name (λ left. IsFrontIn left front)
+    → ComesToChoice name (Comes may_come asked asked' held held writes writes passed_on) OutOfMemory
+no-memory may_come asked asked' held writes passed_on name front look = unchosen may_come asked asked' held writes passed_on name OutOfMemory (inr look.asks)

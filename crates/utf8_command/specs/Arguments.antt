@@ -2,8 +2,8 @@
 use Prim.Native.Char.{code}
 use Rattle.std.specs.Prelude.{ℕ, ◌+◌, ◌<◌, ◌≤◌, List, [], ◌∷◌, length, Bool, true, false, ◌==◌, nat_lt, if◌then◌else◌, Option, None, Some, Result, Ok, Err, codes, slice_get}
 use Rattle.std.specs.Str.{bytes_eq}
-use Rattle.utf8_characters.specs.declared.table.Table.{Table}
-use Rattle.utf8_characters.specs.Tables.{table_named}
+use Rattle.filters_own.specs.declared.names.Named.{Named}
+use Rattle.filters_own.specs.Names.{table_at}
 use Rattle.utf8_command.specs.declared.arguments.Job.{Job}
 use Rattle.utf8_command.specs.declared.arguments.Job.TheVariants.{Turn, Choose, Version}
 use Rattle.utf8_command.specs.declared.arguments.Wrong.{Wrong}
@@ -18,17 +18,17 @@ is_option (byte ∷ rest) = byte == code "-"
 abbrev pub wrong_at : ℕ → List ℕ → Wrong
 wrong_at place word = if is_option word then UnknownOption place else UnknownTable place
 
-abbrev pub job_of : Bool → ℕ → List ℕ → Option Table → Result Job Wrong
+abbrev pub job_of : Bool → ℕ → List ℕ → Option Named → Result Job Wrong
 job_of escapes place word None = Err (wrong_at place word)
 job_of escapes place word (Some table) = Ok (Turn table escapes (place + 1))
 
 -- the word at this place names the table, and files stand after it
-abbrev pub table_at : Bool → ℕ → Option (List ℕ) → Result Job Wrong
-table_at escapes place None = Err NoTable
-table_at escapes place (Some word) = job_of escapes place word (table_named word)
+abbrev pub table_of : Bool → ℕ → Option (List ℕ) → Result Job Wrong
+table_of escapes place None = Err NoTable
+table_of escapes place (Some word) = job_of escapes place word (table_at place word)
 
 abbrev pub table_asked : Bool → ℕ → List (List ℕ) → Result Job Wrong
-table_asked escapes place words = table_at escapes place (slice_get words place)
+table_asked escapes place words = table_of escapes place (slice_get words place)
 
 -- a table is chosen for one file, or for standard input
 abbrev pub choice_asked : List (List ℕ) → Result Job Wrong

@@ -1,2 +1,5 @@
 pub mod Arguments
+pub mod Choosing
 pub mod Converting
+pub mod Passing
+pub mod Unflushed

@@ -3,7 +3,7 @@ ghost use Rattle.std.specs.Prelude.{◌≡◌, ◌<◌, ◌≤◌, IfOk, length}
 ghost use Rattle.filters.specs.Arguments.{texts};
 ghost use Rattle.utf8_command.specs.Arguments.{IsWithin, asked, choice_asked, is_option, table_asked};
 
-use utf8_characters::Table;
+use filters_own::{Named, table_at};
 
 /// What the words ask for.
 #[derive(Clone, Copy)]
@@ -11,7 +11,7 @@ pub enum Job {
     /// Files are turned.
     Turn {
         /// What bytes from 128 on are.
-        table: Table,
+        table: Named,
         /// Underlined text stands between escape sequences.
         escapes: bool,
         /// The place of the first file among the words: there may be none.
@@ -54,7 +54,7 @@ fn read_table(words: &[&str], at: usize, escapes: bool) -> Result<Job, Wrong>
         return Err(Wrong::NoTable);
     }
     let word = words[at];
-    match Table::named(word) {
+    match table_at(word, at) {
         Some(table) => Ok(Job::Turn {
             table,
             escapes,

@@ -3,20 +3,22 @@ ghost use Rattle.std.specs.Prelude.{◌≡◌, ◌<◌, length, true, Err};
 ghost use Rattle.filters.specs.Arguments.{texts};
 ghost use Rattle.filters.specs.Disk.{MayCome};
 ghost use Rattle.filters.specs.Lines.{joined};
-ghost use Rattle.filters.specs.Program.{AnswersName, IsReportedWord, Puts, TurnsNames, is_unread};
+ghost use Rattle.filters.specs.Program.{IsReportedWord, Puts, TurnsNames, is_unread};
 ghost use Rattle.utf8_command.specs.Arguments.{IsWithin};
-ghost use Rattle.utf8_command.specs.Converting.{choice_of, ending_of, file_after, utf8, version_line, what_of, word_of};
+ghost use Rattle.utf8_command.specs.Converting.{ending_of, file_after, utf8, version_line, what_of, word_of};
 
 use super::arguments::{Job, Wrong, read_words};
-use filters::{BUFFER_SIZE, Buffers, Disk, Ending, Filter, Paths, Turns, put_all, turn_names};
+use super::choosing::choose_for;
+use super::own::turn_own;
+use filters::{Buffers, Disk, Ending, Filter, Paths, Turns, put_all, turn_names};
+use filters_own::{Named, file_at};
 use itoa::Buffer;
 use nr_units::buffered::Buffered;
 use nr_units::sink::Sink;
 use nr_units::source::Fault;
-use preconv_coding::UnderCoding;
 use std::io::Read;
 use utf8_characters::Table;
-use utf8_converter::{CHARACTERS, LOOKED_AT, Outcome, choose, convert};
+use utf8_converter::{Outcome, convert};
 
 /// What `--version` prints: that of the file VERSION.
 const VERSION: &str = "0.2.0";
@@ -25,18 +27,18 @@ const VERSION: &str = "0.2.0";
 ///
 /// Proved: What utf8's words ask for comes about: its files are opened in order and turned by the table that the words
 /// name, with escape sequences where they ask for them; the name of the table is printed that a page takes, by the first
-/// of its text; the version is; or its first bad word is reported, and no file is opened. Status and line are those of
-/// how that ended.
+/// of its text; the version is; or its first bad word is reported, and no file is opened. Where they name `own:FILE`, that file
+/// is opened before all others, and the table is that of what it prints. Status and line are those of how that ended.
 pub struct Utf8;
 
 impl Filter for Utf8 {
-    ghost use Rattle.std.specs.Prelude.{◌≡◌, codes};
+    ghost use Rattle.std.specs.Prelude.{codes};
     ghost use Rattle.utf8_command.specs.Arguments.{asked};
-    ghost use Rattle.utf8_command.specs.Converting.{job_of};
+    ghost use Rattle.utf8_command.specs.Converting.{AsksFor};
 
     ghost called = { codes "utf8" };
 
-    ghost asks = { λ program words job. job ≡ job_of words (asked words) };
+    ghost asks = { λ program words job. AsksFor words (asked words) job };
 
     fn name(&self) -> &'static str {
         "utf8"
@@ -49,19 +51,25 @@ impl Filter for Utf8 {
         output: W,
         errors: &mut E,
     ) -> (Ending<'a>, W) {
-        let (how, files) = match read_words(words) {
+        let (table, escapes, files) = match read_words(words) {
             Ok(
                 Job::Turn {
                     table,
                     escapes,
                     files,
                 },
-            ) => ((table, escapes), files),
+            ) => (table, escapes, files),
             Ok(Job::Choose) => return choose_for(chosen_file(words), disk, output),
             Ok(Job::Version) => return put_version(output),
             Err(wrong) => return (bad_word(wrong, words), output),
         };
-        turn_files(how, &words[files..], disk, output, errors)
+        let names = &words[files..];
+        match table {
+            Named::Fixed(table) => turn_files((table, escapes), names, disk, output, errors),
+            Named::Own(place) => {
+                turn_own(file_at(words, place), escapes, names, disk, output, errors)
+            }
+        }
     }
 }
 
@@ -86,7 +94,7 @@ fn chosen_file<'a>(words: &[&'a str]) -> &'a str
 }
 
 /// Puts out a line, by its parts, and flushes it.
-fn put_out<'a, W: Sink>(parts: &[&[u8]], output: W) -> (Ending<'a>, W)
+pub(crate) fn put_out<'a, W: Sink>(parts: &[&[u8]], output: W) -> (Ending<'a>, W)
     ensures { Puts (joined parts.now) (W.held output) (W.held result.1) (W.passed_on result.1) result.0 }
 {
     let mut output = output;
@@ -104,36 +112,6 @@ fn put_version<'a, W: Sink>(output: W) -> (Ending<'a>, W)
     ensures { Puts version_line (W.held output) (W.held result.1) (W.passed_on result.1) result.0 }
 {
     put_out(&[b"utf8 ", VERSION.as_bytes(), b"\n"], output)
-}
-
-/// Chooses a table for the text of this name, and prints its name.
-fn choose_for<'a, P: Paths, I: Read + Copy + Drop, W: Sink>(
-    name: &'a str,
-    disk: &mut Disk<P, I>,
-    output: W,
-) -> (Ending<'a>, W)
-    ensures { AnswersName (MayCome (I.remaining disk.old.standard) (P.may_open disk.old.paths))
-        (P.asked disk.old.paths) (P.asked disk.new.paths) (W.held output) (W.held result.1)
-        (W.failures output) (W.failures result.1) (W.passed_on result.1) choice_of name.now result.0 }
-{
-    let Ok(mut input) = vec![in disk.alloc; 0u8; BUFFER_SIZE] else {
-        return (Ending::OutOfMemory, output);
-    };
-    let Ok(mut page) = vec![in disk.alloc; 0u8; LOOKED_AT] else {
-        return (Ending::OutOfMemory, output);
-    };
-    let Ok(mut counts) = vec![in disk.alloc; 0u32; CHARACTERS] else {
-        return (Ending::OutOfMemory, output);
-    };
-    let text = match disk.open(name) {
-        Ok(text) => text,
-        Err(_) => return (Ending::CannotOpen(name), output),
-    };
-    let mut source = UnderCoding::over(Buffered::over(text.stream, &mut input));
-    match choose(&mut source, &mut page, &mut counts) {
-        Ok(table) => put_out(&[table.name().as_bytes(), b"\n"], output),
-        Err(_) => (Ending::CannotRead(name), output),
-    }
 }
 
 /// Turns the files of these names, or standard input, and reports how many bytes were dropped.
@@ -207,7 +185,7 @@ impl Turns for Turner {
 }
 
 /// How a text of this name ended.
-fn ended(outcome: Outcome, name: &str) -> Ending<'_>
+pub(crate) fn ended(outcome: Outcome, name: &str) -> Ending<'_>
     ensures { result ≡ ending_of name.entry outcome }
 {
     match outcome {

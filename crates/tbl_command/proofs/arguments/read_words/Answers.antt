@@ -21,7 +21,7 @@ returns-in_default-clause-only c =
     let words = c.args.words.now in
     let l = c.loop-place in
     only (texts words) _ (next_word l.awaits true l.job l.place words nowhere c.loop-place-test.true c.if-awaits.true l.invariant.comes _
-    (unnamed l.job l.place (word_at words l.place) (texts (drop (l.place + 1) words)) (sym c.named.ensures ∙ c.in_default.is)))
+    (unnamed l.job l.place (word_at words l.place) (texts (drop (l.place + 1) words)) (sym c.table_at.ensures ∙ c.in_default.is)))
 
 pub returns-then-not-is_option-clause-only : goal.returns-then-not-is_option-clause-only
 returns-then-not-is_option-clause-only c =
@@ -57,7 +57,7 @@ loop-place-preserved c =
     elim c.if-awaits.branch [
       | then-awaits+in-Some w ↦ record {
         comes = λ answer comes. leads true w.if-awaits.true answer
-            (named l.job l.place (word_at words l.place) rest answer _ (sym w.named.ensures ∙ w.in-Some.is)
+            (named l.job l.place (word_at words l.place) rest answer _ (sym w.table_at.ensures ∙ w.in-Some.is)
             (goes_on c.if-awaits.awaits false c.if-awaits.job _ (l.place + 1) rest answer w.awaits-is (w.job-is ∙ w.with_table-job.ensures) comes));
         awaited = λ is. omega arith;
         formats = subst (λ (job : Job). job.formats ≤ 1048576) (sym (w.job-is ∙ w.with_table-job.ensures)) l.invariant.formats;

@@ -1,0 +1,3 @@
+pub mod FirstBytes
+pub mod Naming
+pub mod Owning

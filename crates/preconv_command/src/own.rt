@@ -1,0 +1,95 @@
+//! Texts are turned into the bytes of a page's own table.
+ghost use Rattle.std.specs.Prelude.{◌≡◌, true};
+ghost use Rattle.filters.specs.Arguments.{texts};
+ghost use Rattle.filters.specs.Disk.{MayCome};
+ghost use Rattle.filters.specs.Program.{Comes, is_unread};
+ghost use Rattle.filters_own.specs.Looking.{ComesTo};
+ghost use Rattle.utf8_own_characters.specs.Table.{Good};
+ghost use Rattle.preconv_command.specs.Converting.{own};
+
+use super::lines::Lines;
+use super::program::{complained, ended};
+use super::sending::Stages;
+use filters::{BUFFER_SIZE, Disk, Ending, Paths, Turns, turn_names};
+use filters_own::look_at;
+use nr_units::buffered::Buffered;
+use nr_units::sink::Sink;
+use nr_vectors::slice_vec::SliceVec;
+use preconv_coding::UnderCoding;
+use preconv_converter::{Target, Turner as Characters};
+use std::io::Read;
+use utf8_own_characters::Table;
+use utf8_own_stage::Coder;
+
+/// Turns texts into the bytes of a table.
+#[derive(Drop)]
+struct OwnTurner<'a> {
+    table: &'a Table<'a>,
+    input: Vec<u8>,
+    ghost good: { Good table.now },
+}
+
+impl Turns for OwnTurner<'_> {
+    ghost use Rattle.preconv_command.specs.Converting.{own};
+
+    ghost filter = { λ turner. own turner.table.now };
+
+    /// Turns a text under its coding. What comes of it ends with a newline, if it is not empty.
+    fn turn<'a, T: Read + Drop, W: Sink, E: Sink>(
+        &mut self,
+        name: &'a str,
+        text: T,
+        output: W,
+        errors: &mut E,
+    ) -> (Ending<'a>, W) {
+        let mut source = UnderCoding::over(Buffered::over(text, &mut self.input));
+        let mut lines = Lines {
+            output,
+            open: false,
+        };
+        let mut made = [0; BUFFER_SIZE];
+        let mut coded = [0; BUFFER_SIZE];
+        let mut stages = Stages {
+            first: Characters::new(Target::Utf8),
+            second: Coder::over(self.table),
+            made: SliceVec::over(&mut made),
+            out: SliceVec::over(&mut coded),
+        };
+        let outcome = stages.run(&mut source, &mut lines);
+        let ending = ended(outcome, name, &mut lines);
+        let Lines { output, open: _ } = lines;
+        match source.unknown() {
+            Some(unknown) => (complained(name, unknown, ending, errors), output),
+            None => (ending, output),
+        }
+    }
+}
+
+/// Looks at a file, and turns the texts of these names into the bytes of the table of its characters.
+pub(crate) fn turn_own<'a, P: Paths, I: Read + Copy + Drop, W: Sink, E: Sink>(
+    file: &'a str,
+    names: &[&'a str],
+    disk: &mut Disk<P, I>,
+    output: W,
+    errors: &mut E,
+) -> (Ending<'a>, W)
+    ensures comes { ComesTo own file.now (texts names.now)
+        (Comes (MayCome (I.remaining disk.old.standard) (P.may_open disk.old.paths))
+        (P.asked disk.old.paths) (P.asked disk.new.paths) (W.held output) (W.held result.1)
+        (W.failures output) (W.failures result.1) (W.passed_on result.1)) result.0 }
+    ensures quiet { is_unread result.0 ≡ true → errors.new ≡ errors.old }
+{
+    let cells = match look_at(file, disk) {
+        Ok(cells) => cells,
+        Err(ending) => return (ending, output),
+    };
+    let Ok(input) = vec![in disk.alloc; 0u8; BUFFER_SIZE] else {
+        return (Ending::OutOfMemory, output);
+    };
+    let table = cells.table();
+    let mut turner = OwnTurner {
+        table: &table,
+        input,
+    };
+    turn_names(&mut turner, names, disk, output, errors)
+}
