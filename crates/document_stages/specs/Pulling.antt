@@ -2,8 +2,6 @@
 use Rattle.std.specs.Prelude.{◌≡◌, ℕ, ◌+◌, ◌<◌, ◌≤◌, List, [], ◌++◌, length, take, nat_lt, Bool, true, false, ◌&&◌, Option, None, Some, Result, Ok, Err, ⊤, if◌then◌else◌}
 use Rattle.nr_units.specs.Source.{Faults, Never, After, Anytime, Supply, Gives, MayFail, MayGiveAll, later}
 use Rattle.nr_units.specs.declared.source.Fault.{Fault}
-use Rattle.document_stages.specs.declared.pull.Step.{Step}
-use Rattle.document_stages.specs.declared.pull.Step.TheVariants as steps
 
 -- from here on nothing goes out
 pub record SaysNothing (says : Bool → List ℕ → List ℕ) (fits : List ℕ → Bool) : Type 0 where
@@ -109,15 +107,6 @@ pub record Failed (old new : Option Supply) (says says' : Bool → List ℕ → 
   pub said : (ends : Bool) → (rest : List ℕ) → says ends rest ≡ says' ends rest
   pub fitted : (rest : List ℕ) → fits rest ≡ fits' rest
   pub items_none : items ≡ []
-
-abbrev pub Steps : Option Supply → Option Supply → (Bool → List ℕ → List ℕ) → (Bool → List ℕ → List ℕ)
-    → (List ℕ → Bool) → (List ℕ → Bool) → List ℕ → ℕ → Result Step Fault → Type 0
-Steps old new says says' fits fits' items most (Ok (steps.Took n)) =
-    Took old new says says' fits fits' items n × (0 < n) × (n ≤ most)
-Steps old new says says' fits fits' items most (Ok steps.End) = Ended old new says fits items true
-Steps old new says says' fits fits' items most (Ok steps.Full) =
-    Ended old new says fits items false × SaysNothing says' fits'
-Steps old new says says' fits fits' items most (Err e) = Failed old new says says' fits fits' items e
 
 -- what was known stays
 abbrev pub Stays : Option Supply → Option Supply → Type 0

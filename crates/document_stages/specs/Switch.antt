@@ -10,6 +10,11 @@ abbrev pub fits_if : Bool → (List ℕ → Bool) → List ℕ → Bool
 fits_if true fits bytes = fits bytes
 fits_if false fits bytes = true
 
+-- and nothing is counted
+abbrev pub counts_if : Bool → (Bool → List ℕ → ℕ) → Bool → List ℕ → ℕ
+counts_if true counts ends bytes = counts ends bytes
+counts_if false counts ends bytes = 0
+
 abbrev pub wants_if : Bool → ℕ → ℕ
 wants_if true n = n
 wants_if false n = 1

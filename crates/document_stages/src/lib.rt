@@ -1,7 +1,8 @@
-//! Texts that go through stages: a stage over a source is itself a source, so one stage reads what another makes.
+//! Texts that go through stages: a stage over a source is itself a source, so one stage reads what another makes; and a
+//! source is turned by a stage into a sink.
 //!
-//! It stands on nr_units and nr_vectors. To read: `stage`, `switch`; `pull`, which joins a stage to a source; `joined`,
-//! `counted`, `gathered`, `text`, `buffer`.
+//! It stands on nr_units and nr_vectors. To read: `stage`, `switch`; `step`; `pull`, which joins a stage to a source;
+//! `running`, which joins it to a source and a sink; `joined`, `counted`, `gathered`, `text`, `buffer`.
 #![tactic(auto)]
 
 mod buffer;
@@ -9,7 +10,9 @@ mod counted;
 mod gathered;
 mod joined;
 mod pull;
+mod running;
 mod stage;
+mod step;
 mod switch;
 mod text;
 
@@ -18,6 +21,7 @@ pub use counted::{Counted, Lines};
 pub use gathered::{Ahead, Gathered};
 pub use joined::Joined;
 pub use pull::Pull;
+pub use running::{Outcome, run};
 pub use stage::{LEAST_ROOM, Stage};
 pub use switch::Switch;
 pub use text::Text;

@@ -5,6 +5,7 @@ ghost use Rattle.document_stages.specs.Pulling as specs;
 
 use super::counted::Lines;
 use super::stage::Stage;
+use super::step::{Step, make_step};
 use nr_units::source::{Fault, Source, next_count};
 use nr_vectors::slice_vec::SliceVec;
 
@@ -12,18 +13,7 @@ use nr_vectors::slice_vec::SliceVec;
 const TOO_MANY: u64 = 1_099_511_627_776;
 
 /// How many bytes are taken at once at most.
-const CHUNK: usize = 1_024;
-
-/// What one step came to.
-#[derive(Clone, Copy)]
-pub(crate) enum Step {
-    /// So many bytes were taken.
-    Took(u64),
-    /// The end came.
-    End,
-    /// The end came, and what comes of it doesn't fit.
-    Full,
-}
+const CHUNK: u64 = 1_024;
 
 /// A stage over a source. Its calls fail where those of the source do; once the stage is full; once 2^40 bytes were
 /// taken; and where the room is smaller than the stage wants.
@@ -36,90 +26,6 @@ pub struct Pull<'a, R, T> {
     pub(crate) taken: u64,
     pub(crate) ended: bool,
     pub(crate) failed: u64,
-}
-
-/// How many of the bytes at hand are turned at once.
-fn ready<R: Source>(input: &R, most: u64) -> usize
-    ensures within { result ≤ length (R.at_hand input.now) }
-    ensures few { result ≤ most }
-{
-    input.window().len().min(CHUNK).min(most as usize)
-}
-
-/// So many of the bytes at hand are turned, or the first of them.
-fn take_window<R: Source, T: Stage>(
-    stage: &mut T,
-    input: &mut R,
-    out: &mut SliceVec<'_, u8>,
-    len: usize,
-) -> usize
-    requires empty { out.old.items ≡ [] }
-    requires room { T.wants stage.old ≤ out.old.capacity }
-    requires some { 0 < len }
-    requires within { len ≤ length (R.at_hand input.old) }
-    ensures took { specs.Took (R.supply input.old) (R.supply input.new) (T.says stage.old) (T.says stage.new)
-        (T.fits stage.old) (T.fits stage.new) out.new.items result }
-    ensures some { 0 < result }
-    ensures few { result ≤ len }
-    ensures wants { T.wants stage.new ≡ T.wants stage.old }
-    ensures room { out.new.capacity ≡ out.old.capacity }
-{
-    let window = input.window();
-    let count = stage.turn(&window[..len], out);
-    input.skip(count);
-    count
-}
-
-/// The next byte is turned, or the end.
-fn take_next<R: Source, T: Stage>(
-    stage: &mut T,
-    input: &mut R,
-    out: &mut SliceVec<'_, u8>,
-) -> Result<Step, Fault>
-    requires empty { out.old.items ≡ [] }
-    requires room { T.wants stage.old ≤ out.old.capacity }
-    ensures steps { specs.Steps (R.supply input.old) (R.supply input.new) (T.says stage.old)
-        (T.says stage.new) (T.fits stage.old) (T.fits stage.new) out.new.items 1 result }
-    ensures wants { T.wants stage.new ≡ T.wants stage.old }
-    ensures room { out.new.capacity ≡ out.old.capacity }
-{
-    match input.next() {
-        Ok(Some(byte)) => {
-            let count = stage.turn(&[byte], out);
-            Ok(Step::Took(count as u64))
-        }
-        Ok(None) => {
-            if stage.finish(out) {
-                Ok(Step::End)
-            } else {
-                Ok(Step::Full)
-            }
-        }
-        Err(fault) => Err(fault),
-    }
-}
-
-/// Bytes at hand are turned, so many at most, or the next one, or the end.
-fn make_step<R: Source, T: Stage>(
-    stage: &mut T,
-    input: &mut R,
-    out: &mut SliceVec<'_, u8>,
-    most: u64,
-) -> Result<Step, Fault>
-    requires empty { out.old.items ≡ [] }
-    requires room { T.wants stage.old ≤ out.old.capacity }
-    requires some { 0 < most }
-    ensures steps { specs.Steps (R.supply input.old) (R.supply input.new) (T.says stage.old)
-        (T.says stage.new) (T.fits stage.old) (T.fits stage.new) out.new.items most result }
-    ensures wants { T.wants stage.new ≡ T.wants stage.old }
-    ensures room { out.new.capacity ≡ out.old.capacity }
-{
-    let len = ready(input, most);
-    if len == 0 {
-        return take_next(stage, input, out);
-    }
-    let count = take_window(stage, input, out, len);
-    Ok(Step::Took(count as u64))
 }
 
 /// Steps are made until something waits or the end came. Tells whether the end came.
@@ -141,7 +47,7 @@ fn fill<R: Source, T: Stage>(
     let mut count = *taken;
     out.clear();
     while count < TOO_MANY {
-        match make_step(stage, input, out, TOO_MANY - count) {
+        match make_step(stage, input, out, CHUNK.min(TOO_MANY - count)) {
             Ok(Step::Took(more)) => {
                 count += more;
                 if out.len() > 0 {

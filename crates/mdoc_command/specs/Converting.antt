@@ -1,8 +1,8 @@
 -- What mdoc makes of texts, and what its words ask for.
 use Rattle.std.specs.Prelude.{ℕ, List, [], ◌∷◌, Bool, true, false, if◌then◌else◌, None, codes}
 use Rattle.mdoc_converter.specs.Reading as reading
-use Rattle.mdoc_converter.specs.declared.running.Outcome.{Outcome}
-use Rattle.mdoc_converter.specs.declared.running.Outcome.TheVariants as outcomes
+use Rattle.document_stages.specs.declared.running.Outcome.{Outcome}
+use Rattle.document_stages.specs.declared.running.Outcome.TheVariants as outcomes
 use Rattle.filters.specs.Arguments.{is_option}
 use Rattle.filters.specs.Program.{Job, IsBad, TurnsTexts}
 use Rattle.filters.specs.Turning.{Filter}

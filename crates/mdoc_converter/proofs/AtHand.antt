@@ -1,7 +1,6 @@
 -- Bytes that pass at once.
 use Rattle.std.proofs.Common.{◌≡◌, ℕ, suc, ◌+◌, ◌≤◌, List, [], ◌∷◌, length, take, Bool, true, false, not, ◌==◌, nat_lt, if◌then◌else◌, None, refl, sym, ◌∙◌, ap, subst, arith}
 use Prim.Native.Char.{code}
-use Rattle.std.proofs.lemmas.List.{take-take}
 use Rattle.mdoc_converter.specs.declared.page.Front.{Front}
 use Rattle.mdoc_converter.specs.declared.page.Front.TheVariants as fronts
 use Rattle.mdoc_converter.specs.declared.page.Scan.{Scan}
@@ -119,10 +118,8 @@ passes_by : (pending : Pending) (s : State) (bs : List ℕ) → s.pending ≡ pe
 passes_by Nothing s bs f = passes_in s.page.scan s bs refl f
 passes_by pending s bs f = refl
 
--- the first of those at hand, of which so many are looked at
-pub passes_at_hand : (r : Reader) (n most : ℕ) (window : List ℕ) (around : List Block) → n ≡ passing r (take most window) → n ≤ most
-    → Passes (state r around) (take n window)
-passes_at_hand r n most window around e l =
-    let P : ℕ → Type 0 = λ k. Passes (state r around) (take k (take most window)) in
-    subst (λ (bs : List ℕ). Passes (state r around) bs) (take-take n most window l)
-    (subst P (sym e) (passes_by r.pending (state r around) (take most window) refl))
+-- the first of these
+pub passes_at_hand : (r : Reader) (n : ℕ) (bytes : List ℕ) (around : List Block) → n ≡ passing r bytes → Passes (state r around) (take n bytes)
+passes_at_hand r n bytes around e =
+    let P : ℕ → Type 0 = λ k. Passes (state r around) (take k bytes) in
+    subst P (sym e) (passes_by r.pending (state r around) bytes refl)

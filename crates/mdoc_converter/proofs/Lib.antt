@@ -24,6 +24,7 @@ mod PartLines
 mod QuotedLines
 mod ReadWords
 mod Reading
+mod Runs
 mod SaidParts
 mod Saying
 mod Stepping
@@ -31,7 +32,6 @@ mod Steps
 mod Taken
 mod TextSaid
 mod Together
-mod Turning
 mod Unchanged
 mod Ways
 mod WholeWords

@@ -2,7 +2,7 @@
 use Rattle.std.proofs.Common.{◌≡◌, ℕ, ◌+◌, List, [], ◌∷◌, ◌++◌, refl, sym, ◌∙◌, ap, append_assoc, arith}
 use Rattle.mdoc_converter.specs.Reading.{State, Told, told, behind, then_told, read, fed}
 
-add_assoc : (a b c : ℕ) → a + (b + c) ≡ a + b + c
+pub add_assoc : (a b c : ℕ) → a + (b + c) ≡ a + b + c
 add_assoc a b c = omega arith
 
 none_before : (n : ℕ) → 0 + n ≡ n

@@ -8,7 +8,8 @@ use Rattle.mdoc_converter.specs.declared.strings.Next.{Next}
 use Rattle.mdoc_converter.specs.declared.strings.Next.TheVariants as nexts
 use Rattle.mdoc_converter.specs.declared.pending.Pending.{Pending}
 use Rattle.mdoc_converter.specs.declared.pending.Pending.TheVariants as pendings
-use Rattle.mdoc_converter.specs.Reading.{State, Told, Once, told, once, then_told, heard_in, heard, heard_some, heard_text, heard_star, heard_raw, read_by, read, with_pending, fed, line_finished, finished_at, finished, first_state, steps_of}
+use Rattle.mdoc_converter.specs.Reading.{State, Told, Once, told, once, then_told, heard_in, heard, heard_some, heard_text, heard_star, heard_raw, read_by, read, with_pending, fed, line_finished, finished_at, finished, first_state}
+use Rattle.mdoc_converter.specs.Staged.{steps_said}
 use Rattle.mdoc_converter.specs.Strings.{met_by, takes_strings}
 
 once_more : (n : ℕ) (t : Bool) (o : State) (u : Told) → u.steps ≤ n → (if t then told o [] 0 else u).steps ≤ n
@@ -85,7 +86,7 @@ pub read-quick : (b : ℕ) (s : State) → (read b s).steps ≤ 96
 unfolding read
 read-quick b s = read_by-quick (met_by s.pending b (takes_strings s.page.scan)) b s
 
-pub fed_quick : (s : State) (bs : List ℕ) → (fed s bs).steps ≤ 96 * length bs
+fed_quick : (s : State) (bs : List ℕ) → (fed s bs).steps ≤ 96 * length bs
 fed_quick s [] = omega arith
 fed_quick s (b ∷ bs) =
     let first = read-quick b s in
@@ -110,11 +111,9 @@ finished-quick s =
     let t = (heard_raw s.pending (with_pending pendings.Nothing s)).state in
     let j = finished_at-quick t.page.scan t in omega arith
 
-pub fed_quick_more : (bs : List ℕ) → (fed first_state bs).steps ≤ 96 * (length bs + 1)
-fed_quick_more bs = let first = fed_quick first_state bs in omega arith
-
-pub steps_of_quick : (bs : List ℕ) → steps_of bs ≤ 96 * (length bs + 1)
-steps_of_quick bs =
+pub steps_said-quick : (ends : Bool) (bs : List ℕ) → steps_said first_state ends bs ≤ 96 * (length bs + 1)
+steps_said-quick true bs =
     let first = fed_quick first_state bs in
     let last = finished-quick (fed first_state bs).state in
     omega arith
+steps_said-quick false bs = let first = fed_quick first_state bs in omega arith

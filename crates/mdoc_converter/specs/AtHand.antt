@@ -1,5 +1,5 @@
 -- Bytes that pass at once.
-use Rattle.std.specs.Prelude.{◌≡◌, ℕ, ◌+◌, min, List, [], ◌∷◌, length, take, Bool, true, false, ◌==◌, if◌then◌else◌}
+use Rattle.std.specs.Prelude.{◌≡◌, ℕ, ◌+◌, List, [], ◌∷◌, length, Bool, true, false, ◌==◌, if◌then◌else◌}
 use Prim.Native.Char.{code}
 use Rattle.mdoc_converter.specs.declared.page.Front.TheVariants.{Comment, Other}
 use Rattle.mdoc_converter.specs.declared.page.Scan.{Scan}
@@ -9,11 +9,12 @@ use Rattle.mdoc_converter.specs.declared.pending.Pending.TheVariants.{Nothing}
 use Rattle.mdoc_converter.specs.declared.reader.Reader.{Reader}
 use Rattle.mdoc_converter.specs.Reading.{State, told, fed}
 
--- the page is not known to be one of mdoc
-abbrev pub is_asleep : Scan → Bool
-is_asleep (scans.Asleep front lines) = true
-is_asleep scans.Passes = true
-is_asleep scan = false
+-- in a line that passes, of a page that is not known to be one of mdoc, or after the first lines
+abbrev pub may_pass : Scan → Bool
+may_pass scans.Passes = true
+may_pass (scans.Asleep Other lines) = true
+may_pass (scans.Asleep Comment lines) = true
+may_pass scan = false
 
 -- how many bytes come before the first newline
 abbrev pub before_newline : List ℕ → ℕ
@@ -33,10 +34,6 @@ passing_by pending scan bs = 0
 
 abbrev pub passing : Reader → List ℕ → ℕ
 passing r bs = passing_by r.pending r.page.scan bs
-
--- the bytes at hand that are looked at, so many at most
-abbrev pub at_once : ℕ → List ℕ → List ℕ
-at_once most bs = take (min (min (length bs) 73984) most) bs
 
 -- these bytes go out as they are, each in one step, and leave what is half read
 abbrev pub Passes : State → List ℕ → Type 0

@@ -237,7 +237,3 @@ fed s (b ∷ bs) = then_told (read b s) (λ t. fed t bs)
 
 abbrev pub converted : List ℕ → List ℕ
 converted input = let t = fed first_state input in t.bytes ++ (finished t.state).bytes
-
--- in how many steps that comes
-abbrev pub steps_of : List ℕ → ℕ
-steps_of input = let t = fed first_state input in t.steps + (finished t.state).steps

@@ -33,12 +33,15 @@ fn passing_in(scan: Scan, bytes: &[u8]) -> usize
 }
 
 impl Reader {
-    /// The page is not known to be one of mdoc.
+    /// Whether bytes may pass, many at once.
     #[inline]
-    pub(crate) fn is_asleep(&self) -> bool
-        ensures { result ≡ specs.is_asleep self.now.page.scan }
+    pub(crate) fn may_pass(&self) -> bool
+        ensures { result ≡ specs.may_pass self.now.page.scan }
     {
-        matches!(self.page.scan, Scan::Asleep(_, _) | Scan::Passes)
+        matches!(
+            self.page.scan,
+            Scan::Passes | Scan::Asleep(Front::Other, _) | Scan::Asleep(Front::Comment, _)
+        )
     }
 
     /// How many of these bytes pass: after the lines that are looked at all of them, and before up to a line's end.

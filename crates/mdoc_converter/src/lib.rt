@@ -2,7 +2,7 @@
 //!
 //! It stands on nr_units, nr_vectors and document_stages. To read: `macros`, `page`, `acts`, `seen`; `texts`, `names`, `libraries`, `lookup`, `lay`,
 //! `own_lines`, `references`, `lay_out`; `options`, `calls`, `taking`, `words`, `blocks`, `lines`, `keeping`, `rows`,
-//! `definitions`, `escaping`, `scan`, which puts them together; `pending`, `reader`, `strings`, `at_hand`, `running`; `staged`; `passing`,
+//! `definitions`, `escaping`, `scan`, which puts them together; `pending`, `reader`, `strings`, `at_hand`; `staged`, `running`; `passing`,
 //! `word_laws`.
 #![tactic(auto)]
 
@@ -39,10 +39,11 @@ mod texts;
 mod word_laws;
 mod words;
 
+pub use document_stages::Outcome;
 pub use lay::{is_library, is_standard, is_version};
 pub use macros::is_macro;
 pub use page::Block;
 pub use passing::passes_unchanged;
-pub use running::{Outcome, convert};
+pub use running::convert;
 pub use staged::Turner;
 pub use word_laws::words_are_said;

@@ -1,7 +1,5 @@
 //! A page is turned a part at a time.
-ghost use Rattle.std.specs.Prelude.{◌≡◌, ◌+◌, ◌<◌, ◌≤◌, List, [], false, length, take};
-ghost use Rattle.mdoc_converter.specs.declared.page.Block.{Block as BlockValue};
-ghost use Rattle.mdoc_converter.specs.AtHand.{Passes};
+ghost use Rattle.std.specs.Prelude.{◌≡◌, ◌+◌, ◌*◌, ◌++◌, ◌<◌, ◌≤◌, [], false, length, take};
 ghost use Rattle.mdoc_converter.specs.Reading.{fed, first_state, state};
 
 use super::page::Block;
@@ -17,60 +15,62 @@ use nr_vectors::slice_vec::SliceVec;
 pub struct Turner<'a> {
     reader: Reader,
     blocks: SliceVec<'a, Block>,
+    // So many steps were made, or more than it can say.
+    steps: u64,
     ghost room: { 64 ≤ blocks.capacity },
 }
 
-/// How many bytes pass, so many at most.
-fn passing_of(reader: &Reader, bytes: &[u8]) -> usize
-    ensures passes { (around : List BlockValue) → Passes (state reader.now around) (take result bytes.now) }
-    ensures within { result ≤ length bytes.now }
-    ensures room { result ≤ 73984 }
-{
-    if !reader.is_asleep() {
-        return 0;
-    }
-    let len = bytes.len().min(LEAST_ROOM);
-    reader.passing(&bytes[..len])
+/// How many bytes were read, and in how many steps.
+#[derive(Clone, Copy)]
+struct Taken {
+    count: usize,
+    steps: u64,
 }
 
-/// Whether no more bytes are read at once: for what one of them may say there may be no room, or lines pass.
+/// Whether no more bytes are read one by one: for what one of them may say there may be no room, or many pass at once.
 fn pauses(reader: &Reader, out: &SliceVec<'_, u8>) -> bool
     ensures { result ≡ false → length out.now.items + 73984 ≤ out.now.capacity }
 {
-    reader.is_asleep() || out.capacity() - out.len() < LEAST_ROOM
+    reader.may_pass() || out.capacity() - out.len() < LEAST_ROOM
 }
 
-/// Bytes are read, the first of them at least. Tells how many.
+/// Bytes are read, the first of them at least. Tells how many, and in how many steps.
 fn read_some(
     reader: &mut Reader,
     bytes: &[u8],
     blocks: &mut SliceVec<'_, Block>,
     out: &mut SliceVec<'_, u8>,
-) -> usize
+) -> Taken
     requires some { 0 < length bytes.now }
-    requires empty { out.old.items ≡ [] }
-    requires room { 73984 ≤ out.old.capacity }
+    requires few { length bytes.now ≤ 73984 }
+    requires room { length out.old.items + 73984 ≤ out.old.capacity }
     requires blocks { 64 ≤ blocks.old.capacity }
-    ensures some { 0 < result }
-    ensures within { result ≤ length bytes.now }
+    ensures some { 0 < result.count }
+    ensures within { result.count ≤ length bytes.now }
     ensures state { state reader.new blocks.new.items
-        ≡ (fed (state reader.old blocks.old.items) (take result bytes.now)).state }
-    ensures items { out.new.items ≡ (fed (state reader.old blocks.old.items) (take result bytes.now)).bytes }
+        ≡ (fed (state reader.old blocks.old.items) (take result.count bytes.now)).state }
+    ensures items { out.new.items ≡ out.old.items
+        ++ (fed (state reader.old blocks.old.items) (take result.count bytes.now)).bytes }
+    ensures steps { result.steps ≡ (fed (state reader.old blocks.old.items) (take result.count bytes.now)).steps }
+    ensures few { length out.new.items ≤ length out.old.items + 73984 * result.count }
     ensures room { out.new.capacity ≡ out.old.capacity }
     ensures blocks { blocks.new.capacity ≡ blocks.old.capacity }
 {
-    reader.read(bytes[0], blocks, out);
+    let mut steps = reader.read(bytes[0], blocks, out);
     for i in 1..bytes.len() {
         if pauses(reader, out) {
-            return i;
+            return Taken { count: i, steps };
         }
-        reader.read(bytes[i], blocks, out);
+        steps += reader.read(bytes[i], blocks, out);
     }
-    bytes.len()
+    Taken {
+        count: bytes.len(),
+        steps,
+    }
 }
 
 impl<'a> Turner<'a> {
-    ghost use Rattle.mdoc_converter.specs.Staged.{said};
+    ghost use Rattle.mdoc_converter.specs.Staged.{counted, said};
     ghost use Rattle.document_stages.specs.Pulling.{fits_always};
 
     /// A page begins. The room for the lists and displays that are open is 64 at least; what it held is of no account.
@@ -78,12 +78,21 @@ impl<'a> Turner<'a> {
         requires { 64 ≤ length blocks.now }
         ensures says { ⟦<Turner<'a> as Stage>⟧.says result ≡ said first_state }
         ensures fits { ⟦<Turner<'a> as Stage>⟧.fits result ≡ fits_always }
+        ensures counts { ⟦<Turner<'a> as Stage>⟧.counts result ≡ counted 0 first_state }
         ensures wants { ⟦<Turner<'a> as Stage>⟧.wants result ≡ 73984 }
     {
         Turner {
             reader: Reader::new(),
             blocks: SliceVec::over(blocks),
+            steps: 0,
         }
+    }
+
+    /// How many steps were made.
+    pub fn steps(&self) -> u64
+        ensures { result ≡ ⟦<Turner<'a> as Stage>⟧.counts self.now false [] }
+    {
+        self.steps
     }
 }
 
@@ -91,11 +100,13 @@ impl Stage for Turner<'_> {
     ghost use Rattle.std.specs.Prelude.{refl};
     ghost use Rattle.document_stages.specs.Pulling.{fits_always};
     ghost use Rattle.mdoc_converter.specs.Reading.{state};
-    ghost use Rattle.mdoc_converter.specs.Staged.{said};
+    ghost use Rattle.mdoc_converter.specs.Staged.{counted, said};
 
     ghost says = { λ s. said (state s.reader s.blocks.items) };
 
     ghost fits = { λ s. fits_always };
+
+    ghost counts = { λ s. counted s.steps (state s.reader s.blocks.items) };
 
     ghost wants = { λ s. 73984 };
 
@@ -109,16 +120,21 @@ impl Stage for Turner<'_> {
         if bytes.is_empty() {
             return 0;
         }
-        let count = passing_of(&self.reader, bytes);
+        let some = &bytes[..bytes.len().min(LEAST_ROOM)];
+        let count = self.reader.passing(some);
         if count > 0 {
-            out.extend(&bytes[..count]);
+            out.extend(&some[..count]);
+            self.steps = self.steps.saturating_add(count as u64);
             return count;
         }
-        read_some(&mut self.reader, bytes, &mut self.blocks, out)
+        let taken = read_some(&mut self.reader, some, &mut self.blocks, out);
+        self.steps = self.steps.saturating_add(taken.steps);
+        taken.count
     }
 
     fn finish(&mut self, out: &mut SliceVec<'_, u8>) -> bool {
-        self.reader.finish(&mut self.blocks, out);
+        let steps = self.reader.finish(&mut self.blocks, out);
+        self.steps = self.steps.saturating_add(steps);
         true
     }
 

@@ -3,9 +3,10 @@ use Rattle.std.proofs.Common.{◌≡◌, ℕ, List, false, Option, refl, subst, 
 use Rattle.nr_units.specs.Failures.{next_count}
 use Rattle.nr_units.specs.Source.{Supply}
 use Rattle.preconv_converter.specs.declared.target.Target.{Target}
-use Rattle.preconv_converter.specs.Running.{Ran, TellsReads, is_read_fault}
-use Rattle.preconv_converter.specs.declared.running.Outcome.{Outcome}
-use Rattle.preconv_converter.specs.declared.running.Outcome.TheVariants.{Done, ReadFault, TooLong, WriteFault}
+use Rattle.document_stages.specs.Running.{TellsReads, is_read_fault}
+use Rattle.preconv_converter.specs.Running.{Ran}
+use Rattle.document_stages.specs.declared.running.Outcome.{Outcome}
+use Rattle.document_stages.specs.declared.running.Outcome.TheVariants.{Done, ReadFault, TooLong, WriteFault}
 
 -- of the same bytes before and after
 pub carried : (e e' : Target) (q q' left : Option Supply) (old old' new new' : Option (List ℕ)) (steps : ℕ) (o : Outcome)

@@ -1,9 +1,10 @@
 -- What a call of mdoc comes to.
 use Rattle.std.specs.Prelude.{◌≡◌, ℕ, List, [], length, false, Option, Some}
 use Rattle.nr_units.specs.Source.{Supply}
-use Rattle.mdoc_converter.specs.Running.{Ran, is_read_fault}
-use Rattle.mdoc_converter.specs.declared.running.Outcome.{Outcome}
-use Rattle.mdoc_converter.specs.declared.running.Outcome.TheVariants.{Done, ReadFault, TooLong, WriteFault}
+use Rattle.document_stages.specs.Running.{is_read_fault}
+use Rattle.document_stages.specs.declared.running.Outcome.{Outcome}
+use Rattle.mdoc_converter.specs.Running.{Ran}
+use Rattle.document_stages.specs.declared.running.Outcome.TheVariants.{Done, ReadFault, TooLong, WriteFault}
 use Rattle.nulbiko.specs.Told.{IsHanded, code_within, whole_text}
 use Rattle.nulbiko.specs.declared.told.Report.{Report}
 

@@ -3,10 +3,11 @@ use Rattle.std.specs.Prelude.{◌≡◌, ℕ, List, [], length, false, Option, S
 use Rattle.nr_units.specs.Source.{Supply}
 use Rattle.utf8_characters.specs.declared.table.Table.{Table}
 use Rattle.preconv_coding.specs.UnderCoding.{text_supply}
-use Rattle.preconv_converter.specs.Running.{Ran, is_read_fault}
+use Rattle.document_stages.specs.Running.{is_read_fault}
+use Rattle.preconv_converter.specs.Running.{Ran}
 use Rattle.preconv_converter.specs.Targets.{target_of}
-use Rattle.preconv_converter.specs.declared.running.Outcome.{Outcome}
-use Rattle.preconv_converter.specs.declared.running.Outcome.TheVariants.{Done, ReadFault, TooLong, WriteFault}
+use Rattle.document_stages.specs.declared.running.Outcome.{Outcome}
+use Rattle.document_stages.specs.declared.running.Outcome.TheVariants.{Done, ReadFault, TooLong, WriteFault}
 use Rattle.nulbiko.specs.Told.{IsHanded, code_within, whole_text}
 use Rattle.nulbiko.specs.declared.told.Report.{Report}
 

@@ -1,4 +1,3 @@
-pub mod Owning
-pub mod Parts
 pub mod Running
 pub mod Turns
+pub mod TwoStages

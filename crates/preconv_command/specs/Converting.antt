@@ -7,8 +7,8 @@ use Rattle.preconv_coding.specs.UnderCoding as coding
 use Rattle.preconv_converter.specs.Reading.{converted, fed, first_reader}
 use Rattle.preconv_converter.specs.declared.target.Target.{Target}
 use Rattle.preconv_converter.specs.declared.target.Target.TheVariants.{Ascii, Bytes, Utf8}
-use Rattle.preconv_converter.specs.declared.running.Outcome.{Outcome}
-use Rattle.preconv_converter.specs.declared.running.Outcome.TheVariants as outcomes
+use Rattle.document_stages.specs.declared.running.Outcome.{Outcome}
+use Rattle.document_stages.specs.declared.running.Outcome.TheVariants as outcomes
 use Rattle.utf8_own_characters.specs.Table.{Characters}
 use Rattle.utf8_own_stage.specs.Coding.{coded_text}
 use Rattle.filters.specs.Program as programs

@@ -1,3 +1,3 @@
 pub mod Arguments
 pub mod Converting
-pub mod Sending
+pub mod Through

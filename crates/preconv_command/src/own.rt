@@ -9,7 +9,8 @@ ghost use Rattle.preconv_command.specs.Converting.{own};
 
 use super::lines::Lines;
 use super::program::{complained, ended};
-use super::sending::Stages;
+use super::through::Through;
+use document_stages::run;
 use filters::{BUFFER_SIZE, Disk, Ending, Paths, Turns, turn_names};
 use filters_own::look_at;
 use nr_units::buffered::Buffered;
@@ -20,6 +21,12 @@ use preconv_converter::{Target, Turner as Characters};
 use std::io::Read;
 use utf8_own_characters::Table;
 use utf8_own_stage::Coder;
+
+/// Room for what one turn makes in UTF-8: it goes on while 1536 bytes of it are left.
+const MADE: usize = 2_048;
+
+/// Room for what comes of that in the table, and of the end: at most 32 bytes for each byte.
+const ROOM: usize = 65_568;
 
 /// Turns texts into the bytes of a table.
 #[derive(Drop)]
@@ -47,15 +54,15 @@ impl Turns for OwnTurner<'_> {
             output,
             open: false,
         };
-        let mut made = [0; BUFFER_SIZE];
-        let mut coded = [0; BUFFER_SIZE];
-        let mut stages = Stages {
+        let mut made = [0; MADE];
+        let mut pending = [0; ROOM + BUFFER_SIZE];
+        let mut stages = Through {
             first: Characters::new(Target::Utf8),
             second: Coder::over(self.table),
             made: SliceVec::over(&mut made),
-            out: SliceVec::over(&mut coded),
+            room: ROOM,
         };
-        let outcome = stages.run(&mut source, &mut lines);
+        let outcome = run(&mut stages, &mut source, &mut lines, &mut pending);
         let ending = ended(outcome, name, &mut lines);
         let Lines { output, open: _ } = lines;
         match source.unknown() {

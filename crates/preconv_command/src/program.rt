@@ -1,7 +1,7 @@
 // The program over its words and its texts.
 ghost use Rattle.std.specs.Prelude.{◌≡◌, length, true, false, Err};
 ghost use Rattle.nr_units.specs.Failures.{put_counted_if};
-ghost use Rattle.preconv_converter.specs.Running.{is_write_fault};
+ghost use Rattle.document_stages.specs.Running.{is_write_fault};
 ghost use Rattle.filters.specs.Arguments.{texts};
 ghost use Rattle.filters.specs.Disk.{MayCome};
 ghost use Rattle.filters.specs.Program.{IsReportedWord, TurnsNames, is_unread};

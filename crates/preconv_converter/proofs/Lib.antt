@@ -1,3 +1,4 @@
+mod Counting
 pub mod AtOnce
 pub mod Characters
 pub mod CommentLines
@@ -23,11 +24,10 @@ pub mod Taking
 pub mod TextGoes
 pub mod TextRuns
 pub mod TextTable
-pub mod Turning
 pub mod Unchanged
 pub mod Unread
-pub mod WideText
 pub mod WholeTaken
+pub mod WideText
 pub mod WordSigns
 pub mod WordsBegun
 pub mod WordsGo

@@ -8,7 +8,8 @@ use Rattle.preconv_converter.specs.declared.reader.Pending.{Pending}
 use Rattle.preconv_converter.specs.declared.reader.Pending.TheVariants.{Nothing, One, Two, Three}
 use Rattle.preconv_converter.specs.Saying.{bytes_of, sent}
 use Rattle.preconv_converter.specs.Meeting.{meet, is_raw}
-use Rattle.preconv_converter.specs.Reading.{Told, is_lead, is_tail, is_second, told, behind, then_told, with_half, pending_with, heard_in, heard, stray, strays, pending_heard, fresh, apart, whole, heard_after, read, fed, first_reader, steps_of}
+use Rattle.preconv_converter.specs.Reading.{Told, is_lead, is_tail, is_second, told, behind, then_told, with_half, pending_with, heard_in, heard, stray, strays, pending_heard, fresh, apart, whole, heard_after, read, fed, first_reader}
+use Rattle.preconv_converter.specs.Staged.{steps_said}
 
 -- ---- a character is heard in so many steps at most, and what is pending stays
 
@@ -127,11 +128,9 @@ fed-paid (b ∷ bs) r =
     let one = (read-pays b r).enough in
     let more = fed-paid bs t.reader in omega (arith, one, more)
 
-pub fed_quick : (e : Target) (bs : List ℕ) → (fed (first_reader e) bs).steps ≤ 6 * length bs
-fed_quick e bs = let all = fed-paid bs (first_reader e) in omega (arith, all)
-
-pub steps_of_quick : (e : Target) (bs : List ℕ) → steps_of e bs ≤ 6 * length bs
-steps_of_quick e bs =
+pub steps_said-quick : (e : Target) (ends : Bool) (bs : List ℕ) → steps_said (first_reader e) ends bs ≤ 6 * length bs
+steps_said-quick e true bs =
     let all = fed-paid bs (first_reader e) in
     let r = (fed (first_reader e) bs).reader in
     let last = (strays-quick r.pending (pending_with Nothing r)).quick in omega (arith, all, last)
+steps_said-quick e false bs = let all = fed-paid bs (first_reader e) in omega (arith, all)

@@ -1,15 +1,12 @@
 -- Bytes are taken one after another.
 use Prim.Native.Char.{code}
-use Rattle.std.proofs.Common.{◌≡◌, ℕ, ◌+◌, ◌<◌, ◌≤◌, List, [], ◌∷◌, ◌++◌, length, take, drop, get_or, Option, refl, sym, ◌∙◌, ap, subst, append_assoc, append-nil, arith}
+use Rattle.std.proofs.Common.{◌≡◌, ℕ, ◌+◌, ◌<◌, ◌≤◌, List, [], ◌∷◌, ◌++◌, length, take, drop, get_or, refl, sym, ◌∙◌, ap, subst, append_assoc, append-nil, arith}
 use Rattle.std.proofs.Math.Seq.{take-add}
-use Rattle.std.proofs.lemmas.List.{take-take, length-take}
-use Rattle.nr_units.specs.Source.{Supply, Offers, Skips}
+use Rattle.std.proofs.lemmas.List.{take-take}
 use Rattle.preconv_converter.specs.declared.reader.Reader.{Reader}
 use Rattle.preconv_converter.specs.Reading.{Told, told, read, fed, Takes}
 use Rattle.preconv_converter.specs.Passing.{Passes}
-use Rattle.preconv_converter.specs.Running.{Took}
 use Rattle.preconv_converter.proofs.Reading.{fed-append_reader, fed-append_bytes, fed-append_steps}
-use Rattle.preconv_converter.proofs.Turning.{Comes-skip}
 
 none_added : (n : ℕ) → n + 0 ≡ n
 none_added n = omega arith
@@ -96,20 +93,4 @@ Takes-cut m k ys s u q left j l t =
       reader = t.reader ∙ ap (λ (x : Told). x.reader) same;
       out = t.out ∙ ap (λ (x : Told). q ++ x.bytes) same;
       made = t.made ∙ ap (λ (x : Told). x.steps) same;
-    }
-
--- those at hand came
-pub Took-taken : (a b : Option Supply) (window : List ℕ) (most n : ℕ) (r s : Reader) (pending left : List ℕ) (steps : ℕ)
-    → n ≤ length (take most window) → n ≤ most → n ≤ length window → Offers a window → Skips a n b
-    → Takes n (take most window) r s pending left steps → Took a b r s pending left n steps
-Took-taken a b window most n r s pending left steps l m k o skips taken =
-    let front : take n (take most window) ≡ take n window = take-take n most window m in
-    let same : fed r (take n (take most window)) ≡ fed r (take n window) = ap (fed r) front in
-    record {
-      bytes = take n window;
-      came = Comes-skip a b window n k o skips;
-      count = omega (arith, length-take n window);
-      reader = taken.reader ∙ ap (λ (t : Told). t.reader) same;
-      out = taken.out ∙ ap (λ (t : Told). pending ++ t.bytes) same;
-      made = taken.made ∙ ap (λ (t : Told). t.steps) same;
     }

@@ -2,7 +2,7 @@
 //!
 //! It stands on nr_units, nr_vectors, utf8_characters and document_stages. To read: `numbers`, `pairs`, `glyphs`; `target`, `signs`, `likeness`, `said`; `words`, `half`;
 //! `beginnings`, `hyphens`, `sentences`, `translations`, `lines`, `conditions`; `endings`, `faces`, `skipping`, `letters`,
-//! `named`, `spelling`, `escapes`; `meeting`, which puts them together; `runs`, `passing`, `reader`, `running`; `staged`;
+//! `named`, `spelling`, `escapes`; `meeting`, which puts them together; `runs`, `passing`, `reader`; `staged`, `running`;
 //! `plain_text`, `word_laws`.
 #![tactic(auto)]
 
@@ -38,9 +38,10 @@ mod whole;
 mod word_laws;
 mod words;
 
+pub use document_stages::Outcome;
 pub use likeness::put_likeness;
 pub use plain_text::passes_unchanged;
-pub use running::{Outcome, convert};
+pub use running::convert;
 pub use staged::Turner;
 pub use target::Target;
 pub use word_laws::words_go_out;

@@ -116,6 +116,7 @@ impl Half {
 
     /// Where a line goes on whose name has ended before this byte. Whether lines are ignored after a
     /// condition is not known, nor where they end that have a name of their own.
+    #[inline(always)]
     pub(crate) fn opens(&mut self, opens: Opens, byte: u8)
         ensures { self.new ≡ specs.opening opens byte self.old }
     {

@@ -231,6 +231,7 @@ impl Half {
     }
 
     /// Takes a font, as `\\fB`.
+    #[inline(always)]
     pub(crate) fn takes_font(&mut self, letter: u8)
         ensures { self.new ≡ specs.after_font letter self.old }
     {

@@ -1,7 +1,7 @@
 //! A text is turned a part at a time.
-ghost use Rattle.std.specs.Prelude.{◌≡◌};
+ghost use Rattle.std.specs.Prelude.{◌≡◌, [], false};
 ghost use Rattle.preconv_converter.specs.Reading.{first_reader};
-ghost use Rattle.preconv_converter.specs.Staged.{said};
+ghost use Rattle.preconv_converter.specs.Staged.{counted, said};
 ghost use Rattle.document_stages.specs.Pulling.{fits_always};
 
 use super::reader::{MOST, Reader};
@@ -16,6 +16,8 @@ use nr_vectors::slice_vec::SliceVec;
 #[derive(Drop)]
 pub struct Turner {
     reader: Reader,
+    // So many steps were made, or more than it can say.
+    steps: u64,
 }
 
 impl Turner {
@@ -23,22 +25,33 @@ impl Turner {
     pub fn new(characters: Target) -> Turner
         ensures says { ⟦<Turner as Stage>⟧.says result ≡ said (first_reader characters) }
         ensures fits { ⟦<Turner as Stage>⟧.fits result ≡ fits_always }
+        ensures counts { ⟦<Turner as Stage>⟧.counts result ≡ counted 0 (first_reader characters) }
         ensures wants { ⟦<Turner as Stage>⟧.wants result ≡ 1536 }
     {
         Turner {
             reader: Reader::new(characters),
+            steps: 0,
         }
+    }
+
+    /// How many steps were made.
+    pub fn steps(&self) -> u64
+        ensures { result ≡ ⟦<Turner as Stage>⟧.counts self.now false [] }
+    {
+        self.steps
     }
 }
 
 impl Stage for Turner {
     ghost use Rattle.std.specs.Prelude.{refl};
     ghost use Rattle.document_stages.specs.Pulling.{fits_always};
-    ghost use Rattle.preconv_converter.specs.Staged.{said};
+    ghost use Rattle.preconv_converter.specs.Staged.{counted, said};
 
     ghost says = { λ s. said s.reader };
 
     ghost fits = { λ s. fits_always };
+
+    ghost counts = { λ s. counted s.steps s.reader };
 
     ghost wants = { λ s. 1536 };
 
@@ -50,20 +63,24 @@ impl Stage for Turner {
 
     fn turn(&mut self, bytes: &[u8], out: &mut SliceVec<'_, u8>) -> usize {
         let len = bytes.len().min(MOST);
-        let taken = self.reader.take(&bytes[..len], out);
+        let mut reader = self.reader;
+        let taken = reader.take(&bytes[..len], out);
+        self.reader = reader;
         if taken.count > 0 {
+            self.steps = self.steps.saturating_add(taken.steps);
             return taken.count;
         }
         if bytes.is_empty() {
             return 0;
         }
-        let byte = bytes[0];
-        self.reader.read(byte, out);
+        let steps = self.reader.read(bytes[0], out);
+        self.steps = self.steps.saturating_add(steps);
         1
     }
 
     fn finish(&mut self, out: &mut SliceVec<'_, u8>) -> bool {
-        self.reader.finish(out);
+        let steps = self.reader.finish(out);
+        self.steps = self.steps.saturating_add(steps);
         true
     }
 

@@ -35,10 +35,11 @@ coding-parts t l p true xs ys =
     ∙ append_assoc (said_of t l p xs) (said_of t m q ys) (said_last t (place_behind m q ys) (after m ys).held)
 
 -- of what was put, and what the listener and the place became
-pub coding-taken : (t : Characters) (l m : Listener) (p q : Place) (xs items : List ℕ) → m ≡ after l xs → q ≡ place_behind l p xs → items ≡ said_of t l p xs
-    → (ends : Bool) (ys : List ℕ) → coding t l p ends (xs ++ ys) ≡ items ++ coding t m q ends ys
-coding-taken t l m p q xs items heard placed out ends ys =
-    coding-parts t l p ends xs ys
+pub coding-taken : (t : Characters) (l m : Listener) (p q : Place) (xs waits items : List ℕ) → m ≡ after l xs → q ≡ place_behind l p xs
+    → items ≡ waits ++ said_of t l p xs → (ends : Bool) (ys : List ℕ) → waits ++ coding t l p ends (xs ++ ys) ≡ items ++ coding t m q ends ys
+coding-taken t l m p q xs waits items heard placed out ends ys =
+    ap (λ (z : List ℕ). waits ++ z) (coding-parts t l p ends xs ys)
+    ∙ sym (append_assoc waits (said_of t l p xs) (coding t (after l xs) (place_behind l p xs) ends ys))
     ∙ ap (λ (z : List ℕ). z ++ coding t (after l xs) (place_behind l p xs) ends ys) (sym out)
     ∙ ap (λ (z : Listener). items ++ coding t z (place_behind l p xs) ends ys) (sym heard)
     ∙ ap (λ (z : Place). items ++ coding t m z ends ys) (sym placed)

@@ -116,6 +116,7 @@ pub(crate) fn put_all(
     requires good { Good table.now }
     requires room { length out.old.items + 32 * length bytes.now ≤ out.old.capacity }
     ensures items { out.new.items ≡ out.old.items ++ specs.said_of table.now listener.old place.old bytes.now }
+    ensures few { length out.new.items ≤ length out.old.items + 32 * length bytes.now }
     ensures listener { listener.new ≡ after listener.old bytes.now }
     ensures place { place.new ≡ specs.place_behind listener.old place.old bytes.now }
     ensures room { out.new.capacity ≡ out.old.capacity }
@@ -137,6 +138,7 @@ pub(crate) fn put_last(
     requires good { Good table.now }
     requires room { length out.old.items + 32 ≤ out.old.capacity }
     ensures items { out.new.items ≡ out.old.items ++ specs.said_last table.now place.old cluster }
+    ensures few { length out.new.items ≤ length out.old.items + 32 }
     ensures room { out.new.capacity ≡ out.old.capacity }
 {
     put_done(cluster, place, table, out);

@@ -45,6 +45,8 @@ impl Stage for Coder<'_> {
 
     ghost fits = { λ s. fits_always };
 
+    ghost counts = { λ s ends bytes. 0 };
+
     ghost wants = { λ s. 32 };
 
     ghost waits = { λ s. refl };
@@ -54,7 +56,7 @@ impl Stage for Coder<'_> {
     }
 
     fn turn(&mut self, bytes: &[u8], out: &mut SliceVec<'_, u8>) -> usize {
-        let len = bytes.len().min(out.capacity() / MOST);
+        let len = bytes.len().min((out.capacity() - out.len()) / MOST);
         put_all(
             &bytes[..len],
             &mut self.listener,
