@@ -2,7 +2,10 @@ pub mod Fits
 pub mod Follows
 pub mod InTurn
 pub mod Lines
+pub mod Longest
 pub mod Once
+pub mod PartsAdded
+pub mod Printing
 pub mod Quiet
 pub mod Rooms
 pub mod Stays

@@ -10,14 +10,14 @@ use Rattle.tbl_blocks.specs.declared.reading.Manner.{Manner}
 use Rattle.tbl_blocks.specs.declared.requests.Request.{Request}
 use Rattle.tbl_blocks.specs.declared.requests.Request.TheVariants as requests
 use Rattle.tbl_blocks.specs.declared.units.Unit.{Unit}
-use Rattle.tbl_blocks.specs.Arguments.{argument, blanks_len, request_len, spaces_len}
+use Rattle.tbl_blocks.specs.Arguments.{argument, blanks_len, first_argument, number_or, request_len, spaces_len}
 use Rattle.tbl_blocks.specs.Blocks.{block_read, emptied, field_read, filled, none_of, some_parts}
 use Rattle.tbl_blocks.specs.Filling.{lines_of}
 use Rattle.tbl_blocks.specs.Lists.{added, added_all}
-use Rattle.tbl_blocks.specs.Reading.{after_part, breaks, ends_in_space, indented, once_set, part_to, skipped, parts_before, reading_of, space_part, unset, waits_for, word_begun}
+use Rattle.tbl_blocks.specs.Reading.{after_part, breaks, ends_in_space, indented, once_set, paragraph, part_to, skipped, parts_before, reading_of, space_part, unset, waits_for, word_begun}
 use Rattle.tbl_blocks.specs.Requests.{request_of}
 use Rattle.tbl_blocks.specs.Units.{unit_of}
-use Rattle.tbl_blocks.specs.Words.{argument_read, arguments_from, arguments_read, block_ended, byte_taken, face_read, faces_read, goes_on, is_none, is_request, joined_read, line_read, lines_from, lines_read, obeyed, part_ended, request_read, text_read, unit_taken, unknown_read, whole_read, with_reading, with_unit, word_at_place, words_from, words_of_line, words_read}
+use Rattle.tbl_blocks.specs.Words.{argument_read, arguments_from, arguments_read, block_ended, byte_taken, cells_from, face_read, faces_read, goes_on, is_none, is_request, item_read, joined_read, line_as, line_read, lines_from, lines_read, obeyed, part_ended, request_read, tag_ended, tag_taken, text_read, unit_taken, unknown_read, whole_read, with_reading, with_unit, word_at_place, words_from, words_of_line, words_read}
 
 -- where both of a choice keep them
 either : (b : Bool) (x y s : Blocks) → emptied x ≡ emptied s → emptied y ≡ emptied s → emptied (if b then x else y) ≡ emptied s
@@ -72,10 +72,33 @@ unknown_room : (text : List ℕ) (place : ℕ) (s : Blocks) → emptied (unknown
 unknown_room text place s =
     arguments_room text place (record { first = s.reading.face.font; second = s.reading.face.font; joined = false }) (with_reading (unset s.reading) s)
 
+-- ---- tags
+
+item_room : (text : List ℕ) (place : ℕ) (s : Blocks) → emptied (item_read text place s) ≡ emptied s
+item_room text place s =
+    found (argument text)
+  where
+    found : (o : Option Argument)
+        → emptied (elim o [
+          | None ↦ tag_ended (length s.parts.items) (with_reading (paragraph s.reading) s).reading.margins.by (with_reading (paragraph s.reading) s)
+          | Some a ↦ tag_ended (length s.parts.items)
+              (number_or (with_reading (paragraph s.reading) s).reading.margins.by (first_argument (drop a.next text)))
+              (words_read (slice_range text a.start a.«end») (place + a.start) (with_reading (paragraph s.reading) s))
+        ]) ≡ emptied s
+    found None = refl
+    found (Some a) = words_room (slice_range text a.start a.«end») (place + a.start) (with_reading (paragraph s.reading) s)
+
+tag_room : (tag : Option ℕ) (first : ℕ) (s : Blocks) → emptied (tag_taken tag first s) ≡ emptied s
+tag_room None first s = refl
+tag_room (Some by) first s = either (nat_lt 0 (cells_from first s)) (tag_ended first by s) s s refl refl
+
 obeyed_room : (request : Request) (text : List ℕ) (place : ℕ) (s : Blocks) → emptied (obeyed request text place s) ≡ emptied s
 obeyed_room (requests.Face f) text place s = face_room text place f s
 obeyed_room (requests.Faces f g) text place s = arguments_room text place (record { first = f; second = g; joined = true }) s
 obeyed_room requests.Unknown text place s = unknown_room text place s
+obeyed_room requests.Item text place s = item_room text place s
+obeyed_room requests.Tagged text place s = refl
+obeyed_room requests.Hanging text place s = refl
 obeyed_room requests.Break text place s = refl
 obeyed_room requests.Space text place s = refl
 obeyed_room requests.Ragged text place s = refl
@@ -111,7 +134,8 @@ text_room line place s =
 
 line_room : (line : List ℕ) (place : ℕ) (s : Blocks) → emptied (line_read line place s) ≡ emptied s
 line_room line place s =
-    either (is_request line) (request_read (drop 1 line) (place + 1) s) (text_read line place s) s (request_room (drop 1 line) (place + 1) s) (text_room line place s)
+    tag_room s.reading.tag (length s.parts.items) (line_as (is_request line) line place s)
+    ∙ either (is_request line) (request_read (drop 1 line) (place + 1) s) (text_read line place s) s (request_room (drop 1 line) (place + 1) s) (text_room line place s)
 
 lines_from_room : (line : List ℕ) (place : ℕ) (text : List ℕ) (s : Blocks) → emptied (lines_from line place text s) ≡ emptied s
 lines_from_room line place [] s = either (length line == 0) s (line_read line place s) s refl (line_room line place s)

@@ -81,6 +81,10 @@ extended u b m = record {
   more = u.more;
 }
 
+-- with a byte that prints as it is
+abbrev pub widened : Measured → Measured
+widened m = record m { extent = record m.extent { cells = sum m.extent.cells 1 }; more = 0 }
+
 abbrev pub measured : ℕ → List ℕ → List Known → Measured → Measured
 measured b text strings m =
     if nat_lt 0 m.more then record m { more = m.more - 1 } else extended (unit_of b text strings) b m

@@ -100,19 +100,28 @@ abbrev pub lines_of : ℕ → Measure → List Part → List Line
 lines_of n m [] = []
 lines_of n m (p ∷ ps) = lines_from m (n + 1) (opened n p 0 true) ps
 
--- ---- the longest run, or the longest word, which ends at blanks alone
+-- ---- the longest run, or the longest word, which ends at blanks alone, with the hyphen where a line may end within it; the first part begins
+-- a line
+
+abbrev pub begun : Part → ℕ
+begun p = sum (indent_of p) p.cells
 
 abbrev pub starts : Bool → Join → Bool
 starts words join = if words then is_gap join || is_line join else may_end join
 
 abbrev pub together : Bool → Part → ℕ → ℕ
 together words p before =
-    if starts words p.join then sum (indent_of p) p.cells else sum before (sum (blanks p.join) p.cells)
+    if starts words p.join then begun p else sum before (sum (blanks p.join) p.cells)
+
+-- what stands before a part, where a line ends there
+abbrev pub ended_before : Part → ℕ → ℕ
+ended_before p before = sum before (count (is_point p.join))
 
 abbrev pub longest_from : Bool → ℕ → ℕ → List Part → ℕ
 longest_from words most before [] = most
 longest_from words most before (p ∷ ps) =
-    longest_from words (max most (together words p before)) (together words p before) ps
+    longest_from words (max (max most (ended_before p before)) (together words p before)) (together words p before) ps
 
 abbrev pub longest : Bool → List Part → ℕ
-longest words ps = longest_from words 0 0 ps
+longest words [] = 0
+longest words (p ∷ ps) = longest_from words (begun p) (begun p) ps

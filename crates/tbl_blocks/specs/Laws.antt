@@ -3,14 +3,15 @@ use Rattle.std.specs.Prelude.{◌≡◌, ℕ, ◌+◌, ◌<◌, ◌≤◌, Bool,
 use Prim.Native.Char.{code}
 use Rattle.tbl_blocks.specs.declared.blocks.Blocks.{Blocks}
 use Rattle.tbl_blocks.specs.declared.filling.Measure.{Measure}
+use Rattle.tbl_blocks.specs.declared.parts.Font.{Font}
 use Rattle.tbl_blocks.specs.declared.parts.Known.{Known}
 use Rattle.tbl_blocks.specs.declared.parts.Line.{Line}
 use Rattle.tbl_blocks.specs.declared.parts.Part.{Part}
 use Rattle.nr_settings.specs.Widths.{width_of as width_by_w}
 use Rattle.tbl_blocks.specs.Arguments.{is_blank}
-use Rattle.tbl_blocks.specs.Blocks.{extent_of}
-use Rattle.tbl_blocks.specs.Filling.{lines_of}
-use Rattle.tbl_blocks.specs.Parts.{is_point, may_end, no_part}
+use Rattle.tbl_blocks.specs.Blocks.{block_read, extent_of, field_read}
+use Rattle.tbl_blocks.specs.Filling.{lines_of, longest}
+use Rattle.tbl_blocks.specs.Parts.{is_point, may_end, no_part, sum}
 use Rattle.tbl_blocks.specs.Words.{words_read}
 
 -- ---- each part stands on one line, and in order
@@ -38,6 +39,38 @@ AllFit width n ps (l ∷ ls) = Fits width n ps l × AllFit width n ps ls
 
 abbrev pub LinesFit : Type 0
 LinesFit = (m : Measure) (n : ℕ) (ps : List Part) → AllFit m.width n ps (lines_of n m ps)
+
+-- ---- lines fit in what is no narrower than the longest run; where a text has no indents, than the longest word
+
+-- the widest of these, where they are spread
+abbrev pub spread_width : List Line → ℕ
+spread_width [] = 0
+spread_width (l ∷ ls) = max (sum l.cells l.lack) (spread_width ls)
+
+abbrev pub LongestFits : Type 0
+LongestFits =
+    (m : Measure) (n : ℕ) (ps : List Part) → longest false ps ≤ m.width → spread_width (lines_of n m ps) ≤ m.width
+
+abbrev pub HasNoIndents : List Part → Type 0
+HasNoIndents [] = Unit {0}
+HasNoIndents (p ∷ ps) = (p.indent ≡ 0) × HasNoIndents ps
+
+abbrev pub WordsFit : Type 0
+WordsFit =
+    (m : Measure) (n : ℕ) (ps : List Part) → HasNoIndents ps → longest true ps ≤ m.width
+    → spread_width (lines_of n m ps) ≤ m.width
+
+-- ---- what is read is added to the parts of other texts; those of a field are not indented
+
+abbrev pub BlocksAreAdded : Type 0
+BlocksAreAdded =
+    (text : List ℕ) (place : ℕ) (f : Font) (spread : Bool) (s : Blocks)
+    → (new : List Part) × ((block_read text place f spread s).parts.items ≡ s.parts.items ++ new)
+
+abbrev pub FieldsAreAdded : Type 0
+FieldsAreAdded =
+    (text : List ℕ) (place : ℕ) (f : Font) (s : Blocks)
+    → (new : List Part) × (((field_read text place f s).parts.items ≡ s.parts.items ++ new) × HasNoIndents new)
 
 -- ---- lines are the same in a lesser width in which each of them fits
 

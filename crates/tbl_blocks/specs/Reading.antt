@@ -90,8 +90,9 @@ abbrev pub reading_of : Font → Bool → Reading
 reading_of f spread = record {
   face = face_of f;
   once = None;
+  tag = None;
   join = joins.Line 0 0;
-  margins = record { indent = 0; margin = 0 };
+  margins = record { indent = 0; margin = 0; by = 7 };
   fills = true;
   ends = false;
   begun = false;
@@ -246,11 +247,26 @@ line_read r = record r { line = sum r.line 1 }
 -- ---- requests
 
 abbrev pub margin_set : ℕ → Reading → Reading
-margin_set n r = breaks 0 (record r { margins = record { indent = n; margin = n } })
+margin_set n r = breaks 0 (record r { margins = record r.margins { indent = n; margin = n } })
 
 -- one empty line before a paragraph that is not the first
 abbrev pub paragraph : Reading → Reading
 paragraph r = if r.begun then breaks 1 (margin_set r.margins.margin r) else margin_set r.margins.margin r
+
+-- text after a tag is indented: beside it, or below where it has no room. What one says stays for the next ones, and for `.RS`
+abbrev pub indented_by : ℕ → Reading → Reading
+indented_by by r = record r { margins = record r.margins { indent = sum r.margins.margin by; by = by } }
+
+abbrev pub hanging : ℕ → Reading → Reading
+hanging by r = indented_by by (paragraph r)
+
+abbrev pub waits_for_tag : ℕ → Reading → Reading
+waits_for_tag by r = record (paragraph r) { tag = Some by }
+
+abbrev pub tagged : ℕ → ℕ → Reading → Reading
+tagged cells by r =
+    let s = record (indented_by by r) { tag = None } in
+    if nat_lt 0 cells && nat_lt cells by then record s { join = joins.Fixed (by - cells) } else breaks 0 s
 
 abbrev pub filling_set : Bool → Reading → Reading
 filling_set fills r = breaks 0 (record r { fills = fills })
@@ -290,9 +306,11 @@ obeyed requests.Font argument r = font_set argument r
 obeyed requests.Keep argument r = filling_set false r
 obeyed requests.Fill argument r = filling_set true r
 obeyed requests.Paragraph argument r = paragraph r
+obeyed requests.Tagged argument r = waits_for_tag (number_or r.margins.by argument) r
+obeyed requests.Hanging argument r = hanging (number_or r.margins.by argument) r
 obeyed requests.Indent argument r = margin_set (number_or 0 argument) r
-obeyed requests.Deeper argument r = margin_set (sum r.margins.margin (number_or 4 argument)) r
-obeyed requests.Back argument r = margin_set (r.margins.margin - 4) r
+obeyed requests.Deeper argument r = margin_set (sum r.margins.margin (number_or r.margins.by argument)) r
+obeyed requests.Back argument r = margin_set (r.margins.margin - r.margins.by) r
 obeyed requests.Defines argument r = defining r
 obeyed requests.Unset argument r = unset r
 obeyed request argument r = r

@@ -34,6 +34,10 @@ is_stop b = (b == code ".") || (b == code "?") || (b == code "!")
 abbrev pub is_plain : ℕ → Bool
 is_plain b = is_printed b && not (b == code " ") && not (b == code "-") && not (b == code "\\")
 
+-- one that prints as it is
+abbrev pub is_printing : ℕ → Bool
+is_printing b = is_printed b && not (b == code "\\")
+
 abbrev pub byte_does : ℕ → Does
 byte_does b =
     if is_letter b then does.Letter

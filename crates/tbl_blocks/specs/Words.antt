@@ -11,9 +11,11 @@ use Rattle.tbl_blocks.specs.declared.reading.Reading.{Reading}
 use Rattle.tbl_blocks.specs.declared.requests.Request.{Request}
 use Rattle.tbl_blocks.specs.declared.requests.Request.TheVariants as requests
 use Rattle.tbl_blocks.specs.declared.units.Unit.{Unit}
-use Rattle.tbl_blocks.specs.Arguments.{argument, blanks_len, first_argument, request_len, spaces_len}
+use Rattle.tbl_blocks.specs.declared.parts.Part.{Part}
+use Rattle.tbl_blocks.specs.Arguments.{argument, blanks_len, first_argument, number_or, request_len, spaces_len}
+use Rattle.tbl_blocks.specs.Parts.{blanks, sum}
 use Rattle.tbl_blocks.specs.Lists.{added}
-use Rattle.tbl_blocks.specs.Reading.{after_part, breaks, ends_in_space, face_of, faced, indented, line_ends, once_left, once_set, part_to, parts_before, skipped, space_part, taken, unset, waits_for, word_at, word_begun}
+use Rattle.tbl_blocks.specs.Reading.{after_part, breaks, ends_in_space, face_of, faced, indented, line_ends, once_left, once_set, paragraph, part_to, parts_before, skipped, space_part, tagged, taken, unset, waits_for, word_at, word_begun}
 use Rattle.tbl_blocks.specs.Reading.{line_read as line_over, obeyed as reading_obeyed}
 use Rattle.tbl_blocks.specs.Requests.{request_of}
 use Rattle.tbl_blocks.specs.Units.{unit_of}
@@ -120,10 +122,40 @@ unknown_read text place s =
     let t = arguments_read text place (record { first = f; second = f; joined = false }) (with_reading (unset s.reading) s) in
     with_reading (line_ends (faced s.reading.face t.reading)) t
 
+-- ---- tags: the first word of `.IP`, whose second says what text after it is indented, or the next line of `.TP` that prints
+
+abbrev pub cells_after : ℕ → List Part → ℕ
+cells_after n [] = n
+cells_after n (p ∷ ps) = cells_after (sum n (sum (blanks p.join) p.cells)) ps
+
+abbrev pub cells_of : List Part → ℕ
+cells_of ps = cells_after 0 ps
+
+abbrev pub cells_from : ℕ → Blocks → ℕ
+cells_from first s = cells_of (drop first s.parts.items)
+
+abbrev pub tag_ended : ℕ → ℕ → Blocks → Blocks
+tag_ended first by s = with_reading (tagged (cells_from first s) by s.reading) s
+
+abbrev pub item_from : ℕ → List ℕ → ℕ → Blocks → Blocks
+item_from first text place s = elim (argument text) [
+  | None ↦ tag_ended first s.reading.margins.by s
+  | Some a ↦ tag_ended first (number_or s.reading.margins.by (first_argument (drop a.next text)))
+      (words_read (slice_range text a.start a.«end») (place + a.start) s)
+]
+
+abbrev pub item_read : List ℕ → ℕ → Blocks → Blocks
+item_read text place s = item_from (length s.parts.items) text place (with_reading (paragraph s.reading) s)
+
+abbrev pub tag_taken : Option ℕ → ℕ → Blocks → Blocks
+tag_taken None first s = s
+tag_taken (Some by) first s = if nat_lt 0 (cells_from first s) then tag_ended first by s else s
+
 abbrev pub obeyed : Request → List ℕ → ℕ → Blocks → Blocks
 obeyed (requests.Face f) text place s = face_read text place f s
 obeyed (requests.Faces f g) text place s =
     faces_read text place (record { first = f; second = g; joined = true }) s
+obeyed requests.Item text place s = item_read text place s
 obeyed requests.Unknown text place s = unknown_read text place s
 obeyed request text place s = with_reading (reading_obeyed request (first_argument text) s.reading) s
 
@@ -148,7 +180,7 @@ line_as request line place s =
 
 abbrev pub line_read : List ℕ → ℕ → Blocks → Blocks
 line_read line place s =
-    let t = line_as (is_request line) line place s in
+    let t = tag_taken s.reading.tag (length s.parts.items) (line_as (is_request line) line place s) in
     with_reading (line_over t.reading) t
 
 -- a line so far, which begins at a place, and what follows it

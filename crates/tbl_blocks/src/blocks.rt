@@ -5,7 +5,7 @@ ghost use Rattle.tbl_blocks.specs.Blocks as specs;
 use super::filling::{Measure, fill, longest};
 use super::parts::{Extent, Font, Known, Line, Part, Seen};
 use super::reading::Reading;
-use super::units::{Unit, unit_of};
+use super::units::{Unit, is_printing, unit_of};
 use nr_vectors::{CountedAlloc, FixedVec};
 use std::alloc::AllocError;
 
@@ -44,7 +44,20 @@ impl Measured {
         }
     }
 
-    /// With a byte more, and what stands after it.
+    /// With a byte that prints.
+    fn widened(self) -> Measured
+        ensures { result ≡ specs.widened self }
+    {
+        Measured {
+            extent: Extent {
+                cells: self.extent.cells.saturating_add(1),
+                ..self.extent
+            },
+            more: 0,
+        }
+    }
+
+    /// With a byte more, and what stands after it. One that prints as it is counts at once.
     fn with(self, byte: u8, rest: &[u8], strings: &[Known]) -> Measured
         ensures { result ≡ specs.measured byte rest.now strings.now self }
     {
@@ -53,6 +66,9 @@ impl Measured {
                 more: self.more - 1,
                 ..self
             };
+        }
+        if is_printing(byte) {
+            return self.widened();
         }
         self.extended(unit_of(byte, rest, strings), byte)
     }

@@ -168,24 +168,63 @@ pub(crate) fn fill(parts: &[Part], first: usize, measure: Measure, lines: &mut F
     add_item(lines, line);
 }
 
-/// The most cells of parts that stand together: on one line wherever lines end, or where they end at blanks alone.
+/// What a part takes that begins a line.
+fn begun(part: Part) -> usize
+    ensures { result ≡ specs.begun part }
+{
+    indent_of(part).saturating_add(part.cells)
+}
+
+/// Whether a part is the first of those that stand together.
+fn starts(words: bool, join: Join) -> bool
+    ensures { result ≡ specs.starts words join }
+{
+    if words {
+        join.is_gap() || join.is_line()
+    } else {
+        join.may_end()
+    }
+}
+
+/// What a part takes with those before it that stand together with it.
+fn together(words: bool, part: Part, before: usize) -> usize
+    ensures { result ≡ specs.together words part before }
+{
+    if starts(words, part.join) {
+        begun(part)
+    } else {
+        before.saturating_add(part.join.blanks().saturating_add(part.cells))
+    }
+}
+
+/// What stands before a part, with the hyphen of a line that ends there.
+fn ended_before(part: Part, before: usize) -> usize
+    ensures { result ≡ specs.ended_before part before }
+{
+    before.saturating_add(count(part.join.is_point()))
+}
+
+/// The most cells of parts that stand together, after the first.
+fn longest_from(first: usize, parts: &[Part], words: bool) -> usize
+    ensures { result ≡ specs.longest_from words first first parts.now }
+{
+    let mut most = first;
+    let mut before = first;
+    for part in parts {
+        most = most.max(ended_before(*part, before));
+        before = together(words, *part, before);
+        most = most.max(before);
+    }
+    most
+}
+
+/// The most cells of parts that stand together, with the hyphen of a line that may end within them: wherever lines end, or
+/// where they end at blanks alone.
 pub(crate) fn longest(parts: &[Part], words: bool) -> usize
     ensures { result ≡ specs.longest words parts.now }
 {
-    let mut most = 0;
-    let mut together = 0;
-    for part in parts {
-        let begins = if words {
-            part.join.is_gap() || part.join.is_line()
-        } else {
-            part.join.may_end()
-        };
-        together = if begins {
-            indent_of(*part).saturating_add(part.cells)
-        } else {
-            together.saturating_add(part.join.blanks().saturating_add(part.cells))
-        };
-        most = most.max(together);
+    if parts.is_empty() {
+        return 0;
     }
-    most
+    longest_from(begun(parts[0]), &parts[1..], words)
 }

@@ -1,5 +1,5 @@
 //! Laws of a block's words and lines, each the contract of a function that does nothing: they speak of the definitions alone.
-ghost use Rattle.tbl_blocks.specs.Laws.{LinesFit, LinesStay, PartsStandOnce, WidthIsThatOfW, WordsAreRead};
+ghost use Rattle.tbl_blocks.specs.Laws.{BlocksAreAdded, FieldsAreAdded, LinesFit, LinesStay, LongestFits, PartsStandOnce, WidthIsThatOfW, WordsAreRead, WordsFit};
 
 /// A text is as wide as the formatter's width function has it.
 ///
@@ -29,6 +29,24 @@ pub fn parts_stand_once()
 /// Proved: A line of a block takes no more cells than the width, or is one run: parts within which no line may end.
 pub fn lines_fit()
     ensures { LinesFit }
+{}
+
+/// What is read of a text is added to the parts of others, and nothing of a field is indented.
+///
+/// Proved: The parts of a block or a field stand after those that were read before, which stay as they are; those of a field have
+/// no indent.
+pub fn parts_are_added()
+    ensures blocks { BlocksAreAdded }
+    ensures fields { FieldsAreAdded }
+{}
+
+/// All lines fit where the width is no less than the longest run, or in a text without indents than its longest word.
+///
+/// Proved: The lines of a block take no more cells than the width, spread or not, where that is no less than its longest run, or
+/// where nothing is indented than its longest word: a table is never narrowed so far that a word juts out.
+pub fn longest_fits()
+    ensures runs { LongestFits }
+    ensures words { WordsFit }
 {}
 
 /// Lines that aren't spread are the same in any lesser width in which each of them fits.

@@ -21,5 +21,8 @@ mod units;
 mod words;
 
 pub use blocks::Blocks;
-pub use laws::{lines_fit, lines_stay, parts_stand_once, width_is_that_of_w, words_are_read};
+pub use laws::{
+    lines_fit, lines_stay, longest_fits, parts_are_added, parts_stand_once, width_is_that_of_w,
+    words_are_read,
+};
 pub use parts::{Extent, Font, Join, Known, Line, Part, Seen};

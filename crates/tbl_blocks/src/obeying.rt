@@ -7,9 +7,6 @@ use super::parts::{Font, Join, Seen};
 use super::reading::{Face, Manner, Margins, Reading};
 use super::requests::Request;
 
-/// What `.RS` indents where it doesn't say it.
-const INDENT: usize = 4;
-
 /// Whether lines are spread under `.ad` with this argument.
 fn is_even(argument: &[u8]) -> bool
     ensures { result ≡ specs.is_even argument.now }
@@ -39,6 +36,7 @@ impl Reading {
             margins: Margins {
                 indent: margin,
                 margin,
+                ..self.margins
             },
             ..self
         }
@@ -46,11 +44,61 @@ impl Reading {
     }
 
     /// A paragraph begins.
-    fn paragraph(self) -> Reading
+    pub(crate) fn paragraph(self) -> Reading
         ensures { result ≡ specs.paragraph self }
     {
         let read = self.margin(self.margins.margin);
         if self.begun { read.breaks(1) } else { read }
+    }
+
+    /// The next lines are indented by so much more than those outside of a list, and so are those of lists that follow.
+    fn indented_by(self, by: usize) -> Reading
+        ensures { result ≡ specs.indented_by by self }
+    {
+        let margin = self.margins.margin;
+        Reading {
+            margins: Margins {
+                indent: margin.saturating_add(by),
+                margin,
+                by,
+            },
+            ..self
+        }
+    }
+
+    /// Its first line stands at the margin, and the others are indented.
+    fn hanging(self, by: usize) -> Reading
+        ensures { result ≡ specs.hanging by self }
+    {
+        self.paragraph().indented_by(by)
+    }
+
+    /// The next line is a tag, and text after it is indented so far.
+    fn waits_for_tag(self, by: usize) -> Reading
+        ensures { result ≡ specs.waits_for_tag by self }
+    {
+        Reading {
+            tag: Some(by),
+            ..self.paragraph()
+        }
+    }
+
+    /// A tag of so many cells has ended: text after it stands beside it, indented so far, or below where there is no room.
+    pub(crate) fn tagged(self, cells: usize, by: usize) -> Reading
+        ensures { result ≡ specs.tagged cells by self }
+    {
+        let read = Reading {
+            tag: None,
+            ..self.indented_by(by)
+        };
+        if cells > 0 && cells < by {
+            Reading {
+                join: Join::Fixed(by - cells),
+                ..read
+            }
+        } else {
+            read.breaks(0)
+        }
     }
 
     /// Lines are filled from here on, or not.
@@ -118,7 +166,11 @@ impl Reading {
     pub(crate) fn obeyed(self, request: Request, argument: &[u8]) -> Reading
         ensures { result ≡ specs.obeyed request argument.now self }
     {
-        let margin = self.margins.margin;
+        let Margins {
+            indent: _,
+            margin,
+            by,
+        } = self.margins;
         match request {
             Request::Break => self.breaks(0),
             Request::Space => self.breaks(number_or(argument, 1)),
@@ -128,9 +180,11 @@ impl Reading {
             Request::Keep => self.filling(false),
             Request::Fill => self.filling(true),
             Request::Paragraph => self.paragraph(),
+            Request::Tagged => self.waits_for_tag(number_or(argument, by)),
+            Request::Hanging => self.hanging(number_or(argument, by)),
             Request::Indent => self.margin(number_or(argument, 0)),
-            Request::Deeper => self.margin(margin.saturating_add(number_or(argument, INDENT))),
-            Request::Back => self.margin(margin.saturating_sub(INDENT)),
+            Request::Deeper => self.margin(margin.saturating_add(number_or(argument, by))),
+            Request::Back => self.margin(margin.saturating_sub(by)),
             Request::Defines => self.defining(),
             Request::Unset => self.unset(),
             _ => self,

@@ -8,6 +8,9 @@ use super::units::{Does, Unit, is_letter, is_plain, is_stop};
 /// The most empty lines that `.sp` gives.
 const MOST_SPACE: usize = 50;
 
+/// What lists are indented where nothing says it.
+const INDENT: usize = 7;
+
 /// The font, and the one before.
 #[derive(Clone, Copy)]
 pub(crate) struct Face {
@@ -22,6 +25,8 @@ pub(crate) struct Margins {
     pub indent: usize,
     /// Those outside of a list.
     pub margin: usize,
+    /// Those of a list are indented by so much more, where it doesn't say it.
+    pub by: usize,
 }
 
 /// What the last unit of a word printed.
@@ -70,6 +75,8 @@ pub(crate) struct Reading {
     pub face: Face,
     /// The font of the next line alone.
     pub once: Option<Font>,
+    /// The next line is a tag, and text after it is indented so far.
+    pub tag: Option<usize>,
     /// What stands before the next part.
     pub join: Join,
     /// What lines are indented.
@@ -210,6 +217,7 @@ impl Reading {
         Reading {
             face: Face::of(font),
             once: None,
+            tag: None,
             join: Join::Line {
                 space: 0,
                 indent: 0,
@@ -217,6 +225,7 @@ impl Reading {
             margins: Margins {
                 indent: 0,
                 margin: 0,
+                by: INDENT,
             },
             fills: true,
             ends: false,

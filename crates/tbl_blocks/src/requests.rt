@@ -23,6 +23,12 @@ pub(crate) enum Request {
     Fill,
     /// A paragraph begins.
     Paragraph,
+    /// One that begins with a tag, the first word.
+    Item,
+    /// One whose next line is a tag.
+    Tagged,
+    /// One whose first line hangs.
+    Hanging,
     /// The indent.
     Indent,
     /// A deeper indent.
@@ -44,7 +50,7 @@ pub(crate) enum Request {
 }
 
 /// The requests by their two letters; a name of one letter has 0 as its second.
-static NAMES: [(u8, u8, Request); 55] = [
+static NAMES: [(u8, u8, Request); 61] = [
     (b'b', b'r', Request::Break),
     (b's', b'p', Request::Space),
     (b'n', b'a', Request::Ragged),
@@ -57,6 +63,12 @@ static NAMES: [(u8, u8, Request); 55] = [
     (b'P', b'P', Request::Paragraph),
     (b'L', b'P', Request::Paragraph),
     (b'P', 0, Request::Paragraph),
+    (b'Q', b'P', Request::Paragraph),
+    (b'X', b'P', Request::Paragraph),
+    (b'I', b'P', Request::Item),
+    (b'T', b'P', Request::Tagged),
+    (b'T', b'Q', Request::Tagged),
+    (b'H', b'P', Request::Hanging),
     (b'i', b'n', Request::Indent),
     (b'R', b'S', Request::Deeper),
     (b'R', b'E', Request::Back),

@@ -179,6 +179,13 @@ pub(crate) fn is_plain(byte: u8) -> bool
     prints(byte) && byte != b' ' && byte != b'-' && byte != b'\\'
 }
 
+/// A byte that prints as it is.
+pub(crate) fn is_printing(byte: u8) -> bool
+    ensures { result ≡ specs.is_printing byte }
+{
+    prints(byte) && byte != b'\\'
+}
+
 impl Unit {
     /// Whether the page shows how wide it is.
     pub(crate) fn is_sure(self) -> bool

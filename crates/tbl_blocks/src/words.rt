@@ -4,11 +4,11 @@ ghost use Rattle.tbl_blocks.specs.Arguments.{IsWithin};
 ghost use Rattle.tbl_blocks.specs.Words as specs;
 
 use super::arguments::{
-    Argument, blanks_len, find_argument, first_argument, request_len, spaces_len,
+    Argument, blanks_len, find_argument, first_argument, number_or, request_len, spaces_len,
 };
 use super::blocks::Blocks;
 use super::lists::add_item;
-use super::parts::Font;
+use super::parts::{Font, Part};
 use super::reading::{Face, Manner, Word};
 use super::requests::{Request, request_of};
 use super::units::unit_of;
@@ -29,6 +29,17 @@ fn is_request(line: &[u8]) -> bool
         None => false,
         Some((first, _rest)) => *first == b'.' || *first == b'\'',
     }
+}
+
+/// How many cells parts take on one line.
+fn cells_of(parts: &[Part]) -> usize
+    ensures { result ≡ specs.cells_of parts.now }
+{
+    let mut cells: usize = 0;
+    for part in parts {
+        cells = cells.saturating_add(part.join.blanks().saturating_add(part.cells));
+    }
+    cells
 }
 
 impl Blocks {
@@ -188,6 +199,50 @@ impl Blocks {
         self.reading = self.reading.faced(face).line_ends();
     }
 
+    /// How many cells the parts take from one on.
+    fn cells_from(&self, first: usize) -> usize
+        ensures { result ≡ specs.cells_from first self.now }
+    {
+        let parts = self.parts.as_slice();
+        cells_of(&parts[first.min(parts.len())..])
+    }
+
+    /// A tag ends whose parts begin with one, and text after it is indented so far.
+    fn end_tag(&mut self, first: usize, by: usize)
+        ensures { self.new ≡ specs.tag_ended first by self.old }
+    {
+        let cells = self.cells_from(first);
+        self.reading = self.reading.tagged(cells, by);
+    }
+
+    /// A paragraph whose first word is a tag, and whose second says what it is indented.
+    fn read_item(&mut self, text: &[u8], place: usize)
+        requires { place + length text.now < 2 ^ 64 }
+        ensures { self.new ≡ specs.item_read text.now place self.old }
+    {
+        let first = self.parts.len();
+        let other = self.reading.margins.by;
+        self.reading = self.reading.paragraph();
+        let Some(argument) = find_argument(text) else {
+            return self.end_tag(first, other);
+        };
+        let by = number_or(first_argument(&text[argument.next..]), other);
+        self.read_words(&text[argument.start..argument.end], place + argument.start);
+        self.end_tag(first, by);
+    }
+
+    /// A line was read that is a tag, if one was waited for: it is one if it has parts, which begin with this one.
+    fn take_tag(&mut self, tag: Option<usize>, first: usize)
+        ensures { self.new ≡ specs.tag_taken tag first self.old }
+    {
+        let Some(by) = tag else {
+            return;
+        };
+        if self.cells_from(first) > 0 {
+            self.end_tag(first, by);
+        }
+    }
+
     /// A request, with what stands after its name.
     fn obey(&mut self, request: Request, text: &[u8], place: usize)
         requires { place + length text.now < 2 ^ 64 }
@@ -203,6 +258,7 @@ impl Blocks {
                 };
                 self.read_faces(text, place, manner);
             }
+            Request::Item => self.read_item(text, place),
             Request::Unknown => self.read_unknown(text, place),
             _ => self.reading = self.reading.obeyed(request, first_argument(text)),
         }
@@ -237,7 +293,10 @@ impl Blocks {
         requires { place + length line.now < 2 ^ 64 }
         ensures { self.new ≡ specs.line_read line.now place self.old }
     {
+        let first = self.parts.len();
+        let tag = self.reading.tag;
         self.read_as(line, place);
+        self.take_tag(tag, first);
         self.reading = self.reading.line_read();
     }
 

@@ -1,0 +1,6 @@
+use Rattle.std.proofs.Common.{ap}
+use Rattle.tbl_columns.specs.Held.{emptied}
+use Rattle.tbl_columns.proofs.grid.Grid.fill_lines.Goals as goal
+
+pub returns-clause-room : goal.returns-clause-room
+returns-clause-room c = ap (λ blocks. record (emptied c.args.self.now) { blocks = blocks }) c.fill.ensures.room

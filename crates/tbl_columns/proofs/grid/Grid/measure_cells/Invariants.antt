@@ -1,0 +1,11 @@
+use Rattle.std.proofs.Common.{◌≡◌}
+use Rattle.tbl_columns.specs.Columns.{measured_cell}
+use Rattle.tbl_columns.specs.Held.{emptied}
+use Rattle.tbl_table.specs.Lists.{in_turn}
+use Rattle.tbl_columns.proofs.grid.Grid.measure_cells.Given as goal
+
+abbrev pub invariant-loop-number : goal.invariant-loop-number
+invariant-loop-number l = record {
+  value : l.self ≡ in_turn l.number measured_cell l.initial.self;
+  room : emptied l.self ≡ emptied l.initial.self;
+}

@@ -1,0 +1,11 @@
+use Rattle.std.proofs.Common.{◌≡◌}
+use Rattle.tbl_columns.specs.Cells.{placed_row}
+use Rattle.tbl_columns.specs.Held.{emptied}
+use Rattle.tbl_table.specs.Lists.{in_turn}
+use Rattle.tbl_columns.proofs.grid.Grid.place_rows.Given as goal
+
+abbrev pub invariant-loop-number : goal.invariant-loop-number
+invariant-loop-number l = record {
+  value : l.self ≡ in_turn l.number placed_row l.initial.self;
+  room : emptied l.self ≡ emptied l.initial.self;
+}

@@ -1,0 +1,11 @@
+pub mod Cells
+pub mod Columns
+pub mod Counted
+pub mod Frames
+pub mod Held
+pub mod Laws
+pub mod Measured
+pub mod Narrow
+pub mod Registers
+pub mod Shares
+pub mod Texts

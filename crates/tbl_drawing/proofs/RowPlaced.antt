@@ -1,0 +1,439 @@
+-- A row is placed: each of its fields begins in the first of its columns, and what stands in the rows above stays.
+use Rattle.std.proofs.Common.{◌≡◌, ◌≢◌, ℕ, zero, suc, ◌+◌, ◌-◌, ◌*◌, ◌<◌, ◌≤◌, min, Bool, true, false, ◌&&◌, nat_lt, List, [], ◌∷◌, ◌++◌, length, get_or, refl, sym, ap, subst, arith, ◌∙◌, length-append, length-set, inl, inr, if◌then◌else◌}
+use Rattle.std.proofs.Math.ListN.{get_or-append}
+use Rattle.std.proofs.Math.Seq.{get_or-append_seam}
+use Rattle.std.proofs.lemmas.Bool.Decides.{nat_tests}
+use Rattle.std.proofs.lemmas.List.{get_or-set_other, get_or-set_same}
+use Rattle.nr_vectors.specs.Items.{Items}
+use Rattle.tbl_columns.specs.declared.grid.Cell.{Cell}
+use Rattle.tbl_columns.specs.declared.grid.Column.{Column}
+use Rattle.tbl_columns.specs.declared.grid.Grid.{Grid}
+use Rattle.tbl_columns.specs.Cells.{Placing, columns_over, ended_above, field_given, goes_on, goes_over, gone_down, gone_on_at, is_across, is_whole, last_of, new_cell, placed_at, placed_field, placed_next, placing, went_on_at}
+use Rattle.tbl_columns.specs.Held.{cell_number, cell_of, columns, no_cell, number_place}
+use Rattle.tbl_table.specs.declared.table.Field.{Field}
+use Rattle.tbl_table.specs.declared.table.Key.{Key}
+use Rattle.tbl_table.specs.declared.table.Line.{Line}
+use Rattle.tbl_table.specs.declared.table.Row.{Row}
+use Rattle.tbl_table.specs.Held.{key, line, no_field, row}
+use Rattle.tbl_table.specs.Lists.{added, added_each, in_turn, put}
+use Rattle.tbl_table.specs.Sums.{sum}
+use Rattle.tbl_columns.proofs.Turns.{set_same}
+use Rattle.tbl_drawing.proofs.Below.{below_by, by_cases, not_below_by, two}
+
+abbrev pub most : ℕ
+most = 18446744073709551615
+
+abbrev pub entry : Items ℕ → ℕ → ℕ
+entry g i = get_or g.items i 0
+
+-- ---- so many entries more, those before as they were
+
+pub record Grows (old new : Items ℕ) (m : ℕ) : Type 0 where
+  pub count : length new.items ≡ length old.items + m
+  pub room : new.capacity ≡ old.capacity
+  pub kept : (i : ℕ) → i < length old.items → entry new i ≡ entry old i
+
+added_entry : (x : ℕ) (xs : Items ℕ) → length xs.items < xs.capacity → (added x xs).items ≡ xs.items ++ x ∷ []
+added_entry x xs h = fits (nat_lt (length xs.items) xs.capacity) (grind (arith, nat_tests, h))
+  where
+    fits : (b : Bool) → b ≡ true → (if b then xs.items ++ x ∷ [] else xs.items) ≡ xs.items ++ x ∷ []
+    fits true e = refl
+    fits false e = cc
+
+grows_none : (xs : Items ℕ) → Grows xs xs 0
+grows_none xs = record { count = omega arith; room = refl; kept = λ i h. refl }
+
+grows_one : (x : ℕ) (xs : Items ℕ) → length xs.items < xs.capacity → Grows xs (added x xs) 1
+grows_one x xs h =
+    let is : (added x xs).items ≡ xs.items ++ x ∷ [] = added_entry x xs h in
+    record {
+      count = ap length is ∙ length-append xs.items (x ∷ []);
+      room = refl;
+      kept = λ i less. ap (λ (l : List ℕ). get_or l i 0) is ∙ get_or-append xs.items (x ∷ []) 0 i less;
+    }
+
+grows_then : (a b c : Items ℕ) (m n k : ℕ) → m + n ≡ k → Grows a b m → Grows b c n → Grows a c k
+grows_then a b c m n k e p q = record {
+  count = omega (arith, e, p.count, q.count);
+  room = q.room ∙ p.room;
+  kept = λ i less. q.kept i (omega (arith, less, p.count)) ∙ p.kept i less;
+}
+
+grows_each : (m x : ℕ) (xs : Items ℕ) → length xs.items + m ≤ xs.capacity → Grows xs (added_each m x xs) m
+grows_each zero x xs h = grows_none xs
+grows_each (suc m) x xs h =
+    let ys : Items ℕ = added_each m x xs in
+    let before : Grows xs ys m = grows_each m x xs (omega (arith, h)) in
+    grows_then xs ys (added x ys) m 1 (suc m) (omega arith) before (grows_one x ys (omega (arith, h, before.count, before.room)))
+
+each_first : (m x : ℕ) (xs : Items ℕ) → length xs.items + suc m ≤ xs.capacity → entry (added_each (suc m) x xs) (length xs.items) ≡ x
+each_first zero x xs h =
+    ap (λ (l : List ℕ). get_or l (length xs.items) 0) (added_entry x xs (omega (arith, h))) ∙ get_or-append_seam xs.items x [] 0
+each_first (suc m) x xs h =
+    let ys : Items ℕ = added_each (suc m) x xs in
+    let before : Grows xs ys (suc m) = grows_each (suc m) x xs (omega (arith, h)) in
+    let now : Grows ys (added x ys) 1 = grows_one x ys (omega (arith, h, before.count, before.room)) in
+    now.kept (length xs.items) (omega (arith, before.count)) ∙ each_first m x xs (omega (arith, h))
+
+-- ---- a row while it is placed: its fields begin in columns that are covered so far
+
+abbrev pub Mine : Grid → ℕ → ℕ → Grid → ℕ → Type 0
+Mine b n next t f =
+    ((cell_of t f).top ≡ n) × ((cell_of t f).first < next) × (entry t.numbers (length b.numbers.items + (cell_of t f).first) ≡ f)
+
+pub record Partly (b : Grid) (n next : ℕ) (t : Grid) : Type 0 where
+  pub heads : t.columns ≡ b.columns
+  pub table : t.table ≡ b.table
+  pub rows : t.placed ≡ b.placed
+  pub grid : Grows b.numbers t.numbers next
+  pub more : length b.cells.items ≤ length t.cells.items
+  pub tops : (f : ℕ) → f < length b.cells.items → (cell_of t f).top ≡ (cell_of b f).top
+  pub firsts : (f : ℕ) → f < length b.cells.items → (cell_of t f).first ≡ (cell_of b f).first
+  pub mine : (f : ℕ) → length b.cells.items ≤ f → f < length t.cells.items → Mine b n next t f
+
+-- only the grid is another
+record Went (t u : Grid) (m : ℕ) : Type 0 where
+  heads : u.columns ≡ t.columns
+  table : u.table ≡ t.table
+  rows : u.placed ≡ t.placed
+  cells : u.cells ≡ t.cells
+  grid : Grows t.numbers u.numbers m
+
+went_down : (n first m : ℕ) (t : Grid) → length t.numbers.items + m ≤ t.numbers.capacity
+    → Went t (in_turn m (λ i. gone_on_at n (first + i)) t) m
+went_down n first zero t h =
+    record { heads = refl; table = refl; rows = refl; cells = refl; grid = grows_none t.numbers }
+went_down n first (suc m) t h =
+    let u : Grid = in_turn m (λ i. gone_on_at n (first + i)) t in
+    let w : Went t u m = went_down n first m t (omega (arith, h)) in
+    let x : ℕ = cell_number u (n - 1) (first + m) in
+    record {
+      heads = w.heads;
+      table = w.table;
+      rows = w.rows;
+      cells = w.cells;
+      grid =
+          grows_then t.numbers u.numbers (added x u.numbers) m 1 (suc m) (omega arith) w.grid
+          (grows_one x u.numbers (omega (arith, h, w.grid.count, w.grid.room)));
+    }
+
+partly_went : (b : Grid) (n next m : ℕ) (t u : Grid) → Partly b n next t → Went t u m → Partly b n (next + m) u
+partly_went b n next m t u p w =
+    let same : (f : ℕ) → cell_of u f ≡ cell_of t f = λ f. ap (λ (cs : Items Cell). get_or cs.items f no_cell) w.cells in
+    record {
+      heads = w.heads ∙ p.heads;
+      table = w.table ∙ p.table;
+      rows = w.rows ∙ p.rows;
+      grid = grows_then b.numbers t.numbers u.numbers next m (next + m) refl p.grid w.grid;
+      more = omega (arith, p.more, ap (λ (cs : Items Cell). length cs.items) w.cells);
+      tops = λ f less. ap (λ (c : Cell). c.top) (same f) ∙ p.tops f less;
+      firsts = λ f less. ap (λ (c : Cell). c.first) (same f) ∙ p.firsts f less;
+      mine = λ f low less.
+          let my : Mine b n next t f = p.mine f low (omega (arith, less, ap (λ (cs : Items Cell). length cs.items) w.cells)) in
+          let first : (cell_of u f).first ≡ (cell_of t f).first = ap (λ (c : Cell). c.first) (same f) in (
+            ap (λ (c : Cell). c.top) (same f) ∙ my.0,
+            omega (arith, first, my.1),
+            ap (λ (i : ℕ). entry u.numbers (length b.numbers.items + i)) first
+                ∙ w.grid.kept (length b.numbers.items + (cell_of t f).first) (omega (arith, my.1, p.grid.count))
+                ∙ my.2,
+          );
+    }
+
+-- a field is placed in the next columns, if there is room for it
+one_placed : (b : Grid) (n c m : ℕ) (x : Cell) (t : Grid) → Partly b n c t → x.top ≡ n → x.first ≡ c
+    → length t.numbers.items + suc m ≤ t.numbers.capacity
+    → Partly b n (c + suc m) (record t { cells = record t.cells { items = t.cells.items ++ x ∷ [] }; numbers = added_each (suc m) (length t.cells.items) t.numbers })
+one_placed b n c m x t p top first h =
+    let number : ℕ = length t.cells.items in
+    let w : Grid = record t { cells = record t.cells { items = t.cells.items ++ x ∷ [] }; numbers = added_each (suc m) number t.numbers } in
+    let grown : Grows t.numbers w.numbers (suc m) = grows_each (suc m) number t.numbers h in
+    let longer : length w.cells.items ≡ number + 1 = length-append t.cells.items (x ∷ []) in
+    let old : (f : ℕ) → f < number → cell_of w f ≡ cell_of t f = λ f less. get_or-append t.cells.items (x ∷ []) no_cell f less in
+    let last : cell_of w number ≡ x = get_or-append_seam t.cells.items x [] no_cell in
+    record {
+      heads = p.heads;
+      table = p.table;
+      rows = p.rows;
+      grid = grows_then b.numbers t.numbers w.numbers c (suc m) (c + suc m) refl p.grid grown;
+      more = omega (arith, p.more, longer);
+      tops = λ f less. ap (λ (d : Cell). d.top) (old f (omega (arith, less, p.more))) ∙ p.tops f less;
+      firsts = λ f less. ap (λ (d : Cell). d.first) (old f (omega (arith, less, p.more))) ∙ p.firsts f less;
+      mine = λ f low less.
+          elim (two f number (omega (arith, less, longer))) [
+            | inl before ↦
+                (let my : Mine b n c t f = p.mine f low before in
+                let here : (cell_of w f).first ≡ (cell_of t f).first = ap (λ (d : Cell). d.first) (old f before) in (
+                  ap (λ (d : Cell). d.top) (old f before) ∙ my.0,
+                  omega (arith, here, my.1),
+                  ap (λ (i : ℕ). entry w.numbers (length b.numbers.items + i)) here
+                      ∙ grown.kept (length b.numbers.items + (cell_of t f).first) (omega (arith, my.1, p.grid.count))
+                      ∙ my.2,
+                ))
+            | inr same ↦
+                (let it : cell_of w f ≡ x = ap (cell_of w) same ∙ last in
+                let here : (cell_of w f).first ≡ c = ap (λ (d : Cell). d.first) it ∙ first in
+                let at : length b.numbers.items + (cell_of w f).first ≡ length t.numbers.items = omega (arith, here, p.grid.count) in (
+                  ap (λ (d : Cell). d.top) it ∙ top,
+                  omega (arith, here),
+                  ap (entry w.numbers) at ∙ each_first m number t.numbers h ∙ sym same,
+                ))
+          ];
+    }
+
+grid_placed : (b : Grid) (n c m x : ℕ) (t : Grid) → Partly b n c t → length t.numbers.items + suc m ≤ t.numbers.capacity
+    → Partly b n (c + suc m) (record t { numbers = added_each (suc m) x t.numbers })
+grid_placed b n c m x t p h =
+    partly_went b n c (suc m) t (record t { numbers = added_each (suc m) x t.numbers }) p
+    (record { heads = refl; table = refl; rows = refl; cells = refl; grid = grows_each (suc m) x t.numbers h })
+
+cell_placed : (b : Grid) (n c m : ℕ) (x : Cell) (t : Grid) → Partly b n c t → x.top ≡ n → x.first ≡ c
+    → length t.numbers.items + suc m ≤ t.numbers.capacity
+    → Partly b n (c + suc m) (record t { cells = added x t.cells; numbers = added_each (suc m) (length t.cells.items) t.numbers })
+cell_placed b n c m x t p top first h =
+    by_cases
+    (λ (cs : List Cell). Partly b n (c + suc m) (record t { cells = record t.cells { items = cs }; numbers = added_each (suc m) (length t.cells.items) t.numbers }))
+    (nat_lt (length t.cells.items) t.cells.capacity) (t.cells.items ++ x ∷ []) t.cells.items
+    (λ e. one_placed b n c m x t p top first h) (λ e. grid_placed b n c m (length t.cells.items) t p h)
+
+-- the last column of a field is none before its first, and none beyond those of the table
+over_least : (n : ℕ) (t : Grid) (l : Line) (c : ℕ) → c ≤ goes_over n t l c
+over_least zero t l c = omega arith
+over_least (suc n) t l c =
+    by_cases (λ (k : ℕ). c ≤ k) (is_across (key t.table l (c + 1)).kind) (goes_over n t l (c + 1)) c
+    (λ e. let h : c + 1 ≤ goes_over n t l (c + 1) = over_least n t l (c + 1) in omega (arith, h)) (λ e. omega arith)
+
+over_most : (n : ℕ) (t : Grid) (l : Line) (c : ℕ) → goes_over n t l c ≤ c + n
+over_most zero t l c = omega arith
+over_most (suc n) t l c =
+    by_cases (λ (k : ℕ). k ≤ c + suc n) (is_across (key t.table l (c + 1)).kind) (goes_over n t l (c + 1)) c
+    (λ e. let h : goes_over n t l (c + 1) ≤ c + 1 + n = over_most n t l (c + 1) in omega (arith, h)) (λ e. omega arith)
+
+-- all columns before this one are covered
+record Filling (b : Grid) (n c : ℕ) (p : Placing) : Type 0 where
+  partly : Partly b n p.next p.grid
+  covers : c ≤ p.next
+  within : p.next ≤ columns b
+
+-- a row has room in the grid
+abbrev pub HasRoom : Grid → Type 0
+HasRoom b = (length b.numbers.items + columns b ≤ b.numbers.capacity) × (b.numbers.capacity ≤ most)
+
+-- the next columns are covered by the field above, or by one of the row
+next_down : (b : Grid) (n c m : ℕ) (t : Grid) → Partly b n c t → length t.numbers.items + suc m ≤ t.numbers.capacity → (wide : ℕ) → wide ≡ suc m
+    → Partly b n (c + suc m) (in_turn wide (λ i. gone_on_at n (c + i)) t)
+next_down b n c m t p h wide e =
+    subst (λ (k : ℕ). Partly b n (c + suc m) (in_turn k (λ i. gone_on_at n (c + i)) t)) (sym e)
+    (partly_went b n c (suc m) t (in_turn (suc m) (λ i. gone_on_at n (c + i)) t) p (went_down n c (suc m) t h))
+
+next_own : (b : Grid) (n c m : ℕ) (x : Cell) (t : Grid) → Partly b n c t → x.top ≡ n → x.first ≡ c
+    → length t.numbers.items + suc m ≤ t.numbers.capacity → (wide : ℕ) → wide ≡ suc m
+    → Partly b n (c + suc m) (record t { cells = added x t.cells; numbers = added_each wide (length t.cells.items) t.numbers })
+next_own b n c m x t p top first h wide e =
+    subst (λ (k : ℕ). Partly b n (c + suc m) (record t { cells = added x t.cells; numbers = added_each k (length t.cells.items) t.numbers })) (sym e)
+    (cell_placed b n c m x t p top first h)
+
+next_placed : (b : Grid) (n : ℕ) (r : Row) (given c last : ℕ) (t : Grid) → HasRoom b → Partly b n c t → c ≤ last → last < columns b
+    → Partly b n (sum last 1) (placed_next n r given c last t)
+next_placed b n r given c last t room p least inside =
+    let k : Key = key t.table (line t.table r.line) c in
+    let f : Field = field_given t r given in
+    let wide : columns_over c last ≡ suc (last - c) = omega (arith, least, inside, room.0, room.1) in
+    let upto : c + suc (last - c) ≡ sum last 1 = omega (arith, least, inside, room.0, room.1) in
+    let fits : length t.numbers.items + suc (last - c) ≤ t.numbers.capacity =
+    omega (arith, least, inside, room.0, p.grid.count, p.grid.room) in
+    subst (λ (w : ℕ). Partly b n w (placed_next n r given c last t)) upto
+    (by_cases (Partly b n (c + suc (last - c))) (nat_lt 0 n && goes_on k f)
+    (in_turn (columns_over c last) (λ i. gone_on_at n (c + i)) t) (placed_field n k f c last t)
+    (λ e. next_down b n c (last - c) t p fits (columns_over c last) wide)
+    (λ e. next_own b n c (last - c) (new_cell t n k f c last) t p refl refl fits (columns_over c last) wide))
+
+column_placed : (b : Grid) (n : ℕ) (r : Row) (c : ℕ) (p : Placing) → HasRoom b → c < columns b → Filling b n c p
+    → Filling b n (suc c) (placed_at n r c p)
+column_placed b n r c p room inside f =
+    let last : ℕ = last_of p.grid r c in
+    let same : columns p.grid ≡ columns b = ap (λ (xs : Items Column). length xs.items) f.partly.heads in
+    let least : c ≤ last = over_least (columns p.grid - (c + 1)) p.grid (line p.grid.table r.line) c in
+    let upmost : last ≤ c + (columns p.grid - (c + 1)) = over_most (columns p.grid - (c + 1)) p.grid (line p.grid.table r.line) c in
+    let there : last < columns b = omega (arith, upmost, same, inside) in
+    by_cases (Filling b n (suc c)) (nat_lt c p.next) p (record {
+      grid = placed_next n r p.given c last p.grid;
+      given = min (sum p.given 1) r.«end»;
+      next = sum last 1;
+    })
+    (λ e. let h : c < p.next = below_by c p.next e in record { partly = f.partly; covers = omega (arith, h); within = f.within })
+    (λ e.
+    let h : p.next ≤ c = not_below_by c p.next e in
+    let here : p.next ≡ c = omega (arith, h, f.covers) in
+    record {
+      partly = next_placed b n r p.given c last p.grid room (subst (λ (m : ℕ). Partly b n m p.grid) here f.partly) least there;
+      covers = omega (arith, least, there, room.0, room.1);
+      within = omega (arith, there);
+    })
+
+partly_none : (b : Grid) (n : ℕ) → Partly b n 0 b
+partly_none b n = record {
+  heads = refl;
+  table = refl;
+  rows = refl;
+  grid = grows_none b.numbers;
+  more = omega arith;
+  tops = λ f less. refl;
+  firsts = λ f less. refl;
+  mine = λ f low less. absurd (none (length b.cells.items) f low less);
+}
+  where
+    none : (m f : ℕ) → m ≤ f → f < m → ⊥
+    none m f low less = omega (arith, low, less)
+
+columns_placed : (b : Grid) (n : ℕ) (r : Row) (c : ℕ) → HasRoom b → c ≤ columns b → Filling b n c (placing c n r b)
+columns_placed b n r zero room h = record { partly = partly_none b n; covers = omega arith; within = omega arith }
+columns_placed b n r (suc c) room h =
+    column_placed b n r c (placing c n r b) room (omega (arith, h)) (columns_placed b n r c room (omega (arith, h)))
+
+pub row_filled : (b : Grid) (n : ℕ) (r : Row) → HasRoom b → Partly b n (columns b) (placing (columns b) n r b).grid
+row_filled b n r room =
+    let f : Filling b n (columns b) (placing (columns b) n r b) = columns_placed b n r (columns b) room (omega arith) in
+    let all : (placing (columns b) n r b).next ≡ columns b = omega (arith, f.covers, f.within) in
+    subst (λ (k : ℕ). Partly b n k (placing (columns b) n r b).grid) all f.partly
+
+-- ---- a field from above goes on over the row, or ends above
+
+partly_gone : (b : Grid) (n w f : ℕ) (t : Grid) → Partly b n w t → Partly b n w (gone_down n f t)
+partly_gone b n w f t p =
+    let x : Cell = record (cell_of t f) { bottom = n } in
+    let u : Grid = gone_down n f t in
+    let count : length u.cells.items ≡ length t.cells.items = length-set t.cells.items f x in
+    let tops : (i : ℕ) → (cell_of u i).top ≡ (cell_of t i).top = set_same (λ (c : Cell). c.top) t.cells.items f x no_cell refl in
+    let firsts : (i : ℕ) → (cell_of u i).first ≡ (cell_of t i).first = set_same (λ (c : Cell). c.first) t.cells.items f x no_cell refl in
+    record {
+      heads = p.heads;
+      table = p.table;
+      rows = p.rows;
+      grid = p.grid;
+      more = omega (arith, p.more, count);
+      tops = λ i less. tops i ∙ p.tops i less;
+      firsts = λ i less. firsts i ∙ p.firsts i less;
+      mine = λ i low less.
+          let my : Mine b n w t i = p.mine i low (omega (arith, less, count)) in (
+            tops i ∙ my.0,
+            omega (arith, firsts i, my.1),
+            ap (λ (k : ℕ). entry t.numbers (length b.numbers.items + k)) (firsts i) ∙ my.2,
+          );
+    }
+
+-- an entry of the row is another
+grid_put : (b : Grid) (n w c x : ℕ) (t : Grid) → Partly b n w t → c < w → entry t.numbers (length b.numbers.items + c) < length b.cells.items
+    → Partly b n w (record t { numbers = put (length b.numbers.items + c) x t.numbers })
+grid_put b n w c x t p inside above =
+    let place : ℕ = length b.numbers.items + c in
+    let u : Grid = record t { numbers = put place x t.numbers } in
+    let count : length u.numbers.items ≡ length t.numbers.items = length-set t.numbers.items place x in
+    record {
+      heads = p.heads;
+      table = p.table;
+      rows = p.rows;
+      grid = record {
+        count = count ∙ p.grid.count;
+        room = p.grid.room;
+        kept = λ i less. get_or-set_other t.numbers.items place i x 0 (other i less) ∙ p.grid.kept i less;
+      };
+      more = p.more;
+      tops = p.tops;
+      firsts = p.firsts;
+      mine = λ f low less.
+          let my : Mine b n w t f = p.mine f low less in (
+            my.0,
+            my.1,
+            get_or-set_other t.numbers.items place (length b.numbers.items + (cell_of t f).first) x 0 (apart f low my.2) ∙ my.2,
+          );
+    }
+  where
+    other : (i : ℕ) → i < length b.numbers.items → i ≢ length b.numbers.items + c
+    other i less same = omega (arith, less, same)
+
+    apart : (f : ℕ) → length b.cells.items ≤ f → entry t.numbers (length b.numbers.items + (cell_of t f).first) ≡ f
+        → length b.numbers.items + (cell_of t f).first ≢ length b.numbers.items + c
+    apart f low is same = omega (arith, low, is, above, ap (entry t.numbers) same)
+
+one_ended : (b : Grid) (n w c : ℕ) (x : Cell) (t : Grid) → Partly b n w t → c < w → entry t.numbers (length b.numbers.items + c) < length b.cells.items
+    → x.top ≡ n → x.first ≡ c
+    → Partly b n w (record t { cells = record t.cells { items = t.cells.items ++ x ∷ [] }; numbers = put (length b.numbers.items + c) (length t.cells.items) t.numbers })
+one_ended b n w c x t p inside above top first =
+    let number : ℕ = length t.cells.items in
+    let place : ℕ = length b.numbers.items + c in
+    let v : Grid = record t { numbers = put place number t.numbers } in
+    let q : Partly b n w v = grid_put b n w c number t p inside above in
+    let u : Grid = record v { cells = record t.cells { items = t.cells.items ++ x ∷ [] } } in
+    let longer : length u.cells.items ≡ number + 1 = length-append t.cells.items (x ∷ []) in
+    let old : (f : ℕ) → f < number → cell_of u f ≡ cell_of t f = λ f less. get_or-append t.cells.items (x ∷ []) no_cell f less in
+    let last : cell_of u number ≡ x = get_or-append_seam t.cells.items x [] no_cell in
+    let there : entry u.numbers place ≡ number = get_or-set_same t.numbers.items place number 0 (omega (arith, inside, p.grid.count)) in
+    record {
+      heads = p.heads;
+      table = p.table;
+      rows = p.rows;
+      grid = q.grid;
+      more = omega (arith, p.more, longer);
+      tops = λ f less. ap (λ (d : Cell). d.top) (old f (omega (arith, less, p.more))) ∙ p.tops f less;
+      firsts = λ f less. ap (λ (d : Cell). d.first) (old f (omega (arith, less, p.more))) ∙ p.firsts f less;
+      mine = λ f low less.
+          elim (two f number (omega (arith, less, longer))) [
+            | inl before ↦
+                (let my : Mine b n w v f = q.mine f low before in
+                let here : (cell_of u f).first ≡ (cell_of t f).first = ap (λ (d : Cell). d.first) (old f before) in (
+                  ap (λ (d : Cell). d.top) (old f before) ∙ my.0,
+                  omega (arith, here, my.1),
+                  ap (λ (i : ℕ). entry u.numbers (length b.numbers.items + i)) here ∙ my.2,
+                ))
+            | inr same ↦
+                (let it : cell_of u f ≡ x = ap (cell_of u) same ∙ last in
+                let here : (cell_of u f).first ≡ c = ap (λ (d : Cell). d.first) it ∙ first in (
+                  ap (λ (d : Cell). d.top) it ∙ top,
+                  omega (arith, here, inside),
+                  ap (λ (i : ℕ). entry u.numbers (length b.numbers.items + i)) here ∙ there ∙ sym same,
+                ))
+          ];
+    }
+
+cell_ended : (b : Grid) (n w c : ℕ) (x : Cell) (t : Grid) → Partly b n w t → c < w → entry t.numbers (length b.numbers.items + c) < length b.cells.items
+    → x.top ≡ n → x.first ≡ c
+    → Partly b n w (record t { cells = added x t.cells; numbers = put (length b.numbers.items + c) (length t.cells.items) t.numbers })
+cell_ended b n w c x t p inside above top first =
+    by_cases
+    (λ (cs : List Cell). Partly b n w (record t { cells = record t.cells { items = cs }; numbers = put (length b.numbers.items + c) (length t.cells.items) t.numbers }))
+    (nat_lt (length t.cells.items) t.cells.capacity) (t.cells.items ++ x ∷ []) t.cells.items
+    (λ e. one_ended b n w c x t p inside above top first) (λ e. grid_put b n w c (length t.cells.items) t p inside above)
+
+-- where the row begins in the grid
+abbrev pub Starts : Grid → ℕ → Type 0
+Starts b n = length b.numbers.items ≡ n * columns b
+
+place_is : (b t : Grid) (n c : ℕ) → HasRoom b → Starts b n → t.columns ≡ b.columns → c < columns b → number_place t n c ≡ length b.numbers.items + c
+place_is b t n c room starts heads inside =
+    let same : columns t ≡ columns b = ap (λ (xs : Items Column). length xs.items) heads in
+    let fits : sum (min (length b.numbers.items) most) c ≡ length b.numbers.items + c = omega (arith, room.0, room.1, inside) in
+    ap (λ (k : ℕ). sum (min (n * k) most) c) same ∙ ap (λ (k : ℕ). sum (min k most) c) (sym starts) ∙ fits
+
+judged_at : (b : Grid) (n c : ℕ) (t : Grid) → HasRoom b → Starts b n → c < columns b → Partly b n (columns b) t
+    → Partly b n (columns b) (went_on_at n (length b.cells.items) c t)
+judged_at b n c t room starts inside p =
+    let f : ℕ = cell_number t n c in
+    let at : number_place t n c ≡ length b.numbers.items + c = place_is b t n c room starts p.heads inside in
+    let x : Cell = new_cell t n (key t.table (line t.table (row t.table n).line) c) no_field c c in
+    by_cases (Partly b n (columns b)) (nat_lt f (length b.cells.items)) (if is_whole t n f then gone_down n f t else ended_above n c t) t
+    (λ e.
+    by_cases (Partly b n (columns b)) (is_whole t n f) (gone_down n f t) (ended_above n c t)
+    (λ whole. partly_gone b n (columns b) f t p)
+    (λ whole.
+    subst (λ (i : ℕ). Partly b n (columns b) (record t { cells = added x t.cells; numbers = put i (length t.cells.items) t.numbers })) (sym at)
+    (cell_ended b n (columns b) c x t p inside
+    (let here : entry t.numbers (length b.numbers.items + c) ≡ f = ap (entry t.numbers) (sym at) in
+    let less : f < length b.cells.items = below_by f (length b.cells.items) e in omega (arith, here, less))
+    refl refl)))
+    (λ e. p)
+
+pub judged : (b : Grid) (n c : ℕ) (t : Grid) → HasRoom b → Starts b n → c ≤ columns b → Partly b n (columns b) t
+    → Partly b n (columns b) (in_turn c (went_on_at n (length b.cells.items)) t)
+judged b n zero t room starts h p = p
+judged b n (suc c) t room starts h p =
+    judged_at b n c (in_turn c (went_on_at n (length b.cells.items)) t) room starts (omega (arith, h)) (judged b n c t room starts (omega (arith, h)) p)

@@ -1,0 +1,6 @@
+use Rattle.tbl_drawing.specs.Drawing.{bars_cells}
+use Rattle.tbl_drawing.specs.Tapes.{Draws}
+use Rattle.tbl_drawing.proofs.layout.Layout.draw_bars_cells.Given as goal
+
+abbrev pub invariant-loop-column : goal.invariant-loop-column
+invariant-loop-column g l = Draws l.initial.out l.out (bars_cells l.column l.self l.row l.line)

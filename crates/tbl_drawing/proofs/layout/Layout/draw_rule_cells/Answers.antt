@@ -1,0 +1,10 @@
+use Rattle.std.proofs.Common.{ℕ, ap, add-one}
+use Rattle.tbl_drawing.specs.Drawing.{rule_cells}
+use Rattle.tbl_drawing.proofs.Tapes.{draws_nothing, draws_same, draws_then}
+use Rattle.tbl_drawing.proofs.layout.Layout.draw_rule_cells.Goals as goal
+
+pub loop-column-init : goal.loop-column-init
+loop-column-init g c = draws_nothing _
+
+pub loop-column-preserved : goal.loop-column-preserved
+loop-column-preserved g c = draws_same (draws_then c.loop-column.invariant c.draw_rule_cell.ensures) (ap (λ (m : ℕ). rule_cells m c.args.self.now c.args.above c.args.below c.args.line) (add-one c.loop-column.column))

@@ -1,0 +1,6 @@
+use Rattle.tbl_drawing.specs.Drawing.{rule_cells}
+use Rattle.tbl_drawing.specs.Tapes.{Draws}
+use Rattle.tbl_drawing.proofs.layout.Layout.draw_rule_cells.Given as goal
+
+abbrev pub invariant-loop-column : goal.invariant-loop-column
+invariant-loop-column g l = Draws l.initial.out l.out (rule_cells l.column l.self l.above l.below l.line)

@@ -1,0 +1,11 @@
+use Rattle.std.proofs.Common.{◌≡◌}
+use Rattle.tbl_drawing.specs.Heights.{height_read, without_talls}
+use Rattle.tbl_drawing.specs.Held.{emptied}
+use Rattle.tbl_table.specs.Lists.{in_turn}
+use Rattle.tbl_drawing.proofs.layout.Layout.read_heights.Given as goal
+
+abbrev pub invariant-loop-number : goal.invariant-loop-number
+invariant-loop-number l = record {
+  value : l.self ≡ in_turn l.number height_read (without_talls l.fn.self);
+  room : emptied l.self ≡ emptied l.fn.self;
+}

@@ -1,0 +1,12 @@
+pub mod Drawing
+pub mod Heights
+pub mod Held
+pub mod Laws
+pub mod Lines
+pub mod Pens
+pub mod ReadTables
+pub mod Sequences
+pub mod Steps
+pub mod Tables
+pub mod Tapes
+pub mod Writing
