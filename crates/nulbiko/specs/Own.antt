@@ -118,7 +118,7 @@ pub record PrintsOwn (setup : DocumentSetup) (macros text output : List ℕ) (re
   pub options : Options
   pub asked : AreSet setup.options options
   pub tables : Bounds
-  pub set_by : tables ≡ tables_by setup (sets_of setup text) tables.signs
+  pub set_by : tables ≡ tables_by setup (sets_of setup text) tables.tables.signs
   pub bytes : List ℕ
   pub moves : ℕ
   pub outcome : Outcome

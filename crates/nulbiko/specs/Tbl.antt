@@ -1,9 +1,10 @@
 -- What a call of tbl comes to.
-use Rattle.std.specs.Prelude.{◌≡◌, ℕ, List, [], ◌∷◌, length, Bool, false, Option, Some}
+use Rattle.std.specs.Prelude.{◌≡◌, ℕ, List, [], ◌∷◌, length, Bool, true, false, Option, Some}
 use Rattle.nr_vectors.specs.Items.{Items}
 use Rattle.nr_units.specs.Source.{Supply}
 use Rattle.utf8_characters.specs.declared.table.Table.{Table}
 use Rattle.tbl_setting.specs.Drawing.{signs_of}
+use Rattle.tbl_setting.specs.Bounds.{Bounds}
 use Rattle.tbl_setting.specs.Running.{Ran, is_read_fault}
 use Rattle.tbl_reader.specs.declared.reader.Limits.{Limits}
 use Rattle.tbl_reader.specs.declared.complaint.Complaint.{Complaint}
@@ -49,6 +50,10 @@ first_line (c ∷ cs) = c.line
 abbrev pub limits : Limits
 limits = record { formats = 262144; row = 16384 }
 
+-- tables of manual pages are narrowed
+abbrev pub bounds : Option Table → ℕ → Bounds
+bounds table line = record { signs = signs_of table; limits = limits; cells = line; fits = true }
+
 -- The tables of the text were set for a line of so many cells, with boxes of the characters of the table if there is one, what came out was handed over, and what was wrong first is reported.
 pub record SetsTables (table : Option Table) (line : ℕ) (text output : List ℕ) (report : Report) (code : ℕ) : Type 0 where
   pub outcome : Outcome
@@ -57,7 +62,7 @@ pub record SetsTables (table : Option Table) (line : ℕ) (text output : List �
   pub kept : Items Complaint
   pub missed : Bool
   pub uneven : Bool
-  pub ran : Ran (signs_of table) limits line (Some (whole_text text)) left (Some []) (Some bytes) kept
+  pub ran : Ran (bounds table line) (Some (whole_text text)) left (Some []) (Some bytes) kept
       missed uneven outcome
   pub room : kept.capacity ≡ 1
   pub handed : IsHanded bytes output report.written

@@ -12,7 +12,7 @@ use Rattle.tbl_command.specs.declared.arguments.Which.{Which}
 use Rattle.tbl_command.specs.declared.arguments.Which.TheVariants.{Formats, Row, Line}
 use Rattle.tbl_command.specs.declared.arguments.Wrong.{Wrong}
 use Rattle.tbl_command.specs.declared.arguments.Wrong.TheVariants.{UnknownTable}
-use Rattle.tbl_command.specs.Arguments.{ComesTo, IsAnswer, IsBad, Means, Names, Sets, Stands, at, is_option, is_wrong, texts, usual_job, with_number, with_setting, with_table}
+use Rattle.tbl_command.specs.Arguments.{ComesTo, IsAnswer, IsBad, Keeps, Means, Names, Sets, Stands, at, is_option, is_wrong, texts, usual_job, with_number, with_setting, with_table, without_fit}
 use Rattle.tbl_command.proofs.Parting.{texts-from}
 use Rattle.tbl_command.proofs.Reading.{Bad-means, Bad-one, Means-one}
 
@@ -42,20 +42,37 @@ stands-option true false F T O is so x = x
 stands-option false names F T O is so x = absurd (let no : false ≡ true = is in cc)
 stands-option true true F T O is so x = absurd (let no : true ≡ false = so in cc)
 
+keeps-this : (keeps : Bool) (K O : Type 0) → keeps ≡ true → K → Keeps keeps K O
+keeps-this true K O is x = x
+keeps-this false K O is x = absurd (let no : false ≡ true = is in cc)
+
+keeps-other : (keeps : Bool) (K O : Type 0) → keeps ≡ false → O → Keeps keeps K O
+keeps-other false K O is x = x
+keeps-other true K O is x = absurd (let no : true ≡ false = is in cc)
+
 pub table_follows : (job : Job) (place : ℕ) (word : List ℕ) (words : List (List ℕ)) (answer : Result Job BadWord)
     → is_option word ≡ true → bytes_eq word (codes "-u") ≡ true → ComesTo true job (place + 1) words answer → ComesTo false job place (word ∷ words) answer
 table_follows job place word words answer option names rest = stands-table (is_option word) (bytes_eq word (codes "-u")) _ _ _ option names rest
 
+pub option_keeps : (job : Job) (place : ℕ) (word : List ℕ) (words : List (List ℕ)) (answer : Result Job BadWord)
+    → is_option word ≡ true → bytes_eq word (codes "-u") ≡ false → bytes_eq word (codes "-n") ≡ true
+    → ComesTo false (without_fit job) (place + 1) words answer → ComesTo false job place (word ∷ words) answer
+option_keeps job place word words answer option names keeps rest =
+    stands-option (is_option word) (bytes_eq word (codes "-u")) _ _ _ option names (keeps-this (bytes_eq word (codes "-n")) _ _ keeps rest)
+
 pub option_sets : (job : Job) (place : ℕ) (word : List ℕ) (words : List (List ℕ)) (answer : Result Job BadWord) (s : Setting)
-    → is_option word ≡ true → bytes_eq word (codes "-u") ≡ false → Means s word → ComesTo false (with_setting s job) (place + 1) words answer
-    → ComesTo false job place (word ∷ words) answer
-option_sets job place word words answer s option names means rest =
-    stands-option (is_option word) (bytes_eq word (codes "-u")) _ _ _ option names (inl (s, means, rest))
+    → is_option word ≡ true → bytes_eq word (codes "-u") ≡ false → bytes_eq word (codes "-n") ≡ false → Means s word
+    → ComesTo false (with_setting s job) (place + 1) words answer → ComesTo false job place (word ∷ words) answer
+option_sets job place word words answer s option names keeps means rest =
+    stands-option (is_option word) (bytes_eq word (codes "-u")) _ _ _ option names
+    (keeps-other (bytes_eq word (codes "-n")) _ _ keeps (inl (s, means, rest)))
 
 pub option_bad : (job : Job) (place : ℕ) (word : List ℕ) (words : List (List ℕ)) (wrong : Wrong)
-    → is_option word ≡ true → bytes_eq word (codes "-u") ≡ false → IsBad wrong word → ComesTo false job place (word ∷ words) (is_wrong place wrong)
-option_bad job place word words wrong option names bad =
-    stands-option (is_option word) (bytes_eq word (codes "-u")) _ _ _ option names (inr (wrong, bad, refl))
+    → is_option word ≡ true → bytes_eq word (codes "-u") ≡ false → bytes_eq word (codes "-n") ≡ false → IsBad wrong word
+    → ComesTo false job place (word ∷ words) (is_wrong place wrong)
+option_bad job place word words wrong option names keeps bad =
+    stands-option (is_option word) (bytes_eq word (codes "-u")) _ _ _ option names
+    (keeps-other (bytes_eq word (codes "-n")) _ _ keeps (inr (wrong, bad, refl)))
 
 pub file_stands : (job : Job) (place : ℕ) (word : List ℕ) (words : List (List ℕ)) → is_option word ≡ false
     → ComesTo false job place (word ∷ words) (Ok (at place job))
@@ -75,6 +92,10 @@ one_sets word place a b P Q same (inl (s, m, p)) (inr (w, bad, is)) = absurd (Ba
 one_sets word place a b P Q same (inr (w, bad, is)) (inl (s, m, q)) = absurd (Bad-means w s word bad m)
 one_sets word place a b P Q same (inr (w, bad, is)) (inr (w', bad', is')) = is' ∙ ap (is_wrong place) (Bad-one w w' word bad bad') ∙ sym is
 
+one_keeps : (keeps : Bool) (E K L O P : Type 0) → (K → L → E) → (O → P → E) → Keeps keeps K O → Keeps keeps L P → E
+one_keeps true E K L O P this other x y = this x y
+one_keeps false E K L O P this other x y = other x y
+
 one_stands : (option names : Bool) (E F G T U O P : Type 0) → (F → G → E) → (T → U → E) → (O → P → E)
     → Stands option names F T O → Stands option names G U P → E
 one_stands false names E F G T U O P file table other x y = file x y
@@ -90,7 +111,8 @@ one_answer true job place (name ∷ words) a b x y =
 one_answer false job place (word ∷ words) a b x y =
     one_stands (is_option word) (bytes_eq word (codes "-u")) (b ≡ a) _ _ _ _ _ _ (λ p q. q ∙ sym p)
     (one_answer true job (place + 1) words a b)
-    (one_sets word place a b _ _ (λ s. one_answer false (with_setting s job) (place + 1) words a b)) x y
+    (one_keeps (bytes_eq word (codes "-n")) (b ≡ a) _ _ _ _ (one_answer false (without_fit job) (place + 1) words a b)
+    (one_sets word place a b _ _ (λ s. one_answer false (with_setting s job) (place + 1) words a b))) x y
 
 pub only : (words : List (List ℕ)) (answer : Result Job BadWord) → IsAnswer words answer → (other : Result Job BadWord) → IsAnswer words other → other ≡ answer
 only words answer is other so = one_answer false usual_job 0 words answer other is so

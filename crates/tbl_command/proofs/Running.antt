@@ -1,9 +1,9 @@
 -- What the words of tbl ask for comes about.
 use Rattle.std.proofs.Common.{◌≡◌, ℕ, List, drop, Bool, Option, None, Some, Ok, sym, refl, subst, ap, ◌∙◌}
 use Rattle.nr_units.specs.Failures.{SinkFailures}
-use Rattle.tbl_layout.specs.declared.signs.Signs.{Signs}
+use Rattle.tbl_table.specs.declared.signs.Signs.{Signs}
 use Rattle.tbl_setting.specs.Drawing.{signs_of}
-use Rattle.tbl_setting.specs.Running.{Bounds}
+use Rattle.tbl_setting.specs.Bounds.{Bounds}
 use Rattle.utf8_characters.specs.declared.table.Table.{Table}
 use Rattle.utf8_own_characters.specs.Table.{Characters}
 use Rattle.filters.specs.Disk.{Opening}

@@ -4,13 +4,14 @@ use Rattle.nr_vectors.specs.Items.{Items}
 use Rattle.nr_units.specs.Source.{Supply, reader_supply}
 use Rattle.nr_units.specs.Failures.{SinkFailures, put_counted_if}
 use Rattle.nr_units.specs.Sink.{AppendsFront}
-use Rattle.tbl_layout.specs.declared.table.Table.{Table}
 use Rattle.tbl_reader.specs.Running as reading
 use Rattle.tbl_reader.specs.Telling.{Piece}
 use Rattle.tbl_reader.specs.declared.complaint.Complaint.{Complaint}
 use Rattle.tbl_reader.specs.declared.running.Outcome.{Outcome}
 use Rattle.tbl_reader.specs.declared.running.Outcome.TheVariants as outcomes
-use Rattle.tbl_setting.specs.Running.{Bounds, PutsFront, Ran, set_page}
+use Rattle.tbl_setting.specs.declared.setting.Setting.{Setting}
+use Rattle.tbl_setting.specs.Bounds.{Bounds}
+use Rattle.tbl_setting.specs.Running.{PutsFront, Ran, set_page}
 use Rattle.filters.specs.Turning.{Begins, IsAll, Turned, is_write_fault, text_left}
 use Rattle.filters.specs.declared.endings.Ending.{Ending}
 use Rattle.tbl_command.specs.Converting.{ending_of, tbl}
@@ -26,21 +27,21 @@ came_all b None last bytes comes ends = tt
 came_all b (Some all) None bytes comes ends = absurd comes
 came_all b (Some all) (Some t) bytes comes ends = sym (comes ∙ ap (λ (l : List ℕ). bytes ++ l) ends ∙ append-nil bytes)
 
-either : (begun whole : List ℕ) (some all : List Piece) (t : Table) (held new : Option (List ℕ)) (kept : Items Complaint) (missed uneven : Bool)
+either : (begun whole : List ℕ) (some all : List Piece) (t : Setting) (held new : Option (List ℕ)) (kept : Items Complaint) (missed uneven : Bool)
     → PutsFront begun some t held new kept missed uneven ⊎ PutsFront whole all t held new kept missed uneven
     → AppendsFront held new (whole ++ []) ⊎ AppendsFront held new begun
 either begun whole some all t held new kept missed uneven (inl p) = inr p.went_out
 either begun whole some all t held new kept missed uneven (inr p) = inl (rw (append-nil whole) p.went_out)
 
 by_outcome : (wrong : Bool) (b : Bounds) (name : List ℕ) (left : Option (List ℕ)) (last : Option Supply) (held new : Option (List ℕ)) (kept : Items Complaint)
-    (missed uneven : Bool) (outcome : Outcome) → Ran b.signs b.limits b.cells (reader_supply left) last held new kept missed uneven outcome
+    (missed uneven : Bool) (outcome : Outcome) → Ran b (reader_supply left) last held new kept missed uneven outcome
     → Turned (tbl b) (record { name = name; left = left }) held new (ending_of wrong outcome)
 by_outcome true b name left last held new kept missed uneven outcomes.Done ran = record {
   text = ran.bytes;
   all = came_all b left last ran.bytes ran.came ran.ends;
   end = [];
   may_end = refl;
-  went_out = rw (append-nil (set_page b.signs b.limits b.cells ran.bytes)) ran.puts.went_out;
+  went_out = rw (append-nil (set_page b ran.bytes)) ran.puts.went_out;
   complains = tt;
 }
 by_outcome false b name left last held new kept missed uneven outcomes.Done ran = record {
@@ -48,7 +49,7 @@ by_outcome false b name left last held new kept missed uneven outcomes.Done ran 
   all = came_all b left last ran.bytes ran.came ran.ends;
   end = [];
   may_end = refl;
-  went_out = rw (append-nil (set_page b.signs b.limits b.cells ran.bytes)) ran.puts.went_out;
+  went_out = rw (append-nil (set_page b ran.bytes)) ran.puts.went_out;
   complains = tt;
 }
 by_outcome wrong b name left last held new kept missed uneven (outcomes.ReadFault at) ran = (
@@ -78,11 +79,11 @@ by_outcome wrong b name left last held new kept missed uneven outcomes.WriteFaul
 }
 
 pub turned : (wrong : Bool) (b : Bounds) (name : List ℕ) (left : Option (List ℕ)) (first last : Option Supply) (held new : Option (List ℕ)) (kept : Items Complaint)
-    (missed uneven : Bool) (outcome : Outcome) (ending : Ending) → first ≡ reader_supply left → Ran b.signs b.limits b.cells first last held new kept missed uneven outcome
+    (missed uneven : Bool) (outcome : Outcome) (ending : Ending) → first ≡ reader_supply left → Ran b first last held new kept missed uneven outcome
     → ending ≡ ending_of wrong outcome → Turned (tbl b) (record { name = name; left = left }) held new ending
 turned wrong b name left first last held new kept missed uneven outcome ending supply ran ended =
     rw ended (by_outcome wrong b name left last held new kept missed uneven outcome
-    (subst (λ (s : Option Supply). Ran b.signs b.limits b.cells s last held new kept missed uneven outcome) supply ran))
+    (subst (λ (s : Option Supply). Ran b s last held new kept missed uneven outcome) supply ran))
 
 -- each failed call was counted
 same_fault : (wrong : Bool) (outcome : Outcome) → reading.is_write_fault outcome ≡ is_write_fault (ending_of wrong outcome)

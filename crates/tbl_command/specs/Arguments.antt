@@ -69,7 +69,11 @@ with_setting setting job = with_number setting.which setting.limit job
 
 -- the job where no option sets anything
 abbrev pub usual_job : Job
-usual_job = record { formats = 262144; row = 16384; line = 65; characters = None; files = 0 }
+usual_job = record { formats = 262144; row = 16384; line = 65; fits = true; characters = None; files = 0 }
+
+-- where tables stay as wide as they are
+abbrev pub without_fit : Job → Job
+without_fit job = record job { fits = false }
 
 -- with a table of characters, and with the place of the first file
 abbrev pub with_table : Named → Job → Job
@@ -92,6 +96,11 @@ Stands false names file table option = file
 Stands true true file table option = table
 Stands true false file table option = option
 
+-- the option that says so, or another
+abbrev pub Keeps : Bool → Type 0 → Type 0 → Type 0
+Keeps true keeps option = keeps
+Keeps false keeps option = option
+
 -- it sets something, and the words after it come to the rest; or it is bad
 abbrev pub Sets : List ℕ → ℕ → Result Job BadWord → (Setting → Type 0) → Type 0
 Sets word place answer next =
@@ -108,7 +117,8 @@ ComesTo true job place (name ∷ words) answer =
 ComesTo false job place (word ∷ words) answer =
     Stands (is_option word) (bytes_eq word (codes "-u")) (answer ≡ Ok (at place job))
     (ComesTo true job (place + 1) words answer)
-    (Sets word place answer (λ s. ComesTo false (with_setting s job) (place + 1) words answer))
+    (Keeps (bytes_eq word (codes "-n")) (ComesTo false (without_fit job) (place + 1) words answer)
+    (Sets word place answer (λ s. ComesTo false (with_setting s job) (place + 1) words answer)))
 
 abbrev pub IsAnswer : List (List ℕ) → Result Job BadWord → Type 0
 IsAnswer words answer = ComesTo false usual_job 0 words answer

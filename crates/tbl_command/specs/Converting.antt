@@ -1,10 +1,11 @@
 -- What tbl makes of texts, and what its words ask for.
 use Rattle.std.specs.Prelude.{◌≡◌, ℕ, List, [], drop, get_or, min, Bool, true, false, Option, None, Some, Result, Ok, Err, codes}
-use Rattle.tbl_layout.specs.declared.signs.Signs.{Signs}
+use Rattle.tbl_table.specs.declared.signs.Signs.{Signs}
 use Rattle.tbl_reader.specs.declared.running.Outcome.{Outcome}
 use Rattle.tbl_reader.specs.declared.running.Outcome.TheVariants as outcomes
 use Rattle.tbl_setting.specs.Drawing.{signs_of}
-use Rattle.tbl_setting.specs.Running.{Bounds, set_page, set_so_far}
+use Rattle.tbl_setting.specs.Bounds.{Bounds}
+use Rattle.tbl_setting.specs.Running.{set_page, set_so_far}
 use Rattle.utf8_own_characters.specs.Table.{Characters}
 use Rattle.filters.specs.Program as programs
 use Rattle.filters.specs.Turning.{Filter}
@@ -25,8 +26,8 @@ use Rattle.tbl_command.specs.declared.arguments.Wrong.TheVariants.{Unknown, BadV
 abbrev pub tbl : Bounds → Filter
 tbl bounds = record {
   text_of = λ bytes. bytes;
-  whole = set_page bounds.signs bounds.limits bounds.cells;
-  begun = set_so_far bounds.signs bounds.limits bounds.cells;
+  whole = set_page bounds;
+  begun = set_so_far bounds;
   may_end_line = false;
   complains = λ text. None;
   is_naming = false;
@@ -41,6 +42,7 @@ bounds_of signs job = record {
     row = min job.row 18446744073709551614;
   };
   cells = job.line;
+  fits = job.fits;
 }
 
 -- what is reported of a bad word, and the word

@@ -1,8 +1,8 @@
 -- What frames are drawn with in a page's own table.
 use Prim.Native.Char.{code}
 use Rattle.std.specs.Prelude.{ℕ, Option, Some}
-use Rattle.tbl_layout.specs.declared.signs.Joints.{Joints}
-use Rattle.tbl_layout.specs.declared.signs.Signs.{Signs}
+use Rattle.tbl_table.specs.declared.signs.Joints.{Joints}
+use Rattle.tbl_table.specs.declared.signs.Signs.{Signs}
 use Rattle.utf8_own_characters.specs.Cluster.{single}
 use Rattle.utf8_own_characters.specs.Table as own
 use Rattle.utf8_own_characters.specs.Table.{Characters}

@@ -2,7 +2,7 @@
 ghost use Rattle.std.specs.Prelude.{◌≡◌, ◌≢◌, ℕ, ◌<◌, ◌≤◌, List, ◌++◌, IfErr, IfNone, IfOk, IfSome, Result, length};
 ghost use Rattle.std.specs.Option.{SomeIff};
 ghost use Rattle.std.specs.Str.Parse.{IsNumeral, digits_value};
-ghost use Rattle.tbl_command.specs.Arguments.{IsAnswer, Reads, at, front_of, is_option, least_of, texts, usual_job, with_setting, with_table};
+ghost use Rattle.tbl_command.specs.Arguments.{IsAnswer, Reads, at, front_of, is_option, least_of, texts, usual_job, with_setting, with_table, without_fit};
 
 use filters_own::{Named, table_at};
 
@@ -29,6 +29,8 @@ pub struct Job {
     pub row: usize,
     /// The length of the line, in n.
     pub line: usize,
+    /// Tables of manual pages that are wider than the line are narrowed.
+    pub fits: bool,
     /// What bytes from 128 on stand for, if anything.
     pub characters: Option<Named>,
     /// The place of the first file among the words: there may be none.
@@ -151,6 +153,7 @@ impl Job {
             formats: USUAL_FORMATS,
             row: USUAL_ROW,
             line: USUAL_LINE,
+            fits: true,
             characters: None,
             files: 0,
         }
@@ -162,6 +165,16 @@ impl Job {
     {
         Job {
             characters: Some(table),
+            ..self
+        }
+    }
+
+    /// Tables stay as wide as they are.
+    fn without_fit(self) -> Job
+        ensures { result ≡ without_fit self }
+    {
+        Job {
+            fits: false,
             ..self
         }
     }
@@ -228,6 +241,8 @@ pub fn read_words(words: &[&str]) -> Result<Job, BadWord>
             return Ok(job.at(place));
         } else if word.as_bytes() == b"-u".as_slice() {
             awaits = true;
+        } else if word.as_bytes() == b"-n".as_slice() {
+            job = job.without_fit();
         } else {
             match read_option(word) {
                 Ok(setting) => job = job.with(setting),

@@ -1,6 +1,7 @@
 // The memory that texts are turned in.
 ghost use Rattle.std.specs.Prelude.{◌≡◌, IfOk};
 ghost use Rattle.tbl_setting.specs.Drawing.{signs_of};
+ghost use Rattle.tbl_setting.specs.Running.{with_fits};
 ghost use Rattle.tbl_command.specs.Converting.{bounds_of, ending_of};
 
 use super::arguments::Job;
@@ -31,9 +32,11 @@ pub struct Rooms {
 
 impl Rooms {
     /// Takes the memory of a job beside what is held of a table.
-    fn around(held: tbl_setting::Rooms, alloc: Global) -> Result<Rooms, AllocError>
-        ensures { IfOk result (λ rooms. rooms.held ≡ held) }
+    fn around(job: Job, held: tbl_setting::Rooms, alloc: Global) -> Result<Rooms, AllocError>
+        ensures { IfOk result (λ rooms. rooms.held ≡ with_fits job.fits held) }
     {
+        let mut held = held;
+        held.set_fits(job.fits);
         Ok(Rooms {
             input: vec![in alloc; 0u8; BUFFER_SIZE]?,
             complaints: vec![in alloc; Complaint::NONE; MOST_COMPLAINTS]?,
@@ -47,7 +50,7 @@ impl Rooms {
     {
         let mut counted = CountedAlloc::new(alloc);
         let held = tbl_setting::Rooms::new(&mut counted, job.formats, job.row, job.line, fixed)?;
-        Rooms::around(held, alloc)
+        Rooms::around(job, held, alloc)
     }
 
     /// The same, where they are drawn with these bytes.
@@ -62,7 +65,7 @@ impl Rooms {
             job.line,
             signs,
         )?;
-        Rooms::around(held, alloc)
+        Rooms::around(job, held, alloc)
     }
 }
 

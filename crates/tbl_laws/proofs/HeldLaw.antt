@@ -1,22 +1,23 @@
 -- The rows that are told are held as they were told.
 use Rattle.std.proofs.Common.{◌≡◌, ℕ, zero, suc, ◌+◌, ◌<◌, ◌≤◌, List, [], ◌∷◌, ◌++◌, length, Bool, true, false, if◌then◌else◌, nat_lt, refl, sym, ◌∙◌, ap, subst, append_assoc, append-nil, length-append, arith}
-use Rattle.tbl_layout.specs.declared.table.Field.{Field}
-use Rattle.tbl_layout.specs.declared.table.Form.TheVariants as forms
-use Rattle.tbl_layout.specs.declared.table.Item.{Item}
-use Rattle.tbl_layout.specs.declared.table.Item.TheVariants as items
-use Rattle.tbl_layout.specs.declared.table.Row.{Row}
-use Rattle.tbl_layout.specs.declared.table.Table.{Table}
-use Rattle.tbl_layout.specs.Measured.{table_after, table_strokes}
-use Rattle.tbl_layout.specs.Pens.{Stroke}
-use Rattle.tbl_layout.specs.Rows.{field_added, joins, mark_added, row_added, row_ended, row_read}
+use Rattle.tbl_table.specs.declared.table.Field.{Field}
+use Rattle.tbl_table.specs.declared.table.Form.TheVariants as forms
+use Rattle.tbl_table.specs.declared.table.Item.{Item}
+use Rattle.tbl_table.specs.declared.table.Item.TheVariants as items
+use Rattle.tbl_table.specs.declared.table.Row.{Row}
+use Rattle.tbl_table.specs.declared.table.Table.{Table}
+use Rattle.tbl_drawing.specs.Pens.{Stroke}
+use Rattle.tbl_table.specs.Rows.{field_added, joins, mark_added, row_added, row_ended, row_read}
 use Rattle.std.specs.Prelude.{Option}
 use Rattle.tbl_reader.specs.declared.complaint.Complaint.{Complaint}
 use Rattle.tbl_reader.specs.declared.field.Mark.TheVariants as marks
 use Rattle.tbl_reader.specs.declared.telling.Tell.{Tell}
 use Rattle.tbl_reader.specs.declared.telling.Tell.TheVariants as tells
 use Rattle.tbl_reader.specs.Telling.{Piece, piece}
+use Rattle.tbl_setting.specs.declared.setting.Setting.{Setting}
+use Rattle.tbl_setting.specs.Held.{table, table_set, table_strokes, with_table}
 use Rattle.tbl_setting.specs.Setting.{relief, relieved, set, strokes}
-use Rattle.tbl_laws.specs.HeldRows.{AreAmong, HasRoom, RowsAreHeld, all_bytes, all_fields, all_of, all_rows, count}
+use Rattle.tbl_laws.specs.HeldRows.{AreAmong, HasRoom, HoldsRows, RowsAreHeld, all_bytes, all_fields, all_of, all_rows, count}
 use Rattle.tbl_laws.specs.Rows.{are_of_rows, is_of_row, rows_told}
 use Rattle.tbl_laws.proofs.HeldRows.{Grown, IsWithin, Like, field_grows, field_like, line_stays, loose, mark_grows, mark_like, no_texts, none_within, one_more, row_is, texts_are, texts_in}
 use Rattle.tbl_laws.proofs.Rows.{both_first, both_second, is_not}
@@ -39,7 +40,7 @@ all_more : (rows : List (List (List ℕ))) (r : List (List ℕ)) → all_of (row
 all_more [] r = append-nil r
 all_more (q ∷ qs) r = ap (λ (l : List (List ℕ)). q ++ l) (all_more qs r) ∙ sym (append_assoc q (all_of qs) r)
 
--- ---- what else is held: fields are text, rows are numbered, and stand below one another
+-- ---- what else is held: fields are text, rows have the first line of formats, and stand below one another
 
 unfoldable pub AreText : List Field → Type 0
 AreText [] = Unit {0}
@@ -54,14 +55,14 @@ text_if : (room : Bool) (fs : List Field) (f : Field) → AreText fs → f.form 
 text_if true fs f h is = text_more fs f h is
 text_if false fs f h is = h
 
-unfoldable pub AreNumbered : ℕ → List Row → Type 0
-AreNumbered n [] = Unit {0}
-AreNumbered n (h ∷ hs) = (h.line ≡ 0) × (h.last_own ≡ n) × AreNumbered (suc n) hs
+unfoldable pub AreFirst : List Row → Type 0
+AreFirst [] = Unit {0}
+AreFirst (h ∷ hs) = (h.line ≡ 0) × AreFirst hs
 
-numbered_more : (n : ℕ) (hs : List Row) (h : Row) → AreNumbered n hs → h.line ≡ 0 → h.last_own ≡ n + length hs → AreNumbered n (hs ++ h ∷ [])
-unfolding AreNumbered
-numbered_more n [] h a line own = (line, omega (arith, own), tt)
-numbered_more n (k ∷ ks) h a line own = (a.0, a.1, numbered_more (suc n) ks h a.2 line (omega (arith, own)))
+first_more : (hs : List Row) (h : Row) → AreFirst hs → h.line ≡ 0 → AreFirst (hs ++ h ∷ [])
+unfolding AreFirst
+first_more [] h a line = (line, tt)
+first_more (k ∷ ks) h a line = (a.0, first_more ks h a.1 line)
 
 abbrev pub rows_to : ℕ → List Item
 rows_to zero = []
@@ -83,7 +84,7 @@ as_in o t = record o {
 
 pub record Held (o t : Table) (rows : List (List (List ℕ))) (next : List (List ℕ)) : Type 0 where
   pub forms : AreText t.fields.items
-  pub numbered : AreNumbered 0 t.rows.items
+  pub lines : AreFirst t.rows.items
   pub listed : o.items.items ≡ [] → t.items.items ≡ rows_to (length t.rows.items)
   pub same : t ≡ as_in o t
   pub texts : texts_in t.text.items t.fields.items ≡ all_of rows ++ next
@@ -98,7 +99,7 @@ field_held o t u rows next text h g k forms_are same =
     let long = length-append next (text ∷ []) in
     record {
       forms = forms_are;
-      numbered = subst (AreNumbered 0) (sym (ap (λ x. x.items) k.rows)) h.numbered;
+      lines = subst AreFirst (sym (ap (λ x. x.items) k.rows)) h.lines;
       listed = λ none. ap (λ x. x.items) k.items ∙ h.listed none ∙ ap (λ x. rows_to (length x.items)) (sym k.rows);
       same = same ∙ ap (λ (x : Table). as_in x u) h.same;
       texts = g.texts ∙ ap (λ (l : List (List ℕ)). l ++ text ∷ []) h.texts ∙ append_assoc (all_of rows) next (text ∷ []);
@@ -116,7 +117,7 @@ row_held o t rows next h line few room =
     let long = ap length more ∙ length-append t.rows.items (row_read t ∷ []) in
     record {
       forms = h.forms;
-      numbered = subst (AreNumbered 0) (sym more) (numbered_more 0 t.rows.items (row_read t) h.numbered line (let n : length t.rows.items ≡ 0 + length t.rows.items = omega arith in n));
+      lines = subst AreFirst (sym more) (first_more t.rows.items (row_read t) h.lines line);
       listed = λ none. one_more t.items.items (items.Row (length t.rows.items)) t.items.capacity room
           ∙ ap (λ (l : List Item). l ++ items.Row (length t.rows.items) ∷ []) (h.listed none)
           ∙ ap rows_to (let n : suc (length t.rows.items) ≡ length (row_added t).rows.items = omega (arith, long) in n);
@@ -180,131 +181,138 @@ same_room t p ps r bytes fields rows = record {
   items = (let a = r.items in omega (arith, a, rows));
 }
 
-row_set : (t : Table) (p : Piece) (ps : List Piece) → HasRoom t (p ∷ ps) → HasRoom (row_added t) ps → relieved (row_ended t) ≡ row_added t
-row_set t p ps r u =
+-- nothing goes out for a row that there is room for, and it stays
+row_stays : (t : Table) (s : Setting) (p : Piece) (ps : List Piece) → HasRoom t (p ∷ ps) → HasRoom (row_added t) ps
+    → (relieved (with_table (row_ended t) s) ≡ with_table (row_added t) s) × (relief (with_table (row_ended t) s) ≡ [])
+row_stays t s p ps r u =
     let row_few : length t.rows.items < t.rows.capacity = (let a = r.rows in omega (arith, a)) in
     let item_few : length t.items.items < t.items.capacity = (let a = r.items in omega (arith, a)) in
-    ap relieved (row_is t r.lines r.first row_few item_few)
-    ∙ ap (λ (x : Bool). if x then table_after false (row_added t) else row_added t)
-    (loose (row_added t) (let a = u.most in omega (arith, a)) (let a = u.rows in omega (arith, a)) (let a = u.fields in omega (arith, a)) (let a = u.items in omega (arith, a)))
-
--- nothing goes out for a row that there is room for
-row_silent : (t : Table) (p : Piece) (ps : List Piece) → HasRoom t (p ∷ ps) → HasRoom (row_added t) ps
-    → relief (row_ended t) ++ strokes ps (relieved (row_ended t)) ≡ strokes ps (relieved (row_ended t))
-row_silent t p ps r u =
-    let row_few : length t.rows.items < t.rows.capacity = (let a = r.rows in omega (arith, a)) in
-    let item_few : length t.items.items < t.items.capacity = (let a = r.items in omega (arith, a)) in
-    let none : relief (row_ended t) ≡ [] =
-    ap relief (row_is t r.lines r.first row_few item_few)
-    ∙ ap (λ (x : Bool). if x then table_strokes false (row_added t) else [])
-    (loose (row_added t) (let a = u.most in omega (arith, a)) (let a = u.rows in omega (arith, a)) (let a = u.fields in omega (arith, a)) (let a = u.items in omega (arith, a))) in
-    ap (λ (l : List Stroke). l ++ strokes ps (relieved (row_ended t))) none
+    let is = row_is t r.lines r.first row_few item_few in
+    let now = with_table (row_added t) s in
+    let room =
+    loose (row_added t) (let a = u.most in omega (arith, a)) (let a = u.rows in omega (arith, a)) (let a = u.fields in omega (arith, a)) (let a = u.items in omega (arith, a)) in (
+      ap (λ (x : Table). relieved (with_table x s)) is ∙ ap (λ (b : Bool). if b then table_set false now else now) room,
+      ap (λ (x : Table). relief (with_table x s)) is ∙ ap (λ (b : Bool). if b then table_strokes false now else []) room,
+    )
 
 -- ---- one piece after the other
 
-pub record Result (ps : List Piece) (o t : Table) (rows : List (List (List ℕ))) (next : List (List ℕ)) : Type 0 where
+pub record Result (ps : List Piece) (o t : Table) (s : Setting) (rows : List (List (List ℕ))) (next : List (List ℕ)) : Type 0 where
   pub left : List (List ℕ)
-  pub held : Held o (set ps t) (rows ++ rows_told next ps) left
-  pub silent : strokes ps t ≡ []
+  pub now : Table
+  pub held : Held o now (rows ++ rows_told next ps) left
+  pub becomes : set ps (with_table t s) ≡ with_table now s
+  pub silent : strokes ps (with_table t s) ≡ []
 
 abbrev pub Next : List Piece → Type 0
-Next ps = (o t : Table) (rows : List (List (List ℕ))) (next : List (List ℕ)) → Held o t rows next → HasRoom t ps → Result ps o t rows next
+Next ps = (o t : Table) (s : Setting) (rows : List (List (List ℕ))) (next : List (List ℕ)) → Held o t rows next → HasRoom t ps → Result ps o t s rows next
 
-field_step : (front : Option ℕ) (text : List ℕ) (ps : List Piece) → Next ps → (o t : Table) (rows : List (List (List ℕ))) (next : List (List ℕ)) → Held o t rows next
-    → HasRoom t (piece (tells.Field front) text ∷ ps) → joins text ≡ false → Result (piece (tells.Field front) text ∷ ps) o t rows next
-field_step front text ps more o t rows next h r plain =
+abbrev Step : Tell → List ℕ → List Piece → Type 0
+Step tell text ps = Next ps → Next (piece tell text ∷ ps)
+
+field_step : (front : Option ℕ) (text : List ℕ) (ps : List Piece) → joins text ≡ false → Step (tells.Field front) text ps
+field_step front text ps plain more o t s rows next h r =
     let few : length t.fields.items < t.fields.capacity = (let a = r.fields in omega (arith, a)) in
     let fits : length t.text.items + length text ≤ t.text.capacity = (let a = r.text in omega (arith, a)) in
     let g = field_grows t text front h.within plain fits few in
     let k = field_like t text front in
-    let m = more o (field_added text front t) rows (next ++ text ∷ []) (field_held o t (field_added text front t) rows next text h g k
+    let m = more o (field_added text front t) s rows (next ++ text ∷ []) (field_held o t (field_added text front t) rows next text h g k
     (text_if (nat_lt (length t.fields.items) t.fields.capacity) t.fields.items _ h.forms refl) refl)
     (field_room t (field_added text front t) (piece (tells.Field front) text) ps text r g k refl refl (let n : 0 + all_rows ps ≡ all_rows ps = omega arith in n)) in
-    record { left = m.left; held = m.held; silent = m.silent }
+    record { left = m.left; now = m.now; held = m.held; becomes = m.becomes; silent = m.silent }
 
-mark_step : (text : List ℕ) (ps : List Piece) → Next ps → (o t : Table) (rows : List (List (List ℕ))) (next : List (List ℕ)) → Held o t rows next
-    → HasRoom t (piece (tells.Mark marks.Nothing) text ∷ ps) → Result (piece (tells.Mark marks.Nothing) text ∷ ps) o t rows next
-mark_step text ps more o t rows next h r =
+mark_step : (text : List ℕ) (ps : List Piece) → Step (tells.Mark marks.Nothing) text ps
+mark_step text ps more o t s rows next h r =
     let few : length t.fields.items < t.fields.capacity = (let a = r.fields in omega (arith, a)) in
     let g = mark_grows t h.within few in
     let k = mark_like t in
-    let m = more o (mark_added forms.Text t) rows (next ++ [] ∷ []) (field_held o t (mark_added forms.Text t) rows next [] h g k
+    let m = more o (mark_added forms.Text t) s rows (next ++ [] ∷ []) (field_held o t (mark_added forms.Text t) rows next [] h g k
     (text_if (nat_lt (length t.fields.items) t.fields.capacity) t.fields.items _ h.forms refl) refl)
     (field_room t (mark_added forms.Text t) (piece (tells.Mark marks.Nothing) text) ps [] r g k refl refl (let n : 0 + all_rows ps ≡ all_rows ps = omega arith in n)) in
-    record { left = m.left; held = m.held; silent = m.silent }
+    record { left = m.left; now = m.now; held = m.held; becomes = m.becomes; silent = m.silent }
 
-row_step : (text : List ℕ) (ps : List Piece) → Next ps → (o t : Table) (rows : List (List (List ℕ))) (next : List (List ℕ)) → Held o t rows next
-    → HasRoom t (piece tells.Row text ∷ ps) → Result (piece tells.Row text ∷ ps) o t rows next
-row_step text ps more o t rows next h r =
+row_step : (text : List ℕ) (ps : List Piece) → Step tells.Row text ps
+row_step text ps more o t s rows next h r =
     let few : length t.rows.items < t.rows.capacity = (let a = r.rows in omega (arith, a)) in
     let none : (n : ℕ) → 0 + n ≡ n = λ n. omega arith in
     let room = row_room t (piece tells.Row text) ps r (none (all_bytes ps)) (none (all_fields ps)) refl in
     let item_few : length t.items.items < t.items.capacity = (let a = r.items in omega (arith, a)) in
-    let m = more o (row_added t) (rows ++ next ∷ []) [] (row_held o t rows next h r.first few item_few) room in
+    let m = more o (row_added t) s (rows ++ next ∷ []) [] (row_held o t rows next h r.first few item_few) room in
+    let stays = row_stays t s (piece tells.Row text) ps r room in
     record {
       left = m.left;
-      silent = row_silent t (piece tells.Row text) ps r room
-          ∙ ap (λ (u : Table). strokes ps u) (row_set t (piece tells.Row text) ps r room) ∙ m.silent;
-      held = subst (λ (u : Table). Held o (set ps u) (rows ++ (next ∷ rows_told [] ps)) m.left) (sym (row_set t (piece tells.Row text) ps r room))
-          (subst (λ (l : List (List (List ℕ))). Held o (set ps (row_added t)) l m.left) (append_assoc rows (next ∷ []) (rows_told [] ps)) m.held);
+      now = m.now;
+      silent = ap (λ (l : List Stroke). l ++ strokes ps (relieved (with_table (row_ended t) s))) stays.1
+          ∙ ap (strokes ps) stays.0 ∙ m.silent;
+      becomes = ap (set ps) stays.0 ∙ m.becomes;
+      held = subst (λ (l : List (List (List ℕ))). Held o m.now l m.left) (append_assoc rows (next ∷ []) (rows_told [] ps)) m.held;
     }
 
-same_step : (c : Complaint) (text : List ℕ) (ps : List Piece) → Next ps → (o t : Table) (rows : List (List (List ℕ))) (next : List (List ℕ)) → Held o t rows next
-    → HasRoom t (piece (tells.Wrong c) text ∷ ps) → Result (piece (tells.Wrong c) text ∷ ps) o t rows next
-same_step c text ps more o t rows next h r =
+same_step : (c : Complaint) (text : List ℕ) (ps : List Piece) → Step (tells.Wrong c) text ps
+same_step c text ps more o t s rows next h r =
     let none : (n : ℕ) → 0 + n ≡ n = λ n. omega arith in
-    let m = more o t rows next h (same_room t (piece (tells.Wrong c) text) ps r (none (all_bytes ps)) (none (all_fields ps)) (none (all_rows ps))) in
+    let m = more o t s rows next h (same_room t (piece (tells.Wrong c) text) ps r (none (all_bytes ps)) (none (all_fields ps)) (none (all_rows ps))) in
     record {
       left = m.left;
+      now = m.now;
+      becomes = m.becomes;
       silent = m.silent;
-      held = subst (λ (l : List (List ℕ)). Held o (set ps t) (rows ++ rows_told l ps) m.left) (sym (append-nil next)) m.held;
+      held = subst (λ (l : List (List ℕ)). Held o m.now (rows ++ rows_told l ps) m.left) (sym (append-nil next)) m.held;
     }
 
 never : {A : Type 0} → false ≡ true → A
 never h = absurd (let no : false ≡ true = h in cc)
 
-by_tell : (tell : Tell) (text : List ℕ) (ps : List Piece) → Next ps → (o t : Table) (rows : List (List (List ℕ))) (next : List (List ℕ)) → Held o t rows next
-    → HasRoom t (piece tell text ∷ ps) → is_of_row tell text ≡ true → Result (piece tell text ∷ ps) o t rows next
-by_tell (tells.Field front) text ps more o t rows next h r is = field_step front text ps more o t rows next h r (is_not _ is)
-by_tell (tells.Mark marks.Nothing) text ps more o t rows next h r is = mark_step text ps more o t rows next h r
-by_tell (tells.Mark marks.Rule) text ps more o t rows next h r is = never is
-by_tell (tells.Mark marks.Inner) text ps more o t rows next h r is = never is
-by_tell (tells.Mark (marks.Repeat b)) text ps more o t rows next h r is = never is
-by_tell (tells.Mark marks.Above) text ps more o t rows next h r is = never is
-by_tell tells.Row text ps more o t rows next h r is = row_step text ps more o t rows next h r
-by_tell (tells.Wrong c) text ps more o t rows next h r is = same_step c text ps more o t rows next h r
-by_tell tells.Table text ps more o t rows next h r is = never is
-by_tell (tells.Options x) text ps more o t rows next h r is = never is
-by_tell tells.Formats text ps more o t rows next h r is = never is
-by_tell (tells.Format c) text ps more o t rows next h r is = never is
-by_tell tells.FormatsEnd text ps more o t rows next h r is = never is
-by_tell tells.Block text ps more o t rows next h r is = never is
-by_tell tells.BlockText text ps more o t rows next h r is = never is
-by_tell tells.BlockEnd text ps more o t rows next h r is = never is
-by_tell tells.Rule text ps more o t rows next h r is = never is
-by_tell tells.Request text ps more o t rows next h r is = never is
-by_tell tells.TableEnd text ps more o t rows next h r is = never is
-by_tell tells.Plain text ps more o t rows next h r is = never is
-by_tell tells.Pass text ps more o t rows next h r is = never is
-by_tell tells.PlainEnd text ps more o t rows next h r is = never is
+by_tell : (tell : Tell) (text : List ℕ) (ps : List Piece) → is_of_row tell text ≡ true → Step tell text ps
+by_tell (tells.Field front) text ps is = field_step front text ps (is_not _ is)
+by_tell (tells.Mark marks.Nothing) text ps is = mark_step text ps
+by_tell (tells.Mark marks.Rule) text ps is = never is
+by_tell (tells.Mark marks.Inner) text ps is = never is
+by_tell (tells.Mark (marks.Repeat b)) text ps is = never is
+by_tell (tells.Mark marks.Above) text ps is = never is
+by_tell tells.Row text ps is = row_step text ps
+by_tell (tells.Wrong c) text ps is = same_step c text ps
+by_tell tells.Table text ps is = never is
+by_tell (tells.Options x) text ps is = never is
+by_tell tells.Formats text ps is = never is
+by_tell (tells.Format c) text ps is = never is
+by_tell tells.FormatsEnd text ps is = never is
+by_tell tells.Block text ps is = never is
+by_tell tells.BlockText text ps is = never is
+by_tell tells.BlockEnd text ps is = never is
+by_tell tells.Rule text ps is = never is
+by_tell tells.Request text ps is = never is
+by_tell tells.TableEnd text ps is = never is
+by_tell tells.Plain text ps is = never is
+by_tell tells.Pass text ps is = never is
+by_tell tells.PlainEnd text ps is = never is
+
+no_piece : Next []
+no_piece o t s rows next h r = record {
+  left = next;
+  now = t;
+  held = subst (λ (l : List (List (List ℕ))). Held o t l next) (sym (append-nil rows)) h;
+  becomes = refl;
+  silent = refl;
+}
 
 pub all_held : (ps : List Piece) → are_of_rows ps ≡ true → Next ps
-all_held [] are o t rows next h r = record { left = next; held = subst (λ (l : List (List (List ℕ))). Held o t l next) (sym (append-nil rows)) h; silent = refl }
-all_held (p ∷ ps) are o t rows next h r = by_tell p.tell p.text ps (all_held ps (both_second _ _ are)) o t rows next h r (both_first _ _ are)
+all_held [] are = no_piece
+all_held (p ∷ ps) are = by_tell p.tell p.text ps (both_first _ _ are) (all_held ps (both_second _ _ are))
 
 -- nothing is held yet
 none_text : AreText []
 unfolding AreText
 none_text = tt
 
-none_numbered : AreNumbered 0 []
-unfolding AreNumbered
-none_numbered = tt
+none_first : AreFirst []
+unfolding AreFirst
+none_first = tt
 
 pub none_held : (t : Table) → t.fields.items ≡ [] → t.rows.items ≡ [] → t.row_from ≡ 0 → Held t t [] []
 none_held t fields rows from = record {
   forms = subst AreText (sym fields) none_text;
-  numbered = subst (AreNumbered 0) (sym rows) none_numbered;
+  lines = subst AreFirst (sym rows) none_first;
   listed = λ none. none ∙ ap (λ (l : List Row). rows_to (length l)) (sym rows);
   same = refl;
   texts = ap (texts_in t.text.items) fields ∙ no_texts t.text.items;
@@ -315,6 +323,10 @@ none_held t fields rows from = record {
 }
 
 pub rows_are_held : RowsAreHeld
-rows_are_held t ps fields rows from room are =
-    let m = all_held ps are t t [] [] (none_held t fields rows from) room in
-    (m.left, record { texts = texts_are (set ps t) ∙ m.held.texts; among = m.held.among })
+rows_are_held s ps fields rows from room are =
+    let m = all_held ps are (table s) (table s) s [] [] (none_held (table s) fields rows from) room in
+    let now = ap table m.becomes in (
+      m.left,
+      subst (λ (t : Table). HoldsRows t (rows_told [] ps) m.left) (sym now)
+          (record { texts = texts_are m.now ∙ m.held.texts; among = m.held.among }),
+    )

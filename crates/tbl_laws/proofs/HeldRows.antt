@@ -2,16 +2,16 @@
 use Rattle.std.proofs.Common.{◌≡◌, ℕ, zero, suc, ◌+◌, ◌-◌, ◌<◌, ◌≤◌, List, [], ◌∷◌, ◌++◌, length, map, take, drop, Bool, true, false, ◌&&◌, if◌then◌else◌, nat_le, nat_lt, refl, sym, ◌∙◌, ap, subst, append-nil, length-append, arith}
 use Rattle.std.proofs.lemmas.Bool.{le-leb, le-ltb, leb-true, lt-leb, lt-ltb}
 use Rattle.std.proofs.lemmas.Bool.Decides.{nat_tests}
-use Rattle.tbl_layout.specs.declared.table.Field.{Field}
-use Rattle.tbl_layout.specs.declared.table.Span.{Span}
-use Rattle.tbl_layout.specs.declared.table.Table.{Table}
-use Rattle.tbl_layout.specs.Held.{part}
+use Rattle.tbl_table.specs.declared.table.Field.{Field}
+use Rattle.tbl_table.specs.declared.table.Span.{Span}
+use Rattle.tbl_table.specs.declared.table.Table.{Table}
+use Rattle.tbl_table.specs.Held.{part}
 use Rattle.tbl_laws.specs.HeldRows.{texts_held}
-use Rattle.tbl_layout.specs.Rows.{field_added, is_tight, joined, joins, line_after, mark_added, row_added, row_ended, row_ended_in, row_read, rules_in, rules_skipped}
-use Rattle.tbl_layout.specs.declared.table.Row.{Row}
-use Rattle.tbl_layout.specs.declared.table.Form.TheVariants as forms
+use Rattle.tbl_table.specs.Rows.{field_added, is_tight, joined, joins, line_after, mark_added, row_added, row_ended, row_ended_in, row_read, rules_in, rules_skipped}
+use Rattle.tbl_table.specs.declared.table.Row.{Row}
+use Rattle.tbl_table.specs.declared.table.Form.TheVariants as forms
 use Rattle.std.specs.Prelude.{Option, None, ◌||◌}
-use Rattle.tbl_layout.specs.Places.{sum}
+use Rattle.tbl_table.specs.Sums.{sum}
 
 -- ---- parts of a text that grows
 

@@ -1,5 +1,7 @@
 pub mod DrawnCells
 pub mod DrawnRows
+pub mod EqualColumns
+pub mod FinalColumns
 pub mod FormatKeys
 pub mod Heads
 pub mod HeldLaw
@@ -17,5 +19,6 @@ pub mod RowsLaw
 pub mod TableEnds
 pub mod TableLines
 pub mod TextPasses
+pub mod Texts
 pub mod ToldRows
 pub mod Walked

@@ -1,10 +1,8 @@
 -- Text outside of tables goes out as it came.
 use Rattle.std.proofs.Common.{◌≡◌, ℕ, List, [], ◌∷◌, ◌++◌, true, refl, sym, ◌∙◌, ap, append_assoc, append-nil}
-use Rattle.tbl_layout.specs.declared.pen.Pen.{Pen}
-use Rattle.tbl_layout.specs.declared.signs.Signs.{Signs}
-use Rattle.tbl_layout.specs.declared.table.Table.{Table}
-use Rattle.tbl_layout.specs.Pens.{Stroke, after_all, bytes_of, first}
-use Rattle.tbl_layout.proofs.Tapes.{bytes_of-append}
+use Rattle.tbl_drawing.specs.declared.pen.Pen.{Pen}
+use Rattle.tbl_drawing.specs.Pens.{Stroke, after_all, bytes_of, first}
+use Rattle.tbl_drawing.proofs.Tapes.{bytes_of-append}
 use Rattle.tbl_reader.specs.declared.command.Start.TheVariants as starts
 use Rattle.tbl_reader.specs.declared.reader.Limits.{Limits}
 use Rattle.tbl_reader.specs.declared.state.Mode.TheVariants as modes
@@ -16,50 +14,53 @@ use Rattle.tbl_reader.specs.Telling.{Piece, each}
 use Rattle.tbl_reader.specs.Untouched.{is_untouched}
 use Rattle.tbl_reader.proofs.Runs.{fed_append}
 use Rattle.tbl_reader.proofs.Tableless.{untouched}
+use Rattle.tbl_setting.specs.declared.setting.Setting.{Setting}
+use Rattle.tbl_setting.specs.Bounds.{Bounds, page_setting}
+use Rattle.tbl_setting.specs.Held.{page_heard}
 use Rattle.tbl_setting.specs.Running.{set_page, set_so_far}
-use Rattle.tbl_setting.specs.Setting.{page_table, set, set_bytes, set_in, strokes, strokes_in}
+use Rattle.tbl_setting.specs.Setting.{set, set_bytes, set_in, strokes, strokes_in}
 use Rattle.tbl_laws.specs.OutsideText.{BeginsWith, FirstTextStays, LastTextStays, PagesStay, TextBetweenStays, table_end}
 use Rattle.tbl_laws.proofs.TableEnds.{table_ends}
 use Rattle.tbl_laws.proofs.TextPasses.{passes}
 
 -- ---- pieces one after the other
 
-pub strokes_both : (ps qs : List Piece) (t : Table) → strokes (ps ++ qs) t ≡ strokes ps t ++ strokes qs (set ps t)
+pub strokes_both : (ps qs : List Piece) (t : Setting) → strokes (ps ++ qs) t ≡ strokes ps t ++ strokes qs (set ps t)
 strokes_both [] qs t = refl
 strokes_both (p ∷ ps) qs t =
     let u = set_in p.tell p.text t in
     ap (λ (l : List Stroke). strokes_in p.tell p.text t ++ l) (strokes_both ps qs u) ∙ sym (append_assoc (strokes_in p.tell p.text t) (strokes ps u) (strokes qs (set ps u)))
 
-pub bytes_both : (ps qs : List Piece) (t : Table) (pen : Pen)
+pub bytes_both : (ps qs : List Piece) (t : Setting) (pen : Pen)
     → bytes_of (strokes (ps ++ qs) t) pen ≡ bytes_of (strokes ps t) pen ++ bytes_of (strokes qs (set ps t)) (after_all (strokes ps t) pen)
 bytes_both ps qs t pen =
     ap (λ (l : List Stroke). bytes_of l pen) (strokes_both ps qs t) ∙ bytes_of-append (strokes ps t) (strokes qs (set ps t)) pen
 
-pub text_bytes : (text : List ℕ) (t : Table) (pen : Pen) → bytes_of (strokes (each tells.Pass text) t) pen ≡ text
+pub text_bytes : (text : List ℕ) (t : Setting) (pen : Pen) → bytes_of (strokes (each tells.Pass text) t) pen ≡ text
 text_bytes [] t pen = refl
-text_bytes (b ∷ bs) t pen = ap (λ (l : List ℕ). b ∷ l) (text_bytes bs t pen)
+text_bytes (b ∷ bs) t pen = ap (λ (l : List ℕ). b ∷ l) (text_bytes bs (page_heard (b ∷ []) t) pen)
 
 -- what these pieces come to, then a text, then others
-said_between : (g : Signs) (l : Limits) (ps : List Piece) (text : List ℕ) (qs : List Piece)
-    → BeginsWith (set_bytes g l ps ++ text) (set_bytes g l (ps ++ (each tells.Pass text ++ qs)))
-said_between g l ps text qs =
-    let t = page_table g l in
+said_between : (w : Bounds) (ps : List Piece) (text : List ℕ) (qs : List Piece)
+    → BeginsWith (set_bytes w ps ++ text) (set_bytes w (ps ++ (each tells.Pass text ++ qs)))
+said_between w ps text qs =
+    let t = page_setting w in
     let u = set ps t in
     let pen = after_all (strokes ps t) first in
     let v = set (each tells.Pass text) u in
     let more = bytes_of (strokes qs v) (after_all (strokes (each tells.Pass text) u) pen) in (
       more,
       bytes_both ps (each tells.Pass text ++ qs) t first
-          ∙ ap (λ (xs : List ℕ). set_bytes g l ps ++ xs)
+          ∙ ap (λ (xs : List ℕ). set_bytes w ps ++ xs)
           (bytes_both (each tells.Pass text) qs u pen ∙ ap (λ (xs : List ℕ). xs ++ more) (text_bytes text u pen))
-          ∙ sym (append_assoc (set_bytes g l ps) text more),
+          ∙ sym (append_assoc (set_bytes w ps) text more),
     )
 
-said_last : (g : Signs) (l : Limits) (ps : List Piece) (text : List ℕ) → set_bytes g l (ps ++ each tells.Pass text) ≡ set_bytes g l ps ++ text
-said_last g l ps text =
-    let t = page_table g l in
+said_last : (w : Bounds) (ps : List Piece) (text : List ℕ) → set_bytes w (ps ++ each tells.Pass text) ≡ set_bytes w ps ++ text
+said_last w ps text =
+    let t = page_setting w in
     let pen = after_all (strokes ps t) first in
-    bytes_both ps (each tells.Pass text) t first ∙ ap (λ (xs : List ℕ). set_bytes g l ps ++ xs) (text_bytes text (set ps t) pen)
+    bytes_both ps (each tells.Pass text) t first ∙ ap (λ (xs : List ℕ). set_bytes w ps ++ xs) (text_bytes text (set ps t) pen)
 
 -- ---- a page that is outside of tables after some bytes
 
@@ -94,38 +95,38 @@ said_to_end l cells before text outside h =
     ∙ append_assoc ps (fed text p).pieces (finished (fed text p).page).pieces
     ∙ ap (λ (xs : List Piece). ps ++ xs) (ap (λ (xs : List Piece). (fed text p).pieces ++ xs) c.ends ∙ append-nil (fed text p).pieces ∙ c.told)
 
-so_far_is_all : (g : Signs) (l : Limits) (cells : ℕ) (before : List ℕ)
-    → (fed before (first_page l cells)).page.state.mode ≡ modes.Passing starts.Nothing → set_so_far g l cells before ≡ set_page g l cells before
-so_far_is_all g l cells before outside =
-    sym (ap (set_page g l cells) (sym (append-nil before)) ∙ ap (set_bytes g l) (said_to_end l cells before [] outside refl ∙ append-nil (fed before (first_page l cells)).pieces))
+so_far_is_all : (w : Bounds) (before : List ℕ)
+    → (fed before (first_page w.limits w.cells)).page.state.mode ≡ modes.Passing starts.Nothing → set_so_far w before ≡ set_page w before
+so_far_is_all w before outside =
+    sym (ap (set_page w) (sym (append-nil before)) ∙ ap (set_bytes w) (said_to_end w.limits w.cells before [] outside refl ∙ append-nil (fed before (first_page w.limits w.cells)).pieces))
 
 -- ---- the laws
 
 pub pages_stay : PagesStay
-pages_stay g l cells page h =
-    ap (set_bytes g l) (untouched l cells page h) ∙ text_bytes page (page_table g l) first
+pages_stay w page h =
+    ap (set_bytes w) (untouched w.limits w.cells page h) ∙ text_bytes page (page_setting w) first
 
 pub first_text_stays : FirstTextStays
-first_text_stays g l cells text rest h =
-    let (qs, said) = said_of l cells [] text rest refl h in
-    let (more, out) = said_between g l [] text qs in
-    (more, ap (set_bytes g l) said ∙ out)
+first_text_stays w text rest h =
+    let (qs, said) = said_of w.limits w.cells [] text rest refl h in
+    let (more, out) = said_between w [] text qs in
+    (more, ap (set_bytes w) said ∙ out)
 
 pub last_text_stays : LastTextStays
-last_text_stays g l cells before text row line h =
-    let outside = table_ends l cells before row line in
+last_text_stays w before text row line h =
+    let outside = table_ends w.limits w.cells before row line in
     let all = before ++ table_end in
-    ap (set_bytes g l) (said_to_end l cells all text outside h)
-    ∙ said_last g l (fed all (first_page l cells)).pieces text
-    ∙ ap (λ (xs : List ℕ). xs ++ text) (so_far_is_all g l cells all outside)
+    ap (set_bytes w) (said_to_end w.limits w.cells all text outside h)
+    ∙ said_last w (fed all (first_page w.limits w.cells)).pieces text
+    ∙ ap (λ (xs : List ℕ). xs ++ text) (so_far_is_all w all outside)
 
 pub text_between_stays : TextBetweenStays
-text_between_stays g l cells before text rest row line h =
-    let outside = table_ends l cells before row line in
+text_between_stays w before text rest row line h =
+    let outside = table_ends w.limits w.cells before row line in
     let all = before ++ table_end in
-    let (qs, said) = said_of l cells all text rest outside h in
-    let (more, out) = said_between g l (fed all (first_page l cells)).pieces text qs in (
+    let (qs, said) = said_of w.limits w.cells all text rest outside h in
+    let (more, out) = said_between w (fed all (first_page w.limits w.cells)).pieces text qs in (
       more,
-      ap (set_bytes g l) said ∙ out
-          ∙ ap (λ (xs : List ℕ). (xs ++ text) ++ more) (so_far_is_all g l cells all outside),
+      ap (set_bytes w) said ∙ out
+          ∙ ap (λ (xs : List ℕ). (xs ++ text) ++ more) (so_far_is_all w all outside),
     )

@@ -3,7 +3,7 @@ use Rattle.std.proofs.Common.{◌≡◌, ℕ, zero, suc, ◌+◌, ◌-◌, ◌<�
 use Rattle.std.proofs.lemmas.Bool.Decides.{nat_tests}
 use Prim.Native.Char.{code}
 use Rattle.std.specs.Prelude.{get_or, nat_le}
-use Rattle.tbl_layout.specs.Rows.{joins}
+use Rattle.tbl_table.specs.Rows.{joins}
 use Rattle.tbl_reader.specs.declared.state.State.{State}
 use Rattle.tbl_reader.specs.Fields.{marks_of, without_blanks_before, behind, place_of, shape_of}
 use Rattle.tbl_reader.specs.Pages.{Page, Effect, effect, rest_of, line_of}

@@ -1,198 +1,393 @@
 -- A table of rows that is held goes out as their lines.
-use Rattle.std.proofs.Common.{◌≡◌, ℕ, zero, suc, ◌+◌, ◌-◌, ◌*◌, ◌<◌, ◌≤◌, min, max, List, [], ◌∷◌, ◌++◌, length, Bool, true, false, ◌==◌, ◌&&◌, if◌then◌else◌, get_or, refl, sym, ◌∙◌, ap, subst, arith}
-use Rattle.std.specs.Prelude.{Some}
+use Rattle.std.proofs.Common.{◌≡◌, ℕ, zero, suc, ◌+◌, ◌-◌, ◌*◌, ◌<◌, ◌≤◌, min, max, List, [], ◌∷◌, ◌++◌, length, Bool, true, false, not, ◌==◌, ◌&&◌, ◌||◌, if◌then◌else◌, nat_le, nat_lt, get_or, refl, sym, ◌∙◌, ap, subst, arith}
+use Rattle.std.specs.Prelude.{None, Option}
 use Rattle.std.proofs.lemmas.Bool.Decides.{nat_tests}
 use Rattle.nr_vectors.specs.Items.{Items}
-use Rattle.tbl_layout.specs.declared.pen.Pen.{Pen}
-use Rattle.tbl_layout.specs.declared.table.Cell.{Cell}
-use Rattle.tbl_layout.specs.declared.table.Column.{Column}
-use Rattle.tbl_layout.specs.declared.table.Field.{Field}
-use Rattle.tbl_layout.specs.declared.table.Form.{Form}
-use Rattle.tbl_layout.specs.declared.table.Form.TheVariants as forms
-use Rattle.tbl_layout.specs.declared.table.Item.TheVariants as items
-use Rattle.tbl_layout.specs.declared.table.Row.{Row}
-use Rattle.tbl_layout.specs.declared.table.Table.{Table}
-use Rattle.tbl_layout.specs.Cells.{field_given, placed}
-use Rattle.tbl_layout.specs.Columns.{all_show, are_plain_columns, columns_read, is_plain, shows}
-use Rattle.tbl_layout.specs.Drawing.{is_given}
-use Rattle.tbl_layout.specs.Extent.{cells_of}
-use Rattle.tbl_layout.specs.Held.{cell_of, columns, field, fresh, is_text, item, key, line, no_cell, no_field, no_row, row, text_of}
-use Rattle.tbl_layout.specs.Lines.{lines_strokes}
-use Rattle.tbl_layout.specs.Measured.{ended, ended_strokes, has_grown, laid_measured, measured, measured_strokes, opened, part_strokes, table_strokes, told_part_strokes, whole_width}
-use Rattle.tbl_layout.specs.Pens.{bytes_of}
-use Rattle.tbl_layout.specs.Steps.{lines_settled, lines_taken, steps_taken}
-use Rattle.tbl_laws.specs.Lines.{GoesOut}
-use Rattle.tbl_laws.proofs.DrawnRows.{CanDraw, drawn, given_width, lines_go_out, opened_as, rows_texts}
-use Rattle.tbl_laws.proofs.MeasuredColumns.{laid_alike, laid_stands}
-use Rattle.tbl_laws.proofs.PlacedCells.{IsHeld, all_cells, all_length, form_is, given, given_form, row_cells, the_cell}
-use Rattle.tbl_laws.proofs.PlacedTable.{all_have, placed_is, placed_to, row_at, row_owned}
-use Rattle.tbl_laws.proofs.ReadColumns.{AreLetters, IsLetter, based, columns_are, key_is, many, many_length, plain_columns, with_columns}
-use Rattle.tbl_laws.proofs.Walked.{HasRows, row_kept, rows_on, steps_are, steps_to}
+use Rattle.tbl_blocks.specs.Blocks.{extent_of}
+use Rattle.tbl_columns.specs.declared.grid.Cell.{Cell}
+use Rattle.tbl_columns.specs.declared.grid.Column.{Column}
+use Rattle.tbl_columns.specs.declared.grid.Grid.{Grid}
+use Rattle.tbl_columns.specs.declared.grid.Placed.{Placed}
+use Rattle.tbl_columns.specs.Cells.{field_given, no_extent}
+use Rattle.tbl_columns.specs.Frames.{bars_beside, bars_of, bars_seen, count, edged, from_last, is_between, is_inside, last_in, or_else, row_above}
+use Rattle.tbl_columns.specs.Held.{block_in, cell, cell_of, fresh, height_of, placed, rows_in}
+use Rattle.tbl_columns.specs.Measured.{measured_columns, measured_table, placed_table}
+use Rattle.tbl_columns.specs.Frames.{table_end}
+use Rattle.tbl_columns.specs.Narrow.{is_too_wide}
+use Rattle.tbl_columns.specs.Shares.{line_room}
+use Rattle.tbl_columns.specs.Texts.{blocks_read, read_at, read_block}
+use Rattle.tbl_drawing.specs.declared.layout.Layout.{Layout}
+use Rattle.tbl_drawing.specs.declared.layout.Tall.{Tall}
+use Rattle.tbl_drawing.specs.declared.pen.Pen.{Pen}
+use Rattle.tbl_drawing.specs.Heights.{all_lines, heights_read, last_below, lines_settled, lowest}
+use Rattle.tbl_drawing.specs.Held.{lines_of, tall}
+use Rattle.tbl_drawing.specs.Lines.{closing, definitions_at, definitions_of, is_kept, lines_strokes, room, room_if, room_to}
+use Rattle.tbl_drawing.specs.Pens.{Bytes, bytes_of}
+use Rattle.tbl_drawing.specs.ReadTables.{measured_read}
+use Rattle.tbl_drawing.specs.Sequences.{joined}
+use Rattle.tbl_drawing.specs.Steps.{steps_taken}
+use Rattle.tbl_drawing.specs.Tables.{columns_opened, columns_renewed, columns_stand, columns_strokes, laid, measured, ready, table_strokes}
+use Rattle.tbl_drawing.specs.Tables as tables
+use Rattle.tbl_table.specs.declared.table.Field.{Field}
+use Rattle.tbl_table.specs.declared.table.Form.{Form}
+use Rattle.tbl_table.specs.declared.table.Form.TheVariants as forms
+use Rattle.tbl_table.specs.declared.table.Item.TheVariants as items
+use Rattle.tbl_table.specs.declared.table.Key.{Key}
+use Rattle.tbl_table.specs.declared.table.Row.{Row}
+use Rattle.tbl_table.specs.declared.table.Table.{Table}
+use Rattle.tbl_table.specs.Held.{bars_in, is_block, is_text, item, key, line, no_field, row, text_of, usual}
+use Rattle.tbl_laws.specs.Lines.{GoesOut, is_wider}
+use Rattle.tbl_laws.proofs.DrawnCells.{IsPlain, SpanIs, span_is}
+use Rattle.tbl_laws.proofs.DrawnRows.{IsDrawn, IsOwn, gathered, lines_go_out}
+use Rattle.tbl_laws.proofs.MeasuredColumns.{columns_alike, none_wide, table_alike}
+use Rattle.tbl_laws.proofs.PlacedCells.{IsHeld, all_cells, all_length, form_is, given, given_form, rows_within, the_cell, upto}
+use Rattle.tbl_laws.proofs.PlacedTable.{all_have, cell_at, number_is, place_at, placed_is, placed_to, row_owned, same_turn}
+use Rattle.tbl_laws.proofs.ReadColumns.{AreLetters, IsLetter, based, columns_are, letter_is, many_length, with_columns}
+use Rattle.tbl_laws.proofs.Walked.{AreFlat, HasRows, begins_alone, lines_are, steps_to, with_steps}
 
--- what is held of rows in so many columns
+-- ---- what is held of rows in so many columns
+
 pub record HeldRow (w : ℕ) (t : Table) (r : ℕ) : Type 0 where
   pub line_is : (row t r).line ≡ 0
-  pub last_own : (row t r).last_own ≡ r
   pub first : (row t r).first ≤ (row t r).«end»
   pub few : (row t r).«end» ≤ (row t r).first + w
   pub small : (row t r).«end» < 18446744073709551615
 
-pub record HeldTable (w : ℕ) (t : Table) : Type 0 where
+pub record HeldTable (w : ℕ) (l : Layout) : Type 0 where
   pub some : 0 < w
   pub few : w ≤ 64
-  pub letters : AreLetters w t
-  pub texts : (n : ℕ) → (get_or t.fields.items n no_field).form ≡ forms.Text
-  pub spans : (n : ℕ) → (get_or t.fields.items n no_field).span.«end» ≤ length t.text.items
-  pub widths : (r n : ℕ) → r < length t.rows.items → n < (row t r).«end» → (cells : ℕ) × (cells_of (text_of t (get_or t.fields.items n no_field).span) ≡ Some cells)
-  pub rows : (r : ℕ) → r < length t.rows.items → HeldRow w t r
-  pub items : (k : ℕ) → k < length t.items.items → item t k ≡ items.Row k
-  pub count : length t.items.items ≡ length t.rows.items
-  pub column_room : w ≤ t.columns.capacity
-  pub cell_room : length t.rows.items * w ≤ t.cells.capacity
-  pub grid_room : length t.rows.items * w ≤ t.grid.capacity
-  pub grid_small : t.grid.capacity < 18446744073709551615
-  pub step_room : length t.items.items + length t.items.items ≤ t.steps.capacity
-  pub step_small : length t.items.items < 18446744073709551615
+  pub letters : AreLetters w l.grid.table
+  pub texts : (n : ℕ) → (get_or l.grid.table.fields.items n no_field).form ≡ forms.Text
+  pub spans : (n : ℕ) → (get_or l.grid.table.fields.items n no_field).span.«end» ≤ length l.grid.table.text.items
+  pub sure : (r n : ℕ) → r < length l.grid.table.rows.items → n < (row l.grid.table r).«end»
+      → (extent_of (text_of l.grid.table (get_or l.grid.table.fields.items n no_field).span) l.grid.blocks.strings.items).sure ≡ true
+  pub rows : (r : ℕ) → r < length l.grid.table.rows.items → HeldRow w l.grid.table r
+  pub items_are : (k : ℕ) → k < length l.grid.table.items.items → item l.grid.table k ≡ items.Row k
+  pub count_is : length l.grid.table.items.items ≡ length l.grid.table.rows.items
+  pub column_room : w ≤ l.grid.columns.capacity
+  pub cell_room : length l.grid.table.rows.items * w ≤ l.grid.cells.capacity
+  pub number_room : length l.grid.table.rows.items * w ≤ l.grid.numbers.capacity
+  pub place_room : length l.grid.table.rows.items ≤ l.grid.placed.capacity
+  pub number_small : l.grid.numbers.capacity < 18446744073709551615
+  pub step_room : length l.grid.table.items.items + length l.grid.table.items.items ≤ l.steps.capacity
+  pub step_small : length l.grid.table.items.items < 18446744073709551615
 
-is_held : (w : ℕ) (t : Table) → HeldTable w t → IsHeld (with_columns w w t) w
-is_held w t h = record {
-  some = h.some;
-  columns_are = many_length w fresh;
-  letters = λ c less. subst IsLetter (sym (key_is w t w c h.few less)) (h.letters c less);
-  texts = h.texts;
-  rows = λ r inside. (let k = h.rows r inside in record { line_is = k.line_is; last_own = k.last_own; first = k.first; few = k.few; small = k.small });
-  cell_room = h.cell_room;
-  grid_room = h.grid_room;
-  room = h.grid_small;
+-- the layout of such a table, before it is measured
+abbrev pub based_layout : ℕ → Layout → Layout
+based_layout w l = record l {
+  grid = record l.grid { table = based w l.grid.table; columns = record l.grid.columns { items = [] } };
+  begun = false;
+  measured = false;
 }
 
--- ---- widths show
+is_held : (w : ℕ) (l : Layout) → HeldTable w l → IsHeld (with_columns w w l.grid) w
+is_held w l h = record {
+  some = h.some;
+  columns_are = many_length w fresh;
+  letters = λ c less. letter_is w l.grid.table c h.few less h.letters;
+  texts = h.texts;
+  rows = λ r inside. (let k = h.rows r inside in record { line_is = k.line_is; first = k.first; few = k.few; small = k.small });
+  cell_room = h.cell_room;
+  number_room = h.number_room;
+  place_room = h.place_room;
+  small = h.number_small;
+}
 
-both_show : (xs ys : List Cell) → all_show xs ≡ true → all_show ys ≡ true → all_show (xs ++ ys) ≡ true
-both_show [] ys h k = k
-both_show (x ∷ xs) ys h k = by_first (shows x.field.form x.width) (all_show xs) h (λ e. both_show xs ys e k)
+-- ---- the field of a column
+
+given_span : (g : Grid) (r : Row) (n : ℕ) → ((k : ℕ) → (get_or g.table.fields.items k no_field).span.«end» ≤ length g.table.text.items)
+    → (field_given g r n).span.«end» ≤ length g.table.text.items
+given_span g r n h = by_test (nat_lt n r.«end»)
   where
-    by_first : (a b : Bool) → (a && b) ≡ true → (b ≡ true → all_show (xs ++ ys) ≡ true) → (a && all_show (xs ++ ys)) ≡ true
-    by_first true b e more = more e
-    by_first false b e more = absurd (let no : false ≡ true = e in cc)
+    by_test : (b : Bool) → (if b then get_or g.table.fields.items n no_field else no_field).span.«end» ≤ length g.table.text.items
+    by_test true = h n
+    by_test false = omega arith
 
-cell_shows : (w : ℕ) (t : Table) (r c : ℕ) → HeldTable w t → r < length t.rows.items → c < w → shows (the_cell (with_columns w w t) r c).field.form (the_cell (with_columns w w t) r c).width ≡ true
-cell_shows w t r c h inside less =
-    let u = with_columns w w t in
-    let f = field_given u (row u r) (given u r c) in
-    let k = key u (line u 0) c in
-    let wide = given_width u (row u r) (given u r c) (λ n within. h.widths r n inside within) in
-    let form = given_form u (row u r) (given u r c) h.texts in
-    ap (λ (y : Field). shows y.form (if is_text f.form then cells_of (text_of u f.span) else Some 0)) (form_is k f ((is_held w t h).letters c less))
-    ∙ ap (λ (y : Form). shows y (if is_text y then cells_of (text_of u f.span) else Some 0)) form
-    ∙ ap is_given wide.1
+given_sure : (g : Grid) (r : Row) (n : ℕ)
+    → ((k : ℕ) → k < r.«end» → (extent_of (text_of g.table (get_or g.table.fields.items k no_field).span) g.blocks.strings.items).sure ≡ true)
+    → (extent_of (text_of g.table (field_given g r n).span) g.blocks.strings.items).sure ≡ true
+given_sure g r n h = by_test (nat_lt n r.«end») refl
+  where
+    by_test : (b : Bool) → nat_lt n r.«end» ≡ b
+        → (extent_of (text_of g.table (if b then get_or g.table.fields.items n no_field else no_field).span) g.blocks.strings.items).sure ≡ true
+    by_test true e = h n (grind (arith, nat_tests, e))
+    by_test false e = ap (λ (text : List ℕ). (extent_of text g.blocks.strings.items).sure) ((span_is g.table.text.items no_field.span (omega arith)).none refl)
 
-row_shows : (w : ℕ) (t : Table) (r c : ℕ) → HeldTable w t → r < length t.rows.items → c ≤ w → all_show (row_cells (with_columns w w t) r c) ≡ true
-row_shows w t r zero h inside few = refl
-row_shows w t r (suc c) h inside few =
-    both_show (row_cells (with_columns w w t) r c) (the_cell (with_columns w w t) r c ∷ []) (row_shows w t r c h inside (omega (arith, few)))
-    (ap (λ (b : Bool). b && true) (cell_shows w t r c h inside (omega (arith, few))))
-
-rows_show : (w : ℕ) (t : Table) (r : ℕ) → HeldTable w t → r ≤ length t.rows.items → all_show (all_cells (with_columns w w t) w r) ≡ true
-rows_show w t zero h few = refl
-rows_show w t (suc r) h few =
-    both_show (all_cells (with_columns w w t) w r) (row_cells (with_columns w w t) r w) (rows_show w t r h (omega (arith, few))) (row_shows w t r w h (omega (arith, few)) (omega arith))
-
-plain_is : (w : ℕ) (t : Table) → HeldTable w t → is_plain (placed_to (with_columns w w t) w (length t.rows.items)) ≡ true
-plain_is w t h =
-    ap (λ (b : Bool). b && true && are_plain_columns (many w fresh)) (rows_show w t (length t.rows.items) h (omega arith)) ∙ plain_columns w
-
--- ---- no field stands in no column
-
-pub given_is : (u : Table) (r c : ℕ) → (row u r).first ≤ (row u r).«end» → (row u r).«end» < 18446744073709551615 → given u r c ≡ min ((row u r).first + c) (row u r).«end»
+pub given_is : (u : Grid) (r c : ℕ) → (row u.table r).first ≤ (row u.table r).«end» → (row u.table r).«end» < 18446744073709551615
+    → given u r c ≡ min ((row u.table r).first + c) (row u.table r).«end»
 given_is u r zero order small = omega (arith, order)
 given_is u r (suc c) order small =
     let before = given_is u r c order small in
-    ap (λ (n : ℕ). min (min (n + 1) 18446744073709551615) (row u r).«end») before
-    ∙ (let a = order in let b = small in next (row u r).first (row u r).«end» c a b)
+    ap (λ (n : ℕ). min (min (n + 1) 18446744073709551615) (row u.table r).«end») before
+    ∙ (let a = order in let b = small in next (row u.table r).first (row u.table r).«end» c a b)
   where
     next : (first end c : ℕ) → first ≤ end → end < 18446744073709551615 → min (min (min (first + c) end + 1) 18446744073709551615) end ≡ min (first + suc c) end
     next first end c order small = omega (arith, order, small)
 
--- ---- the table that is measured, and its lines
+-- its text
+abbrev pub text_at : Grid → ℕ → ℕ → List ℕ
+text_at u r c = text_of u.table (field_given u (row u.table r) (given u r c)).span
 
-opened_is : (w : ℕ) (t : Table)
-    → opened (placed_to (with_columns w w t) w (length t.rows.items))
-    ≡ opened_as (with_columns w w t) w (laid_measured (placed_to (with_columns w w t) w (length t.rows.items))).columns
-    (has_grown (whole_width (placed_to (with_columns w w t) w (length t.rows.items))) (laid_measured (placed_to (with_columns w w t) w (length t.rows.items))))
-opened_is w t =
-    let p = placed_to (with_columns w w t) w (length t.rows.items) in
-    ap (λ (x : Table). record x { uneven = has_grown (whole_width p) (laid_measured p) }) (laid_alike p).same
+letter_bars : (k : Key) → IsLetter k → k.bars ≡ 0
+letter_bars k (kind, is, same) = ap (λ (x : Key). x.bars) same
 
-has_rows : (w : ℕ) (t : Table) (x : Items Column) (uneven : Bool) → HeldTable w t → HasRows (opened_as (with_columns w w t) w x uneven)
-has_rows w t x uneven h =
-    let u = with_columns w w t in
-    let held = is_held w t h in
+letter_font : (k : Key) → IsLetter k → k.font ≡ 0
+letter_font k (kind, is, same) = ap (λ (x : Key). x.font) same
+
+-- ---- a table whose columns are measured, its lines, and where its fields begin
+
+abbrev measured_as : ℕ → Layout → Items Column → Layout
+measured_as w l x = record l {
+  grid = record (placed_to (with_columns w w l.grid) w (length l.grid.table.rows.items)) { columns = x };
+  begun = false;
+  measured = false;
+}
+
+abbrev drawn : ℕ → Layout → Items Column → List Tall → Items ℕ → Layout
+drawn w l x talls begins =
+    record (with_steps (measured_as w l x) (steps_to (length l.grid.table.items.items)) talls) { begins = begins; measured = false }
+
+-- ---- no bars
+
+no_bars_by : (i j : Bool) → (if i && j then 0 else or_else (edged i 0) (count (if i then false else false))) ≡ 0
+no_bars_by true true = refl
+no_bars_by true false = refl
+no_bars_by false j = refl
+
+or_true : (b : Bool) → (b || true || false) ≡ true
+or_true true = refl
+or_true false = refl
+
+no_bars_in : (w : ℕ) (l : Layout) (c : ℕ) → HeldTable w l → bars_in (based w l.grid.table) (line (based w l.grid.table) 0) c ≡ 0
+no_bars_in w l c h = by_end (c == w)
+  where
+    by_letter : (b : Bool) → nat_le w c ≡ b → (if b then usual else get_or l.grid.table.keys.items (min (0 + c) 18446744073709551615) usual).bars ≡ 0
+    by_letter true e = refl
+    by_letter false e =
+        (let less : c < w = grind (arith, nat_tests, e) in
+        ap (λ (b : Bool). (if b then usual else get_or l.grid.table.keys.items (min (0 + c) 18446744073709551615) usual).bars) (sym e)
+        ∙ letter_bars (key (based w l.grid.table) (line (based w l.grid.table) 0) c) (letter_is w l.grid.table c h.few less h.letters))
+
+    by_end : (b : Bool) → (if b then 0 else (if nat_le w c then usual else get_or l.grid.table.keys.items (min (0 + c) 18446744073709551615) usual).bars) ≡ 0
+    by_end true = refl
+    by_end false = by_letter (nat_le w c) refl
+
+no_bars : (w : ℕ) (l : Layout) (x : Items Column) (r c : ℕ) → HeldTable w l → r < length l.grid.table.rows.items → bars_seen (measured_as w l x).grid r c ≡ 0
+no_bars w l x r c h inside =
+    let g = (measured_as w l x).grid in
+    let own : bars_of g r c ≡ 0 =
+    ap (λ (n : ℕ). if is_between g c && is_inside g r c then 0 else or_else (edged (is_between g c) (bars_in g.table (line g.table n) c)) (count (if is_between g c then false else false))) (h.rows r inside).line_is
+    ∙ ap (λ (n : ℕ). if is_between g c && is_inside g r c then 0 else or_else (edged (is_between g c) n) (count (if is_between g c then false else false))) (no_bars_in w l c h)
+    ∙ no_bars_by (is_between g c) (is_inside g r c) in
+    let above : row_above g r ≡ None =
+    ap (λ (b : Bool). if b then None else last_in g (row g.table r).line (item g.table ((row g.table r).item - 1))) (or_true ((row g.table r).item == 0)) in
+    ap (λ (n : ℕ). or_else n (bars_beside g r c)) own
+    ∙ ap (λ (o : Option ℕ). from_last g r c o) above
+
+-- ---- fields in their cells
+
+cell_is : (w : ℕ) (l : Layout) (x : Items Column) (r c : ℕ) → HeldTable w l → length x.items ≡ w → r < length l.grid.table.rows.items → c < w
+    → cell (measured_as w l x).grid r c ≡ the_cell (with_columns w w l.grid) r c
+cell_is w l x r c h wide inside less =
+    let u = with_columns w w l.grid in
+    let g = (measured_as w l x).grid in
+    let R = length l.grid.table.rows.items in
+    let a = h.number_room in
+    let b = h.number_small in
+    let small : R * w < 18446744073709551615 = omega (arith, a, b) in
+    let more : (r + 1) * w ≤ R * w = rows_within r R w inside in
+    ap (λ (v : ℕ). cell_of g (get_or (upto (R * w)) (min (min (r * v) 18446744073709551615 + c) 18446744073709551615) 0)) wide
+    ∙ ap (cell_of g) (number_is w r c R (R * w) inside less small (omega (arith, more, less)))
+    ∙ cell_at u w r c inside less
+
+cell_plain : (w : ℕ) (l z : Layout) (r c : ℕ) → HeldTable w l → z.grid.table.text ≡ l.grid.table.text → r < length l.grid.table.rows.items → c < w
+    → IsPlain z (the_cell (with_columns w w l.grid) r c) (text_at (with_columns w w l.grid) r c)
+cell_plain w l z r c h text inside less =
+    let u = with_columns w w l.grid in
+    let f = field_given u (row u.table r) (given u r c) in
+    let k = key u.table (line u.table 0) c in
+    let letter : IsLetter k = letter_is w l.grid.table c h.few less h.letters in
+    let form : f.form ≡ forms.Text = given_form u (row u.table r) (given u r c) h.texts in
     record {
-      item_is = h.items;
-      own = λ k less. (row_owned u w k held (let c = h.count in omega (arith, less, c))).0;
-      none_beyond = λ k less.
-          (let inside : k < length t.rows.items = (let c = h.count in omega (arith, less, c)) in
-          let hr = h.rows k inside in
-          let a = hr.first in let b = hr.few in let s = hr.small in
-          let g = given_is u k w a s in
-          ap (λ (y : Row). y.«end» - y.beyond) (row_at u w k inside) ∙ omega (arith, a, b, g));
-      room = h.step_room;
-      small = h.step_small;
-      falls = all_have (λ (c : Cell). c.falls ≡ false) u w (length t.rows.items) refl (λ r c less. refl);
+      font = letter_font k letter;
+      form = ap (λ (y : Field). y.form) (form_is k f letter) ∙ form;
+      sure = ap (λ (y : Form). (if is_text y then extent_of (text_of u.table f.span) u.blocks.strings.items else no_extent).sure) form
+          ∙ given_sure u (row u.table r) (given u r c) (λ n within. h.sure r n inside within);
+      text_is = ap (λ (y : Items ℕ). Rattle.tbl_table.specs.Held.part y.items f.span) text;
     }
 
-measured_is : (w : ℕ) (t : Table) → HeldTable w t → (x : Items Column) × (uneven : Bool) × (q : List Row)
-    × (measured true (placed_to (with_columns w w t) w (length t.rows.items)) ≡ drawn w t x uneven (steps_to (length t.rows.items)) q)
-    × CanDraw w t (drawn w t x uneven (steps_to (length t.rows.items)) q)
-measured_is w t h =
-    let u = with_columns w w t in
-    let R = length t.rows.items in
-    let p = placed_to u w R in
-    let x = (laid_measured p).columns in
-    let uneven = has_grown (whole_width p) (laid_measured p) in
-    let v = opened_as u w x uneven in
-    let n = length t.items.items in
-    let q = rows_on v n in
-    let alike = laid_alike p in
-    let wide = many_length w fresh in
-    let stands = laid_stands p refl in
-    let held = is_held w t h in (
-      x,
-      uneven,
-      q,
-      ap (λ (y : Table). record (lines_settled (steps_taken true y)) { measured = false }) (opened_is w t)
-          ∙ ap (λ (y : Table). record y { measured = false }) (steps_are v (has_rows w t x uneven h))
-          ∙ ap (λ (m : ℕ). drawn w t x uneven (steps_to m) q) h.count,
-      record {
-        held = held;
-        columns_are = alike.count ∙ wide;
-        stands = record { known = λ c less. stands.known c (omega (arith, less, wide)); left = λ c less. stands.left c (omega (arith, less, wide)) };
-        spans = h.spans;
-        widths = h.widths;
-        line_is = λ r inside. row_kept (λ (y : Row). y.line) v n (λ a b. refl) r ∙ ap (λ (y : Row). y.line) (row_at u w r inside) ∙ (h.rows r inside).line_is;
-        cells = λ r inside. row_kept (λ (y : Row). y.cells) v n (λ a b. refl) r ∙ ap (λ (y : Row). y.cells) (row_at u w r inside) ∙ all_length u w r;
-        cells_end = λ r inside.
-            row_kept (λ (y : Row). y.cells_end) v n (λ a b. refl) r ∙ ap (λ (y : Row). y.cells_end) (row_at u w r inside) ∙ all_length u w (suc r)
-            ∙ (let e : suc r * w ≡ r * w + w = omega arith in e);
-        items = h.items;
-      },
+-- all cells have their text in one line, in one row
+IsLow : Cell → Type 0
+IsLow f = (f.falls ≡ false) × (f.block ≡ None)
+
+all_low : (w : ℕ) (l : Layout) (x : Items Column) (n : ℕ) → IsLow (cell_of (measured_as w l x).grid n)
+unfolding IsLow
+all_low w l x n = all_have IsLow (with_columns w w l.grid) w (length l.grid.table.rows.items) (refl, refl) (λ q c less few. (refl, refl)) n
+
+-- ---- no room is asked for a row of one line, and nothing is defined in it
+
+lowest_is : (g : Grid) (r k n : ℕ) → ((m : ℕ) → n ≤ m → m < n + k → (cell_of g m).bottom ≡ r) → lowest k g n r ≡ r
+lowest_is g r zero n h = refl
+lowest_is g r (suc k) n h =
+    ap (λ (m : ℕ). lowest k g (n + 1) (max m r)) (h n (omega arith) (omega arith))
+    ∙ ap (lowest k g (n + 1)) (itself r)
+    ∙ lowest_is g r k (n + 1) (λ m low high. h m (omega (arith, low)) (omega (arith, high)))
+  where
+    itself : (m : ℕ) → max m m ≡ m
+    itself m = omega arith
+
+bottom_is : (w : ℕ) (l : Layout) (x : Items Column) (r m : ℕ) → r < length l.grid.table.rows.items → r * w ≤ m → m < r * w + w
+    → (cell_of (measured_as w l x).grid m).bottom ≡ r
+bottom_is w l x r m inside low high =
+    let g = (measured_as w l x).grid in
+    let at : m ≡ r * w + (m - r * w) = omega (arith, low) in
+    ap (λ (n : ℕ). (cell_of g n).bottom) at
+    ∙ ap (λ (f : Cell). f.bottom) (cell_at (with_columns w w l.grid) w r (m - r * w) inside (omega (arith, low, high)))
+
+-- where the fields of a row stand
+place_is : (w : ℕ) (l : Layout) (x : Items Column) (r : ℕ) → r < length l.grid.table.rows.items
+    → ((placed (measured_as w l x).grid r).cells ≡ r * w) × ((placed (measured_as w l x).grid r).cells_end - (placed (measured_as w l x).grid r).cells ≡ w)
+place_is w l x r inside =
+    let u = with_columns w w l.grid in
+    let is = place_at u w r inside in
+    let a = all_length u w r in
+    let b = all_length u w (suc r) in (
+      ap (λ (p : Placed). p.cells) is ∙ a,
+      ap (λ (p : Placed). p.cells_end - p.cells) is ∙ (let e : length (all_cells u w (suc r)) - length (all_cells u w r) ≡ w = omega (arith, a, b) in e),
     )
 
-pub table_goes_out : (w : ℕ) (t : Table) (p : Pen) → HeldTable w t → GoesOut (rows_texts (with_columns w w t) w (length t.rows.items)) (bytes_of (table_strokes true (based w t)) p)
-table_goes_out w t p h =
-    let u = with_columns w w t in
-    let b = based w t in
-    let R = length t.rows.items in
-    let placing = placed_to u w R in
-    let (x, uneven, q, is, can) = measured_is w t h in
-    let none : (0 == min (max w 0) 64) ≡ false = (let s = h.some in grind (arith, nat_tests)) in
-    let out = lines_go_out w t x uneven q (lines_taken true (opened placing)) p can in
-    subst (GoesOut (rows_texts u w R))
+no_room : (z : Layout) (r : ℕ) → last_below z r ≡ r → lines_of (tall z r) ≡ 1 → room z r ≡ []
+no_room z r last flat =
+    ap (room_if z r) last
+    ∙ ap (λ (b : Bool). if (not b || nat_lt 1 (lines_of (tall z r))) && not (is_kept z) then room_to z r r else []) (let e : (r == r) ≡ true = grind (arith, nat_tests) in e)
+    ∙ ap (λ (n : ℕ). if (false || nat_lt 1 n) && not (is_kept z) then room_to z r r else []) flat
+
+none_joined : (k : ℕ) (given : ℕ → List ℕ) → ((n : ℕ) → given n ≡ []) → joined k given ≡ []
+none_joined zero given h = refl
+none_joined (suc k) given h = ap (λ (l : List ℕ). l ++ given k) (none_joined k given h) ∙ h k
+
+-- ---- the table that is drawn
+
+is_drawn : (w : ℕ) (l : Layout) (x : Items Column) (talls : List Tall) (begins : Items ℕ) → HeldTable w l → length x.items ≡ w → AreFlat talls
+    → IsDrawn (drawn w l x talls begins) w (length l.grid.table.rows.items) (text_at (with_columns w w l.grid))
+unfolding IsLow
+is_drawn w l x talls begins h wide flat =
+    let u = with_columns w w l.grid in
+    let z = drawn w l x talls begins in
+    let g = (measured_as w l x).grid in
+    record {
+      columns_are = wide;
+      looks = refl;
+      bars = λ r c inside. no_bars w l x r c h inside;
+      own = λ r c inside less.
+          subst (λ (f : Cell). IsOwn f r c) (sym (cell_is w l x r c h wide inside less)) (record { top = refl; first = refl; falls = refl; block = refl });
+      plain_is = λ r c inside less.
+          subst (λ (f : Cell). IsPlain z f (text_at u r c)) (sym (cell_is w l x r c h wide inside less)) (cell_plain w l z r c h refl inside less);
+      spans = λ r c inside less.
+          subst (λ (f : Cell). SpanIs l.grid.table.text.items f.field.span) (sym (cell_is w l x r c h wide inside less))
+          (span_is l.grid.table.text.items (field_given u (row u.table r) (given u r c)).span (given_span u (row u.table r) (given u r c) h.spans));
+      steps_are = ap steps_to h.count_is;
+      flat = flat;
+      items_are = h.items_are;
+      none_defined = λ r inside.
+          none_joined ((placed g r).cells_end - (placed g r).cells) (definitions_at z (placed g r).cells)
+          (λ n. let f = cell_of g ((placed g r).cells + n) in ap (λ (o : Option ℕ). definitions_of (block_in g o) (text_of z.grid.table f.field.span)) (all_low w l x ((placed g r).cells + n)).1);
+      no_room = λ r inside.
+          (let p = place_is w l x r inside in
+          no_room z r
+          (ap (λ (k : ℕ). lowest k g (placed g r).cells r) p.1 ∙ ap (λ (n : ℕ). lowest w g n r) p.0
+          ∙ lowest_is g r w (r * w) (λ m low high. bottom_is w l x r m inside low high))
+          (flat r));
+    }
+
+-- ---- how it comes to be
+
+none_read : (w : ℕ) (l : Layout) → HeldTable w l → placed_table (with_columns w w l.grid) ≡ placed_to (with_columns w w l.grid) w (length l.grid.table.rows.items)
+none_read w l h =
+    let u = with_columns w w l.grid in
+    let R = length l.grid.table.rows.items in
+    let p = placed_to u w R in
+    ap blocks_read (placed_is u w (is_held w l h))
+    ∙ same_turn (length p.cells.items) read_at p (λ n less. ap (λ (b : Bool). if b then read_block n (cell_of p n) p else p) (no_block n))
+  where
+    no_block : (n : ℕ) → is_block (cell_of (placed_to (with_columns w w l.grid) w (length l.grid.table.rows.items)) n).field.form ≡ false
+    no_block n =
+        all_have (λ (f : Cell). is_block f.field.form ≡ false) (with_columns w w l.grid) w (length l.grid.table.rows.items) refl
+        (λ q c less few.
+        let u = with_columns w w l.grid in
+        let f = field_given u (row u.table q) (given u q c) in
+        let k = key u.table (line u.table 0) c in
+        ap (λ (y : Field). is_block y.form) (form_is k f (letter_is w l.grid.table c h.few few h.letters))
+        ∙ ap is_block (given_form u (row u.table q) (given u q c) h.texts)) n
+
+has_rows : (w : ℕ) (l : Layout) (x : Items Column) → HeldTable w l → HasRows (measured_as w l x)
+unfolding IsLow
+has_rows w l x h =
+    let u = with_columns w w l.grid in
+    let g = (measured_as w l x).grid in
+    let held = is_held w l h in
+    record {
+      item_is = h.items_are;
+      own = λ k less. (row_owned u w k held (let c = h.count_is in omega (arith, less, c))).0;
+      none_beyond = λ k less.
+          (let inside : k < length l.grid.table.rows.items = (let c = h.count_is in omega (arith, less, c)) in
+          let hr = h.rows k inside in
+          let a = hr.first in let b = hr.few in let s = hr.small in
+          let is = given_is u k w a s in
+          ap (λ (p : Placed). (row l.grid.table k).«end» - p.beyond) (place_at u w k inside) ∙ omega (arith, a, b, is));
+      low = λ n.
+          (let f = cell_of g n in
+          let e = all_low w l x n in
+          ap (λ (b : Bool). if b then 1 else height_of g f) e.0 ∙ ap (λ (o : Option ℕ). rows_in (block_in g o)) e.1);
+      room = h.step_room;
+      small = h.step_small;
+    }
+
+without_not : (a c : Bool) → (a && not false && c) ≡ (a && c)
+without_not true c = refl
+without_not false c = refl
+
+-- a table that is not narrowed
+pub table_goes_out : (w : ℕ) (l : Layout) (p : Pen) → HeldTable w l → (l.grid.room.fits && is_wider (based_layout w l)) ≡ false
+    → GoesOut (gathered (λ r. gathered (text_at (with_columns w w l.grid) r) w) (length l.grid.table.rows.items)) (bytes_of (table_strokes true (based_layout w l)) p)
+table_goes_out w l p h stays =
+    let b = based_layout w l in
+    let u = with_columns w w l.grid in
+    let R = length l.grid.table.rows.items in
+    let P = placed_to u w R in
+    let opened_as : Layout = record l { grid = u; begun = false; measured = false } in
+    let none : (0 == min (max w 0) 64) ≡ false = (let s = h.some in grind (arith, nat_tests, s)) in
+    let opened : columns_opened b ≡ opened_as =
+    ap (λ (e : Bool). if e then b else columns_renewed b) none
+    ∙ ap (λ (g : Grid). record l { grid = g; begun = false; measured = false }) (columns_are w l.grid h.few h.column_room h.letters) in
+    let read = none_read w l h in
+    let M = measured_columns P in
+    let only = (columns_alike P refl refl (λ c. none_wide w c)).same in
+    let wider : is_wider b ≡ nat_lt (line_room M) (table_end M) =
+    ap (λ (y : Layout). nat_lt (line_room (measured_read y.grid)) (table_end (measured_read y.grid))) opened
+    ∙ ap (λ (g : Grid). nat_lt (line_room (measured_columns g)) (table_end (measured_columns g))) read in
+    let narrow : is_too_wide M ≡ false =
+    ap (λ (g : Grid). g.room.fits && not M.table.looks.nofit && nat_lt (line_room M) (table_end M)) only
+    ∙ ap (λ (g : Grid). l.grid.room.fits && not g.table.looks.nofit && nat_lt (line_room M) (table_end M)) only
+    ∙ without_not l.grid.room.fits (nat_lt (line_room M) (table_end M))
+    ∙ sym (ap (λ (x : Bool). l.grid.room.fits && x) wider) ∙ stays in
+    let alike = table_alike P refl refl (λ c. none_wide w c) narrow in
+    let x = (measured_table P).columns in
+    let wide : length x.items ≡ w = alike.count ∙ many_length w fresh in
+    let V = measured_as w l x in
+    let is_ready : ready b ≡ V =
+    ap (λ (y : Layout). measured (tables.placed y)) opened
+    ∙ ap (λ (g : Grid). record l { grid = measured_table g; begun = false; measured = false }) read
+    ∙ ap (λ (g : Grid). record l { grid = g; begun = false; measured = false }) alike.same in
+    let Y = steps_taken true (heights_read V) in
+    let begins = (lines_settled Y).begins in
+    let walked = lines_are V (has_rows w l x h) in
+    let is_laid : laid true V ≡ drawn w l x walked.talls begins =
+    ap (λ (y : Layout). record y { measured = false }) (begins_alone Y ∙ ap (λ (y : Layout). record y { begins = begins }) walked.same) in
+    let out = lines_go_out (drawn w l x walked.talls begins) w R (all_lines true V) (text_at u) p (is_drawn w l x walked.talls begins h wide walked.flat) in
+    subst (GoesOut (gathered (λ r. gathered (text_at u r) w) R))
     (sym
-    (ap (λ (e : Bool). bytes_of ((if e then [] else ended_strokes b) ++ part_strokes true (placed (if e then b else columns_read (ended b)))) p) none
-    ∙ ap (λ (s : Table). bytes_of (part_strokes true (placed s)) p) (columns_are w t h.few h.column_room h.letters)
-    ∙ ap (λ (s : Table). bytes_of (part_strokes true s) p) (placed_is u w (is_held w t h))
-    ∙ ap (λ (e : Bool). bytes_of (if e then measured_strokes true placing else told_part_strokes true placing) p) (plain_is w t h)
-    ∙ ap (λ (s : Table). bytes_of (lines_strokes s true (lines_taken true (opened placing)) true) p) is))
+    (ap (λ (e : Bool). bytes_of ((if e then [] else Bytes (closing false) ∷ []) ++ lines_strokes (laid true (ready b)) (not (ready b).measured) (all_lines true (ready b)) true) p) none
+    ∙ ap (λ (y : Layout). bytes_of (lines_strokes (laid true y) (not y.measured) (all_lines true y) true) p) is_ready
+    ∙ ap (λ (y : Layout). bytes_of (lines_strokes y true (all_lines true V) true) p) is_laid))
     out

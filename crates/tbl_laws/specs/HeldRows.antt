@@ -3,10 +3,12 @@ use Rattle.std.specs.Prelude.{◌≡◌, ℕ, ◌+◌, ◌<◌, ◌≤◌, List,
 use Rattle.tbl_reader.specs.declared.telling.Tell.{Tell}
 use Rattle.tbl_reader.specs.declared.telling.Tell.TheVariants as tells
 use Rattle.tbl_reader.specs.Telling.{Piece}
-use Rattle.tbl_layout.specs.declared.table.Field.{Field}
-use Rattle.tbl_layout.specs.declared.table.Row.{Row}
-use Rattle.tbl_layout.specs.declared.table.Table.{Table}
-use Rattle.tbl_layout.specs.Held.{text_of}
+use Rattle.tbl_table.specs.declared.table.Field.{Field}
+use Rattle.tbl_table.specs.declared.table.Row.{Row}
+use Rattle.tbl_table.specs.declared.table.Table.{Table}
+use Rattle.tbl_table.specs.Held.{text_of}
+use Rattle.tbl_setting.specs.declared.setting.Setting.{Setting}
+use Rattle.tbl_setting.specs.Held.{table}
 use Rattle.tbl_setting.specs.Setting.{set}
 use Rattle.tbl_laws.specs.Rows.{are_of_rows, rows_told}
 
@@ -77,6 +79,6 @@ pub record HasRoom (t : Table) (ps : List Piece) : Type 0 where
 
 abbrev pub RowsAreHeld : Type 0
 RowsAreHeld =
-    (t : Table) (ps : List Piece) → t.fields.items ≡ [] → t.rows.items ≡ [] → t.row_from ≡ 0 → HasRoom t ps
-    → are_of_rows ps ≡ true
-    → (next : List (List ℕ)) × HoldsRows (set ps t) (rows_told [] ps) next
+    (s : Setting) (ps : List Piece) → (table s).fields.items ≡ [] → (table s).rows.items ≡ [] → (table s).row_from ≡ 0
+    → HasRoom (table s) ps → are_of_rows ps ≡ true
+    → (next : List (List ℕ)) × HoldsRows (table (set ps s)) (rows_told [] ps) next

@@ -1,7 +1,6 @@
 -- Text outside of tables goes out as it came (Lesk, "Usage"; tbl(1), "Description").
 use Rattle.std.specs.Prelude.{◌≡◌, ℕ, ◌≤◌, List, [], ◌∷◌, ◌++◌, codes, Bool, true, not, ◌==◌, ◌&&◌}
 use Prim.Native.Char.{code}
-use Rattle.tbl_layout.specs.declared.signs.Signs.{Signs}
 use Rattle.tbl_reader.specs.declared.command.Start.TheVariants.{Nothing}
 use Rattle.tbl_reader.specs.declared.reader.Limits.{Limits}
 use Rattle.tbl_reader.specs.declared.state.Mode.TheVariants as modes
@@ -9,6 +8,7 @@ use Rattle.tbl_reader.specs.Ending.{first_page}
 use Rattle.tbl_reader.specs.Pages.{Page}
 use Rattle.tbl_reader.specs.Reading.{fed}
 use Rattle.tbl_reader.specs.Untouched.{is_untouched}
+use Rattle.tbl_setting.specs.Bounds.{Bounds}
 use Rattle.tbl_setting.specs.Running.{set_page}
 
 abbrev pub BeginsWith : List ℕ → List ℕ → Type 0
@@ -18,13 +18,13 @@ BeginsWith text out = (more : List ℕ) × (out ≡ text ++ more)
 
 abbrev pub PagesStay : Type 0
 PagesStay =
-    (signs : Signs) (limits : Limits) (cells : ℕ) (page : List ℕ) → is_untouched page ≡ true
-    → set_page signs limits cells page ≡ page
+    (b : Bounds) (page : List ℕ) → is_untouched page ≡ true
+    → set_page b page ≡ page
 
 abbrev pub FirstTextStays : Type 0
 FirstTextStays =
-    (signs : Signs) (limits : Limits) (cells : ℕ) (text rest : List ℕ) → is_untouched text ≡ true
-    → BeginsWith text (set_page signs limits cells (text ++ rest))
+    (b : Bounds) (text rest : List ℕ) → is_untouched text ≡ true
+    → BeginsWith text (set_page b (text ++ rest))
 
 -- ---- what stands after `.TE`
 
@@ -51,14 +51,14 @@ TablesEnd =
 -- up to the end of the page, or to where a table begins
 abbrev pub LastTextStays : Type 0
 LastTextStays =
-    (signs : Signs) (limits : Limits) (cells : ℕ) (before text : List ℕ) → 3 ≤ limits.row → ends_line before ≡ true
+    (b : Bounds) (before text : List ℕ) → 3 ≤ b.limits.row → ends_line before ≡ true
     → is_untouched text ≡ true
-    → set_page signs limits cells (before ++ table_end ++ text)
-    ≡ set_page signs limits cells (before ++ table_end) ++ text
+    → set_page b (before ++ table_end ++ text)
+    ≡ set_page b (before ++ table_end) ++ text
 
 abbrev pub TextBetweenStays : Type 0
 TextBetweenStays =
-    (signs : Signs) (limits : Limits) (cells : ℕ) (before text rest : List ℕ) → 3 ≤ limits.row
+    (b : Bounds) (before text rest : List ℕ) → 3 ≤ b.limits.row
     → ends_line before ≡ true → is_untouched text ≡ true
-    → BeginsWith (set_page signs limits cells (before ++ table_end) ++ text)
-    (set_page signs limits cells (before ++ table_end ++ text ++ rest))
+    → BeginsWith (set_page b (before ++ table_end) ++ text)
+    (set_page b (before ++ table_end ++ text ++ rest))

@@ -2,7 +2,7 @@
 -- columns.
 use Rattle.std.specs.Prelude.{◌≡◌, ℕ, suc, ◌+◌, ◌<◌, ◌≤◌, List, [], ◌∷◌, ◌++◌, length, Bool, true, false, not, ◌==◌, ◌&&◌, ◌||◌, Some, codes, if◌then◌else◌}
 use Prim.Native.Char.{code}
-use Rattle.tbl_layout.specs.Rows.{joins}
+use Rattle.tbl_table.specs.Rows.{joins}
 use Rattle.tbl_reader.specs.declared.field.Mark.TheVariants as marks
 use Rattle.tbl_reader.specs.declared.reader.Limits.{Limits}
 use Rattle.tbl_reader.specs.declared.state.Mode.TheVariants as modes

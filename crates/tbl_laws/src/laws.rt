@@ -1,8 +1,10 @@
-//! Laws of whole pages, each the contract of a function that does nothing: they speak of the definitions alone.
+//! Laws of tables and of whole pages, each the contract of a function that does nothing: they speak of the definitions alone.
+ghost use Rattle.tbl_laws.specs.Columns.{EqualAtLast, FieldsFitAtLast, LeastFitsAtLast, SpansFitAtLast};
 ghost use Rattle.tbl_laws.specs.HeldRows.{RowsAreHeld};
 ghost use Rattle.tbl_laws.specs.Lines.{FieldsGoOut};
 ghost use Rattle.tbl_laws.specs.OutsideText.{FirstTextStays, LastTextStays, PagesStay, TablesEnd, TextBetweenStays};
 ghost use Rattle.tbl_laws.specs.Rows.{FormatsAreRead, OptionsAreRead, RowsAreTold, TablesAreTold};
+ghost use Rattle.tbl_laws.specs.Texts.{BarsHaveTheirTexts, EdgesHaveNone, RowsHaveTheirTexts, RulesHaveTheirTexts, TextsGoOut};
 
 /// Text outside of tables goes out as it came: a page in which no line begins a table; what stands before the first such line; and
 /// what stands after `.TE`, up to the next such line or to the page's end. `.TE` ends a table after any line that doesn't end with a
@@ -46,16 +48,47 @@ pub fn rows_are_held()
     ensures { RowsAreHeld }
 {}
 
+/// Fields fit in the columns with which a table goes out, where it isn't narrowed, whatever blocks and shares of the line add to these:
+/// a column is no narrower than a field that stands in it alone, and as wide as `w` says, and one cell at least; several together, with
+/// the spaces between them, are no narrower than one that stands in these, but with `expand`, by which spaces may be less. Columns of
+/// `e` are of one width, where none is of `x`.
+///
+/// Proved: A table that isn't narrowed goes out with columns in which its fields fit: one is no narrower than a field that
+/// stands in it alone, as wide as `w` says, and one cell at least; several with the spaces between them are no narrower than
+/// one that stands in these, where the table has no `expand`, and columns of `e` of one width, where none is of `x`, too.
+pub fn fields_fit_at_last()
+    ensures one { FieldsFitAtLast }
+    ensures several { SpansFitAtLast }
+    ensures least { LeastFitsAtLast }
+    ensures equal { EqualAtLast }
+{}
+
+/// With a line go out the texts of the fields that stand on it, each once, in the order of columns, and no others: with a row
+/// those that begin in it, and of those that go on over rows below the ones that stand here, of a block one of its lines; with a rule
+/// and with bars alone only of fields that go on, and lines of blocks. They stand in its bytes one after the other.
+///
+/// Proved: With a line go out the texts of the fields that stand on it, of a block the text of one of its lines, each once, in
+/// the order of columns, and no others.
+pub fn each_text_once()
+    ensures rows { RowsHaveTheirTexts }
+    ensures bars { BarsHaveTheirTexts }
+    ensures rules { RulesHaveTheirTexts }
+    ensures edges { EdgesHaveNone }
+    ensures bytes { TextsGoOut }
+{}
+
 /// From bytes to bytes: a page of text, a table and text goes out as the text, a line for each row, and the text. On the line of a row
-/// stand its fields, each once, in the order of columns, with blanks before each; nothing else stands there, but `\&` may, before a
-/// field that begins as a request does. Four requests stand before the lines, and two after them. So it is of a table without options,
-/// with one line of columns of `l`, `r` and `c`, whose rows are as `rows_are_told` has them and have no control characters, where it
-/// is held whole.
+/// stand its fields, each once, in the order of columns, with blanks before each; nothing else stands there, but `\&` before a line
+/// that would begin with a blank, or as a request does. Four requests stand before the lines, and two after them. So it is of a table
+/// without options, with one line of columns of `l`, `r` and `c`, whose rows are as `rows_are_told` has them and have no control
+/// characters, where it is held whole, and is not narrowed: where tables are not to be, where the page is no manual page, or where the
+/// table is no wider than the line.
 ///
 /// Proved: A page of text, one table and text goes out as the text byte for byte, `.TS`, four requests, a line for each row
-/// with the texts of its fields, each once, in the order of columns, and besides only blanks and `\&`, two requests, `.TE`,
-/// and the text byte for byte, where the table has no options, one line of formats of 1 to 64 letters `l`, `r`, `c`,
-/// blanks and a point, and rows as above without control characters, all within the limits.
+/// with the texts of its fields, each once, in the order of columns, and besides only blanks before each and `\&` before a line
+/// that would begin with a blank or as a request does, two requests, `.TE`, and the text byte for byte, where the table has no
+/// options, one line of formats of 1 to 64 letters `l`, `r`, `c`, blanks and a point, and rows as above without control
+/// characters, all within the limits, and no table is narrowed there or this one is no wider than the line.
 pub fn fields_go_out()
     ensures { FieldsGoOut }
 {}

@@ -41,7 +41,8 @@ choice_of word =
     if is_word word (codes "tab") then choices.Tab else
     if is_word word (codes "decimalpoint") then choices.Point else
     if is_word word (codes "nospaces") then choices.NoSpaces else
-    if is_word word (codes "nokeep") then choices.NoKeep else frame_of word
+    if is_word word (codes "nokeep") then choices.NoKeep else
+    if is_word word (codes "nofit") then choices.NoFit else frame_of word
 
 -- fields are separated by tabs, and the fraction of a number stands after a point
 abbrev pub no_options : Options
@@ -54,6 +55,7 @@ no_options =
       point = code ".";
       nospaces = false;
       nokeep = false;
+      nofit = false;
       wrong = None;
     }
 
@@ -88,6 +90,7 @@ options_with choices.Tab word argument o = tab_with word argument o
 options_with choices.Point word argument o = point_with word argument o
 options_with choices.NoSpaces word argument o = record o { nospaces = true }
 options_with choices.NoKeep word argument o = record o { nokeep = true }
+options_with choices.NoFit word argument o = record o { nofit = true }
 options_with choices.Passed word argument o = o
 options_with choices.Unknown word argument o = blaming (UnknownOption word) o
 

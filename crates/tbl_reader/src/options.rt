@@ -35,6 +35,8 @@ pub struct Options {
     pub nospaces: bool,
     /// A table in a box may be cut by the end of a page.
     pub nokeep: bool,
+    /// It stays as wide as it is.
+    pub nofit: bool,
     /// What is wrong with the first word that is no option, or has another argument than one character.
     pub wrong: Option<Kind>,
 }
@@ -56,6 +58,8 @@ enum Choice {
     NoSpaces,
     /// `nokeep`
     NoKeep,
+    /// `nofit`
+    NoFit,
     /// One without effect.
     Passed,
     /// None.
@@ -107,6 +111,9 @@ fn choice_of(word: Name) -> Choice
     }
     if is_word(word, Name::of(b"nokeep")) {
         return Choice::NoKeep;
+    }
+    if is_word(word, Name::of(b"nofit")) {
+        return Choice::NoFit;
     }
     frame_of(word)
 }
@@ -179,6 +186,7 @@ impl Options {
             point: b'.',
             nospaces: false,
             nokeep: false,
+            nofit: false,
             wrong: None,
         }
     }
@@ -209,6 +217,7 @@ impl Options {
             (Choice::Point, Some(byte)) => options.point = byte,
             (Choice::NoSpaces, _) => options.nospaces = true,
             (Choice::NoKeep, _) => options.nokeep = true,
+            (Choice::NoFit, _) => options.nofit = true,
             (Choice::Passed, _) => {}
             (Choice::Tab | Choice::Point, None) => return self.blaming(Kind::BadArgument(word)),
             (Choice::Unknown, _) => return self.blaming(Kind::UnknownOption(word)),

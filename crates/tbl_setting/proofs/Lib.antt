@@ -1,3 +1,7 @@
+mod Heard
+pub mod HeardText
+pub mod Held
+pub mod Pieces
 mod Runs
-pub mod Setting
 mod Steps
+mod Texts

@@ -3,9 +3,9 @@ use Rattle.std.specs.Prelude.{ℕ, Option, None, Some}
 use Prim.Native.Char.{code}
 use Rattle.utf8_characters.specs.declared.table.Table.{Table}
 use Rattle.utf8_characters.specs.Tables.{byte_of}
-use Rattle.tbl_layout.specs.declared.signs.Joints.{Joints}
-use Rattle.tbl_layout.specs.declared.signs.Signs.{Signs}
-use Rattle.tbl_layout.specs.Signs.{ascii}
+use Rattle.tbl_table.specs.declared.signs.Joints.{Joints}
+use Rattle.tbl_table.specs.declared.signs.Signs.{Signs}
+use Rattle.tbl_table.specs.Signs.{ascii}
 
 abbrev pub joints_of : Option ℕ → Option ℕ → Option ℕ → Option Joints
 joints_of None c e = None

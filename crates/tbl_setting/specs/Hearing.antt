@@ -1,4 +1,4 @@
--- What a page says of a table, as calls of the layout: what becomes of the table that is held. Nothing goes out for it.
+-- What a page says of a table, as calls of the table that is held: what becomes of the table that is held. Nothing goes out for it.
 use Rattle.std.specs.Prelude.{ℕ, zero, suc, Bool, List, [], ◌∷◌, if◌then◌else◌}
 use Rattle.tbl_reader.specs.declared.field.Mark.{Mark}
 use Rattle.tbl_reader.specs.declared.field.Mark.TheVariants as marks
@@ -10,15 +10,16 @@ use Rattle.tbl_reader.specs.declared.options.Frame.TheVariants as frames
 use Rattle.tbl_reader.specs.declared.options.Options.{Options}
 use Rattle.tbl_reader.specs.declared.telling.Tell.{Tell}
 use Rattle.tbl_reader.specs.declared.telling.Tell.TheVariants as tells
-use Rattle.tbl_layout.specs.declared.table.Form.{Form}
-use Rattle.tbl_layout.specs.declared.table.Form.TheVariants as forms
-use Rattle.tbl_layout.specs.declared.table.Frame.{Frame}
-use Rattle.tbl_layout.specs.declared.table.Frame.TheVariants as layouts
-use Rattle.tbl_layout.specs.declared.table.Looks.{Looks}
-use Rattle.tbl_layout.specs.declared.table.Stand.TheVariants as stands
-use Rattle.tbl_layout.specs.declared.table.Table.{Table}
-use Rattle.tbl_layout.specs.Formats.{byte_added, closed, equal_set, font_set, gap_begun, key_added, line_begun, line_ended, stand_set, text_added, wide_set, width_begun, zero_set}
-use Rattle.tbl_layout.specs.Rows.{mark_added, request_ended, row_ended, rule_added, text_begun}
+use Rattle.tbl_table.specs.declared.table.Form.{Form}
+use Rattle.tbl_table.specs.declared.table.Form.TheVariants as forms
+use Rattle.tbl_table.specs.declared.table.Frame.{Frame}
+use Rattle.tbl_table.specs.declared.table.Frame.TheVariants as layouts
+use Rattle.tbl_table.specs.declared.table.Looks.{Looks}
+use Rattle.tbl_table.specs.declared.table.Stand.TheVariants as stands
+use Rattle.tbl_table.specs.declared.table.Table.{Table}
+use Rattle.tbl_table.specs.Formats.{byte_added, closed, equal_set, font_set, gap_begun, key_added, line_begun, line_ended, stand_set, text_added, wide_set, width_begun, zero_set}
+use Rattle.tbl_table.specs.Held.{kind_of}
+use Rattle.tbl_table.specs.Rows.{mark_added, request_ended, row_ended, rule_added, text_begun}
 
 -- ---- options and marks
 
@@ -29,7 +30,7 @@ frame_of frames.All = layouts.All
 frame_of frames.Double = layouts.Double
 
 abbrev pub looks_of : Options → Looks
-looks_of o = record { center = o.center; expand = o.expand; frame = frame_of o.frame; nokeep = o.nokeep }
+looks_of o = record { center = o.center; expand = o.expand; frame = frame_of o.frame; nokeep = o.nokeep; nofit = o.nofit }
 
 abbrev pub form_of : Mark → Form
 form_of marks.Nothing = forms.Text
@@ -42,7 +43,7 @@ form_of marks.Above = forms.Above
 
 abbrev pub call_heard : Call → Table → Table
 call_heard calls.Nothing t = t
-call_heard (calls.Cell kind bars) t = key_added kind bars t
+call_heard (calls.Cell letter bars) t = key_added (kind_of letter) bars t
 call_heard (calls.Bars bars) t = line_ended bars t
 call_heard (calls.Font letter) t = font_set letter t
 call_heard calls.Width t = width_begun t

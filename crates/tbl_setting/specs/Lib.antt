@@ -1,5 +1,12 @@
+pub mod Arguments
+pub mod Bounds
 pub mod Drawing
 pub mod Hearing
-pub mod Setting
+pub mod Held
+pub mod Lengths
+pub mod Margins
+pub mod Requests
 pub mod Running
+pub mod Setting
 pub mod Stepping
+pub mod Watching

@@ -1,68 +1,73 @@
--- What a page says is set: what becomes of the table that is held, and which strokes go out. Text outside of tables goes out as it stands;
--- a table, or the rows of it that take all the room there is, as what the layout draws.
+-- What a page says is set: what becomes of the table that is held and of what is known of the page, and which strokes go out. Text outside
+-- of tables goes out as it stands; a table, or the rows of it that take all the room there is, as its lines.
 use Rattle.std.specs.Prelude.{◌≡◌, ℕ, List, [], ◌∷◌, ◌++◌, length, take, Bool, true, false, nat_lt, Option, ◌⊎◌, codes, if◌then◌else◌}
 use Rattle.std.specs.Borrow.{MutBor}
 use Rattle.nr_units.specs.Failures.{SinkFailures}
 use Rattle.nr_vectors.specs.Items.{Items}
 use Rattle.tbl_reader.specs.declared.complaint.Complaint.{Complaint}
-use Rattle.tbl_reader.specs.declared.reader.Limits.{Limits}
 use Rattle.tbl_reader.specs.declared.telling.Tell.{Tell}
 use Rattle.tbl_reader.specs.declared.telling.Tell.TheVariants as tells
 use Rattle.tbl_reader.specs.declared.running.Outcome.{Outcome}
 use Rattle.tbl_reader.specs.declared.running.Outcome.TheVariants.{WriteFault}
 use Rattle.tbl_reader.specs.Telling.{Piece}
-use Rattle.tbl_layout.specs.declared.signs.Signs.{Signs}
-use Rattle.tbl_layout.specs.declared.table.Table.{Table}
-use Rattle.tbl_layout.specs.Formats.{formats_begun, formats_ended, text_added}
-use Rattle.tbl_layout.specs.Held.{emptied}
-use Rattle.tbl_layout.specs.Measured.{table_after, table_strokes}
-use Rattle.tbl_layout.specs.Pens.{Bytes, Stroke, bytes_of, first}
-use Rattle.tbl_layout.specs.Rows.{block_ended, field_added, has_begun, is_full, is_tight, mark_added, row_ended, row_len, text_begun}
-use Rattle.tbl_layout.specs.Table.{begun, first_table, looking}
-use Rattle.tbl_layout.specs.Tapes.{Tape, Draws}
+use Rattle.tbl_drawing.specs.Held.{has_begun}
+use Rattle.tbl_drawing.specs.Pens.{Bytes, Stroke, bytes_of, first}
+use Rattle.tbl_drawing.specs.Tapes.{Tape, Draws}
+use Rattle.tbl_setting.specs.declared.setting.Setting.{Setting}
+use Rattle.tbl_setting.specs.Bounds.{Bounds, page_setting}
 use Rattle.tbl_setting.specs.Hearing.{called_heard, empty_added, form_of, line_heard, looks_of}
+use Rattle.tbl_setting.specs.Held.{emptied, page_heard, table, table_begun, table_set, table_strokes, with_table}
+use Rattle.tbl_table.specs.Formats.{formats_begun, formats_ended, text_added}
+use Rattle.tbl_table.specs.Rows.{block_ended, field_added, is_full, is_tight, mark_added, row_ended, row_len, text_begun}
+use Rattle.tbl_table.specs.Table.{looking}
 
 -- ---- rows that take all the room there is go out, and the table goes on
 
-abbrev pub relieved : Table → Table
-relieved t = if is_tight t then table_after false t else t
+abbrev pub relieved : Setting → Setting
+relieved s = if is_tight (table s) then table_set false s else s
 
-abbrev pub relief : Table → List Stroke
-relief t = if is_tight t then table_strokes false t else []
+abbrev pub relief : Setting → List Stroke
+relief s = if is_tight (table s) then table_strokes false s else []
 
 -- ---- a block: where there is no room for a byte of it the row ends with what was read of it, and goes out; the block goes on in the
 -- same column of the next row
 
-abbrev pub cut_off : Table → Table
-cut_off t = row_ended (block_ended t)
+abbrev pub cut_off : Setting → Setting
+cut_off s = with_table (row_ended (block_ended (table s))) s
 
-abbrev pub divided : Table → Table
-divided t = text_begun (empty_added (row_len t) (table_after false (cut_off t)))
+abbrev pub block_goes_on : ℕ → Setting → Setting
+block_goes_on column s = with_table (text_begun (empty_added column (table s))) s
 
-abbrev pub room_made : Table → Table
-room_made t = if is_full t then divided t else t
+abbrev pub divided : Setting → Setting
+divided s = block_goes_on (row_len (table s)) (table_set false (cut_off s))
 
-abbrev pub room_strokes : Table → List Stroke
-room_strokes t = if is_full t then table_strokes false (cut_off t) else []
+abbrev pub room_made : Setting → Setting
+room_made s = if is_full (table s) then divided s else s
 
-abbrev pub block_byte : ℕ → Table → Table
-block_byte b t = text_added b (room_made t)
+abbrev pub room_strokes : Setting → List Stroke
+room_strokes s = if is_full (table s) then table_strokes false (cut_off s) else []
 
-abbrev pub block_added : List ℕ → Table → Table
-block_added [] t = t
-block_added (b ∷ bs) t = block_added bs (block_byte b t)
+abbrev pub byte_held : ℕ → Setting → Setting
+byte_held b s = with_table (text_added b (table s)) s
 
-abbrev pub block_strokes : List ℕ → Table → List Stroke
-block_strokes [] t = []
-block_strokes (b ∷ bs) t = room_strokes t ++ block_strokes bs (block_byte b t)
+abbrev pub block_byte : ℕ → Setting → Setting
+block_byte b s = byte_held b (room_made s)
+
+abbrev pub block_added : List ℕ → Setting → Setting
+block_added [] s = s
+block_added (b ∷ bs) s = block_added bs (block_byte b s)
+
+abbrev pub block_strokes : List ℕ → Setting → List Stroke
+block_strokes [] s = []
+block_strokes (b ∷ bs) s = room_strokes s ++ block_strokes bs (block_byte b s)
 
 -- ---- a table that isn't set further: what was read of it goes out, and lines follow that stand as they are
 
-abbrev pub begun_ended : Table → Table
-begun_ended t = if has_begun t then table_after true t else t
+abbrev pub begun_ended : Setting → Setting
+begun_ended s = if has_begun s.layout then table_set true s else s
 
-abbrev pub begun_strokes : Table → List Stroke
-begun_strokes t = if has_begun t then table_strokes true t else []
+abbrev pub begun_strokes : Setting → List Stroke
+begun_strokes s = if has_begun s.layout then table_strokes true s else []
 
 abbrev pub plain_begin : List ℕ
 plain_begin = codes ".br\n.nr *u \\n(.u\n.nf\n"
@@ -70,63 +75,63 @@ plain_begin = codes ".br\n.nr *u \\n(.u\n.nf\n"
 abbrev pub plain_end : List ℕ
 plain_end = codes ".if \\n(*u .fi\n"
 
--- ---- by what is said: what becomes of the table, and what goes out
+-- ---- by what is said: what becomes of the table and of what is known of the page, and what goes out
 
-abbrev pub set_in : Tell → List ℕ → Table → Table
-set_in tells.Table text t = begun t
-set_in (tells.Options options) text t = looking (looks_of options) t
-set_in tells.Formats text t = formats_begun t
-set_in (tells.Format called) text t = called_heard called t
-set_in tells.FormatsEnd text t = formats_ended t
-set_in (tells.Field front) text t = field_added text front t
-set_in (tells.Mark mark) text t = mark_added (form_of mark) t
-set_in tells.Block text t = text_begun t
-set_in tells.BlockText text t = block_added text t
-set_in tells.BlockEnd text t = block_ended t
-set_in tells.Row text t = relieved (line_heard tells.Row text t)
-set_in tells.Rule text t = relieved (line_heard tells.Rule text t)
-set_in tells.Request text t = relieved (line_heard tells.Request text t)
-set_in tells.TableEnd text t = table_after true t
-set_in tells.Plain text t = begun_ended t
-set_in tells.Pass text t = t
-set_in tells.PlainEnd text t = t
-set_in (tells.Wrong complaint) text t = t
+abbrev pub line_set : Tell → List ℕ → Setting → Setting
+line_set tell text s = with_table (line_heard tell text (table s)) s
 
-abbrev pub strokes_in : Tell → List ℕ → Table → List Stroke
-strokes_in tells.Table text t = []
-strokes_in (tells.Options options) text t = []
-strokes_in tells.Formats text t = []
-strokes_in (tells.Format called) text t = []
-strokes_in tells.FormatsEnd text t = []
-strokes_in (tells.Field front) text t = []
-strokes_in (tells.Mark mark) text t = []
-strokes_in tells.Block text t = []
-strokes_in tells.BlockText text t = block_strokes text t
-strokes_in tells.BlockEnd text t = []
-strokes_in tells.Row text t = relief (line_heard tells.Row text t)
-strokes_in tells.Rule text t = relief (line_heard tells.Rule text t)
-strokes_in tells.Request text t = relief (line_heard tells.Request text t)
-strokes_in tells.TableEnd text t = table_strokes true t
-strokes_in tells.Plain text t = begun_strokes t ++ Bytes plain_begin ∷ []
-strokes_in tells.Pass text t = Bytes text ∷ []
-strokes_in tells.PlainEnd text t = Bytes plain_end ∷ []
-strokes_in (tells.Wrong complaint) text t = []
+abbrev pub set_in : Tell → List ℕ → Setting → Setting
+set_in tells.Table text s = table_begun s
+set_in (tells.Options options) text s = with_table (looking (looks_of options) (table s)) s
+set_in tells.Formats text s = with_table (formats_begun (table s)) s
+set_in (tells.Format called) text s = with_table (called_heard called (table s)) s
+set_in tells.FormatsEnd text s = with_table (formats_ended (table s)) s
+set_in (tells.Field front) text s = with_table (field_added text front (table s)) s
+set_in (tells.Mark mark) text s = with_table (mark_added (form_of mark) (table s)) s
+set_in tells.Block text s = with_table (text_begun (table s)) s
+set_in tells.BlockText text s = block_added text s
+set_in tells.BlockEnd text s = with_table (block_ended (table s)) s
+set_in tells.Row text s = relieved (line_set tells.Row text s)
+set_in tells.Rule text s = relieved (line_set tells.Rule text s)
+set_in tells.Request text s = relieved (line_set tells.Request text s)
+set_in tells.TableEnd text s = table_set true s
+set_in tells.Plain text s = begun_ended s
+set_in tells.Pass text s = page_heard text s
+set_in tells.PlainEnd text s = s
+set_in (tells.Wrong complaint) text s = s
+
+abbrev pub strokes_in : Tell → List ℕ → Setting → List Stroke
+strokes_in tells.Table text s = []
+strokes_in (tells.Options options) text s = []
+strokes_in tells.Formats text s = []
+strokes_in (tells.Format called) text s = []
+strokes_in tells.FormatsEnd text s = []
+strokes_in (tells.Field front) text s = []
+strokes_in (tells.Mark mark) text s = []
+strokes_in tells.Block text s = []
+strokes_in tells.BlockText text s = block_strokes text s
+strokes_in tells.BlockEnd text s = []
+strokes_in tells.Row text s = relief (line_set tells.Row text s)
+strokes_in tells.Rule text s = relief (line_set tells.Rule text s)
+strokes_in tells.Request text s = relief (line_set tells.Request text s)
+strokes_in tells.TableEnd text s = table_strokes true s
+strokes_in tells.Plain text s = begun_strokes s ++ Bytes plain_begin ∷ []
+strokes_in tells.Pass text s = Bytes text ∷ []
+strokes_in tells.PlainEnd text s = Bytes plain_end ∷ []
+strokes_in (tells.Wrong complaint) text s = []
 
 -- one thing after the other
-abbrev pub set : List Piece → Table → Table
-set [] t = t
-set (p ∷ ps) t = set ps (set_in p.tell p.text t)
+abbrev pub set : List Piece → Setting → Setting
+set [] s = s
+set (p ∷ ps) s = set ps (set_in p.tell p.text s)
 
-abbrev pub strokes : List Piece → Table → List Stroke
-strokes [] t = []
-strokes (p ∷ ps) t = strokes_in p.tell p.text t ++ strokes ps (set_in p.tell p.text t)
+abbrev pub strokes : List Piece → Setting → List Stroke
+strokes [] s = []
+strokes (p ∷ ps) s = strokes_in p.tell p.text s ++ strokes ps (set_in p.tell p.text s)
 
--- what a page comes to, drawn with these, by its limits
-abbrev pub page_table : Signs → Limits → Table
-page_table g l = first_table g l.formats l.row
-
-abbrev pub set_bytes : Signs → Limits → List Piece → List ℕ
-set_bytes g l said = bytes_of (strokes said (page_table g l)) first
+-- what a page comes to
+abbrev pub set_bytes : Bounds → List Piece → List ℕ
+set_bytes b said = bytes_of (strokes said (page_setting b)) first
 
 -- ---- what is wrong
 
@@ -161,36 +166,36 @@ IsSame old before new missed = (new ≡ old) × (missed ≡ before)
 
 -- ---- who sets tables
 
--- the table that was lent has become this one, in the same room
-pub record Becomes (old new : MutBor Table) (t : Table) : Type 0 where
+-- what was lent has become this, in the same room
+pub record Becomes (old new : MutBor Setting) (s : Setting) : Type 0 where
   pub same : new.ghost_name ≡ old.ghost_name
-  pub now : new.now ≡ t
+  pub now : new.now ≡ s
   pub room : emptied new.now ≡ emptied old.now
 
 abbrev pub first_tape : Option (List ℕ) → SinkFailures → Tape
 first_tape held failures =
     record { held = held; failures = failures; pending = []; failed = false; pen = first }
 
--- what its output held at first and how many of its calls had failed, the table that it had, and what it heard since; which table and
--- which complaints it was lent, with room for so many
+-- what its output held at first and how many of its calls had failed, the table that it had and what was known of the page, and what it
+-- heard since; which of these and which complaints it was lent, with room for so many
 pub record Shown : Type 0 where
   pub held : Option (List ℕ)
   pub failures : SinkFailures
-  pub table : Table
+  pub setting : Setting
   pub said : List Piece
-  pub table_name : ℕ
+  pub setting_name : ℕ
   pub name : ℕ
   pub capacity : ℕ
 
 abbrev pub hears : Piece → Shown → Shown
 hears p s = record s { said = s.said ++ p ∷ [] }
 
-pub record Shows (tape : Tape) (table : MutBor Table) (kept : MutBor (Items Complaint)) (missed : Bool)
+pub record Shows (tape : Tape) (setting : MutBor Setting) (kept : MutBor (Items Complaint)) (missed : Bool)
     (s : Shown) : Type 0 where
-  pub draws : Draws (first_tape s.held s.failures) tape (strokes s.said s.table)
-  pub table_same : table.ghost_name ≡ s.table_name
-  pub table_now : table.now ≡ set s.said s.table
-  pub table_room : emptied table.now ≡ emptied s.table
+  pub draws : Draws (first_tape s.held s.failures) tape (strokes s.said s.setting)
+  pub setting_same : setting.ghost_name ≡ s.setting_name
+  pub setting_now : setting.now ≡ set s.said s.setting
+  pub setting_room : emptied setting.now ≡ emptied s.setting
   pub same : kept.ghost_name ≡ s.name
   pub room : kept.now.capacity ≡ s.capacity
   pub keeps : Keeps (wrongs s.said) kept.now missed

@@ -4,21 +4,21 @@ use Rattle.std.specs.Io.KnownBytes.{Appends}
 use Rattle.nr_units.specs.Failures.{SinkFailures, put_counted_if}
 use Rattle.nr_units.specs.Sink.{AppendsFront}
 use Rattle.nr_vectors.specs.Items.{Items}
-use Rattle.tbl_layout.specs.declared.table.Table.{Table}
-use Rattle.tbl_layout.specs.Pens.{bytes_of, first}
+use Rattle.tbl_drawing.specs.Pens.{bytes_of, first}
 use Rattle.tbl_reader.specs.declared.complaint.Complaint.{Complaint}
 use Rattle.tbl_reader.specs.Ending.{next_read}
 use Rattle.tbl_reader.specs.Pages.{Page}
 use Rattle.tbl_reader.specs.Telling.{Piece}
+use Rattle.tbl_setting.specs.declared.setting.Setting.{Setting}
 use Rattle.tbl_setting.specs.Setting.{Keeps, strokes}
 
 -- what goes out for what is said, where this table is held
-abbrev pub pieces_bytes : List Piece → Table → List ℕ
-pieces_bytes said t = bytes_of (strokes said t) first
+abbrev pub pieces_bytes : List Piece → Setting → List ℕ
+pieces_bytes said s = bytes_of (strokes said s) first
 
 -- for what comes next
-abbrev pub next_bytes : Option ℕ → Page → Table → List ℕ
-next_bytes next p t = pieces_bytes (next_read next p).pieces t
+abbrev pub next_bytes : Option ℕ → Page → Setting → List ℕ
+next_bytes next p s = pieces_bytes (next_read next p).pieces s
 
 -- of some complaints the first are kept
 abbrev pub AreKept : Items Complaint → Bool → Type 0

@@ -2,7 +2,7 @@
 ghost use Rattle.std.specs.Prelude.{◌≡◌};
 ghost use Rattle.tbl_setting.specs.Drawing as specs;
 
-use tbl_layout::{Joints, Signs};
+use tbl_table::{Joints, Signs};
 use utf8_characters::Table;
 
 /// The bytes of three characters, if the table has them.

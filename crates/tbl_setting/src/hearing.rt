@@ -1,20 +1,20 @@
 //! What was read of a table is told to the one that holds it.
 ghost use Rattle.std.specs.Prelude.{◌≡◌};
-ghost use Rattle.tbl_layout.specs.Held.{emptied};
+ghost use Rattle.tbl_table.specs.Held.{emptied};
 ghost use Rattle.tbl_setting.specs.Hearing as specs;
 
-use tbl_layout::{self, Form, Looks, Stand, Table};
 use tbl_reader::{Call, Called, Frame, Mark, Options, Tell};
+use tbl_table::{self, Form, Kind, Looks, Stand, Table};
 
 /// A frame as the layout has it.
-fn frame_of(frame: Frame) -> tbl_layout::Frame
+fn frame_of(frame: Frame) -> tbl_table::Frame
     ensures { result ≡ specs.frame_of frame }
 {
     match frame {
-        Frame::Open => tbl_layout::Frame::Open,
-        Frame::Single => tbl_layout::Frame::Single,
-        Frame::All => tbl_layout::Frame::All,
-        Frame::Double => tbl_layout::Frame::Double,
+        Frame::Open => tbl_table::Frame::Open,
+        Frame::Single => tbl_table::Frame::Single,
+        Frame::All => tbl_table::Frame::All,
+        Frame::Double => tbl_table::Frame::Double,
     }
 }
 
@@ -27,6 +27,7 @@ pub(crate) fn looks_of(options: Options) -> Looks
         expand: options.expand,
         frame: frame_of(options.frame),
         nokeep: options.nokeep,
+        nofit: options.nofit,
     }
 }
 
@@ -50,7 +51,7 @@ fn tell_call(call: Call, table: &mut Table)
 {
     match call {
         Call::Nothing => {}
-        Call::Cell(kind, bars) => table.add_key(kind, bars),
+        Call::Cell(kind, bars) => table.add_key(Kind::of(kind), bars),
         Call::Bars(bars) => table.end_line(bars),
         Call::Font(letter) => table.set_font(letter),
         Call::Width => table.begin_width(),

@@ -1,17 +1,24 @@
-//! Pages with tables are turned: what tbl_reader reads is told to tbl_layout, and goes out.
+//! Pages with tables are turned: what tbl_reader reads is told to what holds it, and goes out.
 //!
-//! It stands on nr_units, nr_vectors, utf8_characters, tbl_layout and tbl_reader. To read: `drawing`, `hearing`, `press`,
-//! `turning`, `stepping`.
+//! It stands on nr_units, nr_vectors, utf8_characters, tbl_blocks, tbl_table, tbl_columns, tbl_drawing and tbl_reader. To read:
+//! `drawing`, `hearing`; `arguments`, `lengths`, `margins`, `requests`, `watching`; `setting`, `press`, `turning`, `stepping`.
 #![tactic(auto)]
 
+mod arguments;
 mod drawing;
 mod hearing;
+mod lengths;
+mod margins;
 mod press;
+mod requests;
+mod setting;
 mod stepping;
 mod turning;
+mod watching;
 
 pub use drawing::signs_of;
+pub use setting::Setting;
 pub use stepping::{Step, set_next};
-pub use tbl_layout::{Joints, Signs};
 pub use tbl_reader::{Complaint, Kind, Outcome};
+pub use tbl_table::{Joints, Signs};
 pub use turning::{Report, Rooms, convert};

@@ -1,23 +1,23 @@
 //! What was read is told to what holds a table, and goes out.
 ghost use Rattle.std.specs.Prelude.{◌≡◌, ◌++◌, [], ◌∷◌, true, false};
-ghost use Rattle.tbl_layout.specs.Pens.{Bytes};
-ghost use Rattle.tbl_layout.specs.Measured.{table_after, table_strokes};
-ghost use Rattle.tbl_layout.specs.Tapes.{Draws};
-ghost use Rattle.tbl_setting.specs.Hearing.{line_heard};
+ghost use Rattle.tbl_drawing.specs.Pens.{Bytes};
+ghost use Rattle.tbl_drawing.specs.Tapes.{Draws};
+ghost use Rattle.tbl_setting.specs.Held.{table_strokes};
 ghost use Rattle.tbl_setting.specs.Setting as specs;
 ghost use Rattle.tbl_setting.specs.Setting.{Becomes, EndsAs, IsSame, Notes, wrong_in};
 
-use super::hearing::{add_empty, end_line, form_of, looks_of, tell_called};
+use super::hearing::{end_line, form_of, looks_of, tell_called};
+use super::setting::Setting;
 use nr_units::sink::Sink;
 use nr_units::source::Fault;
 use nr_vectors::slice_vec::SliceVec;
-use tbl_layout::{Out, Table};
+use tbl_drawing::Out;
 use tbl_reader::{Complaint, Outcome, Setter, Tell};
 
-/// A table that is held, what goes out, and what is wrong.
+/// What is set, what goes out, and what is wrong.
 #[derive(Drop)]
 pub(crate) struct Press<'t, 'p, 'k, 'c, W: Sink> {
-    pub table: &'t mut Table,
+    pub setting: &'t mut Setting,
     pub out: Out<'p, W>,
     pub complaints: &'k mut SliceVec<'c, Complaint>,
     /// There were more complaints than there was room for.
@@ -27,32 +27,32 @@ pub(crate) struct Press<'t, 'p, 'k, 'c, W: Sink> {
 impl<'t, 'p, 'k, 'c, W: Sink> Press<'t, 'p, 'k, 'c, W> {
     /// The rows that were read go out, if they take all the room that there is.
     fn relieve(&mut self)
-        ensures draws { Draws self.old.out self.new.out (specs.relief self.old.table.now) }
-        ensures table { Becomes self.old.table self.new.table (specs.relieved self.old.table.now) }
+        ensures draws { Draws self.old.out self.new.out (specs.relief self.old.setting.now) }
+        ensures setting { Becomes self.old.setting self.new.setting (specs.relieved self.old.setting.now) }
         ensures complaints { IsSame self.old.complaints self.old.missed self.new.complaints self.new.missed }
     {
-        if self.table.is_tight() {
-            let _ = self.table.put_table(false, &mut self.out);
+        if self.setting.table().is_tight() {
+            self.setting.put_table(false, &mut self.out);
         }
     }
 
     /// A byte of a block. Where there is no room for it the row ends, and the block goes on in the next.
     fn add_block_byte(&mut self, byte: u8)
-        ensures draws { Draws self.old.out self.new.out (specs.room_strokes self.old.table.now) }
-        ensures table { Becomes self.old.table self.new.table (specs.block_byte byte self.old.table.now) }
+        ensures draws { Draws self.old.out self.new.out (specs.room_strokes self.old.setting.now) }
+        ensures setting { Becomes self.old.setting self.new.setting (specs.block_byte byte self.old.setting.now) }
         ensures complaints { IsSame self.old.complaints self.old.missed self.new.complaints self.new.missed }
     {
         self.make_room();
-        self.table.add_text(byte);
+        self.setting.add_byte(byte);
     }
 
     /// There is room for a byte of a block.
     fn make_room(&mut self)
-        ensures draws { Draws self.old.out self.new.out (specs.room_strokes self.old.table.now) }
-        ensures table { Becomes self.old.table self.new.table (specs.room_made self.old.table.now) }
+        ensures draws { Draws self.old.out self.new.out (specs.room_strokes self.old.setting.now) }
+        ensures setting { Becomes self.old.setting self.new.setting (specs.room_made self.old.setting.now) }
         ensures complaints { IsSame self.old.complaints self.old.missed self.new.complaints self.new.missed }
     {
-        if self.table.is_full() {
+        if self.setting.table().is_full() {
             self.divide_block();
         }
     }
@@ -60,23 +60,21 @@ impl<'t, 'p, 'k, 'c, W: Sink> Press<'t, 'p, 'k, 'c, W> {
     /// The row ends with what was read of a block, and goes out; the block goes on below it.
     fn divide_block(&mut self)
         ensures draws { Draws self.old.out self.new.out
-            (table_strokes false (specs.cut_off self.old.table.now)) }
-        ensures table { Becomes self.old.table self.new.table (specs.divided self.old.table.now) }
+            (table_strokes false (specs.cut_off self.old.setting.now)) }
+        ensures setting { Becomes self.old.setting self.new.setting (specs.divided self.old.setting.now) }
         ensures complaints { IsSame self.old.complaints self.old.missed self.new.complaints self.new.missed }
     {
-        let column = self.table.row_len();
-        self.table.block_ends();
-        self.table.end_row();
-        let _ = self.table.put_table(false, &mut self.out);
-        add_empty(column, self.table);
-        self.table.text_begins();
+        let column = self.setting.table().row_len();
+        self.setting.cut_off();
+        self.setting.put_table(false, &mut self.out);
+        self.setting.go_on(column);
     }
 
     /// A part of a block.
     fn add_block(&mut self, text: &[u8])
-        ensures draws { Draws self.old.out self.new.out (specs.block_strokes text.now self.old.table.now) }
-        ensures table { Becomes self.old.table self.new.table
-            (specs.block_added text.now self.old.table.now) }
+        ensures draws { Draws self.old.out self.new.out (specs.block_strokes text.now self.old.setting.now) }
+        ensures setting { Becomes self.old.setting self.new.setting
+            (specs.block_added text.now self.old.setting.now) }
         ensures complaints { IsSame self.old.complaints self.old.missed self.new.complaints self.new.missed }
     {
         for byte in text {
@@ -86,20 +84,20 @@ impl<'t, 'p, 'k, 'c, W: Sink> Press<'t, 'p, 'k, 'c, W> {
 
     /// The rows that were read go out, if there are some, and the table ends.
     fn ends_begun(&mut self)
-        ensures draws { Draws self.old.out self.new.out (specs.begun_strokes self.old.table.now) }
-        ensures table { Becomes self.old.table self.new.table (specs.begun_ended self.old.table.now) }
+        ensures draws { Draws self.old.out self.new.out (specs.begun_strokes self.old.setting.now) }
+        ensures setting { Becomes self.old.setting self.new.setting (specs.begun_ended self.old.setting.now) }
         ensures complaints { IsSame self.old.complaints self.old.missed self.new.complaints self.new.missed }
     {
-        if self.table.has_begun() {
-            let _ = self.table.put_table(true, &mut self.out);
+        if self.setting.layout.has_begun() {
+            self.setting.put_table(true, &mut self.out);
         }
     }
 
     /// The table isn't set further.
     fn stands(&mut self)
-        ensures draws { Draws self.old.out self.new.out (specs.begun_strokes self.old.table.now
+        ensures draws { Draws self.old.out self.new.out (specs.begun_strokes self.old.setting.now
             ++ Bytes specs.plain_begin ∷ []) }
-        ensures table { Becomes self.old.table self.new.table (specs.begun_ended self.old.table.now) }
+        ensures setting { Becomes self.old.setting self.new.setting (specs.begun_ended self.old.setting.now) }
         ensures complaints { IsSame self.old.complaints self.old.missed self.new.complaints self.new.missed }
     {
         self.ends_begun();
@@ -109,19 +107,19 @@ impl<'t, 'p, 'k, 'c, W: Sink> Press<'t, 'p, 'k, 'c, W> {
     /// A row has ended, a rule across the table, or a request.
     fn ends_line(&mut self, tell: Tell, text: &[u8])
         ensures draws { Draws self.old.out self.new.out
-            (specs.relief (line_heard tell text.now self.old.table.now)) }
-        ensures table { Becomes self.old.table self.new.table
-            (specs.relieved (line_heard tell text.now self.old.table.now)) }
+            (specs.relief (specs.line_set tell text.now self.old.setting.now)) }
+        ensures setting { Becomes self.old.setting self.new.setting
+            (specs.relieved (specs.line_set tell text.now self.old.setting.now)) }
         ensures complaints { IsSame self.old.complaints self.old.missed self.new.complaints self.new.missed }
     {
-        end_line(tell, text, self.table);
+        end_line(tell, text, &mut self.setting.layout.grid.table);
         self.relieve();
     }
 
     /// Something is wrong.
     fn note(&mut self, complaint: Complaint)
         ensures out { self.new.out ≡ self.old.out }
-        ensures table { self.new.table ≡ self.old.table }
+        ensures setting { self.new.setting ≡ self.old.setting }
         ensures notes { Notes self.old.complaints self.new.complaints self.old.missed self.new.missed
             (complaint ∷ []) }
     {
@@ -135,21 +133,22 @@ impl<'t, 'p, 'k, 'c, W: Sink> Press<'t, 'p, 'k, 'c, W> {
     /// What was read is set, or goes out.
     #[inline(always)]
     fn hear(&mut self, tell: Tell, text: &[u8])
-        ensures draws { Draws self.old.out self.new.out (specs.strokes_in tell text.now self.old.table.now) }
-        ensures table { Becomes self.old.table self.new.table
-            (specs.set_in tell text.now self.old.table.now) }
+        ensures draws { Draws self.old.out self.new.out (specs.strokes_in tell text.now self.old.setting.now) }
+        ensures setting { Becomes self.old.setting self.new.setting
+            (specs.set_in tell text.now self.old.setting.now) }
         ensures notes { Notes self.old.complaints self.new.complaints self.old.missed self.new.missed
             (wrong_in tell) }
     {
         match tell {
             Tell::Pass => {
+                self.setting.hear(text);
                 let _ = self.out.put(text);
             }
             Tell::PlainEnd => {
                 let _ = self.out.put(b".if \\n(*u .fi\n");
             }
             Tell::TableEnd => {
-                let _ = self.table.put_table(true, &mut self.out);
+                self.setting.put_table(true, &mut self.out);
             }
             Tell::Plain => self.stands(),
             Tell::Row => self.ends_line(tell, text),
@@ -157,22 +156,22 @@ impl<'t, 'p, 'k, 'c, W: Sink> Press<'t, 'p, 'k, 'c, W> {
             Tell::Request => self.ends_line(tell, text),
             Tell::BlockText => self.add_block(text),
             Tell::Wrong(complaint) => self.note(complaint),
-            Tell::Table => self.table.begin(),
-            Tell::Options(options) => self.table.set_looks(looks_of(options)),
-            Tell::Formats => self.table.formats_begin(),
-            Tell::Format(called) => tell_called(called, self.table),
-            Tell::FormatsEnd => self.table.formats_end(),
-            Tell::Field(front) => self.table.add_field(text, front),
-            Tell::Mark(mark) => self.table.add_mark(form_of(mark)),
-            Tell::Block => self.table.text_begins(),
-            Tell::BlockEnd => self.table.block_ends(),
+            Tell::Table => self.setting.begin_table(),
+            Tell::Options(options) => self.setting.layout.grid.table.set_looks(looks_of(options)),
+            Tell::Formats => self.setting.layout.grid.table.formats_begin(),
+            Tell::Format(called) => tell_called(called, &mut self.setting.layout.grid.table),
+            Tell::FormatsEnd => self.setting.layout.grid.table.formats_end(),
+            Tell::Field(front) => self.setting.layout.grid.table.add_field(text, front),
+            Tell::Mark(mark) => self.setting.layout.grid.table.add_mark(form_of(mark)),
+            Tell::Block => self.setting.layout.grid.table.text_begins(),
+            Tell::BlockEnd => self.setting.layout.grid.table.block_ends(),
         }
     }
 
     /// All that waits goes out, and the run has ended so.
     pub(crate) fn ends(&mut self, outcome: Outcome) -> Outcome
         ensures draws { Draws self.old.out self.new.out (Bytes [] ∷ []) }
-        ensures table { self.new.table ≡ self.old.table }
+        ensures setting { self.new.setting ≡ self.old.setting }
         ensures ends { EndsAs outcome result self.new.out }
         ensures complaints { IsSame self.old.complaints self.old.missed self.new.complaints self.new.missed }
     {
@@ -188,7 +187,7 @@ impl<'t, 'p, 'k, 'c, W: Sink> Setter for Press<'t, 'p, 'k, 'c, W> {
 
     ghost Shown = { Shown };
 
-    ghost shows = { λ p s. Shows p.out p.table p.complaints p.missed s };
+    ghost shows = { λ p s. Shows p.out p.setting p.complaints p.missed s };
 
     ghost hears = { hears };
 

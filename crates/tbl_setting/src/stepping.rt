@@ -1,15 +1,16 @@
 //! A page is turned a byte at a time.
 ghost use Rattle.std.specs.Prelude.{◌≡◌, ◌+◌, ◌^◌, ◌<◌};
-ghost use Rattle.tbl_layout.specs.Held.{emptied};
 ghost use Rattle.tbl_reader.specs.Ending.{GoesOn, next_read};
 ghost use Rattle.tbl_reader.specs.Reading.{Fits};
+ghost use Rattle.tbl_setting.specs.Held.{emptied};
 ghost use Rattle.tbl_setting.specs.Setting.{KeepsMore, first_tape, set, wrongs};
 ghost use Rattle.tbl_setting.specs.Stepping as specs;
 
 use super::press::Press;
+use super::setting::Setting;
 use nr_units::sink::Sink;
 use nr_vectors::slice_vec::SliceVec;
-use tbl_layout::{Out, Table};
+use tbl_drawing::Out;
 use tbl_reader::{Complaint, Outcome, Reader};
 
 /// What is left of a step.
@@ -33,10 +34,10 @@ fn read_and_set<W: Sink>(
     requires kept { specs.AreKept press.old.complaints.now press.old.missed }
     ensures page { reader.new ≡ (next_read next reader.old).page }
     ensures goes_on { GoesOn next reader.old reader.new }
-    ensures table { press.new.table.now ≡ set (next_read next reader.old).pieces press.old.table.now }
-    ensures table_same { press.new.table.ghost_name ≡ press.old.table.ghost_name }
-    ensures table_room { emptied press.new.table.now ≡ emptied press.old.table.now }
-    ensures sent { specs.Sent (specs.next_bytes next reader.old press.old.table.now) press.old.out.held
+    ensures setting { press.new.setting.now ≡ set (next_read next reader.old).pieces press.old.setting.now }
+    ensures setting_same { press.new.setting.ghost_name ≡ press.old.setting.ghost_name }
+    ensures setting_room { emptied press.new.setting.now ≡ emptied press.old.setting.now }
+    ensures sent { specs.Sent (specs.next_bytes next reader.old press.old.setting.now) press.old.out.held
         press.new.out.held press.old.out.failures press.new.out.failures }
     ensures keeps { KeepsMore press.old.complaints.now press.old.missed press.new.complaints.now press.new.missed
         (wrongs (next_read next reader.old).pieces) }
@@ -51,7 +52,7 @@ fn read_and_set<W: Sink>(
 /// is put to the output. Once that fails nothing more of it is put.
 pub fn set_next<W: Sink>(
     reader: &mut Reader,
-    table: &mut Table,
+    setting: &mut Setting,
     next: Option<u8>,
     out: Out<'_, W>,
     complaints: &mut SliceVec<'_, Complaint>,
@@ -63,16 +64,16 @@ pub fn set_next<W: Sink>(
     requires kept { specs.AreKept complaints.old missed }
     ensures page { reader.new ≡ (next_read next reader.old).page }
     ensures goes_on { GoesOn next reader.old reader.new }
-    ensures table { table.new ≡ set (next_read next reader.old).pieces table.old }
-    ensures table_room { emptied table.new ≡ emptied table.old }
-    ensures sent { specs.Sent (specs.next_bytes next reader.old table.old) out.entry.held (W.held result.output)
+    ensures setting { setting.new ≡ set (next_read next reader.old).pieces setting.old }
+    ensures setting_room { emptied setting.new ≡ emptied setting.old }
+    ensures sent { specs.Sent (specs.next_bytes next reader.old setting.old) out.entry.held (W.held result.output)
         out.entry.failures (W.failures result.output) }
     ensures keeps { KeepsMore complaints.old missed complaints.new result.missed
         (wrongs (next_read next reader.old).pieces) }
     ensures room { complaints.new.capacity ≡ complaints.old.capacity }
 {
     let mut press = Press {
-        table,
+        setting,
         out,
         complaints,
         missed,
@@ -80,7 +81,7 @@ pub fn set_next<W: Sink>(
     read_and_set(reader, next, &mut press);
     let missed = press.missed;
     let Press {
-        table: _table,
+        setting: _setting,
         out,
         complaints: _complaints,
         missed: _,

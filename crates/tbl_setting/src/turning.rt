@@ -1,22 +1,25 @@
 //! A whole page is turned.
-ghost use Rattle.std.specs.Prelude.{◌≡◌, ◌+◌, [], false, IfOk, min};
+ghost use Rattle.std.specs.Prelude.{◌≡◌, ◌+◌, [], true, false, IfOk, min};
 ghost use Rattle.tbl_setting.specs.Drawing.{signs_of};
 ghost use Rattle.tbl_setting.specs.Running as specs;
-ghost use Rattle.tbl_setting.specs.Setting.{first_tape, page_table};
-ghost use Rattle.tbl_layout.specs.Held.{emptied};
+ghost use Rattle.tbl_setting.specs.Bounds.{page_setting};
+ghost use Rattle.tbl_setting.specs.Held.{emptied};
+ghost use Rattle.tbl_setting.specs.Setting.{first_tape};
 ghost use Rattle.tbl_reader.specs.Running.{TellsReads, is_write_fault};
 ghost use Rattle.nr_units.specs.Failures.{put_counted_if};
 
 use super::drawing::signs_of;
 use super::press::Press;
+use super::setting::Setting;
 use nr_units::sink::Sink;
 use nr_units::source::Source;
 use nr_vectors::slice_vec::SliceVec;
 use nr_vectors::{CountedAlloc, FixedVec};
 use std::alloc::AllocError;
 use std::marker::Model;
-use tbl_layout::{Out, Signs, Table};
+use tbl_drawing::Out;
 use tbl_reader::{Complaint, Limits, Outcome, Reader, read_page};
+use tbl_table::Signs;
 use utf8_characters::Table as Characters;
 
 /// The bytes that wait to go out at most.
@@ -39,7 +42,7 @@ pub struct Report {
 /// The memory that texts are turned in, taken once.
 pub struct Rooms {
     reader: Reader,
-    table: Table,
+    setting: Setting,
     pending: FixedVec<u8>,
 }
 
@@ -48,7 +51,7 @@ impl Drop for Rooms {
     fn drop(self) {
         let Rooms {
             reader: _,
-            table: _,
+            setting: _,
             pending: _,
         } = self;
     }
@@ -56,19 +59,15 @@ impl Drop for Rooms {
 
 impl Model for Rooms {
     ghost use Rattle.std.specs.Prelude.{◌≡◌};
-    ghost use Rattle.tbl_layout.specs.Held.{emptied};
-    ghost use Rattle.tbl_setting.specs.Running.{Bounds};
-    ghost use Rattle.tbl_setting.specs.Setting.{page_table};
+    ghost use Rattle.tbl_setting.specs.Bounds.{Bounds, page_setting};
+    ghost use Rattle.tbl_setting.specs.Held.{emptied};
+    ghost use Rattle.tbl_setting.specs.Running.{bounds_in};
 
     ghost Value = { Bounds };
 
-    ghost view = { λ r. record {
-      signs = r.table.signs;
-      limits = r.reader.limits;
-      cells = r.reader.state.measure.line;
-    } };
+    ghost view = { λ r. bounds_in r.reader r.setting };
 
-    ghost invariant = { λ r. emptied r.table ≡ page_table r.table.signs r.reader.limits };
+    ghost invariant = { λ r. emptied r.setting ≡ page_setting (bounds_in r.reader r.setting) };
 }
 
 impl Rooms {
@@ -88,6 +87,7 @@ impl Rooms {
         ensures table { IfOk result (λ made. made.limits.formats ≡ min table 18446744073709551614) }
         ensures row { IfOk result (λ made. made.limits.row ≡ min row 18446744073709551614) }
         ensures cells { IfOk result (λ made. made.cells ≡ cells) }
+        ensures fits { IfOk result (λ made. made.fits ≡ true) }
         ensures taken { IfOk result (λ made. alloc.new ≡ alloc.old + specs.memory_of made.limits) }
     {
         Rooms::drawn_with(alloc, table, row, cells, signs_of(characters))
@@ -105,6 +105,7 @@ impl Rooms {
         ensures table { IfOk result (λ made. made.limits.formats ≡ min table 18446744073709551614) }
         ensures row { IfOk result (λ made. made.limits.row ≡ min row 18446744073709551614) }
         ensures cells { IfOk result (λ made. made.cells ≡ cells) }
+        ensures fits { IfOk result (λ made. made.fits ≡ true) }
         ensures taken { IfOk result (λ made. alloc.new ≡ alloc.old + specs.memory_of made.limits) }
     {
         let limits = Limits {
@@ -114,8 +115,15 @@ impl Rooms {
         Ok(Rooms {
             pending: FixedVec::new(alloc, PENDING)?,
             reader: Reader::new(alloc, limits, cells)?,
-            table: Table::new(alloc, limits.formats, limits.row, signs)?,
+            setting: Setting::new(alloc, limits.formats, limits.row, signs, cells)?,
         })
+    }
+
+    /// Tables of manual pages that are wider than the line are narrowed, or stay as they are.
+    pub fn set_fits(&mut self, fits: bool)
+        ensures { self.new ≡ specs.with_fits fits self.old }
+    {
+        self.setting.set_fits(fits);
     }
 }
 
@@ -125,15 +133,14 @@ fn run<R: Source, W: Sink>(
     input: &mut R,
     press: &mut Press<'_, '_, '_, '_, W>,
 ) -> Outcome
-    requires table { press.old.table.now ≡ page_table press.old.table.now.signs reader.old.limits }
+    requires setting { press.old.setting.now ≡ page_setting (specs.bounds_in reader.old press.old.setting.now) }
     requires tape { press.old.out ≡ first_tape press.old.out.held press.old.out.failures }
     requires empty { press.old.complaints.now.items ≡ [] }
     requires missed { press.old.missed ≡ false }
-    ensures ran { specs.Ran press.old.table.now.signs reader.old.limits reader.old.state.measure.line
-        (R.supply input.old) (R.supply input.new) press.old.out.held press.new.out.held
-        press.new.complaints.now press.new.missed press.new.table.now.uneven result }
-    ensures table_same { press.new.table.ghost_name ≡ press.old.table.ghost_name }
-    ensures table_room { emptied press.new.table.now ≡ emptied press.old.table.now }
+    ensures ran { specs.Ran (specs.bounds_in reader.old press.old.setting.now) (R.supply input.old) (R.supply input.new)
+        press.old.out.held press.new.out.held press.new.complaints.now press.new.missed press.new.setting.now.layout.uneven result }
+    ensures setting_same { press.new.setting.ghost_name ≡ press.old.setting.ghost_name }
+    ensures setting_room { emptied press.new.setting.now ≡ emptied press.old.setting.now }
     ensures same { press.new.complaints.ghost_name ≡ press.old.complaints.ghost_name }
     ensures room { press.new.complaints.now.capacity ≡ press.old.complaints.now.capacity }
     ensures read_faults { TellsReads result (R.failures input.old) (R.failures input.new) }
@@ -157,17 +164,16 @@ struct Turned<W> {
 fn turn<R: Source, W: Sink>(
     reader: &mut Reader,
     input: &mut R,
-    table: &mut Table,
+    setting: &mut Setting,
     out: Out<'_, W>,
     complaints: &mut SliceVec<'_, Complaint>,
 ) -> Turned<W>
-    requires table { table.old ≡ page_table table.old.signs reader.old.limits }
+    requires setting { setting.old ≡ page_setting (specs.bounds_in reader.old setting.old) }
     requires tape { out ≡ first_tape out.held out.failures }
     requires empty { complaints.old.items ≡ [] }
-    ensures ran { specs.Ran table.old.signs reader.old.limits reader.old.state.measure.line
-        (R.supply input.old) (R.supply input.new) out.entry.held (W.held result.output) complaints.new
-        result.missed table.new.uneven result.outcome }
-    ensures table_room { emptied table.new ≡ emptied table.old }
+    ensures ran { specs.Ran (specs.bounds_in reader.old setting.old) (R.supply input.old) (R.supply input.new)
+        out.entry.held (W.held result.output) complaints.new result.missed setting.new.layout.uneven result.outcome }
+    ensures setting_room { emptied setting.new ≡ emptied setting.old }
     ensures room { complaints.new.capacity ≡ complaints.old.capacity }
     ensures read_faults { TellsReads result.outcome (R.failures input.old) (R.failures input.new) }
     ensures write_faults { W.failures result.output ≡ put_counted_if (is_write_fault result.outcome)
@@ -176,7 +182,7 @@ fn turn<R: Source, W: Sink>(
     ensures line { reader.new.state.measure.line ≡ reader.old.state.measure.line }
 {
     let mut press = Press {
-        table,
+        setting,
         out,
         complaints,
         missed: false,
@@ -184,7 +190,7 @@ fn turn<R: Source, W: Sink>(
     let outcome = run(reader, input, &mut press);
     let missed = press.missed;
     let Press {
-        table: _table,
+        setting: _setting,
         out,
         complaints: _complaints,
         missed: _,
@@ -196,14 +202,15 @@ fn turn<R: Source, W: Sink>(
     }
 }
 
-/// Turns the tables of what the input gives into lines of text, or into requests where only the formatter knows a width,
-/// and puts it to the output, which is not flushed, and comes back. Nothing is allocated.
+/// Turns the tables of what the input gives into lines of text, and puts it to the output, which is not flushed, and comes back.
+/// Nothing is allocated.
 ///
 /// Proved: What `convert` puts out is one function of the bytes that came, of what frames are drawn with, of the two
-/// limits and of the line's length, however the bytes came: `set_page`, the bytes of the strokes that the page's
-/// pieces draw, one after the other, each from the table that those before it left, the first from one that holds
-/// nothing. At a read fault, and where the input is too long, it is what the bytes before come to, but for what is
-/// half read; at a write fault a prefix of it went out.
+/// limits, of the line's length, and of whether tables of manual pages are narrowed, however the bytes came: `set_page`,
+/// the bytes of the strokes that the page's pieces draw, one after the other, each from the table that those before it
+/// left and what they said of the page, the first from a table that holds nothing. At a read fault, and where the input
+/// is too long, it is what the bytes before come to, but for what is half read; at a write fault a prefix of it went
+/// out.
 /// Proved: The complaints that are kept are the first of the definition's for the bytes that came, each with its
 /// line, in input order, as many as there is room for. That there were more is reported exactly then. If the run is
 /// done those of the end are among them; at a write fault they may be.
@@ -217,9 +224,8 @@ pub fn convert<R: Source, W: Sink>(
     rooms: &mut Rooms,
     complaints: &mut SliceVec<'_, Complaint>,
 ) -> (Report, W)
-    ensures ran { specs.Ran rooms.old.signs rooms.old.limits rooms.old.cells (R.supply input.old)
-        (R.supply input.new) (W.held output) (W.held result.1) complaints.new result.0.missed
-        result.0.uneven result.0.outcome }
+    ensures ran { specs.Ran rooms.old (R.supply input.old) (R.supply input.new) (W.held output) (W.held result.1)
+        complaints.new result.0.missed result.0.uneven result.0.outcome }
     // A read fault is reported only where the source failed once, and then always, but where the output fails too.
     ensures read_faults { TellsReads result.0.outcome (R.failures input.old) (R.failures input.new) }
     // A write fault is reported where a call of the sink failed, and else none did.
@@ -230,18 +236,24 @@ pub fn convert<R: Source, W: Sink>(
     ensures same { rooms.new ≡ rooms.old }
 {
     rooms.pending.clear();
-    rooms.table.begin_page();
+    rooms.setting.begin_page();
     complaints.clear();
     let out = Out::over(&mut rooms.pending, output);
     let Turned {
         outcome,
         missed,
         output,
-    } = turn(&mut rooms.reader, input, &mut rooms.table, out, complaints);
+    } = turn(
+        &mut rooms.reader,
+        input,
+        &mut rooms.setting,
+        out,
+        complaints,
+    );
     let report = Report {
         outcome,
         missed,
-        uneven: rooms.table.is_uneven(),
+        uneven: rooms.setting.is_uneven(),
     };
     (report, output)
 }

@@ -3,5 +3,6 @@ pub mod Filled
 pub mod Pages
 pub mod Parts
 pub mod Pens
+pub mod Staying
 pub mod Texts
 pub mod Turns

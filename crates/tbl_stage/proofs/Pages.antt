@@ -11,10 +11,10 @@ use Rattle.tbl_stage.proofs.Pens.{pieces_then}
 
 -- what these bytes and the end come to, and these bytes alone
 whole_of : List ℕ → Held → List ℕ
-whole_of bytes h = pieces_bytes (and_then (fed bytes h.page) finished).pieces h.table
+whole_of bytes h = pieces_bytes (and_then (fed bytes h.page) finished).pieces h.setting
 
 so_far_of : List ℕ → Held → List ℕ
-so_far_of bytes h = pieces_bytes (fed bytes h.page).pieces h.table
+so_far_of bytes h = pieces_bytes (fed bytes h.page).pieces h.setting
 
 whole_more : (b : ℕ) (bs : List ℕ) (h : Held) → whole_of (b ∷ bs) h ≡ bytes_for (Some b) h ++ whole_of bs (after_byte b h)
 unfolding whole_of
@@ -22,14 +22,14 @@ whole_more b bs h =
     let e = read b h.page in
     let f = fed bs e.page in
     let g = finished f.page in
-    ap (λ (ps : List Piece). pieces_bytes ps h.table) (append_assoc e.pieces f.pieces g.pieces)
-    ∙ pieces_then e.pieces (f.pieces ++ g.pieces) h.table
+    ap (λ (ps : List Piece). pieces_bytes ps h.setting) (append_assoc e.pieces f.pieces g.pieces)
+    ∙ pieces_then e.pieces (f.pieces ++ g.pieces) h.setting
 
 so_far_more : (b : ℕ) (bs : List ℕ) (h : Held) → so_far_of (b ∷ bs) h ≡ bytes_for (Some b) h ++ so_far_of bs (after_byte b h)
 unfolding so_far_of
 so_far_more b bs h =
     let e = read b h.page in
-    pieces_then e.pieces (fed bs e.page).pieces h.table
+    pieces_then e.pieces (fed bs e.page).pieces h.setting
 
 first_of : (a b : Bool) → (a && b) ≡ true → a ≡ true
 first_of true b all = refl
@@ -66,11 +66,11 @@ said_so_far most (b ∷ bs) h all =
 
 pub turns_whole : TurnsWhole
 unfolding whole_of
-turns_whole most g l cells bytes all = said_whole most bytes (first_held g l cells) all
+turns_whole most b bytes all = said_whole most bytes (first_held b) all
 
 pub turns_so_far : TurnsSoFar
 unfolding so_far_of
-turns_so_far most g l cells bytes all = said_so_far most bytes (first_held g l cells) all
+turns_so_far most b bytes all = said_so_far most bytes (first_held b) all
 
 -- ---- and else
 
@@ -100,4 +100,4 @@ said_front most (b ∷ bs) h = front_more most b bs h (has_room most (Some b) h)
 
 pub turns_front : TurnsFront
 unfolding whole_of
-turns_front most g l cells bytes = said_front most bytes (first_held g l cells)
+turns_front most b bytes = said_front most bytes (first_held b)

@@ -2,15 +2,16 @@
 use Rattle.std.proofs.Common.{◌≡◌, ℕ, suc, ◌+◌, ◌<◌, ◌≤◌, List, [], ◌∷◌, ◌++◌, length, Bool, true, false, not, ◌&&◌, nat_le, nat_lt, Option, None, Some, if◌then◌else◌, refl, sym, ap, subst, ◌∙◌, append_assoc, append-nil, length-append, arith, inl, inr}
 use Rattle.std.proofs.lemmas.Bool.Decides.{nat_tests}
 use Rattle.document_stages.specs.Pulling.{SaysNothing}
-use Rattle.tbl_layout.specs.declared.table.Table.{Table}
-use Rattle.tbl_layout.specs.Pens.{first}
+use Rattle.tbl_drawing.specs.Pens.{first}
 use Rattle.tbl_reader.specs.declared.telling.Tell.TheVariants as tells
 use Rattle.tbl_reader.specs.Pages.{Page, Effect, effect}
 use Rattle.tbl_reader.specs.Reading.{read, fed}
 use Rattle.tbl_reader.specs.Telling.{each}
+use Rattle.tbl_setting.specs.declared.setting.Setting.{Setting}
+use Rattle.tbl_setting.specs.Held.{page_heard}
 use Rattle.tbl_setting.specs.Setting.{set}
 use Rattle.tbl_setting.specs.Stepping.{pieces_bytes}
-use Rattle.tbl_setting.proofs.Setting.{pass-bytes, pass-set, set-append}
+use Rattle.tbl_setting.proofs.Pieces.{pass-bytes, pass-set, set-append}
 use Rattle.tbl_stage.specs.Filling.{Fills}
 use Rattle.tbl_stage.specs.Staged.{Held, Stepped, Turned, IsAfter, after, after_byte, bytes_for, has_all, has_room, said}
 use Rattle.tbl_stage.proofs.Pens.{pieces_then}
@@ -90,8 +91,8 @@ then_turned most b bs h k items room t = record {
 }
 
 -- bytes that come to no more together than may go out at once
-pub fed_turned : (most : ℕ) (xs : List ℕ) (h : Held) → h.is_full ≡ false → length (pieces_bytes (fed xs h.page).pieces h.table) ≤ most
-    → h.taken + length xs ≤ 1099511627776 → Turned most h (after (fed xs h.page) (length xs) h) xs (pieces_bytes (fed xs h.page).pieces h.table)
+pub fed_turned : (most : ℕ) (xs : List ℕ) (h : Held) → h.is_full ≡ false → length (pieces_bytes (fed xs h.page).pieces h.setting) ≤ most
+    → h.taken + length xs ≤ 1099511627776 → Turned most h (after (fed xs h.page) (length xs) h) xs (pieces_bytes (fed xs h.page).pieces h.setting)
 fed_turned most [] h live room few =
     let same : h.taken + 0 ≡ h.taken = omega arith in
     subst (λ (n : ℕ). Turned most h (record h { taken = n }) [] []) (sym same) (record { says = λ ends rest. refl; fits = λ rest. refl })
@@ -99,40 +100,41 @@ fed_turned most (b ∷ bs) h live room few =
     let e = read b h.page in
     let k = after_byte b h in
     let f = fed bs e.page in
-    let here = pieces_bytes e.pieces h.table in
-    let there = pieces_bytes f.pieces k.table in
-    let split : pieces_bytes (e.pieces ++ f.pieces) h.table ≡ here ++ there = pieces_then e.pieces f.pieces h.table in
+    let here = pieces_bytes e.pieces h.setting in
+    let there = pieces_bytes f.pieces k.setting in
+    let split : pieces_bytes (e.pieces ++ f.pieces) h.setting ≡ here ++ there = pieces_then e.pieces f.pieces h.setting in
     let within : length (here ++ there) ≤ most = subst (λ (l : List ℕ). length l ≤ most) split room in
     let all : Turned most h (after f (length bs) k) (b ∷ bs) (here ++ there) =
     then_turned most b bs h (after f (length bs) k) there
     (has_room_for most (Some b) h live (short here there most within) (few_taken h.taken (length bs) few))
     (fed_turned most bs k live (rest_short here there most within) (omega (arith, few))) in
     let count : (h.taken + 1) + length bs ≡ h.taken + suc (length bs) = omega arith in
-    let table : set f.pieces k.table ≡ set (e.pieces ++ f.pieces) h.table = sym (set-append e.pieces f.pieces h.table) in
+    let setting : set f.pieces k.setting ≡ set (e.pieces ++ f.pieces) h.setting = sym (set-append e.pieces f.pieces h.setting) in
     let last : after f (length bs) k ≡ after (fed (b ∷ bs) h.page) (length (b ∷ bs)) h =
-    ap (λ (n : ℕ). record h { page = f.page; table = set f.pieces k.table; taken = n }) count
-    ∙ ap (λ (t : Table). record h { page = f.page; table = t; taken = h.taken + suc (length bs) }) table in
+    ap (λ (n : ℕ). record h { page = f.page; setting = set f.pieces k.setting; taken = n }) count
+    ∙ ap (λ (t : Setting). record h { page = f.page; setting = t; taken = h.taken + suc (length bs) }) setting in
     subst (λ (l : List ℕ). Turned most h (after (fed (b ∷ bs) h.page) (length (b ∷ bs)) h) (b ∷ bs) l) (sym split)
     (subst (λ (z : Held). Turned most h z (b ∷ bs) (here ++ there)) last all)
 
 -- as an effect that is known
-fed_so : (most : ℕ) (xs : List ℕ) (h : Held) (e : Effect) → fed xs h.page ≡ e → h.is_full ≡ false → length (pieces_bytes e.pieces h.table) ≤ most
-    → h.taken + length xs ≤ 1099511627776 → Turned most h (after e (length xs) h) xs (pieces_bytes e.pieces h.table)
+fed_so : (most : ℕ) (xs : List ℕ) (h : Held) (e : Effect) → fed xs h.page ≡ e → h.is_full ≡ false → length (pieces_bytes e.pieces h.setting) ≤ most
+    → h.taken + length xs ≤ 1099511627776 → Turned most h (after e (length xs) h) xs (pieces_bytes e.pieces h.setting)
 fed_so most xs h e is live room few =
-    subst (λ (x : Effect). Turned most h (after x (length xs) h) xs (pieces_bytes x.pieces h.table)) is
-    (fed_turned most xs h live (subst (λ (x : Effect). length (pieces_bytes x.pieces h.table) ≤ most) (sym is) room) few)
+    subst (λ (x : Effect). Turned most h (after x (length xs) h) xs (pieces_bytes x.pieces h.setting)) is
+    (fed_turned most xs h live (subst (λ (x : Effect). length (pieces_bytes x.pieces h.setting) ≤ most) (sym is) room) few)
 
-pub passed_bytes : (xs : List ℕ) (t : Table) → pieces_bytes (each tells.Pass xs) t ≡ xs
+pub passed_bytes : (xs : List ℕ) (t : Setting) → pieces_bytes (each tells.Pass xs) t ≡ xs
 passed_bytes xs t = pass-bytes xs t first ∙ append-nil xs
 
 -- bytes that pass
 pub passing_turned : (most : ℕ) (xs : List ℕ) (h : Held) (p : Page) (n : ℕ) → fed xs h.page ≡ effect p (each tells.Pass xs) → h.is_full ≡ false → length xs ≤ most
-    → length xs ≡ n → h.taken + n ≤ 1099511627776 → Turned most h (record h { page = p; taken = h.taken + n }) xs xs
+    → length xs ≡ n → h.taken + n ≤ 1099511627776
+    → Turned most h (record h { page = p; setting = page_heard xs h.setting; taken = h.taken + n }) xs xs
 passing_turned most xs h p n is live room count few =
-    let out = passed_bytes xs h.table in
+    let out = passed_bytes xs h.setting in
     let t = fed_so most xs h (effect p (each tells.Pass xs)) is live (subst (λ (l : List ℕ). length l ≤ most) (sym out) room) (omega (arith, few, count)) in
-    subst (λ (m : ℕ). Turned most h (record h { page = p; taken = h.taken + m }) xs xs) count
-    (subst (λ (u : Table). Turned most h (record h { page = p; table = u; taken = h.taken + length xs }) xs xs) (pass-set xs h.table)
+    subst (λ (m : ℕ). Turned most h (record h { page = p; setting = page_heard xs h.setting; taken = h.taken + m }) xs xs) count
+    (subst (λ (u : Setting). Turned most h (record h { page = p; setting = u; taken = h.taken + length xs }) xs xs) (pass-set xs h.setting)
     (subst (λ (l : List ℕ). Turned most h (after (effect p (each tells.Pass xs)) (length xs) h) xs l) out t))
 
 -- bytes that are kept

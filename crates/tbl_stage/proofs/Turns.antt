@@ -2,13 +2,14 @@
 use Rattle.std.proofs.Common.{◌≡◌, ℕ, ◌+◌, ◌<◌, ◌≤◌, List, [], ◌∷◌, ◌++◌, length, take, get_or, Bool, true, false, not, Option, None, Some, refl, sym, ap, subst, ◌∙◌, arith}
 use Rattle.std.proofs.lemmas.List.{length-take, take-take}
 use Rattle.std.specs.Option.{is_some}
-use Rattle.tbl_layout.specs.declared.table.Table.{Table}
 use Rattle.tbl_reader.specs.declared.telling.Tell.TheVariants as tells
 use Rattle.tbl_reader.specs.Pages.{Page, effect}
 use Rattle.tbl_reader.specs.Ending.{GoesOn, next_read}
 use Rattle.tbl_reader.specs.Quiet.{Stays}
 use Rattle.tbl_reader.specs.Reading.{fed}
 use Rattle.tbl_reader.specs.Telling.{each}
+use Rattle.tbl_setting.specs.declared.setting.Setting.{Setting}
+use Rattle.tbl_setting.specs.Held.{page_heard}
 use Rattle.tbl_setting.specs.Setting.{set}
 use Rattle.tbl_stage.specs.Rooms.{Room}
 use Rattle.tbl_stage.specs.Staged.{Held, IsAfter, Stands, Stepped, Turned, has_all, held_in, said}
@@ -34,40 +35,40 @@ moved most h k k' bytes bytes' items items' t held came went =
     (subst (λ (l : List ℕ). Turned most h k' l items) came
     (subst (λ (z : Held). Turned most h z bytes items) held t))
 
-held_so : (p : Page) (t t' : Table) (n n' : ℕ) (f f' : Bool) → t' ≡ t → n' ≡ n → f' ≡ f → held_in (record { page = p; table = t }) n f ≡ held_in (record { page = p; table = t' }) n' f'
-held_so p t t' n n' f f' table count full =
-    ap (λ (u : Table). held_in (record { page = p; table = u }) n f) (sym table)
-    ∙ ap (λ (m : ℕ). held_in (record { page = p; table = t' }) m f) (sym count)
-    ∙ ap (λ (b : Bool). held_in (record { page = p; table = t' }) n' b) (sym full)
+held_so : (p : Page) (s s' : Setting) (n n' : ℕ) (f f' : Bool) → s' ≡ s → n' ≡ n → f' ≡ f → held_in (record { page = p; setting = s }) n f ≡ held_in (record { page = p; setting = s' }) n' f'
+held_so p s s' n n' f f' setting count full =
+    ap (λ (u : Setting). held_in (record { page = p; setting = u }) n f) (sym setting)
+    ∙ ap (λ (m : ℕ). held_in (record { page = p; setting = s' }) m f) (sym count)
+    ∙ ap (λ (b : Bool). held_in (record { page = p; setting = s' }) n' b) (sym full)
 
 -- bytes that pass
 pub passing_so : (most n len : ℕ) (bytes items : List ℕ) (r r' : Room) (taken taken' : ℕ) (full full' : Bool)
-    → fed (take n (take len bytes)) r.page ≡ effect r'.page (each tells.Pass (take n (take len bytes))) → r'.table ≡ r.table → full ≡ false → full' ≡ full
+    → fed (take n (take len bytes)) r.page ≡ effect r'.page (each tells.Pass (take n (take len bytes))) → r'.setting ≡ page_heard (take n (take len bytes)) r.setting → full ≡ false → full' ≡ full
     → n ≤ length (take len bytes) → len ≤ most → taken' ≡ taken + n → taken + len ≤ 1099511627776 → items ≡ take n bytes
     → Turned most (held_in r taken full) (held_in r' taken' full') (take n bytes) items
-passing_so most n len bytes items r r' taken taken' full full' is table live full_is within short count few went =
+passing_so most n len bytes items r r' taken taken' full full' is setting live full_is within short count few went =
     let xs = take n (take len bytes) in
     let so : length xs ≡ n = count_of n len bytes within in
     let most_n : n ≤ len = few_of n len bytes within in
     let h : Held = held_in r taken full in
-    moved most h (record h { page = r'.page; taken = taken + n }) (held_in r' taken' full') xs (take n bytes) xs items
+    moved most h (record h { page = r'.page; setting = page_heard xs r.setting; taken = taken + n }) (held_in r' taken' full') xs (take n bytes) xs items
     (passing_turned most xs h r'.page n is live (omega (arith, so, most_n, short)) so (omega (arith, most_n, few)))
-    (held_so r'.page r.table r'.table (taken + n) taken' full full' table count full_is)
+    (held_so r'.page (page_heard xs r.setting) r'.setting (taken + n) taken' full full' setting count full_is)
     (part n len bytes most_n) (part n len bytes most_n ∙ sym went)
 
 -- bytes that are kept
 pub kept_so : (most n len : ℕ) (bytes : List ℕ) (r r' : Room) (taken taken' : ℕ) (full full' : Bool)
-    → fed (take n (take len bytes)) r.page ≡ effect r'.page [] → r'.table ≡ r.table → full ≡ false → full' ≡ full
+    → fed (take n (take len bytes)) r.page ≡ effect r'.page [] → r'.setting ≡ r.setting → full ≡ false → full' ≡ full
     → n ≤ length (take len bytes) → taken' ≡ taken + n → taken + len ≤ 1099511627776
     → Turned most (held_in r taken full) (held_in r' taken' full') (take n bytes) []
-kept_so most n len bytes r r' taken taken' full full' is table live full_is within count few =
+kept_so most n len bytes r r' taken taken' full full' is setting live full_is within count few =
     let xs = take n (take len bytes) in
     let so : length xs ≡ n = count_of n len bytes within in
     let most_n : n ≤ len = few_of n len bytes within in
     let h : Held = held_in r taken full in
     moved most h (record h { page = r'.page; taken = taken + n }) (held_in r' taken' full') xs (take n bytes) [] []
     (kept_turned most xs h r'.page n is live so (omega (arith, most_n, few)))
-    (held_so r'.page r.table r'.table (taken + n) taken' full full' table count full_is)
+    (held_so r'.page r.setting r'.setting (taken + n) taken' full full' setting count full_is)
     (part n len bytes most_n) refl
 
 -- the page can be read on
@@ -92,12 +93,12 @@ pub not_not : (b : Bool) → not b ≡ false → b ≡ true
 not_not true e = refl
 not_not false e = absurd (let never : true ≡ false = e in cc)
 
-pub after_so : (next : Option ℕ) (r r' : Room) (taken taken' : ℕ) (full full' : Bool) → r'.page ≡ (next_read next r.page).page → r'.table ≡ set (next_read next r.page).pieces r.table
+pub after_so : (next : Option ℕ) (r r' : Room) (taken taken' : ℕ) (full full' : Bool) → r'.page ≡ (next_read next r.page).page → r'.setting ≡ set (next_read next r.page).pieces r.setting
     → taken' ≡ taken + 1 → full ≡ false → is_some next ≡ not full' → IsAfter next (held_in r taken full) (held_in r' taken' full')
-after_so None r r' taken taken' full full' page table count live full_is = tt
-after_so (Some b) r r' taken taken' full full' page table count live full_is =
-    ap (λ (p : Page). held_in (record { page = p; table = r'.table }) taken' full') page
-    ∙ sym (held_so (next_read (Some b) r.page).page (set (next_read (Some b) r.page).pieces r.table) r'.table (taken + 1) taken' full full' table count (not_full full' full_is ∙ sym live))
+after_so None r r' taken taken' full full' page setting count live full_is = tt
+after_so (Some b) r r' taken taken' full full' page setting count live full_is =
+    ap (λ (p : Page). held_in (record { page = p; setting = r'.setting }) taken' full') page
+    ∙ sym (held_so (next_read (Some b) r.page).page (set (next_read (Some b) r.page).pieces r.setting) r'.setting (taken + 1) taken' full full' setting count (not_full full' full_is ∙ sym live))
 
 pub stands_after : (next : Option ℕ) (p q : Page) (taken taken' : ℕ) (full : Bool) → GoesOn next p q → Stands p taken → taken' ≡ taken + 1 → taken < 1099511627776
     → is_some next ≡ not full → full ≡ false → Stands q taken'

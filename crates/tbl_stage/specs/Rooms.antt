@@ -1,8 +1,8 @@
 -- The memory that tables are held in.
-use Rattle.tbl_layout.specs.declared.table.Table.{Table}
 use Rattle.tbl_reader.specs.Pages.{Page}
+use Rattle.tbl_setting.specs.declared.setting.Setting.{Setting}
 
--- what was read of a page, and the table that is held
+-- what was read of a page, and what is set of it
 pub record Room : Type 0 where
   pub page : Page
-  pub table : Table
+  pub setting : Setting

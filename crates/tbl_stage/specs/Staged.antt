@@ -1,42 +1,42 @@
 -- A page with tables is turned a part at a time: what goes out of bytes that are to come, and of the end after them, if it comes.
 use Rattle.std.specs.Prelude.{◌≡◌, ℕ, ◌+◌, ◌≤◌, List, [], ◌∷◌, ◌++◌, length, Bool, true, false, not, ◌&&◌, nat_le, nat_lt, Option, None, Some, if◌then◌else◌}
 use Rattle.nr_vectors.specs.Items.{Items}
-use Rattle.tbl_layout.specs.declared.signs.Signs.{Signs}
-use Rattle.tbl_layout.specs.declared.table.Table.{Table}
 use Rattle.tbl_reader.specs.declared.complaint.Complaint.{Complaint}
-use Rattle.tbl_reader.specs.declared.reader.Limits.{Limits}
 use Rattle.tbl_reader.specs.Ending.{first_page, next_read}
 use Rattle.tbl_reader.specs.Pages.{Page, Effect}
 use Rattle.tbl_reader.specs.Reading.{Fits}
-use Rattle.tbl_setting.specs.Setting.{page_table, set}
+use Rattle.tbl_setting.specs.declared.setting.Setting.{Setting}
+use Rattle.tbl_setting.specs.Bounds.{Bounds, page_setting}
+use Rattle.tbl_setting.specs.Running.{bounds_in}
+use Rattle.tbl_setting.specs.Setting.{set}
 use Rattle.tbl_setting.specs.Stepping.{next_bytes}
 use Rattle.tbl_stage.specs.Rooms.{Room}
 
--- what was read of a page, and the table that is held; how many bytes came, and whether more would have gone out at once than may
+-- what was read of a page, and what is set of it; how many bytes came, and whether more would have gone out at once than may
 pub record Held : Type 0 where
   pub page : Page
-  pub table : Table
+  pub setting : Setting
   pub taken : ℕ
   pub is_full : Bool
 
 abbrev pub held_in : Room → ℕ → Bool → Held
-held_in r taken full = record { page = r.page; table = r.table; taken = taken; is_full = full }
+held_in r taken full = record { page = r.page; setting = r.setting; taken = taken; is_full = full }
 
--- a page begins, by these limits, for a line of so many cells; tables are drawn with these
-abbrev pub first_held : Signs → Limits → ℕ → Held
-first_held g l cells = record { page = first_page l cells; table = page_table g l; taken = 0; is_full = false }
+-- a page begins
+abbrev pub first_held : Bounds → Held
+first_held b = record { page = first_page b.limits b.cells; setting = page_setting b; taken = 0; is_full = false }
 
 -- the first page in these rooms, or the next one
 abbrev pub begun_in : Room → Held
-begun_in r = first_held r.table.signs r.page.limits r.page.state.measure.line
+begun_in r = first_held (bounds_in r.page r.setting)
 
 -- what comes next, a byte or the end, comes to this
 abbrev pub bytes_for : Option ℕ → Held → List ℕ
-bytes_for next h = next_bytes next h.page h.table
+bytes_for next h = next_bytes next h.page h.setting
 
 -- so many bytes were read, and these pieces said
 abbrev pub after : Effect → ℕ → Held → Held
-after e n h = record h { page = e.page; table = set e.pieces h.table; taken = h.taken + n }
+after e n h = record h { page = e.page; setting = set e.pieces h.setting; taken = h.taken + n }
 
 abbrev pub after_byte : ℕ → Held → Held
 after_byte b h = after (next_read (Some b) h.page) 1 h

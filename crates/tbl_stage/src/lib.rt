@@ -1,6 +1,6 @@
 //! Tables as a stage of a text: a page goes out as it comes, and no more than one table is held.
 //!
-//! It stands on document_stages, tbl_setting, tbl_reader, tbl_layout, utf8_characters, nr_units and nr_vectors. To read:
+//! It stands on document_stages, tbl_setting, tbl_reader, tbl_table, tbl_columns, tbl_drawing, utf8_characters, nr_units and nr_vectors. To read:
 //! `space`, `filling`; `turning`, `turned`; `tables`, `turner`, `rooms`; `laws`.
 #![tactic(auto)]
 

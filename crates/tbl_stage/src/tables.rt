@@ -1,5 +1,5 @@
 //! What tables are read, held and drawn with.
-ghost use Rattle.std.specs.Prelude.{◌≡◌, ◌+◌, ◌^◌, ◌<◌, ◌≤◌, [], IfOk, length, min, take};
+ghost use Rattle.std.specs.Prelude.{◌≡◌, ◌+◌, ◌^◌, ◌<◌, ◌≤◌, [], IfOk, length, min, take, true};
 ghost use Rattle.tbl_reader.specs.Ending.{GoesOn, first_page, next_read};
 ghost use Rattle.tbl_reader.specs.Pages.{effect};
 ghost use Rattle.tbl_reader.specs.Quiet.{Stays};
@@ -7,8 +7,10 @@ ghost use Rattle.tbl_reader.specs.Reading.{Fits, fed};
 ghost use Rattle.tbl_reader.specs.Telling.{each};
 ghost use Rattle.tbl_reader.specs.declared.telling.Tell.TheVariants as tells;
 ghost use Rattle.tbl_setting.specs.Drawing.{signs_of};
-ghost use Rattle.tbl_setting.specs.Running.{memory_of};
-ghost use Rattle.tbl_setting.specs.Setting.{KeepsMore, page_table, set, wrongs};
+ghost use Rattle.tbl_setting.specs.Bounds.{page_setting};
+ghost use Rattle.tbl_setting.specs.Held.{page_heard};
+ghost use Rattle.tbl_setting.specs.Running.{bounds_in, memory_of};
+ghost use Rattle.tbl_setting.specs.Setting.{KeepsMore, set, wrongs};
 ghost use Rattle.tbl_setting.specs.Stepping.{AreKept, next_bytes};
 ghost use Rattle.tbl_stage.specs.Filling.{Fills};
 
@@ -19,9 +21,9 @@ use nr_vectors::{CountedAlloc, FixedVec};
 use std::alloc::AllocError;
 use std::marker::Model;
 use std::mem;
-use tbl_layout::{Out, Table};
+use tbl_drawing::Out;
 use tbl_reader::{Complaint, Limits, Reader};
-use tbl_setting::{Signs, Step, set_next, signs_of};
+use tbl_setting::{Setting, Signs, Step, set_next, signs_of};
 use utf8_characters::Table as Characters;
 
 /// The bytes that wait to go out at most.
@@ -33,7 +35,7 @@ const MOST: usize = 18_446_744_073_709_551_614;
 /// The memory for one table, taken once.
 pub struct Tables {
     pub(crate) reader: Reader,
-    pub(crate) table: Table,
+    pub(crate) setting: Setting,
     pub(crate) pending: FixedVec<u8>,
 }
 
@@ -42,7 +44,7 @@ impl Drop for Tables {
     fn drop(self) {
         let Tables {
             reader: _,
-            table: _,
+            setting: _,
             pending: _,
         } = self;
     }
@@ -50,15 +52,16 @@ impl Drop for Tables {
 
 impl Model for Tables {
     ghost use Rattle.std.specs.Prelude.{◌≡◌};
-    ghost use Rattle.tbl_layout.specs.Held.{emptied};
-    ghost use Rattle.tbl_setting.specs.Setting.{page_table};
+    ghost use Rattle.tbl_setting.specs.Bounds.{page_setting};
+    ghost use Rattle.tbl_setting.specs.Held.{emptied};
+    ghost use Rattle.tbl_setting.specs.Running.{bounds_in};
     ghost use Rattle.tbl_stage.specs.Rooms.{Room};
 
     ghost Value = { Room };
 
-    ghost view = { λ r. record { page = r.reader; table = r.table } };
+    ghost view = { λ r. record { page = r.reader; setting = r.setting } };
 
-    ghost invariant = { λ r. emptied r.table ≡ page_table r.table.signs r.reader.limits };
+    ghost invariant = { λ r. emptied r.setting ≡ page_setting (bounds_in r.reader r.setting) };
 }
 
 impl Tables {
@@ -71,10 +74,11 @@ impl Tables {
         cells: usize,
         characters: Option<Characters>,
     ) -> Result<Tables, AllocError>
-        ensures signs { IfOk result (λ made. made.table.signs ≡ signs_of characters) }
+        ensures signs { IfOk result (λ made. made.setting.layout.grid.table.signs ≡ signs_of characters) }
         ensures table { IfOk result (λ made. made.page.limits.formats ≡ min table 18446744073709551614) }
         ensures row { IfOk result (λ made. made.page.limits.row ≡ min row 18446744073709551614) }
         ensures cells { IfOk result (λ made. made.page.state.measure.line ≡ cells) }
+        ensures fits { IfOk result (λ made. made.setting.fits ≡ true) }
         ensures taken { IfOk result (λ made. alloc.new ≡ alloc.old + memory_of made.page.limits) }
     {
         Tables::drawn_with(alloc, table, row, cells, signs_of(characters))
@@ -88,10 +92,11 @@ impl Tables {
         cells: usize,
         signs: Signs,
     ) -> Result<Tables, AllocError>
-        ensures signs { IfOk result (λ made. made.table.signs ≡ signs) }
+        ensures signs { IfOk result (λ made. made.setting.layout.grid.table.signs ≡ signs) }
         ensures table { IfOk result (λ made. made.page.limits.formats ≡ min table 18446744073709551614) }
         ensures row { IfOk result (λ made. made.page.limits.row ≡ min row 18446744073709551614) }
         ensures cells { IfOk result (λ made. made.page.state.measure.line ≡ cells) }
+        ensures fits { IfOk result (λ made. made.setting.fits ≡ true) }
         ensures taken { IfOk result (λ made. alloc.new ≡ alloc.old + memory_of made.page.limits) }
     {
         let limits = Limits {
@@ -101,17 +106,17 @@ impl Tables {
         Ok(Tables {
             pending: FixedVec::new(alloc, PENDING)?,
             reader: Reader::new(alloc, limits, cells)?,
-            table: Table::new(alloc, limits.formats, limits.row, signs)?,
+            setting: Setting::new(alloc, limits.formats, limits.row, signs, cells)?,
         })
     }
 
     /// A page begins.
     pub(crate) fn begin(&mut self)
         ensures page { self.new.page ≡ first_page self.old.page.limits self.old.page.state.measure.line }
-        ensures table { self.new.table ≡ page_table self.old.table.signs self.old.page.limits }
+        ensures setting { self.new.setting ≡ page_setting (bounds_in self.old.page self.old.setting) }
     {
         self.reader.begins();
-        self.table.begin_page();
+        self.setting.begin_page();
     }
 
     /// Bytes of lines outside of tables that pass as they are. Tells how many were read.
@@ -122,9 +127,11 @@ impl Tables {
         ensures passes { fed (take result bytes.now) self.old.page
             ≡ effect self.new.page (each tells.Pass (take result bytes.now)) }
         ensures stays { Stays self.old.page self.new.page result }
-        ensures table { self.new.table ≡ self.old.table }
+        ensures setting { self.new.setting ≡ page_heard (take result bytes.now) self.old.setting }
     {
-        self.reader.pass(bytes)
+        let count = self.reader.pass(bytes);
+        self.setting.hear(&bytes[..count]);
+        count
     }
 
     /// Bytes of a line of a table that are kept. Tells how many were read.
@@ -133,7 +140,7 @@ impl Tables {
         ensures within { result ≤ length bytes.now }
         ensures keeps { fed (take result bytes.now) self.old.page ≡ effect self.new.page [] }
         ensures stays { Stays self.old.page self.new.page 0 }
-        ensures table { self.new.table ≡ self.old.table }
+        ensures setting { self.new.setting ≡ self.old.setting }
     {
         self.reader.keep(bytes)
     }
@@ -153,8 +160,8 @@ impl Tables {
         requires kept { AreKept complaints.old missed }
         ensures page { self.new.page ≡ (next_read next self.old.page).page }
         ensures goes_on { GoesOn next self.old.page self.new.page }
-        ensures table { self.new.table ≡ set (next_read next self.old.page).pieces self.old.table }
-        ensures fills { Fills (next_bytes next self.old.page self.old.table) out.new.items out.new.capacity }
+        ensures setting { self.new.setting ≡ set (next_read next self.old.page).pieces self.old.setting }
+        ensures fills { Fills (next_bytes next self.old.page self.old.setting) out.new.items out.new.capacity }
         ensures room { out.new.capacity ≡ out.old.capacity }
         ensures keeps { KeepsMore complaints.old missed complaints.new result
             (wrongs (next_read next self.old.page).pieces) }
@@ -164,7 +171,7 @@ impl Tables {
         let line = Out::over(&mut self.pending, sink);
         let Step { output, missed } = set_next(
             &mut self.reader,
-            &mut self.table,
+            &mut self.setting,
             next,
             line,
             complaints,

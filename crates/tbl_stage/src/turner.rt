@@ -14,8 +14,8 @@ const TOO_MANY: u64 = 1_099_511_627_776;
 /// The greatest limit.
 const MOST: usize = 1_099_511_627_775;
 
-/// Tables become lines of text, or requests where only the formatter knows a width, as with `convert` of tbl_setting; what is
-/// outside of them stays as it is. No more is held than one table.
+/// Tables become lines of text, as with `convert` of tbl_setting; what is outside of them stays as it is. No more is held than one
+/// table.
 ///
 /// Proved: A page that is turned a part at a time comes to the same: what goes out of the parts, one after another,
 /// and of the end is `set_page`, in whatever parts it comes, as long as no byte, nor the end, comes to more than the

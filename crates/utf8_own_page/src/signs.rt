@@ -1,7 +1,7 @@
 //! What frames are drawn with, in a table.
 ghost use Rattle.utf8_own_characters.specs.Table.{Good};
 
-use tbl_layout::{Joints, Signs};
+use tbl_table::{Joints, Signs};
 use utf8_own_characters::{Cluster, Code, Table};
 
 /// The byte of a character of one column, or that of ASCII.

@@ -1,5 +1,5 @@
 use Rattle.std.proofs.Common.{rules}
-use Rattle.nulbiko.proofs.TblRun.{carried, unread}
+use Rattle.nulbiko.proofs.TblRun.{bounds_made, carried, unread}
 use Rattle.nulbiko.proofs.tbl.set_tables.Goals as goal
 
 pub returns-clause-set : goal.returns-clause-set
@@ -10,7 +10,7 @@ returns-clause-set c = record {
   kept = _;
   missed = c.convert-pages.result.0.missed;
   uneven = c.convert-pages.result.0.uneven;
-  ran = carried _ _ _ _ _ _ _ _ _ _ _ _ _ _ _ _ _ c.convert-pages.ensures.ran (search rules) (search rules) (search rules) c.over-text.ensures.supply c.in_ok-pages.ensures.held c.as_slice-bytes.ensures;
+  ran = carried _ _ _ _ _ _ _ _ _ _ _ _ _ c.convert-pages.ensures.ran (search (rules, bounds_made)) c.over-text.ensures.supply c.in_ok-pages.ensures.held c.as_slice-bytes.ensures;
   room = search rules;
   handed = search rules;
   code_is = search rules;

@@ -1,5 +1,5 @@
 use Rattle.std.proofs.Common.{◌∙◌, ap}
-use Rattle.tbl_layout.specs.declared.signs.Signs.{Signs}
+use Rattle.tbl_table.specs.declared.signs.Signs.{Signs}
 use Rattle.tbl_stage.specs.Memory.{limits_of}
 use Rattle.tbl_stage.specs.Text.{bounds_in}
 use Rattle.document_reader.specs.Page.{own_supply}

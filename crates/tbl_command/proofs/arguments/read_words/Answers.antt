@@ -5,8 +5,8 @@ use Rattle.tbl_command.specs.declared.arguments.BadWord.{BadWord}
 use Rattle.tbl_command.specs.declared.arguments.Job.{Job}
 use Rattle.tbl_command.specs.declared.arguments.Wrong.TheVariants.{NoTable}
 use Rattle.tbl_command.specs.Arguments.{ComesTo, IsAnswer, at, is_wrong, texts}
-use Rattle.tbl_command.proofs.Answering.{compared, file_stands, formats_fit, goes_on, named, next_word, no_word, only, option_bad, option_sets, row_fits, table_follows, unnamed}
-use Rattle.tbl_command.proofs.arguments.read_words.Goals.{then-awaits+in-Some, else-awaits+else-not-is_option+then-eq, else-awaits+else-not-is_option+else-eq+in-Ok}
+use Rattle.tbl_command.proofs.Answering.{compared, file_stands, formats_fit, goes_on, named, next_word, no_word, only, option_bad, option_keeps, option_sets, row_fits, table_follows, unnamed}
+use Rattle.tbl_command.proofs.arguments.read_words.Goals.{then-awaits+in-Some, else-awaits+else-not-is_option+then-eq, else-awaits+else-not-is_option+else-eq+then-eq-2, else-awaits+else-not-is_option+else-eq+else-eq-2+in-Ok}
 use Rattle.tbl_command.proofs.arguments.read_words.Goals as goal
 
 abbrev nowhere : Bor (List ℕ)
@@ -37,8 +37,10 @@ is_bad c =
     let l = c.loop-place in
     let names : bytes_eq (word_at words l.place) (codes "-u") ≡ false =
     compared _ _ _ _ _ c.as_bytes.ensures.value c.as_slice.ensures c.eq.ensures ∙ c.if-eq.false in
+    let keeps : bytes_eq (word_at words l.place) (codes "-n") ≡ false =
+    compared _ _ _ _ _ c.as_bytes-else-eq.ensures.value c.as_slice-else-eq.ensures c.eq-else-eq.ensures ∙ c.if-eq-2.false in
     next_word l.awaits false l.job l.place words nowhere c.loop-place-test.true c.if-awaits.false l.invariant.comes _
-    (option_bad l.job l.place (word_at words l.place) (texts (drop (l.place + 1) words)) c.in-Err.wrong (sym c.is_option.ensures ∙ c.if-not-is_option.false) names c.in-Err.ensures)
+    (option_bad l.job l.place (word_at words l.place) (texts (drop (l.place + 1) words)) c.in-Err.wrong (sym c.is_option.ensures ∙ c.if-not-is_option.false) names keeps c.in-Err.ensures)
 
 pub returns-in-Err-clause-answer : goal.returns-in-Err-clause-answer
 returns-in-Err-clause-answer c = is_bad c
@@ -72,10 +74,21 @@ loop-place-preserved c =
         formats = subst (λ (job : Job). job.formats ≤ 1048576) (sym w.job-is) l.invariant.formats;
         row = subst (λ (job : Job). job.row ≤ 1048576) (sym w.job-is) l.invariant.row;
       }
-      | else-awaits+else-not-is_option+else-eq+in-Ok w ↦ record {
+      | else-awaits+else-not-is_option+else-eq+then-eq-2 w ↦ record {
+        comes = λ answer comes. leads false w.if-awaits.false answer
+            (option_keeps l.job l.place (word_at words l.place) rest answer (sym w.is_option.ensures ∙ w.if-not-is_option.false)
+            (compared _ _ _ _ _ w.as_bytes.ensures.value w.as_slice.ensures w.eq.ensures ∙ w.if-eq.false)
+            (compared _ _ _ _ _ w.as_bytes-else-eq.ensures.value w.as_slice-else-eq.ensures w.eq-else-eq.ensures ∙ w.if-eq-2.true)
+            (goes_on c.if-awaits.awaits false c.if-awaits.job _ (l.place + 1) rest answer (w.awaits-is ∙ w.if-awaits.false) (w.job-is ∙ w.without_fit-job.ensures) comes));
+        awaited = λ is. omega arith;
+        formats = subst (λ (job : Job). job.formats ≤ 1048576) (sym (w.job-is ∙ w.without_fit-job.ensures)) l.invariant.formats;
+        row = subst (λ (job : Job). job.row ≤ 1048576) (sym (w.job-is ∙ w.without_fit-job.ensures)) l.invariant.row;
+      }
+      | else-awaits+else-not-is_option+else-eq+else-eq-2+in-Ok w ↦ record {
         comes = λ answer comes. leads false w.if-awaits.false answer
             (option_sets l.job l.place (word_at words l.place) rest answer w.in-Ok.setting (sym w.is_option.ensures ∙ w.if-not-is_option.false)
             (compared _ _ _ _ _ w.as_bytes.ensures.value w.as_slice.ensures w.eq.ensures ∙ w.if-eq.false)
+            (compared _ _ _ _ _ w.as_bytes-else-eq.ensures.value w.as_slice-else-eq.ensures w.eq-else-eq.ensures ∙ w.if-eq-2.false)
             w.in-Ok.ensures
             (goes_on c.if-awaits.awaits false c.if-awaits.job _ (l.place + 1) rest answer (w.awaits-is ∙ w.if-awaits.false) (w.job-is ∙ w.with-job.ensures) comes));
         awaited = λ is. omega arith;

@@ -1,5 +1,5 @@
 use Rattle.std.proofs.Common.{◌≡◌}
-use Rattle.tbl_layout.specs.Held.{emptied}
+use Rattle.tbl_table.specs.Held.{emptied}
 use Rattle.tbl_setting.specs.Hearing.{empty_added}
 use Rattle.tbl_setting.proofs.hearing.add_empty.Given as goal
 

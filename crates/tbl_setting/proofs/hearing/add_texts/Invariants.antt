@@ -1,5 +1,5 @@
 use Rattle.std.proofs.Common.{◌≡◌, drop}
-use Rattle.tbl_layout.specs.Held.{emptied}
+use Rattle.tbl_table.specs.Held.{emptied}
 use Rattle.tbl_setting.specs.Hearing.{texts_held}
 use Rattle.tbl_setting.proofs.hearing.add_texts.Given as goal
 

@@ -1,26 +1,23 @@
-use Rattle.std.proofs.Common.{◌≡◌, ℕ, ap, sym, refl, ◌∙◌, false}
-use Rattle.tbl_layout.specs.declared.table.Table.{Table}
-use Rattle.tbl_layout.specs.Measured.{table_after, table_strokes}
-use Rattle.tbl_layout.specs.Rows.{row_ended, text_begun}
-use Rattle.tbl_layout.proofs.Tapes.{draws_same}
-use Rattle.tbl_setting.specs.Hearing.{empty_added}
-use Rattle.tbl_setting.specs.Setting.{cut_off}
+use Rattle.std.proofs.Common.{ℕ, ap, sym, refl, ◌∙◌, false}
+use Rattle.tbl_drawing.proofs.Tapes.{draws_same}
+use Rattle.tbl_setting.specs.declared.setting.Setting.{Setting}
+use Rattle.tbl_setting.specs.Held.{table_set, table_strokes}
+use Rattle.tbl_setting.specs.Setting.{block_goes_on, cut_off}
+use Rattle.tbl_table.specs.Rows.{row_len}
 use Rattle.tbl_setting.proofs.press.Press.divide_block.Goals as goal
 
 pub returns-clause-draws : goal.returns-clause-draws
 returns-clause-draws g c =
-    draws_same c.put_table.ensures.draws
-    (ap (λ (k : Table). table_strokes false k) (sym (c.end_row.ensures.value ∙ ap (λ (k : Table). row_ended k) c.block_ends.ensures.value)))
+    draws_same c.put_table.ensures.draws (ap (λ (k : Setting). table_strokes false k) (sym c.cut_off.ensures.value))
 
-pub returns-clause-table : goal.returns-clause-table
-returns-clause-table g c =
-    let t = c.args.self.now.table.now in
-    let cut : c.end_row.new.self ≡ cut_off t = c.end_row.ensures.value ∙ ap (λ (k : Table). row_ended k) c.block_ends.ensures.value in
-    let left : c.put_table.new.self ≡ table_after false (cut_off t) = c.put_table.ensures.value ∙ ap (λ (k : Table). table_after false k) cut in
+pub returns-clause-setting : goal.returns-clause-setting
+returns-clause-setting g c =
+    let t = c.args.self.now.setting.now in
     record {
       same = refl;
-      now = c.text_begins.ensures.value ∙ ap (λ (k : Table). text_begun k)
-          (c.add_empty.ensures.value ∙ ap (λ (k : Table). empty_added c.row_len-column.result k) left
-          ∙ ap (λ (n : ℕ). empty_added n (table_after false (cut_off t))) c.row_len-column.ensures);
-      room = c.text_begins.ensures.room ∙ c.add_empty.ensures.room ∙ c.put_table.ensures.room ∙ c.end_row.ensures.room ∙ c.block_ends.ensures.room;
+      now = c.go_on.ensures.value
+          ∙ ap (λ (k : Setting). block_goes_on c.row_len-column.result k)
+          (c.put_table.ensures.value ∙ ap (λ (k : Setting). table_set false k) c.cut_off.ensures.value)
+          ∙ ap (λ (n : ℕ). block_goes_on n (table_set false (cut_off t))) (c.row_len-column.ensures ∙ ap row_len c.table.ensures);
+      room = c.go_on.ensures.room ∙ c.put_table.ensures.room ∙ c.cut_off.ensures.room;
     }

@@ -1,10 +1,10 @@
 use Rattle.std.proofs.Common.{sym, ◌∙◌, true}
-use Rattle.tbl_layout.specs.Measured.{table_strokes}
-use Rattle.tbl_layout.specs.Rows.{has_begun}
-use Rattle.tbl_layout.proofs.Chosen.{nothing_chosen}
+use Rattle.tbl_setting.specs.Held.{table_strokes}
+use Rattle.tbl_drawing.specs.Held.{has_begun}
+use Rattle.tbl_drawing.proofs.Chosen.{nothing_chosen}
 use Rattle.tbl_setting.proofs.press.Press.ends_begun.Goals as goal
 
 pub returns-else-has_begun-clause-draws : goal.returns-else-has_begun-clause-draws
 returns-else-has_begun-clause-draws g c =
-    let t = c.args.self.now.table.now in
-    nothing_chosen (has_begun t) (table_strokes true t) (sym c.has_begun.ensures ∙ c.if-has_begun.false)
+    let t = c.args.self.now.setting.now in
+    nothing_chosen (has_begun t.layout) (table_strokes true t) (sym c.has_begun.ensures ∙ c.if-has_begun.false)

@@ -1,4 +1,4 @@
-use Rattle.tbl_layout.proofs.Tapes.{draws_then}
+use Rattle.tbl_drawing.proofs.Tapes.{draws_then}
 use Rattle.tbl_setting.proofs.press.Press.stands.Goals as goal
 
 pub returns-clause-draws : goal.returns-clause-draws

@@ -1,6 +1,0 @@
-use Rattle.std.proofs.Common.{◌≡◌, drop}
-use Rattle.tbl_layout.specs.Drawing.{has_escape}
-use Rattle.tbl_layout.proofs.fields.has_escape.Given as goal
-
-abbrev pub invariant-loop-byte : goal.invariant-loop-byte
-invariant-loop-byte l = has_escape (drop l.byte-index l.text) ≡ has_escape l.text

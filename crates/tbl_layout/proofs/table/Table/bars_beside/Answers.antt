@@ -1,9 +1,0 @@
-use Rattle.std.proofs.Common.{arith}
-use Rattle.std.proofs.lemmas.Grind.{common_steps}
-use Rattle.tbl_layout.proofs.table.Table.bars_beside.Goals as goal
-
-pub returns-then-bars-gt0 : goal.returns-then-bars-gt0
-returns-then-bars-gt0 c = grind (arith, common_steps)
-
-pub returns : goal.returns
-returns c = grind (arith, common_steps)

@@ -1,5 +1,0 @@
-use Rattle.tbl_layout.proofs.Tapes.{draws_then, draws_same}
-use Rattle.tbl_layout.proofs.table.Table.draw_repeat.Goals as goal
-
-pub returns : goal.returns
-returns g c = draws_same (draws_then c.to.ensures c.fill.ensures) cc

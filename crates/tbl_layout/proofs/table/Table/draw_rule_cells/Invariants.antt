@@ -1,6 +1,0 @@
-use Rattle.tbl_layout.specs.Drawing.{rule_cells}
-use Rattle.tbl_layout.specs.Tapes.{Draws}
-use Rattle.tbl_layout.proofs.table.Table.draw_rule_cells.Given as goal
-
-abbrev pub invariant-loop-column : goal.invariant-loop-column
-invariant-loop-column g l = Draws l.initial.out l.out (rule_cells l.column l.self l.above l.below l.line)

@@ -1,5 +1,0 @@
-use Rattle.tbl_layout.proofs.Tapes.{draws_same}
-use Rattle.tbl_layout.proofs.table.Table.go_over.Goals as goal
-
-pub returns : goal.returns
-returns g c = draws_same c.go.ensures cc

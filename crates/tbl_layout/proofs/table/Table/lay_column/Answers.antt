@@ -1,6 +1,0 @@
-use Rattle.std.proofs.Common.{ap}
-use Rattle.tbl_layout.specs.Held.{emptied, none_of}
-use Rattle.tbl_layout.proofs.table.Table.lay_column.Goals as goal
-
-pub returns-clause-room : goal.returns-clause-room
-returns-clause-room c = ap (λ columns. record (emptied c.args.self.now) { columns = none_of columns }) c.set_item.ensures

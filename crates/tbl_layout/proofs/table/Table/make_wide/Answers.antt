@@ -1,6 +1,0 @@
-use Rattle.std.proofs.Common.{ap}
-use Rattle.tbl_layout.specs.Held.{emptied, none_of}
-use Rattle.tbl_layout.proofs.table.Table.make_wide.Goals as goal
-
-pub returns-then-column-clause-room : goal.returns-then-column-clause-room
-returns-then-column-clause-room c = ap (λ columns. record (emptied c.args.self.now) { columns = none_of columns }) c.set_item.ensures

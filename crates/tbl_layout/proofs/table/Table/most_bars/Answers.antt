@@ -1,5 +1,0 @@
-use Rattle.std.proofs.Common.{add-one}
-use Rattle.tbl_layout.proofs.table.Table.most_bars.Goals as goal
-
-pub loop-line-preserved : goal.loop-line-preserved
-loop-line-preserved c = rw (add-one c.loop-line.line) cc

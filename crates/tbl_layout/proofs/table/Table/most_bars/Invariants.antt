@@ -1,6 +1,0 @@
-use Rattle.std.proofs.Common.{◌≡◌}
-use Rattle.tbl_layout.specs.Frames.{most_bars_in}
-use Rattle.tbl_layout.proofs.table.Table.most_bars.Given as goal
-
-abbrev pub invariant-loop-line : goal.invariant-loop-line
-invariant-loop-line l = l.bars ≡ most_bars_in l.line l.self l.column

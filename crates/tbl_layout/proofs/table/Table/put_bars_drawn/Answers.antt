@@ -1,5 +1,0 @@
-use Rattle.tbl_layout.proofs.Tapes.{draws_both}
-use Rattle.tbl_layout.proofs.table.Table.put_bars_drawn.Goals as goal
-
-pub returns : goal.returns
-returns g c = draws_both (draws_both c.add.ensures c.put_height.ensures) c.add-2.ensures

@@ -1,5 +1,0 @@
-use Rattle.tbl_layout.proofs.Tapes.{draws_then}
-use Rattle.tbl_layout.proofs.table.Table.put_bars_string.Goals as goal
-
-pub returns : goal.returns
-returns g c = draws_then (draws_then c.add.ensures c.put_bars_line.ensures) c.add-2.ensures

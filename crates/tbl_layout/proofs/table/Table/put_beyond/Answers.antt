@@ -1,5 +1,0 @@
-use Rattle.tbl_layout.proofs.Tapes.{draws_then}
-use Rattle.tbl_layout.proofs.table.Table.put_beyond.Goals as goal
-
-pub returns : goal.returns
-returns g c = draws_then (draws_then c.ask.ensures (rw c.row-row.ensures at (rw c.saturating_sub.ensures at c.put_all_outside.ensures))) c.ask-2.ensures

@@ -1,5 +1,0 @@
-use Rattle.tbl_layout.proofs.Tapes.{draws_both}
-use Rattle.tbl_layout.proofs.table.Table.put_block_lines.Goals as goal
-
-pub returns : goal.returns
-returns g c = draws_both (draws_both c.add.ensures c.put_begin_of.ensures) c.line.ensures

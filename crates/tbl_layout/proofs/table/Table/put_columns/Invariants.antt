@@ -1,9 +1,0 @@
-use Rattle.std.proofs.Common.{◌∷◌, []}
-use Rattle.tbl_layout.specs.Registers.{column_text}
-use Rattle.tbl_layout.specs.Pens.{Bytes}
-use Rattle.tbl_layout.specs.Sequences.{joined}
-use Rattle.tbl_layout.specs.Tapes.{Draws}
-use Rattle.tbl_layout.proofs.table.Table.put_columns.Given as goal
-
-abbrev pub invariant-loop-number : goal.invariant-loop-number
-invariant-loop-number g l = Draws l.initial.out l.out (Bytes (joined l.number (column_text l.self)) ∷ [])

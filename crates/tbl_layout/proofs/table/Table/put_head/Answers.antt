@@ -1,5 +1,0 @@
-use Rattle.tbl_layout.proofs.Tapes.{draws_both}
-use Rattle.tbl_layout.proofs.table.Table.put_head.Goals as goal
-
-pub returns : goal.returns
-returns g c = draws_both (draws_both (draws_both c.ask.ensures c.put_boxed.ensures) c.put_centered.ensures) c.put_whole_room.ensures

@@ -1,6 +1,0 @@
-use Rattle.std.proofs.Common.{ap}
-use Rattle.tbl_layout.specs.Held.{emptied, none_of}
-use Rattle.tbl_layout.proofs.table.Table.set_last_key.Goals as goal
-
-pub returns-clause-room : goal.returns-clause-room
-returns-clause-room c = ap (λ keys. record (emptied c.args.self.now) { keys = none_of keys }) c.set_item.ensures

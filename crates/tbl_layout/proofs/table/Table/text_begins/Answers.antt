@@ -1,8 +1,0 @@
-use Rattle.std.proofs.Common.{refl, ap}
-use Rattle.tbl_layout.proofs.table.Table.text_begins.Goals as goal
-
-pub returns-clause-value : goal.returns-clause-value
-returns-clause-value c = ap (λ n. record c.args.self.now { from = n }) c.len-self.ensures.value
-
-pub returns-clause-room : goal.returns-clause-room
-returns-clause-room c = refl

@@ -1,6 +1,0 @@
-use Rattle.std.proofs.Common.{[]}
-use Rattle.tbl_layout.proofs.Chosen.{draws_chosen}
-use Rattle.tbl_layout.proofs.told.Told.set_length_back.Goals as goal
-
-pub returns-then-self : goal.returns-then-self
-returns-then-self g c = draws_chosen c.args.self.blocks [] c.add.ensures c.if-self.true

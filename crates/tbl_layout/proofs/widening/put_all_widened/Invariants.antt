@@ -1,9 +1,0 @@
-use Rattle.std.proofs.Common.{◌∷◌, []}
-use Rattle.tbl_layout.specs.Widening.{widened_at}
-use Rattle.tbl_layout.specs.Pens.{Bytes}
-use Rattle.tbl_layout.specs.Sequences.{joined}
-use Rattle.tbl_layout.specs.Tapes.{Draws}
-use Rattle.tbl_layout.proofs.widening.put_all_widened.Given as goal
-
-abbrev pub invariant-loop-place : goal.invariant-loop-place
-invariant-loop-place g l = Draws l.initial.out l.out (Bytes (joined l.place (widened_at l.first l.last)) ∷ [])

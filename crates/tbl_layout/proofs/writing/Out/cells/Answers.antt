@@ -1,5 +1,0 @@
-use Rattle.tbl_layout.proofs.Tapes.{draws_both}
-use Rattle.tbl_layout.proofs.writing.Out.cells.Goals as goal
-
-pub returns : goal.returns
-returns g c = draws_both c.number.ensures c.add.ensures

@@ -1,5 +1,0 @@
-use Rattle.tbl_layout.proofs.Tapes.{draws_then}
-use Rattle.tbl_layout.proofs.writing.Out.fill.Goals as goal
-
-pub returns : goal.returns
-returns g c = draws_then c.begin.ensures c.fill_to.ensures

@@ -1,5 +1,0 @@
-use Rattle.tbl_layout.proofs.Tapes.{draws_both}
-use Rattle.tbl_layout.proofs.writing.Out.line.Goals as goal
-
-pub returns : goal.returns
-returns g c = draws_both c.pieces.ensures c.ask.ensures

@@ -1,7 +1,0 @@
-use Rattle.std.proofs.Common.{◌∷◌, [], replicate}
-use Rattle.tbl_layout.specs.Tapes.{Draws}
-use Rattle.tbl_layout.specs.Pens.{Bytes}
-use Rattle.tbl_layout.proofs.writing.Out.repeat_each.Given as goal
-
-abbrev pub invariant-loop-place : goal.invariant-loop-place
-invariant-loop-place g l = Draws l.initial.self l.self (Bytes (replicate l._place l.byte) ∷ [])

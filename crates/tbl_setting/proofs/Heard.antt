@@ -1,0 +1,94 @@
+-- What is heard of a page stays in the room that was taken for it.
+use Rattle.std.proofs.Common.{◌≡◌, ◌==◌, ℕ, Bool, true, false, not, List, [], ◌∷◌, Option, None, Some, codes, refl, ap, ◌∙◌, if◌then◌else◌}
+use Rattle.nr_units.specs.declared.units.Scale.TheVariants.{Unit}
+use Rattle.tbl_columns.specs.declared.grid.Grid.{Grid}
+use Rattle.tbl_columns.specs.Held as grids
+use Rattle.tbl_columns.specs.Registers.{list_eq}
+use Rattle.tbl_drawing.specs.Held.{with_grid}
+use Rattle.tbl_setting.proofs.Held.{grid_room, layout_room}
+use Rattle.tbl_setting.specs.declared.requests.Request.{Request}
+use Rattle.tbl_setting.specs.declared.requests.Request.TheVariants as requests
+use Rattle.tbl_setting.specs.declared.setting.Setting.{Setting}
+use Rattle.tbl_setting.specs.declared.watching.Around.{Around}
+use Rattle.tbl_setting.specs.declared.watching.Watch.{Watch}
+use Rattle.tbl_setting.specs.Arguments.{accepted, definition_at, request_in, word}
+use Rattle.tbl_setting.specs.Held.{emptied, page_heard, with_layout, with_watching}
+use Rattle.tbl_setting.specs.Lengths.{length_in}
+use Rattle.tbl_setting.specs.Margins.{or_number}
+use Rattle.tbl_setting.specs.Requests.{request_of}
+use Rattle.tbl_setting.specs.Watching.{Hearing, Watching, begins_control, begun, byte_heard, control_heard, definition_heard, ends_copy, heard, hearing, is_text, line_ended, line_heard, nothing_known, obeyed_by, watching}
+use Rattle.tbl_table.specs.Lists.{added}
+
+-- whichever is chosen
+either : {A B : Type 0} (f : A → B) (x : Bool) (s t : A) (v : B) → f s ≡ v → f t ≡ v → f (if x then s else t) ≡ v
+either f true s t v first second = first
+either f false s t v first second = second
+
+-- what is left of it where a page begins
+known : ℕ → Hearing → Around
+known cells h = nothing_known cells h.around
+
+left : ℕ → Watching → Watch
+left cells s = begun cells s.watch
+
+request_same : (cells : ℕ) (r : Request) (text : List ℕ) (h : Hearing) → known cells (obeyed_by r text h) ≡ known cells h
+unfolding known
+request_same cells requests.Title text h = refl
+request_same cells requests.Section text h = refl
+request_same cells requests.Paragraph text h = refl
+request_same cells requests.Item text h = refl
+request_same cells requests.Tagged text h = refl
+request_same cells requests.Deeper text h = refl
+request_same cells requests.Back text h = refl
+request_same cells requests.Indent text h = refl
+request_same cells requests.Ragged text h = refl
+request_same cells requests.Adjust text h = refl
+request_same cells requests.Length text h = refl
+request_same cells requests.Copy text h = refl
+request_same cells requests.Register text h =
+    either (nothing_known cells) (list_eq (word text 1) (codes "LL")) (record h.around { cells = or_number (length_in (word text 2) Unit) h.around.cells }) h.around (nothing_known cells h.around) refl refl
+request_same cells requests.Other text h = refl
+
+control_same : (cells : ℕ) (line : List ℕ) (h : Hearing) → known cells (control_heard line h) ≡ known cells h
+unfolding known
+control_same cells line h = by_place (definition_at line)
+  where
+    by_place : (place : Option ℕ) → known cells (definition_heard place line h) ≡ known cells h
+    by_place (Some place) = refl
+    by_place None = request_same cells (request_of (word (accepted (request_in line)) 0)) (accepted (request_in line)) h
+
+line_same : (cells : ℕ) (line : List ℕ) (h : Hearing) → known cells (line_heard line h) ≡ known cells h
+unfolding known
+line_same cells line h =
+    either (known cells) h.around.copies (hearing (record h.around { copies = not (ends_copy line) }) h.grid) (if begins_control line then control_heard line h else h) (known cells h)
+    refl
+    (either (known cells) (begins_control line) (control_heard line h) h (known cells h) (control_same cells line h) refl)
+
+ended_same : (cells : ℕ) (s : Watching) → left cells (line_ended s) ≡ left cells s
+unfolding known left
+ended_same cells s =
+    ap (λ (a : Around). record (begun cells s.watch) { around = a }) (line_same cells s.watch.line.items (hearing s.watch.around s.grid))
+
+byte_same : (cells b : ℕ) (s : Watching) → left cells (byte_heard b s) ≡ left cells s
+unfolding left
+byte_same cells b s =
+    let more : Watching = watching (record s.watch { line = added b s.watch.line }) s.grid in
+    either (left cells) (b == 10) (line_ended s) (if is_text s.watch.line.items then s else more) (left cells s)
+    (ended_same cells s)
+    (either (left cells) (is_text s.watch.line.items) s more (left cells s) refl refl)
+
+text_same : (cells : ℕ) (text : List ℕ) (s : Watching) → left cells (heard text s) ≡ left cells s
+text_same cells [] s = refl
+text_same cells (b ∷ bs) s = text_same cells bs (byte_heard b s) ∙ byte_same cells b s
+
+pub page_room : (s : Setting) (text : List ℕ) (w : Watch) (g : Grid) → watching w g ≡ heard text (watching s.watch s.layout.grid)
+    → grids.emptied g ≡ grids.emptied s.layout.grid → emptied (with_watching (watching w g) s) ≡ emptied s
+unfolding left
+page_room s text w g is room =
+    ap (λ (v : Watch). record (emptied (with_layout (with_grid g s.layout) s)) { watch = v })
+    (ap (left s.cells) is ∙ text_same s.cells text (watching s.watch s.layout.grid))
+    ∙ layout_room s (with_grid g s.layout) (grid_room s.layout g room)
+
+pub page_value : (s : Setting) (text : List ℕ) (w : Watch) (g : Grid) → watching w g ≡ heard text (watching s.watch s.layout.grid)
+    → with_watching (watching w g) s ≡ page_heard text s
+page_value s text w g is = ap (λ (v : Watching). with_watching v s) is
