@@ -8,14 +8,14 @@ use Rattle.tbl_table.specs.declared.table.Row.{Row}
 use Rattle.tbl_table.specs.declared.table.Table.{Table}
 use Rattle.tbl_drawing.specs.Pens.{Stroke}
 use Rattle.tbl_table.specs.Rows.{field_added, joins, mark_added, row_added, row_ended, row_read}
-use Rattle.std.specs.Prelude.{Option}
+use Rattle.std.specs.Prelude.{Option, Some}
 use Rattle.tbl_reader.specs.declared.complaint.Complaint.{Complaint}
 use Rattle.tbl_reader.specs.declared.field.Mark.TheVariants as marks
 use Rattle.tbl_reader.specs.declared.telling.Tell.{Tell}
 use Rattle.tbl_reader.specs.declared.telling.Tell.TheVariants as tells
 use Rattle.tbl_reader.specs.Telling.{Piece, piece}
 use Rattle.tbl_setting.specs.declared.setting.Setting.{Setting}
-use Rattle.tbl_setting.specs.Held.{table, table_set, table_strokes, with_table}
+use Rattle.tbl_setting.specs.Held.{table, table_set, table_strokes, waits, with_table, with_wide}
 use Rattle.tbl_setting.specs.Setting.{relief, relieved, set, strokes}
 use Rattle.tbl_laws.specs.HeldRows.{AreAmong, HasRoom, HoldsRows, RowsAreHeld, all_bytes, all_fields, all_of, all_rows, count}
 use Rattle.tbl_laws.specs.Rows.{are_of_rows, is_of_row, rows_told}
@@ -201,7 +201,8 @@ pub record Result (ps : List Piece) (o t : Table) (s : Setting) (rows : List (Li
   pub left : List (List ℕ)
   pub now : Table
   pub held : Held o now (rows ++ rows_told next ps) left
-  pub becomes : set ps (with_table t s) ≡ with_table now s
+  pub waiting : Option Complaint
+  pub becomes : set ps (with_table t s) ≡ with_wide waiting (with_table now s)
   pub silent : strokes ps (with_table t s) ≡ []
 
 abbrev pub Next : List Piece → Type 0
@@ -219,7 +220,7 @@ field_step front text ps plain more o t s rows next h r =
     let m = more o (field_added text front t) s rows (next ++ text ∷ []) (field_held o t (field_added text front t) rows next text h g k
     (text_if (nat_lt (length t.fields.items) t.fields.capacity) t.fields.items _ h.forms refl) refl)
     (field_room t (field_added text front t) (piece (tells.Field front) text) ps text r g k refl refl (let n : 0 + all_rows ps ≡ all_rows ps = omega arith in n)) in
-    record { left = m.left; now = m.now; held = m.held; becomes = m.becomes; silent = m.silent }
+    record { left = m.left; now = m.now; held = m.held; waiting = m.waiting; becomes = m.becomes; silent = m.silent }
 
 mark_step : (text : List ℕ) (ps : List Piece) → Step (tells.Mark marks.Nothing) text ps
 mark_step text ps more o t s rows next h r =
@@ -229,7 +230,7 @@ mark_step text ps more o t s rows next h r =
     let m = more o (mark_added forms.Text t) s rows (next ++ [] ∷ []) (field_held o t (mark_added forms.Text t) rows next [] h g k
     (text_if (nat_lt (length t.fields.items) t.fields.capacity) t.fields.items _ h.forms refl) refl)
     (field_room t (mark_added forms.Text t) (piece (tells.Mark marks.Nothing) text) ps [] r g k refl refl (let n : 0 + all_rows ps ≡ all_rows ps = omega arith in n)) in
-    record { left = m.left; now = m.now; held = m.held; becomes = m.becomes; silent = m.silent }
+    record { left = m.left; now = m.now; held = m.held; waiting = m.waiting; becomes = m.becomes; silent = m.silent }
 
 row_step : (text : List ℕ) (ps : List Piece) → Step tells.Row text ps
 row_step text ps more o t s rows next h r =
@@ -244,6 +245,7 @@ row_step text ps more o t s rows next h r =
       now = m.now;
       silent = ap (λ (l : List Stroke). l ++ strokes ps (relieved (with_table (row_ended t) s))) stays.1
           ∙ ap (strokes ps) stays.0 ∙ m.silent;
+      waiting = m.waiting;
       becomes = ap (set ps) stays.0 ∙ m.becomes;
       held = subst (λ (l : List (List (List ℕ))). Held o m.now l m.left) (append_assoc rows (next ∷ []) (rows_told [] ps)) m.held;
     }
@@ -251,10 +253,12 @@ row_step text ps more o t s rows next h r =
 same_step : (c : Complaint) (text : List ℕ) (ps : List Piece) → Step (tells.Wrong c) text ps
 same_step c text ps more o t s rows next h r =
     let none : (n : ℕ) → 0 + n ≡ n = λ n. omega arith in
-    let m = more o t s rows next h (same_room t (piece (tells.Wrong c) text) ps r (none (all_bytes ps)) (none (all_fields ps)) (none (all_rows ps))) in
+    let after = with_wide (if waits c.kind (with_table t s) then Some c else s.wide) s in
+    let m = more o t after rows next h (same_room t (piece (tells.Wrong c) text) ps r (none (all_bytes ps)) (none (all_fields ps)) (none (all_rows ps))) in
     record {
       left = m.left;
       now = m.now;
+      waiting = m.waiting;
       becomes = m.becomes;
       silent = m.silent;
       held = subst (λ (l : List (List ℕ)). Held o m.now (rows ++ rows_told l ps) m.left) (sym (append-nil next)) m.held;
@@ -292,6 +296,7 @@ no_piece o t s rows next h r = record {
   left = next;
   now = t;
   held = subst (λ (l : List (List (List ℕ))). Held o t l next) (sym (append-nil rows)) h;
+  waiting = s.wide;
   becomes = refl;
   silent = refl;
 }

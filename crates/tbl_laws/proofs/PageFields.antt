@@ -1,5 +1,5 @@
 -- A page with one table goes out with a line for each row, and the text around it as it came.
-use Rattle.std.proofs.Common.{◌≡◌, ℕ, zero, suc, ◌+◌, ◌*◌, ◌/◌, ◌<◌, ◌≤◌, min, List, [], ◌∷◌, ◌++◌, length, codes, Bool, true, false, not, ◌==◌, ◌&&◌, ◌||◌, inl, inr, refl, sym, ◌∙◌, ap, subst, append_assoc, append-nil, length-append, arith}
+use Rattle.std.proofs.Common.{◌≡◌, ℕ, zero, suc, ◌+◌, ◌*◌, ◌/◌, ◌<◌, ◌≤◌, min, List, [], ◌∷◌, ◌++◌, length, codes, Bool, true, false, not, ◌==◌, ◌&&◌, ◌||◌, inl, inr, refl, sym, ◌∙◌, ap, subst, append_assoc, append-nil, length-append, arith, if◌then◌else◌}
 use Prim.Native.Char.{code}
 use Rattle.tbl_columns.specs.declared.grid.Grid.{Grid}
 use Rattle.tbl_drawing.specs.declared.pen.Pen.{Pen}
@@ -24,7 +24,9 @@ use Rattle.tbl_reader.proofs.Runs.{fed_append}
 use Rattle.tbl_reader.proofs.Whole.{lines_are_read}
 use Rattle.tbl_setting.specs.declared.setting.Setting.{Setting}
 use Rattle.tbl_setting.specs.Bounds.{Bounds, page_setting}
-use Rattle.tbl_setting.specs.Held.{table, table_begun, table_strokes, with_table}
+use Rattle.std.specs.Prelude.{Option, Some}
+use Rattle.tbl_reader.specs.declared.complaint.Complaint.{Complaint}
+use Rattle.tbl_setting.specs.Held.{table, table_begun, table_strokes, waits, with_table, with_wide}
 use Rattle.tbl_setting.specs.Setting.{set, set_bytes, set_in, strokes}
 use Rattle.tbl_table.specs.declared.table.Table.{Table}
 use Rattle.tbl_table.specs.Held.{emptied}
@@ -121,10 +123,12 @@ formats_quiet : (f : Formats) (bytes : List ℕ) (ps : List Piece) (s : Setting)
 formats_quiet f [] ps s = refl
 formats_quiet f (b ∷ bs) ps s = formats_quiet (read b f).formats bs ps (set_in (tells.Format (read b f).called) [] s)
 
-wrong_quiet : (ps : List Piece) (s : Setting) → IsWrong ps → (strokes ps s ≡ []) × (set ps s ≡ s)
+-- what is wrong may wait for the table
+wrong_quiet : (ps : List Piece) (s : Setting) → IsWrong ps → (strokes ps s ≡ []) × ((w : Option Complaint) × (set ps s ≡ with_wide w s))
 unfolding IsWrong
-wrong_quiet ps s (inl e) = (ap (λ (l : List Piece). strokes l s) e, ap (λ (l : List Piece). set l s) e)
-wrong_quiet ps s (inr (c, e)) = (ap (λ (l : List Piece). strokes l s) e, ap (λ (l : List Piece). set l s) e)
+wrong_quiet ps s (inl e) = (ap (λ (l : List Piece). strokes l s) e, (s.wide, ap (λ (l : List Piece). set l s) e))
+wrong_quiet ps s (inr (c, e)) =
+    (ap (λ (l : List Piece). strokes l s) e, ((if waits c.kind s then Some c else s.wide), ap (λ (l : List Piece). set l s) e))
 
 -- ---- the line of `.TS`, and the line of formats
 
@@ -150,15 +154,19 @@ abbrev table_at : ℕ → List ℕ → Setting → Table
 table_at n bytes s = formed (suc n) (keys_of bytes) (table (begun s))
 
 head_set : (bytes : List ℕ) (n : ℕ) (wrongs : List Piece) (s : Setting) → IsWrong wrongs → are_columns bytes ≡ true → columns_in bytes ≡ suc n → suc n ≤ 64
-    → 64 ≤ (table (begun s)).keys.capacity → 0 < (table (begun s)).lines.capacity → set (head_pieces bytes wrongs) s ≡ with_table (table_at n bytes s) (begun s)
+    → 64 ≤ (table (begun s)).keys.capacity → 0 < (table (begun s)).lines.capacity
+    → (w : Option Complaint) × (set (head_pieces bytes wrongs) s ≡ with_wide w (with_table (table_at n bytes s) (begun s)))
 unfolding begun
 head_set bytes n wrongs s wrong h is few keys lines =
     let said = formats_said (first_formats 0 0 false) ((bytes ++ codes ".") ++ codes "\n") in
     let end = piece tells.FormatsEnd [] ∷ [] in
     let u = begun s in
-    set_both (said ++ end) wrongs u ∙ (wrong_quiet wrongs (set (said ++ end) u) wrong).1
-    ∙ set_both said end u
-    ∙ ap (set end) (line_heard bytes n (table u) u h is few keys lines)
+    let (w, after) = (wrong_quiet wrongs (set (said ++ end) u) wrong).1 in (
+      w,
+      set_both (said ++ end) wrongs u
+          ∙ after
+          ∙ ap (with_wide w) (set_both said end u ∙ ap (set end) (line_heard bytes n (table u) u h is few keys lines)),
+    )
 
 -- ---- the line of `.TE`
 
@@ -383,15 +391,16 @@ by_count (suc n) b before formats rows after clean outside rest h is some few ro
     let o = table_at n formats s in
     let keys_room : (table v).keys.capacity ≡ 16384 = ap (λ (x : Table). x.keys.capacity) begins.table_is in
     let lines_room : (table v).lines.capacity ≡ 256 = ap (λ (x : Table). x.lines.capacity) begins.table_is in
-    let set_ah : set (A ++ H) t ≡ with_table o v =
-    set_both A H t ∙ head_set formats n wrongs s wrong h is few (omega (arith, keys_room)) (omega (arith, lines_room)) in
+    let (waiting, heads) = head_set formats n wrongs s wrong h is few (omega (arith, keys_room)) (omega (arith, lines_room)) in
+    let waits_so = with_wide waiting v in
+    let set_ah : set (A ++ H) t ≡ with_table o waits_so = set_both A H t ∙ heads in
     let none : (table v).fields.items ≡ [] = ap (λ (x : Table). x.fields.items) begins.table_is in
     let no_rows : (table v).rows.items ≡ [] = ap (λ (x : Table). x.rows.items) begins.table_is in
     let no_from : (table v).row_from ≡ 0 = ap (λ (x : Table). x.row_from) begins.table_is in
-    let held = all_held T told.only o o v [] [] (none_held o none no_rows no_from) (has_room b s n formats rows T begins few are fits much) in
+    let held = all_held T told.only o o waits_so [] [] (none_held o none no_rows no_from) (has_room b s n formats rows T begins few are fits much) in
     let rows_is : rows_told [] T ≡ fields_of_all rows =
     ap (rows_told []) (sym (append-nil T)) ∙ told.told [] ∙ append-nil (fields_of_all rows) in
-    let u = with_table held.now v in
+    let u = with_wide held.waiting (with_table held.now v) in
     let set_aht : set ((A ++ H) ++ T) t ≡ u = set_both (A ++ H) T t ∙ ap (set T) set_ah ∙ held.becomes in
     let pen_a = after_all (strokes A t) first in
     let pen_b = after_all (strokes (A ++ H) t) first in

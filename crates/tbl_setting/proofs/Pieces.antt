@@ -1,5 +1,5 @@
 -- What is said, what becomes of the table, and which strokes go out for it.
-use Rattle.std.proofs.Common.{◌≡◌, ℕ, Bool, List, [], ◌∷◌, ◌++◌, ◌+◌, ◌<◌, drop, get_or, length, refl, sym, ap, subst, ◌∙◌, append_assoc, append-nil}
+use Rattle.std.proofs.Common.{◌≡◌, ℕ, Bool, List, [], ◌∷◌, ◌++◌, ◌+◌, ◌<◌, drop, get_or, length, refl, sym, ap, subst, ◌∙◌, append_assoc, append-nil, if◌then◌else◌}
 use Rattle.std.specs.Borrow.{MutBor}
 use Rattle.std.proofs.lemmas.List.{drop_more}
 use Rattle.nr_vectors.specs.Items.{Items}
@@ -21,9 +21,11 @@ pub heard-said : (ps : List Piece) (s : Shown) → heard hears ps s ≡ record s
 heard-said [] s = ap (λ l. record s { said = l }) (sym (append-nil s.said))
 heard-said (p ∷ ps) s = heard-said ps (hears p s) ∙ ap (λ l. record s { said = l }) (append_assoc s.said (p ∷ []) ps)
 
-pub wrongs-append : (ps qs : List Piece) → wrongs (ps ++ qs) ≡ wrongs ps ++ wrongs qs
-wrongs-append [] qs = refl
-wrongs-append (p ∷ ps) qs = ap (λ l. wrong_in p.tell ++ l) (wrongs-append ps qs) ∙ sym (append_assoc (wrong_in p.tell) (wrongs ps) (wrongs qs))
+pub wrongs-append : (ps qs : List Piece) (t : Setting) → wrongs (ps ++ qs) t ≡ wrongs ps t ++ wrongs qs (set ps t)
+wrongs-append [] qs t = refl
+wrongs-append (p ∷ ps) qs t =
+    let u = set_in p.tell p.text t in
+    ap (λ l. wrong_in p.tell t ++ l) (wrongs-append ps qs u) ∙ sym (append_assoc (wrong_in p.tell t) (wrongs ps u) (wrongs qs (set ps u)))
 
 pub set-append : (ps qs : List Piece) (t : Setting) → set (ps ++ qs) t ≡ set qs (set ps t)
 set-append [] qs t = refl
@@ -37,10 +39,14 @@ strokes-append (p ∷ ps) qs t =
 
 -- something more was heard
 shows_then : (a b : Tape) (table after : MutBor Setting) (old new : MutBor (Items Complaint)) (before missed : Bool) (ps : List Piece)
-    → Draws a b (strokes ps table.now) → Becomes table after (set ps table.now) → Notes old new before missed (wrongs ps)
+    → Draws a b (strokes ps table.now) → Becomes table after (set ps table.now) → Notes old new before missed (wrongs ps table.now)
     → (s : Shown) → Shows a table old before s → Shows b after new missed (heard hears ps s)
 shows_then a b table after old new before missed ps draws becomes notes s h =
     let more : Draws a b (strokes ps (set s.said s.setting)) = subst (λ (t : Setting). Draws a b (strokes ps t)) h.setting_now draws in
+    let all : (s.wrong ++ wrongs s.said s.setting) ++ wrongs ps table.now ≡ s.wrong ++ wrongs (s.said ++ ps) s.setting =
+    append_assoc s.wrong (wrongs s.said s.setting) (wrongs ps table.now)
+    ∙ ap (λ (t : Setting). s.wrong ++ (wrongs s.said s.setting ++ wrongs ps t)) h.setting_now
+    ∙ ap (λ (l : List Complaint). s.wrong ++ l) (sym (wrongs-append s.said ps s.setting)) in
     subst (Shows b after new missed) (sym (heard-said ps s)) (record {
       draws = draws_same (draws_then h.draws more) (strokes-append s.said ps s.setting);
       setting_same = becomes.same ∙ h.setting_same;
@@ -48,34 +54,35 @@ shows_then a b table after old new before missed ps draws becomes notes s h =
       setting_room = becomes.room ∙ h.setting_room;
       same = notes.same ∙ h.same;
       room = notes.room ∙ h.room;
-      keeps = subst (λ l. Keeps l new.now missed) (sym (wrongs-append s.said ps)) (notes.keeps (wrongs s.said) h.keeps);
+      keeps = subst (λ (l : List Complaint). Keeps l new.now missed) all (notes.keeps (s.wrong ++ wrongs s.said s.setting) h.keeps);
     })
 
 -- ---- what is said in one or more pieces
 
-wrongs-each : (t : Tell) (text : List ℕ) → wrong_in t ≡ [] → wrongs (each t text) ≡ []
-wrongs-each t [] quiet = refl
-wrongs-each t (b ∷ bs) quiet = ap (λ l. l ++ wrongs (each t bs)) quiet ∙ wrongs-each t bs quiet
+wrongs-each : (t : Tell) (text : List ℕ) → ((s : Setting) → wrong_in t s ≡ []) → (s : Setting) → wrongs (each t text) s ≡ []
+wrongs-each t [] quiet s = refl
+wrongs-each t (b ∷ bs) quiet s =
+    let u = set_in t (b ∷ []) s in ap (λ l. l ++ wrongs (each t bs) u) (quiet s) ∙ wrongs-each t bs quiet u
 
-pub wrongs-said : (t : Tell) (text : List ℕ) → wrongs (said t text) ≡ wrong_in t
-wrongs-said tells.Pass text = wrongs-each tells.Pass text refl
-wrongs-said tells.BlockText text = wrongs-each tells.BlockText text refl
-wrongs-said tells.Table text = refl
-wrongs-said (tells.Options o) text = refl
-wrongs-said tells.Formats text = refl
-wrongs-said (tells.Format c) text = refl
-wrongs-said tells.FormatsEnd text = refl
-wrongs-said (tells.Field f) text = refl
-wrongs-said (tells.Mark m) text = refl
-wrongs-said tells.Block text = refl
-wrongs-said tells.BlockEnd text = refl
-wrongs-said tells.Row text = refl
-wrongs-said tells.Rule text = refl
-wrongs-said tells.Request text = refl
-wrongs-said tells.TableEnd text = refl
-wrongs-said tells.Plain text = refl
-wrongs-said tells.PlainEnd text = refl
-wrongs-said (tells.Wrong c) text = refl
+pub wrongs-said : (t : Tell) (text : List ℕ) (s : Setting) → wrongs (said t text) s ≡ wrong_in t s
+wrongs-said tells.Pass text s = wrongs-each tells.Pass text (λ u. refl) s
+wrongs-said tells.BlockText text s = wrongs-each tells.BlockText text (λ u. refl) s
+wrongs-said tells.Table text s = refl
+wrongs-said (tells.Options o) text s = refl
+wrongs-said tells.Formats text s = refl
+wrongs-said (tells.Format c) text s = refl
+wrongs-said tells.FormatsEnd text s = refl
+wrongs-said (tells.Field f) text s = refl
+wrongs-said (tells.Mark m) text s = refl
+wrongs-said tells.Block text s = refl
+wrongs-said tells.BlockEnd text s = refl
+wrongs-said tells.Row text s = refl
+wrongs-said tells.Rule text s = refl
+wrongs-said tells.Request text s = refl
+wrongs-said tells.TableEnd text s = append-nil (wrong_in tells.TableEnd s)
+wrongs-said tells.Plain text s = append-nil (wrong_in tells.Plain s)
+wrongs-said tells.PlainEnd text s = refl
+wrongs-said (tells.Wrong c) text s = append-nil (wrong_in (tells.Wrong c) s)
 
 -- text that passes goes out as it is
 pass-pen : (text : List ℕ) (t : Setting) (p : Pen) → after_all (strokes (each tells.Pass text) t) p ≡ p
@@ -141,12 +148,12 @@ said-drawn tells.PlainEnd text t d = draws_same d (append-nil (strokes_in tells.
 said-drawn (tells.Wrong c) text t d = draws_same d (append-nil (strokes_in (tells.Wrong c) text t))
 
 pub tells_said : (a b : Tape) (table after : MutBor Setting) (old new : MutBor (Items Complaint)) (before missed : Bool) (tell : Tell) (text : List ℕ)
-    → Draws a b (strokes_in tell text table.now) → Becomes table after (set_in tell text table.now) → Notes old new before missed (wrong_in tell)
+    → Draws a b (strokes_in tell text table.now) → Becomes table after (set_in tell text table.now) → Notes old new before missed (wrong_in tell table.now)
     → (s : Shown) → Shows a table old before s → Shows b after new missed (heard hears (said tell text) s)
 tells_said a b table after old new before missed tell text draws becomes notes =
     shows_then a b table after old new before missed (said tell text) (said-drawn tell text table.now draws)
     (subst (Becomes table after) (sym (said-set tell text table.now)) becomes)
-    (subst (Notes old new before missed) (sym (wrongs-said tell text)) notes)
+    (subst (Notes old new before missed) (sym (wrongs-said tell text table.now)) notes)
 
 -- by what is said
 pub drawn_for : {a b : Tape} (tell is : Tell) (text : List ℕ) (t : Setting) → tell ≡ is → Draws a b (strokes_in is text t) → Draws a b (strokes_in tell text t)
@@ -169,7 +176,7 @@ line_becomes old new tell is text t same comes become =
     (subst (Becomes old new) (sym comes) (subst (λ (k : Tell). Becomes old new (relieved (line_set k text t))) same become))
 
 -- where nothing is wrong nothing is told
-nothing_told : {old new : MutBor (Items Complaint)} {before missed : Bool} → IsSame old before new missed → Notes old new before missed []
+pub nothing_told : {old new : MutBor (Items Complaint)} {before missed : Bool} → IsSame old before new missed → Notes old new before missed []
 nothing_told {old} {new} {before} {missed} (stays, none) = record {
   same = ap (λ (b : MutBor (Items Complaint)). b.ghost_name) stays;
   room = ap (λ (b : MutBor (Items Complaint)). b.now.capacity) stays;
@@ -178,11 +185,23 @@ nothing_told {old} {new} {before} {missed} (stays, none) = record {
       (subst (λ (b : MutBor (Items Complaint)). Keeps all b.now before) (sym stays) kept));
 }
 
-pub line_told : {old new : MutBor (Items Complaint)} {before missed : Bool} (tell is : Tell) → tell ≡ is → wrong_in is ≡ []
-    → IsSame old before new missed → Notes old new before missed (wrong_in tell)
-line_told {old} {new} {before} {missed} tell is same none stays =
-    subst (λ (k : Tell). Notes old new before missed (wrong_in k)) (sym same)
-    (subst (λ (l : List Complaint). Notes old new before missed l) (sym none) (nothing_told stays))
+pub told_as : {old new : MutBor (Items Complaint)} {before missed : Bool} {more all : List Complaint} → more ≡ all
+    → Notes old new before missed more → Notes old new before missed all
+told_as {old} {new} {before} {missed} same notes = subst (λ (l : List Complaint). Notes old new before missed l) same notes
+
+pub chosen_told : {old new : MutBor (Items Complaint)} {before missed : Bool} (x y : Bool) (first second : List Complaint) → y ≡ x
+    → Notes old new before missed (if x then first else second) → Notes old new before missed (if y then first else second)
+chosen_told {old} {new} {before} {missed} x y first second is notes =
+    subst (λ (z : Bool). Notes old new before missed (if z then first else second)) (sym is) notes
+
+pub told_for : {old new : MutBor (Items Complaint)} {before missed : Bool} (tell is : Tell) (t : Setting) → tell ≡ is
+    → Notes old new before missed (wrong_in is t) → Notes old new before missed (wrong_in tell t)
+told_for {old} {new} {before} {missed} tell is t same notes = subst (λ (k : Tell). Notes old new before missed (wrong_in k t)) (sym same) notes
+
+pub line_told : {old new : MutBor (Items Complaint)} {before missed : Bool} (tell is : Tell) (t : Setting) → tell ≡ is → wrong_in is t ≡ []
+    → IsSame old before new missed → Notes old new before missed (wrong_in tell t)
+line_told {old} {new} {before} {missed} tell is t same none stays =
+    told_for tell is t same (subst (λ (l : List Complaint). Notes old new before missed l) (sym none) (nothing_told stays))
 
 -- ---- one byte more of a block
 

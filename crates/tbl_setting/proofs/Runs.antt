@@ -20,7 +20,7 @@ use Rattle.tbl_drawing.specs.Tapes.{Tape, Sends, SendsIn, Draws, failed_since}
 use Rattle.tbl_drawing.proofs.Tapes.{draws_nothing, sends_then}
 use Rattle.tbl_setting.specs.Running.{Puts, PutsFront, IsBroken, Ran, said_so_far}
 use Rattle.tbl_setting.specs.Bounds.{Bounds, page_setting}
-use Rattle.tbl_setting.specs.Setting.{EndsAs, IsSame, Shown, Shows, first_tape, hears, set, set_bytes, strokes}
+use Rattle.tbl_setting.specs.Setting.{EndsAs, IsSame, Keeps, Shown, Shows, first_tape, hears, set, set_bytes, strokes, wrongs}
 use Rattle.tbl_setting.proofs.Pieces.{heard-said}
 
 pub went_out : (f : Bool) (h now : Option (List ℕ)) (left out : List ℕ) → SendsIn false f h [] now left out → f ≡ false → left ≡ [] → Appends h now out
@@ -40,6 +40,7 @@ said_to ps s = record s { said = ps }
 pub record Starts {A : Type 0} (shows : A → Shown → Type 0) (old : A) (w : Bounds) (s : Shown) : Type 0 where
   pub shows_it : shows old (said_to [] s)
   pub setting : s.setting ≡ page_setting w
+  pub nothing : s.wrong ≡ []
 
 -- what one shows in the end who has heard this
 shown : {A : Type 0} (shows : A → Shown → Type 0) (old new : A) (w : Bounds) (ps : List Piece) (s : Shown) (a : Tape) (table : MutBor Setting) (kept : MutBor (Items Complaint)) (missed : Bool)
@@ -63,18 +64,23 @@ module _ {A : Type 0} (shows : A → Shown → Type 0) (old new : A) (w : Bounds
     (start : Starts shows old w s)
     (is : (s : Shown) → shows new s → Shows a table kept missed s)
     (flushed : Draws a b (Bytes [] ∷ [])) where
+  kept-wrong : (ps : List Piece) → Shows a table kept missed (said_to ps s) → Keeps (wrongs ps (page_setting w)) kept.now missed
+  kept-wrong ps h =
+      subst (λ (t : Setting). Keeps (wrongs ps t) kept.now missed) start.setting
+      (subst (λ (l : List Complaint). Keeps (l ++ wrongs ps s.setting) kept.now missed) start.nothing h.keeps)
+
   parted : (ps : List Piece) → Shows a table kept missed (said_to ps s) → table.now.layout.uneven ≡ (set ps (page_setting w)).layout.uneven
   parted ps h = ap (λ (t : Setting). t.layout.uneven) (h.setting_now ∙ ap (set ps) start.setting)
 
   whole : (ps : List Piece) → Tells shows hears ps old new → b.failed ≡ false → b.pending ≡ [] → Puts (set_bytes w ps) ps (page_setting w) s.held b.held kept.now missed table.now.layout.uneven
   whole ps told live empty =
       let h = shown shows old new w ps s a table kept missed start is told in
-      record { went_out = went_out b.failed s.held b.held b.pending (set_bytes w ps) (sent w ps s a b table kept missed start.setting h flushed).sends live empty; keeps = h.keeps; parts = parted ps h }
+      record { went_out = went_out b.failed s.held b.held b.pending (set_bytes w ps) (sent w ps s a b table kept missed start.setting h flushed).sends live empty; keeps = kept-wrong ps h; parts = parted ps h }
 
   part : (ps : List Piece) → Tells shows hears ps old new → PutsFront (set_bytes w ps) ps (page_setting w) s.held b.held kept.now missed table.now.layout.uneven
   part ps told =
       let h = shown shows old new w ps s a table kept missed start is told in
-      record { went_out = front_out b.failed s.held b.held b.pending (set_bytes w ps) (sent w ps s a b table kept missed start.setting h flushed).sends; keeps = h.keeps; parts = parted ps h }
+      record { went_out = front_out b.failed s.held b.held b.pending (set_bytes w ps) (sent w ps s a b table kept missed start.setting h flushed).sends; keeps = kept-wrong ps h; parts = parted ps h }
 
   either : {ps qs : List Piece} → Tells shows hears ps old new ⊎ Tells shows hears qs old new
       → PutsFront (set_bytes w ps) ps (page_setting w) s.held b.held kept.now missed table.now.layout.uneven ⊎ PutsFront (set_bytes w qs) qs (page_setting w) s.held b.held kept.now missed table.now.layout.uneven
@@ -174,6 +180,7 @@ lent out table kept = record {
   held = out.held;
   failures = out.failures;
   setting = table.now;
+  wrong = [];
   said = [];
   setting_name = table.ghost_name;
   name = kept.ghost_name;

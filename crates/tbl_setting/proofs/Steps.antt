@@ -5,54 +5,33 @@ use Rattle.nr_units.specs.Failures.{SinkFailures, put_counted_if}
 use Rattle.nr_vectors.specs.Items.{Items}
 use Rattle.tbl_setting.specs.declared.setting.Setting.{Setting}
 use Rattle.tbl_setting.specs.Held.{emptied}
-use Rattle.tbl_drawing.specs.Pens.{Stroke, Bytes}
+use Rattle.tbl_drawing.specs.Pens.{Bytes}
 use Rattle.tbl_drawing.specs.Tapes.{Tape, Sends, Draws, failed_since}
 use Rattle.tbl_drawing.proofs.Tapes.{draws_nothing, sends_then}
 use Rattle.tbl_reader.specs.declared.complaint.Complaint.{Complaint}
 use Rattle.tbl_reader.specs.declared.running.Outcome.{Outcome}
-use Rattle.tbl_reader.specs.declared.telling.Tell.TheVariants as tells
-use Rattle.tbl_reader.specs.Telling.{Piece, heard, piece}
-use Rattle.tbl_setting.specs.Setting.{EndsAs, IsSame, Keeps, KeepsMore, Shown, Shows, first_tape, hears, set, strokes, wrongs}
+use Rattle.tbl_reader.specs.Telling.{Piece, heard}
+use Rattle.tbl_setting.specs.Setting.{EndsAs, IsSame, Keeps, KeepsMore, Shown, Shows, first_tape, hears, set, wrongs}
 use Rattle.tbl_setting.specs.Stepping.{AreKept, Sent, pieces_bytes}
 use Rattle.tbl_setting.proofs.Runs.{front_out, lent, went_out}
-use Rattle.tbl_setting.proofs.Pieces.{heard-said, set-append, strokes-append, wrongs-append}
+use Rattle.tbl_setting.proofs.Pieces.{heard-said}
 
--- ---- one who has heard only what is wrong
-
-noted : List Complaint → List Piece
-noted [] = []
-noted (c ∷ cs) = piece (tells.Wrong c) [] ∷ noted cs
-
-wrongs-noted : (cs : List Complaint) → wrongs (noted cs) ≡ cs
-unfolding noted
-wrongs-noted [] = refl
-wrongs-noted (c ∷ cs) = ap (λ (l : List Complaint). c ∷ l) (wrongs-noted cs)
-
-set-noted : (cs : List Complaint) (t : Setting) → set (noted cs) t ≡ t
-unfolding noted
-set-noted [] t = refl
-set-noted (c ∷ cs) t = set-noted cs t
-
-strokes-noted : (cs : List Complaint) (t : Setting) → strokes (noted cs) t ≡ []
-unfolding noted
-strokes-noted [] t = refl
-strokes-noted (c ∷ cs) t = strokes-noted cs t
+-- ---- one who has heard nothing since these complaints were told
 
 noting : List Complaint → Tape → MutBor Setting → MutBor (Items Complaint) → Shown
-noting all out table kept = record (lent out table kept) { said = noted all }
+noting all out table kept = record (lent out table kept) { wrong = all }
 
 begins : (all : List Complaint) (out : Tape) (table : MutBor Setting) (kept : MutBor (Items Complaint)) (missed : Bool)
     → out ≡ first_tape out.held out.failures → Keeps all kept.now missed → Shows out table kept missed (noting all out table kept)
 unfolding noting
 begins all out table kept missed same keeps = record {
-  draws = subst (λ (l : List Stroke). Draws (first_tape out.held out.failures) out l) (sym (strokes-noted all table.now))
-      (subst (λ t. Draws (first_tape out.held out.failures) t []) (sym same) (draws_nothing (first_tape out.held out.failures)));
+  draws = subst (λ t. Draws (first_tape out.held out.failures) t []) (sym same) (draws_nothing (first_tape out.held out.failures));
   setting_same = refl;
-  setting_now = sym (set-noted all table.now);
+  setting_now = refl;
   setting_room = refl;
   same = refl;
   room = refl;
-  keeps = subst (λ (l : List Complaint). Keeps l kept.now missed) (sym (wrongs-noted all)) keeps;
+  keeps = subst (λ (l : List Complaint). Keeps l kept.now missed) (sym (append-nil all)) keeps;
 }
 
 -- ---- and then these pieces
@@ -78,35 +57,27 @@ module _ (ps : List Piece) (out a b : Tape) (table table' table'' : MutBor Setti
     (here : table'' ≡ table')
     (same : IsSame kept' missed' kept'' missed'')
     (ends : EndsAs wanted o b) where
-  shown : (all : List Complaint) → Keeps all kept.now missed → Shows a table' kept' missed' (record (lent out table kept) { said = noted all ++ ps })
+  shown : (all : List Complaint) → Keeps all kept.now missed → Shows a table' kept' missed' (record (lent out table kept) { wrong = all; said = ps })
   unfolding noting
   shown all keeps = subst (Shows a table' kept' missed') (heard-said ps (noting all out table kept)) (told (noting all out table kept) (begins all out table kept missed fresh keeps))
 
-  more : KeepsMore kept.now missed kept''.now missed'' (wrongs ps)
+  more : KeepsMore kept.now missed kept''.now missed'' (wrongs ps table.now)
   more all keeps =
-      let h : Keeps (wrongs (noted all ++ ps)) kept'.now missed' = (shown all keeps).keeps in
-      let k : Keeps (all ++ wrongs ps) kept'.now missed' =
-      subst (λ (l : List Complaint). Keeps l kept'.now missed') (wrongs-append (noted all) ps ∙ ap (λ (l : List Complaint). l ++ wrongs ps) (wrongs-noted all)) h in
-      subst (λ (m : Bool). Keeps (all ++ wrongs ps) kept''.now m) (sym same.1)
-      (subst (λ (x : MutBor (Items Complaint)). Keeps (all ++ wrongs ps) x.now missed') (sym same.0) k)
+      let k : Keeps (all ++ wrongs ps table.now) kept'.now missed' = (shown all keeps).keeps in
+      subst (λ (m : Bool). Keeps (all ++ wrongs ps table.now) kept''.now m) (sym same.1)
+      (subst (λ (x : MutBor (Items Complaint)). Keeps (all ++ wrongs ps table.now) x.now missed') (sym same.0) k)
 
   drawn : (all : List Complaint) → Keeps all kept.now missed → Sends (first_tape out.held out.failures) b (pieces_bytes ps table.now)
   drawn all keeps =
-      let t = table.now in
-      let is : strokes (noted all ++ ps) t ≡ strokes ps t =
-      strokes-append (noted all) ps t ∙ ap (λ (l : List Stroke). l ++ strokes ps (set (noted all) t)) (strokes-noted all t)
-      ∙ ap (λ (u : Setting). strokes ps u) (set-noted all t) in
-      let draws : Draws (first_tape out.held out.failures) a (strokes ps t) = subst (Draws (first_tape out.held out.failures) a) is (shown all keeps).draws in
-      subst (Sends (first_tape out.held out.failures) b) (append-nil (pieces_bytes ps t)) (sends_then draws.sends flushed.sends)
+      subst (Sends (first_tape out.held out.failures) b) (append-nil (pieces_bytes ps table.now)) (sends_then (shown all keeps).draws.sends flushed.sends)
 
   set_so : (all : List Complaint) → Keeps all kept.now missed → table''.now ≡ set ps table.now
-  set_so all keeps =
-      ap (λ (x : MutBor Setting). x.now) here ∙ (shown all keeps).setting_now ∙ set-append (noted all) ps table.now ∙ ap (set ps) (set-noted all table.now)
+  set_so all keeps = ap (λ (x : MutBor Setting). x.now) here ∙ (shown all keeps).setting_now
 
 -- what a step comes to
 pub record StepsTo (ps : List Piece) (out b : Tape) (table table' : MutBor Setting) (kept kept' : MutBor (Items Complaint)) (missed missed' : Bool) : Type 0 where
   pub sent : Sent (pieces_bytes ps table.now) out.held b.held out.failures b.failures
-  pub keeps : KeepsMore kept.now missed kept'.now missed' (wrongs ps)
+  pub keeps : KeepsMore kept.now missed kept'.now missed' (wrongs ps table.now)
   pub setting_same : table'.ghost_name ≡ table.ghost_name
   pub setting_now : table'.now ≡ set ps table.now
   pub setting_room : emptied table'.now ≡ emptied table.now

@@ -50,7 +50,7 @@ set_so_far b bytes = set_bytes b (said_so_far b.limits b.cells bytes)
 pub record Puts (out : List ℕ) (said : List Piece) (s : Setting) (held new : Option (List ℕ)) (kept : Items Complaint)
     (missed uneven : Bool) : Type 0 where
   pub went_out : Appends held new out
-  pub keeps : Keeps (wrongs said) kept missed
+  pub keeps : Keeps (wrongs said s) kept missed
   pub parts : uneven ≡ (set said s).layout.uneven
 
 -- all bytes came
@@ -73,7 +73,7 @@ pub record IsCut (b : Bounds) (first last : Option Supply)
 pub record PutsFront (out : List ℕ) (said : List Piece) (s : Setting) (held new : Option (List ℕ)) (kept : Items Complaint)
     (missed uneven : Bool) : Type 0 where
   pub went_out : AppendsFront held new out
-  pub keeps : Keeps (wrongs said) kept missed
+  pub keeps : Keeps (wrongs said s) kept missed
   pub parts : uneven ≡ (set said s).layout.uneven
 
 -- some bytes came, and a part of what they come to went out, without the end or with it

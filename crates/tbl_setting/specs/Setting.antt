@@ -1,6 +1,6 @@
 -- What a page says is set: what becomes of the table that is held and of what is known of the page, and which strokes go out. Text outside
 -- of tables goes out as it stands; a table, or the rows of it that take all the room there is, as its lines.
-use Rattle.std.specs.Prelude.{◌≡◌, ℕ, List, [], ◌∷◌, ◌++◌, length, take, Bool, true, false, nat_lt, Option, ◌⊎◌, codes, if◌then◌else◌}
+use Rattle.std.specs.Prelude.{◌≡◌, ℕ, List, [], ◌∷◌, ◌++◌, length, take, Bool, true, false, nat_lt, Option, Some, ◌⊎◌, codes, if◌then◌else◌}
 use Rattle.std.specs.Borrow.{MutBor}
 use Rattle.nr_units.specs.Failures.{SinkFailures}
 use Rattle.nr_vectors.specs.Items.{Items}
@@ -16,7 +16,7 @@ use Rattle.tbl_drawing.specs.Tapes.{Tape, Draws}
 use Rattle.tbl_setting.specs.declared.setting.Setting.{Setting}
 use Rattle.tbl_setting.specs.Bounds.{Bounds, page_setting}
 use Rattle.tbl_setting.specs.Hearing.{called_heard, empty_added, form_of, line_heard, looks_of}
-use Rattle.tbl_setting.specs.Held.{emptied, page_heard, table, table_begun, table_set, table_strokes, with_table}
+use Rattle.tbl_setting.specs.Held.{emptied, page_heard, still_wide, table, table_begun, table_set, table_strokes, told, waits, with_table, with_wide}
 use Rattle.tbl_table.specs.Formats.{formats_begun, formats_ended, text_added}
 use Rattle.tbl_table.specs.Rows.{block_ended, field_added, is_full, is_tight, mark_added, row_ended, row_len, text_begun}
 use Rattle.tbl_table.specs.Table.{looking}
@@ -77,6 +77,9 @@ plain_end = codes ".if \\n(*u .fi\n"
 
 -- ---- by what is said: what becomes of the table and of what is known of the page, and what goes out
 
+abbrev pub wrong_heard : Complaint → Setting → Setting
+wrong_heard complaint s = with_wide (if waits complaint.kind s then Some complaint else s.wide) s
+
 abbrev pub line_set : Tell → List ℕ → Setting → Setting
 line_set tell text s = with_table (line_heard tell text (table s)) s
 
@@ -98,7 +101,7 @@ set_in tells.TableEnd text s = table_set true s
 set_in tells.Plain text s = begun_ended s
 set_in tells.Pass text s = page_heard text s
 set_in tells.PlainEnd text s = s
-set_in (tells.Wrong complaint) text s = s
+set_in (tells.Wrong complaint) text s = wrong_heard complaint s
 
 abbrev pub strokes_in : Tell → List ℕ → Setting → List Stroke
 strokes_in tells.Table text s = []
@@ -135,13 +138,24 @@ set_bytes b said = bytes_of (strokes said (page_setting b)) first
 
 -- ---- what is wrong
 
-abbrev pub wrong_in : Tell → List Complaint
-wrong_in (tells.Wrong complaint) = complaint ∷ []
-wrong_in tell = []
+abbrev pub wide_told : Setting → List Complaint
+wide_told s = told (still_wide (table_set true s))
 
-abbrev pub wrongs : List Piece → List Complaint
-wrongs [] = []
-wrongs (p ∷ ps) = wrong_in p.tell ++ wrongs ps
+abbrev pub begun_told : Setting → List Complaint
+begun_told s = if has_begun s.layout then wide_told s else []
+
+abbrev pub wrong_told : Complaint → Setting → List Complaint
+wrong_told complaint s = if waits complaint.kind s then [] else complaint ∷ []
+
+abbrev pub wrong_in : Tell → Setting → List Complaint
+wrong_in tells.TableEnd s = wide_told s
+wrong_in tells.Plain s = begun_told s
+wrong_in (tells.Wrong complaint) s = wrong_told complaint s
+wrong_in tell s = []
+
+abbrev pub wrongs : List Piece → Setting → List Complaint
+wrongs [] s = []
+wrongs (p ∷ ps) s = wrong_in p.tell s ++ wrongs ps (set_in p.tell p.text s)
 
 -- of these complaints the first are kept, as many as there is room for
 pub record Keeps (all : List Complaint) (kept : Items Complaint) (missed : Bool) : Type 0 where
@@ -176,12 +190,13 @@ abbrev pub first_tape : Option (List ℕ) → SinkFailures → Tape
 first_tape held failures =
     record { held = held; failures = failures; pending = []; failed = false; pen = first }
 
--- what its output held at first and how many of its calls had failed, the table that it had and what was known of the page, and what it
--- heard since; which of these and which complaints it was lent, with room for so many
+-- what its output held at first and how many of its calls had failed, the table that it had and what was known of the page, what was wrong
+-- before, and what it heard since; which of these and which complaints it was lent, with room for so many
 pub record Shown : Type 0 where
   pub held : Option (List ℕ)
   pub failures : SinkFailures
   pub setting : Setting
+  pub wrong : List Complaint
   pub said : List Piece
   pub setting_name : ℕ
   pub name : ℕ
@@ -198,7 +213,7 @@ pub record Shows (tape : Tape) (setting : MutBor Setting) (kept : MutBor (Items 
   pub setting_room : emptied setting.now ≡ emptied s.setting
   pub same : kept.ghost_name ≡ s.name
   pub room : kept.now.capacity ≡ s.capacity
-  pub keeps : Keeps (wrongs s.said) kept.now missed
+  pub keeps : Keeps (s.wrong ++ wrongs s.said s.setting) kept.now missed
 
 -- all that waits went out, or the output failed
 abbrev pub EndsAs : Outcome → Outcome → Tape → Type 0

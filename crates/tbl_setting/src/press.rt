@@ -2,7 +2,7 @@
 ghost use Rattle.std.specs.Prelude.{◌≡◌, ◌++◌, [], ◌∷◌, true, false};
 ghost use Rattle.tbl_drawing.specs.Pens.{Bytes};
 ghost use Rattle.tbl_drawing.specs.Tapes.{Draws};
-ghost use Rattle.tbl_setting.specs.Held.{table_strokes};
+ghost use Rattle.tbl_setting.specs.Held.{still_wide, table_set, table_strokes, told};
 ghost use Rattle.tbl_setting.specs.Setting as specs;
 ghost use Rattle.tbl_setting.specs.Setting.{Becomes, EndsAs, IsSame, Notes, wrong_in};
 
@@ -82,14 +82,38 @@ impl<'t, 'p, 'k, 'c, W: Sink> Press<'t, 'p, 'k, 'c, W> {
         }
     }
 
+    /// A complaint that waited for the table is told, if the table is wider than the line.
+    fn tell_wide(&mut self)
+        ensures out { self.new.out ≡ self.old.out }
+        ensures setting { self.new.setting ≡ self.old.setting }
+        ensures notes { Notes self.old.complaints self.new.complaints self.old.missed self.new.missed
+            (told (still_wide self.old.setting.now)) }
+    {
+        if let Some(complaint) = self.setting.still_wide() {
+            self.note(complaint);
+        }
+    }
+
+    /// The table ends: it goes out, or what wasn't put out of it.
+    fn end_table(&mut self)
+        ensures draws { Draws self.old.out self.new.out (table_strokes true self.old.setting.now) }
+        ensures setting { Becomes self.old.setting self.new.setting (table_set true self.old.setting.now) }
+        ensures notes { Notes self.old.complaints self.new.complaints self.old.missed self.new.missed
+            (specs.wide_told self.old.setting.now) }
+    {
+        self.setting.put_table(true, &mut self.out);
+        self.tell_wide();
+    }
+
     /// The rows that were read go out, if there are some, and the table ends.
     fn ends_begun(&mut self)
         ensures draws { Draws self.old.out self.new.out (specs.begun_strokes self.old.setting.now) }
         ensures setting { Becomes self.old.setting self.new.setting (specs.begun_ended self.old.setting.now) }
-        ensures complaints { IsSame self.old.complaints self.old.missed self.new.complaints self.new.missed }
+        ensures notes { Notes self.old.complaints self.new.complaints self.old.missed self.new.missed
+            (specs.begun_told self.old.setting.now) }
     {
         if self.setting.layout.has_begun() {
-            self.setting.put_table(true, &mut self.out);
+            self.end_table();
         }
     }
 
@@ -98,7 +122,8 @@ impl<'t, 'p, 'k, 'c, W: Sink> Press<'t, 'p, 'k, 'c, W> {
         ensures draws { Draws self.old.out self.new.out (specs.begun_strokes self.old.setting.now
             ++ Bytes specs.plain_begin ∷ []) }
         ensures setting { Becomes self.old.setting self.new.setting (specs.begun_ended self.old.setting.now) }
-        ensures complaints { IsSame self.old.complaints self.old.missed self.new.complaints self.new.missed }
+        ensures notes { Notes self.old.complaints self.new.complaints self.old.missed self.new.missed
+            (specs.begun_told self.old.setting.now) }
     {
         self.ends_begun();
         let _ = self.out.put(b".br\n.nr *u \\n(.u\n.nf\n");
@@ -130,6 +155,21 @@ impl<'t, 'p, 'k, 'c, W: Sink> Press<'t, 'p, 'k, 'c, W> {
         }
     }
 
+    /// Something is wrong, or may be.
+    fn hear_wrong(&mut self, complaint: Complaint)
+        ensures out { self.new.out ≡ self.old.out }
+        ensures setting { Becomes self.old.setting self.new.setting
+            (specs.wrong_heard complaint self.old.setting.now) }
+        ensures notes { Notes self.old.complaints self.new.complaints self.old.missed self.new.missed
+            (specs.wrong_told complaint self.old.setting.now) }
+    {
+        if self.setting.waits(complaint.kind) {
+            self.setting.set_wide(complaint);
+        } else {
+            self.note(complaint);
+        }
+    }
+
     /// What was read is set, or goes out.
     #[inline(always)]
     fn hear(&mut self, tell: Tell, text: &[u8])
@@ -137,7 +177,7 @@ impl<'t, 'p, 'k, 'c, W: Sink> Press<'t, 'p, 'k, 'c, W> {
         ensures setting { Becomes self.old.setting self.new.setting
             (specs.set_in tell text.now self.old.setting.now) }
         ensures notes { Notes self.old.complaints self.new.complaints self.old.missed self.new.missed
-            (wrong_in tell) }
+            (wrong_in tell self.old.setting.now) }
     {
         match tell {
             Tell::Pass => {
@@ -147,15 +187,13 @@ impl<'t, 'p, 'k, 'c, W: Sink> Press<'t, 'p, 'k, 'c, W> {
             Tell::PlainEnd => {
                 let _ = self.out.put(b".if \\n(*u .fi\n");
             }
-            Tell::TableEnd => {
-                self.setting.put_table(true, &mut self.out);
-            }
+            Tell::TableEnd => self.end_table(),
             Tell::Plain => self.stands(),
             Tell::Row => self.ends_line(tell, text),
             Tell::Rule => self.ends_line(tell, text),
             Tell::Request => self.ends_line(tell, text),
             Tell::BlockText => self.add_block(text),
-            Tell::Wrong(complaint) => self.note(complaint),
+            Tell::Wrong(complaint) => self.hear_wrong(complaint),
             Tell::Table => self.setting.begin_table(),
             Tell::Options(options) => self.setting.layout.grid.table.set_looks(looks_of(options)),
             Tell::Formats => self.setting.layout.grid.table.formats_begin(),

@@ -1,5 +1,5 @@
 //! A table as it is set, and the page around it.
-ghost use Rattle.std.specs.Prelude.{◌≡◌, ◌+◌, IfOk, true};
+ghost use Rattle.std.specs.Prelude.{◌≡◌, ◌+◌, IfOk, Some, true};
 ghost use Rattle.tbl_columns.specs.Held.{no_room};
 ghost use Rattle.tbl_drawing.specs.Tapes.{Draws};
 ghost use Rattle.tbl_setting.specs.Held as specs;
@@ -12,6 +12,7 @@ use nr_vectors::CountedAlloc;
 use std::alloc::AllocError;
 use tbl_columns::Room;
 use tbl_drawing::{Layout, Out};
+use tbl_reader::{Complaint, Kind};
 use tbl_table::{Signs, Table};
 
 /// The table that is held, and what is known of the page.
@@ -24,6 +25,8 @@ pub struct Setting {
     pub(crate) cells: usize,
     /// Tables of manual pages that are wider than the line are narrowed.
     pub(crate) fits: bool,
+    /// The table was read as wider than the line, and is narrowed: this is told if it stays so.
+    pub(crate) wide: Option<Complaint>,
 }
 
 /// A line of which nothing was heard.
@@ -60,6 +63,7 @@ impl Setting {
             watch,
             cells,
             fits: true,
+            wide: None,
         })
     }
 
@@ -83,6 +87,7 @@ impl Setting {
         self.layout.grid.room = unknown_room();
         self.layout.grid.spreads = true;
         self.watch.begin(self.cells);
+        self.wide = None;
     }
 
     /// A table begins, in the line of which was heard.
@@ -93,6 +98,7 @@ impl Setting {
         self.layout.begin();
         self.layout.grid.spreads = self.watch.spreads();
         self.layout.grid.room = self.watch.room(self.fits);
+        self.wide = None;
     }
 
     /// Lines outside of tables pass.
@@ -143,6 +149,42 @@ impl Setting {
         ensures room { specs.emptied self.new ≡ specs.emptied self.old }
     {
         let _ = self.layout.put_table(ends, out);
+    }
+
+    /// Whether a table that is wider than the line is narrowed.
+    fn narrows(&self) -> bool
+        ensures { result ≡ specs.narrows self.now }
+    {
+        self.layout.grid.room.fits && !self.layout.grid.table.looks.nofit
+    }
+
+    /// Whether such a complaint waits for the table to go out: it may be no wider than the line then.
+    pub(crate) fn waits(&self, kind: Kind) -> bool
+        ensures { result ≡ specs.waits kind self.now }
+    {
+        matches!(kind, Kind::TooWide) && self.narrows()
+    }
+
+    /// One waits.
+    pub(crate) fn set_wide(&mut self, complaint: Complaint)
+        ensures value { self.new ≡ specs.with_wide (Some complaint) self.old }
+        ensures room { specs.emptied self.new ≡ specs.emptied self.old }
+    {
+        self.wide = Some(complaint);
+    }
+
+    /// Whether the table that went out is wider than the line.
+    fn is_wide(&self) -> bool
+        ensures { result ≡ specs.is_wide self.now }
+    {
+        self.layout.grid.end() > self.layout.grid.line_room()
+    }
+
+    /// What waits for a table that went out, if it is wider than the line.
+    pub(crate) fn still_wide(&self) -> Option<Complaint>
+        ensures { result ≡ specs.still_wide self.now }
+    {
+        if self.is_wide() { self.wide } else { None }
     }
 
     /// Whether a table of the page went out in parts whose columns may differ.

@@ -40,7 +40,7 @@ fn read_and_set<W: Sink>(
     ensures sent { specs.Sent (specs.next_bytes next reader.old press.old.setting.now) press.old.out.held
         press.new.out.held press.old.out.failures press.new.out.failures }
     ensures keeps { KeepsMore press.old.complaints.now press.old.missed press.new.complaints.now press.new.missed
-        (wrongs (next_read next reader.old).pieces) }
+        (wrongs (next_read next reader.old).pieces press.old.setting.now) }
     ensures same { press.new.complaints.ghost_name ≡ press.old.complaints.ghost_name }
     ensures room { press.new.complaints.now.capacity ≡ press.old.complaints.now.capacity }
 {
@@ -69,7 +69,7 @@ pub fn set_next<W: Sink>(
     ensures sent { specs.Sent (specs.next_bytes next reader.old setting.old) out.entry.held (W.held result.output)
         out.entry.failures (W.failures result.output) }
     ensures keeps { KeepsMore complaints.old missed complaints.new result.missed
-        (wrongs (next_read next reader.old).pieces) }
+        (wrongs (next_read next reader.old).pieces setting.old) }
     ensures room { complaints.new.capacity ≡ complaints.old.capacity }
 {
     let mut press = Press {

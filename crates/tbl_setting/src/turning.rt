@@ -212,8 +212,9 @@ fn turn<R: Source, W: Sink>(
 /// is too long, it is what the bytes before come to, but for what is half read; at a write fault a prefix of it went
 /// out.
 /// Proved: The complaints that are kept are the first of the definition's for the bytes that came, each with its
-/// line, in input order, as many as there is room for. That there were more is reported exactly then. If the run is
-/// done those of the end are among them; at a write fault they may be.
+/// line, in input order, as many as there is room for; that a table which is narrowed stays wider than the line comes
+/// after what is wrong inside it. That there were more is reported exactly then. If the run is done those of the end
+/// are among them; at a write fault they may be.
 /// Proved: A read fault is reported only where a call of the source failed, and then always, but where the sink
 /// failed too; a write fault where a call of the sink failed, and else none did.
 /// Proved: The next page is turned as the first one was: by the same limits, from a table that holds nothing, in the

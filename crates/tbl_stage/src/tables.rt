@@ -164,7 +164,7 @@ impl Tables {
         ensures fills { Fills (next_bytes next self.old.page self.old.setting) out.new.items out.new.capacity }
         ensures room { out.new.capacity ≡ out.old.capacity }
         ensures keeps { KeepsMore complaints.old missed complaints.new result
-            (wrongs (next_read next self.old.page).pieces) }
+            (wrongs (next_read next self.old.page).pieces self.old.setting) }
     {
         self.pending.clear();
         let sink = Filling::over(mem::replace(out, Space::nothing()));
