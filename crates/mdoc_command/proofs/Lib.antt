@@ -1,3 +1,4 @@
 mod Printing
 mod Turns
 mod Unread
+mod Written

@@ -1,4 +1,5 @@
 pub mod Blocks
+pub mod Complaints
 pub mod Converting
 pub mod Lines
 pub mod Names

@@ -1,4 +1,11 @@
 // The lines that tell what is wrong with pages.
+ghost use Rattle.std.specs.Prelude.{◌≡◌, ◌||◌, ◌==◌, OnOk, OnErr, length, not};
+ghost use Rattle.std.specs.Io.KnownBytes.{Appends};
+ghost use Rattle.std.specs.List.{flat_map};
+ghost use Rattle.nr_units.specs.Failures.{put_counted};
+ghost use Rattle.nr_units.specs.Sink.{AppendsFront};
+ghost use Rattle.filters.specs.Endings.{Tells};
+ghost use Rattle.mdoc_command.specs.Complaints as specs;
 
 use super::shown::shown;
 use super::telling::{Complaint, Kind, Told};
@@ -8,37 +15,75 @@ use nr_units::Name;
 use nr_units::sink::Sink;
 use nr_units::source::Fault;
 
-/// Writes what is wrong, and the name of a macro.
-fn put_about<E: Sink>(what: &[u8], name: Name, errors: &mut E) -> Result<(), Fault> {
-    put_all(&[what, shown(name).as_bytes()], errors)
+/// What a line says is wrong: what, a name of the page, what stands between, and another name.
+#[derive(Clone, Copy)]
+struct Parts {
+    what: &'static [u8],
+    first: Name,
+    between: &'static [u8],
+    second: Name,
 }
 
-/// Writes the name of a macro that is none; what was cut of it stands as dots.
-fn put_unknown<E: Sink>(name: Name, cut: bool, errors: &mut E) -> Result<(), Fault> {
-    put_about(b"unknown macro: ", name, errors)?;
-    if cut { errors.put(b"..") } else { Ok(()) }
-}
-
-/// Writes what is wrong, and the names of two macros, of which the first breaks the block of the second.
-fn put_breaks<E: Sink>(what: &[u8], by: Name, block: Name, errors: &mut E) -> Result<(), Fault> {
-    let (by, block) = (shown(by), shown(block));
-    put_all(
-        &[what, by.as_bytes(), b" breaks ", block.as_bytes()],
-        errors,
-    )
-}
-
-/// Writes what is wrong, the name of a macro, and its word where that is kept.
-fn put_word<E: Sink>(what: &[u8], name: Name, word: Name, errors: &mut E) -> Result<(), Fault> {
-    put_about(what, name, errors)?;
-    if word.is_empty() {
-        return Ok(());
+/// What is wrong, and the name of a macro.
+fn about(what: &'static [u8], first: Name) -> Parts
+    ensures { specs.parts_text result ≡ specs.about what.now first }
+{
+    Parts {
+        what,
+        first,
+        between: b"",
+        second: Name::new(),
     }
-    put_all(&[b" ", shown(word).as_bytes()], errors)
+}
+
+/// The name of a macro that is none; what was cut of it stands as dots.
+fn unknown(first: Name, cut: bool) -> Parts
+    ensures { specs.parts_text result ≡ specs.unknown first cut }
+{
+    let between = if cut {
+        b"..".as_slice()
+    } else {
+        b"".as_slice()
+    };
+    Parts {
+        what: b"unknown macro: ",
+        first,
+        between,
+        second: Name::new(),
+    }
+}
+
+/// What is wrong, and the names of two macros, of which the first breaks the block of the second.
+fn breaks(what: &'static [u8], first: Name, second: Name) -> Parts
+    ensures { specs.parts_text result ≡ specs.breaks what.now first second }
+{
+    Parts {
+        what,
+        first,
+        between: b" breaks ",
+        second,
+    }
+}
+
+/// What is wrong, the name of a macro, and its word where that is kept.
+fn about_word(what: &'static [u8], first: Name, second: Name) -> Parts
+    ensures { specs.parts_text result ≡ specs.about_word what.now first second }
+{
+    if second.is_empty() {
+        return about(what, first);
+    }
+    Parts {
+        what,
+        first,
+        between: b" ",
+        second,
+    }
 }
 
 /// What a macro outside of its list is.
-fn outside(name: Name) -> &'static [u8] {
+fn outside(name: Name) -> &'static [u8]
+    ensures { result.now ≡ specs.outside_text name }
+{
     if name.as_bytes() == b"It".as_slice() {
         b"item outside list: "
     } else {
@@ -47,7 +92,9 @@ fn outside(name: Name) -> &'static [u8] {
 }
 
 /// What lacks its kind.
-fn without_kind(name: Name) -> &'static [u8] {
+fn without_kind(name: Name) -> &'static [u8]
+    ensures { result.now ≡ specs.without_kind_text name }
+{
     if name.as_bytes() == b"Bl".as_slice() {
         b"missing list type: "
     } else {
@@ -56,7 +103,9 @@ fn without_kind(name: Name) -> &'static [u8] {
 }
 
 /// What a word is that its macro doesn't know.
-fn unknown_word(name: Name) -> &'static [u8] {
+fn unknown_word(name: Name) -> &'static [u8]
+    ensures { result.now ≡ specs.unknown_word_text name }
+{
     if name.as_bytes() == b"St".as_slice() {
         b"unknown standard specifier: "
     } else if name.as_bytes() == b"Lb".as_slice() {
@@ -67,7 +116,9 @@ fn unknown_word(name: Name) -> &'static [u8] {
 }
 
 /// What comes after the first heading.
-fn late(name: Name) -> &'static [u8] {
+fn late(name: Name) -> &'static [u8]
+    ensures { result.now ≡ specs.late_text name }
+{
     if name.as_bytes() == b"Dt".as_slice() {
         b"late title macro: "
     } else {
@@ -75,32 +126,65 @@ fn late(name: Name) -> &'static [u8] {
     }
 }
 
-/// Writes what is wrong with the words of a line.
-fn put_line_kind<E: Sink>(kind: Kind, errors: &mut E) -> Result<(), Fault> {
+/// What is wrong.
+fn parts_of(kind: Kind) -> Parts
+    ensures { specs.parts_text result ≡ specs.kind_text kind }
+{
     match kind {
-        Kind::Outside(name) => put_about(outside(name), name, errors),
-        Kind::NoKind(name) => put_about(without_kind(name), name, errors),
-        Kind::BadWord(name, word) => put_word(unknown_word(name), name, word, errors),
-        Kind::NoSection(name, word) => put_word(b"missing section argument: ", name, word, errors),
-        Kind::Empty(name) => put_about(b"empty macro: ", name, errors),
-        Kind::Words(name) => put_about(b"arguments that are not taken: ", name, errors),
-        Kind::Late(name) => put_about(late(name), name, errors),
-        Kind::OpenQuote(name) => put_about(b"unterminated quoted argument: ", name, errors),
-        _ => Ok(()),
+        Kind::Unknown(name, cut) => unknown(name, cut),
+        Kind::NotOpen(name) => about(b"end of block that is not open: ", name),
+        Kind::TooMany(name) => about(b"more than 64 blocks open: ", name),
+        Kind::Nested(by, block) => breaks(b"blocks badly nested: ", by, block),
+        Kind::Broken(by, block) => breaks(b"missing end of block: ", by, block),
+        Kind::NotEnded(name) => about(b"missing end of block: ", name),
+        Kind::Outside(name) => about(outside(name), name),
+        Kind::NoKind(name) => about(without_kind(name), name),
+        Kind::BadWord(name, word) => about_word(unknown_word(name), name, word),
+        Kind::NoSection(name, word) => about_word(b"missing section argument: ", name, word),
+        Kind::Empty(name) => about(b"empty macro: ", name),
+        Kind::Words(name) => about(b"arguments that are not taken: ", name),
+        Kind::Late(name) => about(late(name), name),
+        Kind::OpenQuote(name) => about(b"unterminated quoted argument: ", name),
     }
 }
 
-/// Writes what is wrong.
-fn put_kind<E: Sink>(kind: Kind, errors: &mut E) -> Result<(), Fault> {
-    match kind {
-        Kind::Unknown(name, cut) => put_unknown(name, cut, errors),
-        Kind::NotOpen(name) => put_about(b"end of block that is not open: ", name, errors),
-        Kind::TooMany(name) => put_about(b"more than 64 blocks open: ", name, errors),
-        Kind::Nested(by, block) => put_breaks(b"blocks badly nested: ", by, block, errors),
-        Kind::Broken(by, block) => put_breaks(b"missing end of block: ", by, block, errors),
-        Kind::NotEnded(name) => put_about(b"missing end of block: ", name, errors),
-        _ => put_line_kind(kind, errors),
-    }
+/// Writes how each line begins that is about a line of the text of this name.
+fn put_place<E: Sink>(program: &str, name: &str, line: &str, errors: &mut E) -> Result<(), Fault>
+    ensures ok { OnOk result (Appends (E.held errors.old) (E.held errors.new)
+        (specs.place_text program.now name.now line.now)) }
+    ensures err { OnErr result (AppendsFront (E.held errors.old) (E.held errors.new)
+        (specs.place_text program.now name.now line.now)) }
+    ensures failures { E.failures errors.new ≡ put_counted (E.failures errors.old) result }
+{
+    let parts = [
+        program.as_bytes(),
+        b": ",
+        name.as_bytes(),
+        b":",
+        line.as_bytes(),
+        b": ",
+    ];
+    put_all(&parts, errors)
+}
+
+/// Writes the rest of the line, with names as they are reported.
+fn put_parts<E: Sink>(
+    what: &[u8],
+    first: Name,
+    between: &[u8],
+    second: Name,
+    errors: &mut E,
+) -> Result<(), Fault>
+    ensures ok { OnOk result (Appends (E.held errors.old) (E.held errors.new)
+        (specs.rest_text what.now first between.now second)) }
+    ensures err { OnErr result (AppendsFront (E.held errors.old) (E.held errors.new)
+        (specs.rest_text what.now first between.now second)) }
+    ensures failures { E.failures errors.new ≡ put_counted (E.failures errors.old) result }
+{
+    let first = shown(first);
+    let second = shown(second);
+    let parts = [what, first.as_bytes(), between, second.as_bytes(), b"\n"];
+    put_all(&parts, errors)
 }
 
 /// Writes the line of a complaint of this program about the text of this name.
@@ -109,13 +193,17 @@ fn put_complaint<E: Sink>(
     name: &str,
     complaint: Complaint,
     errors: &mut E,
-) -> Result<(), Fault> {
+) -> Result<(), Fault>
+    ensures ok { OnOk result (Appends (E.held errors.old) (E.held errors.new)
+        (specs.complaint_line program.now name.now complaint)) }
+    ensures err { OnErr result (AppendsFront (E.held errors.old) (E.held errors.new)
+        (specs.complaint_line program.now name.now complaint)) }
+    ensures failures { E.failures errors.new ≡ put_counted (E.failures errors.old) result }
+{
     let mut digits = Buffer::new();
-    let line = digits.format(complaint.line).as_bytes();
-    let (program, name) = (program.as_bytes(), name.as_bytes());
-    put_all(&[program, b": ", name, b":", line, b": "], errors)?;
-    put_kind(complaint.kind, errors)?;
-    errors.put(b"\n")
+    put_place(program, name, digits.format(complaint.line), errors)?;
+    let parts = parts_of(complaint.kind);
+    put_parts(parts.what, parts.first, parts.between, parts.second, errors)
 }
 
 /// Writes a line for each of the complaints, up to the first fault of a write.
@@ -124,24 +212,60 @@ fn put_complaints<E: Sink>(
     name: &str,
     complaints: &[Complaint],
     errors: &mut E,
-) -> Result<(), Fault> {
+) -> Result<(), Fault>
+    ensures ok { OnOk result (Appends (E.held errors.old) (E.held errors.new)
+        (flat_map (specs.complaint_line program.now name.now) complaints.now)) }
+    ensures err { OnErr result (AppendsFront (E.held errors.old) (E.held errors.new)
+        (flat_map (specs.complaint_line program.now name.now) complaints.now)) }
+    ensures failures { E.failures errors.new ≡ put_counted (E.failures errors.old) result }
+{
     for complaint in complaints {
         put_complaint(program, name, *complaint, errors)?;
     }
     Ok(())
 }
 
-/// This program tells what is told of the text of this name, as far as `errors` takes it, and whether something is.
-pub fn tell_complaints<E: Sink>(
+/// Writes that there was more to tell, where there was.
+fn put_more<E: Sink>(program: &str, name: &str, missed: bool, errors: &mut E) -> Result<(), Fault>
+    ensures ok { OnOk result (Appends (E.held errors.old) (E.held errors.new)
+        (specs.more_lines program.now name.now missed)) }
+    ensures err { OnErr result (AppendsFront (E.held errors.old) (E.held errors.new)
+        (specs.more_lines program.now name.now missed)) }
+    ensures failures { E.failures errors.new ≡ put_counted (E.failures errors.old) result }
+{
+    if !missed {
+        return Ok(());
+    }
+    let parts = [program.as_bytes(), b": ", name.as_bytes(), b": and more\n"];
+    put_all(&parts, errors)
+}
+
+/// Writes what is told of the text of this name, up to the first fault of a write.
+fn put_told<E: Sink>(
     program: &str,
     name: &str,
     told: &Told<'_>,
     errors: &mut E,
-) -> bool {
-    let written = put_complaints(program, name, told.complaints(), errors);
-    if told.has_missed() && written.is_ok() {
-        let (program, name) = (program.as_bytes(), name.as_bytes());
-        let _ = put_all(&[program, b": ", name, b": and more\n"], errors);
-    }
+) -> Result<(), Fault>
+    ensures ok { OnOk result (Appends (E.held errors.old) (E.held errors.new)
+        (specs.lines_of program.now name.now told.now)) }
+    ensures err { OnErr result (AppendsFront (E.held errors.old) (E.held errors.new)
+        (specs.lines_of program.now name.now told.now)) }
+    ensures failures { E.failures errors.new ≡ put_counted (E.failures errors.old) result }
+{
+    put_complaints(program, name, told.complaints(), errors)?;
+    put_more(program, name, told.has_missed(), errors)
+}
+
+/// This program tells what is told of the text of this name, as far as `errors` takes it, and whether something is.
+///
+/// Proved: Each complaint about a text is written, in one line with the text's name and the line of the fault, in their
+/// order: all of them, or a prefix where a call failed.
+pub fn tell_complaints<E: Sink>(program: &str, name: &str, told: &Told<'_>, errors: &mut E) -> bool
+    ensures told { Tells (E.held errors.old) (E.held errors.new) (E.failures errors.old) (E.failures errors.new)
+        (specs.lines_of program.now name.now told.now) }
+    ensures wrong { result ≡ (told.now.missed || not (length told.now.complaints.items == 0)) }
+{
+    let _ = put_told(program, name, told, errors);
     told.has_missed() || !told.complaints().is_empty()
 }

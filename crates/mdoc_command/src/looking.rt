@@ -1,39 +1,33 @@
 // A page is looked at, and not turned.
+ghost use Rattle.std.specs.Prelude.{◌≡◌, IfErr, IfOk};
+ghost use Rattle.filters.specs.Endings.{Tells};
+ghost use Rattle.mdoc_command.specs.Complaints.{lines_of, told_of};
 
 use super::blocks::{MOST_OPEN, OpenBlock};
 use super::complaints::tell_complaints;
 use super::telling::{MOST_COMPLAINTS, room_for};
 use super::watching::Watch;
 use nr_units::sink::Sink;
-use nr_units::source::Source;
 use std::alloc::{AllocError, Global};
 
-/// A page hears what a source gives, and its end. Where the source fails nothing more is heard.
-fn hear<S: Source>(text: &mut S, page: &mut Watch<'_>) {
-    for _ in 0..u64::MAX {
-        match text.next() {
-            Ok(Some(byte)) => page.hear(byte),
-            Ok(None) => {
-                page.finish();
-                return;
-            }
-            Err(_) => return,
-        }
-    }
-}
-
-/// This program tells what mdoc would of the text of this name, as far as `errors` takes it. Nothing is turned.
-pub fn tell_page<S: Source, E: Sink>(
+/// This program tells what mdoc would of the text of this name, as far as `errors` takes it. Nothing is turned, and
+/// nothing told where memory is wanting.
+pub fn tell_page<E: Sink>(
     program: &str,
     name: &str,
-    text: &mut S,
+    text: &[u8],
     alloc: Global,
     errors: &mut E,
-) -> Result<(), AllocError> {
+) -> Result<(), AllocError>
+    ensures told { IfOk result (λ _. Tells (E.held errors.old) (E.held errors.new) (E.failures errors.old)
+        (E.failures errors.new) (lines_of program.now name.now (told_of text.now))) }
+    ensures untold { IfErr result (λ _. errors.new ≡ errors.old) }
+{
     let mut open = vec![in alloc; OpenBlock::none(); MOST_OPEN]?;
     let mut complaints = room_for(MOST_COMPLAINTS, alloc)?;
     let mut page = Watch::over(&mut open, &mut complaints);
-    hear(text, &mut page);
+    page.hear_all(text);
+    page.finish();
     tell_complaints(program, name, page.told(), errors);
     Ok(())
 }

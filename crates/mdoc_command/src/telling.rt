@@ -1,5 +1,5 @@
 // What is told of a page.
-ghost use Rattle.std.specs.Prelude.{◌≡◌, length};
+ghost use Rattle.std.specs.Prelude.{◌≡◌, IfOk, length};
 ghost use Rattle.mdoc_command.specs.Telling as specs;
 
 use super::blocks::OpenBlock;
@@ -54,7 +54,9 @@ pub struct Complaint {
 }
 
 /// Room for so many complaints.
-pub fn room_for(n: usize, alloc: Global) -> Result<Vec<Complaint>, AllocError> {
+pub fn room_for(n: usize, alloc: Global) -> Result<Vec<Complaint>, AllocError>
+    ensures { IfOk result (λ room. length room.items ≡ n) }
+{
     let none = Complaint {
         kind: Kind::NotEnded(Name::new()),
         line: 0,

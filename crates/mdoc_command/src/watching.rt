@@ -75,8 +75,8 @@ impl<'a> Watch<'a> {
     ///
     /// Proved: What is reported of a page is what the definition finds wrong with it: macros that are none, blocks
     /// and enclosures that nothing ends, ends of what is not open or in the wrong order, too many that are open, what
-    /// stands outside of its list or comes after the title's place, and the words of a macro's line. That each
-    /// complaint is written is read. (`Watch::hear`, `Watch::finish`)
+    /// stands outside of its list or comes after the title's place, and the words of a macro's line. (`Watch::hear`,
+    /// `Watch::finish`; `tell_complaints` in complaints.rt writes it)
     #[inline(always)]
     pub fn hear(&mut self, byte: u8)
         ensures { self.new ≡ specs.heard byte self.old }

@@ -112,7 +112,7 @@ pub(crate) fn prepare(
     ensures pages { IfOk result (λ made. ⟦<Pages as Sink>⟧.held made.pages ≡ Some []) }
     ensures limits { IfOk result (λ made. made.memory.desk ≡ limits) }
     ensures tables { IfOk result (λ made. bounds_in made.memory.rooms
-        ≡ tables_by setup.now made.sets (bounds_in made.memory.rooms).signs) }
+        ≡ tables_by setup.now made.sets (bounds_in made.memory.rooms).tables.signs) }
     ensures taken { IfOk result (λ made. alloc.new ≡ alloc.old + sum_of (sizes_of limits) + room
         + memory_of (page_limits setup.now.tables made.sets)) }
 {
@@ -141,7 +141,7 @@ pub(crate) fn print_own(
 ) -> u32
     ensures printed { prepared.sets ≡ sets_of setup.now text.now →
         ⟦<Pages as Sink>⟧.held prepared.pages ≡ Some [] → prepared.memory.desk ≡ bounds_of setup.now.limits →
-        bounds_in prepared.memory.rooms ≡ tables_by setup.now prepared.sets (bounds_in prepared.memory.rooms).signs →
+        bounds_in prepared.memory.rooms ≡ tables_by setup.now prepared.sets (bounds_in prepared.memory.rooms).tables.signs →
         prepared.cells ≡ ranked (specs.counts_for setup.now text.now) → OwnIsShort setup.now text.now →
         PrintsOwn setup.now macros.now text.now output.new told.new result }
     ensures not_range { result ≢ 2 }

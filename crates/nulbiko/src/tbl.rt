@@ -1,4 +1,4 @@
-// The tables of a text become requests, as tbl makes them.
+// The tables of a text become lines, as tbl sets them.
 ghost use Rattle.std.specs.Prelude.{◌≡◌, ◌≢◌, ◌↔◌, ◌+◌, ◌<◌, drop, length, IfOk, OnErr};
 ghost use Rattle.nulbiko.specs.Tables.{table_numbered};
 ghost use Rattle.nulbiko.specs.Told.{nothing_told};

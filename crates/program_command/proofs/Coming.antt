@@ -13,8 +13,9 @@ use Rattle.program_options.specs.Job.{Asked}
 use Rattle.program_options.specs.Reading.{Complaint, is_bad}
 use Rattle.program_options.specs.declared.usage.Usage.{Usage}
 use Rattle.program_plan.specs.Texts.{readings_of}
-use Rattle.program_command.specs.Program.{Comes, ComesTo, ComesToPages, IsNotRun, IsOfRun, IsUnopened, Opens, Passes}
-use Rattle.program_command.specs.Running.{IsNamed, Runs, files_of, text_of}
+use Rattle.program_command.specs.Program.{Comes, ComesTo, ComesToPages, EndsUnrun, IsNotRun, IsOfRun, IsUnopened, Opens, Passes, Warned}
+use Rattle.program_command.specs.Running.{IsNamed}
+use Rattle.program_command.specs.Warnings.{Heard}
 use Rattle.program_command.specs.declared.surroundings.Surroundings.{Surroundings}
 use Rattle.program_command.proofs.Kept.{Keeps-refl}
 use Rattle.program_command.specs.declared.endings.Ending.{Ending}
@@ -83,12 +84,12 @@ IsNotRun-unopened (LeftOut place why) unopened = absurd unopened
 
 -- nothing goes out then
 pub ComesTo-unopened : (may_come : Reading → Opening → Type 0) (texts_in : List ℕ → Option Texts) (job : Asked) (around : Surroundings) (ending : Ending) (a : Option (List ℕ))
-    → IsUnopened ending → ComesTo may_come texts_in job around ending a a
-ComesTo-unopened may_come texts_in job around ending a unopened = inl (record { unrun = IsNotRun-unopened ending unopened; kept = Keeps-refl a })
+    (before after : Heard) → IsUnopened ending → ComesTo may_come texts_in job around ending a a before after
+ComesTo-unopened may_come texts_in job around ending a before after unopened = inl (record { unrun = IsNotRun-unopened ending unopened; kept = Keeps-refl a })
 
 pub ComesTo-unrun : (may_come : Reading → Opening → Type 0) (texts_in : List ℕ → Option Texts) (job : Asked) (around : Surroundings) (ending : Ending) (a : Option (List ℕ))
-    → IsNotRun ending → ComesTo may_come texts_in job around ending a a
-ComesTo-unrun may_come texts_in job around ending a unrun = inl (record { unrun = unrun; kept = Keeps-refl a })
+    (before after : Heard) → IsNotRun ending → ComesTo may_come texts_in job around ending a a before after
+ComesTo-unrun may_come texts_in job around ending a before after unrun = inl (record { unrun = unrun; kept = Keeps-refl a })
 
 pub AreOpen-same : (may_come : Reading → Opening → Type 0) (readings : List Reading) (given others : List (Option Supply)) → given ≡ others
     → AreOpen may_come readings given → AreOpen may_come readings others
@@ -96,26 +97,28 @@ AreOpen-same may_come readings given others same opened = subst (λ (ss : List (
 
 -- or what its texts come to
 pub ComesTo-run : (may_come : Reading → Opening → Type 0) (texts_in : List ℕ → Option Texts) (job : Asked) (around : Surroundings) (readings : List Reading) (given : List (Option Supply))
-    (coding : Option Coding) (folder : Option (Option Texts)) (ending : Ending) (a b : Option (List ℕ)) → readings ≡ readings_of job → AreOpen may_come readings given
-    → IsNamed job.coding coding → folder ≡ option_map texts_in job.within → Runs job around (files_of job given) (text_of job coding folder given) ending a b
-    → ComesTo may_come texts_in job around ending a b
-ComesTo-run may_come texts_in job around readings given coding folder ending a b same opened named within runs = inr (record {
+    (coding : Option Coding) (folder : Option (Option Texts)) (ending : Ending) (a b : Option (List ℕ)) (before after : Heard) → readings ≡ readings_of job → AreOpen may_come readings given
+    → IsNamed job.coding coding → folder ≡ option_map texts_in job.within
+    → (EndsUnrun ending a b ⊎ Warned job around coding folder given ending a b before after)
+    → ComesTo may_come texts_in job around ending a b before after
+ComesTo-run may_come texts_in job around readings given coding folder ending a b before after same opened named within (inl unrun) = inl unrun
+ComesTo-run may_come texts_in job around readings given coding folder ending a b before after same opened named within (inr warned) = inr (record {
   given = given;
   opened = subst (λ (rs : List Reading). AreOpen may_come rs given) same opened;
   coding = coding;
   named = named;
-  runs = subst (λ (f : Option (Option Texts)). Runs job around (files_of job given) (text_of job coding f given) ending a b) within runs;
+  warned = subst (λ (f : Option (Option Texts)). Warned job around coding f given ending a b before after) within warned;
 })
 
 pub Comes-good : (answer : Result Asked Complaint) (job : Asked) (around : Surroundings) (may_come : Reading → Opening → Type 0) (texts_in : List ℕ → Option Texts) (asked asked' : Option (List Reading))
-    (unopened unprinted : Type 0) (held held' : Option (List ℕ)) (passed_on : Bool) (ending : Ending) → Ok job ≡ answer
-    → Opens may_come asked asked' (readings_of job) ending → ComesToPages may_come texts_in job around ending held held'
-    → (unprinted ⊎ Passes ending passed_on) → Comes answer around may_come texts_in asked asked' unopened unprinted held held' passed_on ending
-Comes-good answer job around may_come texts_in asked asked' unopened unprinted held held' passed_on ending is opens pages prints =
-    subst (λ (a : Result Asked Complaint). Comes a around may_come texts_in asked asked' unopened unprinted held held' passed_on ending) is (opens, pages, prints)
+    (unopened unprinted : Type 0) (held held' : Option (List ℕ)) (passed_on : Bool) (before after : Heard) (ending : Ending) → Ok job ≡ answer
+    → Opens may_come asked asked' (readings_of job) ending → ComesToPages may_come texts_in job around ending held held' before after
+    → (unprinted ⊎ Passes ending passed_on) → Comes answer around may_come texts_in asked asked' unopened unprinted held held' passed_on before after ending
+Comes-good answer job around may_come texts_in asked asked' unopened unprinted held held' passed_on before after ending is opens pages prints =
+    subst (λ (a : Result Asked Complaint). Comes a around may_come texts_in asked asked' unopened unprinted held held' passed_on before after ending) is (opens, pages, prints)
 
 pub Comes-bad : (answer : Result Asked Complaint) (usage : Usage) (around : Surroundings) (may_come : Reading → Opening → Type 0) (texts_in : List ℕ → Option Texts) (asked asked' : Option (List Reading))
-    (unopened unprinted : Type 0) (held held' : Option (List ℕ)) (passed_on : Bool) → is_bad usage.case usage.word.now ≡ answer → unopened → unprinted
-    → Comes answer around may_come texts_in asked asked' unopened unprinted held held' passed_on (BadWord usage)
-Comes-bad answer usage around may_come texts_in asked asked' unopened unprinted held held' passed_on is same_opener same_output =
-    subst (λ (a : Result Asked Complaint). Comes a around may_come texts_in asked asked' unopened unprinted held held' passed_on (BadWord usage)) is ((refl, refl), same_opener, same_output)
+    (unopened unprinted : Type 0) (held held' : Option (List ℕ)) (passed_on : Bool) (before after : Heard) → is_bad usage.case usage.word.now ≡ answer → unopened → unprinted
+    → Comes answer around may_come texts_in asked asked' unopened unprinted held held' passed_on before after (BadWord usage)
+Comes-bad answer usage around may_come texts_in asked asked' unopened unprinted held held' passed_on before after is same_opener same_output =
+    subst (λ (a : Result Asked Complaint). Comes a around may_come texts_in asked asked' unopened unprinted held held' passed_on before after (BadWord usage)) is ((refl, refl), same_opener, same_output)

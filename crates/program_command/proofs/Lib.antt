@@ -1,3 +1,5 @@
+pub mod Aheads
+pub mod Bytewise
 pub mod Coming
 pub mod Fullest
 pub mod Kept
@@ -7,3 +9,4 @@ pub mod Reading
 pub mod Shown
 pub mod Telling
 pub mod Texts
+pub mod Warning

@@ -4,3 +4,4 @@ pub mod Plan
 pub mod Printing
 pub mod Program
 pub mod Running
+pub mod Warnings

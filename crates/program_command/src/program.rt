@@ -1,5 +1,5 @@
 //! The program over its words.
-ghost use Rattle.std.specs.Prelude.{◌≡◌, ◌⊎◌, IfErr, IfOk, OnOk, map};
+ghost use Rattle.std.specs.Prelude.{◌≡◌, ◌⊎◌, IfErr, IfOk, OnOk, false, map, true};
 ghost use Rattle.std.specs.Option.{option_map};
 ghost use Rattle.nr_command.specs.Opening.{AreOpen, Asks};
 ghost use Rattle.nr_command.specs.Program.{IsRefused};
@@ -12,13 +12,15 @@ ghost use Rattle.program_command.specs.declared.endings.Ending.{Ending};
 ghost use Rattle.program_command.specs.Endings.{line_of, status_of};
 ghost use Rattle.program_plan.specs.Texts.{readings_of};
 ghost use Rattle.program_command.specs.Plan.{IsSelected};
-ghost use Rattle.program_command.specs.Program.{Comes, ComesTo, ComesToPages, IsOfRun, IsUnopened, Opens, Passes};
+ghost use Rattle.program_command.specs.Program.{Comes, ComesTo, ComesToPages, IsOfRun, IsUnopened, Opens, Passes, is_silent};
 ghost use Rattle.program_command.specs.Running.{IsNamed, IsReading};
+ghost use Rattle.program_command.specs.Warnings.{heard};
 
 use crate::endings::{Ending, tell};
 use crate::reaching::{Reach, Reaches};
-use crate::running::{Reading, run_texts};
+use crate::running::Reading;
 use crate::surroundings::Surroundings;
+use crate::warnings::run_warned;
 use command_line::{SystemWords, words_of};
 use nr_command::{BUFFER_SIZE, Disk, Heap, Memory, NotRun, Opener, Tree, open_texts, text_count};
 use nr_command_options::Job as Texts;
@@ -101,6 +103,11 @@ fn borrowed(words: &[String], alloc: Global) -> Result<Vec<&str>, AllocError> {
 /// Proved: All texts of a job are opened, each once and in order, before the first is read; or the first that can't
 /// be is reported, those before it were opened, and none after it was asked for; or none was asked for.
 /// Proved: Where no write fault is reported, all that was printed was passed on.
+/// Proved: Where words ask for it, what is told before that line is what is wrong with the pages of the job, each as it
+/// stands by itself and in their order: mdoc's complaints of a manual page, by the definition of mdoc_command, and those of its
+/// tables, by that of tbl_command, each once, with the name of its file and its line, up to 64 of a text and of its tables. Only of
+/// a text a call of which may fail, or that has 64 MiB or more, may it be told instead that it wasn't looked at. Where no word
+/// asks for it nothing is told. (`Warned` of Program.antt, `TellsTexts` of Warnings.antt)
 /// Proved: **What a reader gets of the program.** Where words ask for pages with what is struck over, what goes out is the
 /// document of document_printing: of the text that the opened files make one after the other, where a word names a
 /// folder with the texts of it that lines `.so` name in the places of these, under the coding that a word or the text
@@ -121,72 +128,103 @@ pub fn run_words<'b, O: Opener<'b> + Reaches, W: Sink + Drop, E: Sink>(
     errors: &mut E,
 ) -> (u8, W)
     ensures { (ending : Ending) × (result.0 ≡ status_of ending)
-        × Tells (E.held errors.old) (E.held errors.new) (E.failures errors.old) (E.failures errors.new)
-        (line_of ending)
+        × (told : E) × (is_silent (asked (texts words.now)) ≡ true → told ≡ errors.old)
+        × Tells (E.held told) (E.held errors.new) (E.failures told) (E.failures errors.new) (line_of ending)
         × Comes (asked (texts words.now)) around.now (O.may_come opener.old) (O.texts_in opener.old) (O.asked opener.old)
         (O.asked opener.new) (opener.new ≡ opener.old) (result.1 ≡ output) (W.held output) (W.held result.1) (W.passed_on result.1)
-        ending }
+        (heard (E.held errors.old) (E.failures errors.old)) (heard (E.held told) (E.failures told)) ending }
 {
-    let (ending, output) = ending_of(around, words, opener, buffers, output);
+    let (ending, output) = ending_of(around, words, opener, buffers, output, errors);
     (tell(ending, errors), output)
 }
 
 /// How the program ends over these words.
-fn ending_of<'a, 'b, O: Opener<'b> + Reaches, W: Sink + Drop>(
+fn ending_of<'a, 'b, O: Opener<'b> + Reaches, W: Sink + Drop, E: Sink>(
     around: &Surroundings,
     words: &'a [&'a str],
     opener: &mut O,
     buffers: &'b mut Vec<u8>,
     output: W,
+    errors: &mut E,
 ) -> (Ending<'a>, W)
-    ensures { Comes (asked (texts words.now)) around.now (O.may_come opener.old) (O.texts_in opener.old)
+    ensures comes { Comes (asked (texts words.now)) around.now (O.may_come opener.old) (O.texts_in opener.old)
         (O.asked opener.old) (O.asked opener.new) (opener.new ≡ opener.old) (result.1 ≡ output) (W.held output) (W.held result.1)
-        (W.passed_on result.1) result.0 }
+        (W.passed_on result.1) (heard (E.held errors.old) (E.failures errors.old))
+        (heard (E.held errors.new) (E.failures errors.new)) result.0 }
+    ensures silent { is_silent (asked (texts words.now)) ≡ true → errors.new ≡ errors.old }
 {
     match read_words(words) {
-        Ok(job) => run_job(around, &job, opener, buffers, output),
+        Ok(job) => run_job(around, &job, opener, buffers, output, errors),
         Err(usage) => (Ending::BadWord(usage), output),
     }
 }
 
 /// Runs a job.
-fn run_job<'a, 'b, O: Opener<'b> + Reaches, W: Sink + Drop>(
+fn run_job<'a, 'b, O: Opener<'b> + Reaches, W: Sink + Drop, E: Sink>(
     around: &Surroundings,
     job: &Job<'a>,
     opener: &mut O,
     buffers: &'b mut Vec<u8>,
     output: W,
+    errors: &mut E,
 ) -> (Ending<'a>, W)
     ensures opens { Opens (O.may_come opener.old) (O.asked opener.old) (O.asked opener.new)
         (readings_of (asked_of job.now)) result.0 }
     ensures pages { ComesToPages (O.may_come opener.old) (O.texts_in opener.old) (asked_of job.now) around.now result.0 (W.held output)
-        (W.held result.1) }
+        (W.held result.1) (heard (E.held errors.old) (E.failures errors.old))
+        (heard (E.held errors.new) (E.failures errors.new)) }
     ensures prints { (result.1 ≡ output) ⊎ Passes result.0 (W.passed_on result.1) }
+    ensures silent { (asked_of job.now).plain.warns ≡ false → errors.new ≡ errors.old }
 {
     match job.plain.says {
         Some(says) => say(says, output),
-        None => format_job(around, job, opener, buffers, output),
+        None => format_job(around, job, opener, buffers, output, errors),
     }
 }
 
-/// Runs a job that prints pages.
-fn format_job<'a, 'b, O: Opener<'b> + Reaches, W: Sink + Drop>(
+/// Runs a job that prints pages: finds the folder that words name, opens its texts, and reads them.
+fn format_job<'a, 'b, O: Opener<'b> + Reaches, W: Sink + Drop, E: Sink>(
     around: &Surroundings,
     job: &Job<'a>,
     opener: &mut O,
     buffers: &'b mut Vec<u8>,
     output: W,
+    errors: &mut E,
 ) -> (Ending<'a>, W)
     ensures opens { Opens (O.may_come opener.old) (O.asked opener.old) (O.asked opener.new)
         (readings_of (asked_of job.now)) result.0 }
     ensures pages { ComesTo (O.may_come opener.old) (O.texts_in opener.old) (asked_of job.now) around.now result.0 (W.held output)
-        (W.held result.1) }
+        (W.held result.1) (heard (E.held errors.old) (E.failures errors.old))
+        (heard (E.held errors.new) (E.failures errors.new)) }
     ensures prints { (result.1 ≡ output) ⊎ Passes result.0 (W.passed_on result.1) }
+    ensures silent { (asked_of job.now).plain.warns ≡ false → errors.new ≡ errors.old }
 {
-    match read_of(job) {
-        Ok(reading) => find_and_run(around, job, reading, opener, buffers, output),
+    let texts = texts_of(job);
+    match ready_of(job, opener) {
+        Ok(ready) => match open_all(&texts, around.alloc, opener, buffers) {
+            Ok(opened) => run_warned(job, around, ready, opened, output, errors),
+            Err(why) => match why {
+                NotRun::CannotOpen(input) => (Ending::CannotOpen(input), output),
+                NotRun::OutOfMemory => (Ending::OutOfMemory, output),
+            },
+        },
         Err(ending) => (ending, output),
     }
+}
+
+/// How the texts of a job are read, and the folder whose texts they may name, if words name one; or why it isn't run.
+fn ready_of<'a, O: Reaches>(
+    job: &Job<'a>,
+    opener: &O,
+) -> Result<(Reading, Option<O::Folder>), Ending<'a>>
+    ensures read { IfOk result (λ ready. IsReading (asked_of job.now) ready.0) }
+    ensures folder { IfOk result (λ ready. option_map O.Folder.texts ready.1
+        ≡ option_map (O.texts_in opener.now) (asked_of job.now).within) }
+    ensures unopened { IfErr result IsUnopened }
+{
+    let reading = read_of(job)?;
+    let folder = folder_of(job, opener)?;
+    Ok((reading, folder))
 }
 
 /// The pages that a job prints and the coding of its texts, or why it isn't run: the list of pages is bad, the coding is
@@ -266,57 +304,6 @@ fn coding_of<'a>(job: &Job<'a>) -> Result<Option<Coding>, Usage<'a>>
             case: Case::BadValue,
             word: name,
         }),
-    }
-}
-
-/// Finds the folder that words name, and runs a job.
-fn find_and_run<'a, 'b, O: Opener<'b> + Reaches, W: Sink + Drop>(
-    around: &Surroundings,
-    job: &Job<'a>,
-    reading: Reading,
-    opener: &mut O,
-    buffers: &'b mut Vec<u8>,
-    output: W,
-) -> (Ending<'a>, W)
-    requires { IsReading (asked_of job.now) reading }
-    ensures opens { Opens (O.may_come opener.old) (O.asked opener.old) (O.asked opener.new)
-        (readings_of (asked_of job.now)) result.0 }
-    ensures pages { ComesTo (O.may_come opener.old) (O.texts_in opener.old) (asked_of job.now) around.now result.0
-        (W.held output) (W.held result.1) }
-    ensures prints { (result.1 ≡ output) ⊎ Passes result.0 (W.passed_on result.1) }
-{
-    match folder_of(job, opener) {
-        Ok(folder) => open_and_run(around, job, (reading, folder), opener, buffers, output),
-        Err(ending) => (ending, output),
-    }
-}
-
-/// Opens the texts of a job, and runs it.
-fn open_and_run<'a, 'b, O: Opener<'b> + Reaches, W: Sink + Drop>(
-    around: &Surroundings,
-    job: &Job<'a>,
-    with: (Reading, Option<O::Folder>),
-    opener: &mut O,
-    buffers: &'b mut Vec<u8>,
-    output: W,
-) -> (Ending<'a>, W)
-    requires reading { IsReading (asked_of job.now) with.0 }
-    requires folder { option_map O.Folder.texts with.1
-        ≡ option_map (O.texts_in opener.old) (asked_of job.now).within }
-    ensures opens { Opens (O.may_come opener.old) (O.asked opener.old) (O.asked opener.new)
-        (readings_of (asked_of job.now)) result.0 }
-    ensures pages { ComesTo (O.may_come opener.old) (O.texts_in opener.old) (asked_of job.now) around.now result.0 (W.held output)
-        (W.held result.1) }
-    ensures prints { (result.1 ≡ output) ⊎ Passes result.0 (W.passed_on result.1) }
-{
-    let texts = texts_of(job);
-    let (reading, folder) = with;
-    match open_all(&texts, around.alloc, opener, buffers) {
-        Ok(mut opened) => run_texts(job, reading, around, &mut opened, folder, output),
-        Err(why) => match why {
-            NotRun::CannotOpen(input) => (Ending::CannotOpen(input), output),
-            NotRun::OutOfMemory => (Ending::OutOfMemory, output),
-        },
     }
 }
 

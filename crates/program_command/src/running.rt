@@ -75,7 +75,7 @@ fn first_name<'a>(job: &Job<'a>) -> &'a str
 }
 
 /// How many of the texts of a job are macro files.
-fn macro_count(job: &Job<'_>) -> usize
+pub(crate) fn macro_count(job: &Job<'_>) -> usize
     ensures { result ≡ length (macro_names (asked_of job.now)) }
 {
     if job.folder.is_some() {
@@ -238,7 +238,7 @@ fn is_for_others(job: &Job<'_>, first: &[u8]) -> bool
 }
 
 /// Texts under the coding that is named for them, or under that which the first of them says.
-fn under_coding<S: Source + Drop>(texts: S, coding: Option<Coding>) -> UnderCoding<S>
+pub(crate) fn under_coding<S: Source + Drop>(texts: S, coding: Option<Coding>) -> UnderCoding<S>
     ensures { ⟦<UnderCoding<S> as Source>⟧.supply result ≡ under coding (S.supply texts) }
 {
     match coding {
@@ -333,7 +333,7 @@ fn run_front<'a, 'p, T: Source + Drop, R: Source + Drop, W: Sink + Drop>(
 }
 
 /// Adds what a source gives, to its end. Tells whether the source failed nowhere.
-fn add_all<S: Source>(source: &mut S, text: &mut Vec<u8>) -> Result<bool, AllocError>
+pub(crate) fn add_all<S: Source>(source: &mut S, text: &mut Vec<u8>) -> Result<bool, AllocError>
     ensures { IfOk result (λ whole. whole ≡ true → (q : Supply) → S.supply source.old ≡ Some q →
         text.new.items ≡ text.old.items ++ q.bytes) }
 {

@@ -1,6 +1,8 @@
 pub mod Answering
 pub mod Bounding
+pub mod Looked
 pub mod Parting
 pub mod Reading
 pub mod Running
 pub mod Turns
+pub mod Written

@@ -1,3 +1,5 @@
 pub mod Arguments
+pub mod Complaints
 pub mod Converting
+pub mod Looking
 pub mod Signs

@@ -2,14 +2,17 @@
 //! how it ended.
 //!
 //! It stands on filters, filters_own, tbl_setting, utf8_own_page and what these stand on. To read: `arguments`, `complaints`, `signs`,
-//! `rooms`, `program`.
+//! `rooms`, `looking`, `program`.
 #![tactic(auto)]
 
 mod arguments;
 mod complaints;
+mod looking;
 mod program;
 mod rooms;
 mod signs;
 
+pub use arguments::Job;
 pub use complaints::tell_complaints;
+pub use looking::{Tables, look_at};
 pub use program::Tbl;

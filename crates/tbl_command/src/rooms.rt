@@ -1,5 +1,5 @@
 // The memory that texts are turned in.
-ghost use Rattle.std.specs.Prelude.{◌≡◌, IfOk};
+ghost use Rattle.std.specs.Prelude.{◌≡◌, IfOk, length};
 ghost use Rattle.tbl_setting.specs.Drawing.{signs_of};
 ghost use Rattle.tbl_setting.specs.Running.{with_fits};
 ghost use Rattle.tbl_command.specs.Converting.{bounds_of, ending_of};
@@ -25,15 +25,16 @@ pub struct Rooms {
     /// What was read of a text and is not taken yet.
     input: Vec<u8>,
     /// What is held of a table, and what is to go out.
-    held: tbl_setting::Rooms,
+    pub held: tbl_setting::Rooms,
     /// What is wrong with its tables.
-    complaints: Vec<Complaint>,
+    pub complaints: Vec<Complaint>,
 }
 
 impl Rooms {
     /// Takes the memory of a job beside what is held of a table.
     fn around(job: Job, held: tbl_setting::Rooms, alloc: Global) -> Result<Rooms, AllocError>
-        ensures { IfOk result (λ rooms. rooms.held ≡ with_fits job.fits held) }
+        ensures held { IfOk result (λ rooms. rooms.held ≡ with_fits job.fits held) }
+        ensures complaints { IfOk result (λ rooms. length rooms.complaints.items ≡ 64) }
     {
         let mut held = held;
         held.set_fits(job.fits);
@@ -46,7 +47,8 @@ impl Rooms {
 
     /// Takes the memory of a job whose frames are drawn with what a fixed table has, or in ASCII.
     pub fn new(job: Job, fixed: Option<Table>, alloc: Global) -> Result<Rooms, AllocError>
-        ensures { IfOk result (λ rooms. rooms.held ≡ bounds_of (signs_of fixed) job) }
+        ensures held { IfOk result (λ rooms. rooms.held ≡ bounds_of (signs_of fixed) job) }
+        ensures complaints { IfOk result (λ rooms. length rooms.complaints.items ≡ 64) }
     {
         let mut counted = CountedAlloc::new(alloc);
         let held = tbl_setting::Rooms::new(&mut counted, job.formats, job.row, job.line, fixed)?;

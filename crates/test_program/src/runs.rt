@@ -14,7 +14,7 @@ struct Row {
     line: &'static [u8],
 }
 
-static TEXTS: [(&str, Page<'static>); 12] = [
+static TEXTS: [(&str, Page<'static>); 13] = [
     ("one", Page::Bytes(b"one\n.br\ntwo")),
     ("-i", Page::Bytes(b".br\nthree")),
     (
@@ -27,6 +27,10 @@ static TEXTS: [(&str, Page<'static>); 12] = [
     ),
     ("lib/tmac.line", Page::Bytes(b".ll 20")),
     ("lib/tmac.page", Page::Bytes(b".pl 1")),
+    (
+        "lib/tmac.tables",
+        Page::Bytes(b".ig\n.TS\nl.\na\tb\n.TE\n..\n"),
+    ),
     ("man/man1/b.1", Page::Bytes(b"b\n")),
     (
         "man/man1/c.1",
@@ -190,7 +194,61 @@ here              today              A(1)\n",
 ];
 
 /// What is reported.
-static REPORTED: [Row; 16] = [
+static REPORTED: [Row; 22] = [
+    // what is wrong in the texts, where words ask for it: of pages of mdoc, and of tables
+    Row {
+        words: &[b"nulbiko", b"-z", b"--warnings", b"b.1", b"-"],
+        input: b".Dd\n.Xx\n",
+        output: b"",
+        status: 0,
+        line: b"nulbiko: -:2: unknown macro: Xx\n",
+    },
+    Row {
+        words: &[b"nulbiko", b"-z", b"-wmac"],
+        input: b".TS\nl.\na\tb\n.TE\n",
+        output: b"",
+        status: 0,
+        line: b"nulbiko: -:3: more fields than columns\n",
+    },
+    // of each file by itself and once, of its macros before its tables, and of no macro file; then its pages go out
+    Row {
+        words: &[b"nulbiko", b"-z", b"-wmac", b"-", b"b.1", b"-"],
+        input: b".Dd\n.Xx\n.TS\nl.\na\tb\n.TE\n",
+        output: b"",
+        status: 0,
+        line: b"nulbiko: -:2: unknown macro: Xx\nnulbiko: -:5: more fields than columns\n",
+    },
+    Row {
+        words: &[
+            b"nulbiko",
+            b"--warnings",
+            b"-Tascii",
+            b"-mpage",
+            b"-mtables",
+            b"-Mlib",
+            b"one",
+            b"-",
+        ],
+        input: b".TS\nl.\na\tb\n.TE\n",
+        output: b"one\ntwo\na\nb\n",
+        status: 0,
+        line: b"nulbiko: -:3: more fields than columns\n",
+    },
+    // of one that fails that it wasn't looked at
+    Row {
+        words: &[b"nulbiko", b"-z", b"--warnings", b"man/man1/cut.1"],
+        input: b"",
+        output: b"",
+        status: 3,
+        line: b"nulbiko: man/man1/cut.1: not looked at\nnulbiko: man/man1/cut.1:1: read fault\n",
+    },
+    Row {
+        words: &[b"nulbiko", b"-z", b"b.1", b"-"],
+        input: b".Dd\n.Xx\n",
+        output: b"",
+        status: 0,
+        line: b"",
+    },
     Row {
         words: &[b"nulbiko", b"-c", b"-V", b"-y"],
         input: b".pl 1\na\n",

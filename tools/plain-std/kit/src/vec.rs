@@ -35,6 +35,16 @@ impl<T> Vec<T> {
         Ok(items)
     }
 
+    /// The items of a slice.
+    pub fn from_slice(alloc: Global, items: &[T]) -> Result<Self, AllocError>
+    where
+        T: Clone,
+    {
+        let mut made = Vec::new(alloc);
+        made.extend_from_slice(items)?;
+        Ok(made)
+    }
+
     /// Adds copies of these items.
     pub fn extend_from_slice(&mut self, items: &[T]) -> Result<(), AllocError>
     where
