@@ -9,6 +9,7 @@ pub mod Hearing
 pub mod InComments
 pub mod Itself
 pub mod LinesGo
+pub mod MarksRead
 pub mod Names
 pub mod OpeningTable
 pub mod Plain

@@ -40,17 +40,30 @@ named_in (entry ∷ entries) name =
 unfoldable pub long_code : List ℕ → Option ℕ
 long_code name = named_in NAMES name
 
--- the character of a name: of two bytes, `uXXXX`, `charN`, a letter and its marks (`e aa`), or longer
-abbrev pub glyph_code : List ℕ → Option ℕ
-glyph_code name =
+-- the character of a name without marks: of two bytes, `uXXXX`, `charN`, or longer
+abbrev pub unmarked_code : List ℕ → Option ℕ
+unmarked_code name =
     if length name == 2 then pair_code (slice_index name 0) (slice_index name 1) else
     if nat_lt 4 (length name) && (slice_index name 0 == code "u")
     then below_codes (number_from 16 0 (drop 1 name)) else
     if nat_lt 4 (length name) && (slice_index name 0 == code "c") && (slice_index name 1 == code "h")
     && (slice_index name 2 == code "a") && (slice_index name 3 == code "r")
-    then code_of (drop 4 name) else
-    if nat_lt 2 (length name) && (slice_index name 1 == code " ") then Some (slice_index name 0)
-    else long_code name
+    then code_of (drop 4 name) else long_code name
+
+abbrev pub before_blank : List ℕ → List ℕ
+before_blank [] = []
+before_blank (b ∷ bs) = if b == code " " then [] else b ∷ before_blank bs
+
+-- the letter before marks: a byte, or that of a name
+abbrev pub letter_code : List ℕ → Option ℕ
+letter_code (b ∷ []) = Some b
+letter_code name = unmarked_code name
+
+-- the character of a name, without the marks that are named after it (`u0065_0301`, `e aa`)
+abbrev pub glyph_code : List ℕ → Option ℕ
+glyph_code name =
+    if nat_lt 2 (length name) && nat_lt (length (before_blank name)) (length name)
+    then letter_code (before_blank name) else unmarked_code name
 
 -- its last mark is a stroke through the letter, U+0338
 abbrev pub is_struck : List ℕ → Bool

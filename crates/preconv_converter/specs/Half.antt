@@ -3,6 +3,7 @@ use Prim.Native.Char.{code}
 use Rattle.std.specs.Prelude.{ℕ, [], Bool, true, false, not, ◌==◌, ◌&&◌, ◌||◌, if◌then◌else◌}
 use Rattle.preconv_converter.specs.declared.said.Said.{Said}
 use Rattle.preconv_converter.specs.declared.said.Said.TheVariants as says
+use Rattle.preconv_converter.specs.declared.composed.Marked.{Marked}
 use Rattle.preconv_converter.specs.declared.half.Half.{Half}
 use Rattle.preconv_converter.specs.declared.half.Seen.{Seen}
 use Rattle.preconv_converter.specs.declared.half.Line.{Line}
@@ -145,6 +146,9 @@ is_space c = (c == code " ") || (c == 160) || is_blank c
 -- what is said for a character: a blank must not end a word of a control line
 abbrev pub character_said : Line → ℕ → Said
 character_said line c = if is_space c && not (is_text line) then says.Escape (code "0") else says.Character c
+
+abbrev pub marked_said : Line → Marked → Said
+marked_said line m = if is_space m.letter && not (is_text line) then says.Escape (code "0") else says.Marked m
 
 -- after a condition, where `\{` begins a part
 abbrev pub takes_brace : Line → Bool

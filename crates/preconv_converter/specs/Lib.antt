@@ -1,5 +1,6 @@
 pub mod Beginnings
 pub mod Characters
+pub mod Composed
 pub mod Conditions
 pub mod Endings
 pub mod Escapes

@@ -1,6 +1,7 @@
 -- What a character looks like on a terminal of single bytes (groff_char(7)).
 use Prim.Native.Char.{code}
 use Rattle.std.specs.Prelude.{ℕ, ◌+◌, ◌-◌, ◌/◌, ◌%◌, List, [], ◌∷◌, ◌++◌, Bool, ◌==◌, ◌||◌, nat_le, nat_lt, if◌then◌else◌, Option, None, Some, codes, slice_get}
+use Rattle.preconv_converter.specs.declared.composed.Marked.{Marked}
 use Rattle.preconv_converter.specs.declared.target.Target.{Target}
 use Rattle.preconv_converter.specs.Numbers.{is_within}
 use Rattle.preconv_converter.specs.Targets.{byte_in_force, is_utf8, itself}
@@ -131,6 +132,16 @@ likeness target c =
     if c == cut then codes "\\(zb" else
     if is_utf8 target then itself c else
     byte_or (byte_in_force target c) (beyond_like c)
+
+-- A letter with marks: in UTF-8 what they compose to, and a mark that composes with nothing. A table has what they compose to, or it is
+-- the letter, as in ASCII.
+abbrev pub mark_itself : ℕ → List ℕ
+mark_itself c = if c == 0 then [] else itself c
+
+abbrev pub marked_like : Target → Marked → List ℕ
+marked_like target m =
+    if is_utf8 target then likeness target m.whole ++ mark_itself m.mark
+    else byte_or (byte_in_force target m.whole) (likeness target m.letter)
 
 -- with a stroke through it
 abbrev pub struck_like : Target → ℕ → List ℕ

@@ -11,9 +11,10 @@ use Rattle.preconv_converter.specs.declared.half.Before.TheVariants.{Character}
 use Rattle.preconv_converter.specs.declared.half.Mark.TheVariants.{Other}
 use Rattle.preconv_converter.specs.declared.half.Kind.{Kind}
 use Rattle.preconv_converter.specs.declared.half.Kind.TheVariants as kinds
-use Rattle.preconv_converter.specs.Half.{Met, taken, character_said, without_escape}
+use Rattle.preconv_converter.specs.Half.{Met, taken, character_said, marked_said, without_escape}
 use Rattle.preconv_converter.specs.Hyphens.{wide_mark, placed, is_hang}
 use Rattle.preconv_converter.specs.Glyphs.{is_pair, is_native, is_struck, glyph_code, code_of, overstruck, quote_of, string_code}
+use Rattle.preconv_converter.specs.Composed.{has_marks, marked_by}
 use Rattle.preconv_converter.specs.Faces.{font_named}
 use Rattle.preconv_converter.specs.Numbers.{is_number}
 use Rattle.preconv_converter.specs.Endings.{ended, ended_kept, dropped, kept_or}
@@ -40,8 +41,15 @@ abbrev pub native : Option ℕ → Half → Met
 native None h = ended_kept h
 native (Some c) h = ended (says.Native h.kept c) (placed (wide_mark c) h)
 
+-- a letter with marks
+abbrev pub marked : Option ℕ → Half → Met
+marked None h = character None h
+marked (Some c) h = ended (marked_said h.line (marked_by h.spelled c)) (placed (wide_mark (marked_by h.spelled c).whole) h)
+
 abbrev pub sign : Half → Met
-sign h = if is_struck h.spelled then struck (glyph_code h.spelled) h else character (glyph_code h.spelled) h
+sign h =
+    if is_struck h.spelled then struck (glyph_code h.spelled) h else
+    if has_marks h.spelled then marked (glyph_code h.spelled) h else character (glyph_code h.spelled) h
 
 abbrev pub quoted : Option (List ℕ) → Half → Met
 quoted None h = sign h

@@ -4,9 +4,9 @@ use Rattle.std.specs.Prelude.{ℕ, List, [], ◌∷◌, ◌++◌, Bool, true, fa
 use Rattle.preconv_converter.specs.declared.target.Target.{Target}
 use Rattle.utf8_characters.specs.Tables.{character_of}
 use Rattle.preconv_converter.specs.declared.said.Said.{Said}
-use Rattle.preconv_converter.specs.declared.said.Said.TheVariants.{Nothing, Byte, Kept, Native, Hang, Escape, Font, Quotes, Comment, Character, Struck, Arguments, QuotedArguments}
+use Rattle.preconv_converter.specs.declared.said.Said.TheVariants.{Nothing, Byte, Kept, Native, Hang, Escape, Font, Quotes, Comment, Character, Struck, Marked, Arguments, QuotedArguments}
 use Rattle.preconv_converter.specs.declared.target.Target.TheVariants.{Ascii, Bytes, Utf8}
-use Rattle.preconv_converter.specs.Likeness.{likeness, struck_like}
+use Rattle.preconv_converter.specs.Likeness.{likeness, marked_like, struck_like}
 use Rattle.preconv_converter.specs.Targets.{byte_in_force, is_utf8, itself}
 
 -- the nine arguments of a macro: where they are replaced, or once a definition was read; as they are, or each between quotes
@@ -63,6 +63,7 @@ text_of table (Comment true) = codes ".\\\""
 text_of table (Comment false) = codes "\\\""
 text_of table (Character c) = likeness table c
 text_of table (Struck c) = struck_like table c
+text_of table (Marked m) = marked_like table m
 text_of table (Arguments doubled) = arguments doubled false
 text_of table (QuotedArguments doubled) = arguments doubled true
 

@@ -1,6 +1,6 @@
 //! The names of characters (groff_char(7)).
 ghost use Rattle.std.specs.Prelude.{◌≡◌};
-ghost use Rattle.preconv_converter.specs.Glyphs.{code_of, glyph_code, is_native, is_pair, is_struck, long_code, looked_up, below_codes, font_of, letter_of, named_in, overstruck, pair_code, quote_of, string_code};
+ghost use Rattle.preconv_converter.specs.Glyphs.{before_blank, below_codes, code_of, font_of, glyph_code, is_native, is_pair, is_struck, letter_code, letter_of, long_code, looked_up, named_in, overstruck, pair_code, quote_of, string_code, unmarked_code};
 ghost use Rattle.preconv_converter.specs.Likeness.{before_nul};
 
 use super::numbers::number_from;
@@ -33,7 +33,7 @@ pub(crate) fn looked_up<T: Copy>(table: &[(u8, u8, T)], first: u8, second: u8) -
 }
 
 /// A code, if it is that of a character.
-fn below_codes(code: Option<u32>) -> Option<u32>
+pub(crate) fn below_codes(code: Option<u32>) -> Option<u32>
     ensures { result ≡ below_codes code }
 {
     match code {
@@ -68,8 +68,20 @@ fn before_nul(text: &[u8]) -> &[u8]
     text
 }
 
-/// What a table says of a longer name.
-fn named_in(table: &[([u8; 14], u32)], name: &[u8]) -> Option<u32>
+/// What stands before the first blank.
+fn before_blank(text: &[u8]) -> &[u8]
+    ensures { result.now ≡ before_blank text.now }
+{
+    for (i, byte) in text.iter().enumerate() {
+        if *byte == b' ' {
+            return &text[..i];
+        }
+    }
+    text
+}
+
+/// What a table says of a name.
+pub(crate) fn named_in<const N: usize>(table: &[([u8; N], u32)], name: &[u8]) -> Option<u32>
     ensures { result ≡ named_in table.now name.now }
 {
     for entry in table {
@@ -87,9 +99,9 @@ fn long_code(name: &[u8]) -> Option<u32>
     named_in(&NAMES, name)
 }
 
-/// The character of a name.
-pub(crate) fn glyph_code(name: &[u8]) -> Option<u32>
-    ensures { result ≡ glyph_code name.now }
+/// The character of a name without marks.
+fn unmarked_code(name: &[u8]) -> Option<u32>
+    ensures { result ≡ unmarked_code name.now }
 {
     if name.len() == 2 {
         return pair_code(name[0], name[1]);
@@ -100,10 +112,29 @@ pub(crate) fn glyph_code(name: &[u8]) -> Option<u32>
     if name.len() > 4 && name[0] == b'c' && name[1] == b'h' && name[2] == b'a' && name[3] == b'r' {
         return code_of(&name[4..]);
     }
-    if name.len() > 2 && name[1] == b' ' {
-        return Some(u32::from(name[0]));
-    }
     long_code(name)
+}
+
+/// The letter before marks.
+fn letter_code(name: &[u8]) -> Option<u32>
+    ensures { result ≡ letter_code name.now }
+{
+    match name {
+        [letter] => Some(u32::from(*letter)),
+        _ => unmarked_code(name),
+    }
+}
+
+/// The character of a name, without the marks that are named after it.
+pub(crate) fn glyph_code(name: &[u8]) -> Option<u32>
+    ensures { result ≡ glyph_code name.now }
+{
+    let letter = before_blank(name);
+    if name.len() > 2 && letter.len() < name.len() {
+        letter_code(letter)
+    } else {
+        unmarked_code(name)
+    }
 }
 
 /// A name whose last mark is a stroke through the letter, U+0338.

@@ -1,8 +1,9 @@
 //! What is half read of a page.
 ghost use Rattle.std.specs.Prelude.{◌≡◌, true, false};
 ghost use Rattle.preconv_converter.specs.Named.{is_delimited};
-ghost use Rattle.preconv_converter.specs.Half.{after_other, character_said, first_half, is_beginning, is_read, is_space, is_text, is_whole, next_line, table_behind, takes_brace, with_font, with_format, with_text};
+ghost use Rattle.preconv_converter.specs.Half.{after_other, character_said, first_half, is_beginning, is_read, is_space, is_text, is_whole, marked_said, next_line, table_behind, takes_brace, with_font, with_format, with_text};
 
+use super::composed::Marked;
 use super::likeness::is_blank;
 use super::said::Said;
 use super::translations::no_translations;
@@ -335,6 +336,17 @@ impl Line {
             Said::Escape(b'0')
         } else {
             Said::Character(code)
+        }
+    }
+
+    /// What is said for a letter with marks, likewise.
+    pub(crate) fn marked(self, marked: Marked) -> Said
+        ensures { result ≡ marked_said self marked }
+    {
+        if is_space(marked.letter) && !self.is_text() {
+            Said::Escape(b'0')
+        } else {
+            Said::Marked(marked)
         }
     }
 

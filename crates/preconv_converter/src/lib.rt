@@ -1,12 +1,13 @@
 //! What manual pages use, turned into the language of the formatter.
 //!
-//! It stands on nr_units, nr_vectors, utf8_characters and document_stages. To read: `numbers`, `pairs`, `glyphs`; `target`, `signs`, `likeness`, `said`; `words`, `half`;
+//! It stands on nr_units, nr_vectors, utf8_characters, document_stages and unicode_normalization. To read: `numbers`, `pairs`, `glyphs`, `composed`; `target`, `signs`, `likeness`, `said`; `words`, `half`;
 //! `beginnings`, `hyphens`, `sentences`, `translations`, `lines`, `conditions`; `endings`, `faces`, `skipping`, `letters`,
 //! `named`, `spelling`, `escapes`; `meeting`, which puts them together; `runs`, `passing`, `reader`; `staged`, `running`;
 //! `plain_text`, `word_laws`.
 #![tactic(auto)]
 
 mod beginnings;
+mod composed;
 mod conditions;
 mod endings;
 mod escapes;
@@ -38,6 +39,7 @@ mod whole;
 mod word_laws;
 mod words;
 
+pub use composed::lacks_letter;
 pub use document_stages::Outcome;
 pub use likeness::put_likeness;
 pub use plain_text::passes_unchanged;

@@ -1,8 +1,9 @@
 //! What a character looks like.
 ghost use Rattle.std.specs.Prelude.{◌≡◌, ◌+◌, ◌≤◌, ◌<◌, ◌++◌, length};
 ghost use Rattle.preconv_converter.specs.Targets.{byte_in_force, itself, shown};
-ghost use Rattle.preconv_converter.specs.Likeness.{ascii_like, before_nul, beyond_like, box_like, code_told, hex_digit, is_blank, is_latin_letter, is_mark, letter_in, likeness, plain_letter, sign_like, sign_text, struck_like, text_in, word_text};
+ghost use Rattle.preconv_converter.specs.Likeness.{ascii_like, before_nul, beyond_like, box_like, code_told, hex_digit, is_blank, is_latin_letter, is_mark, letter_in, likeness, marked_like, plain_letter, sign_like, sign_text, struck_like, text_in, word_text};
 
+use super::composed::Marked;
 use super::signs::{LATIN, LATIN_ADDITIONAL, SIGNS, WORDS};
 use super::target::Target;
 use nr_vectors::slice_vec::SliceVec;
@@ -28,7 +29,7 @@ pub(crate) fn byte_in_force(target: Target, code: u32) -> Option<u8>
 }
 
 /// The character of a code; a question mark for half of a pair of UTF-16, and for what is too great.
-fn character_of(code: u32) -> char
+pub(crate) fn character_of(code: u32) -> char
     ensures { result ≡ shown code }
 {
     match char::from_u32(code) {
@@ -262,6 +263,26 @@ pub(crate) fn put_struck(code: u32, target: Target, out: &mut SliceVec<'_, u8>)
 {
     out.push(b'!');
     put_likeness(code, target, out);
+}
+
+/// Puts a letter with marks: where the target has what they compose to, that and a mark that composes with nothing, else the letter: at
+/// most 25 bytes.
+pub(crate) fn put_marked(marked: Marked, target: Target, out: &mut SliceVec<'_, u8>)
+    requires { length out.old.items + 28 ≤ out.old.capacity }
+    ensures items { out.new.items ≡ out.old.items ++ marked_like target marked }
+    ensures few { length out.new.items ≤ length out.old.items + 25 }
+    ensures room { out.new.capacity ≡ out.old.capacity }
+{
+    if target.is_utf8() {
+        put_likeness(marked.whole, target, out);
+        if marked.mark != 0 {
+            put_itself(marked.mark, out);
+        }
+    } else if let Some(byte) = byte_in_force(target, marked.whole) {
+        out.push(byte);
+    } else {
+        put_likeness(marked.letter, target, out);
+    }
 }
 
 /// Puts what a character becomes after what goes out: its byte, itself, a place to cut a word, or what it looks like. That is at most 21

@@ -3,6 +3,7 @@ ghost use Rattle.std.specs.Prelude.{◌≡◌};
 ghost use Rattle.preconv_converter.specs.Half.{met};
 ghost use Rattle.preconv_converter.specs.Named as specs;
 
+use super::composed::{has_marks, marked_by};
 use super::glyphs::{
     code_of, glyph_code, is_native, is_pair, is_struck, overstruck, quote_of, string_code,
 };
@@ -40,6 +41,20 @@ impl Half {
             }
             None => self.character(None),
         }
+    }
+
+    /// The letter of a name, if it is one, with its marks.
+    fn marked(&mut self, letter: Option<u32>) -> Seen
+        ensures { met self.new result ≡ specs.marked letter self.old }
+    {
+        let Some(letter) = letter else {
+            return self.character(None);
+        };
+        let name = self.spelled;
+        let marked = marked_by(name.as_bytes(), letter);
+        let said = self.line.marked(marked);
+        self.places(wide_mark(marked.whole));
+        self.ended(said)
     }
 
     /// A character that the language has: it goes out as it was kept, or as a byte.
@@ -96,7 +111,7 @@ impl Half {
         }
     }
 
-    /// The character of a name as it is, maybe with a stroke through it.
+    /// The character of a name as it is, maybe with marks or a stroke through it.
     fn sign(&mut self) -> Seen
         ensures { met self.new result ≡ specs.sign self.old }
     {
@@ -104,6 +119,9 @@ impl Half {
         let code = glyph_code(name.as_bytes());
         if is_struck(name.as_bytes()) {
             return self.struck(code);
+        }
+        if has_marks(name.as_bytes()) {
+            return self.marked(code);
         }
         self.character(code)
     }

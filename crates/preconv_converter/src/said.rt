@@ -3,7 +3,8 @@ ghost use Rattle.std.specs.Prelude.{◌≡◌, ◌+◌, ◌≤◌, ◌++◌, len
 ghost use Rattle.preconv_converter.specs.declared.said.Said.TheVariants.{Character};
 ghost use Rattle.preconv_converter.specs.Saying.{all_sent, arguments, bytes_of, may_go_out, native, sent, text_of};
 
-use super::likeness::{CUT, byte_in_force, put_itself, put_likeness, put_struck};
+use super::composed::Marked;
+use super::likeness::{CUT, byte_in_force, put_itself, put_likeness, put_marked, put_struck};
 use super::target::Target;
 use nr_units::Name;
 use nr_vectors::slice_vec::SliceVec;
@@ -33,6 +34,8 @@ pub(crate) enum Said {
     Character(u32),
     /// The same, with a stroke through it.
     Struck(u32),
+    /// A letter with marks.
+    Marked(Marked),
     /// The nine arguments of a macro, with two backslashes each or one.
     Arguments(bool),
     /// The same between quotes.
@@ -128,6 +131,7 @@ fn put_said(said: Said, target: Target, out: &mut SliceVec<'_, u8>)
         Said::Comment(false) => out.extend(b"\\\""),
         Said::Character(code) => put_likeness(code, target, out),
         Said::Struck(code) => put_struck(code, target, out),
+        Said::Marked(marked) => put_marked(marked, target, out),
         Said::Arguments(doubled) => out.extend(arguments(doubled, false)),
         Said::QuotedArguments(doubled) => out.extend(arguments(doubled, true)),
     }

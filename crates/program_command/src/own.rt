@@ -226,9 +226,9 @@ fn print_beyond<R: Source + Drop, W: Sink + Drop>(
 /// Prints a page that begins with these bytes, by its plan. Gives the output back; where there was not enough memory
 /// nothing was printed.
 ///
-/// Proved: A page has a table of its own exactly where UTF-8 is printed, its first 64 KiB have a character beyond ASCII or
-/// name one by its number, and the fixed table of its plan lacks a cluster of what the stages make of the bytes that were
-/// looked at. That table has the clusters that come most often there, as many as have room. (`print_by_plan`; `needs_own`,
+/// Proved: A page has a table of its own exactly where UTF-8 is printed, its first 64 KiB have a character beyond ASCII,
+/// or name one by its number or a letter that English lacks by its name, and the fixed table of its plan lacks a cluster of
+/// what the stages make of the bytes that were looked at. That table has the clusters that come most often there, as many as have room. (`print_by_plan`; `needs_own`,
 /// `IsTableOf` in Own.antt)
 pub(crate) fn print_by_plan<R: Source + Drop, W: Sink + Drop>(
     page: R,

@@ -12,7 +12,7 @@ struct Row {
     line: &'static [u8],
 }
 
-static TEXTS: [(&str, Page<'static>); 32] = [
+static TEXTS: [(&str, Page<'static>); 33] = [
     (
         "quotes",
         Page::Bytes(b"\xe2\x80\x9ca\xe2\x80\x9d \\(em \\fIb\\fP\n"),
@@ -28,6 +28,10 @@ static TEXTS: [(&str, Page<'static>); 32] = [
     (
         "names",
         Page::Bytes(b".TH x\n(\\%a b\\%c \\%d \\f\\*[B]e\n"),
+    ),
+    (
+        "accents",
+        Page::Bytes(b"\\[e aa] \\[u0065_0301] \\[*a aa] \\[u03B1_0301] \\[q a~]\n"),
     ),
     ("dots", Page::Bytes(b"\\.B a\nb \\.B\n.de c\n\\.B\n..\n")),
     (
@@ -115,7 +119,7 @@ static TEXTS: [(&str, Page<'static>); 32] = [
     ("cut", Page::Cut(b"a\\~b\n.BR c\\(l")),
 ];
 
-static ROWS: [Row; 40] = [
+static ROWS: [Row; 41] = [
     Row {
         words: &[b"preconv"],
         output: b"cafe\n",
@@ -184,6 +188,13 @@ static ROWS: [Row; 40] = [
     Row {
         words: &[b"preconv", b"names"],
         output: b".TH x\n(a b\\%c \\%d \\f\\*[B]e\n",
+        status: 0,
+        line: b"",
+    },
+    // A letter with marks is what they compose to, where the table has it, and else the letter.
+    Row {
+        words: &[b"preconv", b"-u", b"english", b"accents"],
+        output: b"\xe9 \xe9 <alpha> <alpha> q\n",
         status: 0,
         line: b"",
     },

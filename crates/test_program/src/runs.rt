@@ -43,7 +43,7 @@ static TEXTS: [(&str, Page<'static>); 13] = [
 ];
 
 /// What is formatted.
-static PRINTED: [Row; 19] = [
+static PRINTED: [Row; 20] = [
     Row {
         words: &[b"nulbiko"],
         input: b".pl 2\n.ll 8\na bb ccc dddd\n",
@@ -96,6 +96,14 @@ here              today              A(1)\n",
         words: &[b"nulbiko", b"-Tutf8", b"--faces=none"],
         input: b".pl 1\n\\fBP\xc5\x98\\fP \\fI\xe5\x90\x8dx\\fP\n",
         output: b"P\xc5\x98 \xe5\x90\x8dx\n",
+        status: 0,
+        line: b"",
+    },
+    // a page of ASCII, which names letters that no fixed table has, by words, and with their marks
+    Row {
+        words: &[b"nulbiko", b"-Tutf8"],
+        input: b".pl 1\n\\(vs\\[*a] \\[e aa] \\[u0438_0306] \\[q a~].\n",
+        output: b"\xc5\xa1\xce\xb1 \xc3\xa9 \xd0\xb9 q\xcc\x83.\n",
         status: 0,
         line: b"",
     },

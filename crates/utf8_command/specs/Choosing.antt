@@ -32,7 +32,7 @@ fixed_for front = chosen (take looked_at front)
 abbrev pub lacks : Table → List ℕ → Bool
 lacks fixed front = not (has_all fixed (counts_in (has_tables front) front))
 
--- a page that is no standard input, and is beyond ASCII or names a character by its number, is asked whether it does
+-- a page that is no standard input, and is beyond ASCII or names such characters, is asked whether it does
 abbrev pub asks_for_own : List ℕ → List ℕ → Bool
 asks_for_own name front = not (is_standard name) && may_need_own front
 

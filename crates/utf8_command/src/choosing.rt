@@ -46,8 +46,8 @@ fn fixed_for(alloc: Global, front: &[u8]) -> Result<Table, AllocError>
     }
 }
 
-/// Whether a page is asked whether it needs a table of its own: it is no standard input, and beyond ASCII or names a character by its
-/// number.
+/// Whether a page is asked whether it needs a table of its own: it is no standard input, and beyond ASCII or names such
+/// characters.
 fn asks_for_own(name: &str, front: &[u8]) -> bool
     ensures { result ≡ specs.asks_for_own name.now front.now }
 {
@@ -88,9 +88,9 @@ fn put_choice<'a, W: Sink>(before: &str, file: &str, output: W) -> (Ending<'a>, 
 
 /// Chooses a table for the text of this name, and prints its name.
 ///
-/// Proved: `own:FILE` is printed exactly where the first 64 KiB of a file have a character beyond ASCII or name one by its
-/// number, and the fixed table that it takes lacks some of what it prints; else the name of that table, which has most of its
-/// characters. (`needs_own` in Choosing.antt)
+/// Proved: `own:FILE` is printed exactly where the first 64 KiB of a file have a character beyond ASCII, or name one by its
+/// number or a letter that English lacks by its name, and the fixed table that it takes lacks some of what it prints; else the
+/// name of that table, which has most of its characters. (`needs_own` in Choosing.antt)
 pub(crate) fn choose_for<'a, P: Paths, I: Read + Copy + Drop, W: Sink>(
     name: &'a str,
     disk: &mut Disk<P, I>,

@@ -1,8 +1,10 @@
 -- Whether a page needs a table of its own, and which that is.
 use Prim.Native.Char.{code}
-use Rattle.std.specs.Prelude.{◌≡◌, ℕ, List, [], ◌∷◌, length, take, Bool, true, false, ◌==◌, ◌&&◌, ◌||◌, nat_le, is_some}
+use Rattle.std.specs.Prelude.{◌≡◌, ℕ, List, [], ◌∷◌, length, take, Bool, true, false, ◌==◌, ◌&&◌, ◌||◌, nat_le, if◌then◌else◌, is_some}
 use Rattle.utf8_characters.specs.declared.table.Table as fixed
+use Rattle.utf8_characters.specs.declared.table.Table.TheVariants.{English}
 use Rattle.utf8_characters.specs.Tables.{byte_of}
+use Rattle.preconv_converter.specs.Composed.{lacks_letter}
 use Rattle.utf8_own_characters.specs.declared.cluster.Cluster.{Cluster}
 use Rattle.utf8_own_characters.specs.declared.counting.Count.{Count}
 use Rattle.utf8_own_characters.specs.Choosing.{IsFewest, chosen, nothing}
@@ -10,16 +12,27 @@ use Rattle.utf8_own_characters.specs.Cluster.{is_same, single}
 use Rattle.utf8_own_characters.specs.Ranking.{ranked}
 use Rattle.utf8_own_characters.specs.Table.{Characters}
 
--- after a backslash a character is named by its number (groff_char(7))
+abbrev pub before_bracket : List ℕ → List ℕ
+before_bracket [] = []
+before_bracket (b ∷ bs) = if b == code "]" then [] else b ∷ before_bracket bs
+
+-- by its number
 abbrev pub begins_number : List ℕ → Bool
 begins_number [] = false
-begins_number (a ∷ []) = false
-begins_number (a ∷ b ∷ bs) = (a == code "[") && (b == code "u")
+begins_number (b ∷ bs) = b == code "u"
 
--- there are characters beyond ASCII, or one is named by its number
+-- After a backslash a character is named by its number (`[u0159]`), or a letter that the table of a page of ASCII lacks (`(vs`, `[*a]`,
+-- `[n ah]`), in 32 bytes at most, as preconv reads names.
+abbrev pub names_beyond : List ℕ → Bool
+names_beyond [] = false
+names_beyond (b ∷ bs) =
+    if b == code "(" then lacks_letter English (take 2 bs) else
+    if b == code "[" then begins_number bs || lacks_letter English (before_bracket (take 32 bs)) else false
+
+-- there are characters beyond ASCII, or names of such
 abbrev pub is_beyond_ascii : List ℕ → Bool
 is_beyond_ascii [] = false
-is_beyond_ascii (b ∷ bs) = nat_le 128 b || ((b == code "\\") && begins_number bs) || is_beyond_ascii bs
+is_beyond_ascii (b ∷ bs) = nat_le 128 b || ((b == code "\\") && names_beyond bs) || is_beyond_ascii bs
 
 -- its first 64 KiB say whether it may
 abbrev pub may_need_own : List ℕ → Bool

@@ -2,6 +2,7 @@
 ghost use Rattle.std.specs.Prelude.{◌≡◌, take};
 ghost use Rattle.utf8_own_page.specs.Needing as specs;
 
+use preconv_converter::lacks_letter;
 use utf8_characters::Table as Fixed;
 use utf8_own_characters::{Cluster, Count};
 
@@ -11,38 +12,67 @@ const LOOKED_AT: usize = 65_536;
 /// Those of which such a table is made.
 pub const MORE_LOOKED_AT: usize = 1_048_576;
 
-/// Whether these bytes, after a backslash, name a character by its number, as `\[u0159]` does.
-fn begins_number(bytes: &[u8]) -> bool
-    ensures { result ≡ specs.begins_number bytes.now }
+/// The most bytes of a name that preconv reads.
+const LONGEST_NAME: usize = 32;
+
+/// The first of these bytes, as many as this at most.
+fn first_of(bytes: &[u8], most: usize) -> &[u8]
+    ensures { result.now ≡ take most bytes.now }
+{
+    &bytes[..bytes.len().min(most)]
+}
+
+/// What stands before the first `]`.
+fn before_bracket(text: &[u8]) -> &[u8]
+    ensures { result.now ≡ specs.before_bracket text.now }
+{
+    for (i, byte) in text.iter().enumerate() {
+        if *byte == b']' {
+            return &text[..i];
+        }
+    }
+    text
+}
+
+/// Whether a name between brackets begins as one by a number does, as `u0159`.
+fn begins_number(name: &[u8]) -> bool
+    ensures { result ≡ specs.begins_number name.now }
+{
+    match name {
+        [letter, ..] => *letter == b'u',
+        [] => false,
+    }
+}
+
+/// Whether these bytes, after a backslash, name a character by its number, or a letter that the table of a page of ASCII lacks.
+fn names_beyond(bytes: &[u8]) -> bool
+    ensures { result ≡ specs.names_beyond bytes.now }
 {
     match bytes {
-        [bracket, letter, ..] => *bracket == b'[' && *letter == b'u',
+        [b'(', name @ ..] => lacks_letter(Fixed::English, first_of(name, 2)),
+        [b'[', name @ ..] => {
+            begins_number(name)
+                || lacks_letter(Fixed::English, before_bracket(first_of(name, LONGEST_NAME)))
+        }
         _ => false,
     }
 }
 
-/// Whether bytes beyond ASCII are among these, or a character is named by its number.
+/// Whether bytes beyond ASCII are among these, a character is named by its number, or a letter that the table of a page of ASCII lacks.
 fn is_beyond_ascii(page: &[u8]) -> bool
     ensures { result ≡ specs.is_beyond_ascii page.now }
 {
     for place in 0..page.len() {
         let byte = page[place];
-        if byte >= 128 || (byte == b'\\' && begins_number(&page[place + 1..])) {
+        if byte >= 128 || (byte == b'\\' && names_beyond(&page[place + 1..])) {
             return true;
         }
     }
     false
 }
 
-/// The first bytes of a page, as many as this at most.
-fn first_of(page: &[u8], most: usize) -> &[u8]
-    ensures { result.now ≡ take most page.now }
-{
-    &page[..page.len().min(most)]
-}
-
-/// Whether no fixed table may have all that a page prints, by its first 64 KiB: there are characters beyond ASCII, or one is named by its
-/// number.
+/// Whether no fixed table may have all that a page prints, by its first 64 KiB: there are characters beyond ASCII, one is named by its
+/// number, or a letter that the table of English lacks by its name.
 pub fn may_need_own(page: &[u8]) -> bool
     ensures { result ≡ specs.may_need_own page.now }
 {

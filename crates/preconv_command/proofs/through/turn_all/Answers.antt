@@ -1,4 +1,4 @@
-use Rattle.std.proofs.Common.{◌≡◌, ℕ, List, Bool, ◌+◌, ◌-◌, ◌*◌, ◌≤◌, ◌++◌, length, take, drop, refl, subst, sym, ◌∙◌, arith}
+use Rattle.std.proofs.Common.{◌≡◌, ℕ, List, Bool, ◌+◌, ◌-◌, ◌*◌, ◌≤◌, ◌++◌, length, refl, subst, sym, ◌∙◌, arith}
 use Rattle.std.proofs.lemmas.List.{take_all}
 use Rattle.preconv_command.proofs.TwoStages.{few_more, rest_some, rest_within, room_for, said_more}
 use Rattle.preconv_command.proofs.through.turn_all.Goals as goal

@@ -3,10 +3,10 @@ use Rattle.std.proofs.lemmas.Grind.{common_steps}
 use Rattle.preconv_converter.proofs.glyphs.named_in.Goals as goal
 
 pub returns-then-eq : goal.returns-then-eq
-returns-then-eq c = grind (arith, common_steps)
+returns-then-eq g c = grind (arith, common_steps)
 
 pub loop-entry-preserved : goal.loop-entry-preserved
-loop-entry-preserved c = grind (arith, common_steps)
+loop-entry-preserved g c = grind (arith, common_steps)
 
 pub returns : goal.returns
-returns c = grind (arith, common_steps)
+returns g c = grind (arith, common_steps)

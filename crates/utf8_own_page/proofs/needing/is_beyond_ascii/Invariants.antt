@@ -1,4 +1,4 @@
--- Those that came are of ASCII, and name no character by its number.
+-- Those that came are of ASCII, and no names of others.
 use Rattle.std.proofs.Common.{◌≡◌, drop}
 use Rattle.utf8_own_page.specs.Needing.{is_beyond_ascii}
 use Rattle.utf8_own_page.proofs.needing.is_beyond_ascii.Given as goal

@@ -1,4 +1,4 @@
-use Rattle.std.proofs.Common.{◌≡◌, ◌+◌, ◌*◌, ◌≤◌, ℕ, List, length, ap, subst, ◌∙◌, arith}
+use Rattle.std.proofs.Common.{◌≡◌, ◌*◌, ◌≤◌, ℕ, List, length, ap, subst, ◌∙◌, arith}
 use Rattle.preconv_command.proofs.TwoStages.{few_of}
 use Rattle.preconv_command.proofs.through.ThroughStage.turn.Goals as goal
 

@@ -1,6 +1,6 @@
 use Rattle.std.proofs.Common.{arith}
 use Rattle.std.proofs.lemmas.Grind.{common_steps}
-use Rattle.preconv_converter.proofs.glyphs.glyph_code.Goals as goal
+use Rattle.preconv_converter.proofs.glyphs.unmarked_code.Goals as goal
 
 pub returns-then-name-eq117 : goal.returns-then-name-eq117
 returns-then-name-eq117 c = grind (arith, common_steps)
