@@ -5,7 +5,7 @@ use Rattle.std.proofs.Common.{◌≡◌, ℕ, List, [], ◌++◌, Bool, true, fa
 use Rattle.nr_units.specs.Source.{Supply}
 use Rattle.nr_machine.specs.declared.outcome.Outcome as machine
 use Rattle.nr_machine.specs.declared.outcome.Outcome.TheVariants as machines
-use Rattle.nr_laws.specs.Laws.{AnswersWith, IsFrontOf, is_settled}
+use Rattle.nr_laws.specs.Laws.{AnswersWith, IsPrefixOf, is_settled}
 use Rattle.nr_laws.specs.Printed.{is_of_row}
 use Rattle.nr_laws.proofs.OutputLaws.{limits_unmet, one_answer, wider_limits}
 use Rattle.nr_laws.proofs.PrintedLaw.{no_control_goes_out}
@@ -58,14 +58,14 @@ came s spelling source n WriteFault out r = absurd (let never : false ≡ true =
 
 -- ---- wider limits
 
-utf8_front : (table : PageTable) (escapes : Bool) (pages rest : List ℕ) → AreLines pages → IsFrontOf (in_utf8 table escapes pages) (in_utf8 table escapes (pages ++ rest))
+utf8_front : (table : PageTable) (escapes : Bool) (pages rest : List ℕ) → AreLines pages → IsPrefixOf (in_utf8 table escapes pages) (in_utf8 table escapes (pages ++ rest))
 utf8_front (Fixed table) escapes pages rest lines = lines-front table escapes pages rest lines
 utf8_front (Own table) escapes pages rest lines = own-lines-front table.now escapes pages rest lines
 
-shown_front : (spelling : Spelling) (pages more : List ℕ) → AreLines pages → IsFrontOf pages more → IsFrontOf (shown spelling pages) (shown spelling more)
+shown_front : (spelling : Spelling) (pages more : List ℕ) → AreLines pages → IsPrefixOf pages more → IsPrefixOf (shown spelling pages) (shown spelling more)
 shown_front Bytes pages more lines front = front
 shown_front (Utf8 table escapes) pages more lines front =
-    subst (λ (z : List ℕ). IsFrontOf (in_utf8 table escapes pages) (in_utf8 table escapes z)) (sym front.whole_is) (utf8_front table escapes pages front.rest lines)
+    subst (λ (z : List ℕ). IsPrefixOf (in_utf8 table escapes pages) (in_utf8 table escapes z)) (sym front.whole_is) (utf8_front table escapes pages front.rest lines)
 
 pub wider_limits_lengthen : WiderLimitsLengthen
 wider_limits_lengthen s b spelling source n n' outcome outcome' out out' least r r' =
@@ -73,7 +73,7 @@ wider_limits_lengthen s b spelling source n n' outcome outcome' out out' least r
     let c' = came (under b s) spelling source n' outcome' out' r' in
     let front = wider_limits s.limits b s.options source n n' c.end c'.end (pages_of s source n) (pages_of (under b s) source n') least c.answers c'.answers c'.settled in
     let both = shown_front spelling (pages_of s source n) (pages_of (under b s) source n') (pages-lines (state_of s source n).pages) front in
-    subst (λ (z : List ℕ). IsFrontOf z out') (sym c.out_is) (subst (λ (z : List ℕ). IsFrontOf (document s spelling source n) z) (sym c'.out_is) both)
+    subst (λ (z : List ℕ). IsPrefixOf z out') (sym c.out_is) (subst (λ (z : List ℕ). IsPrefixOf (document s spelling source n) z) (sym c'.out_is) both)
 
 pub done_stays : DoneStays
 done_stays s b spelling source n n' outcome' out out' least r r' =

@@ -10,7 +10,7 @@ use Rattle.nr_page.specs.Faces.{cell_bytes}
 use Rattle.nr_page.specs.declared.faces.Faces.{Faces}
 use Rattle.nr_machine.specs.Printing.{bytes_of, text}
 use Rattle.nr_machine.specs.State.{Ended}
-use Rattle.nr_laws.specs.Laws.{IsFrontOf}
+use Rattle.nr_laws.specs.Laws.{IsPrefixOf}
 use Rattle.utf8_converter.specs.Cells.{Cell, Once, Over, converted, goes_out, shows, strikes, turning, way_after, way_to}
 use Rattle.utf8_converter.specs.Reading.{Told, ended, fed, first_reader, fresh, out, put_alone, read, read_after, released, released_and_fresh, shut, then_told, told, with_half}
 use Rattle.utf8_converter.specs.declared.reader.Half.{Half}
@@ -106,7 +106,7 @@ none_converted : (table : Table) (escapes : Bool) → converted table escapes []
 none_converted table true = refl
 none_converted table false = refl
 
-pub lines-front : (table : Table) (escapes : Bool) (xs more : List ℕ) → AreLines xs → IsFrontOf (converted table escapes xs) (converted table escapes (xs ++ more))
+pub lines-front : (table : Table) (escapes : Bool) (xs more : List ℕ) → AreLines xs → IsPrefixOf (converted table escapes xs) (converted table escapes (xs ++ more))
 lines-front table escapes xs more (None_is x is) = record {
   rest = converted table escapes (xs ++ more);
   whole_is = ap (λ (z : List ℕ). z ++ converted table escapes (xs ++ more)) (sym (ap (λ (z : List ℕ). converted table escapes z) is ∙ none_converted table escapes));

@@ -3,7 +3,7 @@ use Prim.Native.Char.{code}
 use Rattle.std.proofs.Common.{◌≡◌, ℕ, Bool, true, false, if◌then◌else◌, Option, None, Some, List, [], ◌∷◌, ◌++◌, append-nil, append_assoc, refl, sym, ◌∙◌, ap, subst}
 use Rattle.nr_vectors.specs.declared.cell.Look.{Look}
 use Rattle.nr_vectors.specs.declared.cell.Look.TheVariants.{Plain}
-use Rattle.nr_laws.specs.Laws.{IsFrontOf}
+use Rattle.nr_laws.specs.Laws.{IsPrefixOf}
 use Rattle.utf8_own_characters.specs.Table.{Characters}
 use Rattle.utf8_own_sink.specs.Cells.{alone, ascii, byte_of, converted, plain, strikes, struck}
 use Rattle.utf8_own_sink.specs.Letters.{ends_look, printed, way_to}
@@ -85,7 +85,7 @@ none_converted : (t : Characters) (escapes : Bool) → converted t escapes [] �
 none_converted t true = refl
 none_converted t false = refl
 
-pub own-lines-front : (t : Characters) (escapes : Bool) (xs more : List ℕ) → AreLines xs → IsFrontOf (converted t escapes xs) (converted t escapes (xs ++ more))
+pub own-lines-front : (t : Characters) (escapes : Bool) (xs more : List ℕ) → AreLines xs → IsPrefixOf (converted t escapes xs) (converted t escapes (xs ++ more))
 own-lines-front t escapes xs more (None_is x is) = record {
   rest = converted t escapes (xs ++ more);
   whole_is = ap (λ (z : List ℕ). z ++ converted t escapes (xs ++ more)) (sym (ap (λ (z : List ℕ). converted t escapes z) is ∙ none_converted t escapes));

@@ -5,7 +5,7 @@ use Rattle.std.specs.List.{All}
 use Rattle.nr_units.specs.Source.{Supply}
 use Rattle.nr_options.specs.Limits.{Bounds}
 use Rattle.nr_machine.specs.Run.{moves_a_byte}
-use Rattle.nr_laws.specs.Laws.{AtLeast, IsFrontOf, is_settled}
+use Rattle.nr_laws.specs.Laws.{AtLeast, IsPrefixOf, is_settled}
 use Rattle.nr_laws.specs.Printed.{is_of_row}
 use Rattle.document_printing.specs.Document.{Setting, state_of}
 use Rattle.document_printing.specs.Showing.{Shows}
@@ -36,7 +36,7 @@ WiderLimitsLengthen =
     (s : Setting) (b : Bounds) (spelling : Spelling) (source : Supply) (n n' : ℕ) (outcome outcome' : Outcome)
     (out out' : List ℕ)
     → AtLeast s.limits b → Reaches s spelling source n outcome out
-    → Reaches (under b s) spelling source n' outcome' out' → IsFrontOf out out'
+    → Reaches (under b s) spelling source n' outcome' out' → IsPrefixOf out out'
 
 -- Where all was shown, it is the same.
 abbrev pub DoneStays : Type 0

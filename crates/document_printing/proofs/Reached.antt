@@ -3,7 +3,7 @@ use Rattle.std.proofs.Common.{◌≡◌, ◌≢◌, ℕ, ◌+◌, ◌≤◌, suc
 use Rattle.std.specs.Io.KnownBytes.{Appends}
 use Rattle.std.specs.Result.{is_err}
 use Rattle.nr_units.specs.Failures.{SinkFailures, next_count, no_failures}
-use Rattle.nr_units.specs.Sink.{AppendsFront}
+use Rattle.nr_units.specs.Sink.{AppendsPrefix}
 use Rattle.nr_units.specs.Source.{Supply}
 use Rattle.nr_units.specs.declared.source.Fault.{Fault}
 use Rattle.utf8_characters.specs.declared.table.Table.{Table}
@@ -29,7 +29,7 @@ use Rattle.document_printing.specs.Laws.{IsFrontOfText, is_whole}
 
 -- ---- bytes go out as they are
 
-fronts : (held new : Option (List ℕ)) (bytes : List ℕ) → Appends held new bytes → AppendsFront held new bytes
+fronts : (held new : Option (List ℕ)) (bytes : List ℕ) → Appends held new bytes → AppendsPrefix held new bytes
 fronts held new bytes out = (bytes, [], sym (append-nil bytes), out)
 
 shows_goes : (s : Setting) (source : Supply) (n : ℕ) (ended : machine.Outcome) (held new : Option (List ℕ)) → GoesOut s source n ended held new → IsShown s Bytes source n ended held new
@@ -51,13 +51,13 @@ shows-bytes-as w s source n o held new is p = subst (λ (x : Spelling). Shows s 
 -- all of these bytes went out as they are shown, or a prefix did
 abbrev Ends : {T : Type 0} → Spelling → Option (List ℕ) → ℕ → Option (List ℕ) → ℕ → List ℕ → Result T Fault → Type 0
 Ends w begun failed new after came (Ok x) = Appends begun new (shown w came) × (after ≡ failed)
-Ends w begun failed new after came (Err f) = AppendsFront begun new (shown w came) × (after ≡ next_count failed)
+Ends w begun failed new after came (Err f) = AppendsPrefix begun new (shown w came) × (after ≡ next_count failed)
 
 -- How a sink ended that shows bytes so in another one, which had held this and failed so often: it had held these bytes and holds
 -- those, and so many of its puts had failed.
 pub record Ended (T : Type 0) (w : Spelling) (begun : Option (List ℕ)) (failed : ℕ) (before bytes : List ℕ) (puts : ℕ) (new : Option (List ℕ)) (after : ℕ) (x : Result T Fault) : Type 0 where
   pub shows : (came : List ℕ) → bytes ≡ before ++ came → Ends w begun failed new after came x
-  pub broke : (came more : List ℕ) → bytes ≡ before ++ came → puts ≢ 0 → AppendsFront begun new (shown w (came ++ more))
+  pub broke : (came more : List ℕ) → bytes ≡ before ++ came → puts ≢ 0 → AppendsPrefix begun new (shown w (came ++ more))
   pub fails : IsOk x → puts ≡ 0
 
 next_some : next_count 0 ≢ 0
@@ -73,22 +73,22 @@ all_shown s w begun failed source n before bytes puts new after k e came =
 
 -- or a prefix of it
 front_shown : {T : Type 0} (s : Setting) (w : Spelling) (begun : Option (List ℕ)) (failed : ℕ) (source : Supply) (n : ℕ) (before bytes : List ℕ) (puts : ℕ) (new : Option (List ℕ)) (after : ℕ) (f : Fault)
-    → Ended T w begun failed before bytes puts new after (Err f) → bytes ≡ before ++ pages_of s source n → AppendsFront begun new (document s w source n)
+    → Ended T w begun failed before bytes puts new after (Err f) → bytes ≡ before ++ pages_of s source n → AppendsPrefix begun new (document s w source n)
 front_shown s w begun failed source n before bytes puts new after f e came =
-    let cut : AppendsFront begun new (shown w (pages_of s source n)) × (after ≡ next_count failed) = e.shows (pages_of s source n) came in
+    let cut : AppendsPrefix begun new (shown w (pages_of s source n)) × (after ≡ next_count failed) = e.shows (pages_of s source n) came in
     cut.0
 
 some_shown : {T : Type 0} (s : Setting) (w : Spelling) (begun : Option (List ℕ)) (failed : ℕ) (source : Supply) (n : ℕ) (before bytes : List ℕ) (puts : ℕ) (new : Option (List ℕ)) (after : ℕ) (x : Result T Fault)
-    → Ended T w begun failed before bytes puts new after x → bytes ≡ before ++ pages_of s source n → AppendsFront begun new (document s w source n)
+    → Ended T w begun failed before bytes puts new after x → bytes ≡ before ++ pages_of s source n → AppendsPrefix begun new (document s w source n)
 some_shown s w begun failed source n before bytes puts new after (Ok k) e came =
     fronts begun new (document s w source n) (all_shown s w begun failed source n before bytes puts new after k e came)
 some_shown s w begun failed source n before bytes puts new after (Err f) e came = front_shown s w begun failed source n before bytes puts new after f e came
 
 -- a put failed: a prefix of the pages came
 short_shown : {T : Type 0} (s : Setting) (w : Spelling) (begun : Option (List ℕ)) (failed : ℕ) (source : Supply) (n : ℕ) (before bytes : List ℕ) (puts : ℕ) (new : Option (List ℕ)) (after : ℕ) (x : Result T Fault)
-    → Ended T w begun failed before bytes puts new after x → AppendsFront (Some before) (Some bytes) (pages_of s source (suc n)) → puts ≢ 0 → IsFront s w source n begun new
+    → Ended T w begun failed before bytes puts new after x → AppendsPrefix (Some before) (Some bytes) (pages_of s source (suc n)) → puts ≢ 0 → IsFront s w source n begun new
 short_shown s w begun failed source n before bytes puts new after x e came some =
-    let P : List ℕ → Type 0 = λ xs. AppendsFront begun new (shown w xs) in
+    let P : List ℕ → Type 0 = λ xs. AppendsPrefix begun new (shown w xs) in
     record { made = suc n; few = omega arith; front = subst P (sym came.2) (e.broke came.0 came.1 came.3 some) }
 
 pub shows-ended : {T : Type 0} (s : Setting) (w : Spelling) (begun : Option (List ℕ)) (failed : ℕ) (source : Supply) (n : ℕ) (o : Outcome) (before bytes : List ℕ) (none puts : ℕ) (new : Option (List ℕ)) (after : ℕ) (x : Result T Fault) → none ≡ 0 → Ended T w begun failed before bytes puts new after x → Prints s source n o (Some before) (Some bytes) → TellsWrites o none puts
@@ -128,7 +128,7 @@ went w begun failed before bytes came puts new after k e is =
 cut : {T : Type 0} (w : Spelling) (begun : Option (List ℕ)) (failed : ℕ) (before bytes came : List ℕ) (puts : ℕ) (new : Option (List ℕ)) (after : ℕ) (f : Fault)
     → Ended T w begun failed before bytes puts new after (Err f) → bytes ≡ before ++ came → after ≡ next_count failed
 cut w begun failed before bytes came puts new after f e is =
-    let off : AppendsFront begun new (shown w came) × (after ≡ next_count failed) = e.shows came is in
+    let off : AppendsPrefix begun new (shown w came) × (after ≡ next_count failed) = e.shows came is in
     off.1
 
 tells-ended : {T : Type 0} (s : Setting) (w : Spelling) (begun : Option (List ℕ)) (failed : ℕ) (source : Supply) (n : ℕ) (o : Outcome) (before bytes : List ℕ) (none puts : ℕ) (new : Option (List ℕ)) (after : ℕ) (x : Result T Fault) → none ≡ 0 → Ended T w begun failed before bytes puts new after x → Prints s source n o (Some before) (Some bytes) → TellsWrites o none puts
@@ -162,17 +162,17 @@ fixed_ends w m came new after (Ok k) is e =
     (subst (λ (z : List ℕ). Appends m.begun new z) (sym is) done.went_out, done.none)
 fixed_ends w m came new after (Err f) is e =
     let off : utf8.IsCutOff m came new after = e in
-    (subst (λ (z : List ℕ). AppendsFront m.begun new z) (sym is) off.went_out, off.one)
+    (subst (λ (z : List ℕ). AppendsPrefix m.begun new z) (sym is) off.went_out, off.one)
 
 -- with a fixed table
 pub fixed-ended : (w : Spelling) (m : utf8.Making) (before bytes : List ℕ) (puts : ℕ) (new : Option (List ℕ)) (after : ℕ) (x : Result ℕ Fault) → ((z : List ℕ) → shown w z ≡ fixed.converted m.table m.escapes z)
     → before ≡ utf8.made_of m
     → ((k : utf8.Making) (came : List ℕ) → bytes ≡ utf8.made_of k ++ came → utf8.Finishes k came new after x)
-    → ((k : utf8.Making) (came more : List ℕ) → bytes ≡ utf8.made_of k ++ came → puts ≢ 0 → AppendsFront k.begun new (fixed.converted k.table k.escapes (came ++ more)))
+    → ((k : utf8.Making) (came more : List ℕ) → bytes ≡ utf8.made_of k ++ came → puts ≢ 0 → AppendsPrefix k.begun new (fixed.converted k.table k.escapes (came ++ more)))
     → (IsOk x → puts ≡ 0) → Ended ℕ w m.begun m.failed before bytes puts new after x
 fixed-ended w m before bytes puts new after x is first shows broke fails = record {
   shows = λ came so. fixed_ends w m came new after x (is came) (shows m came (so ∙ ap (λ (z : List ℕ). z ++ came) first));
-  broke = λ came more so some. subst (λ (z : List ℕ). AppendsFront m.begun new z) (sym (is (came ++ more))) (broke m came more (so ∙ ap (λ (z : List ℕ). z ++ came) first) some);
+  broke = λ came more so some. subst (λ (z : List ℕ). AppendsPrefix m.begun new z) (sym (is (came ++ more))) (broke m came more (so ∙ ap (λ (z : List ℕ). z ++ came) first) some);
   fails = fails;
 }
 
@@ -183,17 +183,17 @@ own_ends w m came new after (Ok k) is e =
     (subst (λ (z : List ℕ). Appends m.begun new z) (sym is) done.went_out, done.none)
 own_ends w m came new after (Err f) is e =
     let off : owns.IsCutOff m came new after = e in
-    (subst (λ (z : List ℕ). AppendsFront m.begun new z) (sym is) off.went_out, off.one)
+    (subst (λ (z : List ℕ). AppendsPrefix m.begun new z) (sym is) off.went_out, off.one)
 
 -- with the page's own
 pub own-ended : (w : Spelling) (m : owns.Making) (before bytes : List ℕ) (puts : ℕ) (new : Option (List ℕ)) (after : ℕ) (x : Result (Unit {0}) Fault) → ((z : List ℕ) → shown w z ≡ own.converted m.table m.escapes z)
     → before ≡ owns.told m []
     → ((k : owns.Making) (came : List ℕ) → bytes ≡ owns.told k came → owns.Finishes k came new after x)
-    → ((k : owns.Making) (came more : List ℕ) → bytes ≡ owns.told k came → puts ≢ 0 → AppendsFront k.begun new (own.converted k.table k.escapes (came ++ more)))
+    → ((k : owns.Making) (came more : List ℕ) → bytes ≡ owns.told k came → puts ≢ 0 → AppendsPrefix k.begun new (own.converted k.table k.escapes (came ++ more)))
     → (IsOk x → puts ≡ 0) → Ended (Unit {0}) w m.begun m.failed before bytes puts new after x
 own-ended w m before bytes puts new after x is first shows broke fails = record {
   shows = λ came so. own_ends w m came new after x (is came) (shows m came (so ∙ ap (λ (z : List ℕ). z ++ came) first ∙ sym (told-append m [] came)));
-  broke = λ came more so some. subst (λ (z : List ℕ). AppendsFront m.begun new z) (sym (is (came ++ more)))
+  broke = λ came more so some. subst (λ (z : List ℕ). AppendsPrefix m.begun new z) (sym (is (came ++ more)))
       (broke m came more (so ∙ ap (λ (z : List ℕ). z ++ came) first ∙ sym (told-append m [] came)) some);
   fails = fails;
 }

@@ -1,9 +1,9 @@
 -- What a run over a whole text came to, said of that text.
 use Rattle.std.proofs.Common.{◌≡◌, ℕ, List, [], ◌∷◌, ◌++◌, append-nil, Bool, true, false, Option, ap, subst, sym, ◌∙◌, refl}
 use Rattle.std.proofs.lemmas.Grind.{flat_map-append}
-use Rattle.nr_units.proofs.Fronts.{AppendsFront-after}
+use Rattle.nr_units.proofs.Prefixes.{AppendsPrefix-after}
 use Rattle.nr_units.specs.Failures.{SinkFailures, put_counted_if}
-use Rattle.nr_units.specs.Sink.{AppendsFront}
+use Rattle.nr_units.specs.Sink.{AppendsPrefix}
 use Rattle.nr_units.specs.Source.{Supply}
 use Rattle.nr_machine.specs.Machine.{step, state_after}
 use Rattle.nr_machine.specs.Printing.{bytes_of, text}
@@ -22,10 +22,10 @@ text-one : (pages : List Ended) (page : Ended) → text (pages ++ page ∷ []) �
 text-one pages page = flat_map-append bytes_of pages (page ∷ []) ∙ ap (λ z. text pages ++ z) (append-nil (bytes_of page))
 
 -- a front of what the next move makes of the pages
-next_front : (s : State) (held new : Option (List ℕ)) → run.BreaksOff s held new → AppendsFront held new (text (step s).pages)
+next_front : (s : State) (held new : Option (List ℕ)) → run.BreaksOff s held new → AppendsPrefix held new (text (step s).pages)
 next_front s held new b =
-    subst (λ (z : List ℕ). AppendsFront held new z) (sym (text-one s.pages b.page) ∙ sym (ap text b.ends))
-    (AppendsFront-after held b.between new (text s.pages) (bytes_of b.page) b.ended b.front)
+    subst (λ (z : List ℕ). AppendsPrefix held new z) (sym (text-one s.pages b.page) ∙ sym (ap text b.ends))
+    (AppendsPrefix-after held b.between new (text s.pages) (bytes_of b.page) b.ended b.prefix)
 
 -- the moves that the formatter made
 ran : (s : Setting) (source : Supply) (n : ℕ) (ended : machine.Outcome) (held new : Option (List ℕ))

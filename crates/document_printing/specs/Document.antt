@@ -2,7 +2,7 @@
 use Rattle.std.specs.Prelude.{◌≡◌, ◌≤◌, ℕ, suc, ◌+◌, ◌*◌, List, Option, Bool, true, false}
 use Rattle.std.specs.Io.KnownBytes.{Appends}
 use Rattle.nr_units.specs.Failures.{next_count}
-use Rattle.nr_units.specs.Sink.{AppendsFront}
+use Rattle.nr_units.specs.Sink.{AppendsPrefix}
 use Rattle.nr_units.specs.Source.{Supply}
 use Rattle.preconv_converter.specs.declared.target.Target.{Target}
 use Rattle.tbl_stage.specs.Text.{Bounds, set_text}
@@ -83,7 +83,7 @@ Prints s source n (outcomes.Limit which at) held new = GoesOut s source n (machi
 Prints s source n outcomes.NoRoom held new = (s.sets ≡ true) × Appends held new (pages_of s source n)
 Prints s source n outcomes.ReadFault held new = Appends held new (pages_of s source n)
 Prints s source n outcomes.TooLong held new = Appends held new (pages_of s source n)
-Prints s source n outcomes.WriteFault held new = AppendsFront held new (pages_of s source (suc n))
+Prints s source n outcomes.WriteFault held new = AppendsPrefix held new (pages_of s source (suc n))
 
 -- One put failed where that is told, and none where all went out, by the counts of those that did.
 abbrev pub TellsWrites : Outcome → ℕ → ℕ → Type 0

@@ -1,7 +1,7 @@
 -- What a reader gets of a page.
 use Rattle.std.specs.Prelude.{◌≡◌, ℕ, ◌≤◌, suc, List, Option, Bool, true, false}
 use Rattle.std.specs.Io.KnownBytes.{Appends}
-use Rattle.nr_units.specs.Sink.{AppendsFront}
+use Rattle.nr_units.specs.Sink.{AppendsPrefix}
 use Rattle.nr_units.specs.Source.{Supply}
 use Rattle.nr_machine.specs.declared.outcome.Outcome as machine
 use Rattle.nr_machine.specs.declared.outcome.Outcome.TheVariants as machines
@@ -39,7 +39,7 @@ pub record IsShown (s : Setting) (spelling : Spelling) (source : Supply) (n : �
 pub record IsFront (s : Setting) (spelling : Spelling) (source : Supply) (n : ℕ) (held new : Option (List ℕ)) : Type 0 where
   pub made : ℕ
   pub few : made ≤ suc n
-  pub front : AppendsFront held new (document s spelling source made)
+  pub front : AppendsPrefix held new (document s spelling source made)
 
 -- HOW IT ENDS for a reader
 abbrev pub Shows : Setting → Spelling → Supply → ℕ → Outcome → Option (List ℕ) → Option (List ℕ) → Type 0
@@ -47,8 +47,8 @@ Shows s spelling source n outcomes.Done held new = IsShown s spelling source n m
 Shows s spelling source n (outcomes.Limit which at) held new =
     IsShown s spelling source n (machines.Limit which at) held new
 Shows s spelling source n outcomes.NoRoom held new = (s.sets ≡ true) × Appends held new (document s spelling source n)
-Shows s spelling source n outcomes.ReadFault held new = AppendsFront held new (document s spelling source n)
-Shows s spelling source n outcomes.TooLong held new = AppendsFront held new (document s spelling source n)
+Shows s spelling source n outcomes.ReadFault held new = AppendsPrefix held new (document s spelling source n)
+Shows s spelling source n outcomes.TooLong held new = AppendsPrefix held new (document s spelling source n)
 Shows s spelling source n outcomes.WriteFault held new = IsFront s spelling source n held new
 
 -- how an end is told of a page whose characters did not all go out: that its input failed first

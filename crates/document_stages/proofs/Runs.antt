@@ -3,10 +3,10 @@ use Rattle.std.proofs.Common.{◌≡◌, ℕ, ◌+◌, ◌-◌, ◌*◌, ◌≤�
 use Rattle.std.proofs.lemmas.Grind.{common_steps}
 use Rattle.std.specs.Io.KnownBytes.{Appends}
 use Rattle.std.proofs.KnownBytes.{Appends-trans, Appends-nil}
-use Rattle.nr_units.specs.Sink.{AppendsFront}
+use Rattle.nr_units.specs.Sink.{AppendsPrefix}
 use Rattle.nr_units.specs.Source.{Faults, Never, After, Anytime, Supply, Gives, MayGiveAll, later}
 use Rattle.nr_units.specs.declared.source.Fault.{Fault}
-use Rattle.nr_units.proofs.Fronts.{AppendsFront-append, AppendsFront-after}
+use Rattle.nr_units.proofs.Prefixes.{AppendsPrefix-append, AppendsPrefix-after}
 use Rattle.document_stages.specs.Pulling.{Came}
 use Rattle.document_stages.specs.Running.{EndsAs, Ends, Flushes, IsBroken, IsCut, Ran, Stands, at_most}
 use Rattle.document_stages.specs.Stepping.{Meaning, Turned, TurnedEnd, after}
@@ -177,20 +177,20 @@ Ran-done m now then wants a b c h k l waits items t fit small st w few WriteFaul
       bytes = st.bytes;
       came = Came-then_nothing a b c st.bytes st.came (Came-end b c w.gives);
       short = short-of (length st.bytes) t st.count small;
-      went_out = subst (λ (z : List ℕ). AppendsFront h l z) (sym all) (AppendsFront-after h k l st.sent items st.went_out ends);
+      went_out = subst (λ (z : List ℕ). AppendsPrefix h l z) (sym all) (AppendsPrefix-after h k l st.sent items st.went_out ends);
       ended = true;
       counted = sym w.counted ∙ counted-all m now wants a b h k waits t true st;
     }
 
 pub Ran-broken : (m now : Meaning) (wants : ℕ) (a b c : Option Supply) (h k l : Option (List ℕ)) (waits : List ℕ) (t : ℕ)
-    → t ≤ 1099511627776 → Stands m now wants a b h k waits t → Came b [] c → AppendsFront k l waits
+    → t ≤ 1099511627776 → Stands m now wants a b h k waits t → Came b [] c → AppendsPrefix k l waits
     → IsBroken m.says m.counts a c h l (now.counts false [])
 Ran-broken m now wants a b c h k l waits t small st came broke = record {
   bytes = st.bytes;
   came = Came-then_nothing a b c st.bytes st.came came;
   short = short-of (length st.bytes) t st.count small;
-  went_out = subst (λ (z : List ℕ). AppendsFront h l z) (sym (said-all m now wants a b h k waits t true st))
-      (AppendsFront-after h k l st.sent (waits ++ now.says true []) st.went_out (AppendsFront-append k l waits (now.says true []) broke));
+  went_out = subst (λ (z : List ℕ). AppendsPrefix h l z) (sym (said-all m now wants a b h k waits t true st))
+      (AppendsPrefix-after h k l st.sent (waits ++ now.says true []) st.went_out (AppendsPrefix-append k l waits (now.says true []) broke));
   ended = false;
   counted = counted-all m now wants a b h k waits t false st;
 }

@@ -2,7 +2,7 @@
 use Rattle.std.specs.Prelude.{◌≡◌, ℕ, ◌+◌, ◌-◌, ◌*◌, ◌^◌, ◌≤◌, min, List, [], ◌++◌, length, Bool, true, false, Option, None, Some, Result, Ok, Err, ⊤, ◌⊎◌}
 use Rattle.std.specs.Io.KnownBytes.{Appends}
 use Rattle.nr_units.specs.Failures.{next_count}
-use Rattle.nr_units.specs.Sink.{AppendsFront}
+use Rattle.nr_units.specs.Sink.{AppendsPrefix}
 use Rattle.nr_units.specs.Source.{Supply}
 use Rattle.document_stages.specs.Pulling.{Came}
 use Rattle.document_stages.specs.Stepping.{Meaning, after}
@@ -48,7 +48,7 @@ pub record IsBroken (says : Bool → List ℕ → List ℕ) (counts : Bool → L
   pub bytes : List ℕ
   pub came : Came first bytes last
   pub short : length bytes ≤ 1099511627776
-  pub went_out : AppendsFront held new (says true bytes)
+  pub went_out : AppendsPrefix held new (says true bytes)
   pub ended : Bool
   pub counted : count ≡ counts ended bytes
 
@@ -82,7 +82,7 @@ TellsReads WriteFault before later = (later ≡ before) ⊎ (later ≡ next_coun
 -- what a sink took of bytes at an error
 abbrev pub FrontAtErr : {T E : Type 0} → Result T E → Option (List ℕ) → Option (List ℕ) → List ℕ → Type 0
 FrontAtErr (Ok x) held new bytes = Unit {0}
-FrontAtErr (Err e) held new bytes = AppendsFront held new bytes
+FrontAtErr (Err e) held new bytes = AppendsPrefix held new bytes
 
 -- a prefix of what waits went out, and the rest is left
 pub record Flushes (held new : Option (List ℕ)) (waits left : List ℕ) : Type 0 where
@@ -105,5 +105,5 @@ pub record Stands (m now : Meaning) (wants : ℕ) (first supply : Option Supply)
 
 -- all that waited went out, or the sink failed
 abbrev pub EndsAs : Outcome → Outcome → Option (List ℕ) → Option (List ℕ) → List ℕ → Type 0
-EndsAs wanted WriteFault held new waits = AppendsFront held new waits
+EndsAs wanted WriteFault held new waits = AppendsPrefix held new waits
 EndsAs wanted outcome held new waits = (wanted ≡ outcome) × Appends held new waits

@@ -12,8 +12,8 @@ use Rattle.nr_store.specs.Laws.{left_times-run}
 use Rattle.nr_store.specs.declared.element.Element.TheVariants as elements
 use Rattle.nr_reading.specs.declared.ask.Sign.TheVariants as signs
 use Rattle.nr_reading.specs.declared.event.Event.TheVariants as events
-use Rattle.nr_reading.specs.declared.mode.Due.{Due}
-use Rattle.nr_reading.specs.declared.mode.Due.TheVariants as dues
+use Rattle.nr_reading.specs.declared.mode.PendingAct.{PendingAct}
+use Rattle.nr_reading.specs.declared.mode.PendingAct.TheVariants as pending_acts
 use Rattle.nr_reading.specs.Many.InArgument.{ending_of, IsPlain}
 use Rattle.nr_input.specs.declared.reader.Reader.{Reader}
 use Rattle.nr_input.specs.declared.refusal.Refusal.{Refusal}
@@ -30,7 +30,7 @@ use Rattle.nr_input.specs.Weights.{diversions_in, diversions_of}
 use Rattle.fast_input.proofs.ControlLines.{done_read, pays_once}
 use Rattle.fast_input.proofs.Interpolated.{charge-reading, charge-more}
 use Rattle.fast_input.proofs.LevelRows.{left_times-add, rest-left_times}
-use Rattle.fast_input.proofs.PuttingLevel.{AreFront, charge-behind, level_added, level_added_pays}
+use Rattle.fast_input.proofs.PuttingLevel.{ArePrefix, charge-afterwards, level_added, level_added_pays}
 use Rattle.nr_input.proofs.Refusals.{acted-ok}
 use Rattle.fast_input.proofs.RowMoves.{reads_nothing}
 use Rattle.nr_input.proofs.Spending.{act_pays}
@@ -47,7 +47,7 @@ in_level-run t bytes v within = left_times-run t (reading_bytes bytes v) (omega 
 charge-in_level : {K : Type 0} (t : ℕ) (bytes : List ℕ) (v : Stored K) → t ≤ length bytes → charge_of (in_level t bytes v) ≡ charge_of v + (32 + length bytes)
 charge-in_level t bytes v within =
     let run = ap (λ (x : Stored _). charge_of x) (in_level-run t bytes v within) in
-    let same = charge-behind t (reading_bytes bytes v).levels in
+    let same = charge-afterwards t (reading_bytes bytes v).levels in
     omega (arith, run, same, charge-reading bytes v)
 
 limit-in_level : {K : Type 0} (t : ℕ) (bytes : List ℕ) (v : Stored K) → t ≤ length bytes → (in_level t bytes v).limit ≡ v.limit
@@ -55,54 +55,54 @@ limit-in_level t bytes v within = ap (λ (x : Stored _). x.limit) (in_level-run 
 
 -- ---- what is begun
 
-abbrev begun_to : {K : Type 0} → Due → Stored K → Stored K
-begun_to (dues.Put b) v = gathering b v
+abbrev begun_to : {K : Type 0} → PendingAct → Stored K → Stored K
+begun_to (pending_acts.Put b) v = gathering b v
 begun_to d v = begun [] None v
 
-begun_so : {K : Type 0} (d : Due) (v : Stored K) (r : Reader) → begins_target d ≡ true → r.half.notes.defining.appends ≡ false → act d v r ≡ done events.Nothing (begun_to d v) (idle r)
-begun_so dues.Begin v r begins new = rw new refl
-begun_so (dues.Put b) v r begins new = refl
-begun_so (dues.Register signs.None) v r begins new = cc
-begun_so (dues.Register signs.Plus) v r begins new = cc
-begun_so (dues.Register signs.Minus) v r begins new = cc
+begun_so : {K : Type 0} (d : PendingAct) (v : Stored K) (r : Reader) → begins_target d ≡ true → r.half.notes.defining.appends ≡ false → act d v r ≡ done events.Nothing (begun_to d v) (idle r)
+begun_so pending_acts.Begin v r begins new = rw new refl
+begun_so (pending_acts.Put b) v r begins new = refl
+begun_so (pending_acts.Register signs.None) v r begins new = cc
+begun_so (pending_acts.Register signs.Plus) v r begins new = cc
+begun_so (pending_acts.Register signs.Minus) v r begins new = cc
 begun_so d v r begins new = cc
 
-asked_so : {K : Type 0} (d : Due) (v : Stored K) (r : Reader) → begins_target d ≡ true → answer d v r ≡ storing_answer (act d v r).stored
-asked_so dues.Begin v r begins = refl
-asked_so (dues.Put b) v r begins = refl
-asked_so (dues.Register signs.None) v r begins = cc
-asked_so (dues.Register signs.Plus) v r begins = cc
-asked_so (dues.Register signs.Minus) v r begins = cc
+asked_so : {K : Type 0} (d : PendingAct) (v : Stored K) (r : Reader) → begins_target d ≡ true → answer d v r ≡ storing_answer (act d v r).stored
+asked_so pending_acts.Begin v r begins = refl
+asked_so (pending_acts.Put b) v r begins = refl
+asked_so (pending_acts.Register signs.None) v r begins = cc
+asked_so (pending_acts.Register signs.Plus) v r begins = cc
+asked_so (pending_acts.Register signs.Minus) v r begins = cc
 asked_so d v r begins = cc
 
-looks_not : (d : Due) → begins_target d ≡ true → is_look d ≡ false
-looks_not dues.Look begins = cc
+looks_not : (d : PendingAct) → begins_target d ≡ true → is_look d ≡ false
+looks_not pending_acts.Look begins = cc
 looks_not d begins = refl
 
-begun_behind : {K : Type 0} (d : Due) (t : ℕ) (bytes : List ℕ) (v : Stored K) → begun_to d (run_left t (reading_bytes bytes v)) ≡ run_left t (reading_bytes bytes (begun_to d v))
-begun_behind (dues.Put b) t bytes v = refl
-begun_behind d t bytes v = refl
+begun_after : {K : Type 0} (d : PendingAct) (t : ℕ) (bytes : List ℕ) (v : Stored K) → begun_to d (run_left t (reading_bytes bytes v)) ≡ run_left t (reading_bytes bytes (begun_to d v))
+begun_after (pending_acts.Put b) t bytes v = refl
+begun_after d t bytes v = refl
 
-same_diversions : {K : Type 0} (d : Due) (v : Stored K) → diversions_in (begun_to d v).building ≡ diversions_in v.building
-same_diversions (dues.Put b) v = refl
+same_diversions : {K : Type 0} (d : PendingAct) (v : Stored K) → diversions_in (begun_to d v).building ≡ diversions_in v.building
+same_diversions (pending_acts.Put b) v = refl
 same_diversions d v = let more = sum_by-cons diversions_of (record { text = []; diversion = None }) v.building in omega (arith, more)
 
 -- no more is charged than for a text that is empty
-begun-charge : {K : Type 0} (d : Due) (v : Stored K) → charge_of (begun_to d v) ≤ charge_of v + 48
-begun-charge (dues.Put b) v = let most = charge-more Argument (b ∷ []) v in omega (arith, most)
+begun-charge : {K : Type 0} (d : PendingAct) (v : Stored K) → charge_of (begun_to d v) ≤ charge_of v + 48
+begun-charge (pending_acts.Put b) v = let most = charge-more Argument (b ∷ []) v in omega (arith, most)
 begun-charge d v = let cost = λ (b : Built). weight b.text in let more = sum_by-cons cost (record { text = []; diversion = None }) v.building in omega (arith, more)
 
-begun-limit : {K : Type 0} (d : Due) (v : Stored K) → (begun_to d v).limit ≡ v.limit
-begun-limit (dues.Put b) v = refl
+begun-limit : {K : Type 0} (d : PendingAct) (v : Stored K) → (begun_to d v).limit ≡ v.limit
+begun-limit (pending_acts.Put b) v = refl
 begun-limit d v = refl
 
 stored_there : (full : Bool) → full ≡ false → storing_by (if full then Err (record {}) else Ok tt) ≡ Ok tt
 stored_there full few = rw few refl
 
-module _ {K : Type 0} (bytes : List ℕ) (v w : Stored K) (r s : Reader) (begins : begins_target r.half.reading.due ≡ true) (new : r.half.notes.defining.appends ≡ false)
-    (is : called w s (Ok events.Nothing) ≡ acted r.half.reading.due v r) (room : charge_of v + (80 + 2 * length bytes) ≤ v.limit) where
-  abbrev d : Due
-  d = r.half.reading.due
+module _ {K : Type 0} (bytes : List ℕ) (v w : Stored K) (r s : Reader) (begins : begins_target r.half.reading.pending_act ≡ true) (new : r.half.notes.defining.appends ≡ false)
+    (is : called w s (Ok events.Nothing) ≡ acted r.half.reading.pending_act v r) (room : charge_of v + (80 + 2 * length bytes) ≤ v.limit) where
+  abbrev d : PendingAct
+  d = r.half.reading.pending_act
 
   done_is : done events.Nothing w s ≡ done events.Nothing (begun_to d v) (idle r)
   done_is = (acted-ok (answer d v r) (act d v r) v w r s events.Nothing is).1 ∙ begun_so d v r begins new
@@ -120,7 +120,7 @@ module _ {K : Type 0} (bytes : List ℕ) (v w : Stored K) (r s : Reader) (begins
     there_is : begun_to d (in_level t bytes v) ≡ in_level t bytes w
     there_is =
         ap (begun_to d) (in_level-run t bytes v within)
-        ∙ begun_behind d t bytes v
+        ∙ begun_after d t bytes v
         ∙ ap (λ (x : Stored K). run_left t (reading_bytes bytes x)) (sym stored_is)
         ∙ sym (in_level-run t bytes w within)
 
@@ -154,48 +154,48 @@ module _ {K : Type 0} (bytes : List ℕ) (v w : Stored K) (r s : Reader) (begins
 -- ---- the bytes after are added
 
 -- the bytes after a place, as a slice of them
-pub slice_behind : (t : ℕ) (bytes : List ℕ) → take (length bytes - t) (drop t bytes) ≡ drop t bytes
-slice_behind t bytes = take_all (length bytes - t) (drop t bytes) (omega (arith, length-drop t bytes))
+pub slice_after : (t : ℕ) (bytes : List ℕ) → take (length bytes - t) (drop t bytes) ≡ drop t bytes
+slice_after t bytes = take_all (length bytes - t) (drop t bytes) (omega (arith, length-drop t bytes))
 
-more_behind : {K : Type 0} (a : Target) (xs : List ℕ) (t : ℕ) (bytes : List ℕ) (w : Stored K) → with_more a xs (run_left t (reading_bytes bytes w)) ≡ run_left t (reading_bytes bytes (with_more a xs w))
-more_behind Argument xs t bytes w = refl
-more_behind Text xs t bytes w = refl
+more_after : {K : Type 0} (a : Target) (xs : List ℕ) (t : ℕ) (bytes : List ℕ) (w : Stored K) → with_more a xs (run_left t (reading_bytes bytes w)) ≡ run_left t (reading_bytes bytes (with_more a xs w))
+more_after Argument xs t bytes w = refl
+more_after Text xs t bytes w = refl
 
 module _ {K : Type 0} (a : Target) (t n : ℕ) (bytes : List ℕ) (w x : Stored K) (s : Reader) (within : t ≤ length bytes) (few : n ≤ length (drop t bytes))
     (added : x ≡ with_more a (take n (drop t bytes)) w) where
-  abbrev behind : List ℕ
-  behind = drop t bytes
+  abbrev afterwards : List ℕ
+  afterwards = drop t bytes
 
-  ends : left_times n (with_more a (take n behind) (in_level t bytes w)) ≡ in_level (t + n) bytes x
+  ends : left_times n (with_more a (take n afterwards) (in_level t bytes w)) ≡ in_level (t + n) bytes x
   ends =
-      ap (λ (y : Stored K). left_times n (with_more a (take n behind) y)) (in_level-run t bytes w within)
-      ∙ ap (left_times n) (more_behind a (take n behind) t bytes w ∙ ap (λ (y : Stored K). run_left t (reading_bytes bytes y)) (sym added) ∙ sym (in_level-run t bytes x within))
+      ap (λ (y : Stored K). left_times n (with_more a (take n afterwards) y)) (in_level-run t bytes w within)
+      ∙ ap (left_times n) (more_after a (take n afterwards) t bytes w ∙ ap (λ (y : Stored K). run_left t (reading_bytes bytes y)) (sym added) ∙ sym (in_level-run t bytes x within))
       ∙ left_times-add t n (reading_bytes bytes x)
 
-  rest_is : rest_of (in_level t bytes w).levels ≡ map elements.Byte behind
+  rest_is : rest_of (in_level t bytes w).levels ≡ map elements.Byte afterwards
   rest_is = rest-left_times t (reading_bytes bytes w) (omega (arith, within, length-map bytes elements.Byte)) ∙ drop-map elements.Byte t bytes
 
-  front : AreFront behind (rest_of (in_level t bytes w).levels)
-  front = sym (ap (take (length behind)) rest_is ∙ take_all (length behind) (map elements.Byte behind) (omega (arith, length-map behind elements.Byte)))
+  prefix : ArePrefix afterwards (rest_of (in_level t bytes w).levels)
+  prefix = sym (ap (take (length afterwards)) rest_is ∙ take_all (length afterwards) (map elements.Byte afterwards) (omega (arith, length-map afterwards elements.Byte)))
 
   pub more_pays : (p : Reached) → PaysAll (2 * n) (in_level t bytes w) p s events.Nothing (in_level (t + n) bytes x) p s
   more_pays p =
       let long = ap length rest_is in
-      level_added_pays a n (take n behind) (in_level t bytes w) (in_level (t + n) bytes x) p s (omega (arith, few, long, length-map behind elements.Byte)) (sym ends)
+      level_added_pays a n (take n afterwards) (in_level t bytes w) (in_level (t + n) bytes x) p s (omega (arith, few, long, length-map afterwards elements.Byte)) (sym ends)
 
-  module _ (reads : is_read_for a s.half ≡ true) (plain : All (IsPlain (ending_of s.half.reading.mode)) (take n behind)) (room : charge_of w + (32 + 2 * length bytes) ≤ w.limit) where
-    fits_more : charge_of (with_more a (take n behind) (in_level t bytes w)) ≤ (in_level t bytes w).limit
+  module _ (reads : is_read_for a s.half ≡ true) (plain : All (IsPlain (ending_of s.half.reading.mode)) (take n afterwards)) (room : charge_of w + (32 + 2 * length bytes) ≤ w.limit) where
+    fits_more : charge_of (with_more a (take n afterwards) (in_level t bytes w)) ≤ (in_level t bytes w).limit
     fits_more =
         let charge = charge-in_level t bytes w within in
         let limit = limit-in_level t bytes w within in
-        let more = charge-more a (take n behind) (in_level t bytes w) in
-        let long : length behind ≡ length bytes - t = length-drop t bytes in
-        omega (arith, room, charge, limit, more, length-take n behind, few, long)
+        let more = charge-more a (take n afterwards) (in_level t bytes w) in
+        let long : length afterwards ≡ length bytes - t = length-drop t bytes in
+        omega (arith, room, charge, limit, more, length-take n afterwards, few, long)
 
     none_more : n ≡ 0 → (c : Coming) (p : Reached) (supply : Option Supply) → HoldsComing c p supply → HasRead (2 * n) (situation (in_level t bytes w) c s) events.Nothing (in_level (t + n) bytes x) s p supply
     none_more none c p supply holds =
         let zero_moves : 0 ≡ 2 * n = omega (arith, none) in
-        let same : in_level (t + n) bytes x ≡ in_level t bytes w = sym ends ∙ ap (λ k. left_times k (with_more a (take k behind) (in_level t bytes w))) none ∙ with_more-none a (in_level t bytes w) in
+        let same : in_level (t + n) bytes x ≡ in_level t bytes w = sym ends ∙ ap (λ k. left_times k (with_more a (take k afterwards) (in_level t bytes w))) none ∙ with_more-none a (in_level t bytes w) in
         subst (λ k. HasRead k (situation (in_level t bytes w) c s) events.Nothing (in_level (t + n) bytes x) s p supply) zero_moves
         (reads_nothing (situation (in_level t bytes w) c s) (in_level (t + n) bytes x) s p supply (record { stored = same; reader = refl; coming = holds }))
 
@@ -203,6 +203,6 @@ module _ {K : Type 0} (a : Target) (t n : ℕ) (bytes : List ℕ) (w x : Stored 
     more_read c p supply holds = elim (cases_lt 0 n) [
       | inl some ↦
           subst (λ (y : Stored K). HasRead (2 * n) (situation (in_level t bytes w) c s) events.Nothing y s p supply) ends
-          (level_added a n (in_level t bytes w) c s behind reads some few plain fits_more p supply holds front)
+          (level_added a n (in_level t bytes w) c s afterwards reads some few plain fits_more p supply holds prefix)
       | inr none ↦ none_more (omega (arith, none)) c p supply holds
     ]

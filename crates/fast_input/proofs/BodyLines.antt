@@ -8,7 +8,7 @@ use Rattle.nr_store.specs.Store.{Stored, charge_of}
 use Rattle.nr_store.specs.declared.element.Element.TheVariants as elements
 use Rattle.nr_reading.specs.declared.event.Event.TheVariants as events
 use Rattle.nr_reading.specs.declared.half.Half.{Half}
-use Rattle.nr_reading.specs.declared.mode.Due.TheVariants as dues
+use Rattle.nr_reading.specs.declared.mode.PendingAct.TheVariants as pending_acts
 use Rattle.nr_reading.specs.declared.mode.Mode.{Mode}
 use Rattle.nr_reading.specs.declared.mode.Mode.TheVariants as modes
 use Rattle.nr_reading.specs.Definitions.{last_line, in_body}
@@ -20,9 +20,9 @@ use Rattle.fast_input.specs.BodyLines.{is_in_body, IsLine, IsOwn}
 use Rattle.fast_input.specs.MacroLines.{ReadsOn}
 use Rattle.nr_input.specs.Refusal.{called, acted, acted_by, storing_by, storing_answer}
 use Rattle.fast_input.specs.Target.{with_more}
-use Rattle.fast_input.proofs.BodyBytes.{line_mode, in_body-is, in_line, own_met, other_met, escape_met}
+use Rattle.fast_input.proofs.BodyBytes.{line_mode, in_body-is, in_line, own_taken_in, other_taken_in, escape_taken_in}
 use Rattle.fast_input.proofs.MacroBytes.{half_in, is_half_in}
-use Rattle.fast_input.proofs.MacroLines.{reads_then, reads_still, reads_none, reads_met, reads_due}
+use Rattle.fast_input.proofs.MacroLines.{reads_then, reads_still, reads_none, reads_taken_in, reads_pending}
 use Rattle.fast_input.proofs.PuttingRead.{plain_at}
 use Rattle.fast_input.proofs.Targets.{diversions-with_more, with_more-none, with_more-next, charge_of-some, charge_of-le, longer-bound}
 
@@ -36,8 +36,8 @@ abbrev in_line_at : Reader → Bool → Reader
 in_line_at r x = record r { half = half_in (line_mode x) r.half }
 
 -- the reader in the mode after this byte
-abbrev reader_behind : Reader → ℕ → Reader
-reader_behind r b = record r { half = record r.half { reading = record r.half.reading { mode = in_body b } } }
+abbrev reader_after : Reader → ℕ → Reader
+reader_after r b = record r { half = record r.half { reading = record r.half.reading { mode = in_body b } } }
 
 module _ {K : Type 0} (r : Reader) where
   -- ---- a byte that is to be added
@@ -47,31 +47,31 @@ module _ {K : Type 0} (r : Reader) where
   allowed w fits = ap storing_by (cond-false _ _ _ (le-ltb w.limit (charge_of w) fits))
 
   add_reads : (bs : List ℕ) (b : ℕ) (u : Stored K) (k : Half) → charge_of (with_more Text (b ∷ []) u) ≤ u.limit
-      → ReadsOn 1 0 bs u (record r { half = next (dues.Add b) k }) (with_more Text (b ∷ []) u) (record r { half = next dues.Look k })
+      → ReadsOn 1 0 bs u (record r { half = next (pending_acts.Add b) k }) (with_more Text (b ∷ []) u) (record r { half = next pending_acts.Look k })
   add_reads bs b u k fits =
       let w = with_more Text (b ∷ []) u in
-      let before = record r { half = next (dues.Add b) k } in
-      let after = record r { half = next dues.Look k } in
-      let is : called w after (Ok events.Nothing) ≡ acted (dues.Add b) u before = sym (ap (λ x. acted_by x (act (dues.Add b) u before) u before) (allowed w fits)) in
-      reads_due bs u w before after refl is refl refl (diversions-with_more Text (b ∷ []) u) refl
+      let before = record r { half = next (pending_acts.Add b) k } in
+      let after = record r { half = next pending_acts.Look k } in
+      let is : called w after (Ok events.Nothing) ≡ acted (pending_acts.Add b) u before = sym (ap (λ x. acted_by x (act (pending_acts.Add b) u before) u before) (allowed w fits)) in
+      reads_pending bs u w before after refl is refl refl (diversions-with_more Text (b ∷ []) u) refl
 
-  -- a dot that was held back, after which this byte is due
+  -- a dot that was held back, after which this byte is pending
   release_reads : (bs : List ℕ) (b : ℕ) (u : Stored K) (k : Half) → charge_of (with_more Text (code "." ∷ []) u) ≤ u.limit
-      → ReadsOn 1 0 bs u (record r { half = next (dues.Release 1 0 (Some b)) k }) (with_more Text (code "." ∷ []) u) (record r { half = next (dues.Add b) k })
+      → ReadsOn 1 0 bs u (record r { half = next (pending_acts.Release 1 0 (Some b)) k }) (with_more Text (code "." ∷ []) u) (record r { half = next (pending_acts.Add b) k })
   release_reads bs b u k fits =
       let w = with_more Text (code "." ∷ []) u in
-      let before = record r { half = next (dues.Release 1 0 (Some b)) k } in
-      let after = record r { half = next (dues.Add b) k } in
-      let is : called w after (Ok events.Nothing) ≡ acted (dues.Release 1 0 (Some b)) u before = sym (ap (λ x. acted_by x (act (dues.Release 1 0 (Some b)) u before) u before) (allowed w fits)) in
-      reads_due bs u w before after refl is refl refl (diversions-with_more Text (code "." ∷ []) u) refl
+      let before = record r { half = next (pending_acts.Release 1 0 (Some b)) k } in
+      let after = record r { half = next (pending_acts.Add b) k } in
+      let is : called w after (Ok events.Nothing) ≡ acted (pending_acts.Release 1 0 (Some b)) u before = sym (ap (λ x. acted_by x (act (pending_acts.Release 1 0 (Some b)) u before) u before) (allowed w fits)) in
+      reads_pending bs u w before after refl is refl refl (diversions-with_more Text (code "." ∷ []) u) refl
 
   module _ (keeps : r.half.notes.defining.keeps ≡ true) (bs : List ℕ) (u : Stored K) where
     own_reads : (x : Bool) (b : ℕ) → 0 < length bs → slice_index bs 0 ≡ b → b ≢ code "\\" → (x ≡ true → b ≢ code ".") → charge_of (with_more Text (b ∷ []) u) ≤ u.limit
         → ReadsOn 2 1 bs u (in_line_at r x) (with_more Text (b ∷ []) u) (in_line_at r (b == code "\n"))
     own_reads x b some is apart other fits =
         let k = half_in (line_mode (b == code "\n")) r.half in
-        reads_still 1 1 1 bs u u (with_more Text (b ∷ []) u) (in_line_at r x) (record r { half = next (dues.Add b) k }) (in_line_at r (b == code "\n"))
-        (reads_met 1 1 bs u (in_line_at r x) (next (dues.Add b) k) (own_met bs r.half keeps x b some is apart other)) (add_reads (drop 1 bs) b u k fits)
+        reads_still 1 1 1 bs u u (with_more Text (b ∷ []) u) (in_line_at r x) (record r { half = next (pending_acts.Add b) k }) (in_line_at r (b == code "\n"))
+        (reads_taken_in 1 1 bs u (in_line_at r x) (next (pending_acts.Add b) k) (own_taken_in bs r.half keeps x b some is apart other)) (add_reads (drop 1 bs) b u k fits)
 
     other_reads : (b : ℕ) → 1 < length bs → slice_index bs 0 ≡ code "." → slice_index bs 1 ≡ b → b ≢ code "\\" → b ≢ slice_index (last_line r.half.notes.defining) 1
         → charge_of (with_more Text (code "." ∷ []) u) ≤ u.limit → charge_of (with_more Text (b ∷ []) (with_more Text (code "." ∷ []) u)) ≤ u.limit
@@ -79,19 +79,19 @@ module _ {K : Type 0} (r : Reader) where
     other_reads b some first is apart other fits both_fit =
         let k = half_in (line_mode (b == code "\n")) r.half in
         let one = with_more Text (code "." ∷ []) u in
-        let held = record r { half = next (dues.Release 1 0 (Some b)) k } in
-        let due = record r { half = next (dues.Add b) k } in
-        reads_still 3 1 2 bs u one (with_more Text (b ∷ []) one) (in_line_at r true) due (in_line_at r (b == code "\n"))
-        (reads_still 2 1 2 bs u u one (in_line_at r true) held due
-        (reads_met 2 2 bs u (in_line_at r true) (next (dues.Release 1 0 (Some b)) k) (other_met bs r.half keeps b some first is apart other)) (release_reads (drop 2 bs) b u k fits))
+        let held = record r { half = next (pending_acts.Release 1 0 (Some b)) k } in
+        let pending_act = record r { half = next (pending_acts.Add b) k } in
+        reads_still 3 1 2 bs u one (with_more Text (b ∷ []) one) (in_line_at r true) pending_act (in_line_at r (b == code "\n"))
+        (reads_still 2 1 2 bs u u one (in_line_at r true) held pending_act
+        (reads_taken_in 2 2 bs u (in_line_at r true) (next (pending_acts.Release 1 0 (Some b)) k) (other_taken_in bs r.half keeps b some first is apart other)) (release_reads (drop 2 bs) b u k fits))
         (add_reads (drop 2 bs) b one k both_fit)
 
     escape_reads : (x : Bool) → 1 < length bs → slice_index bs 0 ≡ code "\\" → slice_index bs 1 ≡ code "\\" → charge_of (with_more Text (code "\\" ∷ []) u) ≤ u.limit
         → ReadsOn 3 2 bs u (in_line_at r x) (with_more Text (code "\\" ∷ []) u) (in_line_at r false)
     escape_reads x some first second fits =
         let k = half_in modes.Body r.half in
-        reads_still 2 1 2 bs u u (with_more Text (code "\\" ∷ []) u) (in_line_at r x) (record r { half = next (dues.Add (code "\\")) k }) (in_line_at r false)
-        (reads_met 2 2 bs u (in_line_at r x) (next (dues.Add (code "\\")) k) (escape_met bs r.half keeps x some first second)) (add_reads (drop 2 bs) (code "\\") u k fits)
+        reads_still 2 1 2 bs u u (with_more Text (code "\\" ∷ []) u) (in_line_at r x) (record r { half = next (pending_acts.Add (code "\\")) k }) (in_line_at r false)
+        (reads_taken_in 2 2 bs u (in_line_at r x) (next (pending_acts.Add (code "\\")) k) (escape_taken_in bs r.half keeps x some first second)) (add_reads (drop 2 bs) (code "\\") u k fits)
 
   -- ---- the bytes of a line, one after another
 
@@ -104,8 +104,8 @@ module _ {K : Type 0} (r : Reader) where
     abbrev ReadsTo : Bool → ℕ → Type 0
     ReadsTo x k = ReadsOn (2 * k) k bs v (in_line_at r x) (stored k) (in_line_at r (begins_after bs x k))
 
-    front_byte : (k : ℕ) → slice_index (drop k bs) 0 ≡ slice_index bs k
-    front_byte k = get_or-drop k bs 0 0 ∙ (let same : k + 0 ≡ k = omega arith in ap (slice_index bs) same)
+    next_byte : (k : ℕ) → slice_index (drop k bs) 0 ≡ slice_index bs k
+    next_byte k = get_or-drop k bs 0 0 ∙ (let same : k + 0 ≡ k = omega arith in ap (slice_index bs) same)
 
     one_fits : (k : ℕ) → k < n → charge_of (with_more Text (slice_index bs k ∷ []) (stored k)) ≤ (stored k).limit
     one_fits k below = charge_of-some Text k n bs v below within fits
@@ -123,7 +123,7 @@ module _ {K : Type 0} (r : Reader) where
         (subst (λ j. ReadsOn (2 * k + 2) j bs v (in_line_at r x) (stored (suc k)) (in_line_at r (b == code "\n"))) more
         (subst (λ (w : Stored K). ReadsOn (2 * k + 2) (k + 1) bs v (in_line_at r x) w (in_line_at r (b == code "\n"))) (with_more-next Text k bs v (omega (arith, below, within)))
         (reads_then (2 * k) 2 k 1 bs v (stored k) (with_more Text (b ∷ []) (stored k)) (in_line_at r x) (in_line_at r y) (in_line_at r (b == code "\n")) so_far
-        (own_reads keeps (drop k bs) (stored k) y b (omega (arith, below, within, length-drop k bs)) (front_byte k) (escape k below) other (one_fits k below)))))
+        (own_reads keeps (drop k bs) (stored k) y b (omega (arith, below, within, length-drop k bs)) (next_byte k) (escape k below) other (one_fits k below)))))
 
     -- after a byte that is not the last no line begins
     still : (x : Bool) (k : ℕ) → suc k < n → begins_after bs x (suc k) ≡ true → slice_index bs (suc k) ≢ code "."
@@ -169,8 +169,8 @@ module _ {K : Type 0} (r : Reader) where
     stands : r ≡ in_line_at r x
     stands = let i = in_line r.half body in ap (λ (h : Half). record r { half = h }) (is_half_in (line_mode x) r.half i.mode i.idle)
 
-    behind_is : (b : ℕ) → reader_behind r b ≡ in_line_at r (b == code "\n")
-    behind_is b =
+    after_is : (b : ℕ) → reader_after r b ≡ in_line_at r (b == code "\n")
+    after_is b =
         let i = in_line r.half body in
         ap (λ (h : Half). record r { half = record h { reading = record h.reading { mode = in_body b } } }) (is_half_in (line_mode x) r.half i.mode i.idle)
         ∙ ap (λ (m : Mode). record r { half = half_in m r.half }) (in_body-is b)
@@ -186,15 +186,15 @@ module _ {K : Type 0} (r : Reader) where
         let two : 1 < own = omega (arith, more, length-take own bs) in
         (two, λ same. other.other (get_or-take own bs 1 0 two ∙ same)))
 
-    read_plain : (j : ℕ) → own ≡ suc j → w ≡ with_more Text (take own bs) v → charge_of w ≤ w.limit → ReadsOn (2 * own) own bs v r w (reader_behind r (slice_index bs j))
+    read_plain : (j : ℕ) → own ≡ suc j → w ≡ with_more Text (take own bs) v → charge_of w ≤ w.limit → ReadsOn (2 * own) own bs v r w (reader_after r (slice_index bs j))
     read_plain j is added fits =
         let all = own_read (subst (λ (u : Stored K). charge_of u ≤ u.limit) added fits) in
-        let ends : in_line_at r (begins_after bs x own) ≡ reader_behind r (slice_index bs j) = ap (λ k. in_line_at r (begins_after bs x k)) is ∙ sym (behind_is (slice_index bs j)) in
-        subst (λ (q : Reader). ReadsOn (2 * own) own bs v q w (reader_behind r (slice_index bs j))) (sym stands)
-        (subst (λ (u : Stored K). ReadsOn (2 * own) own bs v (in_line_at r x) u (reader_behind r (slice_index bs j))) (sym added)
+        let ends : in_line_at r (begins_after bs x own) ≡ reader_after r (slice_index bs j) = ap (λ k. in_line_at r (begins_after bs x k)) is ∙ sym (after_is (slice_index bs j)) in
+        subst (λ (q : Reader). ReadsOn (2 * own) own bs v q w (reader_after r (slice_index bs j))) (sym stands)
+        (subst (λ (u : Stored K). ReadsOn (2 * own) own bs v (in_line_at r x) u (reader_after r (slice_index bs j))) (sym added)
         (subst (λ (q : Reader). ReadsOn (2 * own) own bs v (in_line_at r x) (with_more Text (take own bs) v) q) ends all))
 
-    read_escaped : own + 1 < length bs → slice_index bs own ≡ code "\\" → slice_index bs (own + 1) ≡ code "\\" → w ≡ with_more Text (take (suc own) bs) v → charge_of w ≤ w.limit → ReadsOn (2 * own + 3) (own + 2) bs v r w (reader_behind r (code "\\"))
+    read_escaped : own + 1 < length bs → slice_index bs own ≡ code "\\" → slice_index bs (own + 1) ≡ code "\\" → w ≡ with_more Text (take (suc own) bs) v → charge_of w ≤ w.limit → ReadsOn (2 * own + 3) (own + 2) bs v r w (reader_after r (code "\\"))
     read_escaped some first second added fits =
         let i = in_line r.half body in
         let y = begins_after bs x own in
@@ -208,40 +208,40 @@ module _ {K : Type 0} (r : Reader) where
         let one_fits : charge_of (with_more Text (code "\\" ∷ []) u) ≤ u.limit = subst (λ (o : Stored K). charge_of o ≤ v.limit) (sym (ap (λ b. with_more Text (b ∷ []) u) (sym first) ∙ more)) all_fit in
         let zero_on : own + 0 ≡ own = omega arith in
         let there = get_or-drop own bs 0 0 ∙ ap (slice_index bs) zero_on ∙ first in
-        let behind = get_or-drop own bs 1 0 ∙ second in
-        let escape = escape_reads i.keeps (drop own bs) u y (omega (arith, some, length-drop own bs)) there behind one_fits in
-        subst (λ (q : Reader). ReadsOn (2 * own + 3) (own + 2) bs v q w (reader_behind r (code "\\"))) (sym stands)
-        (subst (λ (q : Reader). ReadsOn (2 * own + 3) (own + 2) bs v (in_line_at r x) w q) (sym (behind_is (code "\\")))
+        let afterwards = get_or-drop own bs 1 0 ∙ second in
+        let escape = escape_reads i.keeps (drop own bs) u y (omega (arith, some, length-drop own bs)) there afterwards one_fits in
+        subst (λ (q : Reader). ReadsOn (2 * own + 3) (own + 2) bs v q w (reader_after r (code "\\"))) (sym stands)
+        (subst (λ (q : Reader). ReadsOn (2 * own + 3) (own + 2) bs v (in_line_at r x) w q) (sym (after_is (code "\\")))
         (subst (λ (o : Stored K). ReadsOn (2 * own + 3) (own + 2) bs v (in_line_at r x) o (in_line_at r false)) escaped
         (reads_then (2 * own) 3 own 2 bs v u (with_more Text (code "\\" ∷ []) u) (in_line_at r x) (in_line_at r y) (in_line_at r false) so_far escape)))
 
     -- what stands for itself, and perhaps a `\\` after it
     pub part_reads : (more : ℕ) → more ≤ 1 → 0 < own + more → (0 < more → (own + 1 < length bs) × ((slice_index bs own ≡ code "\\") × (slice_index bs (own + 1) ≡ code "\\"))) → w ≡ with_more Text (take (own + more) bs) v → charge_of w ≤ w.limit
-        → ReadsOn (2 * (own + more) + more) (own + more + more) bs v r w (reader_behind r (slice_index bs (own + more - 1)))
+        → ReadsOn (2 * (own + more) + more) (own + more + more) bs v r w (reader_after r (slice_index bs (own + more - 1)))
     part_reads zero few some escaped added fits = plain_part own refl
       where
-        plain_part : (m : ℕ) → own ≡ m → ReadsOn (2 * (own + 0) + 0) (own + 0 + 0) bs v r w (reader_behind r (slice_index bs (own + 0 - 1)))
+        plain_part : (m : ℕ) → own ≡ m → ReadsOn (2 * (own + 0) + 0) (own + 0 + 0) bs v r w (reader_after r (slice_index bs (own + 0 - 1)))
         plain_part zero is = absurd (omega (arith, is, some))
         plain_part (suc j) is =
             let same : own ≡ own + 0 = omega arith in
             let moves : 2 * own ≡ 2 * (own + 0) + 0 = omega arith in
             let taken : own ≡ own + 0 + 0 = omega arith in
             let last : j ≡ own + 0 - 1 = omega (arith, is) in
-            subst (λ k. ReadsOn k (own + 0 + 0) bs v r w (reader_behind r (slice_index bs (own + 0 - 1)))) moves
-            (subst (λ k. ReadsOn (2 * own) k bs v r w (reader_behind r (slice_index bs (own + 0 - 1)))) taken
-            (subst (λ k. ReadsOn (2 * own) own bs v r w (reader_behind r (slice_index bs k))) last
+            subst (λ k. ReadsOn k (own + 0 + 0) bs v r w (reader_after r (slice_index bs (own + 0 - 1)))) moves
+            (subst (λ k. ReadsOn (2 * own) k bs v r w (reader_after r (slice_index bs (own + 0 - 1)))) taken
+            (subst (λ k. ReadsOn (2 * own) own bs v r w (reader_after r (slice_index bs k))) last
             (read_plain j is (added ∙ ap (λ k. with_more Text (take k bs) v) (sym same)) fits)))
     part_reads (suc zero) few some escaped added fits =
         let two = escaped (omega arith) in
-        let behind = two.1 in
+        let afterwards = two.1 in
         let more : own + 1 ≡ suc own = omega arith in
         let moves : 2 * own + 3 ≡ 2 * (own + 1) + 1 = omega arith in
         let taken : own + 2 ≡ own + 1 + 1 = omega arith in
         let last : own ≡ own + 1 - 1 = omega arith in
-        subst (λ k. ReadsOn k (own + 1 + 1) bs v r w (reader_behind r (slice_index bs (own + 1 - 1)))) moves
-        (subst (λ k. ReadsOn (2 * own + 3) k bs v r w (reader_behind r (slice_index bs (own + 1 - 1)))) taken
-        (subst (λ k. ReadsOn (2 * own + 3) (own + 2) bs v r w (reader_behind r k)) (sym behind.0 ∙ ap (slice_index bs) last)
-        (read_escaped two.0 behind.0 behind.1 (added ∙ ap (λ k. with_more Text (take k bs) v) more) fits)))
+        subst (λ k. ReadsOn k (own + 1 + 1) bs v r w (reader_after r (slice_index bs (own + 1 - 1)))) moves
+        (subst (λ k. ReadsOn (2 * own + 3) k bs v r w (reader_after r (slice_index bs (own + 1 - 1)))) taken
+        (subst (λ k. ReadsOn (2 * own + 3) (own + 2) bs v r w (reader_after r k)) (sym afterwards.0 ∙ ap (slice_index bs) last)
+        (read_escaped two.0 afterwards.0 afterwards.1 (added ∙ ap (λ k. with_more Text (take k bs) v) more) fits)))
     part_reads (suc (suc k)) few some escaped added fits = absurd (omega (arith, few))
 
 -- ---- room for all of them
@@ -257,10 +257,10 @@ all_added {K = K} n bs v w within room added most = elim (cases_lt n (length bs)
   | inl less ↦
       let over = most less in
       let one = charge_of-bound (slice_index bs n ∷ []) w in
-      let front = charge_of-bound (take n bs) v in
+      let prefix = charge_of-bound (take n bs) v in
       let is = ap (λ (u : Stored K). charge_of u) added in
       let limit = ap (λ (u : Stored K). u.limit) added in
-      absurd (omega (arith, over, one, front, is, limit, less, room, length-take n bs))
+      absurd (omega (arith, over, one, prefix, is, limit, less, room, length-take n bs))
   | inr all ↦ added ∙ ap (λ xs. with_more Text xs v) (take_all n bs (omega (arith, all)))
 ]
 
@@ -269,7 +269,7 @@ all_fit {K = K} bs v w room added =
     let bound = charge_of-bound bs v in
     subst (λ (u : Stored K). charge_of u ≤ u.limit) (sym added) (omega (arith, bound, room))
 
--- ---- the bytes in front of a line
+-- ---- the first bytes of a line
 
 -- bytes that stand for themselves, and perhaps a newline after them
 module _ (n : ℕ) (bs : List ℕ) (within : n ≤ length bs) (plain : All (IsPlain (code "\n")) (take n bs)) where

@@ -10,30 +10,30 @@ use Rattle.nr_store.specs.declared.named.Meaning.{Meaning}
 use Rattle.nr_store.specs.declared.named.Meaning.TheVariants as meanings
 use Rattle.nr_reading.specs.declared.event.Event.{Event}
 use Rattle.nr_reading.specs.declared.event.Event.TheVariants as events
-use Rattle.nr_reading.specs.declared.front.Front.{Front}
-use Rattle.nr_reading.specs.declared.front.Front.TheVariants as fronts
+use Rattle.nr_reading.specs.declared.next_item.NextItem.{NextItem}
+use Rattle.nr_reading.specs.declared.next_item.NextItem.TheVariants as next_items
 use Rattle.nr_reading.specs.declared.half.Half.{Half}
 use Rattle.nr_reading.specs.declared.mode.Calls.{Calls}
 use Rattle.nr_reading.specs.declared.mode.Calls.TheVariants as calls
-use Rattle.nr_reading.specs.declared.mode.Due.TheVariants as dues
+use Rattle.nr_reading.specs.declared.mode.PendingAct.TheVariants as pending_acts
 use Rattle.nr_reading.specs.Many.Passing.{quiet}
 use Rattle.nr_reading.specs.declared.many.runs.Run.{Run}
-use Rattle.nr_reading.specs.Many.Runs.{Spot, HasMet, spot, spot_after}
+use Rattle.nr_reading.specs.Many.Runs.{Spot, HasTakenIn, spot, spot_after}
 use Rattle.nr_reading.specs.Seeking.{sought_event}
 use Rattle.nr_reading.specs.Weights.{is_lead}
 use Rattle.nr_input.specs.declared.reader.Reader.{Reader}
 use Rattle.nr_input.specs.declared.refusal.Refusal.{Refusal}
-use Rattle.nr_input.specs.declared.told.Told.TheVariants as tells
+use Rattle.nr_input.specs.declared.emitted.Emitted.TheVariants as tells
 use Rattle.nr_input.specs.Acting.{Acted, act, done, meaning_in, after_meaning, calls_of, is_look}
 use Rattle.nr_input.specs.Refusal.{Called, called, acted, answer}
 use Rattle.fast_input.specs.AtHand.{ComeNext}
 use Rattle.nr_input.specs.Place.{Coming, Reached, HoldsComing, passed_run}
 use Rattle.nr_input.specs.Moving.{Situation, Stands, situation, move, Goes, GoesBy, burst_past}
-use Rattle.fast_input.specs.Runs.{HasRead, PaysAll, moves, told_last, after_run, inside_after}
+use Rattle.fast_input.specs.Runs.{HasRead, PaysAll, moves, emitted_last, after_run, inside_after}
 use Rattle.nr_input.specs.Weights.{Pays, byte_worth, diversions_in}
 use Rattle.fast_input.proofs.Putting.{Quietly}
 use Rattle.nr_input.proofs.Refusals.{acted-ok}
-use Rattle.fast_input.proofs.RowMoves.{Goings, at_source, source_goings, moves-row, goes-row, told-row, quiet-row}
+use Rattle.fast_input.proofs.RowMoves.{Goings, at_source, source_goings, moves-row, goes-row, emitted-row, quiet-row}
 use Rattle.fast_input.proofs.RowsRead.{begins_there, source_looked, source_read, source_pays, looked_pays, burst_some, some_taken}
 use Rattle.nr_input.proofs.Spending.{act_pays}
 
@@ -45,10 +45,10 @@ moves_add (suc m) n s =
     let next : suc m + n ≡ suc (m + n) = omega arith in
     ap (λ k. moves k s) next ∙ ap (λ t. (move t).situation) (moves_add m n s)
 
-told_add : {K : Type 0} (m n : ℕ) (s : Situation K) → told_last (suc m + n) s ≡ told_last (suc m) (moves n s)
-told_add m n s =
+emitted_add : {K : Type 0} (m n : ℕ) (s : Situation K) → emitted_last (suc m + n) s ≡ emitted_last (suc m) (moves n s)
+emitted_add m n s =
     let next : suc m + n ≡ suc (m + n) = omega arith in
-    ap (λ k. told_last k s) next ∙ ap (λ t. (move t).told) (moves_add m n s)
+    ap (λ k. emitted_last k s) next ∙ ap (λ t. (move t).emitted) (moves_add m n s)
 
 pub then_read : {K : Type 0} (m n : ℕ) (s t : Situation K) (e : Event) (v : Stored K) (r : Reader) (q : Reached) (supply : Option Supply) → Quietly n s t → HasRead m t e v r q supply → HasRead (m + n) s e v r q supply
 then_read m n s t e v r q supply all read = record {
@@ -63,41 +63,41 @@ then_read m n s t e v r q supply all read = record {
     | inl past ↦
         let same : suc (k - n - 1) + n ≡ k = omega (arith, past) in
         let some : suc (k - n - 1) < m = omega (arith, past, below) in
-        ap (λ j. told_last j s) (sym same) ∙ told_add (k - n - 1) n s ∙ ap (told_last (suc (k - n - 1))) all.leads ∙ read.quiet (suc (k - n - 1)) some
+        ap (λ j. emitted_last j s) (sym same) ∙ emitted_add (k - n - 1) n s ∙ ap (emitted_last (suc (k - n - 1))) all.leads ∙ read.quiet (suc (k - n - 1)) some
     | inr few ↦ all.silent k few
   ];
   tells = last m read.tells;
   stands = subst (λ x. Stands x v r q supply) (sym (moves_add m n s ∙ ap (moves m) all.leads)) read.stands;
 }
   where
-    last : (m : ℕ) → told_last m t ≡ tells.Event e → told_last (m + n) s ≡ tells.Event e
-    last zero tells = let none : n ≡ 0 + n = omega arith in ap (λ k. told_last k s) (sym none) ∙ all.silent n (omega arith) ∙ tells
-    last (suc m) tells = told_add m n s ∙ ap (told_last (suc m)) all.leads ∙ tells
+    last : (m : ℕ) → emitted_last m t ≡ tells.Event e → emitted_last (m + n) s ≡ tells.Event e
+    last zero tells = let none : n ≡ 0 + n = omega arith in ap (λ k. emitted_last k s) (sym none) ∙ all.silent n (omega arith) ∙ tells
+    last (suc m) tells = emitted_add m n s ∙ ap (emitted_last (suc m)) all.leads ∙ tells
 
 -- a row that tells nothing
-row_quietly : {K : Type 0} (n taken : ℕ) (fs : List Front) (h k : Half) (at : Spot → Situation K) → Goings fs at → HasMet n fs h (quiet taken k) → Quietly n (at (spot_after 0 fs h)) (at (quiet taken k))
-row_quietly n taken fs h k at g met = record {
-  goes = λ j below. goes-row j n fs h at below g met.goes;
+row_quietly : {K : Type 0} (n taken : ℕ) (fs : List NextItem) (h k : Half) (at : Spot → Situation K) → Goings fs at → HasTakenIn n fs h (quiet taken k) → Quietly n (at (spot_after 0 fs h)) (at (quiet taken k))
+row_quietly n taken fs h k at g taken_in = record {
+  goes = λ j below. goes-row j n fs h at below g taken_in.goes;
   silent = λ j within. elim (cases_lt j n) [
-    | inl below ↦ quiet-row j n fs h at below g met.goes
+    | inl below ↦ quiet-row j n fs h at below g taken_in.goes
     | inr last ↦
         let same : n ≡ j = omega (arith, within, last) in
-        ap (λ i. told_last i (at (spot_after 0 fs h))) (sym same) ∙ told-row n fs h at g met.goes ∙ ap (λ (p : Spot). tells.Event p.event) met.leads
+        ap (λ i. emitted_last i (at (spot_after 0 fs h))) (sym same) ∙ emitted-row n fs h at g taken_in.goes ∙ ap (λ (p : Spot). tells.Event p.event) taken_in.leads
   ];
-  leads = moves-row n fs h at g met.goes ∙ ap at met.leads;
+  leads = moves-row n fs h at g taken_in.goes ∙ ap at taken_in.leads;
 }
 
--- ---- what is due is done
+-- ---- what is pending is done
 
-module _ {K : Type 0} (v w : Stored K) (c : Coming) (r s : Reader) (e : Event) (waits : is_look r.half.reading.due ≡ false) (is : called w s (Ok e) ≡ acted r.half.reading.due v r) where
+module _ {K : Type 0} (v w : Stored K) (c : Coming) (r s : Reader) (e : Event) (waits : is_look r.half.reading.pending_act ≡ false) (is : called w s (Ok e) ≡ acted r.half.reading.pending_act v r) where
   abbrev there : Situation K
   there = situation v c r
 
-  all_done : (answer r.half.reading.due v r ≡ Ok tt) × (done e w s ≡ act r.half.reading.due v r)
-  all_done = acted-ok (answer r.half.reading.due v r) (act r.half.reading.due v r) v w r s e is
+  all_done : (answer r.half.reading.pending_act v r ≡ Ok tt) × (done e w s ≡ act r.half.reading.pending_act v r)
+  all_done = acted-ok (answer r.half.reading.pending_act v r) (act r.half.reading.pending_act v r) v w r s e is
 
-  done_there : move there ≡ record { situation = situation w c s; told = tells.Event e }
-  done_there = rw waits (ap (λ (a : Acted K). record { situation = situation a.stored c a.reader; told = tells.Event a.event }) (sym all_done.1))
+  done_there : move there ≡ record { situation = situation w c s; emitted = tells.Event e }
+  done_there = rw waits (ap (λ (a : Acted K). record { situation = situation a.stored c a.reader; emitted = tells.Event a.event }) (sym all_done.1))
 
   goes_there : Goes there
   goes_there = subst (λ l. GoesBy l there) (sym waits) all_done.0
@@ -110,16 +110,16 @@ module _ {K : Type 0} (v w : Stored K) (c : Coming) (r s : Reader) (e : Event) (
     leads = ap (λ m. m.situation) done_there;
   }
     where
-      silent : (k : ℕ) → k ≤ 1 → told_last k there ≡ tells.Event events.Nothing
+      silent : (k : ℕ) → k ≤ 1 → emitted_last k there ≡ tells.Event events.Nothing
       silent zero within = refl
-      silent (suc zero) within = ap (λ m. m.told) done_there ∙ ap tells.Event none
+      silent (suc zero) within = ap (λ m. m.emitted) done_there ∙ ap tells.Event none
       silent (suc (suc k)) within = absurd (omega (arith, within))
 
   pub done_read : (q : Reached) (supply : Option Supply) → HoldsComing c q supply → HasRead 1 there e w s q supply
   done_read q supply holds = record {
     goes = λ k below. let first : 0 ≡ k = omega (arith, below) in subst (λ j. Goes (moves j there)) first goes_there;
-    quiet = λ k below. let first : 0 ≡ k = omega (arith, below) in subst (λ j. told_last j there ≡ tells.Event events.Nothing) first refl;
-    tells = ap (λ m. m.told) done_there;
+    quiet = λ k below. let first : 0 ≡ k = omega (arith, below) in subst (λ j. emitted_last j there ≡ tells.Event events.Nothing) first refl;
+    tells = ap (λ m. m.emitted) done_there;
     stands = subst (λ x. Stands x w s q supply) (sym (ap (λ m. m.situation) done_there)) (record { stored = refl; reader = refl; coming = holds });
   }
 
@@ -136,7 +136,7 @@ quietly_add m n s t u all more = record {
     | inl past ↦
         let same : suc (k - n - 1) + n ≡ k = omega (arith, past) in
         let few : suc (k - n - 1) ≤ m = omega (arith, past, within) in
-        ap (λ j. told_last j s) (sym same) ∙ told_add (k - n - 1) n s ∙ ap (told_last (suc (k - n - 1))) all.leads ∙ more.silent (suc (k - n - 1)) few
+        ap (λ j. emitted_last j s) (sym same) ∙ emitted_add (k - n - 1) n s ∙ ap (emitted_last (suc (k - n - 1))) all.leads ∙ more.silent (suc (k - n - 1)) few
     | inr few ↦ all.silent k few
   ];
   leads = moves_add m n s ∙ ap (moves m) all.leads ∙ more.leads;
@@ -177,25 +177,25 @@ builds_the_same : {K : Type 0} (m : Meaning) (v : Stored K) → (after_meaning m
 builds_the_same meanings.Text v = refl
 builds_the_same m v = refl
 
-module _ {K : Type 0} (v w : Stored K) (r s : Reader) (e : Event) (due : r.half.reading.due ≡ dues.Seek) (is : called w s (Ok e) ≡ acted dues.Seek v r) where
-  pub seeks : called w s (Ok e) ≡ acted r.half.reading.due v r
-  seeks = rw due is
+module _ {K : Type 0} (v w : Stored K) (r s : Reader) (e : Event) (pending_act : r.half.reading.pending_act ≡ pending_acts.Seek) (is : called w s (Ok e) ≡ acted pending_acts.Seek v r) where
+  pub seeks : called w s (Ok e) ≡ acted r.half.reading.pending_act v r
+  seeks = rw pending_act is
 
-  pub waits : is_look r.half.reading.due ≡ false
-  waits = rw due refl
+  pub waits : is_look r.half.reading.pending_act ≡ false
+  waits = rw pending_act refl
 
   stored_is : w ≡ after_meaning (meaning_in v r) v
   stored_is = ap (λ (a : Called K (Result Event Refusal)). a.stored) is
 
-  same_told : (x y : Result Event Refusal) (a b : Event) → x ≡ Ok a → y ≡ Ok b → x ≡ y → a ≡ b
-  same_told x y a b left right both = cc
+  same_emitted : (x y : Result Event Refusal) (a b : Event) → x ≡ Ok a → y ≡ Ok b → x ≡ y → a ≡ b
+  same_emitted x y a b left right both = cc
 
   pub seek_pays : (q : Reached) → PaysAll 1 v q r e w q s
   seek_pays q =
-      let told : e ≡ sought_event (calls_of (meaning_in v r)) = same_told (called w s (Ok e)).answer (acted dues.Seek v r).answer e (sought_event (calls_of (meaning_in v r))) refl refl (ap (λ (a : Called K (Result Event Refusal)). a.answer) is) in
-      pays_once v w q q r s e (ap is_lead told ∙ seeks_no_lead (calls_of (meaning_in v r)))
+      let emitted : e ≡ sought_event (calls_of (meaning_in v r)) = same_emitted (called w s (Ok e)).answer (acted pending_acts.Seek v r).answer e (sought_event (calls_of (meaning_in v r))) refl refl (ap (λ (a : Called K (Result Event Refusal)). a.answer) is) in
+      pays_once v w q q r s e (ap is_lead emitted ∙ seeks_no_lead (calls_of (meaning_in v r)))
       (ap (λ (x : Stored K). diversions_in x.building) stored_is ∙ ap diversions_in (builds_the_same (meaning_in v r) v))
-      (act_pays v w q r s e (λ look. let wrong : dues.Look ≡ dues.Seek = sym look ∙ due in cc) seeks)
+      (act_pays v w q r s e (λ look. let wrong : pending_acts.Look ≡ pending_acts.Seek = sym look ∙ pending_act in cc) seeks)
 
 -- ---- the bytes after the name
 
@@ -206,20 +206,20 @@ later_on t n (After m) = let counts : m - t - n ≡ m - (t + n) = omega arith in
 later_on t n Anytime = refl
 
 -- no call for the other bytes fails
-may_give_behind : (t n m : ℕ) (f : Faults) → t + n ≤ m → MayGiveAll m f → MayGiveAll n (later t f)
-may_give_behind t n m Never less h = tt
-may_give_behind t n m (After k) less h = omega (arith, less, h)
-may_give_behind t n m Anytime less h = tt
+may_give_after : (t n m : ℕ) (f : Faults) → t + n ≤ m → MayGiveAll m f → MayGiveAll n (later t f)
+may_give_after t n m Never less h = tt
+may_give_after t n m (After k) less h = omega (arith, less, h)
+may_give_after t n m Anytime less h = tt
 
 -- the other bytes come next after the first t
-pub come_behind : (t : ℕ) (bs : List ℕ) (c : Coming) → t ≤ length bs → ComeNext bs c → ComeNext (drop t bs) (after_run t c)
-come_behind t bs c less next =
+pub come_after : (t : ℕ) (bs : List ℕ) (c : Coming) → t ≤ length bs → ComeNext bs c → ComeNext (drop t bs) (after_run t c)
+come_after t bs c less next =
     let xs = c.supply.bytes in
     let left : length (drop t bs) ≡ length bs - t = length-drop t bs in
     let all : t + (length bs - t) ≡ length bs = omega (arith, less) in
     record {
       bytes = ap (λ k. take k (drop t xs)) left ∙ sym (drop-take t (length bs - t) xs) ∙ ap (λ k. drop t (take k xs)) all ∙ ap (drop t) next.bytes;
-      faults = may_give_behind t (length (drop t bs)) (length bs) c.supply.faults (omega (arith, left, less)) next.faults;
+      faults = may_give_after t (length (drop t bs)) (length bs) c.supply.faults (omega (arith, left, less)) next.faults;
       few = omega (arith, left, less, next.few);
     }
 
@@ -242,7 +242,7 @@ run_on t n c some =
 passed_on : (t n a b : ℕ) (p : Reached) → passed_run b n (passed_run a t p) ≡ passed_run b (t + n) p
 passed_on t n a b p = let counts : p.taken + t + n ≡ p.taken + (t + n) = omega arith in ap (λ k. record (passed_run b n p) { taken = k }) counts
 
--- nothing was told, or something
+-- nothing was emitted, or something
 silent_or : (e : Event) → (e ≡ events.Nothing) ⊎ (e ≡ events.Nothing → ⊥)
 silent_or events.Nothing = inl refl
 silent_or e = inr (λ is. let wrong : ⊥ = cc in wrong)
@@ -250,19 +250,19 @@ silent_or e = inr (λ is. let wrong : ⊥ = cc in wrong)
 -- ---- all of it
 
 -- After the m moves and t bytes of a name a move that tells e leads to w and r2, and then so many moves over the other bytes on.
-module _ {K : Type 0} (v w : Stored K) (r r2 : Reader) (bs : List ℕ) (m t : ℕ) (h1 : Half) (e : Event) (name : HasMet m (map fronts.Byte bs) r.half (quiet t h1)) (many : 0 < t) (due : h1.reading.due ≡ dues.Seek) where
+module _ {K : Type 0} (v w : Stored K) (r r2 : Reader) (bs : List ℕ) (m t : ℕ) (h1 : Half) (e : Event) (name : HasTakenIn m (map next_items.Byte bs) r.half (quiet t h1)) (many : 0 < t) (pending_act : h1.reading.pending_act ≡ pending_acts.Seek) where
   abbrev named : Reader
   named = record r { half = h1; burst = 0 }
 
   none_more : (k : ℕ) → k ≡ 0 → t + k ≡ t
   none_more k none = omega (arith, none)
 
-  module _ (seek : called w r2 (Ok e) ≡ acted dues.Seek v named) where
+  module _ (seek : called w r2 (Ok e) ≡ acted pending_acts.Seek v named) where
     burst_is : r2.burst ≡ 0
     burst_is = ap (λ (a : Called K (Result Event Refusal)). a.reader.burst) seek
 
-    act_is : called w r2 (Ok e) ≡ acted h1.reading.due v named
-    act_is = seeks v w named r2 e due seek
+    act_is : called w r2 (Ok e) ≡ acted h1.reading.pending_act v named
+    act_is = seeks v w named r2 e pending_act seek
 
     -- ---- what they cost
 
@@ -270,41 +270,41 @@ module _ {K : Type 0} (v w : Stored K) (r r2 : Reader) (bs : List ℕ) (m t : �
     name_paid last q =
         let there = passed_run last t q in
         pays_then 1 m v v w q there there r named r2 e
-        (source_pays m (map fronts.Byte bs) v q r (quiet t h1) name last there many refl)
-        (seek_pays v w named r2 e due seek there)
+        (source_pays m (map next_items.Byte bs) v q r (quiet t h1) name last there many refl)
+        (seek_pays v w named r2 e pending_act seek there)
 
     silently_paid : (last : ℕ) (q : Reached) → e ≡ events.Nothing → PaysAll (1 + m) v q r events.Nothing w (passed_run last t q) r2
     silently_paid last q silent = subst (λ (x : Event). PaysAll (1 + m) v q r x w (passed_run last t q) r2) silent (name_paid last q)
 
-    line_paid : (n last : ℕ) (p : Spot) (q q' : Reached) → e ≡ events.Nothing → HasMet n (map fronts.Byte (drop t bs)) r2.half p → 0 < p.taken
+    line_paid : (n last : ℕ) (p : Spot) (q q' : Reached) → e ≡ events.Nothing → HasTakenIn n (map next_items.Byte (drop t bs)) r2.half p → 0 < p.taken
         → q' ≡ passed_run last (t + p.taken) q → PaysAll (n + (1 + m)) v q r p.event w q' (record r2 { half = p.half })
-    line_paid n last p q q' silent met some is =
+    line_paid n last p q q' silent taken_in some is =
         let there = passed_run last t q in
-        let behind : Reader = record r2 { half = p.half; burst = 0 } in
-        let line : PaysAll n w there r2 p.event w q' behind = source_pays n (map fronts.Byte (drop t bs)) w there r2 p met last q' some (is ∙ sym (passed_on t p.taken last last q)) in
+        let afterwards : Reader = record r2 { half = p.half; burst = 0 } in
+        let line : PaysAll n w there r2 p.event w q' afterwards = source_pays n (map next_items.Byte (drop t bs)) w there r2 p taken_in last q' some (is ∙ sym (passed_on t p.taken last last q)) in
         subst (λ (b : ℕ). PaysAll (n + (1 + m)) v q r p.event w q' (record r2 { half = p.half; burst = b })) (sym burst_is)
-        (pays_then n (1 + m) v w w q there q' r r2 behind p.event (silently_paid last q silent) line)
+        (pays_then n (1 + m) v w w q there q' r r2 afterwards p.event (silently_paid last q silent) line)
 
-    looked_paid : (n last : ℕ) (p : Spot) (q q' : Reached) → e ≡ events.Nothing → HasMet n (map fronts.Byte (drop t bs)) r2.half p → p.taken ≡ 0
+    looked_paid : (n last : ℕ) (p : Spot) (q q' : Reached) → e ≡ events.Nothing → HasTakenIn n (map next_items.Byte (drop t bs)) r2.half p → p.taken ≡ 0
         → q' ≡ passed_run last t q → PaysAll (n + (1 + m)) v q r p.event w q' (record r2 { half = p.half })
-    looked_paid n last p q q' silent met none is =
+    looked_paid n last p q q' silent taken_in none is =
         let there = passed_run last t q in
         subst (λ (x : Reached). PaysAll (n + (1 + m)) v q r p.event w x (record r2 { half = p.half })) (sym is)
         (pays_then n (1 + m) v w w q there there r r2 (record r2 { half = p.half }) p.event (silently_paid last q silent)
-        (looked_pays n (map fronts.Byte (drop t bs)) w there r2 p met none))
+        (looked_pays n (map next_items.Byte (drop t bs)) w there r2 p taken_in none))
 
-    -- whatever was told of the name
-    pub all_paid : (line : Run) (h3 : Half) → (e ≡ events.Nothing → HasMet line.moves (map fronts.Byte (drop t bs)) r2.half (spot line h3)) → ((e ≡ events.Nothing → ⊥) → h3 ≡ r2.half)
+    -- whatever was emitted of the name
+    pub all_paid : (line : Run) (h3 : Half) → (e ≡ events.Nothing → HasTakenIn line.moves (map next_items.Byte (drop t bs)) r2.half (spot line h3)) → ((e ≡ events.Nothing → ⊥) → h3 ≡ r2.half)
         → ((e ≡ events.Nothing → ⊥) → line ≡ record { taken = 0; moves = 0; event = e }) → (last : ℕ) (q q' : Reached) → q' ≡ passed_run last (t + line.taken) q → PaysAll (m + 1 + line.moves) v q r line.event w q' (record r2 { half = h3 })
-    all_paid line h3 met left none last q q' is = elim (silent_or e) [
+    all_paid line h3 taken_in left none last q q' is = elim (silent_or e) [
       | inl silent ↦
           let count : line.moves + (1 + m) ≡ m + 1 + line.moves = omega arith in
           subst (λ n. PaysAll n v q r line.event w q' (record r2 { half = h3 })) count
           (elim (cases_lt 0 line.taken) [
-            | inl some ↦ line_paid line.moves last (spot line h3) q q' silent (met silent) some is
+            | inl some ↦ line_paid line.moves last (spot line h3) q q' silent (taken_in silent) some is
             | inr few ↦
                 let zero_taken : line.taken ≡ 0 = omega (arith, few) in
-                looked_paid line.moves last (spot line h3) q q' silent (met silent) zero_taken (is ∙ ap (λ k. passed_run last k q) (none_more line.taken zero_taken))
+                looked_paid line.moves last (spot line h3) q q' silent (taken_in silent) zero_taken (is ∙ ap (λ k. passed_run last k q) (none_more line.taken zero_taken))
           ])
       | inr other ↦
           let nothing : line ≡ record { taken = 0; moves = 0; event = e } = none other in
@@ -321,7 +321,7 @@ module _ {K : Type 0} (v w : Stored K) (r r2 : Reader) (bs : List ℕ) (m t : �
     module _ (c : Coming) (levels : v.levels ≡ []) (next : ComeNext bs c) (long : t ≤ length bs) where
       row_leads : Quietly m (situation v c r) (situation v (after_run t c) named)
       row_leads =
-          let fs = map fronts.Byte bs in
+          let fs = map next_items.Byte bs in
           let some = some_taken t (λ none. omega (arith, none, many)) in
           let burst : burst_past c.taken (c.taken + t) r.burst ≡ 0 = ap (λ k. burst_past c.taken (c.taken + k) r.burst) some.1 ∙ burst_some c.taken some.0 r.burst in
           let there : at_source v c r (quiet t h1) ≡ situation v (after_run t c) named = ap (λ (n : ℕ). situation v (after_run t c) (record r { half = h1; burst = n })) burst in
@@ -332,47 +332,47 @@ module _ {K : Type 0} (v w : Stored K) (r r2 : Reader) (bs : List ℕ) (m t : �
       name_read : (q : Reached) (supply : Option Supply) → HoldsComing (after_run t c) q supply → HasRead (1 + m) (situation v c r) e w r2 q supply
       name_read q supply holds =
           then_read 1 m (situation v c r) (situation v (after_run t c) named) e w r2 q supply row_leads
-          (done_read v w (after_run t c) named r2 e (waits v w named r2 e due seek) act_is q supply holds)
+          (done_read v w (after_run t c) named r2 e (waits v w named r2 e pending_act seek) act_is q supply holds)
 
       same_levels : (m : Meaning) → (after_meaning m v).levels ≡ v.levels
       same_levels meanings.Text = refl
       same_levels m = refl
 
       levels_there : w.levels ≡ []
-      levels_there = ap (λ (x : Stored K). x.levels) (stored_is v w named r2 e due seek) ∙ same_levels (meaning_in v named) ∙ levels
+      levels_there = ap (λ (x : Stored K). x.levels) (stored_is v w named r2 e pending_act seek) ∙ same_levels (meaning_in v named) ∙ levels
 
       leads_quietly : e ≡ events.Nothing → Quietly (1 + m) (situation v c r) (situation w (after_run t c) r2)
       leads_quietly silent =
-          quietly_add 1 m (situation v c r) (situation v (after_run t c) named) (situation w (after_run t c) r2) row_leads (done_quietly v w (after_run t c) named r2 e (waits v w named r2 e due seek) act_is silent)
+          quietly_add 1 m (situation v c r) (situation v (after_run t c) named) (situation w (after_run t c) r2) row_leads (done_quietly v w (after_run t c) named r2 e (waits v w named r2 e pending_act seek) act_is silent)
 
-      line_read : (n : ℕ) (p : Spot) (q : Reached) (supply : Option Supply) → e ≡ events.Nothing → HasMet n (map fronts.Byte (drop t bs)) r2.half p → 0 < p.taken
+      line_read : (n : ℕ) (p : Spot) (q : Reached) (supply : Option Supply) → e ≡ events.Nothing → HasTakenIn n (map next_items.Byte (drop t bs)) r2.half p → 0 < p.taken
           → HoldsComing (after_run (t + p.taken) c) q supply → HasRead (n + (1 + m)) (situation v c r) p.event w (record r2 { half = p.half }) q supply
-      line_read n p q supply silent met some holds =
-          let behind : Reader = record r2 { half = p.half; burst = 0 } in
+      line_read n p q supply silent taken_in some holds =
+          let afterwards : Reader = record r2 { half = p.half; burst = 0 } in
           subst (λ (b : ℕ). HasRead (n + (1 + m)) (situation v c r) p.event w (record r2 { half = p.half; burst = b }) q supply) (sym burst_is)
-          (then_read n (1 + m) (situation v c r) (situation w (after_run t c) r2) p.event w behind q supply (leads_quietly silent)
-          (source_read w (after_run t c) r2 (drop t bs) levels_there (come_behind t bs c long next) n p q supply some met
+          (then_read n (1 + m) (situation v c r) (situation w (after_run t c) r2) p.event w afterwards q supply (leads_quietly silent)
+          (source_read w (after_run t c) r2 (drop t bs) levels_there (come_after t bs c long next) n p q supply some taken_in
           (subst (λ (d : Coming). HoldsComing d q supply) (sym (run_on t p.taken c some)) holds)))
 
       -- none of the other bytes was taken
-      line_looked : (n : ℕ) (p : Spot) (q : Reached) (supply : Option Supply) → e ≡ events.Nothing → HasMet n (map fronts.Byte (drop t bs)) r2.half p → p.taken ≡ 0
+      line_looked : (n : ℕ) (p : Spot) (q : Reached) (supply : Option Supply) → e ≡ events.Nothing → HasTakenIn n (map next_items.Byte (drop t bs)) r2.half p → p.taken ≡ 0
           → HoldsComing (after_run t c) q supply → HasRead (n + (1 + m)) (situation v c r) p.event w (record r2 { half = p.half }) q supply
-      line_looked n p q supply silent met none holds =
+      line_looked n p q supply silent taken_in none holds =
           then_read n (1 + m) (situation v c r) (situation w (after_run t c) r2) p.event w (record r2 { half = p.half }) q supply (leads_quietly silent)
-          (source_looked w (after_run t c) r2 (drop t bs) levels_there (come_behind t bs c long next) n p q supply none met holds)
+          (source_looked w (after_run t c) r2 (drop t bs) levels_there (come_after t bs c long next) n p q supply none taken_in holds)
 
-      pub all_read : (line : Run) (h3 : Half) → (e ≡ events.Nothing → HasMet line.moves (map fronts.Byte (drop t bs)) r2.half (spot line h3)) → ((e ≡ events.Nothing → ⊥) → h3 ≡ r2.half)
+      pub all_read : (line : Run) (h3 : Half) → (e ≡ events.Nothing → HasTakenIn line.moves (map next_items.Byte (drop t bs)) r2.half (spot line h3)) → ((e ≡ events.Nothing → ⊥) → h3 ≡ r2.half)
           → ((e ≡ events.Nothing → ⊥) → line ≡ record { taken = 0; moves = 0; event = e }) → (q : Reached) (supply : Option Supply) → HoldsComing (after_run (t + line.taken) c) q supply
           → HasRead (m + 1 + line.moves) (situation v c r) line.event w (record r2 { half = h3 }) q supply
-      all_read line h3 met left none q supply holds = elim (silent_or e) [
+      all_read line h3 taken_in left none q supply holds = elim (silent_or e) [
         | inl silent ↦
             let count : line.moves + (1 + m) ≡ m + 1 + line.moves = omega arith in
             subst (λ n. HasRead n (situation v c r) line.event w (record r2 { half = h3 }) q supply) count
             (elim (cases_lt 0 line.taken) [
-              | inl some ↦ line_read line.moves (spot line h3) q supply silent (met silent) some holds
+              | inl some ↦ line_read line.moves (spot line h3) q supply silent (taken_in silent) some holds
               | inr few ↦
                   let zero_taken : line.taken ≡ 0 = omega (arith, few) in
-                  line_looked line.moves (spot line h3) q supply silent (met silent) zero_taken
+                  line_looked line.moves (spot line h3) q supply silent (taken_in silent) zero_taken
                   (subst (λ k. HoldsComing (after_run k c) q supply) (none_more line.taken zero_taken) holds)
             ])
         | inr other ↦

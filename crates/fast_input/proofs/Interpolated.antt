@@ -17,28 +17,28 @@ use Rattle.nr_store.specs.declared.refusal.Refusal as stored
 use Rattle.nr_store.specs.declared.refusal.Refusal.TheVariants as stores
 use Rattle.nr_reading.specs.declared.event.Event.{Event}
 use Rattle.nr_reading.specs.declared.event.Event.TheVariants as events
-use Rattle.nr_reading.specs.declared.front.Front.TheVariants as fronts
-use Rattle.nr_reading.specs.declared.mode.Due.TheVariants as dues
+use Rattle.nr_reading.specs.declared.next_item.NextItem.TheVariants as next_items
+use Rattle.nr_reading.specs.declared.mode.PendingAct.TheVariants as pending_acts
 use Rattle.nr_reading.specs.Many.InArgument.{ending_of, IsPlain}
-use Rattle.nr_reading.specs.Half.{Met, meet, silent}
-use Rattle.nr_reading.specs.Many.Runs.{Spot, HasMet}
-use Rattle.nr_reading.proofs.Marks.{meet-mark}
+use Rattle.nr_reading.specs.Half.{TakenIn, take_in, silent}
+use Rattle.nr_reading.specs.Many.Runs.{Spot, HasTakenIn}
+use Rattle.nr_reading.proofs.Marks.{take_in-mark}
 use Rattle.nr_input.specs.declared.reader.Reader.{Reader}
 use Rattle.fast_input.specs.declared.target.Target.{Target}
 use Rattle.fast_input.specs.declared.target.Target.TheVariants.{Argument, Text}
-use Rattle.nr_input.specs.declared.told.Told.TheVariants as tells
+use Rattle.nr_input.specs.declared.emitted.Emitted.TheVariants as tells
 use Rattle.nr_input.specs.declared.refusal.Refusal.{Refusal}
 use Rattle.nr_input.specs.Acting.{Acted, expanded, is_look}
-use Rattle.nr_input.specs.Place.{Coming, Reached, HoldsComing, element_front}
+use Rattle.nr_input.specs.Place.{Coming, Reached, HoldsComing, element_item}
 use Rattle.fast_input.specs.Interpolations.{HasRoom, IsSplice}
-use Rattle.nr_input.specs.Moving.{Situation, situation, met_at, move, Goes}
+use Rattle.nr_input.specs.Moving.{Situation, situation, taken_in_at, move, Goes}
 use Rattle.nr_input.specs.Refusal.{called, acted, acted_by, splicing_by, splicing_answer}
-use Rattle.fast_input.specs.Runs.{HasRead, PaysAll, moves, told_last}
+use Rattle.fast_input.specs.Runs.{HasRead, PaysAll, moves, emitted_last}
 use Rattle.fast_input.specs.Target.{is_read_for, with_more}
 use Rattle.nr_input.specs.Weights.{items_in}
 use Rattle.fast_input.proofs.ControlLines.{then_read, quietly_add, done_quietly, pays_then, pays_once}
 use Rattle.fast_input.proofs.Putting.{Quietly, quiet, one_more, no_moves, has_read_quietly}
-use Rattle.fast_input.proofs.PuttingLevel.{AreFront, level_added, level_added_pays}
+use Rattle.fast_input.proofs.PuttingLevel.{ArePrefix, level_added, level_added_pays}
 use Rattle.fast_input.proofs.RowMoves.{reads_nothing}
 use Rattle.fast_input.proofs.RowsRead.{level_read, level_pays, bytes_are}
 use Rattle.nr_input.proofs.Spending.{act_pays}
@@ -59,14 +59,14 @@ led_to {K} n s v r p supply read = record {
     goes = read.goes;
     silent = λ k few. elim (cases_lt k n) [
       | inl below ↦ read.quiet k below
-      | inr last ↦ let same : n ≡ k = omega (arith, few, last) in subst (λ j. told_last j s ≡ tells.Event events.Nothing) same read.tells
+      | inr last ↦ let same : n ≡ k = omega (arith, few, last) in subst (λ j. emitted_last j s ≡ tells.Event events.Nothing) same read.tells
     ];
     leads = ap₂ (λ (x : Stored K) (y : Reader). situation x (moves n s).coming y) (sym read.stands.stored) (sym read.stands.reader);
   };
   holds = read.stands.coming;
 }
 
--- what is read after what was read and told nothing
+-- what is read after what was read and emitted nothing
 pub read_then : {K : Type 0} (m n : ℕ) (s : Situation K) (e : Event) (v w : Stored K) (r q : Reader) (p o : Reached) (supply rest : Option Supply)
     → HasRead n s events.Nothing v r p supply → ((c : Coming) → HoldsComing c p supply → HasRead m (situation v c r) e w q o rest) → HasRead (n + m) s e w q o rest
 read_then m n s e v w r q p o supply rest first more =
@@ -118,13 +118,13 @@ entered_bytes bytes w u x charge depth is ok =
     subst (λ (z : Result (Unit {0}) stored.Refusal). OnOk z (u ≡ y)) (is ∙ opens) ok
 
 module _ {K : Type 0} (bytes : List ℕ) (v : Stored K) (r : Reader) (splice : IsSplice bytes v r) (room : HasRoom bytes v r) where
-  acts_so : called (reading_bytes bytes v) (expanded r) (Ok events.Nothing) ≡ acted r.half.reading.due v r
+  acts_so : called (reading_bytes bytes v) (expanded r) (Ok events.Nothing) ≡ acted r.half.reading.pending_act v r
   acts_so = sym (ap₂ (λ (x : Result (Unit {0}) Refusal) (a : Acted K). acted_by x a v r) (splice.answers ∙ splicing-allowed bytes v r room) splice.acts)
 
   pub opened_quietly : (c : Coming) → Quietly 1 (situation v c r) (situation (reading_bytes bytes v) c (expanded r))
   opened_quietly c = done_quietly v (reading_bytes bytes v) c r (expanded r) events.Nothing splice.waits acts_so refl
 
-  looks_not : r.half.reading.due ≡ dues.Look → ⊥
+  looks_not : r.half.reading.pending_act ≡ pending_acts.Look → ⊥
   looks_not look = let wrong : true ≡ false = sym (ap is_look look) ∙ splice.waits in cc
 
   pub opened_pays : (q : Reached) → PaysAll 1 v q r events.Nothing (reading_bytes bytes v) q (expanded r)
@@ -151,16 +151,16 @@ module _ {K : Type 0} (n : ℕ) (bytes : List ℕ) (arguments : List (List ℕ))
       left_times-run n level few
       ∙ ap (λ (xs : List Element). let l : Level K = Read (record { rest = xs; old = v.arguments; charge = charge; resume = None }) in record level { levels = l ∷ v.levels }) none
 
-  module _ (r : Reader) (due : r.half.reading.due ≡ dues.Look) where
+  module _ (r : Reader) (pending_act : r.half.reading.pending_act ≡ pending_acts.Look) where
     end_taken : (c : Coming) → move (situation emptied c r) ≡ quiet (situation v c r)
     end_taken c =
         let s = situation emptied c r in
-        let looks : move s ≡ met_at (meet fronts.Mark r.half) s = rw due refl in
-        let taken : met_at (silent r.half) s ≡ quiet (situation v c r) = rw (eq-eqb c.taken c.taken refl) refl in
-        looks ∙ ap (λ (m : Met). met_at m s) (meet-mark r.half) ∙ taken
+        let looks : move s ≡ taken_in_at (take_in next_items.Mark r.half) s = rw pending_act refl in
+        let taken : taken_in_at (silent r.half) s ≡ quiet (situation v c r) = rw (eq-eqb c.taken c.taken refl) refl in
+        looks ∙ ap (λ (m : TakenIn). taken_in_at m s) (take_in-mark r.half) ∙ taken
 
     end_goes : (c : Coming) → Goes (situation emptied c r)
-    end_goes c = rw due tt
+    end_goes c = rw pending_act tt
 
     pub end_quietly : (c : Coming) → Quietly 1 (situation (left_times n level) c r) (situation v c r)
     end_quietly c =
@@ -193,39 +193,39 @@ module _ {K : Type 0} (n m : ℕ) (bytes : List ℕ) (v w : Stored K) (r r1 r2 :
   spliced_pays p = pays_then m 1 v (reading_bytes bytes v) (left_times n (reading_bytes bytes w)) p p p r (expanded r) r2 e (opened_pays bytes v r splice room p)
       (subst (λ (q : Reader). PaysAll m (reading_bytes bytes v) p q e (left_times n (reading_bytes bytes w)) p r2) counted (pays p))
 
-  module _ (told : e ≡ events.Nothing) (all : n ≡ length bytes) (due : r2.half.reading.due ≡ dues.Look) where
+  module _ (emitted : e ≡ events.Nothing) (all : n ≡ length bytes) (pending_act : r2.half.reading.pending_act ≡ pending_acts.Look) where
     pub whole_read : (c : Coming) (p : Reached) (supply : Option Supply) → HoldsComing c p supply → HasRead (m + 2) (situation v c r) events.Nothing w r2 p supply
     whole_read c p supply holds =
-        let first = subst (λ (x : Event). HasRead (m + 1) (situation v c r) x (left_times n (reading_bytes bytes w)) r2 p supply) told (spliced_read c p supply holds) in
+        let first = subst (λ (x : Event). HasRead (m + 1) (situation v c r) x (left_times n (reading_bytes bytes w)) r2 p supply) emitted (spliced_read c p supply holds) in
         let led = led_to (m + 1) (situation v c r) (left_times n (reading_bytes bytes w)) r2 p supply first in
         let same : 1 + (m + 1) ≡ m + 2 = omega arith in
         subst (λ k. HasRead k (situation v c r) events.Nothing w r2 p supply) same
         (has_read_quietly (1 + (m + 1)) (situation v c r) (situation w led.coming r2) w r2 p supply
-        (quietly_add 1 (m + 1) (situation v c r) (situation (left_times n (reading_bytes bytes w)) led.coming r2) (situation w led.coming r2) led.quietly (end_quietly n bytes w.arguments (32 + length bytes) own_text w all r2 due led.coming))
+        (quietly_add 1 (m + 1) (situation v c r) (situation (left_times n (reading_bytes bytes w)) led.coming r2) (situation w led.coming r2) led.quietly (end_quietly n bytes w.arguments (32 + length bytes) own_text w all r2 pending_act led.coming))
         (record { stored = refl; reader = refl; coming = led.holds }))
 
     pub whole_pays : (p : Reached) → PaysAll (m + 2) v p r events.Nothing w p r2
     whole_pays p =
-        let first = subst (λ (x : Event). PaysAll (m + 1) v p r x (left_times n (reading_bytes bytes w)) p r2) told (spliced_pays p) in
+        let first = subst (λ (x : Event). PaysAll (m + 1) v p r x (left_times n (reading_bytes bytes w)) p r2) emitted (spliced_pays p) in
         let same : 1 + (m + 1) ≡ m + 2 = omega arith in
         subst (λ k. PaysAll k v p r events.Nothing w p r2) same
-        (pays_then 1 (m + 1) v (left_times n (reading_bytes bytes w)) w p p p r r2 r2 events.Nothing first (end_pays n bytes w.arguments (32 + length bytes) own_text w all r2 due p))
+        (pays_then 1 (m + 1) v (left_times n (reading_bytes bytes w)) w p p p r r2 r2 events.Nothing first (end_pays n bytes w.arguments (32 + length bytes) own_text w all r2 pending_act p))
 
--- ---- its bytes are met
+-- ---- its bytes are taken in
 
-module _ {K : Type 0} (m : ℕ) (bytes : List ℕ) (v : Stored K) (r : Reader) (p : Spot) (met : HasMet m (map fronts.Byte bytes) r.half p) where
-  met_level : HasMet m (map element_front (rest_of (reading_bytes bytes v).levels)) r.half p
-  met_level = subst (λ fs. HasMet m fs r.half p) (bytes_are bytes) met
+module _ {K : Type 0} (m : ℕ) (bytes : List ℕ) (v : Stored K) (r : Reader) (p : Spot) (taken_in : HasTakenIn m (map next_items.Byte bytes) r.half p) where
+  taken_in_level : HasTakenIn m (map element_item (rest_of (reading_bytes bytes v).levels)) r.half p
+  taken_in_level = subst (λ fs. HasTakenIn m fs r.half p) (bytes_are bytes) taken_in
 
-  pub met_read : (c : Coming) (q : Reached) (supply : Option Supply) → HoldsComing c q supply
+  pub taken_in_read : (c : Coming) (q : Reached) (supply : Option Supply) → HoldsComing c q supply
       → HasRead m (situation (reading_bytes bytes v) c r) p.event (left_times p.taken (reading_bytes bytes v)) (record r { half = p.half }) q supply
-  met_read c q supply holds = level_read (reading_bytes bytes v) c r q supply m p met_level holds
+  taken_in_read c q supply holds = level_read (reading_bytes bytes v) c r q supply m p taken_in_level holds
 
-  pub met_pays : (q : Reached) → PaysAll m (reading_bytes bytes v) q r p.event (left_times p.taken (reading_bytes bytes v)) q (record r { half = p.half })
-  met_pays q = level_pays m (reading_bytes bytes v) (left_times p.taken (reading_bytes bytes v)) q r p met_level refl
+  pub taken_in_pays : (q : Reached) → PaysAll m (reading_bytes bytes v) q r p.event (left_times p.taken (reading_bytes bytes v)) q (record r { half = p.half })
+  taken_in_pays q = level_pays m (reading_bytes bytes v) (left_times p.taken (reading_bytes bytes v)) q r p taken_in_level refl
 
-  pub met_within : p.taken ≤ length bytes
-  met_within = omega (arith, met.within, length-map bytes fronts.Byte)
+  pub taken_in_within : p.taken ≤ length bytes
+  taken_in_within = omega (arith, taken_in.within, length-map bytes next_items.Byte)
 
 -- ---- they are added
 
@@ -252,8 +252,8 @@ more-reading Text xs bytes v = refl
 
 module _ {K : Type 0} (t : Target) (n : ℕ) (bytes : List ℕ) (v w : Stored K) (r : Reader) (added : w ≡ with_more t (take n bytes) v) (within : n ≤ length bytes) where
   -- after the bytes that were added, in their level
-  behind_added : left_times n (with_more t (take n bytes) (reading_bytes bytes v)) ≡ left_times n (reading_bytes bytes w)
-  behind_added = ap (left_times n) (more-reading t (take n bytes) bytes v ∙ ap (reading_bytes bytes) (sym added))
+  after_added : left_times n (with_more t (take n bytes) (reading_bytes bytes v)) ≡ left_times n (reading_bytes bytes w)
+  after_added = ap (left_times n) (more-reading t (take n bytes) bytes v ∙ ap (reading_bytes bytes) (sym added))
 
   pub added_room : charge_of v + (32 + 2 * length bytes) ≤ v.limit → charge_of w + (32 + length bytes) ≤ w.limit
   added_room room =
@@ -263,14 +263,14 @@ module _ {K : Type 0} (t : Target) (n : ℕ) (bytes : List ℕ) (v w : Stored K)
 
   pub added_pays : (q : Reached) → PaysAll (2 * n) (reading_bytes bytes v) q r events.Nothing (left_times n (reading_bytes bytes w)) q r
   added_pays q =
-      level_added_pays t n (take n bytes) (reading_bytes bytes v) (left_times n (reading_bytes bytes w)) q r (omega (arith, within, length-map bytes elements.Byte)) (sym behind_added)
+      level_added_pays t n (take n bytes) (reading_bytes bytes v) (left_times n (reading_bytes bytes w)) q r (omega (arith, within, length-map bytes elements.Byte)) (sym after_added)
 
   module _ (reads : is_read_for t r.half ≡ true) (plain : All (IsPlain (ending_of r.half.reading.mode)) (take n bytes)) (room : charge_of v + (32 + 2 * length bytes) ≤ v.limit) where
     fits_there : charge_of (with_more t (take n bytes) (reading_bytes bytes v)) ≤ (reading_bytes bytes v).limit
     fits_there = omega (arith, room, charge-more t (take n bytes) (reading_bytes bytes v), charge-reading bytes v, length-take n bytes, within)
 
-    front : AreFront bytes (rest_of (reading_bytes bytes v).levels)
-    front = sym (take_all (length bytes) (map elements.Byte bytes) (omega (arith, length-map bytes elements.Byte)))
+    prefix : ArePrefix bytes (rest_of (reading_bytes bytes v).levels)
+    prefix = sym (take_all (length bytes) (map elements.Byte bytes) (omega (arith, length-map bytes elements.Byte)))
 
     none_added : n ≡ 0 → (c : Coming) (q : Reached) (supply : Option Supply) → HoldsComing c q supply → HasRead (2 * n) (situation (reading_bytes bytes v) c r) events.Nothing (left_times n (reading_bytes bytes w)) r q supply
     none_added none c q supply holds =
@@ -283,7 +283,7 @@ module _ {K : Type 0} (t : Target) (n : ℕ) (bytes : List ℕ) (v w : Stored K)
     pub added_read : (c : Coming) (q : Reached) (supply : Option Supply) → HoldsComing c q supply → HasRead (2 * n) (situation (reading_bytes bytes v) c r) events.Nothing (left_times n (reading_bytes bytes w)) r q supply
     added_read c q supply holds = elim (cases_lt 0 n) [
       | inl some ↦
-          subst (λ (x : Stored K). HasRead (2 * n) (situation (reading_bytes bytes v) c r) events.Nothing x r q supply) behind_added
-          (level_added t n (reading_bytes bytes v) c r bytes reads some within plain fits_there q supply holds front)
+          subst (λ (x : Stored K). HasRead (2 * n) (situation (reading_bytes bytes v) c r) events.Nothing x r q supply) after_added
+          (level_added t n (reading_bytes bytes v) c r bytes reads some within plain fits_there q supply holds prefix)
       | inr few ↦ none_added (omega (arith, few)) c q supply holds
     ]

@@ -1,4 +1,4 @@
--- Moves of the machine that reads after moves that told nothing.
+-- Moves of the machine that reads after moves that emitted nothing.
 use Rattle.std.proofs.Common.{◌≡◌, ℕ, ◌+◌, Option, inl, inr, refl, ap₂, subst, arith}
 use Rattle.std.proofs.lemmas.Bool.{cases_lt}
 use Rattle.nr_units.specs.Source.{Supply}
@@ -6,10 +6,10 @@ use Rattle.nr_store.specs.Store.{Stored}
 use Rattle.nr_reading.specs.declared.event.Event.{Event}
 use Rattle.nr_reading.specs.declared.event.Event.TheVariants as events
 use Rattle.nr_input.specs.declared.reader.Reader.{Reader}
-use Rattle.nr_input.specs.declared.told.Told.TheVariants as tells
+use Rattle.nr_input.specs.declared.emitted.Emitted.TheVariants as tells
 use Rattle.nr_input.specs.Place.{Coming, Reached, HoldsComing}
 use Rattle.nr_input.specs.Moving.{Situation, situation}
-use Rattle.fast_input.specs.Runs.{HasRead, moves, told_last}
+use Rattle.fast_input.specs.Runs.{HasRead, moves, emitted_last}
 use Rattle.fast_input.proofs.ControlLines.{then_read}
 use Rattle.fast_input.proofs.Putting.{Quietly}
 
@@ -21,7 +21,7 @@ quietly_read n s v r p supply read = record {
     | inl below ↦ read.quiet k below
     | inr last ↦
         let same : n ≡ k = omega (arith, within, last) in
-        subst (λ j. told_last j s ≡ tells.Event events.Nothing) same read.tells
+        subst (λ j. emitted_last j s ≡ tells.Event events.Nothing) same read.tells
   ];
   leads = refl;
 }

@@ -8,13 +8,13 @@ use Rattle.nr_units.specs.Source.{Supply, Faults, Never, After, Anytime, MayGive
 use Rattle.nr_store.specs.Store.{Stored, afforded, charge_of}
 use Rattle.nr_reading.specs.declared.event.Event.{Event}
 use Rattle.nr_reading.specs.declared.event.Event.TheVariants as events
-use Rattle.nr_reading.specs.declared.front.Front.TheVariants as fronts
+use Rattle.nr_reading.specs.declared.next_item.NextItem.TheVariants as next_items
 use Rattle.nr_reading.specs.declared.half.Half.{Half}
-use Rattle.nr_reading.specs.declared.mode.Due.{Due}
-use Rattle.nr_reading.specs.declared.mode.Due.TheVariants as dues
+use Rattle.nr_reading.specs.declared.mode.PendingAct.{PendingAct}
+use Rattle.nr_reading.specs.declared.mode.PendingAct.TheVariants as pending_acts
 use Rattle.nr_reading.specs.Many.InArgument.{is_in_argument, ending_of, IsPlain}
 use Rattle.nr_reading.specs.Many.Passing.{quiet}
-use Rattle.nr_reading.specs.Many.Runs.{HasMet}
+use Rattle.nr_reading.specs.Many.Runs.{HasTakenIn}
 use Rattle.nr_input.specs.declared.reader.Reader.{Reader}
 use Rattle.nr_input.specs.declared.place.Ahead.TheVariants.{Unseen}
 use Rattle.nr_input.specs.declared.refusal.Refusal.{Refusal}
@@ -29,7 +29,7 @@ use Rattle.nr_input.specs.Moving.{situation}
 use Rattle.fast_input.specs.Runs.{HasRead, PaysAll, after_run, inside_after}
 use Rattle.fast_input.specs.Target.{with_more}
 use Rattle.nr_input.specs.Weights.{newline_left, diversions_in}
-use Rattle.fast_input.proofs.ControlLines.{done_read, pays_then, pays_once, come_behind, run_on, inside_on}
+use Rattle.fast_input.proofs.ControlLines.{done_read, pays_then, pays_once, come_after, run_on, inside_on}
 use Rattle.fast_input.proofs.Interpolated.{read_then, pays_nothing}
 use Rattle.fast_input.proofs.LevelParts.{storing_stays}
 use Rattle.nr_input.proofs.LimitsStay.{act_stays}
@@ -37,7 +37,7 @@ use Rattle.fast_input.proofs.LimitsStay.{with_more-limits}
 use Rattle.fast_input.proofs.PuttingRead.{source_added, source_added_pays}
 use Rattle.nr_input.proofs.Refusals.{called-ok, called-err}
 use Rattle.fast_input.proofs.RowMoves.{reads_nothing}
-use Rattle.fast_input.proofs.RowsRead.{behind_none, source_looked, source_read, looked_pays, source_pays}
+use Rattle.fast_input.proofs.RowsRead.{after_none, source_looked, source_read, looked_pays, source_pays}
 use Rattle.nr_input.proofs.Spending.{act_pays}
 use Rattle.fast_input.proofs.Targets.{levels-with_more, nothing_added}
 
@@ -62,7 +62,7 @@ same_coming c d holds =
 
 -- after further bytes, if there are any
 run_further : (t u : ℕ) (c : Coming) → after_run u (after_run t c) ≡ after_run (t + u) c
-run_further t zero c = let same : t ≡ t + 0 = omega arith in behind_none (after_run t c) ∙ ap (λ n. after_run n c) same
+run_further t zero c = let same : t ≡ t + 0 = omega arith in after_none (after_run t c) ∙ ap (λ n. after_run n c) same
 run_further t (suc u) c = run_on t (suc u) c (omega arith)
 
 reached_further : (t u : ℕ) (bs : List ℕ) (p : Reached) → reached_after u (drop t bs) (reached_after t bs p) ≡ reached_after (t + u) bs p
@@ -99,7 +99,7 @@ reads_then n m t u bs v w x r s q first more = record {
       (λ o there.
       let same : d ≡ o = same_coming d o there in
       subst (λ (k : Coming). HasRead m (situation w k s) events.Nothing x q p supply) same
-      (more.reads (first.levels ∙ none) (first.burst ∙ still) d p supply (come_behind t bs c first.within next)
+      (more.reads (first.levels ∙ none) (first.burst ∙ still) d p supply (come_after t bs c first.within next)
       (subst (λ (k : Coming). HoldsComing k p supply) (sym (run_further t u c)) holds)));
   pays = λ still p.
       let counts : m + n ≡ n + m = omega arith in
@@ -132,62 +132,62 @@ reads_none bs v w r s stored reader = record {
   burst = ap (λ (q : Reader). q.burst) reader;
   limits = ap₂ (λ (x : Stored _) (q : Reader). limits_of x q) stored reader;
   reads = λ none still c p supply next holds.
-      reads_nothing (situation v c r) w s p supply (record { stored = stored; reader = reader; coming = subst (λ (k : Coming). HoldsComing k p supply) (behind_none c) holds });
+      reads_nothing (situation v c r) w s p supply (record { stored = stored; reader = reader; coming = subst (λ (k : Coming). HoldsComing k p supply) (after_none c) holds });
   pays = λ still p. rw (stored, reader) (pays_at 0 v v p p (reached_after 0 bs p) r r events.Nothing (reached_none bs p) refl (pays_nothing v p r));
 }
 
--- ---- bytes that are met
+-- ---- bytes that are taken in
 
-module _ {K : Type 0} (n t : ℕ) (bs : List ℕ) (v : Stored K) (r : Reader) (k : Half) (met : HasMet n (map fronts.Byte bs) r.half (quiet t k)) where
-  met_reads : v.levels ≡ [] → r.burst ≡ 0 → (c : Coming) (p : Reached) (supply : Option Supply) → ComeNext bs c → HoldsComing (after_run t c) p supply → HasRead n (situation v c r) events.Nothing v (record r { half = k }) p supply
-  met_reads none still c p supply next holds = elim (cases_lt 0 t) [
+module _ {K : Type 0} (n t : ℕ) (bs : List ℕ) (v : Stored K) (r : Reader) (k : Half) (taken_in : HasTakenIn n (map next_items.Byte bs) r.half (quiet t k)) where
+  taken_in_reads : v.levels ≡ [] → r.burst ≡ 0 → (c : Coming) (p : Reached) (supply : Option Supply) → ComeNext bs c → HoldsComing (after_run t c) p supply → HasRead n (situation v c r) events.Nothing v (record r { half = k }) p supply
+  taken_in_reads none still c p supply next holds = elim (cases_lt 0 t) [
     | inl some ↦
-        subst (λ (b : ℕ). HasRead n (situation v c r) events.Nothing v (record r { half = k; burst = b }) p supply) (sym still) (source_read v c r bs none next n (quiet t k) p supply some met holds)
+        subst (λ (b : ℕ). HasRead n (situation v c r) events.Nothing v (record r { half = k; burst = b }) p supply) (sym still) (source_read v c r bs none next n (quiet t k) p supply some taken_in holds)
     | inr few ↦
         let zero_taken : t ≡ 0 = omega (arith, few) in
-        source_looked v c r bs none next n (quiet t k) p supply zero_taken met
-        (subst (λ (d : Coming). HoldsComing d p supply) (ap (λ j. after_run j c) zero_taken ∙ behind_none c) holds)
+        source_looked v c r bs none next n (quiet t k) p supply zero_taken taken_in
+        (subst (λ (d : Coming). HoldsComing d p supply) (ap (λ j. after_run j c) zero_taken ∙ after_none c) holds)
   ]
 
   inside_there : (t : ℕ) (p : Reached) → 0 < t → not (slice_index bs (t - 1) == code "\n") ≡ inside_after t bs p.inside
   inside_there zero p some = absurd (omega (arith, some))
   inside_there (suc j) p some = let same : suc j - 1 ≡ j = omega arith in ap (λ i. not (slice_index bs i == code "\n")) same
 
-  met_pays : r.burst ≡ 0 → (p : Reached) → PaysAll n v p r events.Nothing v (reached_after t bs p) (record r { half = k })
-  met_pays still p = elim (cases_lt 0 t) [
+  taken_in_pays : r.burst ≡ 0 → (p : Reached) → PaysAll n v p r events.Nothing v (reached_after t bs p) (record r { half = k })
+  taken_in_pays still p = elim (cases_lt 0 t) [
     | inl some ↦
         let last = slice_index bs (t - 1) in
         subst (λ (b : ℕ). PaysAll n v p r events.Nothing v (reached_after t bs p) (record r { half = k; burst = b })) (sym still)
         (pays_at n v v p (passed_run last t p) (reached_after t bs p) r (record r { half = k; burst = 0 }) events.Nothing refl (inside_there t p some)
-        (source_pays n (map fronts.Byte bs) v p r (quiet t k) met last (passed_run last t p) some refl))
+        (source_pays n (map next_items.Byte bs) v p r (quiet t k) taken_in last (passed_run last t p) some refl))
     | inr few ↦
         let zero_taken : t ≡ 0 = omega (arith, few) in
         pays_at n v v p p (reached_after t bs p) r (record r { half = k }) events.Nothing (omega (arith, zero_taken)) (ap (λ j. inside_after j bs p.inside) (sym zero_taken))
-        (looked_pays n (map fronts.Byte bs) v p r (quiet t k) met zero_taken)
+        (looked_pays n (map next_items.Byte bs) v p r (quiet t k) taken_in zero_taken)
   ]
 
-  pub reads_met : ReadsOn n t bs v r v (record r { half = k })
-  reads_met = record {
-    within = let inside = met.within in omega (arith, inside, length-map bs fronts.Byte);
+  pub reads_taken_in : ReadsOn n t bs v r v (record r { half = k })
+  reads_taken_in = record {
+    within = let inside = taken_in.within in omega (arith, inside, length-map bs next_items.Byte);
     levels = refl;
     burst = refl;
     limits = refl;
-    reads = met_reads;
-    pays = met_pays;
+    reads = taken_in_reads;
+    pays = taken_in_pays;
   }
 
--- ---- what is due
+-- ---- what is pending
 
 -- it is done, and opens no level
-module _ {K : Type 0} (bs : List ℕ) (v w : Stored K) (r s : Reader) (waits : is_look r.half.reading.due ≡ false) (is : called w s (Ok events.Nothing) ≡ acted r.half.reading.due v r)
+module _ {K : Type 0} (bs : List ℕ) (v w : Stored K) (r s : Reader) (waits : is_look r.half.reading.pending_act ≡ false) (is : called w s (Ok events.Nothing) ≡ acted r.half.reading.pending_act v r)
     (levels : w.levels ≡ v.levels) (burst : s.burst ≡ r.burst) (diversions : diversions_in w.building ≡ diversions_in v.building) (limits : limits_of w s ≡ limits_of v r) where
-  pub reads_due : ReadsOn 1 0 bs v r w s
-  reads_due = record {
+  pub reads_pending : ReadsOn 1 0 bs v r w s
+  reads_pending = record {
     within = omega arith;
     levels = levels;
     burst = burst;
     limits = limits;
-    reads = λ none still c p supply next holds. done_read v w c r s events.Nothing waits is p supply (subst (λ (d : Coming). HoldsComing d p supply) (behind_none c) holds);
+    reads = λ none still c p supply next holds. done_read v w c r s events.Nothing waits is p supply (subst (λ (d : Coming). HoldsComing d p supply) (after_none c) holds);
     pays = λ still p.
         pays_at 1 v w p p (reached_after 0 bs p) r s events.Nothing (reached_none bs p) refl
         (pays_once v w p p r s events.Nothing refl diversions (act_pays v w p r s events.Nothing (λ look. let wrong : true ≡ false = sym (ap is_look look) ∙ waits in cc) is));
@@ -195,30 +195,30 @@ module _ {K : Type 0} (bs : List ℕ) (v w : Stored K) (r s : Reader) (waits : i
 
 module _ {K : Type 0} (bs : List ℕ) (v w : Stored K) (r s : Reader) where
   -- a byte is added to the argument
-  module _ (b : ℕ) (due : r.half.reading.due ≡ dues.Put b) where
-    pub put_reads : (e : Event) → called w s (Ok e) ≡ acted (dues.Put b) v r → ReadsOn 1 0 bs v r w s
+  module _ (b : ℕ) (pending_act : r.half.reading.pending_act ≡ pending_acts.Put b) where
+    pub put_reads : (e : Event) → called w s (Ok e) ≡ acted (pending_acts.Put b) v r → ReadsOn 1 0 bs v r w s
     put_reads e is =
-        let a = act (dues.Put b) v r in
-        let leads = called-ok (answer (dues.Put b) v r) a.stored a.reader a.event v w r s e is in
-        let quietly : called w s (Ok events.Nothing) ≡ acted (dues.Put b) v r = subst (λ (x : Event). called w s (Ok x) ≡ acted (dues.Put b) v r) leads.answer is in
-        reads_due bs v w r s (ap is_look due) (subst (λ (d : Due). called w s (Ok events.Nothing) ≡ acted d v r) (sym due) quietly)
-        (ap (λ (x : Stored K). x.levels) leads.stored) (ap (λ (x : Reader). x.burst) leads.reader) (ap (λ (x : Stored K). diversions_in x.building) leads.stored) (act_stays v w r s (dues.Put b) (Ok e) is)
+        let a = act (pending_acts.Put b) v r in
+        let leads = called-ok (answer (pending_acts.Put b) v r) a.stored a.reader a.event v w r s e is in
+        let quietly : called w s (Ok events.Nothing) ≡ acted (pending_acts.Put b) v r = subst (λ (x : Event). called w s (Ok x) ≡ acted (pending_acts.Put b) v r) leads.answer is in
+        reads_pending bs v w r s (ap is_look pending_act) (subst (λ (d : PendingAct). called w s (Ok events.Nothing) ≡ acted d v r) (sym pending_act) quietly)
+        (ap (λ (x : Stored K). x.levels) leads.stored) (ap (λ (x : Reader). x.burst) leads.reader) (ap (λ (x : Stored K). diversions_in x.building) leads.stored) (act_stays v w r s (pending_acts.Put b) (Ok e) is)
 
     -- it finds no room
-    pub put_left : (e : Refusal) → called w s (Err e) ≡ acted (dues.Put b) v r → ReadsOn 0 0 bs v r w s
+    pub put_left : (e : Refusal) → called w s (Err e) ≡ acted (pending_acts.Put b) v r → ReadsOn 0 0 bs v r w s
     put_left e is =
-        let a = act (dues.Put b) v r in
-        let stays = called-err (answer (dues.Put b) v r) a.stored a.reader a.event v w r s e is in
+        let a = act (pending_acts.Put b) v r in
+        let stays = called-err (answer (pending_acts.Put b) v r) a.stored a.reader a.event v w r s e is in
         let same = storing_stays (afforded a.stored tt) e a.stored v a.reader r stays.refused in
         reads_none bs v w r s (stays.stored ∙ same.stored) (stays.reader ∙ same.reader)
 
   -- the argument ends
-  pub end_reads : r.half.reading.due ≡ dues.EndArgument → called w s (Ok events.Nothing) ≡ acted dues.EndArgument v r → ReadsOn 1 0 bs v r w s
-  end_reads due is =
-      let a = act dues.EndArgument v r in
-      let leads = called-ok (answer dues.EndArgument v r) a.stored a.reader a.event v w r s events.Nothing is in
-      reads_due bs v w r s (ap is_look due) (subst (λ (d : Due). called w s (Ok events.Nothing) ≡ acted d v r) (sym due) is)
-      (ap (λ (x : Stored K). x.levels) leads.stored) (ap (λ (x : Reader). x.burst) leads.reader) (ap (λ (x : Stored K). diversions_in x.building) leads.stored) (act_stays v w r s dues.EndArgument (Ok events.Nothing) is)
+  pub end_reads : r.half.reading.pending_act ≡ pending_acts.EndArgument → called w s (Ok events.Nothing) ≡ acted pending_acts.EndArgument v r → ReadsOn 1 0 bs v r w s
+  end_reads pending_act is =
+      let a = act pending_acts.EndArgument v r in
+      let leads = called-ok (answer pending_acts.EndArgument v r) a.stored a.reader a.event v w r s events.Nothing is in
+      reads_pending bs v w r s (ap is_look pending_act) (subst (λ (d : PendingAct). called w s (Ok events.Nothing) ≡ acted d v r) (sym pending_act) is)
+      (ap (λ (x : Stored K). x.levels) leads.stored) (ap (λ (x : Reader). x.burst) leads.reader) (ap (λ (x : Stored K). diversions_in x.building) leads.stored) (act_stays v w r s pending_acts.EndArgument (Ok events.Nothing) is)
 
 -- ---- bytes that are added
 
@@ -259,18 +259,18 @@ may_give_fewer n m Never less may = tt
 may_give_fewer n m (After k) less may = omega (arith, less, may)
 may_give_fewer n m Anytime less may = tt
 
-all_of_front : (k : ℕ) (bs : List ℕ) → take (length (take k bs)) bs ≡ take k bs
-all_of_front k bs = elim (cases_lt k (length bs)) [
+all_of_prefix : (k : ℕ) (bs : List ℕ) → take (length (take k bs)) bs ≡ take k bs
+all_of_prefix k bs = elim (cases_lt k (length bs)) [
   | inl less ↦ let same : length (take k bs) ≡ k = omega (arith, less, length-take k bs) in ap (λ n. take n bs) same
   | inr all ↦ take_all (length (take k bs)) bs (omega (arith, all, length-take k bs)) ∙ sym (take_all k bs (omega (arith, all)))
 ]
 
 -- the first of the bytes that come next
-come_front : (k : ℕ) (bs : List ℕ) (c : Coming) → ComeNext bs c → ComeNext (take k bs) c
-come_front k bs c next =
+come_prefix : (k : ℕ) (bs : List ℕ) (c : Coming) → ComeNext bs c → ComeNext (take k bs) c
+come_prefix k bs c next =
     let few : length (take k bs) ≤ length bs = omega (arith, length-take k bs) in
     record {
-      bytes = sym (take-take (length (take k bs)) (length bs) c.supply.bytes few) ∙ ap (take (length (take k bs))) next.bytes ∙ all_of_front k bs;
+      bytes = sym (take-take (length (take k bs)) (length bs) c.supply.bytes few) ∙ ap (take (length (take k bs))) next.bytes ∙ all_of_prefix k bs;
       faults = may_give_fewer (length (take k bs)) (length bs) c.supply.faults few next.faults;
       few = omega (arith, few, next.few);
     }
@@ -282,14 +282,14 @@ module _ {K : Type 0} (n t k : ℕ) (bs : List ℕ) (v w : Stored K) (r s : Read
 
   pub none_read : v.levels ≡ [] → t ≡ 0 → (c : Coming) (p : Reached) (supply : Option Supply) → ComeNext bs c → HoldsComing c p supply → HasRead n (situation v c r) events.Nothing w s p supply
   none_read none zero_taken c p supply next holds =
-      reads.reads none still c p supply (come_front k bs c next) (subst (λ (d : Coming). HoldsComing d p supply) (sym (ap (λ j. after_run j c) zero_taken ∙ behind_none c)) holds)
+      reads.reads none still c p supply (come_prefix k bs c next) (subst (λ (d : Coming). HoldsComing d p supply) (sym (ap (λ j. after_run j c) zero_taken ∙ after_none c)) holds)
 
   pub none_paid : t ≡ 0 → (p : Reached) → PaysAll n v p r events.Nothing w p s
   none_paid zero_taken p =
       pays_at n v w p (reached_after t (take k bs) p) p r s events.Nothing (omega (arith, zero_taken)) (ap (λ j. inside_after j (take k bs) p.inside) zero_taken) (reads.pays still p)
 
   pub line_read : v.levels ≡ [] → (c : Coming) (p : Reached) (supply : Option Supply) → ComeNext bs c → HoldsComing (after_run t c) p supply → HasRead n (situation v c r) events.Nothing w s p supply
-  line_read none c p supply next holds = reads.reads none still c p supply (come_front k bs c next) holds
+  line_read none c p supply next holds = reads.reads none still c p supply (come_prefix k bs c next) holds
 
   inside_of : (t : ℕ) (p : Reached) → 0 < t → t ≤ length (take k bs) → inside_after t (take k bs) p.inside ≡ not (slice_index bs (t - 1) == code "\n")
   inside_of zero p some few = absurd (omega (arith, some))

@@ -5,35 +5,35 @@ use Rattle.std.proofs.lemmas.Bool.{cases_lt, cond-false, le-ltb}
 use Rattle.nr_units.specs.Source.{Supply}
 use Rattle.nr_store.specs.Store.{Stored, charge_of}
 use Rattle.nr_reading.specs.declared.event.Event.TheVariants as events
-use Rattle.nr_reading.specs.declared.front.Front.{Front}
-use Rattle.nr_reading.specs.declared.front.Front.TheVariants as fronts
+use Rattle.nr_reading.specs.declared.next_item.NextItem.{NextItem}
+use Rattle.nr_reading.specs.declared.next_item.NextItem.TheVariants as next_items
 use Rattle.nr_reading.specs.declared.half.Half.{Half}
-use Rattle.nr_reading.specs.declared.mode.Due.{Due}
-use Rattle.nr_reading.specs.declared.mode.Due.TheVariants as dues
-use Rattle.nr_reading.specs.Half.{Met, meet}
-use Rattle.nr_reading.specs.Many.Runs.{Spot, MayGoOn, behind, after_met}
+use Rattle.nr_reading.specs.declared.mode.PendingAct.{PendingAct}
+use Rattle.nr_reading.specs.declared.mode.PendingAct.TheVariants as pending_acts
+use Rattle.nr_reading.specs.Half.{TakenIn, take_in}
+use Rattle.nr_reading.specs.Many.Runs.{Spot, MayGoOn, afterwards, after_taken_in}
 use Rattle.nr_input.specs.declared.reader.Reader.{Reader}
-use Rattle.nr_input.specs.declared.told.Told.TheVariants as tells
-use Rattle.nr_input.specs.Acting.{Acted, act, done, is_look, next, then_due, idle}
+use Rattle.nr_input.specs.declared.emitted.Emitted.TheVariants as tells
+use Rattle.nr_input.specs.Acting.{Acted, act, done, is_look, next, then_pending, idle}
 use Rattle.nr_input.specs.Refusal.{answer, storing_by, storing_answer}
 use Rattle.nr_input.specs.Place.{Coming, Reached}
 use Rattle.nr_input.specs.Moving.{Situation, Move, Stands, situation, move, Goes, GoesBy}
-use Rattle.fast_input.specs.Runs.{HasRead, moves, told_last}
+use Rattle.fast_input.specs.Runs.{HasRead, moves, emitted_last}
 use Rattle.fast_input.proofs.RowMoves.{Goings}
 
 -- ---- moves that tell nothing
 
 -- such a move leads there
 abbrev pub quiet : {K : Type 0} → Situation K → Move K
-quiet s = record { situation = s; told = tells.Event events.Nothing }
+quiet s = record { situation = s; emitted = tells.Event events.Nothing }
 
 -- n moves lead there, and none tells anything
 pub record Quietly {K : Type 0} (n : ℕ) (s t : Situation K) : Type 0 where
   pub goes : (k : ℕ) → k < n → Goes (moves k s)
-  pub silent : (k : ℕ) → k ≤ n → told_last k s ≡ tells.Event events.Nothing
+  pub silent : (k : ℕ) → k ≤ n → emitted_last k s ≡ tells.Event events.Nothing
   pub leads : moves n s ≡ t
 
-silent_none : {K : Type 0} (k : ℕ) (s : Situation K) → k ≤ 0 → told_last k s ≡ tells.Event events.Nothing
+silent_none : {K : Type 0} (k : ℕ) (s : Situation K) → k ≤ 0 → emitted_last k s ≡ tells.Event events.Nothing
 silent_none zero s few = refl
 silent_none (suc k) s few = absurd (omega (arith, few))
 
@@ -49,7 +49,7 @@ one_more n s t u so_far goes is = record {
   silent = λ k within. elim (cases_lt n k) [
     | inl last ↦
         let same : suc n ≡ k = omega (arith, within, last) in
-        subst (λ j. told_last j s ≡ tells.Event events.Nothing) same (ap (λ x. (move x).told) so_far.leads ∙ ap (λ m. m.told) is)
+        subst (λ j. emitted_last j s ≡ tells.Event events.Nothing) same (ap (λ x. (move x).emitted) so_far.leads ∙ ap (λ m. m.emitted) is)
     | inr few ↦ so_far.silent k few
   ];
   leads = ap (λ x. (move x).situation) so_far.leads ∙ ap (λ m. m.situation) is;
@@ -65,28 +65,28 @@ has_read_quietly n s t v r q supply all stands = record {
 
 -- ---- a byte that is to be added
 
--- what is due adds to what is stored, and that is within the limit
-pub record Adds {K : Type 0} (d : Due) (w w' : Stored K) : Type 0 where
+-- what is pending adds to what is stored, and that is within the limit
+pub record Adds {K : Type 0} (d : PendingAct) (w w' : Stored K) : Type 0 where
   pub waits : is_look d ≡ false
-  pub acts : (r : Reader) → act d w (then_due d r) ≡ done events.Nothing w' (idle (then_due d r))
-  pub answers : (r : Reader) → answer d w (then_due d r) ≡ storing_answer w'
+  pub acts : (r : Reader) → act d w (then_pending d r) ≡ done events.Nothing w' (idle (then_pending d r))
+  pub answers : (r : Reader) → answer d w (then_pending d r) ≡ storing_answer w'
   pub fits : charge_of w' ≤ w'.limit
 
-module _ {K : Type 0} (d : Due) (w w' : Stored K) (c : Coming) (r : Reader) (adds : Adds d w w') where
-  -- where it is due
+module _ {K : Type 0} (d : PendingAct) (w w' : Stored K) (c : Coming) (r : Reader) (adds : Adds d w w') where
+  -- where it is pending
   abbrev pub before_put : Situation K
-  before_put = situation w c (then_due d r)
+  before_put = situation w c (then_pending d r)
 
   pub goes_put : Goes before_put
   goes_put =
       subst (λ l. GoesBy l before_put) (sym adds.waits)
       (adds.answers r ∙ ap storing_by (cond-false _ _ _ (le-ltb w'.limit (charge_of w') adds.fits)))
 
-  pub move-put : r.half.reading.due ≡ dues.Look → move before_put ≡ quiet (situation w' c r)
-  move-put due =
+  pub move-put : r.half.reading.pending_act ≡ pending_acts.Look → move before_put ≡ quiet (situation w' c r)
+  move-put pending_act =
       cond-false (is_look d) _ _ adds.waits
-      ∙ ap (λ (a : Acted K). record { situation = situation a.stored c a.reader; told = tells.Event a.event }) (adds.acts r)
-      ∙ ap (λ (x : Due). quiet (situation w' c (then_due x r))) (sym due)
+      ∙ ap (λ (a : Acted K). record { situation = situation a.stored c a.reader; emitted = tells.Event a.event }) (adds.acts r)
+      ∙ ap (λ (x : PendingAct). quiet (situation w' c (then_pending x r))) (sym pending_act)
 
 -- ---- each byte is taken and added
 
@@ -103,25 +103,25 @@ abbrev pub spot_at : ℕ → Half → Spot
 spot_at k h = record { taken = k; half = h; event = events.Nothing }
 
 -- n bytes of a row can be added one after another, where so many were added
-pub record Puttings {K : Type 0} (n : ℕ) (fs : List Front) (byte : ℕ → ℕ) (due : ℕ → Due) (h : Half) (at : ℕ → Spot → Situation K) : Type 0 where
+pub record Puttings {K : Type 0} (n : ℕ) (fs : List NextItem) (byte : ℕ → ℕ) (pending_act : ℕ → PendingAct) (h : Half) (at : ℕ → Spot → Situation K) : Type 0 where
   pub goings : (k : ℕ) → k < n → Goings fs (at k)
-  pub meets : (k : ℕ) → k < n → meet (fronts.Byte (byte k)) h ≡ record { half = next (due k) h; event = events.Nothing; takes = true }
-  pub fronts : (k : ℕ) → k < n → slice_get fs k ≡ Some (fronts.Byte (byte k))
-  pub goes : (k : ℕ) → k < n → Goes (at k (spot_at (suc k) (next (due k) h)))
-  pub puts : (k : ℕ) → k < n → move (at k (spot_at (suc k) (next (due k) h))) ≡ quiet (at (suc k) (spot_at (suc k) h))
+  pub takes_in : (k : ℕ) → k < n → take_in (next_items.Byte (byte k)) h ≡ record { half = next (pending_act k) h; event = events.Nothing; takes = true }
+  pub next_items : (k : ℕ) → k < n → slice_get fs k ≡ Some (next_items.Byte (byte k))
+  pub goes : (k : ℕ) → k < n → Goes (at k (spot_at (suc k) (next (pending_act k) h)))
+  pub puts : (k : ℕ) → k < n → move (at k (spot_at (suc k) (next (pending_act k) h))) ≡ quiet (at (suc k) (spot_at (suc k) h))
 
-module _ {K : Type 0} (n : ℕ) (fs : List Front) (byte : ℕ → ℕ) (due : ℕ → Due) (h : Half) (at : ℕ → Spot → Situation K) (looks : h.reading.due ≡ dues.Look) (within : n ≤ length fs) (each : Puttings n fs byte due h at) where
-  met_there : (k : ℕ) → k < n → behind (slice_get fs k) (spot_at k h) ≡ spot_at (suc k) (next (due k) h)
-  met_there k below =
+module _ {K : Type 0} (n : ℕ) (fs : List NextItem) (byte : ℕ → ℕ) (pending_act : ℕ → PendingAct) (h : Half) (at : ℕ → Spot → Situation K) (looks : h.reading.pending_act ≡ pending_acts.Look) (within : n ≤ length fs) (each : Puttings n fs byte pending_act h at) where
+  taken_in_there : (k : ℕ) → k < n → afterwards (slice_get fs k) (spot_at k h) ≡ spot_at (suc k) (next (pending_act k) h)
+  taken_in_there k below =
       let more : k + 1 ≡ suc k = omega arith in
-      ap (λ f. behind f (spot_at k h)) (each.fronts k below) ∙ ap (λ (m : Met). after_met m k) (each.meets k below) ∙ ap (λ j. spot_at j (next (due k) h)) more
+      ap (λ f. afterwards f (spot_at k h)) (each.next_items k below) ∙ ap (λ (m : TakenIn). after_taken_in m k) (each.takes_in k below) ∙ ap (λ j. spot_at j (next (pending_act k) h)) more
 
   taken_there : (k : ℕ) → k < n → MayGoOn fs (spot_at k h)
-  taken_there k below = record { some = omega (arith, below, within); due = looks; event = refl }
+  taken_there k below = record { some = omega (arith, below, within); pending_act = looks; event = refl }
 
-  takes : (k : ℕ) → (below : k < n) → move (at k (spot_at k h)) ≡ quiet (at k (spot_at (suc k) (next (due k) h)))
+  takes : (k : ℕ) → (below : k < n) → move (at k (spot_at k h)) ≡ quiet (at k (spot_at (suc k) (next (pending_act k) h)))
   takes k below =
-      (each.goings k below).leads (spot_at k h) (taken_there k below) ∙ ap (λ (x : Spot). record { situation = at k x; told = tells.Event x.event }) (met_there k below)
+      (each.goings k below).leads (spot_at k h) (taken_there k below) ∙ ap (λ (x : Spot). record { situation = at k x; emitted = tells.Event x.event }) (taken_in_there k below)
 
   pub all_put : (k : ℕ) → k ≤ n → Quietly (twice k) (at 0 (spot_at 0 h)) (at k (spot_at k h))
   all_put zero few = no_moves (at 0 (spot_at 0 h))

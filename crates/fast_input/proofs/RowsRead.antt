@@ -11,76 +11,76 @@ use Rattle.nr_store.specs.Windows.{rest_of, left_times, levels_after, run_left}
 use Rattle.nr_store.specs.Laws.{left_times-run}
 use Rattle.nr_store.specs.declared.element.Element.{Element}
 use Rattle.nr_store.specs.declared.element.Element.TheVariants as elements
-use Rattle.nr_reading.specs.declared.front.Front.{Front}
-use Rattle.nr_reading.specs.declared.front.Front.TheVariants as fronts
+use Rattle.nr_reading.specs.declared.next_item.NextItem.{NextItem}
+use Rattle.nr_reading.specs.declared.next_item.NextItem.TheVariants as next_items
 use Rattle.nr_reading.specs.declared.half.Half.{Half}
-use Rattle.nr_reading.specs.Half.{meet}
-use Rattle.nr_reading.specs.Many.Runs.{Spot, HasMet, behind, one_if, spot_after}
+use Rattle.nr_reading.specs.Half.{take_in}
+use Rattle.nr_reading.specs.Many.Runs.{Spot, HasTakenIn, afterwards, one_if, spot_after}
 use Rattle.nr_input.specs.declared.reader.Reader.{Reader}
 use Rattle.nr_input.specs.declared.place.Ahead.{Ahead}
 use Rattle.nr_input.specs.declared.place.Ahead.TheVariants.{Unseen, Byte, End, Failed, TooMany}
 use Rattle.fast_input.specs.AtHand.{ComeNext}
-use Rattle.nr_input.specs.Place.{Coming, Reached, HoldsComing, HoldsSupply, element_front, is_unseen, passed_run}
+use Rattle.nr_input.specs.Place.{Coming, Reached, HoldsComing, HoldsSupply, element_item, is_unseen, passed_run}
 use Rattle.nr_input.specs.Moving.{situation, burst_past}
 use Rattle.fast_input.specs.Runs.{HasRead, PaysAll, after_run}
 use Rattle.nr_input.specs.Weights.{items_in, items_left, newline_left, expansions_worth, diversions_in}
 use Rattle.std.proofs.Math.Nat.{mul-le-mul_right}
-use Rattle.fast_input.proofs.RowMoves.{at_level, at_source, with_rest, level_goings, source_goings, has_read, met_none, reads_nothing}
+use Rattle.fast_input.proofs.RowMoves.{at_level, at_source, with_rest, level_goings, source_goings, has_read, taken_in_none, reads_nothing}
 
 -- ---- elements of a level
 
 -- where there is nothing in the row nothing was read
 module _ {K : Type 0} (v : Stored K) (c : Coming) (r : Reader) (q : Reached) (supply : Option Supply) where
-  nothing_read : (n : ℕ) (p : Spot) → HasMet n [] r.half p → HoldsComing c q supply → HasRead n (situation v c r) p.event (left_times p.taken v) (record r { half = p.half }) q supply
-  nothing_read zero p met holds =
-      subst (λ (x : Spot). HasRead 0 (situation v c r) x.event (left_times x.taken v) (record r { half = x.half }) q supply) met.leads
+  nothing_read : (n : ℕ) (p : Spot) → HasTakenIn n [] r.half p → HoldsComing c q supply → HasRead n (situation v c r) p.event (left_times p.taken v) (record r { half = p.half }) q supply
+  nothing_read zero p taken_in holds =
+      subst (λ (x : Spot). HasRead 0 (situation v c r) x.event (left_times x.taken v) (record r { half = x.half }) q supply) taken_in.leads
       (reads_nothing (situation v c r) v r q supply (record { stored = refl; reader = refl; coming = holds }))
-  nothing_read (suc n) p met holds = absurd (let none = met_none (suc n) r.half p met in omega (arith, none))
+  nothing_read (suc n) p taken_in holds = absurd (let none = taken_in_none (suc n) r.half p taken_in in omega (arith, none))
 
-  level_read_by : (levels : List (Level K)) (n : ℕ) (xs : List Element) (p : Spot) → v.levels ≡ levels → xs ≡ rest_of levels → HasMet n (map element_front xs) r.half p → HoldsComing c q supply
+  level_read_by : (levels : List (Level K)) (n : ℕ) (xs : List Element) (p : Spot) → v.levels ≡ levels → xs ≡ rest_of levels → HasTakenIn n (map element_item xs) r.half p → HoldsComing c q supply
       → HasRead n (situation v c r) p.event (left_times p.taken v) (record r { half = p.half }) q supply
-  level_read_by [] n xs p is rest met holds = nothing_read n p (subst (λ ys. HasMet n (map element_front ys) r.half p) rest met) holds
-  level_read_by (Mark mode ∷ ls) n xs p is rest met holds = nothing_read n p (subst (λ ys. HasMet n (map element_front ys) r.half p) rest met) holds
-  level_read_by (Read l ∷ ls) n xs p is rest met holds =
+  level_read_by [] n xs p is rest taken_in holds = nothing_read n p (subst (λ ys. HasTakenIn n (map element_item ys) r.half p) rest taken_in) holds
+  level_read_by (Mark mode ∷ ls) n xs p is rest taken_in holds = nothing_read n p (subst (λ ys. HasTakenIn n (map element_item ys) r.half p) rest taken_in) holds
+  level_read_by (Read l ∷ ls) n xs p is rest taken_in holds =
       let levels_are : Read (record l { rest = xs }) ∷ ls ≡ v.levels = ap (λ ys. Read (record l { rest = ys }) ∷ ls) rest ∙ sym is in
-      let begins : at_level l ls xs v c r (spot_after 0 (map element_front xs) r.half) ≡ situation v c r = ap (λ (y : List (Level K)). situation (record v { levels = y }) c r) levels_are in
-      let few : p.taken ≤ length (rest_of v.levels) = omega (arith, met.within, length-map xs element_front, ap length rest, ap (λ y. length (rest_of y)) is) in
+      let begins : at_level l ls xs v c r (spot_after 0 (map element_item xs) r.half) ≡ situation v c r = ap (λ (y : List (Level K)). situation (record v { levels = y }) c r) levels_are in
+      let few : p.taken ≤ length (rest_of v.levels) = omega (arith, taken_in.within, length-map xs element_item, ap length rest, ap (λ y. length (rest_of y)) is) in
       let ends : left_times p.taken v ≡ with_rest l ls (drop p.taken xs) v =
       left_times-run p.taken v few ∙ ap (λ (y : List (Level K)). record v { levels = levels_after p.taken y }) is ∙ ap (λ ys. record v { levels = Read (record l { rest = drop p.taken ys }) ∷ ls }) (sym rest) in
-      has_read n (map element_front xs) r.half p (at_level l ls xs v c r) (situation v c r) (left_times p.taken v) (record r { half = p.half }) q supply
-      (level_goings l ls xs v c r) met begins (record { stored = ends; reader = refl; coming = holds })
+      has_read n (map element_item xs) r.half p (at_level l ls xs v c r) (situation v c r) (left_times p.taken v) (record r { half = p.half }) q supply
+      (level_goings l ls xs v c r) taken_in begins (record { stored = ends; reader = refl; coming = holds })
 
-  pub level_read : (n : ℕ) (p : Spot) → HasMet n (map element_front (rest_of v.levels)) r.half p → HoldsComing c q supply
+  pub level_read : (n : ℕ) (p : Spot) → HasTakenIn n (map element_item (rest_of v.levels)) r.half p → HoldsComing c q supply
       → HasRead n (situation v c r) p.event (left_times p.taken v) (record r { half = p.half }) q supply
-  level_read n p met holds = level_read_by v.levels n (rest_of v.levels) p refl refl met holds
+  level_read n p taken_in holds = level_read_by v.levels n (rest_of v.levels) p refl refl taken_in holds
 
 -- bytes that a level has as its own
-pub bytes_are : (bs : List ℕ) → map fronts.Byte bs ≡ map element_front (map elements.Byte bs)
+pub bytes_are : (bs : List ℕ) → map next_items.Byte bs ≡ map element_item (map elements.Byte bs)
 bytes_are [] = refl
-bytes_are (b ∷ bs) = ap (λ fs. fronts.Byte b ∷ fs) (bytes_are bs)
+bytes_are (b ∷ bs) = ap (λ fs. next_items.Byte b ∷ fs) (bytes_are bs)
 
 -- ---- what they cost
 
-pub items_behind : {K : Type 0} (n : ℕ) (levels : List (Level K)) → n ≤ length (rest_of levels) → items_left (levels_after n levels) + n ≤ items_left levels
-items_behind n [] few = omega (arith, few)
-items_behind n (Mark mode ∷ ls) few = omega (arith, few)
-items_behind n (Read l ∷ ls) few =
+pub items_after : {K : Type 0} (n : ℕ) (levels : List (Level K)) → n ≤ length (rest_of levels) → items_left (levels_after n levels) + n ≤ items_left levels
+items_after n [] few = omega (arith, few)
+items_after n (Mark mode ∷ ls) few = omega (arith, few)
+items_after n (Read l ∷ ls) few =
     omega (arith, few, length-drop n l.rest, sum_by-cons items_in (Read l) ls, sum_by-cons items_in (Read (record l { rest = drop n l.rest })) ls)
 
-pub level_pays : {K : Type 0} (n : ℕ) (v w : Stored K) (q : Reached) (r : Reader) (p : Spot) → HasMet n (map element_front (rest_of v.levels)) r.half p → w ≡ left_times p.taken v
+pub level_pays : {K : Type 0} (n : ℕ) (v w : Stored K) (q : Reached) (r : Reader) (p : Spot) → HasTakenIn n (map element_item (rest_of v.levels)) r.half p → w ≡ left_times p.taken v
     → PaysAll n v q r p.event w q (record r { half = p.half })
-level_pays n v w q r p met is =
-    let few : p.taken ≤ length (rest_of v.levels) = omega (arith, met.within, length-map (rest_of v.levels) element_front) in
+level_pays n v w q r p taken_in is =
+    let few : p.taken ≤ length (rest_of v.levels) = omega (arith, taken_in.within, length-map (rest_of v.levels) element_item) in
     let w_is : w ≡ run_left p.taken v = is ∙ left_times-run p.taken v few in
-    let items = items_behind p.taken v.levels few in
+    let items = items_after p.taken v.levels few in
     let left = ap (λ x. items_left x.levels) w_is in
     let worths = ap (λ x. expansions_worth r.most r.burst x.limit) w_is in
     record {
       limit = ap (λ x. x.limit) w_is;
       diversions = ap (λ x. diversions_in x.building) w_is;
       most = refl;
-      pays = λ worth enough. let paid = met.pays in omega (arith, items, left, worths, paid);
-      tells = met.tells;
+      pays = λ worth enough. let paid = taken_in.pays in omega (arith, items, left, worths, paid);
+      tells = taken_in.tells;
     }
 
 -- after a byte that was taken
@@ -95,8 +95,8 @@ later-none Never = refl
 later-none (After m) = let same : m - 0 ≡ m = omega arith in ap After same
 later-none Anytime = refl
 
-pub behind_none : (c : Coming) → after_run 0 c ≡ c
-behind_none c =
+pub after_none : (c : Coming) → after_run 0 c ≡ c
+after_none c =
     let same : c.taken + 0 ≡ c.taken = omega arith in
     ap (λ f. record { supply = record { bytes = c.supply.bytes; faults = f }; taken = c.taken + 0; inside = c.inside }) (later-none c.supply.faults)
     ∙ ap (λ n. record c { taken = n }) same
@@ -108,28 +108,28 @@ pub burst_some : (taken n burst : ℕ) → burst_past taken (taken + suc n) burs
 burst_some taken n burst = rw (ne_eqb (taken + suc n) taken (λ e. omega (arith, e))) refl
 
 module _ {K : Type 0} (v : Stored K) (c : Coming) (r : Reader) (bs : List ℕ) (none : v.levels ≡ []) (next : ComeNext bs c) where
-  pub begins_there : at_source v c r (spot_after 0 (map fronts.Byte bs) r.half) ≡ situation v c r
+  pub begins_there : at_source v c r (spot_after 0 (map next_items.Byte bs) r.half) ≡ situation v c r
   begins_there =
-      ap (λ (d : Coming). situation v d (record r { half = r.half; burst = burst_past c.taken (c.taken + 0) r.burst })) (behind_none c)
+      ap (λ (d : Coming). situation v d (record r { half = r.half; burst = burst_past c.taken (c.taken + 0) r.burst })) (after_none c)
       ∙ ap (λ (n : ℕ). situation v c (record r { burst = n })) (burst_none c.taken r.burst)
 
   -- no byte was taken
-  pub source_looked : (n : ℕ) (p : Spot) (q : Reached) (supply : Option Supply) → p.taken ≡ 0 → HasMet n (map fronts.Byte bs) r.half p → HoldsComing c q supply
+  pub source_looked : (n : ℕ) (p : Spot) (q : Reached) (supply : Option Supply) → p.taken ≡ 0 → HasTakenIn n (map next_items.Byte bs) r.half p → HoldsComing c q supply
       → HasRead n (situation v c r) p.event v (record r { half = p.half }) q supply
-  source_looked n p q supply few met holds =
-      has_read n (map fronts.Byte bs) r.half p (at_source v c r) (situation v c r) v (record r { half = p.half }) q supply (source_goings v c r bs none next) met begins_there
+  source_looked n p q supply few taken_in holds =
+      has_read n (map next_items.Byte bs) r.half p (at_source v c r) (situation v c r) v (record r { half = p.half }) q supply (source_goings v c r bs none next) taken_in begins_there
       (record {
         stored = refl;
         reader = sym (ap (λ (k : ℕ). record r { half = p.half; burst = burst_past c.taken (c.taken + k) r.burst }) few ∙ ap (λ (k : ℕ). record r { half = p.half; burst = k }) (burst_none c.taken r.burst));
-        coming = subst (λ d. HoldsComing d q supply) (sym (ap (λ k. after_run k c) few ∙ behind_none c)) holds;
+        coming = subst (λ d. HoldsComing d q supply) (sym (ap (λ k. after_run k c) few ∙ after_none c)) holds;
       })
 
   -- some were taken
-  pub source_read : (n : ℕ) (p : Spot) (q : Reached) (supply : Option Supply) → 0 < p.taken → HasMet n (map fronts.Byte bs) r.half p → HoldsComing (after_run p.taken c) q supply
+  pub source_read : (n : ℕ) (p : Spot) (q : Reached) (supply : Option Supply) → 0 < p.taken → HasTakenIn n (map next_items.Byte bs) r.half p → HoldsComing (after_run p.taken c) q supply
       → HasRead n (situation v c r) p.event v (record r { half = p.half; burst = 0 }) q supply
-  source_read n p q supply some met holds =
+  source_read n p q supply some taken_in holds =
       let many = some_taken p.taken (λ e. omega (arith, e, some)) in
-      has_read n (map fronts.Byte bs) r.half p (at_source v c r) (situation v c r) v (record r { half = p.half; burst = 0 }) q supply (source_goings v c r bs none next) met begins_there
+      has_read n (map next_items.Byte bs) r.half p (at_source v c r) (situation v c r) v (record r { half = p.half; burst = 0 }) q supply (source_goings v c r bs none next) taken_in begins_there
       (record {
         stored = refl;
         reader = sym (ap (λ (j : ℕ). record r { half = p.half; burst = burst_past c.taken (c.taken + j) r.burst }) many.1 ∙ ap (λ (j : ℕ). record r { half = p.half; burst = j }) (burst_some c.taken many.0 r.burst));
@@ -147,14 +147,14 @@ worth_more worth before k = omega arith
 pub pays_each : (worth k : ℕ) → 512 ≤ worth → 512 * k ≤ worth * k
 pays_each worth k enough = mul-le-mul_right k enough
 
-module _ {K : Type 0} (n : ℕ) (fs : List Front) (v : Stored K) (q : Reached) (r : Reader) (p : Spot) (met : HasMet n fs r.half p) where
+module _ {K : Type 0} (n : ℕ) (fs : List NextItem) (v : Stored K) (q : Reached) (r : Reader) (p : Spot) (taken_in : HasTakenIn n fs r.half p) where
   pub looked_pays : p.taken ≡ 0 → PaysAll n v q r p.event v q (record r { half = p.half })
   looked_pays few = record {
     limit = refl;
     diversions = refl;
     most = refl;
-    pays = λ worth enough. let paid = met.pays in omega (arith, paid, few);
-    tells = met.tells;
+    pays = λ worth enough. let paid = taken_in.pays in omega (arith, paid, few);
+    tells = taken_in.tells;
   }
 
   -- each byte but the first pays 256 moves more
@@ -164,7 +164,7 @@ module _ {K : Type 0} (n : ℕ) (fs : List Front) (v : Stored K) (q : Reached) (
     diversions = refl;
     most = refl;
     pays = λ worth enough.
-        let paid = met.pays in
+        let paid = taken_in.pays in
         omega (
           arith,
           paid,
@@ -175,7 +175,7 @@ module _ {K : Type 0} (n : ℕ) (fs : List Front) (v : Stored K) (q : Reached) (
           pays_each worth k (omega (arith, enough)),
           newline_left-le (not (last == code "\n")),
         );
-    tells = met.tells;
+    tells = taken_in.tells;
   }
 
   -- where the first of them was taken, and maybe others
@@ -198,10 +198,10 @@ module _ {K : Type 0} (n : ℕ) (fs : List Front) (v : Stored K) (q : Reached) (
 
 -- none was taken, whether there was one or not
 pub none_taken : {K : Type 0} (bs : List ℕ) (v : Stored K) (c : Coming) (r : Reader) (n : ℕ) (p : Spot) (q : Reached) (supply : Option Supply) → (0 < length bs → v.levels ≡ []) → (0 < length bs → ComeNext bs c)
-    → p.taken ≡ 0 → HasMet n (map fronts.Byte bs) r.half p → HoldsComing c q supply → HasRead n (situation v c r) p.event v (record r { half = p.half }) q supply
-none_taken [] v c r n p q supply none next few met holds =
-    subst (λ k. HasRead n (situation v c r) p.event (left_times k v) (record r { half = p.half }) q supply) few (nothing_read v c r q supply n p met holds)
-none_taken (b ∷ bs) v c r n p q supply none next few met holds = source_looked v c r (b ∷ bs) (none (omega arith)) (next (omega arith)) n p q supply few met holds
+    → p.taken ≡ 0 → HasTakenIn n (map next_items.Byte bs) r.half p → HoldsComing c q supply → HasRead n (situation v c r) p.event v (record r { half = p.half }) q supply
+none_taken [] v c r n p q supply none next few taken_in holds =
+    subst (λ k. HasRead n (situation v c r) p.event (left_times k v) (record r { half = p.half }) q supply) few (nothing_read v c r q supply n p taken_in holds)
+none_taken (b ∷ bs) v c r n p q supply none next few taken_in holds = source_looked v c r (b ∷ bs) (none (omega arith)) (next (omega arith)) n p q supply few taken_in holds
 
 -- ---- how many items are taken
 
@@ -209,32 +209,32 @@ one_if-le : (b : Bool) → one_if b ≤ 1
 one_if-le true = omega arith
 one_if-le false = omega arith
 
-taken_by : (f : Option Front) (p : Spot) → (behind f p).taken ≤ p.taken + 1
+taken_by : (f : Option NextItem) (p : Spot) → (afterwards f p).taken ≤ p.taken + 1
 taken_by None p = omega arith
-taken_by (Some f) p = let one = one_if-le (meet f p.half).takes in omega (arith, one)
+taken_by (Some f) p = let one = one_if-le (take_in f p.half).takes in omega (arith, one)
 
-taken_after : (n : ℕ) (fs : List Front) (h : Half) → (spot_after n fs h).taken ≤ n
+taken_after : (n : ℕ) (fs : List NextItem) (h : Half) → (spot_after n fs h).taken ≤ n
 taken_after zero fs h = omega arith
 taken_after (suc n) fs h = omega (arith, taken_by (slice_get fs (spot_after n fs h).taken) (spot_after n fs h), taken_after n fs h)
 
 -- no more than there are moves
-pub taken-le : (n : ℕ) (fs : List Front) (h : Half) (p : Spot) → HasMet n fs h p → p.taken ≤ n
-taken-le n fs h p met = let is = ap (λ x. x.taken) met.leads in omega (arith, is, taken_after n fs h)
+pub taken-le : (n : ℕ) (fs : List NextItem) (h : Half) (p : Spot) → HasTakenIn n fs h p → p.taken ≤ n
+taken-le n fs h p taken_in = let is = ap (λ x. x.taken) taken_in.leads in omega (arith, is, taken_after n fs h)
 
-supply_behind : (a : Ahead) (n : ℕ) (c : Coming) (supply supply' : Option Supply) → is_unseen a ≡ true → HoldsSupply c a supply → Skips supply n supply' → supply' ≡ Some (skipped n c.supply)
-supply_behind Unseen n c supply supply' unseen holds skips = subst (λ q. Skips q n supply') holds skips
-supply_behind (Byte b) n c supply supply' unseen holds skips = absurd (let wrong : false ≡ true = unseen in cc)
-supply_behind End n c supply supply' unseen holds skips = absurd (let wrong : false ≡ true = unseen in cc)
-supply_behind Failed n c supply supply' unseen holds skips = absurd (let wrong : false ≡ true = unseen in cc)
-supply_behind TooMany n c supply supply' unseen holds skips = absurd (let wrong : false ≡ true = unseen in cc)
+supply_after : (a : Ahead) (n : ℕ) (c : Coming) (supply supply' : Option Supply) → is_unseen a ≡ true → HoldsSupply c a supply → Skips supply n supply' → supply' ≡ Some (skipped n c.supply)
+supply_after Unseen n c supply supply' unseen holds skips = subst (λ q. Skips q n supply') holds skips
+supply_after (Byte b) n c supply supply' unseen holds skips = absurd (let wrong : false ≡ true = unseen in cc)
+supply_after End n c supply supply' unseen holds skips = absurd (let wrong : false ≡ true = unseen in cc)
+supply_after Failed n c supply supply' unseen holds skips = absurd (let wrong : false ≡ true = unseen in cc)
+supply_after TooMany n c supply supply' unseen holds skips = absurd (let wrong : false ≡ true = unseen in cc)
 
 -- the program stands after bytes that it took
-holds_behind : (k : ℕ) (bs : List ℕ) (c : Coming) (q : Reached) (supply supply' : Option Supply) → k < length bs → is_unseen q.ahead ≡ true → ComeNext bs c → HoldsComing c q supply → Skips supply (suc k) supply'
+holds_after : (k : ℕ) (bs : List ℕ) (c : Coming) (q : Reached) (supply supply' : Option Supply) → k < length bs → is_unseen q.ahead ≡ true → ComeNext bs c → HoldsComing c q supply → Skips supply (suc k) supply'
     → HoldsComing (after_run (suc k) c) (passed_run (slice_index bs k) (suc k) q) supply'
-holds_behind k bs c q supply supply' less unseen next holds skips = record {
+holds_after k bs c q supply supply' less unseen next holds skips = record {
   taken = let taken = holds.taken in omega (arith, taken);
   inside = ap (λ (b : ℕ). not (b == code "\n")) (ap (λ (ys : List ℕ). slice_index ys k) (sym next.bytes) ∙ get_or-take (length bs) c.supply.bytes k 0 less);
-  stands = supply_behind q.ahead (suc k) c supply supply' unseen holds.stands skips;
+  stands = supply_after q.ahead (suc k) c supply supply' unseen holds.stands skips;
 }
 
 -- the same, for as many as were taken
@@ -244,4 +244,4 @@ holds_past zero bs c q p supply supply' some within unseen next holds skips is =
 holds_past (suc k) bs c q p supply supply' some within unseen next holds skips is =
     let last : k ≡ suc k - 1 = omega arith in
     subst (λ x. HoldsComing (after_run (suc k) c) x supply') (ap (λ j. passed_run (slice_index bs j) (suc k) q) last ∙ sym is)
-    (holds_behind k bs c q supply supply' (omega (arith, within)) unseen next holds skips)
+    (holds_after k bs c q supply supply' (omega (arith, within)) unseen next holds skips)

@@ -11,35 +11,35 @@ use Rattle.nr_store.specs.Store.{Stored, Built, charge_of, weight, longer, on_ne
 use Rattle.nr_store.specs.declared.element.Element.{Element}
 use Rattle.nr_store.specs.declared.element.Element.TheVariants as elements
 use Rattle.nr_reading.specs.declared.event.Event.TheVariants as events
-use Rattle.nr_reading.specs.declared.front.Front.TheVariants as fronts
+use Rattle.nr_reading.specs.declared.next_item.NextItem.TheVariants as next_items
 use Rattle.nr_reading.specs.declared.half.Half.{Half}
-use Rattle.nr_reading.specs.declared.mode.Due.TheVariants as dues
+use Rattle.nr_reading.specs.declared.mode.PendingAct.TheVariants as pending_acts
 use Rattle.nr_reading.specs.Many.InArgument.{ending_of, IsPlain}
-use Rattle.nr_reading.specs.Half.{meet}
-use Rattle.nr_reading.proofs.InArgument.{meet-put, due-is_in_argument}
-use Rattle.nr_reading.proofs.InDefinition.{meet-add, due-is_in_definition}
+use Rattle.nr_reading.specs.Half.{take_in}
+use Rattle.nr_reading.proofs.InArgument.{take_in-put, pending_act-is_in_argument}
+use Rattle.nr_reading.proofs.InDefinition.{take_in-add, pending_act-is_in_definition}
 use Rattle.fast_input.specs.declared.target.Target.{Target}
 use Rattle.fast_input.specs.declared.target.Target.TheVariants.{Argument, Text}
 use Rattle.nr_input.specs.Acting.{next}
-use Rattle.fast_input.specs.Target.{is_read_for, due_for, with_more}
+use Rattle.fast_input.specs.Target.{is_read_for, pending_for, with_more}
 use Rattle.nr_input.specs.Weights.{diversions_in}
 use Rattle.fast_input.proofs.Putting.{Adds}
 use Rattle.nr_input.proofs.Staying.{longer_count}
 
 -- ---- what is read for it
 
--- nothing is due
-pub due-is_read_for : (t : Target) (h : Half) → is_read_for t h ≡ true → h.reading.due ≡ dues.Look
-due-is_read_for Argument h is = due-is_in_argument h is
-due-is_read_for Text h is = due-is_in_definition h is
+-- nothing is pending
+pub pending_act-is_read_for : (t : Target) (h : Half) → is_read_for t h ≡ true → h.reading.pending_act ≡ pending_acts.Look
+pending_act-is_read_for Argument h is = pending_act-is_in_argument h is
+pending_act-is_read_for Text h is = pending_act-is_in_definition h is
 
 -- a plain byte is taken, is to be added, and nothing else changes
-pub meet-plain : (t : Target) (b : ℕ) (h : Half) → is_read_for t h ≡ true → IsPlain (ending_of h.reading.mode) b → meet (fronts.Byte b) h ≡ record { half = next (due_for t b) h; event = events.Nothing; takes = true }
-meet-plain Argument b h is plain = meet-put b h is plain
-meet-plain Text b h is plain = meet-add b h is plain
+pub take_in-plain : (t : Target) (b : ℕ) (h : Half) → is_read_for t h ≡ true → IsPlain (ending_of h.reading.mode) b → take_in (next_items.Byte b) h ≡ record { half = next (pending_for t b) h; event = events.Nothing; takes = true }
+take_in-plain Argument b h is plain = take_in-put b h is plain
+take_in-plain Text b h is plain = take_in-add b h is plain
 
 -- it is added where that is within the limit
-pub adds_byte : {K : Type 0} (t : Target) (b : ℕ) (w : Stored K) → charge_of (with_more t (b ∷ []) w) ≤ w.limit → Adds (due_for t b) w (with_more t (b ∷ []) w)
+pub adds_byte : {K : Type 0} (t : Target) (b : ℕ) (w : Stored K) → charge_of (with_more t (b ∷ []) w) ≤ w.limit → Adds (pending_for t b) w (with_more t (b ∷ []) w)
 adds_byte Argument b w fits = record { waits = refl; acts = λ r. refl; answers = λ r. refl; fits = fits }
 adds_byte Text b w fits = record { waits = refl; acts = λ r. refl; answers = λ r. refl; fits = fits }
 

@@ -11,36 +11,36 @@ use Rattle.nr_store.specs.Laws.{left_times-run}
 use Rattle.nr_store.specs.declared.element.Element.{Element}
 use Rattle.nr_store.specs.declared.element.Element.TheVariants as elements
 use Rattle.nr_reading.specs.declared.event.Event.TheVariants as events
-use Rattle.nr_reading.specs.declared.front.Front.{Front}
-use Rattle.nr_reading.specs.declared.front.Front.TheVariants as fronts
+use Rattle.nr_reading.specs.declared.next_item.NextItem.{NextItem}
+use Rattle.nr_reading.specs.declared.next_item.NextItem.TheVariants as next_items
 use Rattle.nr_reading.specs.declared.half.Half.{Half}
 use Rattle.nr_reading.specs.declared.mode.Escape.{Escape}
 use Rattle.nr_reading.specs.declared.mode.Escape.TheVariants as escapes
 use Rattle.nr_reading.specs.Many.Braces.{begins_with_brace, is_byte}
 use Rattle.nr_reading.specs.Many.InText.{is_in_text, IsInText}
 use Rattle.nr_reading.specs.Many.Passing.{quiet}
-use Rattle.nr_reading.specs.Many.Runs.{HasMet}
+use Rattle.nr_reading.specs.Many.Runs.{HasTakenIn}
 use Rattle.nr_reading.proofs.InText.{in_text}
-use Rattle.nr_reading.proofs.Rows.{MeetsByte, nothing_met, stays, taken_more}
+use Rattle.nr_reading.proofs.Rows.{TakesInByte, nothing_taken_in, stays, taken_more}
 use Rattle.nr_input.specs.declared.reader.Reader.{Reader}
 use Rattle.fast_input.specs.declared.splices.Splice.{Splice}
-use Rattle.nr_input.specs.Place.{element_front}
+use Rattle.nr_input.specs.Place.{element_item}
 use Rattle.fast_input.specs.Gathering.{AreGathered, HasBrace, LeadsInText, Leaves, brace_items, last_asked, spliced}
 use Rattle.fast_input.proofs.LevelRows.{left_times-add, rest-left_times}
-use Rattle.fast_input.proofs.PuttingLevel.{charge-behind}
+use Rattle.fast_input.proofs.PuttingLevel.{charge-afterwards}
 use Rattle.fast_input.proofs.RowsRead.{level_read, level_pays}
 use Rattle.fast_input.proofs.TextBytes.{leaves_on, slice_get-drop}
-use Rattle.fast_input.proofs.TextGathered.{byte_at, depth-behind, row_at}
+use Rattle.fast_input.proofs.TextGathered.{byte_at, depth-afterwards, row_at}
 
 -- ---- the row shows it where the level does
 
 -- an item that is a byte
-byte_is : (b : ℕ) (f : Option Front) → is_byte b f ≡ true → f ≡ Some (fronts.Byte b)
+byte_is : (b : ℕ) (f : Option NextItem) → is_byte b f ≡ true → f ≡ Some (next_items.Byte b)
 byte_is b None is = absurd (let wrong : false ≡ true = is in cc)
-byte_is b (Some (fronts.Byte c)) is = ap (λ n. Some (fronts.Byte n)) (eqb-true c b is)
+byte_is b (Some (next_items.Byte c)) is = ap (λ n. Some (next_items.Byte n)) (eqb-true c b is)
 byte_is b (Some f) is = absurd (let wrong : false ≡ true = is in cc)
 
-module _ (items : ℕ) (fs : List Front) (rest : List Element) (row : fs ≡ drop items (map element_front rest)) where
+module _ (items : ℕ) (fs : List NextItem) (rest : List Element) (row : fs ≡ drop items (map element_item rest)) where
   -- a byte of the row is one of the level
   pub byte_shown : (n b : ℕ) → is_byte b (slice_get fs n) ≡ true → slice_get rest (items + n) ≡ Some (elements.Byte b)
   byte_shown n b is = byte_at (slice_get rest (items + n)) b (sym (row_at items n fs rest row) ∙ byte_is b (slice_get fs n) is)
@@ -70,20 +70,20 @@ abbrev with_escape : Escape → Half → Half
 with_escape e h = record h { reading = record h.reading { escape = e } }
 
 -- an escape begins
-begins : (h : Half) → IsInText h → MeetsByte (code "\\") h (with_escape escapes.Begun h) events.Nothing true
+begins : (h : Half) → IsInText h → TakesInByte (code "\\") h (with_escape escapes.Begun h) events.Nothing true
 begins h is = rw (is.asks, is.mode, is.escape) refl
 
 -- and ends again
-ends : (h : Half) → IsInText h → MeetsByte (code "}") (with_escape escapes.Begun h) (with_escape escapes.Plain h) events.Nothing true
+ends : (h : Half) → IsInText h → TakesInByte (code "}") (with_escape escapes.Begun h) (with_escape escapes.Plain h) events.Nothing true
 ends h is = rw (is.asks, is.mode) refl
 
--- both are met
-brace_met : (fs : List Front) (h : Half) → IsInText h → slice_get fs 0 ≡ Some (fronts.Byte (code "\\")) → slice_get fs 1 ≡ Some (fronts.Byte (code "}")) → HasMet 2 fs h (quiet 2 h)
-brace_met fs h is first second =
-    let within = slice_get_within fs 1 (fronts.Byte (code "}")) second in
-    let one = taken_more fs 0 0 0 0 (code "\\") h h (with_escape escapes.Begun h) (stays fs 0 0 h) (omega (arith, within)) is.due first (begins h is) in
-    let two = taken_more fs 0 0 1 1 (code "}") h (with_escape escapes.Begun h) (with_escape escapes.Plain h) one (omega (arith, within)) is.due second (ends h is) in
-    subst (λ (e : Escape). HasMet 2 fs h (quiet 2 (with_escape e h))) (sym is.escape) (two.met h (nothing_met fs h))
+-- both are taken in
+brace_taken_in : (fs : List NextItem) (h : Half) → IsInText h → slice_get fs 0 ≡ Some (next_items.Byte (code "\\")) → slice_get fs 1 ≡ Some (next_items.Byte (code "}")) → HasTakenIn 2 fs h (quiet 2 h)
+brace_taken_in fs h is first second =
+    let within = slice_get_within fs 1 (next_items.Byte (code "}")) second in
+    let one = taken_more fs 0 0 0 0 (code "\\") h h (with_escape escapes.Begun h) (stays fs 0 0 h) (omega (arith, within)) is.pending_act first (begins h is) in
+    let two = taken_more fs 0 0 1 1 (code "}") h (with_escape escapes.Begun h) (with_escape escapes.Plain h) one (omega (arith, within)) is.pending_act second (ends h is) in
+    subst (λ (e : Escape). HasTakenIn 2 fs h (quiet 2 (with_escape e h))) (sym is.escape) (two.taken_in h (nothing_taken_in fs h))
 
 -- ---- it is taken in two moves
 
@@ -92,23 +92,23 @@ module _ {K : Type 0} (x : Stored K) (q : Reader) (text : is_in_text q.half ≡ 
   brace_within : 2 ≤ length (rest_of x.levels)
   brace_within = let within = slice_get_within (rest_of x.levels) 1 (elements.Byte (code "}")) brace.1 in omega (arith, within)
 
-  met : HasMet 2 (map element_front (rest_of x.levels)) q.half (quiet 2 q.half)
-  met =
-      let fs = map element_front (rest_of x.levels) in
-      brace_met fs q.half (in_text q.half text) (slice_get-map element_front (rest_of x.levels) 0 ∙ ap (option_map element_front) brace.0)
-      (slice_get-map element_front (rest_of x.levels) 1 ∙ ap (option_map element_front) brace.1)
+  taken_in : HasTakenIn 2 (map element_item (rest_of x.levels)) q.half (quiet 2 q.half)
+  taken_in =
+      let fs = map element_item (rest_of x.levels) in
+      brace_taken_in fs q.half (in_text q.half text) (slice_get-map element_item (rest_of x.levels) 0 ∙ ap (option_map element_item) brace.0)
+      (slice_get-map element_item (rest_of x.levels) 1 ∙ ap (option_map element_item) brace.1)
 
   -- the moves tell nothing
   brace_leads : LeadsInText 2 x q (left_times 2 x) q
   brace_leads =
       let run = left_times-run 2 x brace_within in
       record {
-        reads = λ c p supply holds. level_read x c q p supply 2 (quiet 2 q.half) met holds;
-        pays = λ p. level_pays 2 x (left_times 2 x) p q (quiet 2 q.half) met refl;
+        reads = λ c p supply holds. level_read x c q p supply 2 (quiet 2 q.half) taken_in holds;
+        pays = λ p. level_pays 2 x (left_times 2 x) p q (quiet 2 q.half) taken_in refl;
         stored = subst (λ (w : Stored K). w ≡ record x { levels = w.levels; texts = w.texts; arguments = w.arguments }) (sym run) refl;
         reader = refl;
-        charge = λ fits. subst (λ (w : Stored K). charge_of w ≤ w.limit) (sym run) (omega (arith, fits, charge-behind 2 x.levels));
-        depth = λ fits. subst (λ (w : Stored K). length w.levels ≤ w.deepest) (sym run) (omega (arith, fits, depth-behind 2 x.levels));
+        charge = λ fits. subst (λ (w : Stored K). charge_of w ≤ w.limit) (sym run) (omega (arith, fits, charge-afterwards 2 x.levels));
+        depth = λ fits. subst (λ (w : Stored K). length w.levels ≤ w.deepest) (sym run) (omega (arith, fits, depth-afterwards 2 x.levels));
       }
 
 -- ---- what was gathered is left after it
@@ -117,11 +117,11 @@ module _ {K : Type 0} (bytes : List ℕ) (items moves : ℕ) (splices : List Spl
   abbrev reader : Reader
   reader = spliced (length splices) (last_asked splices r.half.notes.asked) r
 
-  abbrev behind : ℕ → Stored K
-  behind n = left_times (items + n) v
+  abbrev afterwards : ℕ → Stored K
+  afterwards n = left_times (items + n) v
 
   -- where it stands after the bytes
-  brace_leaves : HasBrace items (rest_of v.levels) → Leaves true (moves + 2) bytes v r (behind 2) reader
+  brace_leaves : HasBrace items (rest_of v.levels) → Leaves true (moves + 2) bytes v r (afterwards 2) reader
   brace_leaves brace =
       let there = rest-left_times items v gathered.there in
       let shown : (n : ℕ) → slice_get (rest_of (left_times items v).levels) n ≡ slice_get (rest_of v.levels) (items + n) = λ n. ap (λ (xs : List Element). slice_get xs n) there ∙ slice_get-drop items n (rest_of v.levels) in
@@ -132,14 +132,14 @@ module _ {K : Type 0} (bytes : List ℕ) (items moves : ℕ) (splices : List Spl
       (brace_leads (left_times items v) reader text (shown 0 ∙ ap (slice_get (rest_of v.levels)) here ∙ brace.0, shown 1 ∙ ap (slice_get (rest_of v.levels)) next ∙ brace.1)))
 
   -- whether it does or not
-  pub leaves_behind : (closes : Bool) → (closes ≡ true → HasBrace items (rest_of v.levels)) → Leaves true (moves + brace_items closes) bytes v r (behind (brace_items closes)) reader
-  leaves_behind true brace = brace_leaves (brace refl)
-  leaves_behind false brace =
+  pub leaves_after : (closes : Bool) → (closes ≡ true → HasBrace items (rest_of v.levels)) → Leaves true (moves + brace_items closes) bytes v r (afterwards (brace_items closes)) reader
+  leaves_after true brace = brace_leaves (brace refl)
+  leaves_after false brace =
       let count : moves ≡ moves + 0 = omega arith in
       let same : items ≡ items + 0 = omega arith in
-      subst (λ n. Leaves true n bytes v r (behind 0) reader) count (subst (λ n. Leaves true moves bytes v r (left_times n v) reader) same gathered.whole)
+      subst (λ n. Leaves true n bytes v r (afterwards 0) reader) count (subst (λ n. Leaves true moves bytes v r (left_times n v) reader) same gathered.whole)
 
   -- the level has as many items
-  pub behind_within : (closes : Bool) → (closes ≡ true → HasBrace items (rest_of v.levels)) → items + brace_items closes ≤ length (rest_of v.levels)
-  behind_within true brace = let within = slice_get_within (rest_of v.levels) (suc items) (elements.Byte (code "}")) (brace refl).1 in omega (arith, within)
-  behind_within false brace = let within = gathered.there in omega (arith, within)
+  pub after_within : (closes : Bool) → (closes ≡ true → HasBrace items (rest_of v.levels)) → items + brace_items closes ≤ length (rest_of v.levels)
+  after_within true brace = let within = slice_get_within (rest_of v.levels) (suc items) (elements.Byte (code "}")) (brace refl).1 in omega (arith, within)
+  after_within false brace = let within = gathered.there in omega (arith, within)

@@ -59,7 +59,7 @@ brings_more n k b (c ∷ cs) v w x r q s (i, m, u, t, count, first, shows, rest)
 pub leaves_nothing : {K : Type 0} (goes : Bool) (v : Stored K) (r : Reader) → Leaves goes 0 [] v r v r
 leaves_nothing goes v r = record {
   before = 0;
-  behind = 0;
+  afterwards = 0;
   there = v;
   reader = r;
   counted = refl;
@@ -72,7 +72,7 @@ leaves_nothing goes v r = record {
 pub leaves_goes : {K : Type 0} (goes : Bool) (n : ℕ) (bs : List ℕ) (v w : Stored K) (r q : Reader) → Leaves false n bs v r w q → Leaves goes n bs v r w q
 leaves_goes goes n bs v w r q leaves = record {
   before = leaves.before;
-  behind = leaves.behind;
+  afterwards = leaves.afterwards;
   there = leaves.there;
   reader = leaves.reader;
   counted = leaves.counted;
@@ -85,24 +85,24 @@ leaves_goes goes n bs v w r q leaves = record {
 pub leaves_on : {K : Type 0} (m n : ℕ) (bs : List ℕ) (v w x : Stored K) (r q s : Reader) → Leaves true m bs v r w q → LeadsInText n w q x s → Leaves true (m + n) bs v r x s
 leaves_on m n bs v w x r q s leaves leads = record {
   before = leaves.before;
-  behind = leaves.behind + n;
+  afterwards = leaves.afterwards + n;
   there = leaves.there;
   reader = leaves.reader;
   counted = let count = leaves.counted in omega (arith, count);
   brings = leaves.brings;
-  leads = leads_add leaves.behind n leaves.there w x leaves.reader q s leaves.leads leads;
+  leads = leads_add leaves.afterwards n leaves.there w x leaves.reader q s leaves.leads leads;
   stays = λ wrong. cc;
 }
 
 -- and then a byte
 leaves_byte : {K : Type 0} (m b : ℕ) (bs : List ℕ) (v w : Stored K) (r q : Reader) → Leaves true m bs v r w q → shown w.levels ≡ shows.Item (elements.Byte b) → Leaves false m (bs ++ b ∷ []) v r (left w.levels w) q
 leaves_byte m b bs v w r q leaves is = record {
-  before = leaves.before + leaves.behind;
-  behind = 0;
+  before = leaves.before + leaves.afterwards;
+  afterwards = 0;
   there = left w.levels w;
   reader = q;
   counted = let count = leaves.counted in omega (arith, count);
-  brings = brings_more leaves.before leaves.behind b bs v leaves.there w r leaves.reader q leaves.brings leaves.leads is;
+  brings = brings_more leaves.before leaves.afterwards b bs v leaves.there w r leaves.reader q leaves.brings leaves.leads is;
   leads = stays_there (left w.levels w) q;
   stays = λ stops. (refl, refl, refl);
 }
@@ -131,36 +131,36 @@ begins_with b (Mark mode ∷ ls) v is = absurd (let wrong : None ≡ Some (eleme
 begins_with b (Read l ∷ ls) v is = let text = begins_text b l.rest l ls v is in record { shows = text.0; goes = text.1 }
 
 -- the same, after so many of its items
-pub shown_behind : {K : Type 0} (n b : ℕ) (v : Stored K) → n ≤ length (rest_of v.levels) → slice_get (rest_of v.levels) n ≡ Some (elements.Byte b) → shown (left_times n v).levels ≡ shows.Item (elements.Byte b)
-shown_behind n b v within is =
+pub shown_after : {K : Type 0} (n b : ℕ) (v : Stored K) → n ≤ length (rest_of v.levels) → slice_get (rest_of v.levels) n ≡ Some (elements.Byte b) → shown (left_times n v).levels ≡ shows.Item (elements.Byte b)
+shown_after n b v within is =
     let same : n + 0 ≡ n = omega arith in
     let first = ap (λ (xs : List Element). slice_get xs 0) (rest-left_times n v within) ∙ slice_get-drop n 0 (rest_of v.levels) ∙ ap (slice_get (rest_of v.levels)) same ∙ is in
     (begins_with b (left_times n v).levels v first).shows
 
--- bytes that the newest level has in front
+-- bytes that the newest level begins with
 abbrev pub AreNext : {K : Type 0} → List ℕ → List (Level K) → Type 0
 AreNext bs levels = (n : ℕ) → n < length bs → slice_get (rest_of levels) n ≡ Some (elements.Byte (slice_index bs n))
 
 -- they come, and nothing after the last of them
-pub leaves_front : {K : Type 0} (m b : ℕ) (cs bs : List ℕ) (v w : Stored K) (r q : Reader) → Leaves true m bs v r w q → AreNext (b ∷ cs) w.levels → Leaves false m (bs ++ b ∷ cs) v r (left_times (suc (length cs)) w) q
-leaves_front m b [] bs v w r q leaves next = leaves_byte m b bs v w r q leaves (begins_with b w.levels w (next 0 (omega arith))).shows
-leaves_front {K} m b (c ∷ cs) bs v w r q leaves next =
+pub leaves_next : {K : Type 0} (m b : ℕ) (cs bs : List ℕ) (v w : Stored K) (r q : Reader) → Leaves true m bs v r w q → AreNext (b ∷ cs) w.levels → Leaves false m (bs ++ b ∷ cs) v r (left_times (suc (length cs)) w) q
+leaves_next m b [] bs v w r q leaves next = leaves_byte m b bs v w r q leaves (begins_with b w.levels w (next 0 (omega arith))).shows
+leaves_next {K} m b (c ∷ cs) bs v w r q leaves next =
     let first = begins_with b w.levels w (next 0 (omega arith)) in
-    let more = leaves_front m c cs (bs ++ b ∷ []) v (left w.levels w) r q (leaves_goes true m (bs ++ b ∷ []) v (left w.levels w) r q (leaves_byte m b bs v w r q leaves first.shows))
+    let more = leaves_next m c cs (bs ++ b ∷ []) v (left w.levels w) r q (leaves_goes true m (bs ++ b ∷ []) v (left w.levels w) r q (leaves_byte m b bs v w r q leaves first.shows))
     (λ n less. first.goes n ∙ next (suc n) (omega (arith, less))) in
     subst (λ ys. Leaves false m ys v r (left_times (suc (suc (length cs))) w) q) (append_assoc bs (b ∷ []) (c ∷ cs)) more
 
 -- the same, where there may be none
 pub leaves_all : {K : Type 0} (m : ℕ) (cs bs : List ℕ) (v w : Stored K) (r q : Reader) → Leaves true m bs v r w q → AreNext cs w.levels → Leaves true m (bs ++ cs) v r (left_times (length cs) w) q
 leaves_all m [] bs v w r q leaves next = subst (λ ys. Leaves true m ys v r w q) (sym (append-nil bs)) leaves
-leaves_all m (c ∷ cs) bs v w r q leaves next = leaves_goes true m (bs ++ c ∷ cs) v (left_times (suc (length cs)) w) r q (leaves_front m c cs bs v w r q leaves next)
+leaves_all m (c ∷ cs) bs v w r q leaves next = leaves_goes true m (bs ++ c ∷ cs) v (left_times (suc (length cs)) w) r q (leaves_next m c cs bs v w r q leaves next)
 
 -- the same, where there are some, and nothing after the last of them
 pub leaves_some : {K : Type 0} (m : ℕ) (cs bs : List ℕ) (v w : Stored K) (r q : Reader) → 0 < length cs → Leaves true m bs v r w q → AreNext cs w.levels → Leaves false m (bs ++ cs) v r (left_times (length cs) w) q
 leaves_some m [] bs v w r q some leaves next = absurd (omega (arith, some))
-leaves_some m (c ∷ cs) bs v w r q some leaves next = leaves_front m c cs bs v w r q leaves next
+leaves_some m (c ∷ cs) bs v w r q some leaves next = leaves_next m c cs bs v w r q leaves next
 
 -- bytes of the newest level alone
 pub leaves_level : {K : Type 0} (cs : List ℕ) (v : Stored K) (r : Reader) → AreNext cs v.levels → Leaves false 0 cs v r (left_times (length cs) v) r
 leaves_level [] v r next = leaves_nothing false v r
-leaves_level (c ∷ cs) v r next = leaves_front 0 c cs [] v v r r (leaves_nothing true v r) next
+leaves_level (c ∷ cs) v r next = leaves_next 0 c cs [] v v r r (leaves_nothing true v r) next

@@ -15,28 +15,28 @@ use Rattle.nr_store.specs.declared.element.Element.{Element}
 use Rattle.nr_store.specs.declared.element.Element.TheVariants as elements
 use Rattle.nr_reading.specs.declared.ask.Sign.TheVariants as signs
 use Rattle.nr_reading.specs.declared.event.Event.TheVariants as events
-use Rattle.nr_reading.specs.declared.front.Front.{Front}
-use Rattle.nr_reading.specs.declared.front.Front.TheVariants as fronts
+use Rattle.nr_reading.specs.declared.next_item.NextItem.{NextItem}
+use Rattle.nr_reading.specs.declared.next_item.NextItem.TheVariants as next_items
 use Rattle.nr_reading.specs.declared.half.Half.{Half}
-use Rattle.nr_reading.specs.declared.mode.Due.{Due}
-use Rattle.nr_reading.specs.declared.mode.Due.TheVariants as dues
+use Rattle.nr_reading.specs.declared.mode.PendingAct.{PendingAct}
+use Rattle.nr_reading.specs.declared.mode.PendingAct.TheVariants as pending_acts
 use Rattle.nr_reading.specs.Many.Interpolations.{AsksOnly}
-use Rattle.nr_reading.specs.Many.Runs.{HasMet}
+use Rattle.nr_reading.specs.Many.Runs.{HasTakenIn}
 use Rattle.fast_input.specs.declared.gathering.Gathered.{Gathered}
 use Rattle.nr_input.specs.declared.reader.Reader.{Reader}
 use Rattle.fast_input.specs.declared.splices.Splice.{Splice}
 use Rattle.nr_input.specs.Acting.{expanded, register_text}
-use Rattle.nr_input.specs.Place.{element_front}
+use Rattle.nr_input.specs.Place.{element_item}
 use Rattle.fast_input.specs.Rows.{AreBytes, EndsRun}
 use Rattle.fast_input.specs.Gathering.{AreGathered, AreItems, IsGathering, IsSpliced, LeadsInText, Leaves, StopsGathering, bytes_before, last_asked, own_bytes, passed, spliced}
-use Rattle.fast_input.specs.Interpolations.{HasRoom, MaySplice, OpensLevel, brings_text, opened, opened_due}
+use Rattle.fast_input.specs.Interpolations.{HasRoom, MaySplice, OpensLevel, brings_text, opened, opened_pending}
 use Rattle.nr_input.specs.Moving.{situation}
 use Rattle.fast_input.specs.Runs.{PaysAll}
 use Rattle.fast_input.proofs.ControlLines.{pays_then}
 use Rattle.fast_input.proofs.Interpolated.{read_then}
-use Rattle.fast_input.proofs.LevelRows.{left_times-add, rest-left_times, row_behind}
+use Rattle.fast_input.proofs.LevelRows.{left_times-add, rest-left_times, row_after}
 use Rattle.fast_input.proofs.Putting.{has_read_quietly}
-use Rattle.fast_input.proofs.PuttingLevel.{charge-behind}
+use Rattle.fast_input.proofs.PuttingLevel.{charge-afterwards}
 use Rattle.fast_input.proofs.RowsRead.{level_read, level_pays, taken-le}
 use Rattle.fast_input.proofs.SplicesLie.{last_asked-more}
 use Rattle.fast_input.proofs.TextBytes.{AreNext, leaves_all, leaves_nothing, leaves_on, slice_get-drop}
@@ -45,59 +45,59 @@ use Rattle.fast_input.proofs.TextLeft.{next_within, own_next, spliced_none, take
 
 -- ---- what is to be spliced
 
-pub argument_splice : {K : Type 0} (n : ℕ) (bytes : List ℕ) (v : Stored K) (r : Reader) → r.half.reading.due ≡ dues.Argument n → bytes ≡ argument v.arguments n → OpensLevel bytes v r
-argument_splice n bytes v r due is = record { waits = rw due refl; acts = rw (due, is) refl; answers = rw (due, is) refl; text = λ wrong. absurd (let no : false ≡ true = sym (ap brings_text due) ∙ wrong in cc) }
+pub argument_splice : {K : Type 0} (n : ℕ) (bytes : List ℕ) (v : Stored K) (r : Reader) → r.half.reading.pending_act ≡ pending_acts.Argument n → bytes ≡ argument v.arguments n → OpensLevel bytes v r
+argument_splice n bytes v r pending_act is = record { waits = rw pending_act refl; acts = rw (pending_act, is) refl; answers = rw (pending_act, is) refl; text = λ wrong. absurd (let no : false ≡ true = sym (ap brings_text pending_act) ∙ wrong in cc) }
 
-pub register_splice : {K : Type 0} (bytes : List ℕ) (v : Stored K) (r : Reader) → r.half.reading.due ≡ dues.Register signs.None → bytes ≡ register_text (register_of (find r.half.notes.asked v.registers)) → OpensLevel bytes v r
-register_splice bytes v r due is = record { waits = rw due refl; acts = rw (due, is) refl; answers = rw (due, is) refl; text = λ wrong. absurd (let no : false ≡ true = sym (ap brings_text due) ∙ wrong in cc) }
+pub register_splice : {K : Type 0} (bytes : List ℕ) (v : Stored K) (r : Reader) → r.half.reading.pending_act ≡ pending_acts.Register signs.None → bytes ≡ register_text (register_of (find r.half.notes.asked v.registers)) → OpensLevel bytes v r
+register_splice bytes v r pending_act is = record { waits = rw pending_act refl; acts = rw (pending_act, is) refl; answers = rw (pending_act, is) refl; text = λ wrong. absurd (let no : false ≡ true = sym (ap brings_text pending_act) ∙ wrong in cc) }
 
-pub string_splice : {K : Type 0} (bytes : List ℕ) (v : Stored K) (r : Reader) → r.half.reading.due ≡ dues.Splice → words (find r.half.notes.asked v.names) ≡ Some (map elements.Byte bytes) → OpensLevel bytes v r
-string_splice bytes v r due is = record { waits = rw due refl; acts = rw (due, is) refl; answers = rw (due, is) refl; text = λ named. is }
+pub string_splice : {K : Type 0} (bytes : List ℕ) (v : Stored K) (r : Reader) → r.half.reading.pending_act ≡ pending_acts.Splice → words (find r.half.notes.asked v.names) ≡ Some (map elements.Byte bytes) → OpensLevel bytes v r
+string_splice bytes v r pending_act is = record { waits = rw pending_act refl; acts = rw (pending_act, is) refl; answers = rw (pending_act, is) refl; text = λ named. is }
 
-pub depth-behind : {K : Type 0} (n : ℕ) (levels : List (Level K)) → length (levels_after n levels) ≡ length levels
-depth-behind n [] = refl
-depth-behind n (Read l ∷ ls) = refl
-depth-behind n (Mark mode ∷ ls) = refl
+pub depth-afterwards : {K : Type 0} (n : ℕ) (levels : List (Level K)) → length (levels_after n levels) ≡ length levels
+depth-afterwards n [] = refl
+depth-afterwards n (Read l ∷ ls) = refl
+depth-afterwards n (Mark mode ∷ ls) = refl
 
 -- it may be, wherever the newest level stands
 module _ {K : Type 0} (n : ℕ) (bytes : List ℕ) (v : Stored K) (r : Reader) (few : n ≤ length (rest_of v.levels)) (charge : charge_of v + (32 + 2 * length bytes) ≤ v.limit) (depth : length v.levels < v.deepest) (burst : r.burst < r.most) where
-  room_behind : HasRoom bytes (run_left n v) r
-  room_behind = record { charge = omega (arith, charge, charge-behind n v.levels); depth = omega (arith, depth, depth-behind n v.levels); burst = burst }
+  room_after : HasRoom bytes (run_left n v) r
+  room_after = record { charge = omega (arith, charge, charge-afterwards n v.levels); depth = omega (arith, depth, depth-afterwards n v.levels); burst = burst }
 
-  pub argument_may : (k : ℕ) → r.half.reading.due ≡ dues.Argument k → bytes ≡ argument v.arguments k → MaySplice bytes (left_times n v) r
-  argument_may k due is = subst (λ (w : Stored K). MaySplice bytes w r) (sym (left_times-run n v few)) (record { splice = argument_splice k bytes (run_left n v) r due is; room = room_behind })
+  pub argument_may : (k : ℕ) → r.half.reading.pending_act ≡ pending_acts.Argument k → bytes ≡ argument v.arguments k → MaySplice bytes (left_times n v) r
+  argument_may k pending_act is = subst (λ (w : Stored K). MaySplice bytes w r) (sym (left_times-run n v few)) (record { splice = argument_splice k bytes (run_left n v) r pending_act is; room = room_after })
 
-  pub register_may : r.half.reading.due ≡ dues.Register signs.None → bytes ≡ register_text (register_of (find r.half.notes.asked v.registers)) → MaySplice bytes (left_times n v) r
-  register_may due is = subst (λ (w : Stored K). MaySplice bytes w r) (sym (left_times-run n v few)) (record { splice = register_splice bytes (run_left n v) r due is; room = room_behind })
+  pub register_may : r.half.reading.pending_act ≡ pending_acts.Register signs.None → bytes ≡ register_text (register_of (find r.half.notes.asked v.registers)) → MaySplice bytes (left_times n v) r
+  register_may pending_act is = subst (λ (w : Stored K). MaySplice bytes w r) (sym (left_times-run n v few)) (record { splice = register_splice bytes (run_left n v) r pending_act is; room = room_after })
 
-  pub string_may : r.half.reading.due ≡ dues.Splice → words (find r.half.notes.asked v.names) ≡ Some (map elements.Byte bytes) → MaySplice bytes (left_times n v) r
-  string_may due is = subst (λ (w : Stored K). MaySplice bytes w r) (sym (left_times-run n v few)) (record { splice = string_splice bytes (run_left n v) r due is; room = room_behind })
+  pub string_may : r.half.reading.pending_act ≡ pending_acts.Splice → words (find r.half.notes.asked v.names) ≡ Some (map elements.Byte bytes) → MaySplice bytes (left_times n v) r
+  string_may pending_act is = subst (λ (w : Stored K). MaySplice bytes w r) (sym (left_times-run n v few)) (record { splice = string_splice bytes (run_left n v) r pending_act is; room = room_after })
 
 -- ---- an escape leads into a level of bytes
 
-module _ {K : Type 0} (n : ℕ) (own : List ℕ) (x : Stored K) (q : Reader) (t : ℕ) (h : Half) (met : HasMet n (map element_front (rest_of x.levels)) q.half (record { taken = t; half = h; event = events.Nothing }))
-    (asks : AsksOnly q.half h) (look : q.half.reading.due ≡ dues.Look) (may : MaySplice own (left_times t x) (record q { half = h })) where
+module _ {K : Type 0} (n : ℕ) (own : List ℕ) (x : Stored K) (q : Reader) (t : ℕ) (h : Half) (taken_in : HasTakenIn n (map element_item (rest_of x.levels)) q.half (record { taken = t; half = h; event = events.Nothing }))
+    (asks : AsksOnly q.half h) (look : q.half.reading.pending_act ≡ pending_acts.Look) (may : MaySplice own (left_times t x) (record q { half = h })) where
   abbrev there : Stored K
   there = left_times t x
 
-  abbrev due : Reader
-  due = record q { half = h }
+  abbrev pending_act : Reader
+  pending_act = record q { half = h }
 
-  pub met_within : t ≤ length (rest_of x.levels)
-  met_within = let within = met.within in omega (arith, within, length-map (rest_of x.levels) element_front)
+  pub taken_in_within : t ≤ length (rest_of x.levels)
+  taken_in_within = let within = taken_in.within in omega (arith, within, length-map (rest_of x.levels) element_item)
 
-  pub expanded_is : expanded due ≡ record q { half = record q.half { notes = record q.half.notes { asked = h.notes.asked } }; burst = q.burst + 1 }
+  pub expanded_is : expanded pending_act ≡ record q { half = record q.half { notes = record q.half.notes { asked = h.notes.asked } }; burst = q.burst + 1 }
   expanded_is =
-      ap (λ (g : Half). record q { half = record g { reading = record g.reading { due = dues.Look } }; burst = q.burst + 1 }) asks
-      ∙ ap (λ (d : Due). record q { half = record q.half { reading = record q.half.reading { due = d }; notes = record q.half.notes { asked = h.notes.asked } }; burst = q.burst + 1 }) (sym look)
+      ap (λ (g : Half). record q { half = record g { reading = record g.reading { pending_act = pending_acts.Look } }; burst = q.burst + 1 }) asks
+      ∙ ap (λ (d : PendingAct). record q { half = record q.half { reading = record q.half.reading { pending_act = d }; notes = record q.half.notes { asked = h.notes.asked } }; burst = q.burst + 1 }) (sym look)
 
   abbrev named : Bool
-  named = brings_text h.reading.due
+  named = brings_text h.reading.pending_act
 
-  abbrev level_due : Stored K
-  level_due = opened_due own there due
+  abbrev level_pending : Stored K
+  level_pending = opened_pending own there pending_act
 
-  pub escape_leads : LeadsInText (n + 1) x q level_due (expanded due)
+  pub escape_leads : LeadsInText (n + 1) x q level_pending (expanded pending_act)
   escape_leads =
       let same : 1 + n ≡ n + 1 = omega arith in
       let room = may.room in
@@ -105,14 +105,14 @@ module _ {K : Type 0} (n : ℕ) (own : List ℕ) (x : Stored K) (q : Reader) (t 
       let depth = room.depth in
       record {
         reads = λ c p supply holds.
-            read_then 1 n (situation x c q) events.Nothing there level_due due (expanded due) p p supply supply (level_read x c q p supply n (record { taken = t; half = h; event = events.Nothing }) met holds)
-            (λ d here. has_read_quietly 1 (situation there d due) (situation level_due d (expanded due)) level_due (expanded due) p supply (opens_quietly own there due may.splice room d)
+            read_then 1 n (situation x c q) events.Nothing there level_pending pending_act (expanded pending_act) p p supply supply (level_read x c q p supply n (record { taken = t; half = h; event = events.Nothing }) taken_in holds)
+            (λ d here. has_read_quietly 1 (situation there d pending_act) (situation level_pending d (expanded pending_act)) level_pending (expanded pending_act) p supply (opens_quietly own there pending_act may.splice room d)
             (record { stored = refl; reader = refl; coming = here }));
         pays = λ p.
-            subst (λ k. PaysAll k x p q events.Nothing level_due p (expanded due)) same
-            (pays_then 1 n x there level_due p p p q due (expanded due) events.Nothing (level_pays n x there p q (record { taken = t; half = h; event = events.Nothing }) met refl)
-            (opens_pays own there due may.splice room p));
-        stored = subst (λ (w : Stored K). opened_due own w due ≡ record x { levels = (opened_due own w due).levels; texts = (opened_due own w due).texts; arguments = (opened_due own w due).arguments }) (sym (left_times-run t x met_within))
+            subst (λ k. PaysAll k x p q events.Nothing level_pending p (expanded pending_act)) same
+            (pays_then 1 n x there level_pending p p p q pending_act (expanded pending_act) events.Nothing (level_pays n x there p q (record { taken = t; half = h; event = events.Nothing }) taken_in refl)
+            (opens_pays own there pending_act may.splice room p));
+        stored = subst (λ (w : Stored K). opened_pending own w pending_act ≡ record x { levels = (opened_pending own w pending_act).levels; texts = (opened_pending own w pending_act).texts; arguments = (opened_pending own w pending_act).arguments }) (sym (left_times-run t x taken_in_within))
             (stored-opened named own h.notes.asked (run_left t x));
         reader = expanded_is;
         charge = λ fits. omega (arith, charge, charge-opened named own h.notes.asked there, limit-opened named own h.notes.asked there);
@@ -122,8 +122,8 @@ module _ {K : Type 0} (n : ℕ) (own : List ℕ) (x : Stored K) (q : Reader) (t 
 -- ---- a run of bytes of the level is gathered
 
 -- bytes that stand after so many items
-abbrev pub StandBehind : ℕ → List ℕ → List Element → Type 0
-StandBehind items cs rest = (n : ℕ) → n < length cs → slice_get rest (items + n) ≡ Some (elements.Byte (slice_index cs n))
+abbrev pub StandAfter : ℕ → List ℕ → List Element → Type 0
+StandAfter items cs rest = (n : ℕ) → n < length cs → slice_get rest (items + n) ≡ Some (elements.Byte (slice_index cs n))
 
 -- items up to the next splice stay as they are where more bytes come
 items_kept : (item from items more : ℕ) (old next : Option Splice) (bytes cs : List ℕ) (rest : List Element) → AreItems item from old bytes items rest → bytes_before next (length (bytes ++ cs)) ≡ bytes_before old (length bytes)
@@ -136,7 +136,7 @@ items_kept item from items more old next bytes cs rest are same within some = re
 }
 
 -- those up to the last byte go on
-items_more : (item from items : ℕ) (bytes cs : List ℕ) (rest : List Element) → AreItems item from None bytes items rest → StandBehind items cs rest → AreItems item from None (bytes ++ cs) (items + length cs) rest
+items_more : (item from items : ℕ) (bytes cs : List ℕ) (rest : List Element) → AreItems item from None bytes items rest → StandAfter items cs rest → AreItems item from None (bytes ++ cs) (items + length cs) rest
 items_more item from items bytes cs rest are stand =
     let last = are.last refl in
     record {
@@ -151,7 +151,7 @@ items_more item from items bytes cs rest are stand =
       last = λ none. omega (arith, last, length-append bytes cs);
     }
 
-items_on : (item from items : ℕ) (next : Option Splice) (bytes cs : List ℕ) (rest : List Element) → bytes_before next (length bytes) ≤ length bytes → AreItems item from next bytes items rest → StandBehind items cs rest
+items_on : (item from items : ℕ) (next : Option Splice) (bytes cs : List ℕ) (rest : List Element) → bytes_before next (length bytes) ≤ length bytes → AreItems item from next bytes items rest → StandAfter items cs rest
     → AreItems item from next (bytes ++ cs) (items + length cs) rest
 items_on item from items None bytes cs rest within are stand = items_more item from items bytes cs rest are stand
 items_on item from items (Some s) bytes cs rest within are stand = items_kept item from items (items + length cs) (Some s) (Some s) bytes cs rest are refl within (λ none. cc)
@@ -162,10 +162,10 @@ own_kept s bytes cs within =
     ap (take s.count) (drop-append-le s.before bytes cs (omega (arith, within))) ∙ take-append-le s.count (drop s.before bytes) cs (omega (arith, within, length-drop s.before bytes))
 
 spliced_kept : {K : Type 0} (k : ℕ) (s : Splice) (old next : Option Splice) (bytes cs : List ℕ) (items more : ℕ) (v : Stored K) (r : Reader) → IsSpliced k s old bytes items v r
-    → AreItems s.behind (s.before + s.count) next (bytes ++ cs) more (rest_of v.levels) → IsSpliced k s next (bytes ++ cs) more v r
+    → AreItems s.afterwards (s.before + s.count) next (bytes ++ cs) more (rest_of v.levels) → IsSpliced k s next (bytes ++ cs) more v r
 spliced_kept {K} k s old next bytes cs items more v r is run =
     let within = is.within in
-    let there = left_times s.behind v in
+    let there = left_times s.afterwards v in
     record {
       few = is.few;
       short = is.short;
@@ -195,7 +195,7 @@ module _ {K : Type 0} (bytes : List ℕ) (items moves : ℕ) (splices : List Spl
   abbrev reader : Reader
   reader = spliced (length splices) name r
 
-  pub run_gathered : (cs : List ℕ) → StandBehind items cs (rest_of v.levels) → length bytes + length cs ≤ 4096 → AreGathered (bytes ++ cs) (items + length cs) moves splices v r
+  pub run_gathered : (cs : List ℕ) → StandAfter items cs (rest_of v.levels) → length bytes + length cs ≤ 4096 → AreGathered (bytes ++ cs) (items + length cs) moves splices v r
   run_gathered cs stand fits =
       let here = gathered.there in
       let short = gathered.short in
@@ -213,7 +213,7 @@ module _ {K : Type 0} (bytes : List ℕ) (items moves : ℕ) (splices : List Spl
         each = λ k s is.
             let old = gathered.each k s is in
             spliced_kept k s (slice_get splices (suc k)) (slice_get splices (suc k)) bytes cs items (items + length cs) v r old
-            (items_on s.behind (s.before + s.count) items (slice_get splices (suc k)) bytes cs (rest_of v.levels) (before_within (suc k)) old.run stand);
+            (items_on s.afterwards (s.before + s.count) items (slice_get splices (suc k)) bytes cs (rest_of v.levels) (before_within (suc k)) old.run stand);
       }
 
 -- ---- what an escape brings is gathered
@@ -229,7 +229,7 @@ more_seam (x ∷ xs) y = more_seam xs y
 
 module _ {K : Type 0} (bytes : List ℕ) (items moves : ℕ) (splices : List Splice) (v : Stored K) (r : Reader) (gathered : AreGathered bytes items moves splices v r) (t m : ℕ) (own asked : List ℕ) (named : Bool) where
   abbrev made : Splice
-  made = record { behind = items + t; before = length bytes; count = length own; moves = moves + m + 1; asked = asked; named = named }
+  made = record { afterwards = items + t; before = length bytes; count = length own; moves = moves + m + 1; asked = asked; named = named }
 
   abbrev made_splices : List Splice
   made_splices = splices ++ made ∷ []
@@ -240,8 +240,8 @@ module _ {K : Type 0} (bytes : List ℕ) (items moves : ℕ) (splices : List Spl
   abbrev opened_level : Stored K
   opened_level = opened named own asked level
 
-  abbrev behind : Reader
-  behind = spliced (length splices + 1) asked r
+  abbrev afterwards : Reader
+  afterwards = spliced (length splices + 1) asked r
 
   pub made_count : length made_splices ≡ length splices + 1
   made_count = length-append splices (made ∷ [])
@@ -264,20 +264,20 @@ module _ {K : Type 0} (bytes : List ℕ) (items moves : ℕ) (splices : List Spl
         (λ none. let wrong : Some made ≡ None = sym is_now ∙ none in cc)
   ]
 
-  module _ (leads : LeadsInText (m + 1) (left_times items v) (reader bytes items moves splices v r gathered) opened_level behind) (text : named ≡ true → words (find asked v.names) ≡ Some (map elements.Byte own)) (look : r.half.reading.due ≡ dues.Look) (charge : charge_of level + (32 + length own) ≤ level.limit)
+  module _ (leads : LeadsInText (m + 1) (left_times items v) (reader bytes items moves splices v r gathered) opened_level afterwards) (text : named ≡ true → words (find asked v.names) ≡ Some (map elements.Byte own)) (look : r.half.reading.pending_act ≡ pending_acts.Look) (charge : charge_of level + (32 + length own) ≤ level.limit)
       (depth : length level.levels < level.deepest) (burst : r.burst + length splices < r.most) (less : length splices < 8) (few : t ≤ 6) (cheap : m ≤ 6) (there : items + t ≤ length (rest_of v.levels)) (fits : length bytes + length own ≤ 4096) where
-    opened_there : Leaves true (moves + m + 1) bytes v r opened_level behind
+    opened_there : Leaves true (moves + m + 1) bytes v r opened_level afterwards
     opened_there =
         let same : moves + (m + 1) ≡ moves + m + 1 = omega arith in
-        subst (λ k. Leaves true k bytes v r opened_level behind) same (leaves_on moves (m + 1) bytes v (left_times items v) opened_level r (reader bytes items moves splices v r gathered) behind gathered.whole leads)
+        subst (λ k. Leaves true k bytes v r opened_level afterwards) same (leaves_on moves (m + 1) bytes v (left_times items v) opened_level r (reader bytes items moves splices v r gathered) afterwards gathered.whole leads)
 
     own_all : AreNext own opened_level.levels
     own_all = subst (λ xs. AreNext xs opened_level.levels) (take_all (length own) own (omega arith)) (own_next (length own) named own asked level)
 
-    ended : Leaves true (moves + m + 1 + 1) (bytes ++ own) v r level behind
+    ended : Leaves true (moves + m + 1 + 1) (bytes ++ own) v r level afterwards
     ended =
-        leaves_on (moves + m + 1) 1 (bytes ++ own) v (left_times (length own) opened_level) level r behind behind (leaves_all (moves + m + 1) own bytes v opened_level r behind opened_there own_all)
-        (ended_leads named own asked level behind look (omega (arith, charge)) (omega (arith, depth)))
+        leaves_on (moves + m + 1) 1 (bytes ++ own) v (left_times (length own) opened_level) level r afterwards afterwards (leaves_all (moves + m + 1) own bytes v opened_level r afterwards opened_there own_all)
+        (ended_leads named own asked level afterwards look (omega (arith, charge)) (omega (arith, depth)))
 
     made_last : IsSpliced (length splices) made None (bytes ++ own) (items + t) v r
     made_last =
@@ -290,10 +290,10 @@ module _ {K : Type 0} (bytes : List ℕ) (items moves : ℕ) (splices : List Spl
           short = omega (arith, short, few);
           within = omega (arith, length-append bytes own);
           there = there;
-          opens = subst (λ bs. Leaves true (moves + m + 1) (take (length bytes) (bytes ++ own)) v r (opened named bs asked level) behind) (sym own_is)
-              (subst (λ bs. Leaves true (moves + m + 1) bs v r opened_level behind) (sym (take-append_seam bytes own)) opened_there);
+          opens = subst (λ bs. Leaves true (moves + m + 1) (take (length bytes) (bytes ++ own)) v r (opened named bs asked level) afterwards) (sym own_is)
+              (subst (λ bs. Leaves true (moves + m + 1) bs v r opened_level afterwards) (sym (take-append_seam bytes own)) opened_there);
           text = λ is. text is ∙ ap (λ bs. Some (map elements.Byte bs)) (sym own_is);
-          ends = subst (λ bs. Leaves true (moves + m + 1 + 1) bs v r level behind) (sym all) ended;
+          ends = subst (λ bs. Leaves true (moves + m + 1 + 1) bs v r level afterwards) (sym all) ended;
           charge = charge;
           depth = depth;
           burst = burst;
@@ -307,7 +307,7 @@ module _ {K : Type 0} (bytes : List ℕ) (items moves : ℕ) (splices : List Spl
     made_each k s is = elim (cases_lt k (length splices)) [
       | inl before ↦
           let old = gathered.each k s (sym (more_left splices made k before) ∙ is) in
-          spliced_kept k s (slice_get splices (suc k)) (slice_get made_splices (suc k)) bytes own items (items + t) v r old (items_next s.behind (s.before + s.count) (suc k) (omega (arith, before)) old.run)
+          spliced_kept k s (slice_get splices (suc k)) (slice_get made_splices (suc k)) bytes own items (items + t) v r old (items_next s.afterwards (s.before + s.count) (suc k) (omega (arith, before)) old.run)
       | inr past ↦
           let inside = slice_get_within made_splices k s is in
           let same : length splices ≡ k = omega (arith, past, inside, made_count) in
@@ -338,24 +338,24 @@ module _ {K : Type 0} (bytes : List ℕ) (items moves : ℕ) (splices : List Spl
           each = made_each;
         }
 
--- an escape that was met in a row
+-- an escape that was taken in of a row
 module _ {K : Type 0} (bytes : List ℕ) (items moves : ℕ) (splices : List Splice) (v : Stored K) (r q : Reader) (gathered : AreGathered bytes items moves splices v r) (is : q ≡ spliced (length splices) (last_asked splices r.half.notes.asked) r)
-    (look : q.half.reading.due ≡ dues.Look) (n t : ℕ) (own : List ℕ) (h : Half) (fs : List Front) (row : fs ≡ drop items (map element_front (rest_of v.levels))) (met : HasMet n fs q.half (record { taken = t; half = h; event = events.Nothing }))
+    (look : q.half.reading.pending_act ≡ pending_acts.Look) (n t : ℕ) (own : List ℕ) (h : Half) (fs : List NextItem) (row : fs ≡ drop items (map element_item (rest_of v.levels))) (taken_in : HasTakenIn n fs q.half (record { taken = t; half = h; event = events.Nothing }))
     (asks : AsksOnly q.half h) (may : (k : ℕ) → k ≤ length (rest_of v.levels) → MaySplice own (left_times k v) (record q { half = h })) (few : n ≤ 6) (less : length splices < 8) (fits : length bytes + length own ≤ 4096) where
   abbrev start : Stored K
   start = left_times items v
 
-  met_there : HasMet n (map element_front (rest_of start.levels)) q.half (record { taken = t; half = h; event = events.Nothing })
-  met_there = subst (λ (xs : List Front). HasMet n xs q.half (record { taken = t; half = h; event = events.Nothing })) (row ∙ row_behind items (map element_front (rest_of v.levels)) v gathered.there refl) met
+  taken_in_there : HasTakenIn n (map element_item (rest_of start.levels)) q.half (record { taken = t; half = h; event = events.Nothing })
+  taken_in_there = subst (λ (xs : List NextItem). HasTakenIn n xs q.half (record { taken = t; half = h; event = events.Nothing })) (row ∙ row_after items (map element_item (rest_of v.levels)) v gathered.there refl) taken_in
 
   pub taken_within : items + t ≤ length (rest_of v.levels)
   taken_within =
-      let within = met_there.within in
+      let within = taken_in_there.within in
       let here = gathered.there in
-      omega (arith, within, here, length-map (rest_of start.levels) element_front, ap length (rest-left_times items v here), length-drop items (rest_of v.levels))
+      omega (arith, within, here, length-map (rest_of start.levels) element_item, ap length (rest-left_times items v here), length-drop items (rest_of v.levels))
 
   pub taken_few : t ≤ 6
-  taken_few = omega (arith, few, taken-le n (map element_front (rest_of start.levels)) q.half (record { taken = t; half = h; event = events.Nothing }) met_there)
+  taken_few = omega (arith, few, taken-le n (map element_item (rest_of start.levels)) q.half (record { taken = t; half = h; event = events.Nothing }) taken_in_there)
 
   at_level : left_times t start ≡ left_times (items + t) v
   at_level = left_times-add items t v
@@ -363,33 +363,33 @@ module _ {K : Type 0} (bytes : List ℕ) (items moves : ℕ) (splices : List Spl
   may_there : MaySplice own (left_times t start) (record q { half = h })
   may_there = subst (λ (w : Stored K). MaySplice own w (record q { half = h })) (sym at_level) (may (items + t) taken_within)
 
-  pub behind_is : expanded (record q { half = h }) ≡ spliced (length splices + 1) h.notes.asked r
-  behind_is =
+  pub after_is : expanded (record q { half = h }) ≡ spliced (length splices + 1) h.notes.asked r
+  after_is =
       let name = h.notes.asked in
       let count : r.burst + length splices + 1 ≡ r.burst + (length splices + 1) = omega arith in
-      expanded_is n own start q t h met_there asks look may_there
+      expanded_is n own start q t h taken_in_there asks look may_there
       ∙ ap (λ (z : Reader). record z { half = record z.half { notes = record z.half.notes { asked = name } }; burst = z.burst + 1 }) is
       ∙ ap (λ (k : ℕ). record r { half = record r.half { notes = record r.half.notes { asked = name } }; burst = k }) count
 
-  pub escape_gathered : AreGathered (bytes ++ own) (items + t) (moves + n + 2) (splices ++ record { behind = items + t; before = length bytes; count = length own; moves = moves + n + 1; asked = h.notes.asked; named = brings_text h.reading.due } ∷ []) v r
+  pub escape_gathered : AreGathered (bytes ++ own) (items + t) (moves + n + 2) (splices ++ record { afterwards = items + t; before = length bytes; count = length own; moves = moves + n + 1; asked = h.notes.asked; named = brings_text h.reading.pending_act } ∷ []) v r
   escape_gathered =
-      let leads : LeadsInText (n + 1) start q (opened_due own (left_times t start) (record q { half = h })) (expanded (record q { half = h })) = escape_leads n own start q t h met_there asks look may_there in
-      let here : LeadsInText (n + 1) start (spliced (length splices) (last_asked splices r.half.notes.asked) r) (opened_due own (left_times (items + t) v) (record q { half = h })) (spliced (length splices + 1) h.notes.asked r) =
-      subst (λ (z : Reader). LeadsInText (n + 1) start z (opened_due own (left_times (items + t) v) (record q { half = h })) (spliced (length splices + 1) h.notes.asked r)) is
-      (subst (λ (z : Reader). LeadsInText (n + 1) start q (opened_due own (left_times (items + t) v) (record q { half = h })) z) behind_is (subst (λ (w : Stored K). LeadsInText (n + 1) start q (opened_due own w (record q { half = h })) (expanded (record q { half = h }))) at_level leads)) in
+      let leads : LeadsInText (n + 1) start q (opened_pending own (left_times t start) (record q { half = h })) (expanded (record q { half = h })) = escape_leads n own start q t h taken_in_there asks look may_there in
+      let here : LeadsInText (n + 1) start (spliced (length splices) (last_asked splices r.half.notes.asked) r) (opened_pending own (left_times (items + t) v) (record q { half = h })) (spliced (length splices + 1) h.notes.asked r) =
+      subst (λ (z : Reader). LeadsInText (n + 1) start z (opened_pending own (left_times (items + t) v) (record q { half = h })) (spliced (length splices + 1) h.notes.asked r)) is
+      (subst (λ (z : Reader). LeadsInText (n + 1) start q (opened_pending own (left_times (items + t) v) (record q { half = h })) z) after_is (subst (λ (w : Stored K). LeadsInText (n + 1) start q (opened_pending own w (record q { half = h })) (expanded (record q { half = h }))) at_level leads)) in
       let room = (may (items + t) taken_within).room in
       let spent = room.burst in
       let names_are = ap (λ (w : Stored K). w.names) (left_times-run (items + t) v taken_within) in
-      let text : brings_text h.reading.due ≡ true → words (find h.notes.asked v.names) ≡ Some (map elements.Byte own) = λ named. ap (λ ns. words (find h.notes.asked ns)) (sym names_are) ∙ (may (items + t) taken_within).splice.text named in
+      let text : brings_text h.reading.pending_act ≡ true → words (find h.notes.asked v.names) ≡ Some (map elements.Byte own) = λ named. ap (λ ns. words (find h.notes.asked ns)) (sym names_are) ∙ (may (items + t) taken_within).splice.text named in
       let burst_is = ap (λ (z : Reader). z.burst) is in
       let most_is = ap (λ (z : Reader). z.most) is in
-      splice_gathered bytes items moves splices v r gathered t n own h.notes.asked (brings_text h.reading.due) here text (sym (ap (λ (z : Reader). z.half.reading.due) is) ∙ look) room.charge room.depth (omega (arith, spent, burst_is, most_is)) less taken_few few taken_within fits
+      splice_gathered bytes items moves splices v r gathered t n own h.notes.asked (brings_text h.reading.pending_act) here text (sym (ap (λ (z : Reader). z.half.reading.pending_act) is) ∙ look) room.charge room.depth (omega (arith, spent, burst_is, most_is)) less taken_few few taken_within fits
 
 -- ---- as the program has it
 
 -- the reader after one more
-pub behind_made : (ss : List Splice) (s : Splice) (name : List ℕ) (r : Reader) → spliced (length ss + 1) s.asked r ≡ spliced (length (ss ++ s ∷ [])) (last_asked (ss ++ s ∷ []) name) r
-behind_made ss s name r = ap₂ (λ (k : ℕ) (n : List ℕ). spliced k n r) (sym (length-append ss (s ∷ []))) (sym (last_asked-more ss s name))
+pub after_made : (ss : List Splice) (s : Splice) (name : List ℕ) (r : Reader) → spliced (length ss + 1) s.asked r ≡ spliced (length (ss ++ s ∷ [])) (last_asked (ss ++ s ∷ []) name) r
+after_made ss s name r = ap₂ (λ (k : ℕ) (n : List ℕ). spliced k n r) (sym (length-append ss (s ∷ []))) (sym (last_asked-more ss s name))
 
 -- nothing yet
 pub nothing_is : {K : Type 0} (v : Stored K) (r : Reader) → AreGathered [] 0 0 [] v r
@@ -405,14 +405,14 @@ nothing_is v r = record {
 }
 
 -- an element that shows a byte is that byte
-pub byte_at : (o : Option Element) (b : ℕ) → option_map element_front o ≡ Some (fronts.Byte b) → o ≡ Some (elements.Byte b)
-byte_at None b is = absurd (let wrong : None ≡ Some (fronts.Byte b) = is in cc)
-byte_at (Some (elements.Byte x)) b is = let shows : Some (fronts.Byte x) ≡ Some (fronts.Byte b) = is in (let same : x ≡ b = cc in ap (λ y. Some (elements.Byte y)) same)
-byte_at (Some (elements.Cell x)) b is = absurd (let wrong : Some (fronts.Cell x) ≡ Some (fronts.Byte b) = is in cc)
-byte_at (Some (elements.LineEnd x)) b is = absurd (let wrong : Some (fronts.LineEnd x) ≡ Some (fronts.Byte b) = is in cc)
+pub byte_at : (o : Option Element) (b : ℕ) → option_map element_item o ≡ Some (next_items.Byte b) → o ≡ Some (elements.Byte b)
+byte_at None b is = absurd (let wrong : None ≡ Some (next_items.Byte b) = is in cc)
+byte_at (Some (elements.Byte x)) b is = let shows : Some (next_items.Byte x) ≡ Some (next_items.Byte b) = is in (let same : x ≡ b = cc in ap (λ y. Some (elements.Byte y)) same)
+byte_at (Some (elements.Cell x)) b is = absurd (let wrong : Some (next_items.Cell x) ≡ Some (next_items.Byte b) = is in cc)
+byte_at (Some (elements.LineEnd x)) b is = absurd (let wrong : Some (next_items.LineEnd x) ≡ Some (next_items.Byte b) = is in cc)
 
 -- a text whose elements show these bytes
-pub all_bytes : (bytes : List ℕ) (text : List Element) → AreBytes bytes (map element_front text) → length bytes ≡ length text → text ≡ map elements.Byte bytes
+pub all_bytes : (bytes : List ℕ) (text : List Element) → AreBytes bytes (map element_item text) → length bytes ≡ length text → text ≡ map elements.Byte bytes
 all_bytes [] [] are same = refl
 all_bytes [] (x ∷ xs) are same = absurd (omega (arith, same))
 all_bytes (b ∷ bs) [] are same = absurd (omega (arith, same))
@@ -422,10 +422,10 @@ all_bytes (b ∷ bs) (x ∷ xs) are same =
     ap₂ (λ (y : Element) (ys : List Element). y ∷ ys) is (all_bytes bs xs (λ n less. are (suc n) (omega (arith, less))) (omega (arith, same)))
 
 -- a row of the level from an item on
-pub row_at : (items n : ℕ) (fs : List Front) (rest : List Element) → fs ≡ drop items (map element_front rest) → slice_get fs n ≡ option_map element_front (slice_get rest (items + n))
-row_at items n fs rest row = ap (λ (xs : List Front). slice_get xs n) row ∙ slice_get-drop items n (map element_front rest) ∙ slice_get-map element_front rest (items + n)
+pub row_at : (items n : ℕ) (fs : List NextItem) (rest : List Element) → fs ≡ drop items (map element_item rest) → slice_get fs n ≡ option_map element_item (slice_get rest (items + n))
+row_at items n fs rest row = ap (λ (xs : List NextItem). slice_get xs n) row ∙ slice_get-drop items n (map element_item rest) ∙ slice_get-map element_item rest (items + n)
 
-module _ {K : Type 0} (g : Gathered) (n : ℕ) (old new : List ℕ) (fs : List Front) (v : Stored K) (row : fs ≡ drop g.items (map element_front (rest_of v.levels))) where
+module _ {K : Type 0} (g : Gathered) (n : ℕ) (old new : List ℕ) (fs : List NextItem) (v : Stored K) (row : fs ≡ drop g.items (map element_item (rest_of v.levels))) where
   -- a run was copied
   pub run_copied : (r q : Reader) → IsGathering (take g.count old) v r q g → take g.count new ≡ take g.count old → AreBytes (take n (drop g.count new)) fs → g.count + n ≤ length new → length new ≤ 4096
       → IsGathering (take (g.count + n) new) v r q (passed n g)
@@ -435,7 +435,7 @@ module _ {K : Type 0} (g : Gathered) (n : ℕ) (old new : List ℕ) (fs : List F
       let long : length cs ≡ n = omega (arith, fits, length-take n (drop g.count new), length-drop g.count new) in
       let count : length bs ≡ g.count = ap length (sym kept) ∙ length-take-le g.count new (omega (arith, fits)) in
       let all : bs ++ cs ≡ take (g.count + n) new = ap (λ xs. xs ++ cs) (sym kept) ∙ take_split g.count n new in
-      let stand : StandBehind g.items cs (rest_of v.levels) = λ j less. byte_at (slice_get (rest_of v.levels) (g.items + j)) (slice_index cs j) (sym (row_at g.items j fs (rest_of v.levels) row) ∙ bytes j less) in
+      let stand : StandAfter g.items cs (rest_of v.levels) = λ j less. byte_at (slice_get (rest_of v.levels) (g.items + j)) (slice_index cs j) (sym (row_at g.items j fs (rest_of v.levels) row) ∙ bytes j less) in
       let run = run_gathered bs g.items g.moves g.splices v r before.gathered cs stand (omega (arith, count, long, fits, most)) in
       record {
         gathered = subst (λ k. AreGathered (take (g.count + n) new) (g.items + k) g.moves g.splices v r) long (subst (λ xs. AreGathered xs (g.items + length cs) g.moves g.splices v r) all run);
@@ -445,7 +445,7 @@ module _ {K : Type 0} (g : Gathered) (n : ℕ) (old new : List ℕ) (fs : List F
   -- it stops there
   pub run_stops : 64 ≤ length new → (g.count + n < length new → EndsRun (slice_get fs n)) → StopsGathering (rest_of v.levels) (g.items + n) (g.count + n)
   run_stops room longest = λ b is other escape. elim (cases_lt (g.count + n) (length new)) [
-    | inl less ↦ absurd (longest less b (row_at g.items n fs (rest_of v.levels) row ∙ ap (option_map element_front) is) other escape)
+    | inl less ↦ absurd (longest less b (row_at g.items n fs (rest_of v.levels) row ∙ ap (option_map element_item) is) other escape)
     | inr past ↦ omega (arith, past, room)
   ]
 
@@ -463,5 +463,5 @@ drop_on (suc m) n [] = drop-nil n ∙ sym (drop-nil (suc m + n))
 drop_on (suc m) n (x ∷ xs) = let same : suc (m + n) ≡ suc m + n = omega arith in drop_on m n xs ∙ ap (λ k. drop k (x ∷ xs)) same
 
 -- what is left of a row of the level after more of it
-pub row_on : (items n more : ℕ) (fs gs : List Front) (rest : List Element) → fs ≡ drop items (map element_front rest) → gs ≡ drop n fs → more ≡ items + n → gs ≡ drop more (map element_front rest)
-row_on items n more fs gs rest row behind is = behind ∙ ap (drop n) row ∙ drop_on items n (map element_front rest) ∙ ap (λ k. drop k (map element_front rest)) (sym is)
+pub row_on : (items n more : ℕ) (fs gs : List NextItem) (rest : List Element) → fs ≡ drop items (map element_item rest) → gs ≡ drop n fs → more ≡ items + n → gs ≡ drop more (map element_item rest)
+row_on items n more fs gs rest row afterwards is = afterwards ∙ ap (drop n) row ∙ drop_on items n (map element_item rest) ∙ ap (λ k. drop k (map element_item rest)) (sym is)

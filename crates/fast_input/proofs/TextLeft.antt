@@ -55,7 +55,7 @@ pub up_to : (taken : ℕ) (next : Option Splice) (bytes : List ℕ) → IfSome n
 up_to taken None bytes before within = within
 up_to taken (Some s) bytes before within = before
 
--- so many of them in front
+-- so many of them at the beginning
 count_taken : (m n : ℕ) (xs : List ℕ) → m ≤ n → n ≤ length xs → length (take (n - m) (drop m xs)) ≡ n - m
 count_taken m n xs less within = omega (arith, less, within, length-take (n - m) (drop m xs), length-drop m xs)
 
@@ -74,8 +74,8 @@ module _ {K : Type 0} (bytes : List ℕ) (items taken : ℕ) (v : Stored K) (r :
     first_within = let few = next_within (take taken bytes) v.levels there in omega (arith, few, within, length-take taken bytes)
 
   module _ (k : ℕ) (s : Splice) (next : Option Splice) (is : IsSpliced k s next bytes items v r) where
-    abbrev behind : Stored K
-    behind = left_times s.behind v
+    abbrev afterwards : Stored K
+    afterwards = left_times s.afterwards v
 
     abbrev reader : Reader
     reader = spliced (k + 1) s.asked r
@@ -85,20 +85,20 @@ module _ {K : Type 0} (bytes : List ℕ) (items taken : ℕ) (v : Stored K) (r :
       abbrev past_end : ℕ
       past_end = taken - (s.before + s.count)
 
-      pub behind_left : Leaves false (s.moves + 1) (take taken bytes) v r (left_times past_end behind) reader
-      behind_left =
+      pub after_left : Leaves false (s.moves + 1) (take taken bytes) v r (left_times past_end afterwards) reader
+      after_left =
           let end = s.before + s.count in
           let count = count_taken end taken bytes (omega (arith, past)) within in
           let some : 0 < length (take past_end (drop end bytes)) = omega (arith, count, past) in
           let same : end + past_end ≡ taken = omega (arith, past) in
-          subst (λ bs. Leaves false (s.moves + 1) bs v r (left_times past_end behind) reader) (take_split end past_end bytes ∙ ap (λ n. take n bytes) same)
-          (subst (λ n. Leaves false (s.moves + 1) (take end bytes ++ take past_end (drop end bytes)) v r (left_times n behind) reader) count
-          (leaves_some (s.moves + 1) (take past_end (drop end bytes)) (take end bytes) v behind r reader some is.ends (run_next s.behind end taken items next bytes v is.run is.there few)))
+          subst (λ bs. Leaves false (s.moves + 1) bs v r (left_times past_end afterwards) reader) (take_split end past_end bytes ∙ ap (λ n. take n bytes) same)
+          (subst (λ n. Leaves false (s.moves + 1) (take end bytes ++ take past_end (drop end bytes)) v r (left_times n afterwards) reader) count
+          (leaves_some (s.moves + 1) (take past_end (drop end bytes)) (take end bytes) v afterwards r reader some is.ends (run_next s.afterwards end taken items next bytes v is.run is.there few)))
 
-      pub behind_within : past_end ≤ length (rest_of behind.levels)
-      behind_within =
+      pub after_within : past_end ≤ length (rest_of afterwards.levels)
+      after_within =
           let end = s.before + s.count in
-          let enough = next_within (take past_end (drop end bytes)) behind.levels (run_next s.behind end taken items next bytes v is.run is.there few) in
+          let enough = next_within (take past_end (drop end bytes)) afterwards.levels (run_next s.afterwards end taken items next bytes v is.run is.there few) in
           omega (arith, enough, count_taken end taken bytes (omega (arith, past)) within)
 
     -- within it
@@ -117,15 +117,15 @@ module _ {K : Type 0} (bytes : List ℕ) (items taken : ℕ) (v : Stored K) (r :
           let ys = drop s.before bytes in
           sym (ap (take part) (sym (take-append-drop s.count ys)) ∙ take-append-le part own (drop s.count ys) (omega (arith, before, begun, own_long)))
 
-      pub within_left : Leaves false s.moves (take taken bytes) v r (left_times part (opened s.named own s.asked behind)) reader
+      pub within_left : Leaves false s.moves (take taken bytes) v r (left_times part (opened s.named own s.asked afterwards)) reader
       within_left =
           let count : length (take part own) ≡ part = ap length part_is ∙ count_taken s.before taken bytes (omega (arith, begun)) within in
           let some : 0 < length (take part own) = omega (arith, count, begun) in
           let same : s.before + part ≡ taken = omega (arith, begun) in
           let all : take s.before bytes ++ take part own ≡ take taken bytes = ap (λ ys. take s.before bytes ++ ys) part_is ∙ take_split s.before part bytes ∙ ap (λ n. take n bytes) same in
-          subst (λ bs. Leaves false s.moves bs v r (left_times part (opened s.named own s.asked behind)) reader) all
-          (subst (λ n. Leaves false s.moves (take s.before bytes ++ take part own) v r (left_times n (opened s.named own s.asked behind)) reader) count
-          (leaves_some s.moves (take part own) (take s.before bytes) v (opened s.named own s.asked behind) r reader some is.opens (own_next part s.named own s.asked behind)))
+          subst (λ bs. Leaves false s.moves bs v r (left_times part (opened s.named own s.asked afterwards)) reader) all
+          (subst (λ n. Leaves false s.moves (take s.before bytes ++ take part own) v r (left_times n (opened s.named own s.asked afterwards)) reader) count
+          (leaves_some s.moves (take part own) (take s.before bytes) v (opened s.named own s.asked afterwards) r reader some is.opens (own_next part s.named own s.asked afterwards)))
 
 -- ---- the splice that was begun last
 

@@ -11,13 +11,13 @@ use Rattle.nr_store.specs.declared.element.Element.{Element}
 use Rattle.nr_store.specs.declared.element.Element.TheVariants as elements
 use Rattle.nr_store.specs.declared.refusal.Refusal as stored
 use Rattle.nr_reading.specs.declared.event.Event.TheVariants as events
-use Rattle.nr_reading.specs.declared.mode.Due.TheVariants as dues
+use Rattle.nr_reading.specs.declared.mode.PendingAct.TheVariants as pending_acts
 use Rattle.nr_input.specs.declared.reader.Reader.{Reader}
 use Rattle.nr_input.specs.declared.refusal.Refusal.{Refusal}
 use Rattle.nr_input.specs.Acting.{Acted, expanded, is_look}
 use Rattle.nr_input.specs.Place.{Coming, Reached}
 use Rattle.fast_input.specs.Gathering.{LeadsInText}
-use Rattle.fast_input.specs.Interpolations.{HasRoom, OpensLevel, brings_text, opened, opened_due}
+use Rattle.fast_input.specs.Interpolations.{HasRoom, OpensLevel, brings_text, opened, opened_pending}
 use Rattle.nr_input.specs.Moving.{situation}
 use Rattle.nr_input.specs.Refusal.{called, acted, acted_by}
 use Rattle.fast_input.specs.Runs.{PaysAll}
@@ -75,13 +75,13 @@ entered_text {K} bytes name w u x charge depth text is ok =
 
 module _ {K : Type 0} (bytes : List ℕ) (v : Stored K) (r : Reader) (splice : OpensLevel bytes v r) (room : HasRoom bytes v r) where
   abbrev named : Bool
-  named = brings_text r.half.reading.due
+  named = brings_text r.half.reading.pending_act
 
   abbrev name : List ℕ
   name = r.half.notes.asked
 
   abbrev there : Stored K
-  there = opened_due bytes v r
+  there = opened_pending bytes v r
 
   fits : charge_of there ≤ there.limit
   fits = let charge = room.charge in omega (arith, charge, charge-opened named bytes name v, limit-opened named bytes name v)
@@ -89,13 +89,13 @@ module _ {K : Type 0} (bytes : List ℕ) (v : Stored K) (r : Reader) (splice : O
   within : length there.levels ≤ there.deepest
   within = let depth = room.depth in omega (arith, depth, depth-opened named bytes name v, deepest-opened named bytes name v)
 
-  does : called there (expanded r) (Ok events.Nothing) ≡ acted r.half.reading.due v r
+  does : called there (expanded r) (Ok events.Nothing) ≡ acted r.half.reading.pending_act v r
   does = sym (ap₂ (λ (x : Result (Unit {0}) Refusal) (a : Acted K). acted_by x a v r) (splice.answers ∙ splicing-fits there r fits within room.burst) splice.acts)
 
   pub opens_quietly : (c : Coming) → Quietly 1 (situation v c r) (situation there c (expanded r))
   opens_quietly c = done_quietly v there c r (expanded r) events.Nothing splice.waits does refl
 
-  looks_not : r.half.reading.due ≡ dues.Look → ⊥
+  looks_not : r.half.reading.pending_act ≡ pending_acts.Look → ⊥
   looks_not look = let wrong : true ≡ false = sym (ap is_look look) ∙ splice.waits in cc
 
   pub opens_pays : (q : Reached) → PaysAll 1 v q r events.Nothing there q (expanded r)
@@ -105,7 +105,7 @@ module _ {K : Type 0} (bytes : List ℕ) (v : Stored K) (r : Reader) (splice : O
 
 -- ---- its end is taken
 
-module _ {K : Type 0} (bytes : List ℕ) (arguments : List (List ℕ)) (charge : ℕ) (shared : Shared) (v : Stored K) (r : Reader) (look : r.half.reading.due ≡ dues.Look) (stored : charge_of v ≤ v.limit) (depth : length v.levels ≤ v.deepest) where
+module _ {K : Type 0} (bytes : List ℕ) (arguments : List (List ℕ)) (charge : ℕ) (shared : Shared) (v : Stored K) (r : Reader) (look : r.half.reading.pending_act ≡ pending_acts.Look) (stored : charge_of v ≤ v.limit) (depth : length v.levels ≤ v.deepest) where
   abbrev level : Stored K
   level = level_of bytes arguments charge shared v
 
@@ -124,7 +124,7 @@ module _ {K : Type 0} (bytes : List ℕ) (arguments : List (List ℕ)) (charge :
       }
 
 -- after all of its bytes
-pub ended_leads : {K : Type 0} (named : Bool) (own asked : List ℕ) (w : Stored K) (q : Reader) → q.half.reading.due ≡ dues.Look → charge_of w ≤ w.limit → length w.levels ≤ w.deepest
+pub ended_leads : {K : Type 0} (named : Bool) (own asked : List ℕ) (w : Stored K) (q : Reader) → q.half.reading.pending_act ≡ pending_acts.Look → charge_of w ≤ w.limit → length w.levels ≤ w.deepest
     → LeadsInText 1 (left_times (length own) (opened named own asked w)) q w q
 ended_leads false own asked w q look stored depth = level_ended own w.arguments (32 + length own) own_text w q look stored depth
 ended_leads true own asked w q look stored depth = level_ended own [] 16 (shared_by asked (map elements.Byte own) w.texts) w q look stored depth

@@ -42,13 +42,13 @@ Brings {K} n (b ∷ bs) v r w q =
 pub record Leaves {K : Type 0} (goes : Bool) (n : ℕ) (bytes : List ℕ) (v : Stored K) (r : Reader)
     (w : Stored K) (q : Reader) : Type 0 where
   pub before : ℕ
-  pub behind : ℕ
+  pub afterwards : ℕ
   pub there : Stored K
   pub reader : Reader
-  pub counted : n ≡ before + behind
+  pub counted : n ≡ before + afterwards
   pub brings : Brings before bytes v r there reader
-  pub leads : LeadsInText behind there reader w q
-  pub stays : goes ≡ false → (behind ≡ 0) × (w ≡ there) × (q ≡ reader)
+  pub leads : LeadsInText afterwards there reader w q
+  pub stays : goes ≡ false → (afterwards ≡ 0) × (w ≡ there) × (q ≡ reader)
 
 -- ---- what was gathered
 
@@ -83,18 +83,18 @@ pub record AreItems (item from : ℕ) (next : Option Splice) (bytes : List ℕ) 
 pub record IsSpliced {K : Type 0} (k : ℕ) (s : Splice) (next : Option Splice) (bytes : List ℕ) (items : ℕ)
     (v : Stored K) (r : Reader) : Type 0 where
   pub few : s.moves < 8 * (k + 1)
-  pub short : s.behind ≤ s.before + 6 * (k + 1)
+  pub short : s.afterwards ≤ s.before + 6 * (k + 1)
   pub within : s.before + s.count ≤ length bytes
-  pub there : s.behind ≤ length (rest_of v.levels)
+  pub there : s.afterwards ≤ length (rest_of v.levels)
   pub opens : Leaves true s.moves (take s.before bytes) v r
-      (opened s.named (own_bytes s bytes) s.asked (left_times s.behind v)) (spliced (k + 1) s.asked r)
+      (opened s.named (own_bytes s bytes) s.asked (left_times s.afterwards v)) (spliced (k + 1) s.asked r)
   pub text : s.named ≡ true → words (find s.asked v.names) ≡ Some (map elements.Byte (own_bytes s bytes))
-  pub ends : Leaves true (s.moves + 1) (take (s.before + s.count) bytes) v r (left_times s.behind v)
+  pub ends : Leaves true (s.moves + 1) (take (s.before + s.count) bytes) v r (left_times s.afterwards v)
       (spliced (k + 1) s.asked r)
-  pub charge : charge_of (left_times s.behind v) + (32 + s.count) ≤ (left_times s.behind v).limit
-  pub depth : length (left_times s.behind v).levels < (left_times s.behind v).deepest
+  pub charge : charge_of (left_times s.afterwards v) + (32 + s.count) ≤ (left_times s.afterwards v).limit
+  pub depth : length (left_times s.afterwards v).levels < (left_times s.afterwards v).deepest
   pub burst : r.burst + k < r.most
-  pub run : AreItems s.behind (s.before + s.count) next bytes items (rest_of v.levels)
+  pub run : AreItems s.afterwards (s.before + s.count) next bytes items (rest_of v.levels)
 
 -- These bytes were gathered of so many items, in so many moves besides those that they are put in, with these spliced.
 pub record AreGathered {K : Type 0} (bytes : List ℕ) (items moves : ℕ) (splices : List Splice) (v : Stored K)
@@ -143,7 +143,7 @@ nothing_gathered = record { items = 0; count = 0; closes = false; ends = false; 
 abbrev pub passed : ℕ → Gathered → Gathered
 passed n g = record g { items = g.items + n; count = g.count + n }
 
--- with so many bytes more that are spliced, whose escape has so many items and was met in so many moves; whether they are this name's text
+-- with so many bytes more that are spliced, whose escape has so many items and was taken in by so many moves; whether they are this name's text
 abbrev pub with_splice : ℕ → ℕ → ℕ → List ℕ → Bool → Gathered → Gathered
 with_splice items moves count asked named g = record g {
   items = g.items + items;
@@ -151,7 +151,7 @@ with_splice items moves count asked named g = record g {
   moves = g.moves + moves + 2;
   splices =
       g.splices ++ record {
-        behind = g.items + items;
+        afterwards = g.items + items;
         before = g.count;
         count = count;
         moves = g.moves + moves + 1;
@@ -160,7 +160,7 @@ with_splice items moves count asked named g = record g {
       } ∷ [];
 }
 
--- As many were gathered as could be: after the items that were met the level shows no byte but a newline or a `\`, or 64 bytes were.
+-- As many were gathered as could be: after the items that were taken in the level shows no byte but a newline or a `\`, or 64 bytes were.
 abbrev pub StopsGathering : List Element → ℕ → ℕ → Type 0
 StopsGathering rest items count =
     (b : ℕ) → slice_get rest items ≡ Some (elements.Byte b) → (b ≡ code "\n" → ⊥)

@@ -5,17 +5,17 @@ use Rattle.nr_store.specs.Store.{Stored, charge_of, entered, reading_bytes, word
 use Rattle.nr_store.specs.declared.element.Element.TheVariants as elements
 use Rattle.nr_reading.specs.declared.ask.Sign.{Sign}
 use Rattle.nr_reading.specs.declared.ask.Sign.TheVariants as signs
-use Rattle.nr_reading.specs.declared.mode.Due.{Due}
-use Rattle.nr_reading.specs.declared.mode.Due.TheVariants as dues
+use Rattle.nr_reading.specs.declared.mode.PendingAct.{PendingAct}
+use Rattle.nr_reading.specs.declared.mode.PendingAct.TheVariants as pending_acts
 use Rattle.nr_input.specs.declared.reader.Reader.{Reader}
 use Rattle.nr_input.specs.Acting.{act, is_look, splicing, splicing_bytes}
 use Rattle.nr_input.specs.Refusal.{answer, splicing_answer}
 
--- what is due is to splice these bytes
+-- what is pending is to splice these bytes
 pub record IsSplice {K : Type 0} (bytes : List ℕ) (v : Stored K) (r : Reader) : Type 0 where
-  pub waits : is_look r.half.reading.due ≡ false
-  pub acts : act r.half.reading.due v r ≡ splicing_bytes bytes v r
-  pub answers : answer r.half.reading.due v r ≡ splicing_answer true (reading_bytes bytes v) r
+  pub waits : is_look r.half.reading.pending_act ≡ false
+  pub acts : act r.half.reading.pending_act v r ≡ splicing_bytes bytes v r
+  pub answers : answer r.half.reading.pending_act v r ≡ splicing_answer true (reading_bytes bytes v) r
 
 -- the sign by which a register's step is added, or taken away
 abbrev pub stepping : Bool → Sign
@@ -35,21 +35,21 @@ abbrev pub opened : {K : Type 0} → Bool → List ℕ → List ℕ → Stored K
 opened false bytes name v = reading_bytes bytes v
 opened true bytes name v = entered name (Some (map elements.Byte bytes)) None v
 
--- whether what is due is to splice the text of the name that was asked for
-abbrev pub brings_text : Due → Bool
-brings_text dues.Splice = true
+-- whether what is pending is to splice the text of the name that was asked for
+abbrev pub brings_text : PendingAct → Bool
+brings_text pending_acts.Splice = true
 brings_text d = false
 
--- the same with a level of the bytes that are due
-abbrev pub opened_due : {K : Type 0} → List ℕ → Stored K → Reader → Stored K
-opened_due bytes v r = opened (brings_text r.half.reading.due) bytes r.half.notes.asked v
+-- the same with a level of the bytes that are pending
+abbrev pub opened_pending : {K : Type 0} → List ℕ → Stored K → Reader → Stored K
+opened_pending bytes v r = opened (brings_text r.half.reading.pending_act) bytes r.half.notes.asked v
 
--- what is due is to open a level of these bytes
+-- what is pending is to open a level of these bytes
 pub record OpensLevel {K : Type 0} (bytes : List ℕ) (v : Stored K) (r : Reader) : Type 0 where
-  pub waits : is_look r.half.reading.due ≡ false
-  pub acts : act r.half.reading.due v r ≡ splicing true (opened_due bytes v r) r
-  pub answers : answer r.half.reading.due v r ≡ splicing_answer true (opened_due bytes v r) r
-  pub text : brings_text r.half.reading.due ≡ true → words (find r.half.notes.asked v.names)
+  pub waits : is_look r.half.reading.pending_act ≡ false
+  pub acts : act r.half.reading.pending_act v r ≡ splicing true (opened_pending bytes v r) r
+  pub answers : answer r.half.reading.pending_act v r ≡ splicing_answer true (opened_pending bytes v r) r
+  pub text : brings_text r.half.reading.pending_act ≡ true → words (find r.half.notes.asked v.names)
       ≡ Some (map elements.Byte bytes)
 
 -- these bytes are to be spliced, and a level of them may be opened

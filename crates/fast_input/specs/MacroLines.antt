@@ -5,7 +5,7 @@ use Rattle.nr_units.specs.Source.{Supply}
 use Rattle.nr_store.specs.Store.{Stored}
 use Rattle.nr_reading.specs.declared.event.Event.TheVariants as events
 use Rattle.nr_reading.specs.declared.half.Half.{Half}
-use Rattle.nr_reading.specs.declared.mode.Due.TheVariants as dues
+use Rattle.nr_reading.specs.declared.mode.PendingAct.TheVariants as pending_acts
 use Rattle.nr_reading.specs.declared.mode.Mode.{Mode}
 use Rattle.nr_reading.specs.declared.mode.Mode.TheVariants as modes
 use Rattle.nr_reading.specs.Half.{reads_next}
@@ -34,13 +34,13 @@ blanks_left m = 0
 -- After the byte that an argument begins with, or a quote before it, or after the newline that ends the line.
 abbrev pub begun_with : ℕ → Half → Half
 begun_with b h =
-    if b == code "\n" then record h { reading = record h.reading { mode = modes.Start; due = dues.Call } }
+    if b == code "\n" then record h { reading = record h.reading { mode = modes.Start; pending_act = pending_acts.Call } }
     else (if b == code "\"" then record h { reading = record h.reading { mode = modes.Quoted } }
-    else record h { reading = record h.reading { mode = modes.Word; due = dues.Put b } })
+    else record h { reading = record h.reading { mode = modes.Word; pending_act = pending_acts.Put b } })
 
 -- where an argument has ended
 abbrev pub argument_ended : Half → Half
-argument_ended h = record h { reading = record h.reading { mode = modes.MacroGap; due = dues.EndArgument } }
+argument_ended h = record h { reading = record h.reading { mode = modes.MacroGap; pending_act = pending_acts.EndArgument } }
 
 -- after the first n of these bytes
 abbrev pub reached_after : ℕ → List ℕ → Reached → Reached

@@ -8,14 +8,14 @@ use Rattle.nr_store.specs.declared.element.Element.TheVariants as elements
 use Rattle.nr_reading.specs.declared.event.Event.{Event}
 use Rattle.nr_reading.specs.declared.event.Event.TheVariants as events
 use Rattle.nr_reading.specs.declared.half.Half.{Half}
-use Rattle.nr_reading.specs.declared.mode.Due.TheVariants as dues
+use Rattle.nr_reading.specs.declared.mode.PendingAct.TheVariants as pending_acts
 use Rattle.nr_reading.specs.Many.InArgument.{ending_of, IsPlain}
 use Rattle.nr_reading.specs.Many.InText.{is_in_text}
 use Rattle.nr_reading.specs.Weights.{cost_of_text, cost_of_event, is_lead}
 use Rattle.nr_input.specs.declared.reader.Reader.{Reader}
 use Rattle.fast_input.specs.declared.target.Target.{Target}
-use Rattle.nr_input.specs.declared.told.Told.{Told}
-use Rattle.nr_input.specs.declared.told.Told.TheVariants as tells
+use Rattle.nr_input.specs.declared.emitted.Emitted.{Emitted}
+use Rattle.nr_input.specs.declared.emitted.Emitted.TheVariants as tells
 use Rattle.nr_input.specs.Place.{Coming, Reached}
 use Rattle.nr_input.specs.Moving.{Situation, Stands, move, Goes}
 use Rattle.fast_input.specs.Target.{is_read_for, with_more}
@@ -26,17 +26,17 @@ abbrev pub moves : {K : Type 0} → ℕ → Situation K → Situation K
 moves zero s = s
 moves (suc n) s = (move (moves n s)).situation
 
--- what the last of them told
-abbrev pub told_last : {K : Type 0} → ℕ → Situation K → Told K
-told_last zero s = tells.Event events.Nothing
-told_last (suc n) s = (move (moves n s)).told
+-- what the last of them emitted
+abbrev pub emitted_last : {K : Type 0} → ℕ → Situation K → Emitted K
+emitted_last zero s = tells.Event events.Nothing
+emitted_last (suc n) s = (move (moves n s)).emitted
 
--- n moves were made, all but the last told nothing and the last this, and the program stands where they lead
+-- n moves were made, all but the last emitted nothing and the last this, and the program stands where they lead
 pub record HasRead {K : Type 0} (n : ℕ) (s : Situation K) (e : Event) (v : Stored K) (r : Reader)
     (p : Reached) (supply : Option Supply) : Type 0 where
   pub goes : (k : ℕ) → k < n → Goes (moves k s)
-  pub quiet : (k : ℕ) → k < n → told_last k s ≡ tells.Event events.Nothing
-  pub tells : told_last n s ≡ tells.Event e
+  pub quiet : (k : ℕ) → k < n → emitted_last k s ≡ tells.Event events.Nothing
+  pub tells : emitted_last n s ≡ tells.Event e
   pub stands : Stands (moves n s) v r p supply
 
 -- n moves were made: they are paid out of what may still come, and each byte that they took pays this much or more
@@ -72,41 +72,41 @@ pub record IsLeft {K : Type 0} (b : ℕ) (h : Half) (v : Stored K) : Type 0 wher
   pub reads : is_read_for target h ≡ true
   pub stops : IsPlain (ending_of h.reading.mode) b → v.limit < charge_of (with_more target (b ∷ []) v)
 
--- Where the source has bytes at hand and nothing was due, one move was made at least.
+-- Where the source has bytes at hand and nothing was pending, one move was made at least.
 abbrev pub ReadsSome : List ℕ → ℕ → Reached → Reader → Type 0
-ReadsSome bs n p r = 0 < length bs → p.taken + 1 < 2 ^ 40 → r.half.reading.due ≡ dues.Look → 0 < n
+ReadsSome bs n p r = 0 < length bs → p.taken + 1 < 2 ^ 40 → r.half.reading.pending_act ≡ pending_acts.Look → 0 < n
 
--- Of the bytes that the source has at hand as many were read in n moves as can be: one move at least where nothing was due.
--- Fewer than 65,536 moves of which none told anything and after which nothing is due took all, up to one that is left; no byte
+-- Of the bytes that the source has at hand as many were read in n moves as can be: one move at least where nothing was pending.
+-- Fewer than 65,536 moves of which none emitted anything and after which nothing is pending took all, up to one that is left; no byte
 -- is the 2^40th.
 pub record IsLongest {K : Type 0} (bs : List ℕ) (n : ℕ) (p : Reached) (r : Reader) (e : Event) (v' : Stored K)
     (p' : Reached) (r' : Reader) : Type 0 where
   pub some : ReadsSome bs n p r
-  pub all : n < 65536 → e ≡ events.Nothing → r'.half.reading.due ≡ dues.Look → p'.taken + 1 < 2 ^ 40
+  pub all : n < 65536 → e ≡ events.Nothing → r'.half.reading.pending_act ≡ pending_acts.Look → p'.taken + 1 < 2 ^ 40
       → p'.taken < p.taken + length bs
       → IsLeft (slice_index bs (p'.taken - p.taken)) r.half v'
 
--- Fewer than 512 moves of which none told anything and after which nothing is due left no byte of the newest level in front but one
+-- Fewer than 512 moves of which none emitted anything and after which nothing is pending left no next byte of the newest level but one
 -- that is left.
 abbrev pub StopsInLevel : {K : Type 0} → ℕ → Event → Stored K → Reader → Type 0
 StopsInLevel n e v r =
-    n < 512 → e ≡ events.Nothing → r.half.reading.due ≡ dues.Look → (b : ℕ)
+    n < 512 → e ≡ events.Nothing → r.half.reading.pending_act ≡ pending_acts.Look → (b : ℕ)
     → slice_get (rest_of v.levels) 0 ≡ Some (elements.Byte b) → IsLeft b r.half v
 
--- Of the newest level as many bytes were read in n moves as can be: one move at least where a byte was in front and nothing was due,
+-- Of the newest level as many bytes were read in n moves as can be: one move at least where a byte came next and nothing was pending,
 -- and none after which they go on.
 pub record IsLongestInLevel {K : Type 0} (n : ℕ) (v : Stored K) (r : Reader) (e : Event) (v' : Stored K)
     (r' : Reader) : Type 0 where
   pub some : (b : ℕ) → slice_get (rest_of v.levels) 0 ≡ Some (elements.Byte b)
-      → r.half.reading.due ≡ dues.Look → 0 < n
+      → r.half.reading.pending_act ≡ pending_acts.Look → 0 < n
   pub all : StopsInLevel n e v' r'
 
--- Up to text: one move at least was made where a byte of the newest level was in front and nothing was due; and where no text line
--- has begun, no byte is left in front as IsLongestInLevel says.
+-- Up to text: one move at least was made where a byte of the newest level came next and nothing was pending; and where no text line
+-- has begun, no next byte is left as IsLongestInLevel says.
 pub record IsLongestUpToText {K : Type 0} (n : ℕ) (v : Stored K) (r : Reader) (e : Event) (v' : Stored K)
     (r' : Reader) : Type 0 where
   pub some : (b : ℕ) → slice_get (rest_of v.levels) 0 ≡ Some (elements.Byte b)
-      → r.half.reading.due ≡ dues.Look → 0 < n
+      → r.half.reading.pending_act ≡ pending_acts.Look → 0 < n
   pub all : is_in_text r'.half ≡ false → StopsInLevel n e v' r'
 
 -- ---- bytes that the source has at hand

@@ -3,8 +3,8 @@ use Rattle.std.specs.Prelude.{ℕ, Bool, List, map, Option, None, Some, if◌the
 use Rattle.nr_store.specs.Store.{Stored, added, gathering_all}
 use Rattle.nr_store.specs.declared.element.Element.TheVariants as elements
 use Rattle.nr_reading.specs.declared.half.Half.{Half}
-use Rattle.nr_reading.specs.declared.mode.Due.{Due}
-use Rattle.nr_reading.specs.declared.mode.Due.TheVariants as dues
+use Rattle.nr_reading.specs.declared.mode.PendingAct.{PendingAct}
+use Rattle.nr_reading.specs.declared.mode.PendingAct.TheVariants as pending_acts
 use Rattle.nr_reading.specs.Many.InArgument.{is_in_argument}
 use Rattle.nr_reading.specs.Many.InDefinition.{is_in_definition}
 use Rattle.fast_input.specs.declared.target.Target.{Target}
@@ -19,10 +19,10 @@ is_read_for Text h = is_in_definition h
 abbrev pub target_of : Half → Option Target
 target_of h = if is_in_argument h then Some Argument else (if is_in_definition h then Some Text else None)
 
--- what is due where a byte is to be added to it
-abbrev pub due_for : Target → ℕ → Due
-due_for Argument b = dues.Put b
-due_for Text b = dues.Add b
+-- what is pending where a byte is to be added to it
+abbrev pub pending_for : Target → ℕ → PendingAct
+pending_for Argument b = pending_acts.Put b
+pending_for Text b = pending_acts.Add b
 
 -- with these bytes more in it
 abbrev pub with_more : {K : Type 0} → Target → List ℕ → Stored K → Stored K

@@ -26,7 +26,7 @@ const CHUNK: usize = 256;
 // Adds a prefix of these bytes, as far as they find room. Answers how many.
 #[inline(always)]
 fn add_plain<K: Copy>(target: Target, store: &mut Store<K>, bytes: &[u8]) -> usize
-    ensures front { result ≤ length bytes.now }
+    ensures prefix { result ≤ length bytes.now }
     ensures added { store.new ≡ with_more target (take result bytes.now) store.old }
     ensures afforded { charge_of store.new ≤ store.new.limit }
     ensures longest { result < length bytes.now
@@ -40,13 +40,13 @@ fn add_plain<K: Copy>(target: Target, store: &mut Store<K>, bytes: &[u8]) -> usi
 
 /// Adds a prefix of these bytes, each of which stands for itself, as far as they find room. Answers how many.
 #[inline(always)]
-pub(crate) fn add_front<K: Copy>(
+pub(crate) fn add_prefix<K: Copy>(
     target: Target,
     half: &Half,
     store: &mut Store<K>,
     bytes: &[u8],
 ) -> usize
-    ensures front { result ≤ length bytes.now }
+    ensures prefix { result ≤ length bytes.now }
     ensures few { result ≤ 32768 }
     ensures plain { All (IsPlain (ending_of half.now.reading.mode)) (take result bytes.now) }
     ensures added { store.new ≡ with_more target (take result bytes.now) store.old }
@@ -81,11 +81,11 @@ pub(crate) fn is_plain(ending: u8, byte: u8) -> bool
     byte != ending && byte != b'\n' && byte != b'\\'
 }
 
-// The bytes in front of these elements that stand for themselves are put into the chunk, as many as it holds. Answers how many.
+// The first bytes of these elements that stand for themselves are put into the chunk, as many as it holds. Answers how many.
 #[inline(always)]
 fn copy_plain(elements: &[Element], ending: u8, chunk: &mut [u8]) -> usize
     ensures holds { result ≤ length chunk.old }
-    ensures front { result ≤ length elements.now }
+    ensures prefix { result ≤ length elements.now }
     ensures bytes { map variants.Byte (take result chunk.new) ≡ take result elements.now }
     ensures plain { All (IsPlain ending) (take result chunk.new) }
     ensures longest { result < length chunk.old → result < length elements.now → (byte : ℕ)
@@ -108,7 +108,7 @@ fn copy_plain(elements: &[Element], ending: u8, chunk: &mut [u8]) -> usize
 #[inline(always)]
 fn copy_plain_bytes(bytes: &[u8], ending: u8, chunk: &mut [u8]) -> usize
     ensures holds { result ≤ length chunk.old }
-    ensures front { result ≤ length bytes.now }
+    ensures prefix { result ≤ length bytes.now }
     ensures bytes { take result chunk.new ≡ take result bytes.now }
     ensures plain { All (IsPlain ending) (take result chunk.new) }
     ensures longest { result < length chunk.old → result < length bytes.now
@@ -125,12 +125,12 @@ fn copy_plain_bytes(bytes: &[u8], ending: u8, chunk: &mut [u8]) -> usize
     most
 }
 
-// The bytes that the newest level has in front and that stand for themselves are put into the chunk, as many as it holds. Answers how
+// The bytes that the newest level begins with and that stand for themselves are put into the chunk, as many as it holds. Answers how
 // many.
 #[inline(always)]
 fn copy_level<K: Copy>(half: &Half, store: &Store<K>, chunk: &mut [u8]) -> usize
     ensures holds { result ≤ length chunk.old }
-    ensures front { result ≤ length (rest_of store.now.levels) }
+    ensures prefix { result ≤ length (rest_of store.now.levels) }
     ensures bytes { map variants.Byte (take result chunk.new) ≡ take result (rest_of store.now.levels) }
     ensures plain { All (IsPlain (ending_of half.now.reading.mode)) (take result chunk.new) }
     ensures longest { result < length chunk.old → (byte : ℕ) → slice_get (rest_of store.now.levels) result
@@ -143,9 +143,9 @@ fn copy_level<K: Copy>(half: &Half, store: &Store<K>, chunk: &mut [u8]) -> usize
     }
 }
 
-/// The bytes that the newest level has in front and that stand for themselves are added, as far as they find room. Answers how many.
+/// The bytes that the newest level begins with and that stand for themselves are added, as far as they find room. Answers how many.
 #[inline(always)]
-pub(crate) fn add_level_front<K: Copy>(
+pub(crate) fn add_level_prefix<K: Copy>(
     target: Target,
     reader: &Reader,
     store: &mut Store<K>,

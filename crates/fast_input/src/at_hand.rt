@@ -17,7 +17,7 @@ pub fn window<'s, K: Copy, R: Source>(place: &Place, store: &Store<K>, source: &
     ensures all { is_unseen place.now.ahead ≡ true → store.now.levels ≡ []
         → result.now ≡ take (2 ^ 40 - 1 - place.now.taken) (R.at_hand source.now) }
     ensures room { place.now.taken + length result.now < 2 ^ 40 }
-    ensures front { take (length result.now) (R.at_hand source.now) ≡ result.now }
+    ensures prefix { take (length result.now) (R.at_hand source.now) ≡ result.now }
     ensures next { 0 < length result.now → (c : Coming) → HoldsComing c place.now (R.supply source.now)
         → ComeNext result.now c }
     ensures unseen { 0 < length result.now → is_unseen place.now.ahead ≡ true }

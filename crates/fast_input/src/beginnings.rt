@@ -11,21 +11,21 @@ ghost use Rattle.nr_input.specs.Moving.{situation};
 ghost use Rattle.nr_input.specs.Refusal.{called, acted};
 ghost use Rattle.fast_input.specs.Runs.{HasRead, PaysAll};
 
-use crate::adding::add_front;
+use crate::adding::add_prefix;
 use crate::rows::ByteRow;
 use crate::target::Target;
 use nr_input::Reader;
-use nr_reading::{Due, Event, Run};
+use nr_reading::{Event, PendingAct, Run};
 use nr_store::Store;
 
-// A string's text that is not a copy of the old one begins, or the first byte of an argument is put, where that is due and
+// A string's text that is not a copy of the old one begins, or the first byte of an argument is put, where that is pending and
 // so many bytes may be stored after it twice. Tells whether that was done.
 #[inline(always)]
 fn begin_target<K: Copy>(reader: &mut Reader, len: usize, store: &mut Store<K>) -> bool
     requires few { len ≤ 64 }
     ensures done { result ≡ true → called store.new reader.new (Ok events.Nothing)
-        ≡ acted reader.old.half.reading.due store.old reader.old }
-    ensures begins { result ≡ true → begins_target reader.old.half.reading.due ≡ true }
+        ≡ acted reader.old.half.reading.pending_act store.old reader.old }
+    ensures begins { result ≡ true → begins_target reader.old.half.reading.pending_act ≡ true }
     ensures empty { result ≡ true → reader.old.half.notes.defining.appends ≡ false }
     ensures room { result ≡ true → charge_of store.old + (80 + 2 * len) ≤ store.old.limit }
     ensures reader { result ≡ false → reader.new ≡ reader.old }
@@ -34,18 +34,18 @@ fn begin_target<K: Copy>(reader: &mut Reader, len: usize, store: &mut Store<K>) 
     if reader.half.notes.defining.appends || !store.admits(80 + 2 * len) {
         return false;
     }
-    let begun = match reader.half.reading.due {
-        Due::Begin => reader.begin(store),
-        Due::Put(byte) => reader.put(byte, store),
+    let begun = match reader.half.reading.pending_act {
+        PendingAct::Begin => reader.begin(store),
+        PendingAct::Put(byte) => reader.put(byte, store),
         _ => return false,
     };
     begun.is_ok()
 }
 
-/// Bytes are met as those of a level that brings them; where an argument or a string's text begins with them they are added to it.
+/// Bytes are taken in as those of a level that brings them; where an argument or a string's text begins with them they are added to it.
 /// Answers how many, and in how many moves.
 #[inline(always)]
-pub(crate) fn meet_bytes<K: Copy>(reader: &mut Reader, bytes: &[u8], store: &mut Store<K>) -> Run
+pub(crate) fn take_in_bytes<K: Copy>(reader: &mut Reader, bytes: &[u8], store: &mut Store<K>) -> Run
     requires few { length bytes.now ≤ 64 }
     requires room { charge_of store.old + (32 + 2 * length bytes.now) ≤ store.old.limit }
     ensures read { (c : Coming) (p : Reached) (supply : Option Supply) → HoldsComing c p supply →
@@ -61,7 +61,7 @@ pub(crate) fn meet_bytes<K: Copy>(reader: &mut Reader, bytes: &[u8], store: &mut
     ensures room { charge_of store.new + (32 + length bytes.now) ≤ store.new.limit }
     ensures limits { limits_of store.new reader.new ≡ limits_of store.old reader.old }
 {
-    let run = reader.half.meet_run(&ByteRow(bytes));
+    let run = reader.half.take_in_run(&ByteRow(bytes));
     if !matches!(run.event, Event::Nothing) || !begin_target(reader, bytes.len(), store) {
         return run;
     }
@@ -72,7 +72,7 @@ pub(crate) fn meet_bytes<K: Copy>(reader: &mut Reader, bytes: &[u8], store: &mut
             event: Event::Nothing,
         };
     };
-    let added = add_front(target, &reader.half, store, &bytes[run.taken..]);
+    let added = add_prefix(target, &reader.half, store, &bytes[run.taken..]);
     Run {
         taken: run.taken + added,
         moves: run.moves + 1 + 2 * added,

@@ -17,7 +17,7 @@ ghost use Rattle.fast_input.specs.Target.{with_more};
 use crate::adding::is_plain;
 use crate::at_hand::window;
 use nr_input::{Place, Reader};
-use nr_reading::{Defining, Due, Escape, Event, Half, Mode, Run};
+use nr_reading::{Defining, Escape, Event, Half, Mode, PendingAct, Run};
 use nr_store::Store;
 use nr_units::source::Source;
 
@@ -42,9 +42,13 @@ fn is_in_body(half: &Half) -> bool
     ensures { result ≡ is_in_body half.now }
 {
     let keeps = half.notes.defining.keeps;
-    match (half.reading.mode, half.reading.escape, half.reading.due) {
-        (Mode::Body, Escape::Plain, Due::Look) => keeps && half.asks.is_empty(),
-        (Mode::BodyStart(held), Escape::Plain, Due::Look) => {
+    match (
+        half.reading.mode,
+        half.reading.escape,
+        half.reading.pending_act,
+    ) {
+        (Mode::Body, Escape::Plain, PendingAct::Look) => keeps && half.asks.is_empty(),
+        (Mode::BodyStart(held), Escape::Plain, PendingAct::Look) => {
             held == 0 && (keeps && half.asks.is_empty())
         }
         _ => false,
@@ -54,7 +58,7 @@ fn is_in_body(half: &Half) -> bool
 /// How many bytes there are before the first `\` or newline.
 #[inline(always)]
 pub(crate) fn text_bytes(bytes: &[u8]) -> usize
-    ensures front { result ≤ length bytes.now }
+    ensures prefix { result ≤ length bytes.now }
     ensures plain { All (IsPlain (code "\n")) (take result bytes.now) }
 {
     for place in 0..bytes.len() {

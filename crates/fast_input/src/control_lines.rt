@@ -1,9 +1,9 @@
 //! Control lines of the source: many moves at once.
 ghost use Rattle.std.specs.Prelude.{◌≡◌, ◌≢◌, ◌^◌, ◌<◌, ◌≤◌, [], length, map, nat_lt, true, false, None, IfSome};
 ghost use Rattle.nr_reading.specs.declared.event.Event.TheVariants as events;
-ghost use Rattle.nr_reading.specs.declared.front.Front.TheVariants as variants;
+ghost use Rattle.nr_reading.specs.declared.next_item.NextItem.TheVariants as variants;
 ghost use Rattle.nr_reading.specs.declared.mode.Mode.TheVariants as modes;
-ghost use Rattle.nr_reading.specs.Many.Runs.{HasMet, spot};
+ghost use Rattle.nr_reading.specs.Many.Runs.{HasTakenIn, spot};
 ghost use Rattle.nr_input.specs.Place.{Coming, HoldsComing, has_failed, is_unseen};
 ghost use Rattle.nr_input.specs.Limits.{limits_of};
 ghost use Rattle.nr_input.specs.Moving.{situation};
@@ -15,28 +15,28 @@ use crate::macro_lines::read_macro_line;
 use crate::rows::ByteRow;
 use crate::runs::{read_run, read_source};
 use nr_input::{Place, Reader};
-use nr_reading::{Due, Event, Half, Mode, Run};
+use nr_reading::{Event, Half, Mode, PendingAct, Run};
 use nr_store::Store;
 use nr_units::source::Source;
 
-// What comes after the name of a control line, where nothing was told of it: the line of a request, or nothing.
+// What comes after the name of a control line, where nothing was emitted of it: the line of a request, or nothing.
 #[inline(always)]
-fn meet_after_name(half: &mut Half, told: Event, bytes: &[u8]) -> Run
-    ensures met { told ≡ events.Nothing
-        → HasMet result.moves (map variants.Byte bytes.now) half.old (spot result half.new) }
+fn take_in_after_name(half: &mut Half, emitted: Event, bytes: &[u8]) -> Run
+    ensures taken_in { emitted ≡ events.Nothing
+        → HasTakenIn result.moves (map variants.Byte bytes.now) half.old (spot result half.new) }
     ensures few { result.moves ≤ 32769 }
     ensures within { result.taken ≤ length bytes.now }
-    ensures left { told ≢ events.Nothing → half.new ≡ half.old }
-    ensures none { told ≢ events.Nothing → result ≡ record { taken = 0; moves = 0; event = told } }
+    ensures left { emitted ≢ events.Nothing → half.new ≡ half.old }
+    ensures none { emitted ≢ events.Nothing → result ≡ record { taken = 0; moves = 0; event = emitted } }
 {
-    if !matches!(told, Event::Nothing) {
+    if !matches!(emitted, Event::Nothing) {
         return Run {
             taken: 0,
             moves: 0,
-            event: told,
+            event: emitted,
         };
     }
-    half.meet_request_line(bytes)
+    half.take_in_request_line(bytes)
 }
 
 // The control line that the source has at hand, where nothing else comes first: its name is looked up, and if it calls a request
@@ -66,15 +66,15 @@ fn read_named_line<K: Copy, R: Source>(
 {
     let bytes = window(place, store, source);
     let row = ByteRow(bytes);
-    if !matches!(reader.half.reading.due, Due::Look) {
+    if !matches!(reader.half.reading.pending_act, PendingAct::Look) {
         return None;
     }
-    let Some(name) = reader.half.meet_name(&row) else {
+    let Some(name) = reader.half.take_in_name(&row) else {
         return None;
     };
     reader.burst = 0;
-    let told = reader.seek(store);
-    let line = meet_after_name(&mut reader.half, told, &bytes[name.taken..]);
+    let emitted = reader.seek(store);
+    let line = take_in_after_name(&mut reader.half, emitted, &bytes[name.taken..]);
     let taken = name.taken + line.taken;
     place.pass_run(bytes[taken - 1], taken);
     source.skip(taken);

@@ -9,7 +9,7 @@ ghost use Rattle.fast_input.specs.Runs.{HasRead, PaysAll};
 use crate::at_hand::window;
 use crate::body_lines::text_bytes;
 use nr_input::{Place, Reader};
-use nr_reading::{Due, Escape, Event, Half, Mode, Run};
+use nr_reading::{Escape, Event, Half, Mode, PendingAct, Run};
 use nr_store::Store;
 use nr_units::source::Source;
 
@@ -21,8 +21,12 @@ const LONGEST: usize = 16_000;
 fn is_dropping(half: &Half) -> bool
     ensures { result ≡ is_dropping half.now }
 {
-    match (half.reading.mode, half.reading.escape, half.reading.due) {
-        (Mode::Drop, Escape::Plain, Due::Look) => half.asks.is_empty(),
+    match (
+        half.reading.mode,
+        half.reading.escape,
+        half.reading.pending_act,
+    ) {
+        (Mode::Drop, Escape::Plain, PendingAct::Look) => half.asks.is_empty(),
         _ => false,
     }
 }

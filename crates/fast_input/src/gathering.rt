@@ -7,13 +7,13 @@ ghost use Rattle.nr_store.specs.Windows.{rest_of, left_times};
 ghost use Rattle.nr_store.specs.declared.element.Element.TheVariants as elements;
 ghost use Rattle.nr_store.specs.declared.shown.Shown.TheVariants as shows;
 ghost use Rattle.nr_reading.specs.declared.event.Event.TheVariants as events;
-ghost use Rattle.nr_reading.specs.declared.front.Front.TheVariants as variants;
+ghost use Rattle.nr_reading.specs.declared.next_item.NextItem.TheVariants as variants;
 ghost use Rattle.nr_reading.specs.Many.Braces.{is_byte};
 ghost use Rattle.nr_reading.specs.Many.Interpolations.{AsksOnly};
 ghost use Rattle.nr_reading.specs.Many.InText.{is_in_text};
-ghost use Rattle.nr_reading.specs.Many.Runs.{HasMet};
+ghost use Rattle.nr_reading.specs.Many.Runs.{HasTakenIn};
 ghost use Rattle.nr_input.specs.declared.reader.Reader.{Reader as ReaderValue};
-ghost use Rattle.nr_input.specs.Place.{element_front};
+ghost use Rattle.nr_input.specs.Place.{element_item};
 ghost use Rattle.fast_input.specs.Gathering.{AreGathered, GathersMost, IsGathered, IsGathering, Leaves, StopsGathering, brace_items, last_asked, nothing_gathered, own_bytes, passed, spliced, with_splice};
 ghost use Rattle.fast_input.specs.Interpolations.{MaySplice, opened};
 ghost use Rattle.fast_input.specs.Rows.{AreBytes, EndsRun};
@@ -23,7 +23,7 @@ use crate::level_rows::Tail;
 use crate::rows::{ByteRow, ElementRow, copy_run};
 use crate::splices::{MOST, Splice, Splices};
 use nr_input::Reader;
-use nr_reading::{Due, Event, Items};
+use nr_reading::{Event, Items, PendingAct};
 use nr_store::{Rest, Store};
 use nr_units::Name;
 
@@ -86,7 +86,7 @@ impl Gathered {
         self.count += count;
     }
 
-    // So many bytes more that are spliced, whose escape has so many items and was met in so many moves: those of this name's text, or of
+    // So many bytes more that are spliced, whose escape has so many items and was taken in by so many moves: those of this name's text, or of
     // an argument or a register.
     #[inline(always)]
     fn add(&mut self, items: usize, moves: usize, count: usize, asked: Name, named: bool)
@@ -97,7 +97,7 @@ impl Gathered {
         ensures { self.new ≡ with_splice items moves count asked named self.old }
     {
         self.splices.push(Splice {
-            behind: self.items + items,
+            afterwards: self.items + items,
             before: self.count,
             count,
             moves: self.moves + moves + 1,
@@ -121,15 +121,15 @@ impl Gathered {
 // Whether a row has this byte after so many items.
 #[inline(always)]
 fn has_byte<I: Items>(row: &I, place: usize, byte: u8) -> bool
-    ensures { result ≡ is_byte byte (slice_get (I.fronts row.now) place) }
+    ensures { result ≡ is_byte byte (slice_get (I.next_items row.now) place) }
 {
     place < row.count() && row.byte(place) == Some(byte)
 }
 
-// Whether a newline is in front of a row, or with `closes` after the `\}` that it begins with.
+// Whether a row begins with a newline, or with `closes` after the `\}` that it begins with.
 #[inline(always)]
 fn has_newline<I: Items>(row: &I, closes: bool) -> bool
-    ensures { result ≡ is_byte (code "\n") (slice_get (I.fronts row.now) (brace_items closes)) }
+    ensures { result ≡ is_byte (code "\n") (slice_get (I.next_items row.now) (brace_items closes)) }
 {
     if closes {
         return has_byte(row, 2, b'\n');
@@ -159,57 +159,57 @@ fn pass_all(reader: &mut Reader, splices: &Splices)
     }
 }
 
-// An escape that was met, and the bytes that it brings.
+// An escape that was taken in, and the bytes that it brings.
 #[derive(Clone, Copy)]
-struct Met {
+struct TakenIn {
     // How many items it has.
     taken: usize,
-    // How many moves they were met in.
+    // How many moves they were taken in by.
     moves: usize,
     // How many bytes it brings.
     count: usize,
 }
 
-// The escape that a row begins with is met, and the bytes that it brings are put into the chunk, of 64 bytes or more, where they are those
+// The escape that a row begins with is taken in, and the bytes that it brings are put into the chunk, of 64 bytes or more, where they are those
 // of an argument, a register or a string: they are to be spliced then. Else what is half read stays.
 #[inline(always)]
-fn meet_splice<K: Copy, I: Items>(
+fn take_in_splice<K: Copy, I: Items>(
     reader: &mut Reader,
     store: &Store<K>,
     row: &I,
     chunk: &mut [u8],
-) -> Option<Met>
+) -> Option<TakenIn>
     requires text { is_in_text reader.old.half ≡ true }
     requires holds { 64 ≤ length chunk.old }
-    ensures met { IfSome result (λ met. HasMet met.moves (I.fronts row.now) reader.old.half
-        (record { taken = met.taken; half = reader.new.half; event = events.Nothing })) }
-    ensures few { IfSome result (λ met. met.moves ≤ 6) }
-    ensures asks { IfSome result (λ met. AsksOnly reader.old.half reader.new.half) }
-    ensures reader { IfSome result (λ met. reader.new ≡ record reader.old { half = reader.new.half }) }
-    ensures may { IfSome result (λ met. (n : ℕ) → n ≤ length (rest_of store.now.levels)
-        → MaySplice (take met.count chunk.new) (left_times n store.now) reader.new) }
-    ensures within { IfSome result (λ met. met.count ≤ length chunk.new) }
+    ensures taken_in { IfSome result (λ taken_in. HasTakenIn taken_in.moves (I.next_items row.now) reader.old.half
+        (record { taken = taken_in.taken; half = reader.new.half; event = events.Nothing })) }
+    ensures few { IfSome result (λ taken_in. taken_in.moves ≤ 6) }
+    ensures asks { IfSome result (λ taken_in. AsksOnly reader.old.half reader.new.half) }
+    ensures reader { IfSome result (λ taken_in. reader.new ≡ record reader.old { half = reader.new.half }) }
+    ensures may { IfSome result (λ taken_in. (n : ℕ) → n ≤ length (rest_of store.now.levels)
+        → MaySplice (take taken_in.count chunk.new) (left_times n store.now) reader.new) }
+    ensures within { IfSome result (λ taken_in. taken_in.count ≤ length chunk.new) }
     ensures left { result ≡ None → reader.new ≡ reader.old }
 {
     let asked = reader.half.notes.asked;
-    let Some(run) = reader.half.meet_front(row) else {
+    let Some(run) = reader.half.take_in_next(row) else {
         return None;
     };
     if matches!(run.event, Event::Nothing) {
         if let Some(count) = copy_splice(reader, store, chunk) {
-            return Some(Met {
+            return Some(TakenIn {
                 taken: run.taken,
                 moves: run.moves,
                 count,
             });
         }
     }
-    reader.half.reading.due = Due::Look;
+    reader.half.reading.pending_act = PendingAct::Look;
     reader.half.notes.asked = asked;
     None
 }
 
-// The escape that a row begins with is met, and the bytes that it brings are put after those that were gathered, where they are those
+// The escape that a row begins with is taken in, and the bytes that it brings are put after those that were gathered, where they are those
 // of an argument, a register or a string. Answers how many items it has: 0 where it is none of these.
 #[inline(always)]
 fn gather_escape<K: Copy, I: Items>(
@@ -220,7 +220,7 @@ fn gather_escape<K: Copy, I: Items>(
     gathered: &mut Gathered,
 ) -> usize
     requires text { is_in_text reader.old.half ≡ true }
-    requires row { I.fronts row.now ≡ drop gathered.old.items (map element_front (rest_of store.now.levels)) }
+    requires row { I.next_items row.now ≡ drop gathered.old.items (map element_item (rest_of store.now.levels)) }
     requires count { gathered.old.count ≤ length chunk.old }
     requires holds { length chunk.old ≤ 4096 }
     requires items { gathered.old.items ≤ 8192 }
@@ -230,7 +230,7 @@ fn gather_escape<K: Copy, I: Items>(
         → IsGathering (take gathered.new.count chunk.new) store.now r reader.new gathered.new }
     ensures text { is_in_text reader.new.half ≡ true }
     ensures items { gathered.new.items ≡ gathered.old.items + result }
-    ensures within { result ≤ length (I.fronts row.now) }
+    ensures within { result ≤ length (I.next_items row.now) }
     ensures count { gathered.new.count ≤ length chunk.new }
     ensures more { gathered.old.count ≤ gathered.new.count }
     ensures ends { gathered.new.ends ≡ gathered.old.ends }
@@ -239,19 +239,19 @@ fn gather_escape<K: Copy, I: Items>(
     if gathered.splices.len() == MOST || chunk.len() - gathered.count < LONGEST {
         return 0;
     }
-    let Some(met) = meet_splice(reader, store, row, &mut chunk[gathered.count..]) else {
+    let Some(taken_in) = take_in_splice(reader, store, row, &mut chunk[gathered.count..]) else {
         return 0;
     };
     let named = brings_text(reader);
     gathered.add(
-        met.taken,
-        met.moves,
-        met.count,
+        taken_in.taken,
+        taken_in.moves,
+        taken_in.count,
         reader.half.notes.asked,
         named,
     );
     begin_splice(reader);
-    met.taken
+    taken_in.taken
 }
 
 // Gathers the bytes that a row begins with, and answers how many.
@@ -261,13 +261,13 @@ fn gather_run<I: Items>(row: &I, chunk: &mut [u8], gathered: &mut Gathered) -> u
     requires holds { length chunk.old ≤ 4096 }
     requires items { gathered.old.items ≤ 8192 }
     ensures passed { gathered.new ≡ passed result gathered.old }
-    ensures within { result ≤ length (I.fronts row.now) }
+    ensures within { result ≤ length (I.next_items row.now) }
     ensures count { gathered.new.count ≤ length chunk.new }
     ensures holds { length chunk.new ≡ length chunk.old }
     ensures kept { take gathered.old.count chunk.new ≡ take gathered.old.count chunk.old }
-    ensures bytes { AreBytes (take result (drop gathered.old.count chunk.new)) (I.fronts row.now) }
+    ensures bytes { AreBytes (take result (drop gathered.old.count chunk.new)) (I.next_items row.now) }
     ensures longest { gathered.old.count + result < length chunk.old
-        → EndsRun (slice_get (I.fronts row.now) result) }
+        → EndsRun (slice_get (I.next_items row.now) result) }
 {
     let count = copy_run(row, &mut chunk[gathered.count..]);
     gathered.pass(count);
@@ -284,14 +284,14 @@ fn gather_more<K: Copy, I: Tail>(
     gathered: &mut Gathered,
 ) -> I
     requires text { is_in_text reader.old.half ≡ true }
-    requires row { I.fronts row ≡ drop gathered.old.items (map element_front (rest_of store.now.levels)) }
+    requires row { I.next_items row ≡ drop gathered.old.items (map element_item (rest_of store.now.levels)) }
     requires count { gathered.old.count ≤ length chunk.old }
     requires holds { length chunk.old ≤ 4096 }
     requires room { 64 ≤ length chunk.old }
     requires gathered { IsGathering (take gathered.old.count chunk.old) store.now reader.old reader.old
         gathered.old }
     requires stops { StopsGathering (rest_of store.now.levels) gathered.old.items gathered.old.count }
-    ensures row { I.fronts result ≡ drop gathered.new.items (map element_front (rest_of store.now.levels)) }
+    ensures row { I.next_items result ≡ drop gathered.new.items (map element_item (rest_of store.now.levels)) }
     ensures count { gathered.new.count ≤ length chunk.new }
     ensures holds { length chunk.new ≡ length chunk.old }
     ensures ends { gathered.new.ends ≡ gathered.old.ends }
@@ -305,9 +305,9 @@ fn gather_more<K: Copy, I: Tail>(
         if taken == 0 {
             return rest;
         }
-        rest = rest.behind(taken);
+        rest = rest.afterwards(taken);
         let count = gather_run(&rest, chunk, gathered);
-        rest = rest.behind(count);
+        rest = rest.afterwards(count);
     }
     rest
 }
@@ -322,14 +322,14 @@ fn gather_escapes<K: Copy, I: Tail>(
     gathered: &mut Gathered,
 ) -> I
     requires text { is_in_text reader.old.half ≡ true }
-    requires row { I.fronts row ≡ drop gathered.old.items (map element_front (rest_of store.now.levels)) }
+    requires row { I.next_items row ≡ drop gathered.old.items (map element_item (rest_of store.now.levels)) }
     requires count { gathered.old.count ≤ length chunk.old }
     requires holds { length chunk.old ≤ 4096 }
     requires room { 64 ≤ length chunk.old }
     requires gathered { IsGathering (take gathered.old.count chunk.old) store.now reader.old reader.old
         gathered.old }
     requires stops { StopsGathering (rest_of store.now.levels) gathered.old.items gathered.old.count }
-    ensures row { I.fronts result ≡ drop gathered.new.items (map element_front (rest_of store.now.levels)) }
+    ensures row { I.next_items result ≡ drop gathered.new.items (map element_item (rest_of store.now.levels)) }
     ensures count { gathered.new.count ≤ length chunk.new }
     ensures holds { length chunk.new ≡ length chunk.old }
     ensures ends { gathered.new.ends ≡ gathered.old.ends }
@@ -359,7 +359,7 @@ fn gather_row<K: Copy, I: Tail>(
     gathered: &mut Gathered,
 )
     requires text { is_in_text reader.old.half ≡ true }
-    requires row { I.fronts row ≡ map element_front (rest_of store.now.levels) }
+    requires row { I.next_items row ≡ map element_item (rest_of store.now.levels) }
     requires holds { length chunk.old ≤ 4096 }
     requires room { 64 ≤ length chunk.old }
     requires none { gathered.old ≡ nothing_gathered }
@@ -370,8 +370,8 @@ fn gather_row<K: Copy, I: Tail>(
     ensures left { reader.new ≡ reader.old }
 {
     let count = gather_run(&row, chunk, gathered);
-    let rest = gather_escapes(reader, store, row.behind(count), chunk, gathered);
-    gathered.closes = reader.half.meets_brace(&rest);
+    let rest = gather_escapes(reader, store, row.afterwards(count), chunk, gathered);
+    gathered.closes = reader.half.takes_in_brace(&rest);
     gathered.ends = has_newline(&rest, gathered.closes);
 }
 
@@ -465,7 +465,7 @@ fn leave_part<K: Copy>(
     }
     let splice = gathered.splices.at(begun - 1);
     pass_splices(reader, begun, splice.asked);
-    store.skip(splice.behind as u32);
+    store.skip(splice.afterwards as u32);
     let end = splice.before + splice.count;
     if end < taken {
         store.skip((taken - end) as u32);

@@ -1,4 +1,4 @@
-//! Interpolations that are read at once: where all that they bring is only met or added, no level is opened for it.
+//! Interpolations that are read at once: where all that they bring is only taken in or added, no level is opened for it.
 ghost use Rattle.std.specs.Prelude.{◌≡◌, ℕ, ◌+◌, ◌*◌, ◌<◌, ◌≤◌, ◌∷◌, [], Option, IfSome, length, take, true};
 ghost use Rattle.nr_units.specs.NumberText.{number_text};
 ghost use Rattle.nr_units.specs.Source.{Supply};
@@ -6,7 +6,7 @@ ghost use Rattle.nr_symbol_tables.specs.Table.{find};
 ghost use Rattle.nr_store.specs.Store.{charge_of, reading_bytes, register_of};
 ghost use Rattle.nr_store.specs.Windows.{rest_of, left_times};
 ghost use Rattle.nr_reading.specs.declared.ask.Sign.TheVariants as signs;
-ghost use Rattle.nr_reading.specs.declared.mode.Due.TheVariants as dues;
+ghost use Rattle.nr_reading.specs.declared.mode.PendingAct.TheVariants as pending_acts;
 ghost use Rattle.nr_input.specs.Acting.{expanded, register_text};
 ghost use Rattle.nr_input.specs.Place.{Coming, Reached, HoldsComing};
 ghost use Rattle.fast_input.specs.Interpolations.{IsSplice, MaySplice, brings_text, stepping};
@@ -14,13 +14,13 @@ ghost use Rattle.nr_input.specs.Limits.{limits_of};
 ghost use Rattle.nr_input.specs.Moving.{situation};
 ghost use Rattle.fast_input.specs.Runs.{HasRead, PaysAll, PaysMany};
 
-use crate::adding::add_front;
-use crate::beginnings::meet_bytes;
+use crate::adding::add_prefix;
+use crate::beginnings::take_in_bytes;
 use crate::rows::{ElementRow, copy_run};
 use crate::runs::{Moved, read_added};
 use crate::target::Target;
 use nr_input::Reader;
-use nr_reading::{Due, Event, Half, Mode, Run, Sign};
+use nr_reading::{Event, Half, Mode, PendingAct, Run, Sign};
 use nr_store::Store;
 use nr_units::{Format, format_number};
 
@@ -78,9 +78,9 @@ fn read_bytes<K: Copy>(reader: &mut Reader, bytes: &[u8], store: &mut Store<K>) 
     ensures limits { limits_of store.new reader.new ≡ limits_of store.old reader.old }
 {
     let Some(target) = Target::of(&reader.half) else {
-        return meet_bytes(reader, bytes, store);
+        return take_in_bytes(reader, bytes, store);
     };
-    let taken = add_front(target, &reader.half, store, bytes);
+    let taken = add_prefix(target, &reader.half, store, bytes);
     Run {
         taken,
         moves: 2 * taken,
@@ -92,7 +92,7 @@ fn read_bytes<K: Copy>(reader: &mut Reader, bytes: &[u8], store: &mut Store<K>) 
 // read. No move where a limit is near.
 #[inline(always)]
 fn splice_read<K: Copy>(reader: &mut Reader, bytes: &[u8], store: &mut Store<K>) -> Moved
-    requires due { IsSplice bytes.now store.old reader.old }
+    requires pending_act { IsSplice bytes.now store.old reader.old }
     ensures read { (c : Coming) (p : Reached) (supply : Option Supply) → HoldsComing c p supply
         → HasRead result.moves (situation store.old c reader.old) result.event store.new reader.new p supply }
     ensures pays { (p : Reached)
@@ -124,10 +124,10 @@ fn splice_read<K: Copy>(reader: &mut Reader, bytes: &[u8], store: &mut Store<K>)
     }
 }
 
-// The same, and where no level was opened the items in front of the newest level after it.
+// The same, and where no level was opened the first items of the newest level after it.
 #[inline(always)]
 fn splice_on<K: Copy>(reader: &mut Reader, bytes: &[u8], store: &mut Store<K>) -> Moved
-    requires due { IsSplice bytes.now store.old reader.old }
+    requires pending_act { IsSplice bytes.now store.old reader.old }
     ensures read { (c : Coming) (p : Reached) (supply : Option Supply) → HoldsComing c p supply
         → HasRead result.moves (situation store.old c reader.old) result.event store.new reader.new p supply }
     ensures pays { (p : Reached)
@@ -151,7 +151,7 @@ fn splice_on<K: Copy>(reader: &mut Reader, bytes: &[u8], store: &mut Store<K>) -
 // An argument is spliced.
 #[inline(never)]
 fn read_argument<K: Copy>(reader: &mut Reader, n: u8, store: &mut Store<K>) -> Moved
-    requires due { reader.old.half.reading.due ≡ dues.Argument n }
+    requires pending_act { reader.old.half.reading.pending_act ≡ pending_acts.Argument n }
     ensures read { (c : Coming) (p : Reached) (supply : Option Supply) → HoldsComing c p supply
         → HasRead result.moves (situation store.old c reader.old) result.event store.new reader.new p supply }
     ensures pays { (p : Reached)
@@ -177,7 +177,7 @@ fn read_argument<K: Copy>(reader: &mut Reader, n: u8, store: &mut Store<K>) -> M
 // A register is spliced.
 #[inline(never)]
 fn read_register<K: Copy>(reader: &mut Reader, store: &mut Store<K>) -> Moved
-    requires due { reader.old.half.reading.due ≡ dues.Register signs.None }
+    requires pending_act { reader.old.half.reading.pending_act ≡ pending_acts.Register signs.None }
     ensures read { (c : Coming) (p : Reached) (supply : Option Supply) → HoldsComing c p supply
         → HasRead result.moves (situation store.old c reader.old) result.event store.new reader.new p supply }
     ensures pays { (p : Reached)
@@ -198,7 +198,7 @@ fn read_register<K: Copy>(reader: &mut Reader, store: &mut Store<K>) -> Moved
 // A register's step is added or taken away, and the register is spliced.
 #[inline(never)]
 fn read_stepped<K: Copy>(reader: &mut Reader, up: bool, store: &mut Store<K>) -> Moved
-    requires due { reader.old.half.reading.due ≡ dues.Register (stepping up) }
+    requires pending_act { reader.old.half.reading.pending_act ≡ pending_acts.Register (stepping up) }
     ensures read { (c : Coming) (p : Reached) (supply : Option Supply) → HoldsComing c p supply
         → HasRead result.moves (situation store.old c reader.old) result.event store.new reader.new p supply }
     ensures pays { (p : Reached)
@@ -215,7 +215,7 @@ fn read_stepped<K: Copy>(reader: &mut Reader, up: bool, store: &mut Store<K>) ->
     }
 }
 
-/// An argument or a register is spliced where that is due and bytes are copied, and read. No move where that is not due or a limit
+/// An argument or a register is spliced where that is pending and bytes are copied, and read. No move where that is not pending or a limit
 /// is near.
 #[inline(always)]
 pub(crate) fn interpolate_at_once<K: Copy>(reader: &mut Reader, store: &mut Store<K>) -> Moved
@@ -228,12 +228,16 @@ pub(crate) fn interpolate_at_once<K: Copy>(reader: &mut Reader, store: &mut Stor
     ensures reader { result.moves ≡ 0 → reader.new ≡ reader.old }
     ensures store { result.moves ≡ 0 → store.new ≡ store.old }
 {
-    let due = reader.half.reading.due;
-    match due {
-        Due::Argument(n) if copies(&reader.half) => read_argument(reader, n, store),
-        Due::Register(Sign::None) if copies(&reader.half) => read_register(reader, store),
-        Due::Register(Sign::Plus) if copies(&reader.half) => read_stepped(reader, true, store),
-        Due::Register(Sign::Minus) if copies(&reader.half) => read_stepped(reader, false, store),
+    let pending_act = reader.half.reading.pending_act;
+    match pending_act {
+        PendingAct::Argument(n) if copies(&reader.half) => read_argument(reader, n, store),
+        PendingAct::Register(Sign::None) if copies(&reader.half) => read_register(reader, store),
+        PendingAct::Register(Sign::Plus) if copies(&reader.half) => read_stepped(
+            reader, true, store,
+        ),
+        PendingAct::Register(Sign::Minus) if copies(&reader.half) => read_stepped(
+            reader, false, store,
+        ),
         _ => Moved {
             moves: 0,
             event: Event::Nothing,
@@ -249,7 +253,7 @@ fn copy_argument<K: Copy>(
     store: &Store<K>,
     chunk: &mut [u8],
 ) -> Option<usize>
-    requires due { reader.now.half.reading.due ≡ dues.Argument n }
+    requires pending_act { reader.now.half.reading.pending_act ≡ pending_acts.Argument n }
     requires holds { 64 ≤ length chunk.old }
     ensures may { IfSome result (λ count. (n : ℕ) → n ≤ length (rest_of store.now.levels)
         → MaySplice (take count chunk.new) (left_times n store.now) reader.now) }
@@ -272,7 +276,7 @@ fn copy_text<K: Copy>(
     store: &Store<K>,
     chunk: &mut [u8],
 ) -> Option<usize>
-    requires due { reader.now.half.reading.due ≡ dues.Register signs.None }
+    requires pending_act { reader.now.half.reading.pending_act ≡ pending_acts.Register signs.None }
     requires text { text.now
         ≡ register_text (register_of (find reader.now.half.notes.asked store.now.registers)) }
     requires holds { 64 ≤ length chunk.old }
@@ -291,7 +295,7 @@ fn copy_text<K: Copy>(
 // The same of the register that was asked for.
 #[inline(always)]
 fn copy_register<K: Copy>(reader: &Reader, store: &Store<K>, chunk: &mut [u8]) -> Option<usize>
-    requires due { reader.now.half.reading.due ≡ dues.Register signs.None }
+    requires pending_act { reader.now.half.reading.pending_act ≡ pending_acts.Register signs.None }
     requires holds { 64 ≤ length chunk.old }
     ensures may { IfSome result (λ count. (n : ℕ) → n ≤ length (rest_of store.now.levels)
         → MaySplice (take count chunk.new) (left_times n store.now) reader.now) }
@@ -308,7 +312,7 @@ fn copy_register<K: Copy>(reader: &Reader, store: &Store<K>, chunk: &mut [u8]) -
 // The text of the name that was asked for is put into the chunk, where it is bytes alone, and neither a `\` nor a newline is among them.
 #[inline(always)]
 fn copy_string<K: Copy>(reader: &Reader, store: &Store<K>, chunk: &mut [u8]) -> Option<usize>
-    requires due { reader.now.half.reading.due ≡ dues.Splice }
+    requires pending_act { reader.now.half.reading.pending_act ≡ pending_acts.Splice }
     requires holds { 64 ≤ length chunk.old }
     ensures may { IfSome result (λ count. (n : ℕ) → n ≤ length (rest_of store.now.levels)
         → MaySplice (take count chunk.new) (left_times n store.now) reader.now) }
@@ -337,20 +341,20 @@ pub(crate) fn copy_splice<K: Copy>(
         → MaySplice (take count chunk.new) (left_times n store.now) reader.now) }
     ensures within { IfSome result (λ count. count ≤ length chunk.new) }
 {
-    match reader.half.reading.due {
-        Due::Argument(n) => copy_argument(reader, n, store, chunk),
-        Due::Register(Sign::None) => copy_register(reader, store, chunk),
-        Due::Splice => copy_string(reader, store, chunk),
+    match reader.half.reading.pending_act {
+        PendingAct::Argument(n) => copy_argument(reader, n, store, chunk),
+        PendingAct::Register(Sign::None) => copy_register(reader, store, chunk),
+        PendingAct::Splice => copy_string(reader, store, chunk),
         _ => None,
     }
 }
 
-/// Whether what is due is to splice the text of the name that was asked for.
+/// Whether what is pending is to splice the text of the name that was asked for.
 #[inline(always)]
 pub(crate) fn brings_text(reader: &Reader) -> bool
-    ensures { result ≡ brings_text reader.now.half.reading.due }
+    ensures { result ≡ brings_text reader.now.half.reading.pending_act }
 {
-    matches!(reader.half.reading.due, Due::Splice)
+    matches!(reader.half.reading.pending_act, PendingAct::Splice)
 }
 
 /// The splice is counted, and what it brings is read next. One more must be allowed.
@@ -360,5 +364,5 @@ pub(crate) fn begin_splice(reader: &mut Reader)
     ensures { reader.new ≡ expanded reader.old }
 {
     reader.count_splices(1);
-    reader.half.reading.due = Due::Look;
+    reader.half.reading.pending_act = PendingAct::Look;
 }

@@ -2,12 +2,12 @@
 ghost use Rattle.std.specs.Prelude.{◌≡◌, ℕ, ◌+◌, ◌*◌, ◌<◌, ◌≤◌, length, map, drop, slice_get, true, false, Option, Some, None, IfSome};
 ghost use Rattle.nr_units.specs.Source.{Supply};
 ghost use Rattle.nr_reading.specs.declared.event.Event.TheVariants as events;
-ghost use Rattle.nr_reading.specs.declared.front.Front.TheVariants as variants;
-ghost use Rattle.nr_reading.specs.declared.mode.Due.TheVariants as dues;
-ghost use Rattle.nr_reading.specs.Many.Runs.{HasMet, spot};
+ghost use Rattle.nr_reading.specs.declared.next_item.NextItem.TheVariants as variants;
+ghost use Rattle.nr_reading.specs.declared.mode.PendingAct.TheVariants as pending_acts;
+ghost use Rattle.nr_reading.specs.Many.Runs.{HasTakenIn, spot};
 ghost use Rattle.nr_store.specs.Windows.{rest_of, left_times};
 ghost use Rattle.nr_store.specs.declared.element.Element.TheVariants as elements;
-ghost use Rattle.nr_input.specs.Place.{Coming, Reached, HoldsComing, element_front};
+ghost use Rattle.nr_input.specs.Place.{Coming, Reached, HoldsComing, element_item};
 ghost use Rattle.fast_input.specs.LevelRows.{begun_by, is_text};
 ghost use Rattle.nr_input.specs.Limits.{limits_of};
 ghost use Rattle.nr_input.specs.Moving.{situation};
@@ -15,7 +15,7 @@ ghost use Rattle.fast_input.specs.Runs.{HasRead, PaysAll, StopsInLevel};
 
 use crate::rows::{ByteRow, ElementRow};
 use nr_input::Reader;
-use nr_reading::{Due, Event, Half, Items, Run};
+use nr_reading::{Event, Half, Items, PendingAct, Run};
 use nr_store::{Meaning, Rest, Store};
 
 /// The most names that are looked up in one row.
@@ -23,31 +23,31 @@ const MOST_NAMES: u32 = 4;
 
 /// What came of a row.
 #[derive(Clone, Copy)]
-struct Met {
-    /// How much of it was met.
+struct TakenIn {
+    /// How much of it was taken in.
     run: Run,
     /// Whether the arguments of a macro are still to be begun.
     calls: bool,
 }
 
-/// Items in a row, of which those in front can be left out.
+/// Items in a row, of which the first can be left out.
 pub(crate) trait Tail: Items + Copy {
     /// What is after so many items.
-    fn behind(self, n: usize) -> Self
-        requires { n ≤ length (Self.fronts self) }
-        ensures { Self.fronts result ≡ drop n (Self.fronts self) };
+    fn afterwards(self, n: usize) -> Self
+        requires { n ≤ length (Self.next_items self) }
+        ensures { Self.next_items result ≡ drop n (Self.next_items self) };
 }
 
 impl<'a> Tail for ByteRow<'a> {
     #[inline(always)]
-    fn behind(self, n: usize) -> Self {
+    fn afterwards(self, n: usize) -> Self {
         ByteRow(&self.0[n..])
     }
 }
 
 impl<'a> Tail for ElementRow<'a> {
     #[inline(always)]
-    fn behind(self, n: usize) -> Self {
+    fn afterwards(self, n: usize) -> Self {
         ElementRow(&self.0[n..])
     }
 }
@@ -60,33 +60,38 @@ fn is_text(meaning: Meaning) -> bool
     matches!(meaning, Meaning::Text)
 }
 
-// The items of a row are met; of those of a control line its name alone.
+// The items of a row are taken in; of those of a control line its name alone.
 #[inline(always)]
-fn meet_first<I: Items>(half: &mut Half, row: &I) -> Run
-    ensures met { HasMet result.moves (I.fronts row.now) half.old (spot result half.new) }
+fn take_in_first<I: Items>(half: &mut Half, row: &I) -> Run
+    ensures taken_in { HasTakenIn result.moves (I.next_items row.now) half.old (spot result half.new) }
     ensures few { result.moves ≤ 65536 }
-    ensures longest { result.event ≡ events.Nothing → half.new.reading.due ≡ dues.Look → result.moves < 65536
-        → (byte : ℕ) → slice_get (I.fronts row.now) result.taken ≡ Some (variants.Byte byte) → ⊥ }
+    ensures longest { result.event ≡ events.Nothing → half.new.reading.pending_act ≡ pending_acts.Look → result.moves < 65536
+        → (byte : ℕ) → slice_get (I.next_items row.now) result.taken ≡ Some (variants.Byte byte) → ⊥ }
 {
-    if !matches!(half.reading.due, Due::Look) {
-        return half.meet_run(row);
+    if !matches!(half.reading.pending_act, PendingAct::Look) {
+        return half.take_in_run(row);
     }
-    match half.meet_name(row) {
+    match half.take_in_name(row) {
         Some(name) => Run {
             taken: name.taken,
             moves: name.moves,
             event: Event::Nothing,
         },
-        None => half.meet_run(row),
+        None => half.take_in_run(row),
     }
 }
 
-// The name that was read is looked up, and the items that are after it in a row are met.
+// The name that was read is looked up, and the items that are after it in a row are taken in.
 #[inline(always)]
-fn meet_named<K: Copy, I: Tail>(reader: &mut Reader, store: &Store<K>, row: I, from: usize) -> Met
-    requires row { I.fronts row ≡ map element_front (rest_of store.now.levels) }
+fn take_in_named<K: Copy, I: Tail>(
+    reader: &mut Reader,
+    store: &Store<K>,
+    row: I,
+    from: usize,
+) -> TakenIn
+    requires row { I.next_items row ≡ map element_item (rest_of store.now.levels) }
     requires within { from ≤ length (rest_of store.now.levels) }
-    requires due { reader.old.half.reading.due ≡ dues.Seek }
+    requires pending_act { reader.old.half.reading.pending_act ≡ pending_acts.Seek }
     ensures read { (c : Coming) (p : Reached) (supply : Option Supply) → HoldsComing c p supply →
         HasRead result.run.moves (situation (left_times from store.now) c reader.old) result.run.event
         (begun_by result.calls (left_times (from + result.run.taken) store.now)) reader.new p supply }
@@ -100,29 +105,29 @@ fn meet_named<K: Copy, I: Tail>(reader: &mut Reader, store: &Store<K>, row: I, f
     ensures limits { limits_of store.now reader.new ≡ limits_of store.now reader.old }
 {
     let meaning = reader.meaning(store);
-    let told = reader.take_meaning(meaning);
+    let emitted = reader.take_meaning(meaning);
     let calls = is_text(meaning);
-    if calls || !matches!(told, Event::Nothing) {
+    if calls || !matches!(emitted, Event::Nothing) {
         let run = Run {
             taken: 0,
             moves: 1,
-            event: told,
+            event: emitted,
         };
-        return Met { run, calls };
+        return TakenIn { run, calls };
     }
-    let more = reader.half.meet_run(&row.behind(from));
+    let more = reader.half.take_in_run(&row.afterwards(from));
     let run = Run {
         taken: more.taken,
         moves: more.moves + 1,
         event: more.event,
     };
-    Met { run, calls: false }
+    TakenIn { run, calls: false }
 }
 
-// The items of a row are met, and the names of control lines that are read there are looked up.
+// The items of a row are taken in, and the names of control lines that are read there are looked up.
 #[inline(always)]
-fn meet_rows<K: Copy, I: Tail>(reader: &mut Reader, store: &Store<K>, row: I) -> Met
-    requires row { I.fronts row ≡ map element_front (rest_of store.now.levels) }
+fn take_in_rows<K: Copy, I: Tail>(reader: &mut Reader, store: &Store<K>, row: I) -> TakenIn
+    requires row { I.next_items row ≡ map element_item (rest_of store.now.levels) }
     ensures read { (c : Coming) (p : Reached) (supply : Option Supply) → HoldsComing c p supply →
         HasRead result.run.moves (situation store.now c reader.old) result.run.event
         (begun_by result.calls (left_times result.run.taken store.now)) reader.new p supply }
@@ -133,55 +138,55 @@ fn meet_rows<K: Copy, I: Tail>(reader: &mut Reader, store: &Store<K>, row: I) ->
     ensures short { result.run.taken ≤ result.run.moves }
     ensures limits { limits_of store.now reader.new ≡ limits_of store.now reader.old }
     ensures some { (b : ℕ) → slice_get (rest_of store.now.levels) 0 ≡ Some (elements.Byte b)
-        → reader.old.half.reading.due ≡ dues.Look → 0 < result.run.moves }
+        → reader.old.half.reading.pending_act ≡ pending_acts.Look → 0 < result.run.moves }
     ensures stops { result.run.moves ≡ 0
         → StopsInLevel 0 result.run.event (begun_by result.calls (left_times result.run.taken store.now))
         reader.new }
 {
-    let mut met = Met {
-        run: meet_first(&mut reader.half, &row),
+    let mut taken_in = TakenIn {
+        run: take_in_first(&mut reader.half, &row),
         calls: false,
     };
     for _ in 0..MOST_NAMES {
-        if met.calls
-            || !matches!(met.run.event, Event::Nothing)
-            || !matches!(reader.half.reading.due, Due::Seek)
+        if taken_in.calls
+            || !matches!(taken_in.run.event, Event::Nothing)
+            || !matches!(reader.half.reading.pending_act, PendingAct::Seek)
         {
-            return met;
+            return taken_in;
         }
-        let more = meet_named(reader, store, row, met.run.taken);
+        let more = take_in_named(reader, store, row, taken_in.run.taken);
         let run = Run {
-            taken: met.run.taken + more.run.taken,
-            moves: met.run.moves + more.run.moves,
+            taken: taken_in.run.taken + more.run.taken,
+            moves: taken_in.run.moves + more.run.moves,
             event: more.run.event,
         };
-        met = Met {
+        taken_in = TakenIn {
             run,
             calls: more.calls,
         };
     }
-    met
+    taken_in
 }
 
-// The items in front of the newest level are met, and the names of control lines that are read there are looked up. None where it has
-// none in front.
+// The first items of the newest level are taken in, and the names of control lines that are read there are looked up. None where it has
+// none next.
 #[inline(always)]
-fn meet_front<K: Copy>(reader: &mut Reader, store: &Store<K>) -> Option<Met>
-    ensures read { IfSome result (λ met. (c : Coming) (p : Reached) (supply : Option Supply)
+fn take_in_next<K: Copy>(reader: &mut Reader, store: &Store<K>) -> Option<TakenIn>
+    ensures read { IfSome result (λ taken_in. (c : Coming) (p : Reached) (supply : Option Supply)
         → HoldsComing c p supply →
-        HasRead met.run.moves (situation store.now c reader.old) met.run.event
-        (begun_by met.calls (left_times met.run.taken store.now)) reader.new p supply) }
-    ensures pays { IfSome result (λ met. (p : Reached)
-        → PaysAll met.run.moves store.now p reader.old met.run.event
-        (begun_by met.calls (left_times met.run.taken store.now)) p reader.new) }
-    ensures few { IfSome result (λ met. met.run.moves ≤ 65536 + 65537 * 4) }
-    ensures within { IfSome result (λ met. met.run.taken ≤ length (rest_of store.now.levels)) }
-    ensures short { IfSome result (λ met. met.run.taken ≤ met.run.moves) }
-    ensures limits { IfSome result (λ met. limits_of store.now reader.new ≡ limits_of store.now reader.old) }
-    ensures some { IfSome result (λ met. (b : ℕ) → slice_get (rest_of store.now.levels) 0
-        ≡ Some (elements.Byte b) → reader.old.half.reading.due ≡ dues.Look → 0 < met.run.moves) }
-    ensures stops { IfSome result (λ met. met.run.moves ≡ 0
-        → StopsInLevel 0 met.run.event (begun_by met.calls (left_times met.run.taken store.now)) reader.new) }
+        HasRead taken_in.run.moves (situation store.now c reader.old) taken_in.run.event
+        (begun_by taken_in.calls (left_times taken_in.run.taken store.now)) reader.new p supply) }
+    ensures pays { IfSome result (λ taken_in. (p : Reached)
+        → PaysAll taken_in.run.moves store.now p reader.old taken_in.run.event
+        (begun_by taken_in.calls (left_times taken_in.run.taken store.now)) p reader.new) }
+    ensures few { IfSome result (λ taken_in. taken_in.run.moves ≤ 65536 + 65537 * 4) }
+    ensures within { IfSome result (λ taken_in. taken_in.run.taken ≤ length (rest_of store.now.levels)) }
+    ensures short { IfSome result (λ taken_in. taken_in.run.taken ≤ taken_in.run.moves) }
+    ensures limits { IfSome result (λ taken_in. limits_of store.now reader.new ≡ limits_of store.now reader.old) }
+    ensures some { IfSome result (λ taken_in. (b : ℕ) → slice_get (rest_of store.now.levels) 0
+        ≡ Some (elements.Byte b) → reader.old.half.reading.pending_act ≡ pending_acts.Look → 0 < taken_in.run.moves) }
+    ensures stops { IfSome result (λ taken_in. taken_in.run.moves ≡ 0
+        → StopsInLevel 0 taken_in.run.event (begun_by taken_in.calls (left_times taken_in.run.taken store.now)) reader.new) }
     ensures none { result ≡ None → (b : ℕ) → slice_get (rest_of store.now.levels) 0 ≡ Some (elements.Byte b)
         → ⊥ }
     ensures reader { result ≡ None → reader.new ≡ reader.old }
@@ -191,31 +196,31 @@ fn meet_front<K: Copy>(reader: &mut Reader, store: &Store<K>) -> Option<Met>
             if elements.is_empty() {
                 return None;
             }
-            Some(meet_rows(reader, store, ElementRow(elements)))
+            Some(take_in_rows(reader, store, ElementRow(elements)))
         }
         Rest::Bytes(bytes) => {
             if bytes.is_empty() {
                 return None;
             }
-            Some(meet_rows(reader, store, ByteRow(bytes)))
+            Some(take_in_rows(reader, store, ByteRow(bytes)))
         }
     }
 }
 
-// What was met of the newest level's row is taken.
+// What was taken in of the newest level's row is taken.
 #[inline(always)]
-fn leave_row<K: Copy>(met: Met, store: &mut Store<K>)
-    requires within { met.run.taken ≤ length (rest_of store.old.levels) }
-    requires few { met.run.taken ≤ 327684 }
-    ensures { store.new ≡ begun_by met.calls (left_times met.run.taken store.old) }
+fn leave_row<K: Copy>(taken_in: TakenIn, store: &mut Store<K>)
+    requires within { taken_in.run.taken ≤ length (rest_of store.old.levels) }
+    requires few { taken_in.run.taken ≤ 327684 }
+    ensures { store.new ≡ begun_by taken_in.calls (left_times taken_in.run.taken store.old) }
 {
-    store.skip(met.run.taken as u32);
-    if met.calls {
+    store.skip(taken_in.run.taken as u32);
+    if taken_in.calls {
         store.begin_arguments();
     }
 }
 
-/// The items in front of the newest level are read, and the names of control lines are looked up. None where it has none in front.
+/// The first items of the newest level are read, and the names of control lines are looked up. None where it has none next.
 #[inline(always)]
 pub(crate) fn read_rows<K: Copy>(reader: &mut Reader, store: &mut Store<K>) -> Option<Run>
     ensures read { IfSome result (λ run. (c : Coming) (p : Reached) (supply : Option Supply)
@@ -226,16 +231,16 @@ pub(crate) fn read_rows<K: Copy>(reader: &mut Reader, store: &mut Store<K>) -> O
     ensures few { IfSome result (λ run. run.moves ≤ 327684) }
     ensures limits { IfSome result (λ run. limits_of store.new reader.new ≡ limits_of store.old reader.old) }
     ensures some { IfSome result (λ run. (b : ℕ) → slice_get (rest_of store.old.levels) 0
-        ≡ Some (elements.Byte b) → reader.old.half.reading.due ≡ dues.Look → 0 < run.moves) }
+        ≡ Some (elements.Byte b) → reader.old.half.reading.pending_act ≡ pending_acts.Look → 0 < run.moves) }
     ensures stops { IfSome result (λ run. run.moves ≡ 0 → StopsInLevel 0 run.event store.new reader.new) }
     ensures none { result ≡ None → (b : ℕ) → slice_get (rest_of store.old.levels) 0 ≡ Some (elements.Byte b)
         → ⊥ }
     ensures reader { result ≡ None → reader.new ≡ reader.old }
     ensures store { result ≡ None → store.new ≡ store.old }
 {
-    let Some(met) = meet_front(reader, store) else {
+    let Some(taken_in) = take_in_next(reader, store) else {
         return None;
     };
-    leave_row(met, store);
-    Some(met.run)
+    leave_row(taken_in, store);
+    Some(taken_in.run)
 }

@@ -31,7 +31,7 @@ pub use at_hand::{take_window, window};
 pub use body_lines::read_body_lines;
 pub use control_lines::{read_control_line, read_next};
 pub use dropped_lines::read_dropped_line;
-pub use fonts::meet_font;
+pub use fonts::take_in_font;
 pub use gathering::{Gathered, gather, leave};
 pub use levels::read_levels;
 pub use runs::{Moved, read_run};

@@ -1,21 +1,21 @@
 //! The arguments of a macro that the source has at hand: many moves at once.
 ghost use Rattle.std.specs.Prelude.{◌≡◌, ◌≢◌, ◌+◌, ◌*◌, ◌^◌, ◌<◌, ◌≤◌, ℕ, List, All, length, map, take, slice_index, true, false};
 ghost use Rattle.nr_units.specs.Character.{code};
-ghost use Rattle.nr_reading.specs.declared.front.Front.TheVariants as variants;
+ghost use Rattle.nr_reading.specs.declared.next_item.NextItem.TheVariants as variants;
 ghost use Rattle.nr_reading.specs.Many.InArgument.{is_in_argument};
 ghost use Rattle.nr_reading.specs.Many.Passing.{quiet};
-ghost use Rattle.nr_reading.specs.Many.Runs.{HasMet};
+ghost use Rattle.nr_reading.specs.Many.Runs.{HasTakenIn};
 ghost use Rattle.nr_input.specs.Place.{Coming, HoldsComing, has_failed};
 ghost use Rattle.nr_input.specs.Limits.{limits_of};
 ghost use Rattle.fast_input.specs.MacroLines.{is_before_argument, blanks_left, begun_with, argument_ended, ReadsOn};
 ghost use Rattle.nr_input.specs.Moving.{situation};
 ghost use Rattle.fast_input.specs.Runs.{HasRead, PaysAll};
 
-use crate::adding::add_front;
+use crate::adding::add_prefix;
 use crate::at_hand::window;
 use crate::target::Target;
 use nr_input::{Place, Reader};
-use nr_reading::{Due, Escape, Event, Half, Mode, Run};
+use nr_reading::{Escape, Event, Half, Mode, PendingAct, Run};
 use nr_store::Store;
 use nr_units::source::Source;
 
@@ -39,8 +39,14 @@ struct Passed {
 fn is_before_argument(half: &Half) -> bool
     ensures { result ≡ is_before_argument half.now }
 {
-    match (half.reading.mode, half.reading.escape, half.reading.due) {
-        (Mode::MacroBlanks | Mode::MacroGap, Escape::Plain, Due::Look) => half.asks.is_empty(),
+    match (
+        half.reading.mode,
+        half.reading.escape,
+        half.reading.pending_act,
+    ) {
+        (Mode::MacroBlanks | Mode::MacroGap, Escape::Plain, PendingAct::Look) => half
+            .asks
+            .is_empty(),
         _ => false,
     }
 }
@@ -48,7 +54,7 @@ fn is_before_argument(half: &Half) -> bool
 // How many spaces there are before the first byte that is none.
 #[inline(always)]
 fn space_count(bytes: &[u8]) -> usize
-    ensures front { result ≤ length bytes.now }
+    ensures prefix { result ≤ length bytes.now }
     ensures spaces { All (λ byte. byte ≡ code " ") (take result bytes.now) }
     ensures stops { result < length bytes.now → slice_index bytes.now result ≢ code " " }
 {
@@ -82,21 +88,21 @@ fn begin_with(half: &mut Half, byte: u8)
     match byte {
         b'\n' => {
             half.reading.mode = Mode::Start;
-            half.reading.due = Due::Call;
+            half.reading.pending_act = PendingAct::Call;
         }
         b'"' => half.reading.mode = Mode::Quoted,
         _ => {
             half.reading.mode = Mode::Word;
-            half.reading.due = Due::Put(byte);
+            half.reading.pending_act = PendingAct::Put(byte);
         }
     }
 }
 
-// The spaces before an argument are met, and what it begins with.
+// The spaces before an argument are taken in, and what it begins with.
 #[inline(always)]
 fn begin_argument(half: &mut Half, bytes: &[u8]) -> Passed
     requires before { is_before_argument half.old ≡ true }
-    ensures met { HasMet result.moves (map variants.Byte bytes.now) half.old (quiet result.taken half.new) }
+    ensures taken_in { HasTakenIn result.moves (map variants.Byte bytes.now) half.old (quiet result.taken half.new) }
     ensures few { result.moves ≤ result.taken + 1 }
 {
     let spaces = space_count(bytes);
@@ -126,7 +132,7 @@ fn end_after(half: &mut Half, taken: usize, moves: usize) -> Passed
     ensures passed { result ≡ record { taken = taken; moves = moves } }
 {
     half.reading.mode = Mode::MacroGap;
-    half.reading.due = Due::EndArgument;
+    half.reading.pending_act = PendingAct::EndArgument;
     Passed { taken, moves }
 }
 
@@ -139,11 +145,11 @@ fn closes(next: u8) -> bool
     next != b'"' && next != b'\\'
 }
 
-// What ends an argument is met, if it comes first.
+// What ends an argument is taken in, if it comes first.
 #[inline(always)]
 fn end_argument(half: &mut Half, bytes: &[u8]) -> Passed
     requires argument { is_in_argument half.old ≡ true }
-    ensures met { HasMet result.moves (map variants.Byte bytes.now) half.old (quiet result.taken half.new) }
+    ensures taken_in { HasTakenIn result.moves (map variants.Byte bytes.now) half.old (quiet result.taken half.new) }
     ensures few { result.moves ≤ result.taken + 1 }
 {
     if bytes.is_empty() {
@@ -157,18 +163,18 @@ fn end_argument(half: &mut Half, bytes: &[u8]) -> Passed
     }
 }
 
-// A byte is added to the argument, or the argument ends, where that is due. Answers how many moves that was: none where there is no room.
+// A byte is added to the argument, or the argument ends, where that is pending. Answers how many moves that was: none where there is no room.
 #[inline(always)]
 fn do_argument<K: Copy>(reader: &mut Reader, store: &mut Store<K>) -> usize
     ensures reads { (bytes : List ℕ) → ReadsOn result 0 bytes store.old reader.old store.new reader.new }
     ensures few { result ≤ 1 }
 {
-    match reader.half.reading.due {
-        Due::Put(byte) => match reader.put(byte, store) {
+    match reader.half.reading.pending_act {
+        PendingAct::Put(byte) => match reader.put(byte, store) {
             Ok(_) => 1,
             Err(_) => 0,
         },
-        Due::EndArgument => {
+        PendingAct::EndArgument => {
             reader.end_argument(store);
             1
         }
@@ -176,14 +182,14 @@ fn do_argument<K: Copy>(reader: &mut Reader, store: &mut Store<K>) -> usize
     }
 }
 
-// The bytes of an argument are added to it, and what ends it is met.
+// The bytes of an argument are added to it, and what ends it is taken in.
 #[inline(always)]
 fn put_argument<K: Copy>(reader: &mut Reader, store: &mut Store<K>, bytes: &[u8]) -> Passed
     requires argument { is_in_argument reader.old.half ≡ true }
     ensures reads { ReadsOn result.moves result.taken bytes.now store.old reader.old store.new reader.new }
     ensures few { result.moves ≤ 2 * result.taken + 1 }
 {
-    let added = add_front(Target::Argument, &reader.half, store, bytes);
+    let added = add_prefix(Target::Argument, &reader.half, store, bytes);
     let end = end_argument(&mut reader.half, &bytes[added..]);
     Passed {
         taken: added + end.taken,

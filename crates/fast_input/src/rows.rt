@@ -1,6 +1,6 @@
 //! Items in a row: bytes, or elements of a text.
 ghost use Rattle.std.specs.Prelude.{◌<◌, ◌≤◌, length, take, slice_get};
-ghost use Rattle.fast_input.specs.Rows.{AreBytes, EndsRun, byte_fronts, element_fronts};
+ghost use Rattle.fast_input.specs.Rows.{AreBytes, EndsRun, byte_items, element_items};
 
 use nr_reading::Items;
 use nr_store::Element;
@@ -14,7 +14,7 @@ pub(crate) struct ByteRow<'a>(pub(crate) &'a [u8]);
 pub(crate) struct ElementRow<'a>(pub(crate) &'a [Element]);
 
 impl<'a> Items for ByteRow<'a> {
-    ghost fronts = { byte_fronts };
+    ghost next_items = { byte_items };
 
     #[inline(always)]
     fn count(&self) -> usize {
@@ -28,7 +28,7 @@ impl<'a> Items for ByteRow<'a> {
 }
 
 impl<'a> Items for ElementRow<'a> {
-    ghost fronts = { element_fronts };
+    ghost next_items = { element_items };
 
     #[inline(always)]
     fn count(&self) -> usize {
@@ -44,13 +44,13 @@ impl<'a> Items for ElementRow<'a> {
     }
 }
 
-/// The bytes in front of a row that begin no escape and are no newline are put into the chunk, as many as it holds. Answers how many.
+/// The first bytes of a row that begin no escape and are no newline are put into the chunk, as many as it holds. Answers how many.
 #[inline(always)]
 pub(crate) fn copy_run<I: Items>(row: &I, chunk: &mut [u8]) -> usize
     ensures holds { result ≤ length chunk.old }
-    ensures front { result ≤ length (I.fronts row.now) }
-    ensures bytes { AreBytes (take result chunk.new) (I.fronts row.now) }
-    ensures longest { result < length chunk.old → EndsRun (slice_get (I.fronts row.now) result) }
+    ensures prefix { result ≤ length (I.next_items row.now) }
+    ensures bytes { AreBytes (take result chunk.new) (I.next_items row.now) }
+    ensures longest { result < length chunk.old → EndsRun (slice_get (I.next_items row.now) result) }
 {
     let most = chunk.len().min(row.count());
     for n in 0..most {

@@ -2,18 +2,18 @@
 ghost use Rattle.std.specs.Prelude.{◌≡◌, ℕ, ◌*◌, ◌<◌, ◌≤◌, [], length, map, slice_get, nat_lt, true, false, Option, None, Some};
 ghost use Rattle.nr_units.specs.Source.{Supply};
 ghost use Rattle.nr_reading.specs.declared.event.Event.TheVariants as events;
-ghost use Rattle.nr_reading.specs.declared.front.Front.TheVariants as variants;
-ghost use Rattle.nr_reading.specs.declared.mode.Due.TheVariants as dues;
-ghost use Rattle.nr_reading.specs.Many.Runs.{HasMet, spot};
+ghost use Rattle.nr_reading.specs.declared.next_item.NextItem.TheVariants as variants;
+ghost use Rattle.nr_reading.specs.declared.mode.PendingAct.TheVariants as pending_acts;
+ghost use Rattle.nr_reading.specs.Many.Runs.{HasTakenIn, spot};
 ghost use Rattle.nr_store.specs.Windows.{elements_in};
 ghost use Rattle.fast_input.specs.declared.target.Target.TheVariants.{Argument};
-ghost use Rattle.nr_input.specs.Place.{Coming, Reached, HoldsComing, element_front, has_failed, is_unseen};
+ghost use Rattle.nr_input.specs.Place.{Coming, Reached, HoldsComing, element_item, has_failed, is_unseen};
 ghost use Rattle.nr_input.specs.Limits.{limits_of};
 ghost use Rattle.nr_input.specs.Moving.{situation};
 ghost use Rattle.fast_input.specs.Runs.{HasRead, PaysAll, PaysMany, IsLongest, IsLongestInLevel};
 ghost use Rattle.fast_input.specs.Target.{is_read_for};
 
-use crate::adding::{add_front, add_level_front};
+use crate::adding::{add_level_prefix, add_prefix};
 use crate::at_hand::window;
 use crate::rows::{ByteRow, ElementRow};
 use crate::target::Target;
@@ -27,23 +27,23 @@ use nr_units::source::Source;
 pub struct Moved {
     /// How many.
     pub moves: usize,
-    /// What the last of them told.
+    /// What the last of them emitted.
     pub event: Event,
 }
 
-// What is left of a level is met, as `Half::meet_run` says.
+// What is left of a level is taken in, as `Half::take_in_run` says.
 #[inline(always)]
-fn meet_level(half: &mut Half, rest: Rest<'_>) -> Run
-    ensures met { HasMet result.moves (map element_front (elements_in rest.entry)) half.old
+fn take_in_level(half: &mut Half, rest: Rest<'_>) -> Run
+    ensures taken_in { HasTakenIn result.moves (map element_item (elements_in rest.entry)) half.old
         (spot result half.new) }
     ensures few { result.moves ≤ 65536 }
-    ensures longest { result.event ≡ events.Nothing → half.new.reading.due ≡ dues.Look → result.moves < 65536
-        → (byte : ℕ) → slice_get (map element_front (elements_in rest.entry)) result.taken
+    ensures longest { result.event ≡ events.Nothing → half.new.reading.pending_act ≡ pending_acts.Look → result.moves < 65536
+        → (byte : ℕ) → slice_get (map element_item (elements_in rest.entry)) result.taken
         ≡ Some (variants.Byte byte) → ⊥ }
 {
     match rest {
-        Rest::Text(elements) => half.meet_run(&ElementRow(elements)),
-        Rest::Bytes(bytes) => half.meet_run(&ByteRow(bytes)),
+        Rest::Text(elements) => half.take_in_run(&ElementRow(elements)),
+        Rest::Bytes(bytes) => half.take_in_run(&ByteRow(bytes)),
     }
 }
 
@@ -59,7 +59,7 @@ pub(crate) fn read_level<K: Copy>(reader: &mut Reader, store: &mut Store<K>) -> 
     ensures limits { limits_of store.new reader.new ≡ limits_of store.old reader.old }
     ensures longest { IsLongestInLevel result.moves store.old reader.old result.event store.new reader.new }
 {
-    let run = meet_level(&mut reader.half, store.rest());
+    let run = take_in_level(&mut reader.half, store.rest());
     store.skip(run.taken as u32);
     run
 }
@@ -86,7 +86,7 @@ pub(crate) fn read_source<K: Copy, R: Source>(
     ensures unfailed { has_failed place.old.ahead ≡ false → has_failed place.new.ahead ≡ false }
 {
     let bytes = window(place, store, source);
-    let run = reader.half.meet_run(&ByteRow(bytes));
+    let run = reader.half.take_in_run(&ByteRow(bytes));
     if run.taken == 0 {
         return run;
     }
@@ -96,7 +96,7 @@ pub(crate) fn read_source<K: Copy, R: Source>(
     run
 }
 
-// The bytes in front of the newest level that stand for themselves are added, where they are read for an argument of a macro or for a
+// The first bytes of the newest level that stand for themselves are added, where they are read for an argument of a macro or for a
 // text that is defined. Answers how many.
 #[inline(always)]
 fn add_wanted<K: Copy>(reader: &Reader, store: &mut Store<K>) -> usize
@@ -110,12 +110,12 @@ fn add_wanted<K: Copy>(reader: &Reader, store: &mut Store<K>) -> usize
     ensures none { result ≡ 0 → store.new ≡ store.old }
 {
     match Target::of(&reader.half) {
-        Some(target) => add_level_front(target, reader, store),
+        Some(target) => add_level_prefix(target, reader, store),
         None => 0,
     }
 }
 
-/// The items in front of the newest level are added, and then read.
+/// The first items of the newest level are added, and then read.
 #[inline(always)]
 pub(crate) fn read_added<K: Copy>(reader: &mut Reader, store: &mut Store<K>) -> Run
     ensures read { (c : Coming) (p : Reached) (supply : Option Supply) → HoldsComing c p supply
@@ -135,7 +135,7 @@ pub(crate) fn read_added<K: Copy>(reader: &mut Reader, store: &mut Store<K>) -> 
     }
 }
 
-// As `read_level`, in the midst of a macro's argument: the bytes in front that stand for themselves are added to it.
+// As `read_level`, in the midst of a macro's argument: the first bytes that stand for themselves are added to it.
 #[inline]
 fn add_from_level<K: Copy>(reader: &mut Reader, store: &mut Store<K>) -> Run
     requires { is_read_for Argument reader.old.half ≡ true }
@@ -147,7 +147,7 @@ fn add_from_level<K: Copy>(reader: &mut Reader, store: &mut Store<K>) -> Run
     ensures limits { limits_of store.new reader.new ≡ limits_of store.old reader.old }
     ensures longest { IsLongestInLevel result.moves store.old reader.old result.event store.new reader.new }
 {
-    let taken = add_level_front(Target::Argument, reader, store);
+    let taken = add_level_prefix(Target::Argument, reader, store);
     if taken == 0 {
         return read_level(reader, store);
     }
@@ -158,7 +158,7 @@ fn add_from_level<K: Copy>(reader: &mut Reader, store: &mut Store<K>) -> Run
     }
 }
 
-// As `read_source`, where items are read for this target: the bytes in front that stand for themselves are added to it.
+// As `read_source`, where items are read for this target: the first bytes that stand for themselves are added to it.
 #[inline]
 fn add_from_source<K: Copy, R: Source>(
     target: Target,
@@ -182,7 +182,7 @@ fn add_from_source<K: Copy, R: Source>(
     ensures unfailed { has_failed place.old.ahead ≡ false → has_failed place.new.ahead ≡ false }
 {
     let bytes = window(place, store, source);
-    let taken = add_front(target, &reader.half, store, bytes);
+    let taken = add_prefix(target, &reader.half, store, bytes);
     if taken == 0 {
         return read_source(place, reader, store, source);
     }
@@ -214,7 +214,7 @@ pub(crate) fn read_run_of_level<K: Copy>(reader: &mut Reader, store: &mut Store<
 }
 
 /// Items that lie in a row are read, many moves at once: up to the first that tells something or after which something
-/// is due, and none where an item has to be looked at alone.
+/// is pending, and none where an item has to be looked at alone.
 ///
 /// Proved: Bytes that lie in a row are read in one call by exactly the moves of nr_input, of which only the last may
 /// emit an event.

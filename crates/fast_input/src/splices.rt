@@ -12,7 +12,7 @@ pub(crate) const MOST: usize = 8;
 #[derive(Clone, Copy)]
 pub(crate) struct Splice {
     /// How many items of the newest level there are up to the end of its escape.
-    pub(crate) behind: usize,
+    pub(crate) afterwards: usize,
     /// How many bytes were gathered before its own.
     pub(crate) before: usize,
     /// How many bytes of its own were.
@@ -50,7 +50,7 @@ impl Splices {
     {
         Splices {
             all: [Splice {
-                behind: 0,
+                afterwards: 0,
                 before: 0,
                 count: 0,
                 moves: 0,

@@ -22,10 +22,10 @@ use Rattle.nr_machine.specs.Measures.{IsWithin}
 use Rattle.nr_machine.specs.Run.{Goes}
 use Rattle.nr_machine.specs.Holding.{Made, Shape, Stands, at}
 use Rattle.fast_machine.specs.Running.{Makes, PutsText, Saves, unburst}
-use Rattle.fast_machine.proofs.Gliding.{Glides, glides_heard, made_of, told}
+use Rattle.fast_machine.proofs.Gliding.{Glides, glides_heard, made_of, emitted}
 use Rattle.nr_machine.proofs.NextMoves.{step-hear}
 use Rattle.fast_machine.proofs.PlainGaps.{first, first_of, gone_shape, made_gone}
-use Rattle.fast_machine.proofs.PlainText.{IsTyping, behind_byte, behind_many, goes_byte, line_after, paid, passed_many, reads_byte, stands_typing}
+use Rattle.fast_machine.proofs.PlainText.{IsTyping, after_byte, after_many, goes_byte, line_after, paid, passed_many, reads_byte, stands_typing}
 use Rattle.fast_machine.proofs.TextAtHand.{first_left, holds_inside, puts_byte, puts_on, some_left}
 
 -- such a byte is no newline, and begins no escape
@@ -42,17 +42,17 @@ no_escape b f (Dash is) = rw is refl
 -- ---- it is read and heard
 
 -- s is in front of the byte, t after it
-module _ (s t : State) (b : ℕ) (chosen : t.chosen ≡ []) (line : IsInLine t.formatter) (goes : Goes s) (reads : step s ≡ told b t) (word : goes_to_word b t.formatter ≡ true) where
-  step_byte : step (told b t) ≡ made_of (byte_put b) t
+module _ (s t : State) (b : ℕ) (chosen : t.chosen ≡ []) (line : IsInLine t.formatter) (goes : Goes s) (reads : step s ≡ emitted b t) (word : goes_to_word b t.formatter ≡ true) where
+  step_byte : step (emitted b t) ≡ made_of (byte_put b) t
   step_byte =
-      step-hear (told b t) (events.Byte b) chosen line.springs refl
-      ∙ ap (λ f. record t { formatter = f }) (heard-byte (told b t).formatter (in_text t.formatter.reader.half line.half).mode line.begun b word)
+      step-hear (emitted b t) (events.Byte b) chosen line.springs refl
+      ∙ ap (λ f. record t { formatter = f }) (heard-byte (emitted b t).formatter (in_text t.formatter.reader.half line.half).mode line.begun b word)
       ∙ ap (λ e. record t { formatter = record (byte_put b t.formatter) { event = e } }) (sym line.event)
 
   pub glides_byte : IsWithin (made_of (byte_put b) t) → Glides s 2 (made_of (byte_put b) t)
   glides_byte within = glides_heard s t b chosen line goes reads (made_of (byte_put b) t) step_byte within
 
-within_byte : (b : ℕ) (s : State) → IsTyping s → line_cells (byte_added b s.formatter) ≤ s.formatter.line.limit → IsWithin (made_of (byte_put b) (behind_byte s))
+within_byte : (b : ℕ) (s : State) → IsTyping s → line_cells (byte_added b s.formatter) ≤ s.formatter.line.limit → IsWithin (made_of (byte_put b) (after_byte s))
 within_byte b s typing fits = record {
   formatter = record { stored = typing.within.formatter.stored; depth = typing.within.formatter.depth; line = fits; burst = omega arith };
   page = typing.within.page;
@@ -72,7 +72,7 @@ saves_byte b e =
 
 module _ (b : ℕ) (bs : List ℕ) (e : Shape) (supply supply' : Option Supply) (levels : e.formatter.store.levels ≡ []) (byte : IsCellByte b e.formatter)
     (next : (c : Coming) → HoldsComing c e.place supply → ComeNext (b ∷ bs) c)
-    (behind : (c : Coming) → HoldsComing c e.place supply → HoldsComing (behind_many 1 c) (passed_many 1 e.place) supply') where
+    (afterwards : (c : Coming) → HoldsComing c e.place supply → HoldsComing (after_many 1 c) (passed_many 1 e.place) supply') where
   made_byte : (held : Option (List ℕ)) (s : State) → Stands [] supply s e → Made [] (at e s) 2 (gone_shape (byte_put b) e) supply' held held
   made_byte held s h =
       let typing = stands_typing supply s e h byte.line levels in
@@ -81,8 +81,8 @@ module _ (b : ℕ) (bs : List ℕ) (e : Shape) (supply supply' : Option Supply) 
       let goes = goes_byte b x.rest (at e s) typing (no_newline b e.formatter which) (no_escape b e.formatter which) x.is x.gives x.few in
       let reads = reads_byte b x.rest (at e s) typing (no_newline b e.formatter which) (no_escape b e.formatter which) x.is x.gives x.few in
       let within = within_byte b (at e s) typing byte.within in
-      made_gone 2 (byte_put b) e supply supply' held s h (behind s.coming h.coming) within
-      (glides_byte (at e s) (behind_byte (at e s)) b h.chosen_is (line_after (at e s) typing) goes reads byte.goes within)
+      made_gone 2 (byte_put b) e supply supply' held s h (afterwards s.coming h.coming) within
+      (glides_byte (at e s) (after_byte (at e s)) b h.chosen_is (line_after (at e s) typing) goes reads byte.goes within)
 
   makes_byte : Makes 2 e (gone_shape (byte_put b) e) supply supply'
   makes_byte = record { makes = made_byte; limit = refl; most = refl; limits = refl; spends = (let saves = saves_byte b e in omega (arith, saves)) }
@@ -129,9 +129,9 @@ module _ (P : ℕ → ℕ → Formatter → Type 0) (bs : List ℕ) (one : (t m 
   bytes_on (suc n) t m g h put within cells =
       let below : t < length bs = omega (arith, within) in
       let b = slice_index bs t in
-      let behind : suc t ≡ t + 1 = omega arith in
+      let afterwards : suc t ≡ t + 1 = omega arith in
       let here : PutsCellBytes (b ∷ take n (drop (suc t) bs)) g h = subst (λ xs. PutsCellBytes (take (suc n) xs) g h) (drop-cons bs t 0 below) cells in
-      let others : PutsCellBytes (take n (drop (t + 1) bs)) (byte_put b g) h = subst (λ k. PutsCellBytes (take n (drop k bs)) (byte_put b g) h) behind here.1 in
+      let others : PutsCellBytes (take n (drop (t + 1) bs)) (byte_put b g) h = subst (λ k. PutsCellBytes (take n (drop k bs)) (byte_put b g) h) afterwards here.1 in
       let more = bytes_on n (t + 1) (m + 2) (byte_put b g) h (one t m g put below here.0) (omega (arith, within)) others in
       let taken : t + 1 + n ≡ t + suc n = omega arith in
       let moves : m + 2 + 2 * n ≡ m + 2 * suc n = omega arith in

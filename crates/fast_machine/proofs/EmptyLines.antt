@@ -6,17 +6,17 @@ use Rattle.std.proofs.lemmas.Bool.{eqb-false, lt-ltb, ne_eqb}
 use Rattle.nr_units.specs.Source.{Faults, MayGive, Supply, later}
 use Rattle.nr_reading.specs.declared.event.Event.{Event}
 use Rattle.nr_reading.specs.declared.event.Event.TheVariants as events
-use Rattle.nr_reading.specs.declared.front.Front.TheVariants as fronts
+use Rattle.nr_reading.specs.declared.next_item.NextItem.TheVariants as next_items
 use Rattle.nr_reading.specs.declared.half.Half.{Half}
-use Rattle.nr_reading.specs.Half.{meet}
+use Rattle.nr_reading.specs.Half.{take_in}
 use Rattle.fast_input.specs.AtHand.{ComeNext, after_last}
-use Rattle.nr_input.specs.Place.{Coming, HoldsComing, front, passed_run}
-use Rattle.nr_input.specs.Moving.{met_at, situation}
+use Rattle.nr_input.specs.Place.{Coming, HoldsComing, next_item, passed_run}
+use Rattle.nr_input.specs.Moving.{taken_in_at, situation}
 use Rattle.nr_input.specs.Moving.{move as input_move}
 use Rattle.nr_input.specs.Moving as input
 use Rattle.nr_input.specs.Weights.{expansions_worth}
 use Rattle.nr_input.specs.declared.reader.Reader.{Reader}
-use Rattle.nr_input.specs.declared.told.Told.TheVariants as tells
+use Rattle.nr_input.specs.declared.emitted.Emitted.TheVariants as tells
 use Rattle.nr_store.specs.Store.{shown}
 use Rattle.nr_formatter.specs.Access.{spacing}
 use Rattle.nr_formatter.specs.Many.EmptyLines.{IsAtLine, gone_down}
@@ -38,7 +38,7 @@ use Rattle.nr_machine.specs.Holding.{Holds, Made, Shape, Stands, at, weight, wor
 use Rattle.fast_machine.specs.Running.{Makes, unburst}
 use Rattle.fast_machine.proofs.Gliding.{Glides, glides-add, glides-by, glides-one}
 use Rattle.nr_machine.proofs.NextMoves.{kind-hear, kind-read, kind-work, step-hear, step-read, step-work}
-use Rattle.fast_machine.proofs.PlainText.{drop-more, front_more, later-more, later-one, may_give_more, may_give_one, paid}
+use Rattle.fast_machine.proofs.PlainText.{drop-more, prefix_more, later-more, later-one, may_give_more, may_give_one, paid}
 use Rattle.nr_machine.proofs.Standing.{wrote_nothing}
 use Rattle.fast_machine.proofs.Running.{makes-add}
 use Rattle.nr_machine.proofs.Working.{holds_of}
@@ -130,13 +130,13 @@ record IsStarting (f : Formatter) : Type 0 where
   continued : f.reader.half.reading.continued ≡ false
   levels : f.store.levels ≡ []
 
--- it is told
-abbrev told_empty : State → State
-told_empty t = record t { formatter = record t.formatter { event = events.Empty } }
+-- it is emitted
+abbrev emitted_empty : State → State
+emitted_empty t = record t { formatter = record t.formatter { event = events.Empty } }
 
 -- after it
-abbrev behind_newline : State → State
-behind_newline s = record s { coming = after_last (code "\n") 1 s.coming; formatter = unburst s.formatter }
+abbrev past_newline : State → State
+past_newline s = record s { coming = after_last (code "\n") 1 s.coming; formatter = unburst s.formatter }
 
 -- after so many of them, which went down
 abbrev lines_down : ℕ → State → State
@@ -147,39 +147,39 @@ other : (n : ℕ) → (n == code "\n") ≡ false → (code "\n" == n) ≡ false
 other n is = ne_eqb (code "\n") n (λ e. eqb-false n (code "\n") is (sym e))
 
 -- it is an empty line, and nothing else changes
-meet-newline : (h : Half) → IsAtLine h → h.reading.continued ≡ false → meet (fronts.Byte (code "\n")) h ≡ record { half = h; event = events.Empty; takes = true }
-meet-newline h is continued = rw (is.asks, is.mode, is.escape, other h.signs.control is.control, other h.signs.no_break is.no_break, continued) refl
+take_in-newline : (h : Half) → IsAtLine h → h.reading.continued ≡ false → take_in (next_items.Byte (code "\n")) h ≡ record { half = h; event = events.Empty; takes = true }
+take_in-newline h is continued = rw (is.asks, is.mode, is.escape, other h.signs.control is.control, other h.signs.no_break is.no_break, continued) refl
 
 module _ (rest : List ℕ) (s : State) (chosen : s.chosen ≡ []) (start : IsStarting s.formatter) (within : IsWithin s) (next : s.coming.supply.bytes ≡ code "\n" ∷ rest)
     (gives : MayGive s.coming.supply.faults) (few : s.coming.taken + 1 < 2 ^ 40) where
   further : (s.coming.taken + 1 == s.coming.taken) ≡ false
   further = ne_eqb (s.coming.taken + 1) s.coming.taken (λ e. omega (arith, e))
 
-  looks : input_move (situation_of s) ≡ met_at (meet (front (shown s.formatter.store.levels) s.coming) s.formatter.reader.half) (situation_of s)
-  looks = rw start.half.due refl
+  looks : input_move (situation_of s) ≡ taken_in_at (take_in (next_item (shown s.formatter.store.levels) s.coming) s.formatter.reader.half) (situation_of s)
+  looks = rw start.half.pending_act refl
 
-  meets : meet (front (shown s.formatter.store.levels) s.coming) s.formatter.reader.half ≡ record { half = s.formatter.reader.half; event = events.Empty; takes = true }
-  meets = rw (start.levels, next, meet-newline s.formatter.reader.half start.half start.continued) refl
+  takes_in : take_in (next_item (shown s.formatter.store.levels) s.coming) s.formatter.reader.half ≡ record { half = s.formatter.reader.half; event = events.Empty; takes = true }
+  takes_in = rw (start.levels, next, take_in-newline s.formatter.reader.half start.half start.continued) refl
 
-  takes : met_at (record { half = s.formatter.reader.half; event = events.Empty; takes = true }) (situation_of s)
-      ≡ record { situation = situation s.formatter.store (after_last (code "\n") 1 s.coming) (record s.formatter.reader { burst = 0 }); told = tells.Event events.Empty }
+  takes : taken_in_at (record { half = s.formatter.reader.half; event = events.Empty; takes = true }) (situation_of s)
+      ≡ record { situation = situation s.formatter.store (after_last (code "\n") 1 s.coming) (record s.formatter.reader { burst = 0 }); emitted = tells.Event events.Empty }
   takes = rw (start.levels, next, further, later-one s.coming.supply.faults) refl
 
-  reads : step s ≡ told_empty (behind_newline s)
+  reads : step s ≡ emitted_empty (past_newline s)
   reads =
       step-read s chosen start.springs start.event start.task
-      ∙ ap (λ m. with_situation m s) (looks ∙ ap (λ m. met_at m (situation_of s)) meets ∙ takes)
+      ∙ ap (λ m. with_situation m s) (looks ∙ ap (λ m. taken_in_at m (situation_of s)) takes_in ∙ takes)
 
   goes : Goes s
   goes =
       let reads_next = kind-read s chosen start.springs start.event start.task in
-      let sees : input.Goes (situation_of s) = rw (start.half.due, start.levels, next) (gives, λ many. omega (arith, many, few)) in
+      let sees : input.Goes (situation_of s) = rw (start.half.pending_act, start.levels, next) (gives, λ many. omega (arith, many, few)) in
       subst (λ k. GoesBy k s) (sym reads_next) sees
 
   -- four moves
   glides_newline : HasRoom 1 s.formatter → Glides s 4 (lines_down 1 s)
   glides_newline room =
-      let t = told_empty (behind_newline s) in
+      let t = emitted_empty (past_newline s) in
       glides-add s 1 3 t (lines_down 1 s) (glides-one s t goes reads) (glides_empty t chosen refl
       (room_kept 1 s.formatter (record s.formatter.reader { burst = 0 }) events.Empty room)
       (within_kept s (after_last (code "\n") 1 s.coming) t.formatter refl refl (omega arith) within))
@@ -196,7 +196,7 @@ starting_on f half springs levels = record {
   springs = springs;
   event = refl;
   task = refl;
-  half = record { mode = half.mode; escape = half.escape; due = half.due; asks = half.asks; control = half.control; no_break = half.no_break };
+  half = record { mode = half.mode; escape = half.escape; pending_act = half.pending_act; asks = half.asks; control = half.control; no_break = half.no_break };
   continued = refl;
   levels = levels;
 }
@@ -229,8 +229,8 @@ abbrev coming_of : List ℕ → Faults → ℕ → Coming
 coming_of bs f n = record { supply = record { bytes = bs; faults = f }; taken = n; inside = false }
 
 -- after a newline and then others
-behind-more : (n : ℕ) (c : Coming) → after_last (code "\n") n (after_last (code "\n") 1 c) ≡ after_last (code "\n") (suc n) c
-behind-more n c =
+afterwards-more : (n : ℕ) (c : Coming) → after_last (code "\n") n (after_last (code "\n") 1 c) ≡ after_last (code "\n") (suc n) c
+afterwards-more n c =
     let counts : c.taken + 1 + n ≡ c.taken + suc n = omega arith in
     ap (λ bs. coming_of bs (later n (later 1 c.supply.faults)) (c.taken + 1 + n)) (drop-more n c.supply.bytes)
     ∙ ap (λ f. coming_of (drop (suc n) c.supply.bytes) f (c.taken + 1 + n)) (later-more n c.supply.faults)
@@ -240,7 +240,7 @@ behind-more n c =
 lines-more : (n : ℕ) (s : State) → lines_down n (lines_down 1 s) ≡ lines_down (suc n) s
 lines-more n s =
     let counts : 1 + n ≡ suc n = omega arith in
-    ap (λ c. record s { coming = c; formatter = unburst (gone_down n (gone_down 1 s.formatter)) }) (behind-more n s.coming)
+    ap (λ c. record s { coming = c; formatter = unburst (gone_down n (gone_down 1 s.formatter)) }) (afterwards-more n s.coming)
     ∙ ap (λ f. record s { coming = after_last (code "\n") (suc n) s.coming; formatter = unburst f }) (lines_gone 1 n s.formatter)
     ∙ ap (λ k. record s { coming = after_last (code "\n") (suc n) s.coming; formatter = unburst (gone_down k s.formatter) }) counts
 
@@ -256,15 +256,15 @@ next_more bs rest c is others next = record {
 glides_lines : (n : ℕ) (s : State) → s.chosen ≡ [] → IsStarting s.formatter → IsWithin s → HasRoom (suc n) s.formatter → ComeNext (replicate (suc n) (code "\n")) s.coming
     → Glides s (4 * suc n) (lines_down (suc n) s)
 glides_lines zero s chosen start within room next =
-    let front = front_more s.coming.supply.bytes (code "\n") [] next.bytes in
-    glides_newline front.0 s chosen start within front.1 (may_give_one 0 s.coming.supply.faults next.faults) (omega (arith, next.few)) room
+    let prefix = prefix_more s.coming.supply.bytes (code "\n") [] next.bytes in
+    glides_newline prefix.0 s chosen start within prefix.1 (may_give_one 0 s.coming.supply.faults next.faults) (omega (arith, next.few)) room
 glides_lines (suc n) s chosen start within room next =
     let bs : List ℕ = replicate (suc n) (code "\n") in
-    let front = front_more s.coming.supply.bytes (code "\n") bs next.bytes in
-    let one = glides_newline front.0 s chosen start within front.1 (may_give_one (length bs) s.coming.supply.faults next.faults) (omega (arith, next.few)) (room_first (suc n) s.formatter (room_more (suc n) s.formatter room)) in
+    let prefix = prefix_more s.coming.supply.bytes (code "\n") bs next.bytes in
+    let one = glides_newline prefix.0 s chosen start within prefix.1 (may_give_one (length bs) s.coming.supply.faults next.faults) (omega (arith, next.few)) (room_first (suc n) s.formatter (room_more (suc n) s.formatter room)) in
     let f = s.formatter in
     let more = glides_lines n (lines_down 1 s) chosen (starting_unburst (gone_down 1 f) (starting_on f start.half start.springs start.levels)) (within_lines 1 s within)
-    (room_kept (suc n) (gone_down 1 f) (record (gone_down 1 f).reader { burst = 0 }) events.Nothing (room_on 1 (suc n) f (room_more (suc n) f room))) (next_more bs front.0 s.coming front.1 front.2 next) in
+    (room_kept (suc n) (gone_down 1 f) (record (gone_down 1 f).reader { burst = 0 }) events.Nothing (room_on 1 (suc n) f (room_more (suc n) f room))) (next_more bs prefix.0 s.coming prefix.1 prefix.2 next) in
     let count : 4 + 4 * suc n ≡ 4 * suc (suc n) = omega arith in
     subst (λ t. Glides s (4 * suc (suc n)) t) (lines-more (suc n) s)
     (subst (λ k. Glides s k (lines_down (suc n) (lines_down 1 s))) count
@@ -311,11 +311,11 @@ made_lines : (n : ℕ) (e : Shape) (supply supply' : Option Supply) (held : Opti
     → ((c : Coming) → HoldsComing c e.place supply → ComeNext (replicate (suc n) (code "\n")) c)
     → ((c : Coming) → HoldsComing c e.place supply → HoldsComing (after_last (code "\n") (suc n) c) (passed_run (code "\n") (suc n) e.place) supply')
     → Made [] (at e s) (4 * suc n) (lines_shape (suc n) e) supply' held held
-made_lines n e supply supply' held s h start room next behind =
+made_lines n e supply supply' held s h start room next afterwards =
     let t = lines_down (suc n) (at e s) in
     let glides = glides_lines n (at e s) h.chosen_is start h.within room (next s.coming h.coming) in
     let holds : Holds [] supply' t (lines_shape (suc n) e) =
-    holds_of supply' t (lines_shape (suc n) e) refl h.chosen_is (behind s.coming h.coming) h.row h.page h.page_limit h.select h.faces (within_lines (suc n) (at e s) h.within) in
+    holds_of supply' t (lines_shape (suc n) e) refl h.chosen_is (afterwards s.coming h.coming) h.row h.page h.page_limit h.select h.faces (within_lines (suc n) (at e s) h.within) in
     record {
       runs = glides.runs;
       holds = rw glides.leads holds;
@@ -341,9 +341,9 @@ makes_lines : (n : ℕ) (e : Shape) (supply supply' : Option Supply) → 0 < n �
     → ((c : Coming) → HoldsComing c e.place supply → ComeNext (replicate n (code "\n")) c)
     → ((c : Coming) → HoldsComing c e.place supply → HoldsComing (after_last (code "\n") n c) (passed_run (code "\n") n e.place) supply')
     → Makes (4 * n) e (lines_shape n e) supply supply'
-makes_lines zero e supply supply' some start room next behind = absurd (omega (arith, some))
-makes_lines (suc n) e supply supply' some start room next behind = record {
-  makes = λ held s h. made_lines n e supply supply' held s h start room next behind;
+makes_lines zero e supply supply' some start room next afterwards = absurd (omega (arith, some))
+makes_lines (suc n) e supply supply' some start room next afterwards = record {
+  makes = λ held s h. made_lines n e supply supply' held s h start room next afterwards;
   limit = refl;
   most = refl;
   limits = refl;
@@ -354,7 +354,7 @@ makes_lines (suc n) e supply supply' some start room next behind = record {
 pub makes_more : (n : ℕ) (e : Shape) (supply supply' : Option Supply) → e.formatter.event ≡ events.Empty → 0 < n → HasRoom (1 + n) e.formatter → NewlinesNext n e supply
     → ((c : Coming) → HoldsComing c e.place supply → HoldsComing (after_last (code "\n") n c) (passed_run (code "\n") n e.place) supply')
     → Makes (3 + 4 * n) e (lines_shape n (down_shape e)) supply supply'
-makes_more n e supply supply' empty some room next behind =
+makes_more n e supply supply' empty some room next afterwards =
     let f = e.formatter in
     makes-add 3 (4 * n) e (down_shape e) (lines_shape n (down_shape e)) supply supply supply' (makes_empty e supply empty (room_first n f room))
-    (makes_lines n (down_shape e) supply supply' some (starting_on f (at_line f.reader.half next.at_line) room.down.springs next.has.levels) (room_on 1 n f room) next.has.next behind)
+    (makes_lines n (down_shape e) supply supply' some (starting_on f (at_line f.reader.half next.at_line) room.down.springs next.has.levels) (room_on 1 n f room) next.has.next afterwards)

@@ -98,21 +98,21 @@ left_is v b is = left_times-run 1 v (one_left v.levels (elements.Byte b) (showin
 -- these come, and then those
 record Split (xs ys : List ℕ) (n : ℕ) (v : Stored Resume) (r : Reader) (w : Stored Resume) (q : Reader) : Type 0 where
   before : ℕ
-  behind : ℕ
+  afterwards : ℕ
   there : Stored Resume
   reader : Reader
-  counted : n ≡ before + behind
+  counted : n ≡ before + afterwards
   first : Brings before xs v r there reader
-  more : Brings behind ys there reader w q
+  more : Brings afterwards ys there reader w q
 
 split : (xs ys : List ℕ) (n : ℕ) (v : Stored Resume) (r : Reader) (w : Stored Resume) (q : Reader) → Brings n (xs ++ ys) v r w q → Split xs ys n v r w q
-split [] ys n v r w q brings = record { before = 0; behind = n; there = v; reader = r; counted = omega arith; first = (refl, refl, refl); more = brings }
+split [] ys n v r w q brings = record { before = 0; afterwards = n; there = v; reader = r; counted = omega arith; first = (refl, refl, refl); more = brings }
 split (x ∷ xs) ys n v r w q brings =
     let u : Stored Resume = brings.2 in
     let rest = split xs ys brings.1 (left u.levels u) brings.3 w q brings.7 in
     record {
       before = brings.0 + rest.before;
-      behind = rest.behind;
+      afterwards = rest.afterwards;
       there = rest.there;
       reader = rest.reader;
       counted = omega (arith, brings.4, rest.counted);
@@ -208,7 +208,7 @@ flows-add xs ys m k f g h store reader within first more = λ n v r w q is fits 
     let there = fits_brought f xs parts.before v r parts.there parts.reader fits parts.first in
     let fits_there : FitsMemory (with_read parts.there parts.reader g) = record { stored = there.stored; depth = there.depth; line = within fits.line } in
     let further = further_of f g parts.there parts.reader store reader (further_brought f xs parts.before v r parts.there parts.reader is parts.first) in
-    let count : m + parts.before + (k + parts.behind) ≡ m + k + n = omega (arith, parts.counted) in
+    let count : m + parts.before + (k + parts.afterwards) ≡ m + k + n = omega (arith, parts.counted) in
     subst (λ j. MakesInText j from after) count
-    (text-add (m + parts.before) (k + parts.behind) from (with_read parts.there parts.reader g) after (first parts.before v r parts.there parts.reader is fits parts.first)
-    (more parts.behind parts.there parts.reader w q further fits_there parts.more))
+    (text-add (m + parts.before) (k + parts.afterwards) from (with_read parts.there parts.reader g) after (first parts.before v r parts.there parts.reader is fits parts.first)
+    (more parts.afterwards parts.there parts.reader w q further fits_there parts.more))

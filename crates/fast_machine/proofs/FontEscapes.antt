@@ -8,13 +8,13 @@ use Rattle.nr_units.specs.Source.{Skips, Supply, skipped}
 use Rattle.nr_fill.specs.Piece.{begins_line}
 use Rattle.nr_reading.specs.declared.event.Event.{Event}
 use Rattle.nr_reading.specs.declared.event.Event.TheVariants as events
-use Rattle.nr_reading.specs.declared.front.Front.TheVariants as fronts
+use Rattle.nr_reading.specs.declared.next_item.NextItem.TheVariants as next_items
 use Rattle.nr_reading.specs.declared.half.Half.{Half}
 use Rattle.nr_reading.specs.declared.many.runs.Run.{Run}
 use Rattle.nr_reading.specs.Many.InText.{is_in_text}
 use Rattle.nr_reading.specs.Many.Interpolations.{interpolates}
 use Rattle.nr_reading.specs.Many.LineBeginnings.{is_at_text as reads_text}
-use Rattle.nr_reading.specs.Many.Runs.{HasMet, spot}
+use Rattle.nr_reading.specs.Many.Runs.{HasTakenIn, spot}
 use Rattle.nr_reading.proofs.InText.{in_text}
 use Rattle.nr_input.specs.Place.{Coming, HoldsComing, Reached, passed_run}
 use Rattle.nr_input.specs.Moving.{situation}
@@ -40,7 +40,7 @@ use Rattle.fast_machine.proofs.Gliding.{glides-by}
 use Rattle.fast_machine.proofs.LevelText.{made_glided}
 use Rattle.nr_machine.proofs.NextMoves.{kind-hear, step-hear}
 use Rattle.fast_machine.proofs.ReadRuns.{makes_reading, read_shape}
-use Rattle.fast_machine.proofs.Spending.{told_all}
+use Rattle.fast_machine.proofs.Spending.{emitted_all}
 use Rattle.fast_machine.proofs.Running.{makes-add}
 
 -- ---- the move that sets the font
@@ -83,10 +83,10 @@ skips n (Some q) = refl
 abbrev pub font_put : Half → Formatter → Formatter
 font_put h f = font_set (record f { reader = record f.reader { half = h } })
 
-module _ (bs : List ℕ) (f : Formatter) (run : Run) (h : Half) (reads : ReadsNext f) (met : HasMet run.moves (map fronts.Byte bs) f.reader.half (spot run h)) (font : run.event ≡ events.Font)
+module _ (bs : List ℕ) (f : Formatter) (run : Run) (h : Half) (reads : ReadsNext f) (taken_in : HasTakenIn run.moves (map next_items.Byte bs) f.reader.half (spot run h)) (font : run.event ≡ events.Font)
     (least : 3 ≤ run.taken) where
-  front : run.taken ≤ length bs
-  front = omega (arith, met.within, length-map bs fronts.Byte)
+  prefix : run.taken ≤ length bs
+  prefix = omega (arith, taken_in.within, length-map bs next_items.Byte)
 
   -- wherever the engine stands with this formatter
   module _ (e : Shape) (supply : Option Supply) (is : unburst e.formatter ≡ unburst f) (has : HasNext bs e supply) where
@@ -94,15 +94,15 @@ module _ (bs : List ℕ) (f : Formatter) (run : Run) (h : Half) (reads : ReadsNe
     abbrev rest : Option Supply
     rest = option_map (skipped run.taken) supply
 
-    abbrev behind : Reader
-    behind = record e.formatter.reader { half = h; burst = 0 }
+    abbrev afterwards : Reader
+    afterwards = record e.formatter.reader { half = h; burst = 0 }
 
     abbrev there : Reached
     there = passed_run (slice_index bs (run.taken - 1)) run.taken e.place
 
-    -- the escape was told
-    abbrev told : Shape
-    told = read_shape e.formatter.store behind run.event there e
+    -- the escape was emitted
+    abbrev emitted : Shape
+    emitted = read_shape e.formatter.store afterwards run.event there e
 
     reads_there : ReadsNext e.formatter
     reads_there = record {
@@ -111,58 +111,58 @@ module _ (bs : List ℕ) (f : Formatter) (run : Run) (h : Half) (reads : ReadsNe
       task = ap (λ (x : Formatter). x.task) is ∙ reads.task;
     }
 
-    met_there : HasMet run.moves (map fronts.Byte bs) e.formatter.reader.half (spot run h)
-    met_there = subst (λ (x : Formatter). HasMet run.moves (map fronts.Byte bs) x.reader.half (spot run h)) (sym is) met
+    taken_in_there : HasTakenIn run.moves (map next_items.Byte bs) e.formatter.reader.half (spot run h)
+    taken_in_there = subst (λ (x : Formatter). HasTakenIn run.moves (map next_items.Byte bs) x.reader.half (spot run h)) (sym is) taken_in
 
-    has_read : (c : Coming) → HoldsComing c e.place supply → HasRead run.moves (situation e.formatter.store c e.formatter.reader) run.event e.formatter.store behind there rest
+    has_read : (c : Coming) → HoldsComing c e.place supply → HasRead run.moves (situation e.formatter.store c e.formatter.reader) run.event e.formatter.store afterwards there rest
     has_read c holds =
-        source_read e.formatter.store c e.formatter.reader bs has.levels (has.next c holds) run.moves (spot run h) there rest (omega (arith, least)) met_there
-        (holds_past run.taken bs c e.place there supply rest (omega (arith, least)) front has.unseen (has.next c holds) holds (skips run.taken supply) refl)
+        source_read e.formatter.store c e.formatter.reader bs has.levels (has.next c holds) run.moves (spot run h) there rest (omega (arith, least)) taken_in_there
+        (holds_past run.taken bs c e.place there supply rest (omega (arith, least)) prefix has.unseen (has.next c holds) holds (skips run.taken supply) refl)
 
-    pays : PaysMany run.moves e.formatter.store e.place e.formatter.reader run.event e.formatter.store there behind
+    pays : PaysMany run.moves e.formatter.store e.place e.formatter.reader run.event e.formatter.store there afterwards
     pays =
         many_of_all run.moves _ _ _ _ _ _ run.event
-        (source_pays run.moves (map fronts.Byte bs) e.formatter.store e.place e.formatter.reader (spot run h) met_there (slice_index bs (run.taken - 1)) there (omega (arith, least)) refl)
+        (source_pays run.moves (map next_items.Byte bs) e.formatter.store e.place e.formatter.reader (spot run h) taken_in_there (slice_index bs (run.taken - 1)) there (omega (arith, least)) refl)
 
-    saves_reading : PaysMany (run.moves + 20) e.formatter.store e.place e.formatter.reader run.event e.formatter.store there behind
+    saves_reading : PaysMany (run.moves + 20) e.formatter.store e.place e.formatter.reader run.event e.formatter.store there afterwards
     saves_reading =
         many_of_all (run.moves + 20) _ _ _ _ _ _ run.event
-        (source_saves run.moves (map fronts.Byte bs) e.formatter.store e.place e.formatter.reader (spot run h) met_there (slice_index bs (run.taken - 1)) there (omega (arith, least)) refl)
+        (source_saves run.moves (map next_items.Byte bs) e.formatter.store e.place e.formatter.reader (spot run h) taken_in_there (slice_index bs (run.taken - 1)) there (omega (arith, least)) refl)
 
-    fits_there : (s : State) → Stands [] supply s e → FitsMemory told.formatter
+    fits_there : (s : State) → Stands [] supply s e → FitsMemory emitted.formatter
     fits_there s stands = record { stored = stands.within.formatter.stored; depth = stands.within.formatter.depth; line = stands.within.formatter.line }
 
-    reading : (s : State) → Stands [] supply s e → Makes run.moves e told supply rest
-    reading s stands = makes_reading run.moves run.event e.formatter.store behind there e supply rest reads_there has_read pays refl (fits_there s stands)
+    reading : (s : State) → Stands [] supply s e → Makes run.moves e emitted supply rest
+    reading s stands = makes_reading run.moves run.event e.formatter.store afterwards there e supply rest reads_there has_read pays refl (fits_there s stands)
 
-    makes_told : Makes run.moves e told supply rest
-    makes_told = record {
+    makes_emitted : Makes run.moves e emitted supply rest
+    makes_emitted = record {
       makes = λ held s stands. (reading s stands).makes held s stands;
       limit = refl;
       most = refl;
       limits = refl;
-      spends = told_all run.moves e.place there e.formatter e.formatter.store behind run.event reads_there.event reads_there.task pays;
+      spends = emitted_all run.moves e.place there e.formatter e.formatter.store afterwards run.event reads_there.event reads_there.task pays;
     }
 
     -- and then it is set
-    same_shape : set_shape told ≡ taken_shape bs run.taken (font_put h f) e
+    same_shape : set_shape emitted ≡ taken_shape bs run.taken (font_put h f) e
     same_shape = ap (λ (x : Formatter). record e { formatter = unburst (font_put h x); place = there }) is
 
     makes_font : Makes (run.moves + 1) e (taken_shape bs run.taken (font_put h f) e) supply rest
     makes_font =
         subst (λ x. Makes (run.moves + 1) e x supply rest) same_shape
-        (makes-add run.moves 1 e told (set_shape told) supply rest rest makes_told (makes_set told font reads_there.springs rest))
+        (makes-add run.moves 1 e emitted (set_shape emitted) supply rest rest makes_emitted (makes_set emitted font reads_there.springs rest))
 
     saves_font : Saves 20 (run.moves + 1) e (taken_shape bs run.taken (font_put h f) e)
     saves_font =
-        let read = told_all (run.moves + 20) e.place there e.formatter e.formatter.store behind run.event reads_there.event reads_there.task saves_reading in
-        let set = (makes_set told font reads_there.springs rest).spends in
+        let read = emitted_all (run.moves + 20) e.place there e.formatter e.formatter.store afterwards run.event reads_there.event reads_there.task saves_reading in
+        let set = (makes_set emitted font reads_there.springs rest).spends in
         subst (λ x. Saves 20 (run.moves + 1) e x) same_shape (omega (arith, read, set))
 
   -- so it is put
   pub puts_font : run.taken ≤ run.moves → run.moves ≤ run.taken + 1 → PutsText bs run.taken (run.moves + 1) f (font_put h f)
   puts_font few most = record {
-    front = front;
+    prefix = prefix;
     least = omega (arith, few);
     most = omega (arith, most, least);
     none = λ none. absurd (omega (arith, none, least));

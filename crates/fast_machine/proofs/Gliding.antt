@@ -47,9 +47,9 @@ glides-by g s works is within =
 
 -- ---- a byte that was read
 
--- it is told
-abbrev pub told : ℕ → State → State
-told b t = record t { formatter = record t.formatter { event = events.Byte b } }
+-- it is emitted
+abbrev pub emitted : ℕ → State → State
+emitted b t = record t { formatter = record t.formatter { event = events.Byte b } }
 
 -- with this made of the formatter
 abbrev pub made_of : (Formatter → Formatter) → State → State
@@ -64,21 +64,21 @@ none_flows f ends fits = rw (ends.filling, fits) (either_way (is_nil (gapped (co
     either_way false = refl
 
 -- s is in front of the byte, t after it
-module _ (s t : State) (b : ℕ) (chosen : t.chosen ≡ []) (line : IsInLine t.formatter) (goes : Goes s) (reads : step s ≡ told b t) where
+module _ (s t : State) (b : ℕ) (chosen : t.chosen ≡ []) (line : IsInLine t.formatter) (goes : Goes s) (reads : step s ≡ emitted b t) where
   text : IsInText t.formatter.reader.half
   text = in_text t.formatter.reader.half line.half
 
   -- it is read and heard
-  pub glides_heard : (u : State) → step (told b t) ≡ u → IsWithin u → Glides s 2 u
+  pub glides_heard : (u : State) → step (emitted b t) ≡ u → IsWithin u → Glides s 2 u
   glides_heard u is within =
-      let hears = kind-hear (told b t) (events.Byte b) chosen line.springs refl (λ e. let wrong : ⊥ = cc in wrong) in
-      let goes_on = subst (λ k. GoesBy k (told b t)) (sym hears) (ap passed is ∙ passed_none u within) in
-      glides-add s 1 1 (told b t) u (glides-one s (told b t) goes reads) (glides-one (told b t) u goes_on is)
+      let hears = kind-hear (emitted b t) (events.Byte b) chosen line.springs refl (λ e. let wrong : ⊥ = cc in wrong) in
+      let goes_on = subst (λ k. GoesBy k (emitted b t)) (sym hears) (ap passed is ∙ passed_none u within) in
+      glides-add s 1 1 (emitted b t) u (glides-one s (emitted b t) goes reads) (glides-one (emitted b t) u goes_on is)
 
-  step_plain : IsPlain b → step (told b t) ≡ made_of (run_put (b ∷ [])) t
+  step_plain : IsPlain b → step (emitted b t) ≡ made_of (run_put (b ∷ [])) t
   step_plain plain =
-      step-hear (told b t) (events.Byte b) chosen line.springs refl
-      ∙ ap (λ f. record t { formatter = f }) (heard-plain b (told b t).formatter plain text.mode line.begun)
+      step-hear (emitted b t) (events.Byte b) chosen line.springs refl
+      ∙ ap (λ f. record t { formatter = f }) (heard-plain b (emitted b t).formatter plain text.mode line.begun)
       ∙ ap (λ e. record t { formatter = record (run_put (b ∷ []) t.formatter) { event = e } }) (sym line.event)
 
   -- a plain byte is a cell of the word
@@ -86,7 +86,7 @@ module _ (s t : State) (b : ℕ) (chosen : t.chosen ≡ []) (line : IsInLine t.f
   glides_plain plain within = glides_heard (made_of (run_put (b ∷ [])) t) (step_plain plain) within
 
 -- the same for a blank after a word
-module _ (s t : State) (chosen : t.chosen ≡ []) (line : IsInLine t.formatter) (goes : Goes s) (reads : step s ≡ told (code " ") t) (gap : IsGap t.formatter) (within : IsWithin t) where
+module _ (s t : State) (chosen : t.chosen ≡ []) (line : IsInLine t.formatter) (goes : Goes s) (reads : step s ≡ emitted (code " ") t) (gap : IsGap t.formatter) (within : IsWithin t) where
   -- what the blank makes of the line is within the limits
   pub within_gap : IsWithin (made_of gap_put t)
   within_gap = record {
@@ -100,10 +100,10 @@ module _ (s t : State) (chosen : t.chosen ≡ []) (line : IsInLine t.formatter) 
     page = within.page;
   }
 
-  step_gap : step (told (code " ") t) ≡ made_of gap_flows t
+  step_gap : step (emitted (code " ") t) ≡ made_of gap_flows t
   step_gap =
-      step-hear (told (code " ") t) (events.Byte (code " ")) chosen line.springs refl
-      ∙ ap (λ f. record t { formatter = f }) (heard-gap (told (code " ") t).formatter (ends_word (told (code " ") t).formatter gap.plain) (text s t (code " ") chosen line goes reads).mode)
+      step-hear (emitted (code " ") t) (events.Byte (code " ")) chosen line.springs refl
+      ∙ ap (λ f. record t { formatter = f }) (heard-gap (emitted (code " ") t).formatter (ends_word (emitted (code " ") t).formatter gap.plain) (text s t (code " ") chosen line goes reads).mode)
       ∙ ap (λ e. record t { formatter = record (gap_flows t.formatter) { event = e } }) (sym line.event)
 
   -- the word ends

@@ -1,4 +1,4 @@
--- A condition that was told is judged: one move.
+-- A condition that was emitted is judged: one move.
 use Rattle.std.proofs.Common.{◌≡◌, ℕ, false, List, [], None, Some, Option, refl, arith}
 use Rattle.std.specs.Prelude.{is_some}
 use Rattle.nr_units.specs.Source.{Supply}

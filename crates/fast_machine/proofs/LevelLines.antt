@@ -35,7 +35,7 @@ module _ (bs : List ℕ) (taken moves besides : ℕ) (goes : Bool) (f g : Format
 
   -- of what is stored and read little is other
   pub left_further : IsFurther g w q
-  left_further = further_of f g w q puts.store puts.reader (further_led f leaves.behind leaves.there leaves.reader w q further_there leaves.leads)
+  left_further = further_of f g w q puts.store puts.reader (further_led f leaves.afterwards leaves.there leaves.reader w q further_there leaves.leads)
 
   module _ (fits : FitsMemory f) where
     first : MakesInText (moves + leaves.before) f there
@@ -46,14 +46,14 @@ module _ (bs : List ℕ) (taken moves besides : ℕ) (goes : Bool) (f g : Format
         let brought = fits_brought f (take taken bs) leaves.before f.store f.reader leaves.there leaves.reader fits leaves.brings in
         record { stored = brought.stored; depth = brought.depth; line = puts.within fits.line }
 
-    counted : moves + leaves.before + leaves.behind ≡ moves + besides
+    counted : moves + leaves.before + leaves.afterwards ≡ moves + besides
     counted = omega (arith, leaves.counted)
 
     -- the line goes on
     pub left_on : is_in_line g ≡ true → MakesInText (moves + besides) f (with_read w q g)
     left_on line =
         subst (λ n. MakesInText n f (with_read w q g)) counted
-        (text-add (moves + leaves.before) leaves.behind f there (with_read w q g) first (leads_on leaves.behind g leaves.there leaves.reader w q line fits_there leaves.leads))
+        (text-add (moves + leaves.before) leaves.afterwards f there (with_read w q g) first (leads_on leaves.afterwards g leaves.there leaves.reader w q line fits_there leaves.leads))
 
     -- it does not
     pub left_there : goes ≡ false → MakesInText (moves + besides) f (with_read w q g)
@@ -111,7 +111,7 @@ longest_none bs f gathered are most none stops = record {
   reader = f.reader;
   leaves = record {
     before = 0;
-    behind = 0;
+    afterwards = 0;
     there = f.store;
     reader = f.reader;
     counted = refl;

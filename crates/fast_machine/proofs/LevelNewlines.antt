@@ -10,13 +10,13 @@ use Rattle.nr_store.specs.declared.element.Element.TheVariants as elements
 use Rattle.nr_store.specs.declared.shown.Shown.TheVariants as shows
 use Rattle.nr_reading.specs.Many.InText.{IsInText}
 use Rattle.nr_reading.specs.Many.LineBeginnings.{text_ended}
-use Rattle.nr_reading.specs.Half.{meet}
+use Rattle.nr_reading.specs.Half.{take_in}
 use Rattle.nr_reading.specs.declared.event.Event.TheVariants as events
-use Rattle.nr_reading.specs.declared.front.Front.TheVariants as fronts
-use Rattle.nr_reading.proofs.InText.{in_text, meet-newline}
-use Rattle.nr_input.specs.Moving.{move as input_move, situation, met_at}
+use Rattle.nr_reading.specs.declared.next_item.NextItem.TheVariants as next_items
+use Rattle.nr_reading.proofs.InText.{in_text, take_in-newline}
+use Rattle.nr_input.specs.Moving.{move as input_move, situation, taken_in_at}
 use Rattle.nr_input.specs.Moving as input
-use Rattle.nr_input.specs.declared.told.Told.TheVariants as tells
+use Rattle.nr_input.specs.declared.emitted.Emitted.TheVariants as tells
 use Rattle.nr_formatter.specs.Access.{collected}
 use Rattle.nr_formatter.specs.Many.LineEnds.{IsNewline, line_gapped, newline_flows, newline_put}
 use Rattle.nr_formatter.specs.Lines.{fits_line}
@@ -38,7 +38,7 @@ use Rattle.fast_machine.specs.Running.{Makes}
 use Rattle.fast_machine.proofs.Gliding.{Glides, glides-add, glides-one, made_of}
 use Rattle.fast_machine.proofs.LevelText.{Showing, at_text, level_gone, made_glided, one_left, showing, within_text}
 use Rattle.nr_machine.proofs.NextMoves.{kind-read, step-read}
-use Rattle.fast_machine.proofs.PlainNewlines.{IsLineEnd, ended, ends_line, hears, lightens, line_put, told_line, within_put}
+use Rattle.fast_machine.proofs.PlainNewlines.{IsLineEnd, ended, ends_line, hears, lightens, line_put, emitted_line, within_put}
 use Rattle.fast_machine.proofs.RereadCells.{items_fewer}
 
 module _ (e : Shape) (supply : Option Supply) (held : Option (List ℕ)) (s : State) (h : Stands [] supply s e) (newline : IsNewline e.formatter)
@@ -57,35 +57,35 @@ module _ (e : Shape) (supply : Option Supply) (held : Option (List ℕ)) (s : St
   there = at_text l ls xs (at e s)
 
   -- where the text of the line has ended
-  abbrev behind : State
-  behind = record there { formatter = ended there.formatter }
+  abbrev afterwards : State
+  afterwards = record there { formatter = ended there.formatter }
 
   start_is : from ≡ at e s
   start_is = ap (λ v. record (at e s) { formatter = record e.formatter { store = record e.formatter.store { levels = v } } }) (sym levels_is)
 
   -- ---- it is read
 
-  looks : input_move (situation_of from) ≡ met_at (meet (fronts.Byte (code "\n")) e.formatter.reader.half) (situation_of from)
-  looks = rw half.due refl
+  looks : input_move (situation_of from) ≡ taken_in_at (take_in (next_items.Byte (code "\n")) e.formatter.reader.half) (situation_of from)
+  looks = rw half.pending_act refl
 
-  takes : met_at (record { half = text_ended e.formatter.reader.half; event = events.EndLine; takes = true }) (situation_of from)
-      ≡ record { situation = situation there.formatter.store s.coming (record e.formatter.reader { half = text_ended e.formatter.reader.half }); told = tells.Event events.EndLine }
+  takes : taken_in_at (record { half = text_ended e.formatter.reader.half; event = events.EndLine; takes = true }) (situation_of from)
+      ≡ record { situation = situation there.formatter.store s.coming (record e.formatter.reader { half = text_ended e.formatter.reader.half }); emitted = tells.Event events.EndLine }
   takes = rw (eq-eqb s.coming.taken s.coming.taken refl) refl
 
-  reads_line : step from ≡ told_line behind
+  reads_line : step from ≡ emitted_line afterwards
   reads_line =
       step-read from h.chosen_is line.springs line.event line.task
-      ∙ ap (λ m. with_situation m from) (looks ∙ ap (λ m. met_at m (situation_of from)) (meet-newline e.formatter.reader.half half) ∙ takes)
+      ∙ ap (λ m. with_situation m from) (looks ∙ ap (λ m. taken_in_at m (situation_of from)) (take_in-newline e.formatter.reader.half half) ∙ takes)
 
   goes_line : Goes from
   goes_line =
       let reads = kind-read from h.chosen_is line.springs line.event line.task in
-      let sees : input.Goes (situation_of from) = rw half.due tt in
+      let sees : input.Goes (situation_of from) = rw half.pending_act tt in
       subst (λ k. GoesBy k from) (sym reads) sees
 
   -- ---- it is heard, and the line counted
 
-  end : IsLineEnd behind.formatter
+  end : IsLineEnd afterwards.formatter
   end =
       let ends = ends_word e.formatter newline.plain in
       record {
@@ -103,16 +103,16 @@ module _ (e : Shape) (supply : Option Supply) (held : Option (List ℕ)) (s : St
   within_there : IsWithin there
   within_there = within_text l ls (elements.Byte (code "\n") ∷ xs) xs [] (at e s) (subst IsWithin (sym start_is) h.within) h.within.formatter.line
 
-  within_behind : IsWithin behind
-  within_behind = record {
+  within_afterwards : IsWithin afterwards
+  within_afterwards = record {
     formatter = record { stored = within_there.formatter.stored; depth = within_there.formatter.depth; line = within_there.formatter.line; burst = within_there.formatter.burst };
     page = within_there.page;
   }
 
-  leads_flows : plainly line_flows behind ≡ made_of newline_flows there
+  leads_flows : plainly line_flows afterwards ≡ made_of newline_flows there
   leads_flows = ap (λ v. record there { formatter = record (newline_flows there.formatter) { event = v } }) (sym line.event)
 
-  leads_put : plainly (line_put tasks.Read) behind ≡ made_of newline_put there
+  leads_put : plainly (line_put tasks.Read) afterwards ≡ made_of newline_put there
   leads_put =
       ap (λ v. record there { formatter = record (newline_put there.formatter) { event = v; task = tasks.Read } }) (sym line.event)
       ∙ ap (λ v. record there { formatter = record (newline_put there.formatter) { task = v } }) (sym line.task)
@@ -120,20 +120,20 @@ module _ (e : Shape) (supply : Option Supply) (held : Option (List ℕ)) (s : St
   formatter_is : (g : Formatter → Formatter) → (level_gone g e).formatter ≡ g there.formatter
   formatter_is g = ap (λ v. g (record e.formatter { store = record e.formatter.store { levels = v } })) (ap (levels_after 1) levels_is)
 
-  glides_read : Glides from 1 (told_line behind)
-  glides_read = glides-one from (told_line behind) goes_line reads_line
+  glides_read : Glides from 1 (emitted_line afterwards)
+  glides_read = glides-one from (emitted_line afterwards) goes_line reads_line
 
   made_flows : Made [] (at e s) 2 (level_gone newline_flows e) supply held held
   made_flows =
-      let within = within_put behind h.chosen_is end within_behind (tasks.Flow afters.Line false) in
-      let all = glides-add from 1 1 (told_line behind) (plainly line_flows behind) glides_read (hears behind h.chosen_is end within_behind) in
+      let within = within_put afterwards h.chosen_is end within_afterwards (tasks.Flow afters.Line false) in
+      let all = glides-add from 1 1 (emitted_line afterwards) (plainly line_flows afterwards) glides_read (hears afterwards h.chosen_is end within_afterwards) in
       made_glided 2 e (newline_flows there.formatter) (level_gone newline_flows e).formatter supply held s h (formatter_is newline_flows) (subst IsWithin leads_flows within)
       (subst (λ t. Glides t 2 (made_of newline_flows there)) start_is (subst (λ u. Glides from 2 u) leads_flows all))
 
   made_put : fits_line (line_gapped (collected e.formatter)) ≡ true → Made [] (at e s) 5 (level_gone newline_put e) supply held held
   made_put fits =
-      let within = within_put behind h.chosen_is end within_behind tasks.Read in
-      let all = glides-add from 1 4 (told_line behind) (plainly (line_put tasks.Read) behind) glides_read (ends_line behind h.chosen_is end within_behind fits) in
+      let within = within_put afterwards h.chosen_is end within_afterwards tasks.Read in
+      let all = glides-add from 1 4 (emitted_line afterwards) (plainly (line_put tasks.Read) afterwards) glides_read (ends_line afterwards h.chosen_is end within_afterwards fits) in
       made_glided 5 e (newline_put there.formatter) (level_gone newline_put e).formatter supply held s h (formatter_is newline_put) (subst IsWithin leads_put within)
       (subst (λ t. Glides t 5 (made_of newline_put there)) start_is (subst (λ u. Glides from 5 u) leads_put all))
 
@@ -143,7 +143,7 @@ newline_spends : (e : Shape) → IsInLine e.formatter → 1 ≤ length (rest_of 
 unfolding weights.weight weights.steps_left weights.owed
 newline_spends e line few =
     let light = lightens e.formatter line in
-    omega (arith, light.half, light.blanks, light.owed, light.owed_behind e.formatter.task line.task, items_fewer 1 e.formatter.store.levels few, weight-gap (collected e.formatter))
+    omega (arith, light.half, light.blanks, light.owed, light.owed_afterwards e.formatter.task line.task, items_fewer 1 e.formatter.store.levels few, weight-gap (collected e.formatter))
 
 flows_spends : (e : Shape) → IsInLine e.formatter → 1 ≤ length (rest_of e.formatter.store.levels) → weight (level_gone newline_flows e) + 2 + worth e * e.place.taken ≤ weight e + worth e * e.place.taken
 unfolding weights.weight weights.steps_left weights.owed
@@ -152,9 +152,9 @@ flows_spends e line few =
     let event : e.formatter.event ≡ events.Nothing = line.event in
     let task : e.formatter.task ≡ tasks.Read = line.task in
     let before : weight_of_agenda e.formatter.event e.formatter.task e.formatter.step ≡ 4 = rw (event, task) refl in
-    let behind : weight_of_agenda e.formatter.event (tasks.Flow afters.Line false) e.formatter.step ≡ 8 = rw event refl in
-    let owed_behind : owed_by_event e.formatter.event + owed_by_task (tasks.Flow afters.Line false) (text_ended e.formatter.reader.half) ≡ 0 = rw event refl in
-    omega (arith, light.half, light.blanks, light.owed, before, behind, owed_behind, items_fewer 1 e.formatter.store.levels few, weight-gap (collected e.formatter))
+    let afterwards : weight_of_agenda e.formatter.event (tasks.Flow afters.Line false) e.formatter.step ≡ 8 = rw event refl in
+    let owed_afterwards : owed_by_event e.formatter.event + owed_by_task (tasks.Flow afters.Line false) (text_ended e.formatter.reader.half) ≡ 0 = rw event refl in
+    omega (arith, light.half, light.blanks, light.owed, before, afterwards, owed_afterwards, items_fewer 1 e.formatter.store.levels few, weight-gap (collected e.formatter))
 
 -- ---- the engine
 

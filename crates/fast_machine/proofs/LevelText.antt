@@ -14,13 +14,13 @@ use Rattle.nr_store.specs.declared.element.Element.TheVariants as elements
 use Rattle.nr_store.specs.declared.shown.Shown.{Shown}
 use Rattle.nr_store.specs.declared.shown.Shown.TheVariants as shows
 use Rattle.nr_reading.specs.declared.event.Event.TheVariants as events
-use Rattle.nr_reading.specs.declared.front.Front.TheVariants as fronts
+use Rattle.nr_reading.specs.declared.next_item.NextItem.TheVariants as next_items
 use Rattle.nr_reading.specs.Many.InText.{IsInText}
-use Rattle.nr_reading.specs.Half.{meet}
-use Rattle.nr_reading.proofs.InText.{in_text, meet-plain}
-use Rattle.nr_input.specs.Moving.{move as input_move, situation, met_at}
+use Rattle.nr_reading.specs.Half.{take_in}
+use Rattle.nr_reading.proofs.InText.{in_text, take_in-plain}
+use Rattle.nr_input.specs.Moving.{move as input_move, situation, taken_in_at}
 use Rattle.nr_input.specs.Moving as input
-use Rattle.nr_input.specs.declared.told.Told.TheVariants as tells
+use Rattle.nr_input.specs.declared.emitted.Emitted.TheVariants as tells
 use Rattle.nr_settings.specs.Fonts.{present_look}
 use Rattle.nr_formatter.specs.Access.{collected, margins}
 use Rattle.nr_formatter.specs.Lines.{fits_line}
@@ -38,7 +38,7 @@ use Rattle.nr_machine.specs.Measures.{IsWithin}
 use Rattle.nr_machine.specs.Run.{Goes, GoesBy}
 use Rattle.nr_machine.specs.Holding.{Shape, at, Stands, Holds, Made, weight, worth}
 use Rattle.fast_machine.specs.Running.{Makes}
-use Rattle.fast_machine.proofs.Gliding.{Glides, glides_plain, glides_flows, glides_gap, made_of, told, within_flows, within_gap}
+use Rattle.fast_machine.proofs.Gliding.{Glides, glides_plain, glides_flows, glides_gap, made_of, emitted, within_flows, within_gap}
 use Rattle.nr_machine.proofs.NextMoves.{step-read, kind-read}
 use Rattle.fast_machine.proofs.PlainText.{escape, newline}
 use Rattle.fast_machine.proofs.RereadCells.{items_fewer}
@@ -53,24 +53,24 @@ at_text l ls xs s = record s { formatter = record s.formatter { store = record s
 
 module _ (l : Reading Resume) (ls : List (Level Resume)) (b : ℕ) (xs : List Element) (s : State) where
   looks : IsInText s.formatter.reader.half
-      → input_move (situation_of (at_text l ls (elements.Byte b ∷ xs) s)) ≡ met_at (meet (fronts.Byte b) s.formatter.reader.half) (situation_of (at_text l ls (elements.Byte b ∷ xs) s))
-  looks half = rw half.due refl
+      → input_move (situation_of (at_text l ls (elements.Byte b ∷ xs) s)) ≡ taken_in_at (take_in (next_items.Byte b) s.formatter.reader.half) (situation_of (at_text l ls (elements.Byte b ∷ xs) s))
+  looks half = rw half.pending_act refl
 
-  takes : met_at (record { half = s.formatter.reader.half; event = events.Byte b; takes = true }) (situation_of (at_text l ls (elements.Byte b ∷ xs) s))
-      ≡ record { situation = situation (at_text l ls xs s).formatter.store s.coming s.formatter.reader; told = tells.Event (events.Byte b) }
+  takes : taken_in_at (record { half = s.formatter.reader.half; event = events.Byte b; takes = true }) (situation_of (at_text l ls (elements.Byte b ∷ xs) s))
+      ≡ record { situation = situation (at_text l ls xs s).formatter.store s.coming s.formatter.reader; emitted = tells.Event (events.Byte b) }
   takes = rw (eq-eqb s.coming.taken s.coming.taken refl) refl
 
-  read_is : IsInText s.formatter.reader.half → (b == code "\n") ≡ false → (b == code "\\") ≡ false → read (at_text l ls (elements.Byte b ∷ xs) s) ≡ told b (at_text l ls xs s)
+  read_is : IsInText s.formatter.reader.half → (b == code "\n") ≡ false → (b == code "\\") ≡ false → read (at_text l ls (elements.Byte b ∷ xs) s) ≡ emitted b (at_text l ls xs s)
   read_is half newline escape =
       ap (λ m. with_situation m (at_text l ls (elements.Byte b ∷ xs) s))
-      (looks half ∙ ap (λ m. met_at m (situation_of (at_text l ls (elements.Byte b ∷ xs) s))) (meet-plain b s.formatter.reader.half half newline escape) ∙ takes)
+      (looks half ∙ ap (λ m. taken_in_at m (situation_of (at_text l ls (elements.Byte b ∷ xs) s))) (take_in-plain b s.formatter.reader.half half newline escape) ∙ takes)
 
-  pub reads_byte : s.chosen ≡ [] → IsInLine s.formatter → (b == code "\n") ≡ false → (b == code "\\") ≡ false → step (at_text l ls (elements.Byte b ∷ xs) s) ≡ told b (at_text l ls xs s)
+  pub reads_byte : s.chosen ≡ [] → IsInLine s.formatter → (b == code "\n") ≡ false → (b == code "\\") ≡ false → step (at_text l ls (elements.Byte b ∷ xs) s) ≡ emitted b (at_text l ls xs s)
   reads_byte chosen line newline escape =
       step-read (at_text l ls (elements.Byte b ∷ xs) s) chosen line.springs line.event line.task ∙ read_is (in_text s.formatter.reader.half line.half) newline escape
 
   sees_byte : IsInText s.formatter.reader.half → input.Goes (situation_of (at_text l ls (elements.Byte b ∷ xs) s))
-  sees_byte half = rw half.due tt
+  sees_byte half = rw half.pending_act tt
 
   pub goes_byte : s.chosen ≡ [] → IsInLine s.formatter → Goes (at_text l ls (elements.Byte b ∷ xs) s)
   goes_byte chosen line =
@@ -146,8 +146,8 @@ module _ (b : ℕ) (e : Shape) (supply : Option Supply) (held : Option (List ℕ
   abbrev from : State
   from = at_text l ls (elements.Byte b ∷ xs) (at e s)
 
-  abbrev behind : State
-  behind = at_text l ls xs (at e s)
+  abbrev afterwards : State
+  afterwards = at_text l ls xs (at e s)
 
   from_is : from ≡ at e s
   from_is = ap (λ v. record (at e s) { formatter = record e.formatter { store = record e.formatter.store { levels = v } } }) (sym levels_is)
@@ -155,21 +155,21 @@ module _ (b : ℕ) (e : Shape) (supply : Option Supply) (held : Option (List ℕ
   line : IsInLine e.formatter
   line = in_line e.formatter is
 
-  within_put : IsWithin (made_of (run_put (b ∷ [])) behind)
+  within_put : IsWithin (made_of (run_put (b ∷ [])) afterwards)
   within_put = within_text l ls (elements.Byte b ∷ xs) xs (b ∷ []) (at e s) (subst IsWithin (sym from_is) h.within) fits
 
-  glides_put : Glides from 2 (made_of (run_put (b ∷ [])) behind)
+  glides_put : Glides from 2 (made_of (run_put (b ∷ [])) afterwards)
   glides_put =
-      glides_plain from behind b h.chosen_is (line_there l ls xs (at e s) line) (goes_byte l ls b xs (at e s) h.chosen_is line)
+      glides_plain from afterwards b h.chosen_is (line_there l ls xs (at e s) line) (goes_byte l ls b xs (at e s) h.chosen_is line)
       (reads_byte l ls b xs (at e s) h.chosen_is line (newline b plain) (escape b plain)) plain within_put
 
-  put_is : (level_gone (run_put (b ∷ [])) e).formatter ≡ run_put (b ∷ []) behind.formatter
+  put_is : (level_gone (run_put (b ∷ [])) e).formatter ≡ run_put (b ∷ []) afterwards.formatter
   put_is = ap (λ v. run_put (b ∷ []) (record e.formatter { store = record e.formatter.store { levels = v } })) (ap (levels_after 1) levels_is)
 
   made_plain : Made [] (at e s) 2 (level_gone (run_put (b ∷ [])) e) supply held held
   made_plain =
-      made_glided 2 e (run_put (b ∷ []) behind.formatter) (level_gone (run_put (b ∷ [])) e).formatter supply held s h put_is within_put
-      (subst (λ t. Glides t 2 (made_of (run_put (b ∷ [])) behind)) from_is glides_put)
+      made_glided 2 e (run_put (b ∷ []) afterwards.formatter) (level_gone (run_put (b ∷ [])) e).formatter supply held s h put_is within_put
+      (subst (λ t. Glides t 2 (made_of (run_put (b ∷ [])) afterwards)) from_is glides_put)
 
 plain_spends : (b : ℕ) (e : Shape) → 1 ≤ length (rest_of e.formatter.store.levels)
     → weight (level_gone (run_put (b ∷ [])) e) + 2 + worth e * e.place.taken ≤ weight e + worth e * e.place.taken
@@ -201,7 +201,7 @@ module _ (e : Shape) (supply : Option Supply) (held : Option (List ℕ)) (s : St
   goes_blank : Goes (at_text l ls (elements.Byte (code " ") ∷ xs) (at e s))
   goes_blank = goes_byte l ls (code " ") xs (at e s) h.chosen_is (in_line e.formatter is)
 
-  reads_blank : step (at_text l ls (elements.Byte (code " ") ∷ xs) (at e s)) ≡ told (code " ") (at_text l ls xs (at e s))
+  reads_blank : step (at_text l ls (elements.Byte (code " ") ∷ xs) (at e s)) ≡ emitted (code " ") (at_text l ls xs (at e s))
   reads_blank = reads_byte l ls (code " ") xs (at e s) h.chosen_is (in_line e.formatter is) refl refl
 
   gap_there : IsGap (at_text l ls xs (at e s)).formatter
@@ -237,9 +237,9 @@ unfolding weights.weight weights.steps_left weights.owed
 flows_spends e event task few =
     let before : weight_of_agenda e.formatter.event e.formatter.task e.formatter.step ≡ 4 = rw (event, task) refl in
     let owed_before : owed_by_event e.formatter.event + owed_by_task e.formatter.task e.formatter.reader.half ≡ 0 = rw (event, task) refl in
-    let behind : weight_of_agenda e.formatter.event (tasks.Flow afters.Text false) e.formatter.step ≡ 8 = rw event refl in
-    let owed_behind : owed_by_event e.formatter.event + owed_by_task (tasks.Flow afters.Text false) e.formatter.reader.half ≡ 0 = rw event refl in
-    omega (arith, before, owed_before, behind, owed_behind, items_fewer 1 e.formatter.store.levels few, weight-gap (collected e.formatter))
+    let afterwards : weight_of_agenda e.formatter.event (tasks.Flow afters.Text false) e.formatter.step ≡ 8 = rw event refl in
+    let owed_afterwards : owed_by_event e.formatter.event + owed_by_task (tasks.Flow afters.Text false) e.formatter.reader.half ≡ 0 = rw event refl in
+    omega (arith, before, owed_before, afterwards, owed_afterwards, items_fewer 1 e.formatter.store.levels few, weight-gap (collected e.formatter))
 
 -- a blank that comes next of the newest level
 module _ (e : Shape) (supply : Option Supply) (is : is_in_line e.formatter ≡ true) (gap : IsGap e.formatter) (blank : shown e.formatter.store.levels ≡ shows.Item (elements.Byte (code " "))) where

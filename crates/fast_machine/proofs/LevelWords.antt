@@ -29,11 +29,11 @@ use Rattle.nr_machine.specs.Holding.{Made, Shape, Stands, at, weight, worth}
 use Rattle.fast_machine.specs.Running.{Flows, IsFurther, Makes, PutsOfFlow, with_read}
 use Rattle.fast_machine.proofs.CellBytes.{bytes_on, glides_byte, no_escape, no_newline}
 use Rattle.fast_machine.proofs.Flows.{Puts, flows-add, flows_none, flows_one, further_is, line_further}
-use Rattle.fast_machine.proofs.Gliding.{Glides, made_of, told}
+use Rattle.fast_machine.proofs.Gliding.{Glides, made_of, emitted}
 use Rattle.fast_machine.proofs.LevelText.{Showing, at_text, goes_byte, level_gone, line_there, made_glided, makes_flows, makes_gap, makes_plain, one_left, reads_byte, showing, within_text}
 use Rattle.fast_machine.proofs.PlainText.{ArePlain, first_plain, others_plain}
 use Rattle.fast_machine.proofs.RereadCells.{items_fewer}
-use Rattle.fast_machine.proofs.TextAtHand.{rest_of as bytes_behind, turn_line}
+use Rattle.fast_machine.proofs.TextAtHand.{rest_of as bytes_after, turn_line}
 
 -- ---- a byte that goes to the word and does not end it
 
@@ -54,7 +54,7 @@ module _ (b : ℕ) (e : Shape) (supply : Option Supply) (held : Option (List ℕ
   line : IsInLine e.formatter
   line = in_line e.formatter byte.line
 
-  reads : step from ≡ told b there
+  reads : step from ≡ emitted b there
   reads = reads_byte l ls b xs (at e s) h.chosen_is line (no_newline b e.formatter which) (no_escape b e.formatter which)
 
   within_there : IsWithin there
@@ -147,7 +147,7 @@ flows_run (b ∷ bs) f line plain fits =
 -- nothing was put
 pub none_of_flow : (bs : List ℕ) (f : Formatter) → PutsOfFlow bs 0 0 f f
 none_of_flow bs f = record {
-  front = omega arith;
+  prefix = omega arith;
   most = omega arith;
   store = refl;
   reader = refl;
@@ -156,11 +156,11 @@ none_of_flow bs f = record {
 }
 
 -- n more of these bytes were put in k moves
-module _ (t m n k : ℕ) (bs : List ℕ) (f g h : Formatter) (puts : PutsOfFlow bs t m f g) (front : t + n ≤ length bs) (few : k ≤ 5 * n) (store : h.store ≡ g.store) (reader : h.reader ≡ g.reader)
+module _ (t m n k : ℕ) (bs : List ℕ) (f g h : Formatter) (puts : PutsOfFlow bs t m f g) (prefix : t + n ≤ length bs) (few : k ≤ 5 * n) (store : h.store ≡ g.store) (reader : h.reader ≡ g.reader)
     (within : line_cells (collected g) ≤ g.line.limit → line_cells (collected h) ≤ h.line.limit) where
   flow_on : Flows (take n (drop t bs)) k g h → PutsOfFlow bs (t + n) (m + k) f h
   flow_on flows = record {
-    front = front;
+    prefix = prefix;
     most = omega (arith, puts.most, few);
     store = store ∙ puts.store;
     reader = reader ∙ puts.reader;
@@ -176,29 +176,29 @@ run_within : (n : ℕ) (xs : List ℕ) (g : Formatter) → (0 < n → line_cells
 run_within zero xs g fits within = within
 run_within (suc n) xs g fits within = fits (omega arith)
 
-pub flow_run : (t m n : ℕ) (bs : List ℕ) (f g h : Formatter) → PutsOfFlow bs t m f g → is_in_line g ≡ true → n ≤ length (bytes_behind t bs) → ArePlain (take n (bytes_behind t bs))
-    → h ≡ run_put (take n (bytes_behind t bs)) g → (0 < n → line_cells (collected h) ≤ h.line.limit) → PutsOfFlow bs (t + n) (m + 2 * n) f h
-flow_run t m n bs f g h puts line front plain is fits =
-    let whole : bytes_behind t bs ≡ drop t bs = take_rest bs t in
-    let few : n ≤ length (drop t bs) = subst (λ xs. n ≤ length xs) whole front in
+pub flow_run : (t m n : ℕ) (bs : List ℕ) (f g h : Formatter) → PutsOfFlow bs t m f g → is_in_line g ≡ true → n ≤ length (bytes_after t bs) → ArePlain (take n (bytes_after t bs))
+    → h ≡ run_put (take n (bytes_after t bs)) g → (0 < n → line_cells (collected h) ≤ h.line.limit) → PutsOfFlow bs (t + n) (m + 2 * n) f h
+flow_run t m n bs f g h puts line prefix plain is fits =
+    let whole : bytes_after t bs ≡ drop t bs = take_rest bs t in
+    let few : n ≤ length (drop t bs) = subst (λ xs. n ≤ length xs) whole prefix in
     let xs : List ℕ = take n (drop t bs) in
     let count : length xs ≡ n = length-take-le n (drop t bs) few in
     let put : h ≡ run_put xs g = is ∙ ap (λ ys. run_put (take n ys) g) whole in
     let fits_put : 0 < n → line_cells (collected (run_put xs g)) ≤ g.line.limit = λ some. subst (λ (x : Formatter). line_cells (collected x) ≤ x.line.limit) put (fits some) in
     let flows = flows_run xs g line (subst (λ ys. ArePlain (take n ys)) whole plain) (λ some. fits_put (omega (arith, some, count))) in
     subst (λ (x : Formatter). PutsOfFlow bs (t + n) (m + 2 * n) f x) (sym put)
-    (flow_on t m n (2 * n) bs f g (run_put xs g) puts (omega (arith, few, puts.front, length-drop t bs)) (omega arith) refl refl (run_within n (drop t bs) g fits_put)
+    (flow_on t m n (2 * n) bs f g (run_put xs g) puts (omega (arith, few, puts.prefix, length-drop t bs)) (omega arith) refl refl (run_within n (drop t bs) g fits_put)
     (subst (λ k. Flows xs (2 * k) g (run_put xs g)) count flows))
 
 -- after the first t bytes comes this one
-one_behind : (t b : ℕ) (bs : List ℕ) → t < length bs → slice_index bs t ≡ b → take 1 (drop t bs) ≡ b ∷ []
-one_behind t b bs below is = ap (take 1) (drop-cons bs t 0 below) ∙ ap (λ c. c ∷ []) is
+one_after : (t b : ℕ) (bs : List ℕ) → t < length bs → slice_index bs t ≡ b → take 1 (drop t bs) ≡ b ∷ []
+one_after t b bs below is = ap (take 1) (drop-cons bs t 0 below) ∙ ap (λ c. c ∷ []) is
 
 module _ (t m b k : ℕ) (bs : List ℕ) (f g h : Formatter) (puts : PutsOfFlow bs t m f g) (line : is_in_line g ≡ true) (below : t < length bs) (is : slice_index bs t ≡ b) (few : k ≤ 5) where
   flow_one : h.store ≡ g.store → h.reader ≡ g.reader → line_cells (collected h) ≤ h.line.limit → Puts b k g h → PutsOfFlow bs (t + 1) (m + k) f h
   flow_one store reader fits put =
       flow_on t m 1 k bs f g h puts (omega (arith, below)) (omega (arith, few)) store reader (λ within. fits)
-      (subst (λ xs. Flows xs k g h) (sym (one_behind t b bs below is)) (flows_one b k g h line put))
+      (subst (λ xs. Flows xs k g h) (sym (one_after t b bs below is)) (flows_one b k g h line put))
 
 -- and after it comes a blank
 module _ (t m : ℕ) (bs : List ℕ) (f g : Formatter) (puts : PutsOfFlow bs t m f g) (line : is_in_line g ≡ true) (below : t < length bs) (blank : slice_index bs t ≡ code " ") (gap : IsGap g) where

@@ -2,7 +2,7 @@ mod CellBytes
 mod EmptyLines
 mod Flows
 mod FontEscapes
-mod FrontAtHand
+mod PrefixAtHand
 mod Gliding
 mod Judged
 mod LevelLines

@@ -10,15 +10,15 @@ use Rattle.nr_reading.specs.declared.event.Event.TheVariants as events
 use Rattle.nr_reading.specs.Many.InText.{is_in_text}
 use Rattle.nr_reading.specs.Many.LineBeginnings.{IsBeforeLine, begins_control, text_begun as half_begun}
 use Rattle.nr_reading.specs.Many.LineBeginnings as reading
-use Rattle.nr_reading.specs.Half.{meet}
+use Rattle.nr_reading.specs.Half.{take_in}
 use Rattle.nr_reading.specs.Weights.{blanks_owed, weight_of_half}
-use Rattle.nr_reading.proofs.LineBeginnings.{before_line, begun_text, meet-first}
+use Rattle.nr_reading.proofs.LineBeginnings.{before_line, begun_text, take_in-first}
 use Rattle.fast_input.specs.AtHand.{ComeNext}
-use Rattle.nr_input.specs.Place.{front}
-use Rattle.nr_input.specs.Moving.{met_at, situation}
+use Rattle.nr_input.specs.Place.{next_item}
+use Rattle.nr_input.specs.Moving.{taken_in_at, situation}
 use Rattle.nr_input.specs.Moving.{move as input_move}
 use Rattle.nr_input.specs.Moving as input
-use Rattle.nr_input.specs.declared.told.Told.TheVariants as tells
+use Rattle.nr_input.specs.declared.emitted.Emitted.TheVariants as tells
 use Rattle.nr_store.specs.Store.{shown}
 use Rattle.nr_formatter.specs.Access.{collected}
 use Rattle.nr_formatter.specs.Many.LineBeginnings.{BeginsText, is_at_text, text_begun}
@@ -34,10 +34,10 @@ use Rattle.nr_machine.specs.Run.{Goes, GoesBy, Runs}
 use Rattle.nr_machine.specs.Holding.{Holds, Made, Shape, Stands, Wrote, at, weight}
 use Rattle.fast_machine.specs.LineBeginnings.{begun_shape}
 use Rattle.fast_machine.specs.Running.{HasNext, Makes, Saves}
-use Rattle.fast_machine.proofs.Gliding.{told}
+use Rattle.fast_machine.proofs.Gliding.{emitted}
 use Rattle.nr_machine.proofs.NextMoves.{kind-read, step-read}
 use Rattle.fast_machine.proofs.PlainGaps.{first, first_of}
-use Rattle.fast_machine.proofs.PlainText.{IsTyping, behind_byte, behind_many, escape, later-one, newline, reads_byte}
+use Rattle.fast_machine.proofs.PlainText.{IsTyping, after_byte, after_many, escape, later-one, newline, reads_byte}
 use Rattle.nr_machine.proofs.Standing.{state_after-add}
 
 -- ---- where the text of a line begins
@@ -59,7 +59,7 @@ before f at out =
 -- once its text has begun, it is read in the midst of it
 pub begun_line : (f : Formatter) → is_at_text f ≡ true → IsBeforeLine f.reader.half → is_in_line (text_begun f) ≡ true
 begun_line f at is =
-    let here : reading.is_at_text f.reader.half ≡ true = rw (is.mode, is.escape, is.due, is.asks) refl in
+    let here : reading.is_at_text f.reader.half ≡ true = rw (is.mode, is.escape, is.pending_act, is.asks) refl in
     let same : is_in_text (half_begun f.reader.half) ≡ reading.is_at_text f.reader.half = begun_text f.reader.half is ∙ sym here in
     ap (λ t. ((is_none f.springs && reads_next f.event f.task) && t) && not (begins_line (collected f))) same ∙ at
 
@@ -85,30 +85,30 @@ module _ (b : ℕ) (rest : List ℕ) (s : State) (typing : IsTyping (begun s)) (
   further : (s.coming.taken + 1 == s.coming.taken) ≡ false
   further = ne_eqb (s.coming.taken + 1) s.coming.taken (λ e. omega (arith, e))
 
-  -- the item in front is looked at
-  looks : input_move (situation_of s) ≡ met_at (meet (front (shown s.formatter.store.levels) s.coming) s.formatter.reader.half) (situation_of s)
-  looks = rw half.due refl
+  -- the next item is looked at
+  looks : input_move (situation_of s) ≡ taken_in_at (take_in (next_item (shown s.formatter.store.levels) s.coming) s.formatter.reader.half) (situation_of s)
+  looks = rw half.pending_act refl
 
   -- it begins the text
-  meets : meet (front (shown s.formatter.store.levels) s.coming) s.formatter.reader.half ≡ record { half = half_begun s.formatter.reader.half; event = events.Byte b; takes = true }
-  meets = rw (typing.levels, next, meet-first b s.formatter.reader.half half control (newline b plain) (escape b plain) (blank b plain)) refl
+  takes_in : take_in (next_item (shown s.formatter.store.levels) s.coming) s.formatter.reader.half ≡ record { half = half_begun s.formatter.reader.half; event = events.Byte b; takes = true }
+  takes_in = rw (typing.levels, next, take_in-first b s.formatter.reader.half half control (newline b plain) (escape b plain) (blank b plain)) refl
 
-  -- it is taken and told
-  takes : met_at (record { half = half_begun s.formatter.reader.half; event = events.Byte b; takes = true }) (situation_of s)
-      ≡ record { situation = situation s.formatter.store (behind_many 1 s.coming) (record s.formatter.reader { half = half_begun s.formatter.reader.half; burst = 0 }); told = tells.Event (events.Byte b) }
+  -- it is taken and emitted
+  takes : taken_in_at (record { half = half_begun s.formatter.reader.half; event = events.Byte b; takes = true }) (situation_of s)
+      ≡ record { situation = situation s.formatter.store (after_many 1 s.coming) (record s.formatter.reader { half = half_begun s.formatter.reader.half; burst = 0 }); emitted = tells.Event (events.Byte b) }
   takes = rw (typing.levels, next, further, newline b plain, later-one s.coming.supply.faults) refl
 
   -- this is the first move
-  reads_first : step s ≡ told b (behind_byte (begun s))
+  reads_first : step s ≡ emitted b (after_byte (begun s))
   reads_first =
       step-read s typing.chosen typing.line.springs typing.line.event typing.line.task
-      ∙ ap (λ m. with_situation m s) (looks ∙ ap (λ m. met_at m (situation_of s)) meets ∙ takes)
+      ∙ ap (λ m. with_situation m s) (looks ∙ ap (λ m. taken_in_at m (situation_of s)) takes_in ∙ takes)
 
   -- and it is made
   goes_first : Goes s
   goes_first =
       let reads = kind-read s typing.chosen typing.line.springs typing.line.event typing.line.task in
-      let sees : input.Goes (situation_of s) = rw (half.due, typing.levels, next) (gives, λ many. omega (arith, many, few)) in
+      let sees : input.Goes (situation_of s) = rw (half.pending_act, typing.levels, next) (gives, λ many. omega (arith, many, few)) in
       subst (λ k. GoesBy k s) (sym reads) sees
 
   -- the first move leads to the same state
@@ -179,8 +179,8 @@ module _ (bs : List ℕ) (e : Shape) (supply : Option Supply) (at_text : is_at_t
   weighs_begun =
       let line = in_line (text_begun e.formatter) (begun_line e.formatter at_text half) in
       let task : e.formatter.task ≡ tasks.Read = line.task in
-      let before : weight_of_half e.formatter.reader.half + 20 ≡ weight_of_half (half_begun e.formatter.reader.half) = rw (half.mode, half.escape, half.due) (omega arith) in
-      let blanks : blanks_owed (half_begun e.formatter.reader.half) ≡ 0 = rw (half.due) refl in
+      let before : weight_of_half e.formatter.reader.half + 20 ≡ weight_of_half (half_begun e.formatter.reader.half) = rw (half.mode, half.escape, half.pending_act) (omega arith) in
+      let blanks : blanks_owed (half_begun e.formatter.reader.half) ≡ 0 = rw (half.pending_act) refl in
       let owed : owed_by_task e.formatter.task (half_begun e.formatter.reader.half) ≡ 0 = rw task refl in
       omega (arith, before, blanks, owed)
 

@@ -34,7 +34,7 @@ use Rattle.fast_machine.specs.Running.{HasNext, Longest, LongestWords, Makes, Pu
 use Rattle.fast_machine.proofs.LineBeginnings.{makes_begun}
 use Rattle.fast_machine.proofs.PlainGaps.{first_of}
 use Rattle.fast_machine.proofs.PlainNewlines.{makes_newline, makes_newline_flows, saves_newline, saves_newline_flows}
-use Rattle.fast_machine.proofs.TextAtHand.{begun-gap, first_left, holds_behind, next_behind, passed_on, puts_byte, puts_on, skipped_on, some_left}
+use Rattle.fast_machine.proofs.TextAtHand.{begun-gap, first_left, holds_after, next_after, passed_on, puts_byte, puts_on, skipped_on, some_left}
 use Rattle.fast_machine.proofs.Running.{makes-add, worth_same}
 
 -- ---- the newline
@@ -56,7 +56,7 @@ module _ (bs : List ℕ) (f : Formatter) (some : 0 < length bs) (is_newline : sl
   puts_newline_flows =
       puts_byte (code "\n") 2 bs f newline_flows some is_newline (omega arith) (omega arith) refl refl
       (λ e supply is has. makes_newline_flows (first_of bs (code "\n") some is_newline).0 e supply (option_map (skipped 1) supply) has.levels (newline_there e is) (newline_next e supply has)
-      (λ c h. holds_behind (code "\n") 1 c e.place supply has.unseen h))
+      (λ c h. holds_after (code "\n") 1 c e.place supply has.unseen h))
       (λ e is. saves_newline_flows e (in_line e.formatter (newline_there e is).line))
 
   -- or it is not
@@ -64,7 +64,7 @@ module _ (bs : List ℕ) (f : Formatter) (some : 0 < length bs) (is_newline : sl
   puts_newline fits =
       puts_byte (code "\n") 5 bs f newline_put some is_newline (omega arith) (omega arith) refl refl
       (λ e supply is has. makes_newline (first_of bs (code "\n") some is_newline).0 e supply (option_map (skipped 1) supply) has.levels (newline_there e is) (newline_next e supply has)
-      (λ c h. holds_behind (code "\n") 1 c e.place supply has.unseen h) (ap (λ (x : Formatter). fits_line (line_gapped (collected x))) is ∙ fits))
+      (λ c h. holds_after (code "\n") 1 c e.place supply has.unseen h) (ap (λ (x : Formatter). fits_line (line_gapped (collected x))) is ∙ fits))
       (λ e is. saves_newline e (in_line e.formatter (newline_there e is).line))
 
 -- after some text comes such a newline
@@ -91,7 +91,7 @@ line_at_text g h newline is =
     let line = in_line g newline.line in
     let half = in_text g.reader.half line.half in
     let ends = ends_word g newline.plain in
-    let here : is_at_text (newline_put g) ≡ true = rw (line.springs, line.event, line.task, half.escape, half.due, half.asks, begun-gap (collected g) (collected g).word refl ends.word) refl in
+    let here : is_at_text (newline_put g) ≡ true = rw (line.springs, line.event, line.task, half.escape, half.pending_act, half.asks, begun-gap (collected g) (collected g).word refl ends.word) refl in
     ap is_at_text is ∙ here
 
 -- ---- the next line
@@ -114,7 +114,7 @@ module _ (t m n k : ℕ) (bs : List ℕ) (f g h : Formatter) (before : 0 < t) (a
   next_line : (e : Shape) (supply : Option Supply) → unburst e.formatter ≡ unburst f → HasNext bs e supply → HasNext (drop t bs) (between e) (option_map (skipped t) supply)
   next_line e supply is has =
       let levels : g.store.levels ≡ [] = ap (λ v. v.levels) (a.store ∙ sym (ap (λ (x : Formatter). x.store) is)) ∙ has.levels in
-      next_behind t bs e supply g a.front levels has
+      next_after t bs e supply g a.prefix levels has
 
   -- the moves from there
   makes_line : (e : Shape) (supply : Option Supply) → unburst e.formatter ≡ unburst f → HasNext bs e supply
@@ -131,7 +131,7 @@ module _ (t m n k : ℕ) (bs : List ℕ) (f g h : Formatter) (before : 0 < t) (a
   puts_line =
       let left : length (drop t bs) ≡ length bs - t = length-drop t bs in
       record {
-        front = omega (arith, a.front, b.front, left);
+        prefix = omega (arith, a.prefix, b.prefix, left);
         least = omega (arith, a.least, b.least);
         most = omega (arith, a.most, b.most);
         none = λ none. absurd (omega (arith, none, some));
@@ -185,8 +185,8 @@ takes_longest bs (suc n) k f g line puts longest some plain room = omega arith
 -- ---- as many bytes as could be
 
 -- what is so of the bytes after the first t is so among all
-pub words_behind : (t n : ℕ) (bs : List ℕ) (f : Formatter) → LongestWords (drop t bs) n f → LongestWords bs (t + n) f
-words_behind t n bs f longest =
+pub words_after : (t n : ℕ) (bs : List ℕ) (f : Formatter) → LongestWords (drop t bs) n f → LongestWords bs (t + n) f
+words_after t n bs f longest =
     let left : length (drop t bs) ≡ length bs - t = length-drop t bs in
     let same : slice_index bs (t + n) ≡ slice_index (drop t bs) n = sym (get_or-drop t bs n 0) in
     record {

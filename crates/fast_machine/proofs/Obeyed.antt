@@ -22,7 +22,7 @@ use Rattle.nr_formatter.specs.declared.paper.Outlet.TheVariants as outlets
 use Rattle.nr_formatter.specs.declared.tasks.Task.{Task}
 use Rattle.nr_formatter.specs.declared.tasks.Task.TheVariants as tasks
 use Rattle.nr_formatter.specs.declared.tasks.Then.TheVariants as thens
-use Rattle.nr_formatter.proofs.Obeyed.{Leaves, Reads, Spaces, acts-act, behind_by, event_after, falls-obeyed, obeyed-limits, sets-act, springs_behind, within-spaced}
+use Rattle.nr_formatter.proofs.Obeyed.{Leaves, Reads, Spaces, acts-act, after_by, event_after, falls-obeyed, obeyed-limits, sets-act, springs_after, within-spaced}
 use Rattle.nr_machine.specs.State.{State, plainly}
 use Rattle.nr_machine.specs.Machine as machine
 use Rattle.nr_machine.specs.Machine.{put_space, work}
@@ -122,17 +122,17 @@ glides_space true n s may chosen springs idle task within =
     (step-work s (tasks.Space n) chosen springs idle task ∙ space_put (is_spaceless n s.formatter) n s refl may) (within_space true n s may within)
 
 -- after a request that was made with this formatter
-glides_behind : (f : Formatter) (s : State) → Leaves f s.formatter → f.springs ≡ None → s.chosen ≡ [] → s.formatter.event ≡ events.Nothing → IsWithin s
+glides_after : (f : Formatter) (s : State) → Leaves f s.formatter → f.springs ≡ None → s.chosen ≡ [] → s.formatter.event ≡ events.Nothing → IsWithin s
     → Glides s (moves_spacing s.formatter) (with_formatter (after_space s.formatter) s)
-glides_behind f s (Reads task) springs chosen idle within =
+glides_after f s (Reads task) springs chosen idle within =
     subst (λ (t : Task). Glides s (moves_by_task t s.formatter) (with_formatter (space_by t s.formatter) s)) (sym task) (glides_none s)
-glides_behind f s (Spaces n task kept) springs chosen idle within =
+glides_after f s (Spaces n task kept) springs chosen idle within =
     subst (λ (t : Task). Glides s (moves_by_task t s.formatter) (with_formatter (space_by t s.formatter) s)) (sym task)
     (glides_space (may_space (tasks.Space n) s.formatter) n s refl chosen (kept ∙ springs) idle task within)
 
-within_behind : (f : Formatter) (s : State) → Leaves f s.formatter → IsWithin s → IsWithin (with_formatter (after_space s.formatter) s)
-within_behind f s (Reads task) within = subst (λ (t : Task). IsWithin (with_formatter (space_by t s.formatter) s)) (sym task) within
-within_behind f s (Spaces n task kept) within =
+within_afterwards : (f : Formatter) (s : State) → Leaves f s.formatter → IsWithin s → IsWithin (with_formatter (after_space s.formatter) s)
+within_afterwards f s (Reads task) within = subst (λ (t : Task). IsWithin (with_formatter (space_by t s.formatter) s)) (sym task) within
+within_afterwards f s (Spaces n task kept) within =
     subst (λ (t : Task). IsWithin (with_formatter (space_by t s.formatter) s)) (sym task) (within_space (may_space (tasks.Space n) s.formatter) n s refl within)
 
 -- ---- all of them
@@ -147,8 +147,8 @@ module _ (s : State) (chosen : s.chosen ≡ []) (request : s.formatter.event ≡
   abbrev breaking : Formatter
   breaking = heard_for (tasks.Break (thens.Act r)) s.formatter
 
-  acts_by : (b : Bool) → breaks_first s.formatter ≡ b → may_act r (behind_by b s.formatter) ≡ true
-  acts_by b first = subst (λ (x : Bool). may_act r (behind_by x s.formatter) ≡ true) first may
+  acts_by : (b : Bool) → breaks_first s.formatter ≡ b → may_act r (after_by b s.formatter) ≡ true
+  acts_by b first = subst (λ (x : Bool). may_act r (after_by x s.formatter) ≡ true) first may
 
   -- the request takes effect without a break
   glides_acted : breaks_first s.formatter ≡ false → Glides s 2 (with_formatter (act r acting) s)
@@ -169,20 +169,20 @@ module _ (s : State) (chosen : s.chosen ≡ []) (request : s.formatter.event ≡
       (breaks (with_formatter breaking s) r chosen springs refl refl none.0 none.1 (not_of (begins_first_page (thens.Act r) s.formatter) parts.1) (within_kept s s.coming breaking refl refl within.formatter.burst within)))
       (acts (with_formatter broken s) r (acts_by true first) chosen springs refl refl (within_kept s s.coming broken refl refl within.formatter.burst within))
 
-  glides_by_break : (b : Bool) → breaks_first s.formatter ≡ b → (not b || breaks_idly s.formatter) ≡ true → Glides s (if b then 3 else 2) (with_formatter (act r (behind_by b s.formatter)) s)
+  glides_by_break : (b : Bool) → breaks_first s.formatter ≡ b → (not b || breaks_idly s.formatter) ≡ true → Glides s (if b then 3 else 2) (with_formatter (act r (after_by b s.formatter)) s)
   glides_by_break true first idly = glides_broken first idly
   glides_by_break false first idly = glides_acted first
 
-  within_behind_break : (b : Bool) → IsWithin (with_formatter (behind_by b s.formatter) s)
-  within_behind_break true = within_kept s s.coming (break_done (thens.Act r) breaking) refl refl within.formatter.burst within
-  within_behind_break false = within_kept s s.coming acting refl refl within.formatter.burst within
+  within_after_break : (b : Bool) → IsWithin (with_formatter (after_by b s.formatter) s)
+  within_after_break true = within_kept s s.coming (break_done (thens.Act r) breaking) refl refl within.formatter.burst within
+  within_after_break false = within_kept s s.coming acting refl refl within.formatter.burst within
 
   -- the request took effect
   abbrev after : State
   after = with_formatter (acted s.formatter) s
 
   within_after : IsWithin after
-  within_after = within_acted r (with_formatter (after_break s.formatter) s) may (within_behind_break (breaks_first s.formatter))
+  within_after = within_acted r (with_formatter (after_break s.formatter) s) may (within_after_break (breaks_first s.formatter))
 
   leaves : Leaves (after_break s.formatter) (acted s.formatter)
   leaves = (acts-act r (after_break s.formatter) may).leaves
@@ -196,10 +196,10 @@ module _ (s : State) (chosen : s.chosen ≡ []) (request : s.formatter.event ≡
   glides_obeyed idly =
       glides-add s (if breaks_first s.formatter then 3 else 2) (moves_spacing (acted s.formatter)) after (with_formatter (after_space (acted s.formatter)) s)
       (glides_by_break (breaks_first s.formatter) refl idly)
-      (glides_behind (after_break s.formatter) after leaves (springs_behind (breaks_first s.formatter) s.formatter ∙ springs) chosen idle within_after)
+      (glides_after (after_break s.formatter) after leaves (springs_after (breaks_first s.formatter) s.formatter ∙ springs) chosen idle within_after)
 
   within_obeyed : IsWithin (with_formatter (after_space (acted s.formatter)) s)
-  within_obeyed = within_behind (after_break s.formatter) after leaves within_after
+  within_obeyed = within_afterwards (after_break s.formatter) after leaves within_after
 
 -- what the engine is then
 abbrev pub obeyed_shape : Formatter → Shape → Shape
@@ -278,10 +278,10 @@ sets_of : (a b : Bool) → b ≡ false → (a || b) ≡ true → a ≡ true
 sets_of true b none may = refl
 sets_of false b none may = absurd (let wrong : false ≡ true = sym none ∙ may in cc)
 
-reads_behind : (b : Bool) (f : Formatter) → may_set f.reader.request (behind_by b f) ≡ true → f.springs ≡ None → ReadsNext (act f.reader.request (behind_by b f))
-reads_behind b f sets springs =
-    let act = sets-act f.reader.request (behind_by b f) sets in
-    record { springs = act.springs ∙ springs_behind b f ∙ springs; event = act.event ∙ event_after b f; task = act.task }
+reads_after : (b : Bool) (f : Formatter) → may_set f.reader.request (after_by b f) ≡ true → f.springs ≡ None → ReadsNext (act f.reader.request (after_by b f))
+reads_after b f sets springs =
+    let act = sets-act f.reader.request (after_by b f) sets in
+    record { springs = act.springs ∙ springs_after b f ∙ springs; event = act.event ∙ event_after b f; task = act.task }
 
 -- where the input is read no space is to be made
 reads_made : (f : Formatter) → ReadsNext f → ReadsNext (after_space f)
@@ -295,7 +295,7 @@ reads_by true f may sets some =
     let parts = may_parts f may in
     let is : obeyed f ≡ after_space (acted f) = rw may refl in
     let only = sets_of (may_set f.reader.request (after_break f)) (is_spacing f.reader.request) sets parts.acts in
-    subst ReadsNext (sym is) (reads_made (acted f) (reads_behind (breaks_first f) f only parts.springs))
+    subst ReadsNext (sym is) (reads_made (acted f) (reads_after (breaks_first f) f only parts.springs))
 
 -- the input is read next where a request took effect that only sets
 pub reads_obeyed : (f : Formatter) → is_spacing f.reader.request ≡ false → 0 < moves_obeying f → ReadsNext (obeyed f)

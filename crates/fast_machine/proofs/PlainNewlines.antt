@@ -7,19 +7,19 @@ use Rattle.nr_units.specs.Source.{MayGive, Supply}
 use Rattle.nr_fill.specs.Piece.{ends_in_joint, line_cells}
 use Rattle.nr_reading.specs.Many.InText.{IsInText}
 use Rattle.nr_reading.specs.Many.LineBeginnings.{text_ended}
-use Rattle.nr_reading.specs.Half.{meet}
+use Rattle.nr_reading.specs.Half.{take_in}
 use Rattle.nr_reading.specs.Weights.{blanks_owed, weight_of_half}
 use Rattle.nr_reading.specs.declared.event.Event.TheVariants as events
 use Rattle.nr_reading.specs.declared.mode.Mode.TheVariants as modes
-use Rattle.nr_reading.proofs.InText.{in_text, meet-newline}
+use Rattle.nr_reading.proofs.InText.{in_text, take_in-newline}
 use Rattle.nr_input.specs.Acting.{on_half}
 use Rattle.fast_input.specs.AtHand.{ComeNext, after_last}
-use Rattle.nr_input.specs.Place.{Coming, HoldsComing, front, passed_run}
-use Rattle.nr_input.specs.Moving.{met_at, situation}
+use Rattle.nr_input.specs.Place.{Coming, HoldsComing, next_item, passed_run}
+use Rattle.nr_input.specs.Moving.{taken_in_at, situation}
 use Rattle.nr_input.specs.Moving.{move as input_move}
 use Rattle.nr_input.specs.Moving as input
 use Rattle.nr_input.specs.Weights.{expansions_worth}
-use Rattle.nr_input.specs.declared.told.Told.TheVariants as tells
+use Rattle.nr_input.specs.declared.emitted.Emitted.TheVariants as tells
 use Rattle.nr_store.specs.Store.{shown}
 use Rattle.nr_formatter.specs.Access.{collected, with_collected}
 use Rattle.nr_formatter.specs.Many.LineEnds.{IsNewline, line_gapped, newline_flows, newline_put}
@@ -57,9 +57,9 @@ ended f = record f { reader = on_half text_ended f.reader }
 abbrev after_line : State → State
 after_line s = record s { coming = after_last (code "\n") 1 s.coming; formatter = unburst (ended s.formatter) }
 
--- the end of the line is told
-abbrev pub told_line : State → State
-told_line t = record t { formatter = record t.formatter { event = events.EndLine } }
+-- the end of the line is emitted
+abbrev pub emitted_line : State → State
+emitted_line t = record t { formatter = record t.formatter { event = events.EndLine } }
 
 module _ (rest : List ℕ) (s : State) (typing : IsTyping s) (next : s.coming.supply.bytes ≡ code "\n" ∷ rest) (gives : MayGive s.coming.supply.faults) (few : s.coming.taken + 1 < 2 ^ 40) where
   half : IsInText s.formatter.reader.half
@@ -69,30 +69,30 @@ module _ (rest : List ℕ) (s : State) (typing : IsTyping s) (next : s.coming.su
   further : (s.coming.taken + 1 == s.coming.taken) ≡ false
   further = ne_eqb (s.coming.taken + 1) s.coming.taken (λ e. omega (arith, e))
 
-  -- the item in front is looked at
-  looks : input_move (situation_of s) ≡ met_at (meet (front (shown s.formatter.store.levels) s.coming) s.formatter.reader.half) (situation_of s)
-  looks = rw half.due refl
+  -- the next item is looked at
+  looks : input_move (situation_of s) ≡ taken_in_at (take_in (next_item (shown s.formatter.store.levels) s.coming) s.formatter.reader.half) (situation_of s)
+  looks = rw half.pending_act refl
 
   -- it ends the text
-  meets : meet (front (shown s.formatter.store.levels) s.coming) s.formatter.reader.half ≡ record { half = text_ended s.formatter.reader.half; event = events.EndLine; takes = true }
-  meets = rw (typing.levels, next) (meet-newline s.formatter.reader.half half)
+  takes_in : take_in (next_item (shown s.formatter.store.levels) s.coming) s.formatter.reader.half ≡ record { half = text_ended s.formatter.reader.half; event = events.EndLine; takes = true }
+  takes_in = rw (typing.levels, next) (take_in-newline s.formatter.reader.half half)
 
-  -- it is taken and told
-  takes : met_at (record { half = text_ended s.formatter.reader.half; event = events.EndLine; takes = true }) (situation_of s)
-      ≡ record { situation = situation s.formatter.store (after_last (code "\n") 1 s.coming) (record s.formatter.reader { half = text_ended s.formatter.reader.half; burst = 0 }); told = tells.Event events.EndLine }
+  -- it is taken and emitted
+  takes : taken_in_at (record { half = text_ended s.formatter.reader.half; event = events.EndLine; takes = true }) (situation_of s)
+      ≡ record { situation = situation s.formatter.store (after_last (code "\n") 1 s.coming) (record s.formatter.reader { half = text_ended s.formatter.reader.half; burst = 0 }); emitted = tells.Event events.EndLine }
   takes = rw (typing.levels, next, further, later-one s.coming.supply.faults) refl
 
   -- this is the first move
-  reads_line : step s ≡ told_line (after_line s)
+  reads_line : step s ≡ emitted_line (after_line s)
   reads_line =
       step-read s typing.chosen typing.line.springs typing.line.event typing.line.task
-      ∙ ap (λ m. with_situation m s) (looks ∙ ap (λ m. met_at m (situation_of s)) meets ∙ takes)
+      ∙ ap (λ m. with_situation m s) (looks ∙ ap (λ m. taken_in_at m (situation_of s)) takes_in ∙ takes)
 
   -- and it is made
   goes_line : Goes s
   goes_line =
       let reads = kind-read s typing.chosen typing.line.springs typing.line.event typing.line.task in
-      let sees : input.Goes (situation_of s) = rw (half.due, typing.levels, next) (gives, λ many. omega (arith, many, few)) in
+      let sees : input.Goes (situation_of s) = rw (half.pending_act, typing.levels, next) (gives, λ many. omega (arith, many, few)) in
       subst (λ k. GoesBy k s) (sym reads) sees
 
 -- ---- it is heard, and the line counted
@@ -121,21 +121,21 @@ module _ (t : State) (chosen : t.chosen ≡ []) (end : IsLineEnd t.formatter) (w
     page = within.page;
   }
 
-  -- the newline ends the word whatever was told
-  ends_told : EndsWord (told_line t).formatter
-  ends_told = record { filling = end.ends.filling; word = end.ends.word; field = end.ends.field; breaks = end.ends.breaks; words = end.ends.words }
+  -- the newline ends the word whatever was emitted
+  ends_emitted : EndsWord (emitted_line t).formatter
+  ends_emitted = record { filling = end.ends.filling; word = end.ends.word; field = end.ends.field; breaks = end.ends.breaks; words = end.ends.words }
 
-  step_heard : step (told_line t) ≡ plainly line_flows t
+  step_heard : step (emitted_line t) ≡ plainly line_flows t
   step_heard =
-      step-hear (told_line t) events.EndLine chosen end.springs refl
-      ∙ ap (λ f. record t { formatter = f }) (heard-newline (told_line t).formatter ends_told end.joint end.mode)
+      step-hear (emitted_line t) events.EndLine chosen end.springs refl
+      ∙ ap (λ f. record t { formatter = f }) (heard-newline (emitted_line t).formatter ends_emitted end.joint end.mode)
 
   -- the word ends
-  pub hears : Glides (told_line t) 1 (plainly line_flows t)
+  pub hears : Glides (emitted_line t) 1 (plainly line_flows t)
   hears =
-      let works = kind-hear (told_line t) events.EndLine chosen end.springs refl (λ e. let wrong : ⊥ = cc in wrong) in
-      let goes_on = subst (λ k. GoesBy k (told_line t)) (sym works) (ap passed step_heard ∙ passed_none (plainly line_flows t) (within_put (tasks.Flow afters.Line false))) in
-      glides-one (told_line t) (plainly line_flows t) goes_on step_heard
+      let works = kind-hear (emitted_line t) events.EndLine chosen end.springs refl (λ e. let wrong : ⊥ = cc in wrong) in
+      let goes_on = subst (λ k. GoesBy k (emitted_line t)) (sym works) (ap passed step_heard ∙ passed_none (plainly line_flows t) (within_put (tasks.Flow afters.Line false))) in
+      glides-one (emitted_line t) (plainly line_flows t) goes_on step_heard
 
   -- no line is full
   flows : fits_line (line_gapped (collected t.formatter)) ≡ true → Glides (plainly line_flows t) 1 (plainly (line_put tasks.Count) t)
@@ -160,11 +160,11 @@ module _ (t : State) (chosen : t.chosen ≡ []) (end : IsLineEnd t.formatter) (w
       (step-work s tasks.InputTrap chosen end.springs refl refl ∙ ap (λ f. record t { formatter = f }) (count_input-none s.formatter end.trap)) (within_put tasks.Read)
 
   -- four moves after the one that reads
-  pub ends_line : fits_line (line_gapped (collected t.formatter)) ≡ true → Glides (told_line t) 4 (plainly (line_put tasks.Read) t)
+  pub ends_line : fits_line (line_gapped (collected t.formatter)) ≡ true → Glides (emitted_line t) 4 (plainly (line_put tasks.Read) t)
   ends_line fits =
-      let two = glides-add (told_line t) 1 1 (plainly line_flows t) (plainly (line_put tasks.Count) t) hears (flows fits) in
+      let two = glides-add (emitted_line t) 1 1 (plainly line_flows t) (plainly (line_put tasks.Count) t) hears (flows fits) in
       let more = glides-add (plainly (line_put tasks.Count) t) 1 1 (plainly (line_put tasks.InputTrap) t) (plainly (line_put tasks.Read) t) counts counts_input in
-      glides-add (told_line t) 2 2 (plainly (line_put tasks.Count) t) (plainly (line_put tasks.Read) t) two more
+      glides-add (emitted_line t) 2 2 (plainly (line_put tasks.Count) t) (plainly (line_put tasks.Read) t) two more
 
 -- ---- the engine
 
@@ -191,8 +191,8 @@ line_end s typing newline =
       within = newline.within;
     }
 
-within_behind : (s : State) → IsTyping s → IsWithin (after_line s)
-within_behind s typing = record {
+within_afterwards : (s : State) → IsTyping s → IsWithin (after_line s)
+within_afterwards s typing = record {
   formatter = record { stored = typing.within.formatter.stored; depth = typing.within.formatter.depth; line = typing.within.formatter.line; burst = omega arith };
   page = typing.within.page;
 }
@@ -210,9 +210,9 @@ leads_put s event task =
 made_line : (n : ℕ) (g : Formatter → Formatter) (e : Shape) (supply supply' : Option Supply) (held : Option (List ℕ)) (s : State) → Stands [] supply s e
     → HoldsComing (after_last (code "\n") 1 s.coming) (passed_run (code "\n") 1 e.place) supply' → IsWithin (ended_state g (at e s)) → Glides (at e s) n (ended_state g (at e s))
     → Made [] (at e s) n (ended_shape g e) supply' held held
-made_line n g e supply supply' held s h behind within glides =
+made_line n g e supply supply' held s h afterwards within glides =
     let holds : Holds [] supply' (ended_state g (at e s)) (ended_shape g e) =
-    holds_of supply' (ended_state g (at e s)) (ended_shape g e) refl h.chosen_is behind h.row h.page h.page_limit h.select h.faces within in
+    holds_of supply' (ended_state g (at e s)) (ended_shape g e) refl h.chosen_is afterwards h.row h.page h.page_limit h.select h.faces within in
     record {
       runs = glides.runs;
       holds = rw glides.leads holds;
@@ -224,16 +224,16 @@ pub record Lightens (f : Formatter) : Type 0 where
   pub half : weight_of_half (text_ended f.reader.half) + 20 ≡ weight_of_half f.reader.half
   pub blanks : blanks_owed (text_ended f.reader.half) ≡ 0
   pub owed : owed_by_event f.event + owed_by_task f.task f.reader.half ≡ 0
-  pub owed_behind : (t : Task) → t ≡ tasks.Read → owed_by_task t (text_ended f.reader.half) ≡ 0
+  pub owed_afterwards : (t : Task) → t ≡ tasks.Read → owed_by_task t (text_ended f.reader.half) ≡ 0
 
 pub lightens : (f : Formatter) → IsInLine f → Lightens f
 lightens f line =
     let half = in_text f.reader.half line.half in
     record {
-      half = rw (half.mode, half.escape, half.due) (omega arith);
-      blanks = rw half.due refl;
+      half = rw (half.mode, half.escape, half.pending_act) (omega arith);
+      blanks = rw half.pending_act refl;
       owed = rw (line.event, line.task) refl;
-      owed_behind = λ t is. rw is refl;
+      owed_afterwards = λ t is. rw is refl;
     }
 
 -- 20 moves more are paid
@@ -244,16 +244,16 @@ saves_newline_flows e line =
     let event : e.formatter.event ≡ events.Nothing = line.event in
     let task : e.formatter.task ≡ tasks.Read = line.task in
     let before : weight_of_agenda e.formatter.event e.formatter.task e.formatter.step ≡ 4 = rw (event, task) refl in
-    let behind : weight_of_agenda e.formatter.event (tasks.Flow afters.Line false) e.formatter.step ≡ 8 = rw event refl in
-    let owed_behind : owed_by_event e.formatter.event + owed_by_task (tasks.Flow afters.Line false) (text_ended e.formatter.reader.half) ≡ 0 = rw event refl in
+    let afterwards : weight_of_agenda e.formatter.event (tasks.Flow afters.Line false) e.formatter.step ≡ 8 = rw event refl in
+    let owed_afterwards : owed_by_event e.formatter.event + owed_by_task (tasks.Flow afters.Line false) (text_ended e.formatter.reader.half) ≡ 0 = rw event refl in
     omega (
       arith,
       light.half,
       light.blanks,
       light.owed,
       before,
-      behind,
-      owed_behind,
+      afterwards,
+      owed_afterwards,
       weight-gap (collected e.formatter),
       paid (expansions_worth e.formatter.reader.most 0 e.formatter.store.limit) 1 e.place.taken (omega arith),
     )
@@ -268,14 +268,14 @@ saves_newline e line =
       light.half,
       light.blanks,
       light.owed,
-      light.owed_behind e.formatter.task line.task,
+      light.owed_afterwards e.formatter.task line.task,
       weight-gap (collected e.formatter),
       paid (expansions_worth e.formatter.reader.most 0 e.formatter.store.limit) 1 e.place.taken (omega arith),
     )
 
 module _ (bs : List ℕ) (e : Shape) (supply supply' : Option Supply) (levels : e.formatter.store.levels ≡ []) (newline : IsNewline e.formatter)
     (next : (c : Coming) → HoldsComing c e.place supply → ComeNext (code "\n" ∷ bs) c)
-    (behind : (c : Coming) → HoldsComing c e.place supply → HoldsComing (after_last (code "\n") 1 c) (passed_run (code "\n") 1 e.place) supply') where
+    (afterwards : (c : Coming) → HoldsComing c e.place supply → HoldsComing (after_last (code "\n") 1 c) (passed_run (code "\n") 1 e.place) supply') where
   -- the newline comes next in a line that has begun
   typing : (s : State) → Stands [] supply s e → IsTyping (at e s)
   typing s h = stands_typing supply s e h newline.line levels
@@ -284,28 +284,28 @@ module _ (bs : List ℕ) (e : Shape) (supply supply' : Option Supply) (levels : 
   end s h = line_end (at e s) (typing s h) newline
 
   -- it is read
-  glides_read : (s : State) → Stands [] supply s e → Glides (at e s) 1 (told_line (after_line (at e s)))
+  glides_read : (s : State) → Stands [] supply s e → Glides (at e s) 1 (emitted_line (after_line (at e s)))
   glides_read s h =
       let x = first (code "\n") bs s.coming (next s.coming h.coming) in
-      glides-one (at e s) (told_line (after_line (at e s))) (goes_line x.rest (at e s) (typing s h) x.is x.gives x.few) (reads_line x.rest (at e s) (typing s h) x.is x.gives x.few)
+      glides-one (at e s) (emitted_line (after_line (at e s))) (goes_line x.rest (at e s) (typing s h) x.is x.gives x.few) (reads_line x.rest (at e s) (typing s h) x.is x.gives x.few)
 
   made_flows : (held : Option (List ℕ)) (s : State) → Stands [] supply s e → Made [] (at e s) 2 (ended_shape newline_flows e) supply' held held
   made_flows held s h =
       let t = after_line (at e s) in
       let is = leads_flows (at e s) (typing s h).line.event in
-      let within = within_put t h.chosen_is (end s h) (within_behind (at e s) (typing s h)) (tasks.Flow afters.Line false) in
-      let heard = hears t h.chosen_is (end s h) (within_behind (at e s) (typing s h)) in
-      made_line 2 newline_flows e supply supply' held s h (behind s.coming h.coming) (subst IsWithin is within)
-      (subst (λ u. Glides (at e s) 2 u) is (glides-add (at e s) 1 1 (told_line t) (plainly line_flows t) (glides_read s h) heard))
+      let within = within_put t h.chosen_is (end s h) (within_afterwards (at e s) (typing s h)) (tasks.Flow afters.Line false) in
+      let heard = hears t h.chosen_is (end s h) (within_afterwards (at e s) (typing s h)) in
+      made_line 2 newline_flows e supply supply' held s h (afterwards s.coming h.coming) (subst IsWithin is within)
+      (subst (λ u. Glides (at e s) 2 u) is (glides-add (at e s) 1 1 (emitted_line t) (plainly line_flows t) (glides_read s h) heard))
 
   made_put : fits_line (line_gapped (collected e.formatter)) ≡ true → (held : Option (List ℕ)) (s : State) → Stands [] supply s e → Made [] (at e s) 5 (ended_shape newline_put e) supply' held held
   made_put fits held s h =
       let t = after_line (at e s) in
       let is = leads_put (at e s) (typing s h).line.event (typing s h).line.task in
-      let within = within_put t h.chosen_is (end s h) (within_behind (at e s) (typing s h)) tasks.Read in
-      let heard = ends_line t h.chosen_is (end s h) (within_behind (at e s) (typing s h)) fits in
-      made_line 5 newline_put e supply supply' held s h (behind s.coming h.coming) (subst IsWithin is within)
-      (subst (λ u. Glides (at e s) 5 u) is (glides-add (at e s) 1 4 (told_line t) (plainly (line_put tasks.Read) t) (glides_read s h) heard))
+      let within = within_put t h.chosen_is (end s h) (within_afterwards (at e s) (typing s h)) tasks.Read in
+      let heard = ends_line t h.chosen_is (end s h) (within_afterwards (at e s) (typing s h)) fits in
+      made_line 5 newline_put e supply supply' held s h (afterwards s.coming h.coming) (subst IsWithin is within)
+      (subst (λ u. Glides (at e s) 5 u) is (glides-add (at e s) 1 4 (emitted_line t) (plainly (line_put tasks.Read) t) (glides_read s h) heard))
 
   pub makes_newline_flows : Makes 2 e (ended_shape newline_flows e) supply supply'
   makes_newline_flows = record {

@@ -9,15 +9,15 @@ use Rattle.nr_fill.specs.Piece.{line_cells}
 use Rattle.nr_fill.specs.Plain.{IsPlain, run_cell}
 use Rattle.nr_reading.specs.declared.event.Event.TheVariants as events
 use Rattle.nr_reading.specs.Many.InText.{IsInText}
-use Rattle.nr_reading.proofs.InText.{in_text, meet-plain}
+use Rattle.nr_reading.proofs.InText.{in_text, take_in-plain}
 use Rattle.fast_input.specs.AtHand.{ComeNext}
-use Rattle.nr_input.specs.Place.{Coming, HoldsComing, Reached, front}
-use Rattle.nr_input.specs.Moving.{move as input_move, situation, met_at}
+use Rattle.nr_input.specs.Place.{Coming, HoldsComing, Reached, next_item}
+use Rattle.nr_input.specs.Moving.{move as input_move, situation, taken_in_at}
 use Rattle.nr_input.specs.Moving as input
 use Rattle.nr_input.specs.declared.place.Ahead.TheVariants.{Unseen}
-use Rattle.nr_input.specs.declared.told.Told.TheVariants as tells
+use Rattle.nr_input.specs.declared.emitted.Emitted.TheVariants as tells
 use Rattle.nr_store.specs.Store.{shown}
-use Rattle.nr_reading.specs.Half.{meet}
+use Rattle.nr_reading.specs.Half.{take_in}
 use Rattle.nr_settings.specs.Fonts.{present_look}
 use Rattle.nr_formatter.specs.Access.{collected, margins}
 use Rattle.nr_formatter.specs.Many.Runs.{IsInLine, is_in_line, run_put}
@@ -30,7 +30,7 @@ use Rattle.nr_machine.specs.Measures.{IsWithin}
 use Rattle.nr_machine.specs.Run.{Goes, GoesBy}
 use Rattle.nr_machine.specs.Holding.{Shape, at, Stands, Holds, Made}
 use Rattle.fast_machine.specs.Running.{Makes, Saves, unburst}
-use Rattle.fast_machine.proofs.Gliding.{Glides, glides-add, glides_plain, told}
+use Rattle.fast_machine.proofs.Gliding.{Glides, glides-add, glides_plain, emitted}
 use Rattle.nr_machine.proofs.NextMoves.{step-read, kind-read}
 use Rattle.nr_machine.proofs.Standing.{wrote_nothing}
 use Rattle.nr_machine.proofs.Working.{holds_of}
@@ -38,16 +38,16 @@ use Rattle.nr_machine.proofs.Working.{holds_of}
 -- ---- bytes that come next
 
 -- after the next n bytes, the last of them no newline
-abbrev pub behind_many : ℕ → Coming → Coming
-behind_many n c = record { supply = skipped n c.supply; taken = c.taken + n; inside = true }
+abbrev pub after_many : ℕ → Coming → Coming
+after_many n c = record { supply = skipped n c.supply; taken = c.taken + n; inside = true }
 
 abbrev pub passed_many : ℕ → Reached → Reached
 passed_many n p = record { ahead = Unseen; taken = p.taken + n; inside = true }
 
 -- a prefix of one byte more
-pub front_more : (xs : List ℕ) (b : ℕ) (bs : List ℕ) → take (suc (length bs)) xs ≡ b ∷ bs → (rest : List ℕ) × (xs ≡ b ∷ rest) × (take (length bs) rest ≡ bs)
-front_more [] b bs is = absurd (let wrong : [] ≡ b ∷ bs = is in cc)
-front_more (x ∷ xs) b bs is =
+pub prefix_more : (xs : List ℕ) (b : ℕ) (bs : List ℕ) → take (suc (length bs)) xs ≡ b ∷ bs → (rest : List ℕ) × (xs ≡ b ∷ rest) × (take (length bs) rest ≡ bs)
+prefix_more [] b bs is = absurd (let wrong : [] ≡ b ∷ bs = is in cc)
+prefix_more (x ∷ xs) b bs is =
     let first : x ≡ b = cc in
     let others : take (length bs) xs ≡ bs = cc in
     (xs, ap (λ y. y ∷ xs) first, others)
@@ -80,8 +80,8 @@ drop-more (suc n) [] = refl
 abbrev coming_of : List ℕ → Faults → ℕ → Coming
 coming_of bs f n = record { supply = record { bytes = bs; faults = f }; taken = n; inside = true }
 
-behind_many-more : (n : ℕ) (c : Coming) → behind_many n (behind_many 1 c) ≡ behind_many (suc n) c
-behind_many-more n c =
+after_many-more : (n : ℕ) (c : Coming) → after_many n (after_many 1 c) ≡ after_many (suc n) c
+after_many-more n c =
     let counts : c.taken + 1 + n ≡ c.taken + suc n = omega arith in
     ap (λ bs. coming_of bs (later n (later 1 c.supply.faults)) (c.taken + 1 + n)) (drop-more n c.supply.bytes)
     ∙ ap (λ f. coming_of (drop (suc n) c.supply.bytes) f (c.taken + 1 + n)) (later-more n c.supply.faults)
@@ -90,12 +90,12 @@ behind_many-more n c =
 -- ---- one byte
 
 -- after one byte of the source
-abbrev pub behind_byte : State → State
-behind_byte s = record s { coming = behind_many 1 s.coming; formatter = unburst s.formatter }
+abbrev pub after_byte : State → State
+after_byte s = record s { coming = after_many 1 s.coming; formatter = unburst s.formatter }
 
 -- the bytes were read, and are cells of the word
 abbrev pub typed : List ℕ → State → State
-typed bs s = record s { coming = behind_many (length bs) s.coming; formatter = run_put bs (unburst s.formatter) }
+typed bs s = record s { coming = after_many (length bs) s.coming; formatter = run_put bs (unburst s.formatter) }
 
 -- the next bytes of the source are read in a text line that has begun
 pub record IsTyping (s : State) : Type 0 where
@@ -118,31 +118,31 @@ module _ (b : ℕ) (rest : List ℕ) (s : State) (typing : IsTyping s) (line : (
   further : (s.coming.taken + 1 == s.coming.taken) ≡ false
   further = ne_eqb (s.coming.taken + 1) s.coming.taken (λ e. omega (arith, e))
 
-  looks : input_move (situation_of s) ≡ met_at (meet (front (shown s.formatter.store.levels) s.coming) s.formatter.reader.half) (situation_of s)
-  looks = rw half.due refl
+  looks : input_move (situation_of s) ≡ taken_in_at (take_in (next_item (shown s.formatter.store.levels) s.coming) s.formatter.reader.half) (situation_of s)
+  looks = rw half.pending_act refl
 
-  meets : meet (front (shown s.formatter.store.levels) s.coming) s.formatter.reader.half ≡ record { half = s.formatter.reader.half; event = events.Byte b; takes = true }
-  meets = rw (typing.levels, next) (meet-plain b s.formatter.reader.half half line plain)
+  takes_in : take_in (next_item (shown s.formatter.store.levels) s.coming) s.formatter.reader.half ≡ record { half = s.formatter.reader.half; event = events.Byte b; takes = true }
+  takes_in = rw (typing.levels, next) (take_in-plain b s.formatter.reader.half half line plain)
 
-  takes : met_at (record { half = s.formatter.reader.half; event = events.Byte b; takes = true }) (situation_of s)
-      ≡ record { situation = situation s.formatter.store (behind_many 1 s.coming) (record s.formatter.reader { burst = 0 }); told = tells.Event (events.Byte b) }
+  takes : taken_in_at (record { half = s.formatter.reader.half; event = events.Byte b; takes = true }) (situation_of s)
+      ≡ record { situation = situation s.formatter.store (after_many 1 s.coming) (record s.formatter.reader { burst = 0 }); emitted = tells.Event (events.Byte b) }
   takes = rw (typing.levels, next, further, line, later-one s.coming.supply.faults) refl
 
-  read_is : read s ≡ told b (behind_byte s)
-  read_is = ap (λ m. with_situation m s) (looks ∙ ap (λ m. met_at m (situation_of s)) meets ∙ takes)
+  read_is : read s ≡ emitted b (after_byte s)
+  read_is = ap (λ m. with_situation m s) (looks ∙ ap (λ m. taken_in_at m (situation_of s)) takes_in ∙ takes)
 
   -- the byte is read
-  pub reads_byte : step s ≡ told b (behind_byte s)
+  pub reads_byte : step s ≡ emitted b (after_byte s)
   reads_byte = step-read s typing.chosen typing.line.springs typing.line.event typing.line.task ∙ read_is
 
   pub goes_byte : Goes s
   goes_byte =
       let reads = kind-read s typing.chosen typing.line.springs typing.line.event typing.line.task in
-      let sees : input.Goes (situation_of s) = rw (half.due, typing.levels, next) (gives, λ many. omega (arith, many, few)) in
+      let sees : input.Goes (situation_of s) = rw (half.pending_act, typing.levels, next) (gives, λ many. omega (arith, many, few)) in
       subst (λ k. GoesBy k s) (sym reads) sees
 
 -- it is read in the same line
-pub line_after : (s : State) → IsTyping s → IsInLine (behind_byte s).formatter
+pub line_after : (s : State) → IsTyping s → IsInLine (after_byte s).formatter
 line_after s typing = record {
   springs = typing.line.springs;
   event = typing.line.event;
@@ -154,7 +154,7 @@ line_after s typing = record {
 glides_byte : (b : ℕ) (rest : List ℕ) (s : State) → IsTyping s → IsPlain b → s.coming.supply.bytes ≡ b ∷ rest → MayGive s.coming.supply.faults → s.coming.taken + 1 < 2 ^ 40
     → IsWithin (typed (b ∷ []) s) → Glides s 2 (typed (b ∷ []) s)
 glides_byte b rest s typing plain next gives few within =
-    glides_plain s (behind_byte s) b typing.chosen (line_after s typing) (goes_byte b rest s typing (newline b plain) (escape b plain) next gives few)
+    glides_plain s (after_byte s) b typing.chosen (line_after s typing) (goes_byte b rest s typing (newline b plain) (escape b plain) next gives few)
     (reads_byte b rest s typing (newline b plain) (escape b plain) next gives few) plain within
 
 -- ---- a run
@@ -170,8 +170,8 @@ pub others_plain : (b : ℕ) (bs : List ℕ) → ArePlain (b ∷ bs) → ArePlai
 others_plain b bs plain = λ k d below. plain (suc k) d (omega (arith, below))
 
 -- a run within the limits is so before its end
-within_front : (b : ℕ) (bs : List ℕ) (s : State) → IsWithin s → line_cells (collected (typed (b ∷ bs) s).formatter) ≤ s.formatter.line.limit → IsWithin (typed (b ∷ []) s)
-within_front b bs s w fits = record {
+within_prefix : (b : ℕ) (bs : List ℕ) (s : State) → IsWithin s → line_cells (collected (typed (b ∷ bs) s).formatter) ≤ s.formatter.line.limit → IsWithin (typed (b ∷ []) s)
+within_prefix b bs s w fits = record {
   formatter = record {
     stored = w.formatter.stored;
     depth = w.formatter.depth;
@@ -201,9 +201,9 @@ typing_on b s typing within = record {
 }
 
 typed-more : (b : ℕ) (bs : List ℕ) (s : State) → typed bs (typed (b ∷ []) s) ≡ typed (b ∷ bs) s
-typed-more b bs s = ap (λ c. record s { coming = c; formatter = run_put (b ∷ bs) (unburst s.formatter) }) (behind_many-more (length bs) s.coming)
+typed-more b bs s = ap (λ c. record s { coming = c; formatter = run_put (b ∷ bs) (unburst s.formatter) }) (after_many-more (length bs) s.coming)
 
-next_more : (b : ℕ) (bs rest : List ℕ) (c : Coming) → c.supply.bytes ≡ b ∷ rest → take (length bs) rest ≡ bs → ComeNext (b ∷ bs) c → ComeNext bs (behind_many 1 c)
+next_more : (b : ℕ) (bs rest : List ℕ) (c : Coming) → c.supply.bytes ≡ b ∷ rest → take (length bs) rest ≡ bs → ComeNext (b ∷ bs) c → ComeNext bs (after_many 1 c)
 next_more b bs rest c is others next = record {
   bytes = rw is others;
   faults = may_give_more (length bs) c.supply.faults next.faults;
@@ -213,19 +213,19 @@ next_more b bs rest c is others next = record {
 glides_last : (b : ℕ) (s : State) → IsTyping s → ArePlain (b ∷ []) → ComeNext (b ∷ []) s.coming
     → line_cells (collected (typed (b ∷ []) s).formatter) ≤ s.formatter.line.limit → Glides s 2 (typed (b ∷ []) s)
 glides_last b s typing plain next fits =
-    let front = front_more s.coming.supply.bytes b [] next.bytes in
-    glides_byte b front.0 s typing (first_plain b [] plain) front.1 (may_give_one 0 s.coming.supply.faults next.faults) (omega (arith, next.few))
-    (within_front b [] s typing.within fits)
+    let prefix = prefix_more s.coming.supply.bytes b [] next.bytes in
+    glides_byte b prefix.0 s typing (first_plain b [] plain) prefix.1 (may_give_one 0 s.coming.supply.faults next.faults) (omega (arith, next.few))
+    (within_prefix b [] s typing.within fits)
 
 pub glides_run : (b : ℕ) (bs : List ℕ) (s : State) → IsTyping s → ArePlain (b ∷ bs) → ComeNext (b ∷ bs) s.coming
     → line_cells (collected (typed (b ∷ bs) s).formatter) ≤ s.formatter.line.limit → Glides s (2 * length (b ∷ bs)) (typed (b ∷ bs) s)
 glides_run b [] s typing plain next fits = glides_last b s typing plain next fits
 glides_run b (x ∷ xs) s typing plain next fits =
-    let front = front_more s.coming.supply.bytes b (x ∷ xs) next.bytes in
-    let within = within_front b (x ∷ xs) s typing.within fits in
-    let one = glides_byte b front.0 s typing (first_plain b (x ∷ xs) plain) front.1 (may_give_one (length (x ∷ xs)) s.coming.supply.faults next.faults) (omega (arith, next.few)) within in
+    let prefix = prefix_more s.coming.supply.bytes b (x ∷ xs) next.bytes in
+    let within = within_prefix b (x ∷ xs) s typing.within fits in
+    let one = glides_byte b prefix.0 s typing (first_plain b (x ∷ xs) plain) prefix.1 (may_give_one (length (x ∷ xs)) s.coming.supply.faults next.faults) (omega (arith, next.few)) within in
     let more = glides_run x xs (typed (b ∷ []) s) (typing_on b s typing within) (others_plain b (x ∷ xs) plain)
-    (next_more b (x ∷ xs) front.0 s.coming front.1 front.2 next) fits in
+    (next_more b (x ∷ xs) prefix.0 s.coming prefix.1 prefix.2 next) fits in
     let count : 2 + 2 * length (x ∷ xs) ≡ 2 * length (b ∷ x ∷ xs) = omega arith in
     subst (λ t. Glides s (2 * length (b ∷ x ∷ xs)) t) (typed-more b (x ∷ xs) s)
     (subst (λ n. Glides s n (typed (x ∷ xs) (typed (b ∷ []) s))) count
@@ -233,18 +233,18 @@ glides_run b (x ∷ xs) s typing plain next fits =
 
 -- ---- the engine
 
-may_give_front : (n m : ℕ) (f : Faults) → n ≤ m → MayGiveAll m f → MayGiveAll n f
-may_give_front n m Never less h = tt
-may_give_front n m (After k) less h = omega (arith, less, h)
-may_give_front n m Anytime less h = tt
+may_give_prefix : (n m : ℕ) (f : Faults) → n ≤ m → MayGiveAll m f → MayGiveAll n f
+may_give_prefix n m Never less h = tt
+may_give_prefix n m (After k) less h = omega (arith, less, h)
+may_give_prefix n m Anytime less h = tt
 
 -- a prefix of the bytes that come next
-pub come_front : (n : ℕ) (bs : List ℕ) (c : Coming) → n ≤ length bs → ComeNext bs c → ComeNext (take n bs) c
-come_front n bs c less next =
+pub come_prefix : (n : ℕ) (bs : List ℕ) (c : Coming) → n ≤ length bs → ComeNext bs c → ComeNext (take n bs) c
+come_prefix n bs c less next =
     let count : length (take n bs) ≡ n = length-take-le n bs less in
     record {
       bytes = ap (λ k. take k c.supply.bytes) count ∙ sym (take-take n (length bs) c.supply.bytes less) ∙ ap (take n) next.bytes;
-      faults = may_give_front (length (take n bs)) (length bs) c.supply.faults (omega (arith, count, less)) next.faults;
+      faults = may_give_prefix (length (take n bs)) (length bs) c.supply.faults (omega (arith, count, less)) next.faults;
       few = omega (arith, count, less, next.few);
     }
 
@@ -266,13 +266,13 @@ glided : (b : ℕ) (bs : List ℕ) (e : Shape) (supply supply' : Option Supply) 
     → is_in_line e.formatter ≡ true → e.formatter.store.levels ≡ [] → ArePlain (b ∷ bs)
     → ((c : Coming) → HoldsComing c e.place supply → ComeNext (b ∷ bs) c)
     → line_cells (collected (run_put (b ∷ bs) e.formatter)) ≤ e.formatter.line.limit
-    → ((c : Coming) → HoldsComing c e.place supply → HoldsComing (behind_many (length (b ∷ bs)) c) (passed_many (length (b ∷ bs)) e.place) supply')
+    → ((c : Coming) → HoldsComing c e.place supply → HoldsComing (after_many (length (b ∷ bs)) c) (passed_many (length (b ∷ bs)) e.place) supply')
     → Made [] (at e s) (2 * length (b ∷ bs)) (run_shape (b ∷ bs) e) supply' held held
-glided b bs e supply supply' held s h line levels plain next fits behind =
+glided b bs e supply supply' held s h line levels plain next fits afterwards =
     let glides = glides_run b bs (at e s) (stands_typing supply s e h line levels) plain (next s.coming h.coming) fits in
     let within = within_run b bs (at e s) h.within fits in
     let holds : Holds [] supply' (typed (b ∷ bs) (at e s)) (run_shape (b ∷ bs) e) =
-    holds_of supply' (typed (b ∷ bs) (at e s)) (run_shape (b ∷ bs) e) refl h.chosen_is (behind s.coming h.coming) h.row h.page h.page_limit h.select h.faces within in
+    holds_of supply' (typed (b ∷ bs) (at e s)) (run_shape (b ∷ bs) e) refl h.chosen_is (afterwards s.coming h.coming) h.row h.page h.page_limit h.select h.faces within in
     record {
       runs = glides.runs;
       holds = rw glides.leads holds;
@@ -303,11 +303,11 @@ run_saves bs e some =
 pub makes_run : (bs : List ℕ) (e : Shape) (supply supply' : Option Supply) → 0 < length bs → is_in_line e.formatter ≡ true → e.formatter.store.levels ≡ [] → ArePlain bs
     → ((c : Coming) → HoldsComing c e.place supply → ComeNext bs c)
     → line_cells (collected (run_put bs e.formatter)) ≤ e.formatter.line.limit
-    → ((c : Coming) → HoldsComing c e.place supply → HoldsComing (behind_many (length bs) c) (passed_many (length bs) e.place) supply')
+    → ((c : Coming) → HoldsComing c e.place supply → HoldsComing (after_many (length bs) c) (passed_many (length bs) e.place) supply')
     → Makes (2 * length bs) e (run_shape bs e) supply supply'
-makes_run [] e supply supply' some line levels plain next fits behind = absurd (omega (arith, some))
-makes_run (b ∷ bs) e supply supply' some line levels plain next fits behind = record {
-  makes = λ held s h. glided b bs e supply supply' held s h line levels plain next fits behind;
+makes_run [] e supply supply' some line levels plain next fits afterwards = absurd (omega (arith, some))
+makes_run (b ∷ bs) e supply supply' some line levels plain next fits afterwards = record {
+  makes = λ held s h. glided b bs e supply supply' held s h line levels plain next fits afterwards;
   limit = refl;
   most = refl;
   limits = refl;

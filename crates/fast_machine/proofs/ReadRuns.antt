@@ -5,13 +5,13 @@ use Rattle.nr_store.specs.Store.{Stored}
 use Rattle.nr_reading.specs.declared.event.Event.{Event}
 use Rattle.nr_reading.specs.declared.event.Event.TheVariants as events
 use Rattle.nr_input.specs.declared.reader.Reader.{Reader}
-use Rattle.nr_input.specs.declared.told.Told.{Told}
-use Rattle.nr_input.specs.declared.told.Told.TheVariants as tells
+use Rattle.nr_input.specs.declared.emitted.Emitted.{Emitted}
+use Rattle.nr_input.specs.declared.emitted.Emitted.TheVariants as tells
 use Rattle.nr_input.specs.Place.{Reached, HoldsComing}
 use Rattle.nr_input.specs.Limits as limits
 use Rattle.nr_input.specs.Moving.{Situation, Move, situation, move}
 use Rattle.nr_input.specs.Moving as input
-use Rattle.fast_input.specs.Runs.{HasRead, PaysMany, moves, told_last}
+use Rattle.fast_input.specs.Runs.{HasRead, PaysMany, moves, emitted_last}
 use Rattle.nr_formatter.specs.Limits as formatter
 use Rattle.nr_formatter.specs.declared.tasks.Resume.{Resume}
 use Rattle.nr_formatter.proofs.LimitsStay.{input-limits}
@@ -25,11 +25,11 @@ use Rattle.nr_machine.proofs.Bursts.{move-short}
 use Rattle.nr_machine.proofs.LimitsStay.{formatter-limits}
 use Rattle.nr_machine.proofs.NextMoves.{step-read, kind-read}
 use Rattle.fast_machine.proofs.Gliding.{Glides}
-use Rattle.fast_machine.proofs.Spending.{told_all}
+use Rattle.fast_machine.proofs.Spending.{emitted_all}
 use Rattle.nr_machine.proofs.Standing.{wrote_nothing}
 use Rattle.nr_machine.proofs.Working.{holds_of}
 
--- the state with this read, and this told
+-- the state with this read, and this emitted
 abbrev pub reached : Situation Resume → Event → State → State
 reached m e s = record s { coming = m.coming; formatter = record s.formatter { store = m.stored; reader = m.reader; event = e } }
 
@@ -40,26 +40,26 @@ module _ (s : State) (chosen : s.chosen ≡ []) (reads : ReadsNext s.formatter) 
   step_is : (m : Situation Resume) → step (reached m events.Nothing s) ≡ with_situation (move m) (reached m events.Nothing s)
   step_is m = step-read (reached m events.Nothing s) chosen reads.springs refl reads.task
 
-  tells_event : (m : Move Resume) (n : Situation Resume) (e : Event) → m.told ≡ tells.Event e → with_situation m (reached n events.Nothing s) ≡ reached m.situation e s
-  tells_event m n e is = ap (λ (t : Told Resume). with_situation (record { situation = m.situation; told = t }) (reached n events.Nothing s)) is
+  tells_event : (m : Move Resume) (n : Situation Resume) (e : Event) → m.emitted ≡ tells.Event e → with_situation m (reached n events.Nothing s) ≡ reached m.situation e s
+  tells_event m n e is = ap (λ (t : Emitted Resume). with_situation (record { situation = m.situation; emitted = t }) (reached n events.Nothing s)) is
 
-  module _ (n : ℕ) (quiet : (k : ℕ) → k < n → told_last k (situation_of s) ≡ tells.Event events.Nothing) where
-    -- where they told nothing the input is read next
+  module _ (n : ℕ) (quiet : (k : ℕ) → k < n → emitted_last k (situation_of s) ≡ tells.Event events.Nothing) where
+    -- where they emitted nothing the input is read next
     quiet_leads : (k : ℕ) → k < n → state_after k s ≡ reached (moves k (situation_of s)) events.Nothing s
     quiet_leads zero below = begins
     quiet_leads (suc k) below =
         ap step (quiet_leads k (omega (arith, below))) ∙ step_is (moves k (situation_of s))
         ∙ tells_event (move (moves k (situation_of s))) (moves k (situation_of s)) events.Nothing (quiet (suc k) below)
 
-  leads_by : (n : ℕ) (e : Event) → ((k : ℕ) → k < n → told_last k (situation_of s) ≡ tells.Event events.Nothing) → told_last n (situation_of s) ≡ tells.Event e
+  leads_by : (n : ℕ) (e : Event) → ((k : ℕ) → k < n → emitted_last k (situation_of s) ≡ tells.Event events.Nothing) → emitted_last n (situation_of s) ≡ tells.Event e
       → state_after n s ≡ reached (moves n (situation_of s)) e s
-  leads_by zero e quiet told =
+  leads_by zero e quiet emitted =
       let none : events.Nothing ≡ e = cc in
       subst (λ x. s ≡ reached (situation_of s) x s) none begins
-  leads_by (suc k) e quiet told =
-      ap step (quiet_leads (suc k) quiet k (omega arith)) ∙ step_is (moves k (situation_of s)) ∙ tells_event (move (moves k (situation_of s))) (moves k (situation_of s)) e told
+  leads_by (suc k) e quiet emitted =
+      ap step (quiet_leads (suc k) quiet k (omega arith)) ∙ step_is (moves k (situation_of s)) ∙ tells_event (move (moves k (situation_of s))) (moves k (situation_of s)) e emitted
 
-  goes_by : (n k : ℕ) → k < n → ((j : ℕ) → j < n → told_last j (situation_of s) ≡ tells.Event events.Nothing) → input.Goes (moves k (situation_of s)) → Goes (state_after k s)
+  goes_by : (n k : ℕ) → k < n → ((j : ℕ) → j < n → emitted_last j (situation_of s) ≡ tells.Event events.Nothing) → input.Goes (moves k (situation_of s)) → Goes (state_after k s)
   goes_by n k below quiet goes =
       let there = reached (moves k (situation_of s)) events.Nothing s in
       let reads_there = kind-read there chosen reads.springs refl reads.task in
@@ -77,7 +77,7 @@ short_after : (n : ℕ) (m : Situation Resume) → ((k : ℕ) → k < n → inpu
 short_after zero m goes short = short
 short_after (suc n) m goes short = move-short (moves n m) (goes n (omega arith)) (short_after n m (λ k below. goes k (omega (arith, below))) short)
 
--- the engine with this read, and this told
+-- the engine with this read, and this emitted
 abbrev pub read_shape : Stored Resume → Reader → Event → Reached → Shape → Shape
 read_shape v r x p e = record e { formatter = record e.formatter { store = v; reader = r; event = x }; place = p }
 
@@ -110,5 +110,5 @@ makes_reading n x v r p e supply supply' reads read pays same fits = record {
   limit = pays.limit;
   most = pays.most;
   limits = formatter-limits e (record e.formatter { store = v; reader = r }) (input-limits e.formatter v r same);
-  spends = told_all n e.place p e.formatter v r x reads.event reads.task pays;
+  spends = emitted_all n e.place p e.formatter v r x reads.event reads.task pays;
 }

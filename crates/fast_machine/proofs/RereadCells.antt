@@ -11,16 +11,16 @@ use Rattle.nr_store.specs.Windows.{rest_of, levels_after, run_left}
 use Rattle.nr_store.specs.declared.element.Element.{Element}
 use Rattle.nr_store.specs.declared.element.Element.TheVariants as elements
 use Rattle.nr_reading.specs.declared.event.Event.TheVariants as events
-use Rattle.nr_reading.specs.declared.front.Front.TheVariants as fronts
-use Rattle.nr_reading.specs.Half.{meet}
+use Rattle.nr_reading.specs.declared.next_item.NextItem.TheVariants as next_items
+use Rattle.nr_reading.specs.Half.{take_in}
 use Rattle.nr_reading.specs.Many.Rereading.{IsRereading}
-use Rattle.nr_reading.proofs.Rereading.{rereading, meet-cell}
-use Rattle.nr_input.specs.Moving.{move as input_move, situation, met_at}
+use Rattle.nr_reading.proofs.Rereading.{rereading, take_in-cell}
+use Rattle.nr_input.specs.Moving.{move as input_move, situation, taken_in_at}
 use Rattle.nr_input.specs.Moving as input
 use Rattle.nr_input.specs.Weights.{items_in, items_left}
-use Rattle.nr_input.specs.declared.told.Told.TheVariants as tells
+use Rattle.nr_input.specs.declared.emitted.Emitted.TheVariants as tells
 use Rattle.nr_store.specs.declared.element.Diversion.{Diversion}
-use Rattle.nr_reading.specs.declared.mode.Due.TheVariants as dues
+use Rattle.nr_reading.specs.declared.mode.PendingAct.TheVariants as pending_acts
 use Rattle.nr_formatter.specs.Access.{diversion}
 use Rattle.nr_formatter.specs.Places.{outlet, outlet_of, is_on_page}
 use Rattle.nr_formatter.specs.Many.Runs.{IsRereadingLine, is_rereading_line}
@@ -70,24 +70,24 @@ on_page None f g paper settings on = rw (paper, settings) on
 on_page (Some d) f g paper settings on = on
 
 module _ (l : Reading Resume) (ls : List (Level Resume)) (x : Cell) (xs : List Element) (row : List Cell) (s : State) where
-  looks : s.formatter.reader.half.reading.due ≡ dues.Look
-      → input_move (situation_of (at_rest l ls (elements.Cell x ∷ xs) row s)) ≡ met_at (meet (fronts.Cell x) s.formatter.reader.half) (situation_of (at_rest l ls (elements.Cell x ∷ xs) row s))
-  looks due = rw due refl
+  looks : s.formatter.reader.half.reading.pending_act ≡ pending_acts.Look
+      → input_move (situation_of (at_rest l ls (elements.Cell x ∷ xs) row s)) ≡ taken_in_at (take_in (next_items.Cell x) s.formatter.reader.half) (situation_of (at_rest l ls (elements.Cell x ∷ xs) row s))
+  looks pending_act = rw pending_act refl
 
-  takes : met_at (record { half = s.formatter.reader.half; event = events.DivertedCell x; takes = true }) (situation_of (at_rest l ls (elements.Cell x ∷ xs) row s))
-      ≡ record { situation = situation (at_rest l ls xs row s).formatter.store s.coming s.formatter.reader; told = tells.Event (events.DivertedCell x) }
+  takes : taken_in_at (record { half = s.formatter.reader.half; event = events.DivertedCell x; takes = true }) (situation_of (at_rest l ls (elements.Cell x ∷ xs) row s))
+      ≡ record { situation = situation (at_rest l ls xs row s).formatter.store s.coming s.formatter.reader; emitted = tells.Event (events.DivertedCell x) }
   takes = rw (eq-eqb s.coming.taken s.coming.taken refl) refl
 
   reads_cell : IsRereading s.formatter.reader.half → read (at_rest l ls (elements.Cell x ∷ xs) row s) ≡ seen_at l ls x xs row s
   reads_cell half =
       ap (λ m. with_situation m (at_rest l ls (elements.Cell x ∷ xs) row s))
-      (looks half.due ∙ ap (λ m. met_at m (situation_of (at_rest l ls (elements.Cell x ∷ xs) row s))) (meet-cell x s.formatter.reader.half half) ∙ takes)
+      (looks half.pending_act ∙ ap (λ m. taken_in_at m (situation_of (at_rest l ls (elements.Cell x ∷ xs) row s))) (take_in-cell x s.formatter.reader.half half) ∙ takes)
 
-  sees_by : s.formatter.reader.half.reading.due ≡ dues.Look → input.Goes (situation_of (at_rest l ls (elements.Cell x ∷ xs) row s))
-  sees_by due = rw due tt
+  sees_by : s.formatter.reader.half.reading.pending_act ≡ pending_acts.Look → input.Goes (situation_of (at_rest l ls (elements.Cell x ∷ xs) row s))
+  sees_by pending_act = rw pending_act tt
 
   sees_cell : IsRereading s.formatter.reader.half → input.Goes (situation_of (at_rest l ls (elements.Cell x ∷ xs) row s))
-  sees_cell half = sees_by half.due
+  sees_cell half = sees_by half.pending_act
 
   heard_cell : is_nil row ≡ false → cell_to outlets.Room x (seen_at l ls x xs row s)
       ≡ record (at_rest l ls xs (row ++ x ∷ []) s) { formatter = record (at_rest l ls xs row s).formatter { event = events.Nothing } }
@@ -241,8 +241,8 @@ cells-push (elements.Byte b ∷ ys) x = cells-push ys x
 cells-push (elements.LineEnd h ∷ ys) x = cells-push ys x
 
 -- a prefix of a prefix, and what is after it
-pub front-behind : (n m : ℕ) (xs : List Element) → take n (take m xs) ++ (drop n (take m xs) ++ drop m xs) ≡ xs
-front-behind n m xs =
+pub prefix-afterwards : (n m : ℕ) (xs : List Element) → take n (take m xs) ++ (drop n (take m xs) ++ drop m xs) ≡ xs
+prefix-afterwards n m xs =
     sym (append_assoc (take n (take m xs)) (drop n (take m xs)) (drop m xs))
     ∙ ap (λ ys. ys ++ drop m xs) (take-append-drop n (take m xs))
     ∙ take-append-drop m xs

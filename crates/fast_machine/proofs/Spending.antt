@@ -11,12 +11,12 @@ use Rattle.nr_formatter.specs.Weights.{weight}
 use Rattle.nr_formatter.specs.declared.formatter.Formatter.{Formatter}
 use Rattle.nr_formatter.specs.declared.tasks.Resume.{Resume}
 use Rattle.nr_formatter.specs.declared.tasks.Task.TheVariants as tasks
-use Rattle.nr_machine.proofs.Spending.{told_no_lead}
+use Rattle.nr_machine.proofs.Spending.{emitted_no_lead}
 
--- many moves read, and the last of them told this
-pub told_all : (n : ℕ) (p q : Reached) (f : Formatter) (v : Stored Resume) (r : Reader) (e : Event) → f.event ≡ events.Nothing → f.task ≡ tasks.Read
+-- many moves read, and the last of them emitted this
+pub emitted_all : (n : ℕ) (p q : Reached) (f : Formatter) (v : Stored Resume) (r : Reader) (e : Event) → f.event ≡ events.Nothing → f.task ≡ tasks.Read
     → PaysMany n f.store p f.reader e v q r
     → weight q (record f { store = v; reader = r; event = e }) + n + byte_worth f.reader.most f.store.limit * p.taken
     ≤ weight p f + byte_worth f.reader.most f.store.limit * q.taken
-told_all n p q f v r e idle task pays =
-    told_no_lead n p q f v r e idle task (pays.pays (byte_worth f.reader.most f.store.limit) (omega arith)) pays.tells (omega (arith, pays.diversions))
+emitted_all n p q f v r e idle task pays =
+    emitted_no_lead n p q f v r e idle task (pays.pays (byte_worth f.reader.most f.store.limit) (omega arith)) pays.tells (omega (arith, pays.diversions))

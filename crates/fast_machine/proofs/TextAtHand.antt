@@ -25,7 +25,7 @@ use Rattle.nr_machine.specs.Machine.{state_after}
 use Rattle.nr_machine.specs.Holding.{Shape, at, weight, worth}
 use Rattle.fast_machine.specs.Running.{HasNext, Longest, Makes, PutsText, Saves, taken_shape, unburst}
 use Rattle.fast_machine.proofs.PlainGaps.{first_of, makes_flows, makes_put, saves_flows, saves_put}
-use Rattle.fast_machine.proofs.PlainText.{ArePlain, behind_many, come_front, makes_run, newline, passed_many, run_saves}
+use Rattle.fast_machine.proofs.PlainText.{ArePlain, after_many, come_prefix, makes_run, newline, passed_many, run_saves}
 use Rattle.fast_machine.proofs.Running.{makes-add, worth_same}
 
 -- ---- what is to come after some bytes
@@ -41,9 +41,9 @@ supply_held c Unseen unseen = refl
 supply_held c a unseen = absurd (let wrong : false ≡ true = unseen in cc)
 
 -- the program stands after the next n bytes
-pub holds_behind : (last n : ℕ) (c : Coming) (p : Reached) (supply : Option Supply) → is_unseen p.ahead ≡ true → HoldsComing c p supply
+pub holds_after : (last n : ℕ) (c : Coming) (p : Reached) (supply : Option Supply) → is_unseen p.ahead ≡ true → HoldsComing c p supply
     → HoldsComing (after_last last n c) (passed_run last n p) (option_map (skipped n) supply)
-holds_behind last n c p supply unseen h = record {
+holds_after last n c p supply unseen h = record {
   taken = ap (λ t. t + n) h.taken;
   inside = refl;
   stands = ap (option_map (skipped n)) (supply_unseen c p.ahead supply unseen h.stands);
@@ -104,37 +104,37 @@ pub passed_inside : (b n : ℕ) (p : Reached) → (b == code "\n") ≡ false →
 passed_inside b n p is = rw is refl
 
 pub holds_inside : (n : ℕ) (c : Coming) (p : Reached) (supply : Option Supply) → is_unseen p.ahead ≡ true → HoldsComing c p supply
-    → HoldsComing (behind_many n c) (passed_many n p) (option_map (skipped n) supply)
-holds_inside n c p supply unseen h = holds_behind 0 n c p supply unseen h
+    → HoldsComing (after_many n c) (passed_many n p) (option_map (skipped n) supply)
+holds_inside n c p supply unseen h = holds_after 0 n c p supply unseen h
 
 -- no call for the other bytes fails
-may_give_behind : (t n m : ℕ) (f : Faults) → t + n ≤ m → MayGiveAll m f → MayGiveAll n (later t f)
-may_give_behind t n m Never less h = tt
-may_give_behind t n m (After k) less h = omega (arith, less, h)
-may_give_behind t n m Anytime less h = tt
+may_give_after : (t n m : ℕ) (f : Faults) → t + n ≤ m → MayGiveAll m f → MayGiveAll n (later t f)
+may_give_after t n m Never less h = tt
+may_give_after t n m (After k) less h = omega (arith, less, h)
+may_give_after t n m Anytime less h = tt
 
 -- the other bytes come next after the first t
-come_behind : (last t : ℕ) (bs : List ℕ) (c : Coming) → t ≤ length bs → ComeNext bs c → ComeNext (drop t bs) (after_last last t c)
-come_behind last t bs c less next =
+come_after : (last t : ℕ) (bs : List ℕ) (c : Coming) → t ≤ length bs → ComeNext bs c → ComeNext (drop t bs) (after_last last t c)
+come_after last t bs c less next =
     let xs = c.supply.bytes in
     let left : length (drop t bs) ≡ length bs - t = length-drop t bs in
     let all : t + (length bs - t) ≡ length bs = omega (arith, less) in
     record {
       bytes = ap (λ k. take k (drop t xs)) left ∙ sym (drop-take t (length bs - t) xs) ∙ ap (λ k. drop t (take k xs)) all ∙ ap (drop t) next.bytes;
-      faults = may_give_behind t (length (drop t bs)) (length bs) c.supply.faults (omega (arith, left, less)) next.faults;
+      faults = may_give_after t (length (drop t bs)) (length bs) c.supply.faults (omega (arith, left, less)) next.faults;
       few = omega (arith, left, less, next.few);
     }
 
 -- they are read next once the first t were put
-pub next_behind : (t : ℕ) (bs : List ℕ) (e : Shape) (supply : Option Supply) (g : Formatter) → t ≤ length bs → g.store.levels ≡ [] → HasNext bs e supply
+pub next_after : (t : ℕ) (bs : List ℕ) (e : Shape) (supply : Option Supply) (g : Formatter) → t ≤ length bs → g.store.levels ≡ [] → HasNext bs e supply
     → HasNext (drop t bs) (taken_shape bs t g e) (option_map (skipped t) supply)
-next_behind t bs e supply g less levels has = record {
+next_after t bs e supply g less levels has = record {
   levels = levels;
   unseen = refl;
   next = λ k h.
       let last = slice_index bs (t - 1) in
       let b = before last t k e.place supply has.unseen h in
-      subst (λ c. ComeNext (drop t bs) c) (sym b.is) (come_behind last t bs b.coming less (has.next b.coming b.holds));
+      subst (λ c. ComeNext (drop t bs) c) (sym b.is) (come_after last t bs b.coming less (has.next b.coming b.holds));
 }
 
 -- ---- a line that has begun
@@ -151,15 +151,15 @@ line_run bs f is =
     rw (line.springs, line.event, line.task, line.half, begun-run (margins f) (present_look f.settings.fonts) bs (collected f) line.begun) refl
 
 -- a list with an item at its end is not empty
-some_behind : (ps qs : List Piece) (p : Piece) → is_nil (ps ++ (qs ++ p ∷ [])) ≡ false
-some_behind [] [] p = refl
-some_behind [] (q ∷ qs) p = refl
-some_behind (x ∷ ps) qs p = refl
+some_after : (ps qs : List Piece) (p : Piece) → is_nil (ps ++ (qs ++ p ∷ [])) ≡ false
+some_after [] [] p = refl
+some_after [] (q ∷ qs) p = refl
+some_after (x ∷ ps) qs p = refl
 
 -- and after the blank that ends a word
 pub begun-gap : (c : Collected) (word : Option Word) → c.word ≡ word → is_none word ≡ false → begins_line (gapped c) ≡ false
 begun-gap c None is some = absurd (let wrong : true ≡ false = some in cc)
-begun-gap c (Some w) is some = let pieces : is_nil (c.pieces ++ word_pieces c.word) ≡ false = rw is (some_behind c.pieces w.parts w.last) in rw pieces refl
+begun-gap c (Some w) is some = let pieces : is_nil (c.pieces ++ word_pieces c.word) ≡ false = rw is (some_after c.pieces w.parts w.last) in rw pieces refl
 
 -- the input is read next in it there too
 line_gap : (f : Formatter) → is_in_line f ≡ true → IsGap f → is_in_line (gap_put f) ≡ true
@@ -191,7 +191,7 @@ puts_on (suc t) m zero k bs f g h a b =
 puts_on (suc t) m (suc n) k bs f g h a b =
     let left : length (drop (suc t) bs) ≡ length bs - suc t = length-drop (suc t) bs in
     record {
-      front = omega (arith, a.front, b.front, left);
+      prefix = omega (arith, a.prefix, b.prefix, left);
       least = omega (arith, a.least, b.least);
       most = omega (arith, a.most, b.most);
       none = λ none. absurd (omega (arith, none));
@@ -201,7 +201,7 @@ puts_on (suc t) m (suc n) k bs f g h a b =
           let rest = option_map (skipped (suc t)) supply in
           let levels : g.store.levels ≡ [] = ap (λ v. v.levels) (a.store ∙ sym (ap (λ (x : Formatter). x.store) is)) ∙ has.levels in
           let first = a.makes e supply is has (omega arith) in
-          let second = b.makes between rest refl (next_behind (suc t) bs e supply g a.front levels has) (omega arith) in
+          let second = b.makes between rest refl (next_after (suc t) bs e supply g a.prefix levels has) (omega arith) in
           subst (λ q. Makes (m + k) e (taken_shape bs (suc t + suc n) h e) supply q) (skipped_on (suc t) (suc n) supply)
           (subst (λ p. Makes (m + k) e (record e { formatter = unburst h; place = p }) supply (option_map (skipped (suc n)) rest)) (passed_on (suc t) (suc n) bs e.place (omega arith))
           (makes-add m k e between (taken_shape (drop (suc t) bs) (suc n) h between) supply rest (option_map (skipped (suc n)) rest) first second));
@@ -209,24 +209,24 @@ puts_on (suc t) m (suc n) k bs f g h a b =
           let between : Shape = taken_shape bs (suc t) g e in
           let levels : g.store.levels ≡ [] = ap (λ v. v.levels) (a.store ∙ sym (ap (λ (x : Formatter). x.store) is)) ∙ has.levels in
           let first = a.makes e supply is has (omega arith) in
-          let second = b.saves between (option_map (skipped (suc t)) supply) refl (next_behind (suc t) bs e supply g a.front levels has) (omega arith) in
+          let second = b.saves between (option_map (skipped (suc t)) supply) refl (next_after (suc t) bs e supply g a.prefix levels has) (omega arith) in
           subst (λ p. Saves 20 (m + k) e (record e { formatter = unburst h; place = p })) (passed_on (suc t) (suc n) bs e.place (omega arith))
           (saves_on 20 m k e between (taken_shape (drop (suc t) bs) (suc n) h between) first.limit first.most (a.saves e supply is has (omega arith)) second);
     }
 
 -- the last byte of a run is no newline
 last_inside : (n : ℕ) (bs : List ℕ) → n ≤ length bs → ArePlain (take n bs) → 0 < n → (slice_index bs (n - 1) == code "\n") ≡ false
-last_inside n bs front plain some =
+last_inside n bs prefix plain some =
     let below : n - 1 < n = omega (arith, some) in
-    subst (λ b. (b == code "\n") ≡ false) (get_or-take n bs (n - 1) 0 below) (newline (slice_index (take n bs) (n - 1)) (plain (n - 1) 0 (omega (arith, below, length-take-le n bs front))))
+    subst (λ b. (b == code "\n") ≡ false) (get_or-take n bs (n - 1) 0 below) (newline (slice_index (take n bs) (n - 1)) (plain (n - 1) 0 (omega (arith, below, length-take-le n bs prefix))))
 
 -- a run of plain bytes
 puts_run : (n : ℕ) (bs : List ℕ) (f : Formatter) → is_in_line f ≡ true → n ≤ length bs → ArePlain (take n bs)
     → (0 < n → line_cells (collected (run_put (take n bs) f)) ≤ f.line.limit) → PutsText bs n (2 * n) f (run_put (take n bs) f)
-puts_run n bs f line front plain fits =
-    let count : length (take n bs) ≡ n = length-take-le n bs front in
+puts_run n bs f line prefix plain fits =
+    let count : length (take n bs) ≡ n = length-take-le n bs prefix in
     record {
-      front = front;
+      prefix = prefix;
       least = omega arith;
       most = omega arith;
       none = λ none. ap (λ k. run_put (take k bs) f) none;
@@ -236,13 +236,13 @@ puts_run n bs f line front plain fits =
           let fits_there : line_cells (collected (run_put (take n bs) e.formatter)) ≤ e.formatter.line.limit =
           subst (λ (x : Formatter). line_cells (collected (run_put (take n bs) x)) ≤ x.line.limit) (sym is) (fits some) in
           let run = makes_run (take n bs) e supply rest (omega (arith, count, some)) (ap is_in_line is ∙ line) has.levels plain
-          (λ c h. come_front n bs c front (has.next c h)) fits_there
-          (λ c h. subst (λ m. HoldsComing (behind_many m c) (passed_many m e.place) rest) (sym count) (holds_inside n c e.place supply has.unseen h)) in
-          subst (λ p. Makes (2 * n) e (record e { formatter = run_put (take n bs) (unburst f); place = p }) supply rest) (passed_inside (slice_index bs (n - 1)) n e.place (last_inside n bs front plain some))
+          (λ c h. come_prefix n bs c prefix (has.next c h)) fits_there
+          (λ c h. subst (λ m. HoldsComing (after_many m c) (passed_many m e.place) rest) (sym count) (holds_inside n c e.place supply has.unseen h)) in
+          subst (λ p. Makes (2 * n) e (record e { formatter = run_put (take n bs) (unburst f); place = p }) supply rest) (passed_inside (slice_index bs (n - 1)) n e.place (last_inside n bs prefix plain some))
           (subst (λ (x : Formatter). Makes (2 * n) e (record e { formatter = run_put (take n bs) x; place = passed_many n e.place }) supply rest) is
           (subst (λ m. Makes (2 * m) e (record e { formatter = run_put (take n bs) (unburst e.formatter); place = passed_many m e.place }) supply rest) count run));
       saves = λ e supply is has some.
-          subst (λ p. Saves 20 (2 * n) e (record e { formatter = run_put (take n bs) (unburst f); place = p })) (passed_inside (slice_index bs (n - 1)) n e.place (last_inside n bs front plain some))
+          subst (λ p. Saves 20 (2 * n) e (record e { formatter = run_put (take n bs) (unburst f); place = p })) (passed_inside (slice_index bs (n - 1)) n e.place (last_inside n bs prefix plain some))
           (subst (λ (x : Formatter). Saves 20 (2 * n) e (record e { formatter = run_put (take n bs) x; place = passed_many n e.place })) is
           (subst (λ m. Saves 20 (2 * m) e (record e { formatter = run_put (take n bs) (unburst e.formatter); place = passed_many m e.place })) count
           (run_saves (take n bs) e (omega (arith, count, some)))));
@@ -259,7 +259,7 @@ puts_byte b m bs f put some first least most same store makes saves =
     ap (λ (x : Formatter). record e { formatter = x; place = passed_run b 1 e.place }) (ap put is ∙ same)
     ∙ ap (λ c. record e { formatter = unburst (put f); place = passed_run c 1 e.place }) (sym first) in
     record {
-      front = omega (arith, some);
+      prefix = omega (arith, some);
       least = omega (arith, least);
       most = omega (arith, most);
       none = λ none. absurd (omega (arith, none));
@@ -323,8 +323,8 @@ length_rest t bs = length-take-le (length bs - t) (drop t bs) (omega (arith, len
 -- after the first t bytes comes a run
 pub turn_run : (t m n : ℕ) (bs : List ℕ) (f g h : Formatter) → PutsText bs t m f g → is_in_line g ≡ true → n ≤ length (rest_of t bs) → ArePlain (take n (rest_of t bs))
     → h ≡ run_put (take n (rest_of t bs)) g → (0 < n → line_cells (collected h) ≤ h.line.limit) → PutsText bs (t + n) (m + 2 * n) f h
-turn_run t m n bs f g h puts line front plain is fits =
-    let run = puts_run n (rest_of t bs) g line front plain (λ some. subst (λ (x : Formatter). line_cells (collected x) ≤ x.line.limit) is (fits some)) in
+turn_run t m n bs f g h puts line prefix plain is fits =
+    let run = puts_run n (rest_of t bs) g line prefix plain (λ some. subst (λ (x : Formatter). line_cells (collected x) ≤ x.line.limit) is (fits some)) in
     puts_on t m n (2 * n) bs f g h puts (subst (λ xs. PutsText xs n (2 * n) g h) (take_rest bs t) (subst (λ (x : Formatter). PutsText (rest_of t bs) n (2 * n) g x) (sym is) run))
 
 -- the line has begun after it
@@ -383,12 +383,12 @@ makes_there n e f x y z m there = record {
 pub makes_taken : (t m : ℕ) (bs : List ℕ) (e : Shape) (supply supply' : Option Supply) (g : Formatter) → PutsText bs t m e.formatter g → 0 < t → HasNext bs e supply
     → ((c : Coming) → HoldsComing c e.place supply → HoldsComing (after_last (slice_index bs (t - 1)) t c) (passed_run (slice_index bs (t - 1)) t e.place) supply')
     → Makes m e (taken_shape bs t g e) supply supply'
-makes_taken t m bs e supply supply' g puts some has behind =
+makes_taken t m bs e supply supply' g puts some has afterwards =
     makes_there m e (taken_shape bs t g e) supply (option_map (skipped t) supply) supply' (puts.makes e supply refl has some)
     (λ k h.
     let last = slice_index bs (t - 1) in
     let b = before last t k e.place supply has.unseen h in
-    subst (λ c. HoldsComing c (passed_run last t e.place) supply') (sym b.is) (behind b.coming b.holds))
+    subst (λ c. HoldsComing c (passed_run last t e.place) supply') (sym b.is) (afterwards b.coming b.holds))
 
 -- no less could be put
 pub longest_taken : (bs : List ℕ) (t m : ℕ) (f : Formatter) → Longest bs t m f → Longest bs t m (unburst f)

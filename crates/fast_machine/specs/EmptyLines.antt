@@ -14,7 +14,7 @@ pub record NewlinesNext (n : ℕ) (e : Shape) (supply : Option Supply) : Type 0 
 
 -- the first n of these bytes at hand are newlines that come next so, and none of them is the 2^40th byte
 pub record NewlinesAtHand (bs : List ℕ) (n : ℕ) (e : Shape) (supply : Option Supply) : Type 0 where
-  pub front : n ≤ length bs
+  pub prefix : n ≤ length bs
   pub next : 0 < n → NewlinesNext n e supply
   pub room : 0 < n → e.place.taken + n < 2 ^ 40
 

@@ -74,7 +74,7 @@ pub record HasNext (bs : List ℕ) (e : Shape) (supply : Option Supply) : Type 0
 -- So many of these bytes were put, one to five moves each, whatever the engine has besides the formatter, and 20 moves more are
 -- paid. What was spliced before them does not matter.
 pub record PutsText (bs : List ℕ) (taken moves : ℕ) (f g : Formatter) : Type 0 where
-  pub front : taken ≤ length bs
+  pub prefix : taken ≤ length bs
   pub least : taken ≤ moves
   pub most : moves ≤ 5 * taken
   pub none : taken ≡ 0 → g ≡ f
@@ -111,7 +111,7 @@ Flows bs moves f g =
 
 -- So many of these bytes were put, up to five moves each, wherever they come of levels.
 pub record PutsOfFlow (bs : List ℕ) (taken moves : ℕ) (f g : Formatter) : Type 0 where
-  pub front : taken ≤ length bs
+  pub prefix : taken ≤ length bs
   pub most : moves ≤ 5 * taken
   pub store : g.store ≡ f.store
   pub reader : g.reader ≡ f.reader

@@ -19,7 +19,7 @@ const MOST_LINES: u32 = 65_536;
 
 /// How many newlines these bytes begin with.
 fn count_newlines(bytes: &[u8]) -> usize
-    ensures front { result ≤ length bytes.now }
+    ensures prefix { result ≤ length bytes.now }
     ensures newlines { take result bytes.now ≡ replicate result (code "\n") }
     ensures stops { result < length bytes.now → slice_index bytes.now result ≢ code "\n" }
 {
@@ -77,8 +77,8 @@ fn put_empty_lines<R: Source>(engine: &mut Engine, input: &mut R) -> u128
     4 * count as u128 + 3
 }
 
-/// Items that lie in a row are read; where an empty line is told, it goes down with those after it, as far as it does nothing
-/// else, and where a request is told that only sets, it takes effect with those after it. Tells how many moves that was.
+/// Items that lie in a row are read; where an empty line is emitted, it goes down with those after it, as far as it does nothing
+/// else, and where a request is emitted that only sets, it takes effect with those after it. Tells how many moves that was.
 #[inline(always)]
 pub(crate) fn read_lines<R: Source>(engine: &mut Engine, input: &mut R) -> u128
     ensures reads { MakesReading result (shape engine.old) (shape engine.new) (R.supply input.old)

@@ -31,7 +31,7 @@ fn change_font(formatter: &mut Formatter, bytes: &[u8]) -> usize
     ensures longest { result ≡ 0 → interpolates formatter.old.reader.half ≡ true
         → BeginsFont (is_in_text formatter.old.reader.half) bytes.now → ⊥ }
 {
-    match fast_input::meet_font(&mut formatter.reader, bytes) {
+    match fast_input::take_in_font(&mut formatter.reader, bytes) {
         Some(run) => {
             formatter.set_font();
             run.taken

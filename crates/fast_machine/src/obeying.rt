@@ -80,7 +80,7 @@ pub(crate) fn obey_lines<R: Source>(engine: &mut Engine, input: &mut R) -> u128
     moves
 }
 
-/// The condition that was told is judged, unless a macro springs. Tells how many moves that was.
+/// The condition that was emitted is judged, unless a macro springs. Tells how many moves that was.
 #[inline(always)]
 fn judge(engine: &mut Engine, question: Question) -> u128
     requires event { engine.old.formatter.event ≡ events.Judge question }
@@ -94,7 +94,7 @@ fn judge(engine: &mut Engine, question: Question) -> u128
     1
 }
 
-/// What was told is done, if it is a request that only sets or makes space, or a condition to be judged. Tells how many moves
+/// What was emitted is done, if it is a request that only sets or makes space, or a condition to be judged. Tells how many moves
 /// that was.
 #[inline(always)]
 fn answer(engine: &mut Engine) -> u128
@@ -108,7 +108,7 @@ fn answer(engine: &mut Engine) -> u128
     }
 }
 
-/// What was told after text is done, if it is a request that only sets or makes space, or a condition to be judged, and what
+/// What was emitted after text is done, if it is a request that only sets or makes space, or a condition to be judged, and what
 /// levels bring after it is read. Tells how many moves that was.
 #[inline(always)]
 pub(crate) fn answer_after(engine: &mut Engine) -> u128

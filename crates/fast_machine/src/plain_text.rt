@@ -132,10 +132,10 @@ fn put_words(formatter: &mut Formatter, bytes: &[u8]) -> Words
 
 /// The bytes that come next of the input, as far as the source has them at hand: 65,536 at most.
 #[inline(always)]
-fn front_at_hand<'s, R: Source>(engine: &Engine, input: &'s R) -> &'s [u8]
+fn prefix_at_hand<'s, R: Source>(engine: &Engine, input: &'s R) -> &'s [u8]
     ensures few { length result.now ≤ 65536 }
     ensures room { engine.now.place.taken + length result.now < 2 ^ 40 }
-    ensures front { take (length result.now) (R.at_hand input.now) ≡ result.now }
+    ensures prefix { take (length result.now) (R.at_hand input.now) ≡ result.now }
     ensures next { 0 < length result.now → HasNext result.now (shape engine.now) (R.supply input.now) }
     ensures whole { engine.now.formatter.store.levels ≡ [] → is_unseen engine.now.place.ahead ≡ true →
         engine.now.place.taken + length (R.at_hand input.now) < 2 ^ 40
@@ -158,7 +158,7 @@ fn put_source_text<R: Source>(engine: &mut Engine, input: &mut R) -> u128
     ensures few { result ≤ 327680 }
     ensures most { PutsMost (R.at_hand input.old) result (shape engine.old) (shape engine.new) }
 {
-    let bytes = front_at_hand(engine, input);
+    let bytes = prefix_at_hand(engine, input);
     let words = put_words(&mut engine.formatter, bytes);
     if words.taken == 0 {
         return 0;
@@ -206,7 +206,7 @@ fn put_text<R: Source>(engine: &mut Engine, input: &mut R, gathered: &mut Gather
     put_source_text(engine, input)
 }
 
-/// After text: of levels what was told is answered, and what they bring after it is read; of the source what can be read
+/// After text: of levels what was emitted is answered, and what they bring after it is read; of the source what can be read
 /// there without anything being done, and empty lines after it. Tells how many moves that was.
 #[inline(always)]
 fn read_after<R: Source>(engine: &mut Engine, input: &mut R) -> u128

@@ -8,7 +8,7 @@ ghost use Rattle.fast_machine.specs.Running.{MakesInPlace, MakesReading};
 use nr_formatter::tasks::Task;
 use nr_input::Event;
 use nr_machine::Engine;
-use nr_reading::{Due, Mode};
+use nr_reading::{Mode, PendingAct};
 use nr_units::source::Source;
 
 /// Whether the input is read next.
@@ -30,14 +30,14 @@ pub(crate) fn reads_next(engine: &Engine) -> bool
 /// Whether an item is looked at next, and nothing is to be done before.
 #[inline(always)]
 pub fn reads_on(engine: &Engine) -> bool {
-    let due = engine.formatter.reader.half.reading.due;
-    match (engine.formatter.event, engine.formatter.task, due) {
-        (Event::Nothing, Task::Read, Due::Look) => true,
+    let pending_act = engine.formatter.reader.half.reading.pending_act;
+    match (engine.formatter.event, engine.formatter.task, pending_act) {
+        (Event::Nothing, Task::Read, PendingAct::Look) => true,
         _ => false,
     }
 }
 
-/// Items that lie in a row are read, up to the first that tells something or after which something is due. Tells how many
+/// Items that lie in a row are read, up to the first that tells something or after which something is pending. Tells how many
 /// moves that was.
 #[inline(always)]
 fn read_run<R: Source>(engine: &mut Engine, input: &mut R) -> u128

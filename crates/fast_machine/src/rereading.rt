@@ -16,7 +16,7 @@ const LONGEST_RUN: usize = 4096;
 
 /// Adds a prefix of these elements to the row, up to the first that is no cell, and tells how many.
 fn put_cells(row: &mut Out, elements: &[Element]) -> usize
-    ensures front { result ≤ length elements.now }
+    ensures prefix { result ≤ length elements.now }
     ensures cells { AreCells (take result elements.now) }
     ensures adds { AddsToRow row.old (cells_of (take result elements.now)) row.new }
 {

@@ -2,14 +2,14 @@
 use Rattle.std.proofs.Common.{◌≡◌, ℕ, List, Option, Result, Ok, Err, OnOk, OnErr, inl, inr, sym, subst, ap, ◌∙◌}
 use Rattle.std.specs.Io.KnownBytes.{Appends}
 use Rattle.nr_units.specs.Failures.{SinkFailures, put_counted}
-use Rattle.nr_units.specs.Sink.{AppendsFront}
+use Rattle.nr_units.specs.Sink.{AppendsPrefix}
 use Rattle.filters.specs.declared.endings.Ending.{Ending}
 use Rattle.filters.specs.Endings.{Tells, line_of, told, told_named}
 
 pub Tells-put : {T E : Type 0} (r : Result T E) (a b : Option (List ℕ)) (f h : SinkFailures) (line other : List ℕ) → line ≡ other
-    → OnOk r (Appends a b line) → OnErr r (AppendsFront a b line) → h ≡ put_counted f r → Tells a b f h other
+    → OnOk r (Appends a b line) → OnErr r (AppendsPrefix a b line) → h ≡ put_counted f r → Tells a b f h other
 Tells-put (Ok x) a b f h line other is ok err counted = inl (counted, subst (Appends a b) is ok)
-Tells-put (Err e) a b f h line other is ok err counted = inr (counted, subst (AppendsFront a b) is err)
+Tells-put (Err e) a b f h line other is ok err counted = inr (counted, subst (AppendsPrefix a b) is err)
 
 pub told_is : (p w v p' w' v' : List ℕ) → p ≡ p' → w ≡ w' → v ≡ v' → told p w v ≡ told p' w' v'
 told_is p w v p' w' v' a b c = ap (λ x. told x w v) a ∙ ap (λ x. told p' x v) b ∙ ap (λ x. told p' w' x) c

@@ -4,7 +4,7 @@ use Rattle.std.specs.Borrow.{Bor}
 use Rattle.std.specs.Io.KnownBytes.{Appends}
 use Rattle.std.specs.List.{concat}
 use Rattle.nr_units.specs.Failures.{SinkFailures, put_counted_if}
-use Rattle.nr_units.specs.Sink.{AppendsFront}
+use Rattle.nr_units.specs.Sink.{AppendsPrefix}
 use Rattle.filters.specs.declared.endings.Ending.{Ending}
 use Rattle.filters.specs.declared.endings.Ending.TheVariants.{Done, Complained, TooLong, ReadFault, WriteFault, BadWord, CannotOpen, CannotRead, OutOfMemory}
 
@@ -51,4 +51,4 @@ line_of program OutOfMemory = told program (codes "out of memory") []
 abbrev pub Tells : Option (List ℕ) → Option (List ℕ) → SinkFailures → SinkFailures → List ℕ → Type 0
 Tells old new before after line =
     ((after ≡ before) × Appends old new line)
-    ⊎ ((after ≡ put_counted_if true before) × AppendsFront old new line)
+    ⊎ ((after ≡ put_counted_if true before) × AppendsPrefix old new line)

@@ -2,7 +2,7 @@
 use Rattle.std.specs.Prelude.{◌≡◌, ℕ, List, [], Bool, true, false, IsTrue, Option, None, Some, ◌⊎◌}
 use Rattle.std.specs.Io.KnownBytes.{Appends}
 use Rattle.nr_units.specs.Failures.{SinkFailures}
-use Rattle.nr_units.specs.Sink.{AppendsFront}
+use Rattle.nr_units.specs.Sink.{AppendsPrefix}
 use Rattle.filters.specs.Disk.{AreOpened, AreUnread, Asks, IsUnlooked, Opened, Opening, Opens, all_paths, named, paths_of}
 use Rattle.filters.specs.Endings.{Tells, line_of, status_of}
 use Rattle.filters.specs.Turning.{Filter, Ran}
@@ -51,7 +51,7 @@ TurnsNames may_come asked asked' held new writes writes' passed_on f names endin
 -- it went out whole and went on, or the output failed
 abbrev pub Puts : List ℕ → Option (List ℕ) → Option (List ℕ) → Bool → Ending → Type 0
 Puts line held new passed_on Done = Appends held new line × IsTrue passed_on
-Puts line held new passed_on WriteFault = AppendsFront held new line
+Puts line held new passed_on WriteFault = AppendsPrefix held new line
 Puts line held new passed_on ending = ⊥
 
 -- ---- a text that is looked at

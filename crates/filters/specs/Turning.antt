@@ -4,7 +4,7 @@ use Rattle.std.specs.Borrow.{Bor}
 use Rattle.std.specs.Io.KnownBytes.{Appends, Keeps}
 use Rattle.std.specs.Option.{option_map}
 use Rattle.nr_units.specs.Failures.{SinkFailures, flush_counted_if, put_counted_if}
-use Rattle.nr_units.specs.Sink.{AppendsFront}
+use Rattle.nr_units.specs.Sink.{AppendsPrefix}
 use Rattle.filters.specs.Disk.{Opened}
 use Rattle.filters.specs.declared.endings.Ending.{Ending}
 use Rattle.filters.specs.declared.endings.Ending.TheVariants.{Done, Complained, TooLong, ReadFault, WriteFault}
@@ -71,7 +71,7 @@ pub record Broke (f : Filter) (left held new : Option (List ℕ)) : Type 0 where
   pub first : Begins (text_left f left) text
   pub end : List ℕ
   pub may_end : MayEnd f.may_end_line end
-  pub went_out : AppendsFront held new (f.whole text ++ end) ⊎ AppendsFront held new (f.begun text)
+  pub went_out : AppendsPrefix held new (f.whole text ++ end) ⊎ AppendsPrefix held new (f.begun text)
 
 -- the name of the text is reported, or none
 abbrev pub IsReported : Bool → List ℕ → Option (Bor (List ℕ)) → Type 0

@@ -34,7 +34,7 @@ fn take_at_hand<R: Source>(input: &mut R, front: &mut SliceVec<'_, u8>) -> bool
     if count == 0 {
         return false;
     }
-    front.extend_front(window, count);
+    front.extend_prefix(window, count);
     input.skip(count);
     true
 }

@@ -5,8 +5,8 @@ use Rattle.std.proofs.lemmas.Grind.{flat_map-append}
 use Rattle.std.proofs.lemmas.List.{append-nil, take_more}
 use Rattle.std.specs.Io.KnownBytes.{Appends}
 use Rattle.std.specs.List.{flat_map}
-use Rattle.nr_units.proofs.Fronts.{AppendsFront-after}
-use Rattle.nr_units.specs.Sink.{AppendsFront}
+use Rattle.nr_units.proofs.Prefixes.{AppendsPrefix-after}
+use Rattle.nr_units.specs.Sink.{AppendsPrefix}
 use Rattle.mdoc_command.specs.Complaints.{more_lines, parts_text, place_text, rest_text, shown}
 use Rattle.mdoc_command.specs.declared.complaints.Parts.{Parts}
 
@@ -62,14 +62,14 @@ more_is p n p' n' missed a b is =
 pub ok_is : {T E : Type 0} (r : Result T E) (a b : Option (List ℕ)) (xs ys : List ℕ) → xs ≡ ys → OnOk r (Appends a b xs) → OnOk r (Appends a b ys)
 ok_is r a b xs ys same ok = subst (λ (zs : List ℕ). OnOk r (Appends a b zs)) same ok
 
-pub err_is : {T E : Type 0} (r : Result T E) (a b : Option (List ℕ)) (xs ys : List ℕ) → xs ≡ ys → OnErr r (AppendsFront a b xs) → OnErr r (AppendsFront a b ys)
-err_is r a b xs ys same err = subst (λ (zs : List ℕ). OnErr r (AppendsFront a b zs)) same err
+pub err_is : {T E : Type 0} (r : Result T E) (a b : Option (List ℕ)) (xs ys : List ℕ) → xs ≡ ys → OnErr r (AppendsPrefix a b xs) → OnErr r (AppendsPrefix a b ys)
+err_is r a b xs ys same err = subst (λ (zs : List ℕ). OnErr r (AppendsPrefix a b zs)) same err
 
 pub ok_after : {T E : Type 0} (r : Result T E) (a b c : Option (List ℕ)) (xs ys : List ℕ) → Appends a b xs → OnOk r (Appends b c ys) → OnOk r (Appends a c (xs ++ ys))
 ok_after (Ok x) a b c xs ys first next = Appends-trans a b c xs ys first next
 ok_after (Err e) a b c xs ys first next = next
 
-pub err_after : {T E : Type 0} (r : Result T E) (a b c : Option (List ℕ)) (xs ys : List ℕ) → Appends a b xs → OnErr r (AppendsFront b c ys)
-    → OnErr r (AppendsFront a c (xs ++ ys))
+pub err_after : {T E : Type 0} (r : Result T E) (a b c : Option (List ℕ)) (xs ys : List ℕ) → Appends a b xs → OnErr r (AppendsPrefix b c ys)
+    → OnErr r (AppendsPrefix a c (xs ++ ys))
 err_after (Ok x) a b c xs ys first next = next
-err_after (Err e) a b c xs ys first next = AppendsFront-after a b c xs ys first next
+err_after (Err e) a b c xs ys first next = AppendsPrefix-after a b c xs ys first next

@@ -3,7 +3,7 @@ ghost use Rattle.std.specs.Prelude.{◌≡◌, ◌||◌, ◌==◌, OnOk, OnErr, 
 ghost use Rattle.std.specs.Io.KnownBytes.{Appends};
 ghost use Rattle.std.specs.List.{flat_map};
 ghost use Rattle.nr_units.specs.Failures.{put_counted};
-ghost use Rattle.nr_units.specs.Sink.{AppendsFront};
+ghost use Rattle.nr_units.specs.Sink.{AppendsPrefix};
 ghost use Rattle.filters.specs.Endings.{Tells};
 ghost use Rattle.mdoc_command.specs.Complaints as specs;
 
@@ -152,7 +152,7 @@ fn parts_of(kind: Kind) -> Parts
 fn put_place<E: Sink>(program: &str, name: &str, line: &str, errors: &mut E) -> Result<(), Fault>
     ensures ok { OnOk result (Appends (E.held errors.old) (E.held errors.new)
         (specs.place_text program.now name.now line.now)) }
-    ensures err { OnErr result (AppendsFront (E.held errors.old) (E.held errors.new)
+    ensures err { OnErr result (AppendsPrefix (E.held errors.old) (E.held errors.new)
         (specs.place_text program.now name.now line.now)) }
     ensures failures { E.failures errors.new ≡ put_counted (E.failures errors.old) result }
 {
@@ -177,7 +177,7 @@ fn put_parts<E: Sink>(
 ) -> Result<(), Fault>
     ensures ok { OnOk result (Appends (E.held errors.old) (E.held errors.new)
         (specs.rest_text what.now first between.now second)) }
-    ensures err { OnErr result (AppendsFront (E.held errors.old) (E.held errors.new)
+    ensures err { OnErr result (AppendsPrefix (E.held errors.old) (E.held errors.new)
         (specs.rest_text what.now first between.now second)) }
     ensures failures { E.failures errors.new ≡ put_counted (E.failures errors.old) result }
 {
@@ -196,7 +196,7 @@ fn put_complaint<E: Sink>(
 ) -> Result<(), Fault>
     ensures ok { OnOk result (Appends (E.held errors.old) (E.held errors.new)
         (specs.complaint_line program.now name.now complaint)) }
-    ensures err { OnErr result (AppendsFront (E.held errors.old) (E.held errors.new)
+    ensures err { OnErr result (AppendsPrefix (E.held errors.old) (E.held errors.new)
         (specs.complaint_line program.now name.now complaint)) }
     ensures failures { E.failures errors.new ≡ put_counted (E.failures errors.old) result }
 {
@@ -215,7 +215,7 @@ fn put_complaints<E: Sink>(
 ) -> Result<(), Fault>
     ensures ok { OnOk result (Appends (E.held errors.old) (E.held errors.new)
         (flat_map (specs.complaint_line program.now name.now) complaints.now)) }
-    ensures err { OnErr result (AppendsFront (E.held errors.old) (E.held errors.new)
+    ensures err { OnErr result (AppendsPrefix (E.held errors.old) (E.held errors.new)
         (flat_map (specs.complaint_line program.now name.now) complaints.now)) }
     ensures failures { E.failures errors.new ≡ put_counted (E.failures errors.old) result }
 {
@@ -229,7 +229,7 @@ fn put_complaints<E: Sink>(
 fn put_more<E: Sink>(program: &str, name: &str, missed: bool, errors: &mut E) -> Result<(), Fault>
     ensures ok { OnOk result (Appends (E.held errors.old) (E.held errors.new)
         (specs.more_lines program.now name.now missed)) }
-    ensures err { OnErr result (AppendsFront (E.held errors.old) (E.held errors.new)
+    ensures err { OnErr result (AppendsPrefix (E.held errors.old) (E.held errors.new)
         (specs.more_lines program.now name.now missed)) }
     ensures failures { E.failures errors.new ≡ put_counted (E.failures errors.old) result }
 {
@@ -249,7 +249,7 @@ fn put_told<E: Sink>(
 ) -> Result<(), Fault>
     ensures ok { OnOk result (Appends (E.held errors.old) (E.held errors.new)
         (specs.lines_of program.now name.now told.now)) }
-    ensures err { OnErr result (AppendsFront (E.held errors.old) (E.held errors.new)
+    ensures err { OnErr result (AppendsPrefix (E.held errors.old) (E.held errors.new)
         (specs.lines_of program.now name.now told.now)) }
     ensures failures { E.failures errors.new ≡ put_counted (E.failures errors.old) result }
 {

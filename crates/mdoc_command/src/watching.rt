@@ -237,7 +237,7 @@ impl<'a> Watch<'a> {
         let line = self.half.number;
         self.told
             .tell_broken(by, line, &self.blocks.as_slice()[..n]);
-        self.blocks.remove_front(n);
+        self.blocks.remove_prefix(n);
     }
 
     /// A macro opens or ends a block, or does neither.

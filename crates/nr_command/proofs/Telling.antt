@@ -2,8 +2,8 @@
 use Rattle.std.proofs.Common.{ℕ, List, ◌++◌, Option, Result, Ok, Err, OnOk, OnErr}
 use Rattle.std.specs.Io.KnownBytes.{Appends}
 use Rattle.std.proofs.KnownBytes.{Appends-trans}
-use Rattle.nr_units.specs.Sink.{AppendsFront}
-use Rattle.nr_units.proofs.Fronts.{AppendsFront-after}
+use Rattle.nr_units.specs.Sink.{AppendsPrefix}
+use Rattle.nr_units.proofs.Prefixes.{AppendsPrefix-after}
 
 -- what holds anyhow holds at an error
 pub on_err_always : {T E P : Type 0} (r : Result T E) → P → OnErr r P
@@ -16,6 +16,6 @@ Appends-last (Ok x) a b c xs ys p q = Appends-trans a b c xs ys p q
 Appends-last (Err e) a b c xs ys p q = tt
 
 -- the same where it failed
-pub AppendsFront-last : {T E : Type 0} (r : Result T E) (a b c : Option (List ℕ)) (xs ys : List ℕ) → Appends a b xs → OnErr r (AppendsFront b c ys) → OnErr r (AppendsFront a c (xs ++ ys))
-AppendsFront-last (Ok x) a b c xs ys p q = tt
-AppendsFront-last (Err e) a b c xs ys p q = AppendsFront-after a b c xs ys p q
+pub AppendsPrefix-last : {T E : Type 0} (r : Result T E) (a b c : Option (List ℕ)) (xs ys : List ℕ) → Appends a b xs → OnErr r (AppendsPrefix b c ys) → OnErr r (AppendsPrefix a c (xs ++ ys))
+AppendsPrefix-last (Ok x) a b c xs ys p q = tt
+AppendsPrefix-last (Err e) a b c xs ys p q = AppendsPrefix-after a b c xs ys p q

@@ -75,4 +75,4 @@ pub record Comes {T : Type 0} (supply : T → Option Supply) (failures : T → �
   pub ended : Ends supply failures may_come asked asked' job old new writes writes' passed_on end
   pub takes : Takes taken taken' asked asked' job end
   pub status_is : status ≡ status_of_end end
-  pub told : Tells old_line new_line untold untold' (line_of_end end)
+  pub reported : Tells old_line new_line untold untold' (line_of_end end)

@@ -2,7 +2,7 @@
 ghost use Rattle.std.specs.Prelude.{◌≡◌, OnOk, OnErr, IsOk};
 ghost use Rattle.std.specs.Io.KnownBytes.{Appends};
 ghost use Rattle.nr_units.specs.Failures.{put_counted};
-ghost use Rattle.nr_units.specs.Sink.{AppendsFront};
+ghost use Rattle.nr_units.specs.Sink.{AppendsPrefix};
 ghost use Rattle.nr_command.specs.Faults.{limited_text, line_of, place_text};
 
 use itoa::Buffer;
@@ -16,7 +16,7 @@ use nr_engine::{Fault, Measure, Outcome, Sink, WriteFault};
 /// done there is none.
 pub fn fault_line<W: Sink>(outcome: &Outcome, errors: &mut W) -> Result<(), WriteFault>
     ensures ok { OnOk result (Appends (W.held errors.old) (W.held errors.new) (line_of outcome.now)) }
-    ensures err { OnErr result (AppendsFront (W.held errors.old) (W.held errors.new) (line_of outcome.now)) }
+    ensures err { OnErr result (AppendsPrefix (W.held errors.old) (W.held errors.new) (line_of outcome.now)) }
     ensures failures { W.failures errors.new ≡ put_counted (W.failures errors.old) result }
     ensures done { outcome.now ≡ Outcome.Done → IsOk result × (errors.new ≡ errors.old) }
 {
@@ -29,7 +29,7 @@ pub fn fault_line<W: Sink>(outcome: &Outcome, errors: &mut W) -> Result<(), Writ
 /// The same, with the sink's own error.
 fn put_line<W: Sink>(outcome: &Outcome, errors: &mut W) -> Result<(), Fault>
     ensures ok { OnOk result (Appends (W.held errors.old) (W.held errors.new) (line_of outcome.now)) }
-    ensures err { OnErr result (AppendsFront (W.held errors.old) (W.held errors.new) (line_of outcome.now)) }
+    ensures err { OnErr result (AppendsPrefix (W.held errors.old) (W.held errors.new) (line_of outcome.now)) }
     ensures failures { W.failures errors.new ≡ put_counted (W.failures errors.old) result }
     ensures done { outcome.now ≡ Outcome.Done → IsOk result × (errors.new ≡ errors.old) }
 {
@@ -47,7 +47,7 @@ fn put_limit<W: Sink>(which: Measure, at: u64, errors: &mut W) -> Result<(), Fau
     ensures ok { OnOk result
         (Appends (W.held errors.old) (W.held errors.new) (line_of (Outcome.Limit which at))) }
     ensures err { OnErr result
-        (AppendsFront (W.held errors.old) (W.held errors.new) (line_of (Outcome.Limit which at))) }
+        (AppendsPrefix (W.held errors.old) (W.held errors.new) (line_of (Outcome.Limit which at))) }
     ensures failures { W.failures errors.new ≡ put_counted (W.failures errors.old) result }
 {
     errors.put(b"nroff: ")?;
@@ -61,7 +61,7 @@ fn put_read_fault<W: Sink>(at: u64, errors: &mut W) -> Result<(), Fault>
     ensures ok { OnOk result
         (Appends (W.held errors.old) (W.held errors.new) (line_of (Outcome.ReadFault at))) }
     ensures err { OnErr result
-        (AppendsFront (W.held errors.old) (W.held errors.new) (line_of (Outcome.ReadFault at))) }
+        (AppendsPrefix (W.held errors.old) (W.held errors.new) (line_of (Outcome.ReadFault at))) }
     ensures failures { W.failures errors.new ≡ put_counted (W.failures errors.old) result }
 {
     errors.put(b"nroff: read fault")?;
@@ -85,7 +85,7 @@ fn limited(which: Measure) -> &'static [u8]
 /// A place in the input, and the line's end.
 fn put_place<W: Sink>(at: u64, errors: &mut W) -> Result<(), Fault>
     ensures ok { OnOk result (Appends (W.held errors.old) (W.held errors.new) (place_text at)) }
-    ensures err { OnErr result (AppendsFront (W.held errors.old) (W.held errors.new) (place_text at)) }
+    ensures err { OnErr result (AppendsPrefix (W.held errors.old) (W.held errors.new) (place_text at)) }
     ensures failures { W.failures errors.new ≡ put_counted (W.failures errors.old) result }
 {
     let mut digits = Buffer::new();

@@ -2,7 +2,7 @@
 ghost use Rattle.std.specs.Prelude.{◌≡◌, ℕ, List, [], ◌∷◌, Option, map, length, IfOk, IfErr, OnOk, OnErr};
 ghost use Rattle.std.specs.Io.KnownBytes.{Appends};
 ghost use Rattle.nr_units.specs.Failures.{counted_if, put_counted};
-ghost use Rattle.nr_units.specs.Sink.{AppendsFront};
+ghost use Rattle.nr_units.specs.Sink.{AppendsPrefix};
 ghost use Rattle.nr_command_options.specs.Inputs.{Reading, macro_path, readings, reading_of};
 ghost use Rattle.nr_command_options.specs.Job.{asked_of};
 ghost use Rattle.nr_command.specs.Memory.{list_of};
@@ -129,7 +129,7 @@ pub fn unopened_line<W: Sink>(input: &Input<'_>, errors: &mut W) -> Result<(), W
     ensures ok { OnOk result
         (Appends (W.held errors.old) (W.held errors.new) (unopened_text (reading_of input.now))) }
     ensures err { OnErr result
-        (AppendsFront (W.held errors.old) (W.held errors.new) (unopened_text (reading_of input.now))) }
+        (AppendsPrefix (W.held errors.old) (W.held errors.new) (unopened_text (reading_of input.now))) }
     ensures failures { W.failures errors.new ≡ put_counted (W.failures errors.old) result }
 {
     match put_unopened(input, errors) {
@@ -143,7 +143,7 @@ fn put_unopened<W: Sink>(input: &Input<'_>, errors: &mut W) -> Result<(), Fault>
     ensures ok { OnOk result
         (Appends (W.held errors.old) (W.held errors.new) (unopened_text (reading_of input.now))) }
     ensures err { OnErr result
-        (AppendsFront (W.held errors.old) (W.held errors.new) (unopened_text (reading_of input.now))) }
+        (AppendsPrefix (W.held errors.old) (W.held errors.new) (unopened_text (reading_of input.now))) }
     ensures failures { W.failures errors.new ≡ put_counted (W.failures errors.old) result }
 {
     errors.put(b"nroff: cannot open ")?;
@@ -156,7 +156,7 @@ fn put_name<W: Sink>(input: &Input<'_>, errors: &mut W) -> Result<(), Fault>
     ensures ok { OnOk result
         (Appends (W.held errors.old) (W.held errors.new) (name_of (reading_of input.now))) }
     ensures err { OnErr result
-        (AppendsFront (W.held errors.old) (W.held errors.new) (name_of (reading_of input.now))) }
+        (AppendsPrefix (W.held errors.old) (W.held errors.new) (name_of (reading_of input.now))) }
     ensures failures { W.failures errors.new ≡ put_counted (W.failures errors.old) result }
 {
     match *input {
@@ -171,7 +171,7 @@ fn put_path<W: Sink>(folder: &[u8], name: &[u8], errors: &mut W) -> Result<(), F
     ensures ok { OnOk result
         (Appends (W.held errors.old) (W.held errors.new) (macro_path folder.now name.now)) }
     ensures err { OnErr result
-        (AppendsFront (W.held errors.old) (W.held errors.new) (macro_path folder.now name.now)) }
+        (AppendsPrefix (W.held errors.old) (W.held errors.new) (macro_path folder.now name.now)) }
     ensures failures { W.failures errors.new ≡ put_counted (W.failures errors.old) result }
 {
     errors.put(folder)?;

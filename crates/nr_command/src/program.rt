@@ -126,7 +126,7 @@ pub fn run_words<'b, M: Memory, O: Opener<'b>, W: Sink, E: Sink>(
 /// Tells a bad word, as far as `errors` takes its line, and gives the status of the program.
 fn refuse_word<E: Sink>(usage: &Usage<'_>, errors: &mut E) -> u8
     ensures status { result ≡ 2 }
-    ensures told { Tells (E.held errors.old) (E.held errors.new) (E.failures errors.old)
+    ensures reported { Tells (E.held errors.old) (E.held errors.new) (E.failures errors.old)
         (E.failures errors.new) (usage_text usage.now.case usage.now.word.now) }
 {
     let _ = usage_line(usage, errors);
@@ -185,7 +185,7 @@ fn outcome_of<'a, 'b, M: Memory, O: Opener<'b>, W: Sink>(
 /// Tells why a job is not run, as far as `errors` takes the line, and gives the status of the program.
 fn tell_not_run<E: Sink>(why: &NotRun<'_>, errors: &mut E) -> u8
     ensures status { result ≡ status_of_end (Err why.now) }
-    ensures told { Tells (E.held errors.old) (E.held errors.new) (E.failures errors.old)
+    ensures reported { Tells (E.held errors.old) (E.held errors.new) (E.failures errors.old)
         (E.failures errors.new) (line_of_end (Err why.now)) }
 {
     match why {

@@ -45,7 +45,7 @@ pub fn run_over<R: Source, W: Sink, E: Sink>(
 
     ensures refused { (result ≡ 5) ↔ IsErr desk }
     ensures untouched { OnErr desk ((input.new ≡ input.old) × (output.new ≡ output.old)) }
-    ensures told { OnErr desk (Tells (E.held errors.old) (E.held errors.new) (E.failures errors.old)
+    ensures reported { OnErr desk (Tells (E.held errors.old) (E.held errors.new) (E.failures errors.old)
         (E.failures errors.new) memory_line) }
 {
     match desk {
@@ -80,7 +80,7 @@ pub(crate) fn run_desk<R: Source, W: Sink>(
 /// Tells an outcome, as far as `errors` takes its line, and gives its status.
 pub(crate) fn tell<E: Sink>(outcome: Outcome, errors: &mut E) -> u8
     ensures status { result ≡ status_of outcome }
-    ensures told { Tells (E.held errors.old) (E.held errors.new) (E.failures errors.old)
+    ensures reported { Tells (E.held errors.old) (E.held errors.new) (E.failures errors.old)
         (E.failures errors.new) (line_of outcome) }
     ensures quiet { outcome ≡ Outcome.Done → errors.new ≡ errors.old }
 {
@@ -103,7 +103,7 @@ fn status(outcome: Outcome) -> u8
 /// Tells want of memory, as far as `errors` takes the line, and gives its status.
 pub fn out_of_memory<E: Sink>(errors: &mut E) -> u8
     ensures status { result ≡ 5 }
-    ensures told { Tells (E.held errors.old) (E.held errors.new) (E.failures errors.old)
+    ensures reported { Tells (E.held errors.old) (E.held errors.new) (E.failures errors.old)
         (E.failures errors.new) memory_line }
 {
     let _ = errors.put(b"nroff: out of memory\n");

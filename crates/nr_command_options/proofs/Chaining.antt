@@ -77,10 +77,10 @@ anytime_set [] i t within is = absurd (omega arith)
 anytime_set (q ∷ qs) zero t within is = ap (λ (b : Bool). b || some_anytime qs) is
 anytime_set (q ∷ qs) (suc i) t within is = ap (λ (b : Bool). is_anytime q.faults || b) (anytime_set qs i t (omega arith) is)
 
-drop_behind : (qs : List Supply) (i : ℕ) (t : Supply) → drop (suc i) (set qs i t) ≡ drop (suc i) qs
-drop_behind [] i t = refl
-drop_behind (q ∷ qs) zero t = refl
-drop_behind (q ∷ qs) (suc i) t = drop_behind qs i t
+drop_after : (qs : List Supply) (i : ℕ) (t : Supply) → drop (suc i) (set qs i t) ≡ drop (suc i) qs
+drop_after [] i t = refl
+drop_after (q ∷ qs) zero t = refl
+drop_after (q ∷ qs) (suc i) t = drop_after qs i t
 
 record At (fs : List (Option Supply)) (at : ℕ) (f : Option Supply) (qs : List Supply) : Type 0 where
   q : Supply
@@ -89,7 +89,7 @@ record At (fs : List (Option Supply)) (at : ℕ) (f : Option Supply) (qs : List 
   now_is : (o : Bool) → chain_from at o qs ≡ chained (some_anytime qs) o (q ∷ rest)
   anytime : is_anytime q.faults ≡ true → some_anytime qs ≡ true
   later_is : (t : Supply) → is_anytime t.faults ≡ is_anytime q.faults → (o : Bool) → chain_supply at o (set fs at (Some t)) ≡ Some (chained (some_anytime qs) o (t ∷ rest))
-  behind_is : (t : Supply) → is_anytime t.faults ≡ is_anytime q.faults → (o : Bool) → chain_supply (at + 1) o (set fs at (Some t)) ≡ Some (chained (some_anytime qs) o rest)
+  after_is : (t : Supply) → is_anytime t.faults ≡ is_anytime q.faults → (o : Bool) → chain_supply (at + 1) o (set fs at (Some t)) ≡ Some (chained (some_anytime qs) o rest)
 
 length_known : (qs : List Supply) → length (knowns qs) ≡ length qs
 length_known [] = refl
@@ -114,11 +114,11 @@ stands fs at f qs within f_here is =
           ap (chain_supply at o) (set_known fs qs at t is) ∙ ap (option_map (chain_from at o)) (all_known-knowns (set qs at t))
           ∙ ap (λ (flag : Bool). Some (chained flag o (drop at (set qs at t)))) (anytime_set qs at t in_qs same)
           ∙ ap (λ (xs : List Supply). Some (chained (some_anytime qs) o xs)) (drop-set qs at t in_qs ∙ ap (λ (k : ℕ). t ∷ drop k qs) plus);
-      behind_is = λ t same o.
+      after_is = λ t same o.
           ap (chain_supply (at + 1) o) (set_known fs qs at t is) ∙ ap (option_map (chain_from (at + 1) o)) (all_known-knowns (set qs at t))
           ∙ ap (λ (flag : Bool). Some (chained flag o (drop (at + 1) (set qs at t)))) (anytime_set qs at t in_qs same)
           ∙ ap (λ (k : ℕ). Some (chained (some_anytime qs) o (drop k (set qs at t)))) plus
-          ∙ ap (λ (xs : List Supply). Some (chained (some_anytime qs) o xs)) (drop_behind qs at t);
+          ∙ ap (λ (xs : List Supply). Some (chained (some_anytime qs) o xs)) (drop_after qs at t);
     }
 
 -- what a file gave, where it was known
@@ -260,7 +260,7 @@ gives_newline fs at f f' within here gives =
     let after = known_after f f' s.q (Ok None) s.f_is gives in
     let same : is_anytime after.0.faults ≡ is_anytime s.q.faults = ap (λ (x : Supply). is_anytime x.faults) after.2.1 in
     gives_along (Some (chain_from at true qs)) (Some (chained (some_anytime qs) true (s.q ∷ s.rest))) (Some (chained (some_anytime qs) false s.rest)) _ (Ok (Some 10))
-    (ap (λ (x : Supply). Some x) (s.now_is true)) (ap (λ (x : Option Supply). chain_supply (at + 1) false (set fs at x)) after.1 ∙ s.behind_is after.0 same false)
+    (ap (λ (x : Supply). Some x) (s.now_is true)) (ap (λ (x : Option Supply). chain_supply (at + 1) false (set fs at x)) after.1 ∙ s.after_is after.0 same false)
     (chained_newline (some_anytime qs) s.q after.0 s.rest s.anytime after.2))
 
 -- past a file at its end
@@ -272,7 +272,7 @@ stays_past fs at f f' within here gives =
     let s : At fs at f qs = stands fs at f qs within here is in
     let after = known_after f f' s.q (Ok None) s.f_is gives in
     let same : is_anytime after.0.faults ≡ is_anytime s.q.faults = ap (λ (x : Supply). is_anytime x.faults) after.2.1 in
-    ap (λ (x : Option Supply). chain_supply (at + 1) false (set fs at x)) after.1 ∙ s.behind_is after.0 same false
+    ap (λ (x : Option Supply). chain_supply (at + 1) false (set fs at x)) after.1 ∙ s.after_is after.0 same false
     ∙ ap (λ (x : Supply). Some x) (sym (s.now_is false ∙ chained_past (some_anytime qs) s.q after.0 s.rest s.anytime after.2)))
 
 -- a fault of the file
@@ -325,21 +325,21 @@ MayGiveAll-fewer Never k n h may = tt
 MayGiveAll-fewer (After j) k n h may = omega arith
 MayGiveAll-fewer Anytime k n h may = tt
 
-front_short : (bs bytes : List ℕ) → take (length bs) bytes ≡ bs → length bs ≤ length bytes
-front_short bs bytes is = omega (arith, ap length is, length-take (length bs) bytes)
+prefix_short : (bs bytes : List ℕ) → take (length bs) bytes ≡ bs → length bs ≤ length bytes
+prefix_short bs bytes is = omega (arith, ap length is, length-take (length bs) bytes)
 
 chained_offers : (flag o : Bool) (q : Supply) (rest : List Supply) (bs : List ℕ) → Offers (Some q) bs → Offers (Some (chained flag o (q ∷ rest))) bs
-chained_offers flag o q rest bs (front, may) =
-    let short = front_short bs q.bytes front in
+chained_offers flag o q rest bs (prefix, may) =
+    let short = prefix_short bs q.bytes prefix in
     let tail = ended_is q.bytes o in
     let C = chained_bytes false rest in
     let whole : ended q.bytes o ++ C ≡ q.bytes ++ (tail.0 ++ C) = ap (λ (xs : List ℕ). xs ++ C) tail.1 ∙ append_assoc q.bytes tail.0 C in
-    let bytes : take (length bs) (ended q.bytes o ++ C) ≡ bs = ap (take (length bs)) whole ∙ take-append-le (length bs) q.bytes (tail.0 ++ C) short ∙ front in
+    let bytes : take (length bs) (ended q.bytes o ++ C) ≡ bs = ap (take (length bs)) whole ∙ take-append-le (length bs) q.bytes (tail.0 ++ C) short ∙ prefix in
     (bytes, may_all flag)
   where
     may_all : (b : Bool) → MayGiveAll (length bs) (cond b Anytime (faults_before q.faults (length q.bytes) (length (ended q.bytes o)) (chained_faults false rest)))
     may_all true = tt
-    may_all false = MayGiveAll-before q.faults (length bs) (length q.bytes) (length (ended q.bytes o)) (chained_faults false rest) (omega (arith, front_short bs q.bytes front, length-ended q.bytes o)) may
+    may_all false = MayGiveAll-before q.faults (length bs) (length q.bytes) (length (ended q.bytes o)) (chained_faults false rest) (omega (arith, prefix_short bs q.bytes prefix, length-ended q.bytes o)) may
 
 drop-ended : (bytes : List ℕ) (o : Bool) (n : ℕ) → n < length bytes → drop (suc n) (ended bytes o) ≡ ended (drop (suc n) bytes) (not (get_or bytes n 0 == 10))
 drop-ended [] o n within = absurd (omega arith)
@@ -371,11 +371,11 @@ skipped_pair false n x y u v e f = ap (λ (bs : List ℕ). supply_of bs v) (sym 
 
 chained_skips : (flag o : Bool) (q : Supply) (rest : List Supply) (n : ℕ) (bs : List ℕ) → n < length bs → Offers (Some q) bs
     → chained flag (not (get_or bs n 0 == 10)) (skipped (suc n) q ∷ rest) ≡ skipped (suc n) (chained flag o (q ∷ rest))
-chained_skips flag o q rest n bs within (front, may) =
-    let short = front_short bs q.bytes front in
+chained_skips flag o q rest n bs within (prefix, may) =
+    let short = prefix_short bs q.bytes prefix in
     let C = chained_bytes false rest in
     let O = chained_faults false rest in
-    let last : get_or bs n 0 ≡ get_or q.bytes n 0 = ap (λ (xs : List ℕ). get_or xs n 0) (sym front) ∙ get_or-take (length bs) q.bytes n 0 within in
+    let last : get_or bs n 0 ≡ get_or q.bytes n 0 = ap (λ (xs : List ℕ). get_or xs n 0) (sym prefix) ∙ get_or-take (length bs) q.bytes n 0 within in
     let dropped : drop (suc n) (ended q.bytes o) ≡ ended (drop (suc n) q.bytes) (not (get_or bs n 0 == 10)) =
     drop-ended q.bytes o n (omega arith) ∙ ap (λ (b : ℕ). ended (drop (suc n) q.bytes) (not (b == 10))) (sym last) in
     let whole : drop (suc n) (ended q.bytes o ++ C) ≡ ended (drop (suc n) q.bytes) (not (get_or bs n 0 == 10)) ++ C =

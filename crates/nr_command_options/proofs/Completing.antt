@@ -6,9 +6,9 @@ use Rattle.nr_units.specs.Source.{Supply, Faults, Anytime}
 use Rattle.nr_command_options.specs.Chained.{ended, chained_bytes, faults_before, chained_faults, some_anytime, chain_from, all_known, chain_supply}
 use Rattle.nr_command_options.specs.Files.{lacks_newline, completed, faults_of_all, one_after_the_other, files_supply}
 
-ended_behind : (byte : ℕ) (bytes : List ℕ) (o : Bool) → ended (byte ∷ bytes) o ≡ (byte ∷ bytes) ++ cond (lacks_newline (byte ∷ bytes)) (10 ∷ []) []
-ended_behind byte [] o = refl
-ended_behind byte (next ∷ bytes) o = ap (λ (bs : List ℕ). byte ∷ bs) (ended_behind next bytes (not (byte == 10)))
+ended_after : (byte : ℕ) (bytes : List ℕ) (o : Bool) → ended (byte ∷ bytes) o ≡ (byte ∷ bytes) ++ cond (lacks_newline (byte ∷ bytes)) (10 ∷ []) []
+ended_after byte [] o = refl
+ended_after byte (next ∷ bytes) o = ap (λ (bs : List ℕ). byte ∷ bs) (ended_after next bytes (not (byte == 10)))
 
 completed_is : (b : Bool) (bytes : List ℕ) → bytes ++ cond b (10 ∷ []) [] ≡ cond b (bytes ++ 10 ∷ []) bytes
 completed_is true bytes = refl
@@ -16,7 +16,7 @@ completed_is false bytes = append-nil bytes
 
 pub ended_completed : (bytes : List ℕ) → ended bytes false ≡ completed bytes
 ended_completed [] = refl
-ended_completed (byte ∷ bytes) = ended_behind byte bytes false ∙ completed_is (lacks_newline (byte ∷ bytes)) (byte ∷ bytes)
+ended_completed (byte ∷ bytes) = ended_after byte bytes false ∙ completed_is (lacks_newline (byte ∷ bytes)) (byte ∷ bytes)
 
 chained_completed : (files : List Supply) → chained_bytes false files ≡ flat_map (λ (file : Supply). completed file.bytes) files
 chained_completed [] = refl

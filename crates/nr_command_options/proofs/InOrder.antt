@@ -8,15 +8,15 @@ use Rattle.nr_command_options.specs.Inputs.{Reading, ReadsMacros, ReadsStandard,
 use Rattle.nr_command_options.specs.Job.{texts}
 use Rattle.nr_command_options.proofs.Parting.{texts-get_or}
 
-slice_get-front : (xs ys : List Reading) (i : ℕ) → i < length xs → slice_get (xs ++ ys) i ≡ slice_get xs i
-slice_get-front [] ys i within = absurd (omega arith)
-slice_get-front (x ∷ xs) ys zero within = refl
-slice_get-front (x ∷ xs) ys (suc i) within = slice_get-front xs ys i (omega arith)
+slice_get-prefix : (xs ys : List Reading) (i : ℕ) → i < length xs → slice_get (xs ++ ys) i ≡ slice_get xs i
+slice_get-prefix [] ys i within = absurd (omega arith)
+slice_get-prefix (x ∷ xs) ys zero within = refl
+slice_get-prefix (x ∷ xs) ys (suc i) within = slice_get-prefix xs ys i (omega arith)
 
-slice_get-behind : (xs ys : List Reading) (i k : ℕ) → length xs + k ≡ i → slice_get (xs ++ ys) i ≡ slice_get ys k
-slice_get-behind [] ys i k is = let same : i ≡ k = omega arith in ap (slice_get ys) same
-slice_get-behind (x ∷ xs) ys zero k is = absurd (omega arith)
-slice_get-behind (x ∷ xs) ys (suc i) k is = slice_get-behind xs ys i k (omega arith)
+slice_get-afterwards : (xs ys : List Reading) (i k : ℕ) → length xs + k ≡ i → slice_get (xs ++ ys) i ≡ slice_get ys k
+slice_get-afterwards [] ys i k is = let same : i ≡ k = omega arith in ap (slice_get ys) same
+slice_get-afterwards (x ∷ xs) ys zero k is = absurd (omega arith)
+slice_get-afterwards (x ∷ xs) ys (suc i) k is = slice_get-afterwards xs ys i k (omega arith)
 
 length-texts : (words : List (Bor (List ℕ))) → length (texts words) ≡ length words
 length-texts words = length-map words (λ (word : Bor (List ℕ)). word.now)
@@ -37,7 +37,7 @@ macro_at folder macros files reads i d within =
     let A = map (λ name. ReadsMacros folder name) (texts macros) in
     let B = map named (texts files) in
     let size : length A ≡ length macros = length-map (texts macros) (λ name. ReadsMacros folder name) ∙ length-texts macros in
-    sym (slice_get-front (A ++ B) (cond reads (ReadsStandard ∷ []) []) i (omega (arith, length-append A B)) ∙ slice_get-front A B i (omega arith) ∙ text_at (λ name. ReadsMacros folder name) macros i d within)
+    sym (slice_get-prefix (A ++ B) (cond reads (ReadsStandard ∷ []) []) i (omega (arith, length-append A B)) ∙ slice_get-prefix A B i (omega arith) ∙ text_at (λ name. ReadsMacros folder name) macros i d within)
 
 pub file_at : (folder : List ℕ) (macros files : List (Bor (List ℕ))) (reads : Bool) (i k : ℕ) (d : Bor (List ℕ)) → length macros + k ≡ i → k < length files
     → Some (named (get_or files k d).now) ≡ slice_get (in_order folder macros files reads) i
@@ -46,27 +46,27 @@ file_at folder macros files reads i k d is within =
     let B = map named (texts files) in
     let size : length A ≡ length macros = length-map (texts macros) (λ name. ReadsMacros folder name) ∙ length-texts macros in
     let size_b : length B ≡ length files = length-map (texts files) named ∙ length-texts files in
-    sym (slice_get-front (A ++ B) (cond reads (ReadsStandard ∷ []) []) i (omega (arith, length-append A B)) ∙ slice_get-behind A B i k (omega arith) ∙ text_at named files k d within)
+    sym (slice_get-prefix (A ++ B) (cond reads (ReadsStandard ∷ []) []) i (omega (arith, length-append A B)) ∙ slice_get-afterwards A B i k (omega arith) ∙ text_at named files k d within)
 
-behind_at : (folder : List ℕ) (macros files : List (Bor (List ℕ))) (reads : Bool) (i k : ℕ) → length macros + length files + k ≡ i
+after_at : (folder : List ℕ) (macros files : List (Bor (List ℕ))) (reads : Bool) (i k : ℕ) → length macros + length files + k ≡ i
     → slice_get (in_order folder macros files reads) i ≡ slice_get (cond reads (ReadsStandard ∷ []) []) k
-behind_at folder macros files reads i k is =
+after_at folder macros files reads i k is =
     let A = map (λ name. ReadsMacros folder name) (texts macros) in
     let B = map named (texts files) in
     let size : length A ≡ length macros = length-map (texts macros) (λ name. ReadsMacros folder name) ∙ length-texts macros in
     let size_b : length B ≡ length files = length-map (texts files) named ∙ length-texts files in
-    slice_get-behind (A ++ B) (cond reads (ReadsStandard ∷ []) []) i k (omega (arith, length-append A B))
+    slice_get-afterwards (A ++ B) (cond reads (ReadsStandard ∷ []) []) i k (omega (arith, length-append A B))
 
 pub standard_at : (folder : List ℕ) (macros files : List (Bor (List ℕ))) (reads : Bool) (i : ℕ) → length macros + length files ≡ i → reads ≡ true
     → Some ReadsStandard ≡ slice_get (in_order folder macros files reads) i
-standard_at folder macros files reads i is reads_is = sym (behind_at folder macros files reads i 0 (omega arith) ∙ rw reads_is refl)
+standard_at folder macros files reads i is reads_is = sym (after_at folder macros files reads i 0 (omega arith) ∙ rw reads_is refl)
 
 pub none_unread : (folder : List ℕ) (macros files : List (Bor (List ℕ))) (reads : Bool) (i : ℕ) → length macros + length files ≤ i → reads ≡ false
     → None ≡ slice_get (in_order folder macros files reads) i
-none_unread folder macros files reads i is reads_is = sym (behind_at folder macros files reads i (i - (length macros + length files)) (omega arith) ∙ rw reads_is refl)
+none_unread folder macros files reads i is reads_is = sym (after_at folder macros files reads i (i - (length macros + length files)) (omega arith) ∙ rw reads_is refl)
 
-pub none_behind : (folder : List ℕ) (macros files : List (Bor (List ℕ))) (reads : Bool) (i : ℕ) → length macros + length files < i → None ≡ slice_get (in_order folder macros files reads) i
-none_behind folder macros files reads i is = sym (behind_at folder macros files reads i (i - (length macros + length files)) (omega arith) ∙ past reads (i - (length macros + length files)) (omega arith))
+pub none_after : (folder : List ℕ) (macros files : List (Bor (List ℕ))) (reads : Bool) (i : ℕ) → length macros + length files < i → None ≡ slice_get (in_order folder macros files reads) i
+none_after folder macros files reads i is = sym (after_at folder macros files reads i (i - (length macros + length files)) (omega arith) ∙ past reads (i - (length macros + length files)) (omega arith))
   where
     past : (b : Bool) (k : ℕ) → 0 < k → slice_get (cond b (ReadsStandard ∷ []) []) k ≡ None
     past true zero some = absurd (omega arith)

@@ -36,8 +36,8 @@ unknown_beyond word is none =
 -- what a word means has its letter and its value
 pub HasValue-of_word : (meaning : Meaning) (word : List ℕ) (letter : ℕ) (value : List ℕ) → word ≡ hyphen ∷ letter ∷ value → Means meaning word
     → HasValue letter value meaning
-HasValue-of_word meaning word letter value is (behind, behind_is, value_is) =
-    let same : behind ≡ value = cc in
+HasValue-of_word meaning word letter value is (afterwards, after_is, value_is) =
+    let same : afterwards ≡ value = cc in
     let letters : letter_of meaning ≡ letter = cc in
     record { letter_is = letters; value_is = subst (λ (v : List ℕ). IsValue meaning v) same value_is }
 

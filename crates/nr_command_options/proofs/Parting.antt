@@ -39,11 +39,11 @@ texts-get_or (word ∷ words) (suc i) d = texts-get_or words i d
 pub option_at : (words firsts : List (Bor (List ℕ))) (n i : ℕ) (d : Bor (List ℕ)) → firsts ≡ take n words → n ≡ length (options (texts words)) → i < length firsts
     → is_option (get_or firsts i d).now ≡ true
 option_at words firsts n i d firsts_are n_is within =
-    let front : n ≡ prefix_len is_option (texts words) = n_is ∙ length-prefix_len is_option (texts words) in
+    let prefix : n ≡ prefix_len is_option (texts words) = n_is ∙ length-prefix_len is_option (texts words) in
     let short : length firsts ≤ n = rw firsts_are (omega (arith, length-take n words)) in
     let below : i < n = omega arith in
     let same : (get_or firsts i d).now ≡ get_or (texts words) i d.now = ap (λ (xs : List (Bor (List ℕ))). (get_or xs i d).now) firsts_are ∙ ap (λ (w : Bor (List ℕ)). w.now) (get_or-take n words i d below) ∙ sym (texts-get_or words i d) in
-    rw same (prefix_len_passes is_option (texts words) i d.now (omega (arith, front)))
+    rw same (prefix_len_passes is_option (texts words) i d.now (omega (arith, prefix)))
 
 -- the words are those before one, that one, and those after it
 pub texts_cut : (words : List (Bor (List ℕ))) (i : ℕ) (d : Bor (List ℕ)) → i < length words → texts words ≡ texts (take i words) ++ (get_or words i d).now ∷ texts (drop (suc i) words)

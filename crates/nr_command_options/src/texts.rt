@@ -7,7 +7,7 @@ ghost use Rattle.nr_command_options.specs.Settings.{WritesInteger};
 /// The largest number that an option may name, but for limits.
 pub(crate) const LARGEST_NUMBER: u64 = 2_147_483_647;
 
-/// The ASCII byte at the front of a text, and what follows it. None where the text is empty or begins
+/// The ASCII byte at the beginning of a text, and what follows it. None where the text is empty or begins
 /// with another character.
 pub(crate) fn split_ascii(text: &str) -> Option<(u8, &str)>
     ensures found { IfSome result (λ parts. text.now ≡ parts.0 ∷ parts.1.now) }

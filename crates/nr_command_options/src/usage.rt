@@ -2,7 +2,7 @@
 ghost use Rattle.std.specs.Prelude.{◌≡◌, ◌++◌, OnOk, OnErr};
 ghost use Rattle.std.specs.Io.KnownBytes.{Appends};
 ghost use Rattle.nr_units.specs.Failures.{put_counted};
-ghost use Rattle.nr_units.specs.Sink.{AppendsFront};
+ghost use Rattle.nr_units.specs.Sink.{AppendsPrefix};
 ghost use Rattle.nr_command_options.specs.Usage.{goes_on, option_text, usage_text};
 
 use nr_page::page::WriteFault;
@@ -50,7 +50,7 @@ pub fn usage_line<W: Sink>(usage: &Usage<'_>, errors: &mut W) -> Result<(), Writ
     ensures ok { OnOk result
         (Appends (W.held errors.old) (W.held errors.new) (usage_text usage.now.case usage.now.word.now)) }
     ensures err { OnErr result
-        (AppendsFront (W.held errors.old) (W.held errors.new)
+        (AppendsPrefix (W.held errors.old) (W.held errors.new)
         (usage_text usage.now.case usage.now.word.now)) }
     ensures failures { W.failures errors.new ≡ put_counted (W.failures errors.old) result }
 {
@@ -64,7 +64,7 @@ pub fn usage_line<W: Sink>(usage: &Usage<'_>, errors: &mut W) -> Result<(), Writ
 fn put_usage<W: Sink>(case: Case, word: &[u8], errors: &mut W) -> Result<(), Fault>
     ensures ok { OnOk result (Appends (W.held errors.old) (W.held errors.new) (usage_text case word.now)) }
     ensures err { OnErr result
-        (AppendsFront (W.held errors.old) (W.held errors.new) (usage_text case word.now)) }
+        (AppendsPrefix (W.held errors.old) (W.held errors.new) (usage_text case word.now)) }
     ensures failures { W.failures errors.new ≡ put_counted (W.failures errors.old) result }
 {
     match case {
@@ -84,14 +84,19 @@ fn put_usage<W: Sink>(case: Case, word: &[u8], errors: &mut W) -> Result<(), Fau
 }
 
 /// A line in three parts.
-fn put_parts<W: Sink>(front: &[u8], middle: &[u8], back: &[u8], errors: &mut W) -> Result<(), Fault>
+fn put_parts<W: Sink>(
+    prefix: &[u8],
+    middle: &[u8],
+    back: &[u8],
+    errors: &mut W,
+) -> Result<(), Fault>
     ensures ok { OnOk result
-        (Appends (W.held errors.old) (W.held errors.new) (front.now ++ middle.now ++ back.now)) }
+        (Appends (W.held errors.old) (W.held errors.new) (prefix.now ++ middle.now ++ back.now)) }
     ensures err { OnErr result
-        (AppendsFront (W.held errors.old) (W.held errors.new) (front.now ++ middle.now ++ back.now)) }
+        (AppendsPrefix (W.held errors.old) (W.held errors.new) (prefix.now ++ middle.now ++ back.now)) }
     ensures failures { W.failures errors.new ≡ put_counted (W.failures errors.old) result }
 {
-    errors.put(front)?;
+    errors.put(prefix)?;
     errors.put(middle)?;
     errors.put(back)
 }

@@ -3,7 +3,7 @@ ghost use Rattle.std.specs.Prelude.{◌≡◌, ◌+◌, ◌*◌, ◌≤◌, Some
 ghost use Rattle.nr_units.specs.Source.{Supply};
 ghost use Rattle.nr_input.specs.Place.{has_failed};
 ghost use Rattle.nr_machine.specs.State.{start};
-ghost use Rattle.nr_machine.specs.Run.{Answers, ToldFaults, kind_of};
+ghost use Rattle.nr_machine.specs.Run.{Answers, ReportedFaults, kind_of};
 ghost use Rattle.nr_machine.specs.Holding.{shape, weight, worth};
 ghost use Rattle.nr_machine.specs.Limits.{limits_of, limits_under};
 ghost use Rattle.nr_engine.specs.Travelling.{Travels, outcome_when_spent};
@@ -55,7 +55,7 @@ fn run<R: Source, W: Sink>(
     ensures travels { Travels most (shape engine.old) (R.supply input.old) (W.held output.old)
         (W.held output.new) moves.old moves.new result }
     ensures limits { limits_of (shape engine.new) ≡ limits_of (shape engine.old) }
-    ensures faults { ToldFaults result (R.failures input.old) (R.failures input.new)
+    ensures faults { ReportedFaults result (R.failures input.old) (R.failures input.new)
         (W.failures output.old) (W.failures output.new) }
 {
     let mut left = most - *moves as u64;
@@ -95,7 +95,7 @@ fn run_in<R: Source, W: Sink>(
     ensures answers { (supply : Supply) → R.supply input.old ≡ Some supply →
         Answers limits (start limits options.now supply) moves.new result (W.held output.old)
         (W.held output.new) }
-    ensures faults { ToldFaults result (R.failures input.old) (R.failures input.new) (W.failures output.old)
+    ensures faults { ReportedFaults result (R.failures input.old) (R.failures input.new) (W.failures output.old)
         (W.failures output.new) }
     ensures stay { limits_of (shape engine.new) ≡ limits_of (shape engine.old) }
 {
@@ -136,7 +136,7 @@ pub fn format<R: Source, W: Sink>(
         Answers work.entry.desk.now (start work.entry.desk.now options.now supply) moves.new result
         (W.held output.old) (W.held output.new) }
     // A fault is reported where a call failed, and nowhere else.
-    ensures faults { ToldFaults result (R.failures input.old) (R.failures input.new) (W.failures output.old)
+    ensures faults { ReportedFaults result (R.failures input.old) (R.failures input.new) (W.failures output.old)
         (W.failures output.new) }
     ensures limits { work.exit.0.now ≡ work.entry.desk.now }
 {

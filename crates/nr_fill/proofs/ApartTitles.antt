@@ -15,14 +15,14 @@ apart_row c r ls cs rs = (((ls ++ replicate (c - length ls) blank) ++ cs) ++ rep
 get-blanks : (n i : ℕ) → get_or (replicate n blank) i blank ≡ blank
 get-blanks n i = elim (cases_lt i n) [
   | inl within ↦ get_or-replicate n i blank blank within
-  | inr behind ↦ get_or_past (replicate n blank) i blank (omega (arith, length-replicate n blank))
+  | inr afterwards ↦ get_or_past (replicate n blank) i blank (omega (arith, length-replicate n blank))
 ]
 
 -- blanks after a row are read there in any case
 get-padded : (xs : List Cell) (n i : ℕ) → get_or (xs ++ replicate n blank) i blank ≡ get_or xs i blank
 get-padded xs n i = elim (cases_lt i (length xs)) [
   | inl within ↦ get_or_append_left xs (replicate n blank) blank i within
-  | inr behind ↦ get_or-append_right xs (replicate n blank) (length xs) i blank refl behind ∙ get-blanks n (i - length xs) ∙ sym (get_or_past xs i blank behind)
+  | inr afterwards ↦ get_or-append_right xs (replicate n blank) (length xs) i blank refl afterwards ∙ get-blanks n (i - length xs) ∙ sym (get_or_past xs i blank afterwards)
 ]
 
 length-padded : (xs : List Cell) (n k : ℕ) → length xs + n ≡ k → length (xs ++ replicate n blank) ≡ k
@@ -50,10 +50,10 @@ module _ (c r : ℕ) (ls cs rs : List Cell) where
       rw (a, b, d) refl
 
   cell_of-between : (i : ℕ) → length ls ≤ i → c ≤ i → c + length cs ≤ i → i < r → cell_of c r ls cs rs i ≡ blank
-  cell_of-between i past from behind before_right =
+  cell_of-between i past from afterwards before_right =
       let a : nat_le r i ≡ false = lt-leb r i before_right in
       let b : nat_le c i ≡ true = le-leb c i from in
-      let d : nat_lt i (c + length cs) ≡ false = le-ltb i (c + length cs) behind in
+      let d : nat_lt i (c + length cs) ≡ false = le-ltb i (c + length cs) afterwards in
       rw (a, b, d) (get_or_past ls i blank past)
 
   cell_of-right : (i : ℕ) → r ≤ i → i < r + length rs → cell_of c r ls cs rs i ≡ get_or rs (i - r) blank
@@ -76,7 +76,7 @@ module _ (c r : ℕ) (ls cs rs : List Cell) where
       | inr from ↦
           get_or-append_right to_centre cs c i blank length-to_centre from ∙ elim (cases_lt i (c + length cs)) [
             | inl below ↦ sym (cell_of-centre i from below before_right)
-            | inr behind ↦ get_or_past cs (i - c) blank (omega arith) ∙ sym (cell_of-between i (omega arith) from behind before_right)
+            | inr afterwards ↦ get_or_past cs (i - c) blank (omega arith) ∙ sym (cell_of-between i (omega arith) from afterwards before_right)
           ]
     ]
 

@@ -51,23 +51,23 @@ pub laid_of_inserted : {slots : List PieceSlot} {cells : List Cell} {slot_room c
     ≡ record (laid_of slots cells pieced read room) { last = take place (laid_of slots cells pieced read room).last ++ replicate n x ++ drop place (laid_of slots cells pieced read room).last }
 laid_of_inserted {slots} {cells} {pieced = pieced} {read = read} room place n x h all within =
     let at = pieced + place in
-    let front = take at cells in
+    let prefix = take at cells in
     let R = replicate n x in
     let back = drop at cells in
-    let front_len : length front ≡ at = length-take-le at cells (omega arith) in
+    let prefix_length : length prefix ≡ at = length-take-le at cells (omega arith) in
     let many = length-replicate n x in
-    let behind = drop pieced cells in
-    let last_is : take (read - pieced) behind ≡ behind = take_all (read - pieced) behind (omega (arith, length-drop pieced cells)) in
-    let assoc : front ++ R ++ back ≡ front ++ (R ++ back) = append_assoc front R back in
-    let pieces_is : pieces_of slots (front ++ R ++ back) ≡ pieces_of slots cells =
-    ap (pieces_of slots) assoc ∙ pieces_of-append slots front (R ++ back) (omega (arith, h.pieced_is)) ∙ pieces_of-take slots cells at (omega (arith, h.pieced_is)) (omega arith) in
-    let dropped : drop pieced (front ++ R ++ back) ≡ take place behind ++ R ++ drop place behind =
-    ap (drop pieced) assoc ∙ drop-append-le pieced front (R ++ back) (omega arith)
-    ∙ ap₂ (λ a b. a ++ (R ++ b)) (drop-take pieced place cells) (sym (drop-drop place pieced cells)) ∙ sym (append_assoc (take place behind) R (drop place behind)) in
-    let long : length (front ++ R ++ back) ≡ read + n = omega (arith, length-append (front ++ R) back, length-append front R, length-drop at cells) in
-    let title_is : drop (read + n) (front ++ R ++ back) ≡ drop read cells = drop_all (read + n) (front ++ R ++ back) (omega arith) ∙ sym (drop_all read cells (omega arith)) in
+    let afterwards = drop pieced cells in
+    let last_is : take (read - pieced) afterwards ≡ afterwards = take_all (read - pieced) afterwards (omega (arith, length-drop pieced cells)) in
+    let assoc : prefix ++ R ++ back ≡ prefix ++ (R ++ back) = append_assoc prefix R back in
+    let pieces_is : pieces_of slots (prefix ++ R ++ back) ≡ pieces_of slots cells =
+    ap (pieces_of slots) assoc ∙ pieces_of-append slots prefix (R ++ back) (omega (arith, h.pieced_is)) ∙ pieces_of-take slots cells at (omega (arith, h.pieced_is)) (omega arith) in
+    let dropped : drop pieced (prefix ++ R ++ back) ≡ take place afterwards ++ R ++ drop place afterwards =
+    ap (drop pieced) assoc ∙ drop-append-le pieced prefix (R ++ back) (omega arith)
+    ∙ ap₂ (λ a b. a ++ (R ++ b)) (drop-take pieced place cells) (sym (drop-drop place pieced cells)) ∙ sym (append_assoc (take place afterwards) R (drop place afterwards)) in
+    let long : length (prefix ++ R ++ back) ≡ read + n = omega (arith, length-append (prefix ++ R) back, length-append prefix R, length-drop at cells) in
+    let title_is : drop (read + n) (prefix ++ R ++ back) ≡ drop read cells = drop_all (read + n) (prefix ++ R ++ back) (omega arith) ∙ sym (drop_all read cells (omega arith)) in
     same_laid pieces_is
-    (take_all (read + n - pieced) (drop pieced (front ++ R ++ back)) (omega (arith, length-drop pieced (front ++ R ++ back))) ∙ dropped ∙ ap (λ zs. take place zs ++ R ++ drop place zs) (sym last_is))
+    (take_all (read + n - pieced) (drop pieced (prefix ++ R ++ back)) (omega (arith, length-drop pieced (prefix ++ R ++ back))) ∙ dropped ∙ ap (λ zs. take place zs ++ R ++ drop place zs) (sym last_is))
     title_is refl
 
 -- with n more cells after the last piece
@@ -88,12 +88,12 @@ pub laid_of_extended : {slots : List PieceSlot} {cells : List Cell} {slot_room c
     → read ≡ length cells
     → laid_of slots (cells ++ xs) pieced (read + length xs) room ≡ record (laid_of slots cells pieced read room) { last = (laid_of slots cells pieced read room).last ++ xs }
 laid_of_extended {slots} {cells} {pieced = pieced} {read = read} room xs h all =
-    let behind = drop pieced cells in
+    let afterwards = drop pieced cells in
     let within = h.pieced_within in
-    let last_is : take (read - pieced) behind ≡ behind = take_all (read - pieced) behind (omega (arith, length-drop pieced cells)) in
+    let last_is : take (read - pieced) afterwards ≡ afterwards = take_all (read - pieced) afterwards (omega (arith, length-drop pieced cells)) in
     let n = length xs in
     let long : length (cells ++ xs) ≡ read + n = omega (arith, length-append cells xs) in
-    let dropped : drop pieced (cells ++ xs) ≡ behind ++ xs = drop-append-le pieced cells xs (omega arith) in
+    let dropped : drop pieced (cells ++ xs) ≡ afterwards ++ xs = drop-append-le pieced cells xs (omega arith) in
     same_laid (pieces_of-append slots cells xs (omega (arith, h.pieced_is)))
     (take_all (read + n - pieced) (drop pieced (cells ++ xs)) (omega (arith, length-drop pieced (cells ++ xs))) ∙ dropped ∙ ap (λ zs. zs ++ xs) (sym last_is))
     (drop_all (read + n) (cells ++ xs) (omega arith) ∙ sym (drop_all read cells (omega arith))) refl
@@ -122,12 +122,12 @@ pub laid_of_closed : {slots : List PieceSlot} {cells : List Cell} {slot_room cel
 laid_of_closed {slots} {cells} {pieced = pieced} {read = read} room join n h within =
     let m = read - (pieced + n) in
     let split : read - pieced ≡ n + m = omega arith in
-    let behind = drop pieced cells in
-    let piece_is : take n (drop (cells_in_slots slots) cells) ≡ take n (take (read - pieced) behind) =
-    ap (λ k. take n (drop k cells)) h.pieced_is ∙ sym (take-take n (read - pieced) behind within) in
+    let afterwards = drop pieced cells in
+    let piece_is : take n (drop (cells_in_slots slots) cells) ≡ take n (take (read - pieced) afterwards) =
+    ap (λ k. take n (drop k cells)) h.pieced_is ∙ sym (take-take n (read - pieced) afterwards within) in
     same_laid
     (pieces_of_push slots (record { join = join; len = n }) cells ∙ ap (λ zs. pieces_of slots cells ++ record { join = join; cells = zs } ∷ []) piece_is)
-    (ap (take m) (sym (drop-drop n pieced cells)) ∙ sym (drop-take n m behind) ∙ ap (λ k. drop n (take k behind)) (sym split))
+    (ap (take m) (sym (drop-drop n pieced cells)) ∙ sym (drop-take n m afterwards) ∙ ap (λ k. drop n (take k afterwards)) (sym split))
     refl refl
 
 -- one cell more of a title
@@ -183,11 +183,11 @@ cells_after-laid_of {slots} {cells} {pieced = pieced} {read = read} room n parte
     let k = cells_in_slots (take n slots) in
     let rest = drop k cells in
     let slots_is = drop-pieces_of n slots cells in
-    let behind : cells_in_slots (drop n slots) ≤ length rest = omega (arith, length-drop k cells) in
-    let same : parted ≡ cells_in_slots (drop n slots) = sym parted_is ∙ ap cells_in slots_is ∙ cells_in-pieces_of (drop n slots) rest behind in
+    let afterwards : cells_in_slots (drop n slots) ≤ length rest = omega (arith, length-drop k cells) in
+    let same : parted ≡ cells_in_slots (drop n slots) = sym parted_is ∙ ap cells_in slots_is ∙ cells_in-pieces_of (drop n slots) rest afterwards in
     let start : pieced - parted ≡ k = omega arith in
     let flat : flat_map (λ (p : Piece). p.cells) (drop n (pieces_of slots cells)) ≡ take parted rest =
-    ap (flat_map (λ (p : Piece). p.cells)) slots_is ∙ flat_map-pieces_of (drop n slots) rest behind ∙ ap (λ m. take m rest) (sym same) in
+    ap (flat_map (λ (p : Piece). p.cells)) slots_is ∙ flat_map-pieces_of (drop n slots) rest afterwards ∙ ap (λ m. take m rest) (sym same) in
     let far : k + parted ≡ pieced = omega arith in
     let last_is : take (read - pieced) (drop pieced cells) ≡ take (read - pieced) (drop parted rest) = ap (take (read - pieced)) (ap (λ m. drop m cells) (sym far) ∙ sym (drop-drop parted k cells)) in
     let all : read - k ≡ parted + (read - pieced) = omega arith in
@@ -228,37 +228,37 @@ pub slots_are : {slots : List PieceSlot} {cells : List Cell} {slot_room cell_roo
 slots_are {slots} {cells} now room h is = sym (length-pieces_of slots cells) ∙ ap (λ (l : Laid). length l.pieces) is
 
 -- the first pieces are those of the first slots
-pub front_is : {slots : List PieceSlot} {cells : List Cell} {slot_room cell_room pieced read : ℕ} (now : Laid) (room n : ℕ) → IsLaid slots cells slot_room cell_room pieced read
+pub prefix_is : {slots : List PieceSlot} {cells : List Cell} {slot_room cell_room pieced read : ℕ} (now : Laid) (room n : ℕ) → IsLaid slots cells slot_room cell_room pieced read
     → laid_of slots cells pieced read room ≡ now
     → pieces_of (take n slots) cells ≡ take n now.pieces
-front_is {slots} {cells} now room n h is = sym (take-pieces_of n slots cells) ∙ ap (λ (l : Laid). take n l.pieces) is
+prefix_is {slots} {cells} now room n h is = sym (take-pieces_of n slots cells) ∙ ap (λ (l : Laid). take n l.pieces) is
 
 -- and have cells
-pub front_within : {slots : List PieceSlot} {cells : List Cell} {slot_room cell_room pieced read : ℕ} (n : ℕ) → IsLaid slots cells slot_room cell_room pieced read
+pub prefix_within : {slots : List PieceSlot} {cells : List Cell} {slot_room cell_room pieced read : ℕ} (n : ℕ) → IsLaid slots cells slot_room cell_room pieced read
     → (cells_in_slots (take n slots) ≤ length cells) × (cells_in_slots (take n slots) ≤ pieced)
-front_within {slots} n h =
+prefix_within {slots} n h =
     let part = sum_by-take-le (λ (s : PieceSlot). s.len) slots n in
     let all = h.pieced_is in
     (omega (arith, h.pieced_within, h.read_within), omega arith)
 
 -- how wide they are, and that the first gap is a part of that
-pub front_widths : {slots : List PieceSlot} {cells : List Cell} {slot_room cell_room pieced read : ℕ} (now : Laid) (room n wide : ℕ) → IsLaid slots cells slot_room cell_room pieced read
+pub prefix_widths : {slots : List PieceSlot} {cells : List Cell} {slot_room cell_room pieced read : ℕ} (now : Laid) (room n wide : ℕ) → IsLaid slots cells slot_room cell_room pieced read
     → laid_of slots cells pieced read room ≡ now → 0 < n → n ≤ length now.pieces → pieces_width (take n now.pieces) ≡ wide
     → (slots_width (take n slots) ≡ wide) × (join_width (get_or (take n slots) 0 blank_slot).join ≤ wide)
-front_widths {slots} {cells} now room n wide h is some within wide_is =
+prefix_widths {slots} {cells} now room n wide h is some within wide_is =
     let all = slots_are now room h is in
     let long = length-take-le n slots (omega arith) in
-    let same = pieces_width-pieces_of (take n slots) cells (front_within n h).0 in
-    let width : slots_width (take n slots) ≡ wide = sym same ∙ ap pieces_width (front_is now room n h is) ∙ wide_is in
+    let same = pieces_width-pieces_of (take n slots) cells (prefix_within n h).0 in
+    let width : slots_width (take n slots) ≡ wide = sym same ∙ ap pieces_width (prefix_is now room n h is) ∙ wide_is in
     let first = sum_by_more_le (λ (s : PieceSlot). join_width s.join + s.len) (take n slots) 0 blank_slot (omega arith) in
     (width, omega arith)
 
 -- the cells of the first pieces
-pub front_cells : {slots : List PieceSlot} {cells : List Cell} {slot_room cell_room pieced read : ℕ} (now : Laid) (room n k : ℕ) → IsLaid slots cells slot_room cell_room pieced read
+pub prefix_cells : {slots : List PieceSlot} {cells : List Cell} {slot_room cell_room pieced read : ℕ} (now : Laid) (room n k : ℕ) → IsLaid slots cells slot_room cell_room pieced read
     → laid_of slots cells pieced read room ≡ now → k ≡ cells_in (take n now.pieces) → (k ≡ cells_in_slots (take n slots)) × (k ≤ pieced)
-front_cells {slots} {cells} {pieced = pieced} now room n k h is k_is =
-    let within = front_within n h in
-    let same : k ≡ cells_in_slots (take n slots) = k_is ∙ ap cells_in (sym (front_is now room n h is)) ∙ cells_in-pieces_of (take n slots) cells within.0 in
+prefix_cells {slots} {cells} {pieced = pieced} now room n k h is k_is =
+    let within = prefix_within n h in
+    let same : k ≡ cells_in_slots (take n slots) = k_is ∙ ap cells_in (sym (prefix_is now room n h is)) ∙ cells_in-pieces_of (take n slots) cells within.0 in
     (same, omega (arith, within.1))
 
 -- a row of pieces without its first ones
@@ -286,7 +286,7 @@ back_cells {slots} {cells} {pieced = pieced} now room n k h is k_is =
     let same : k ≡ cells_in (drop n (pieces_of slots cells)) = k_is ∙ ap (λ (l : Laid). cells_in (drop n l.pieces)) (sym is) in
     let all = cells_in-laid_of h in
     let parts = sum_by-take-drop (λ (p : Piece). length p.cells) (pieces_of slots cells) n in
-    let within = front_within n h in
+    let within = prefix_within n h in
     let first : cells_in (take n (pieces_of slots cells)) ≡ cells_in_slots (take n slots) = ap cells_in (take-pieces_of n slots cells) ∙ cells_in-pieces_of (take n slots) cells within.0 in
     (same, omega arith)
 

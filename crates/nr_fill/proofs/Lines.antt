@@ -117,12 +117,12 @@ no_title_state : {T : Type 0} (t : TitleState) → ◌≡◌ {A = Option TitleSt
 no_title_state t e = absurd (cc)
 
 -- the same pieces with other cells after them, another word and another title
-is_line_behind : {row : Laid} {limit pieces wide : ℕ} {word : Option WordState} {gap : ℕ} {title : Option TitleState} (last cells : List Cell) (v : Option WordState) (k : ℕ) (t : Option TitleState) → IsLine row limit pieces wide word gap title
+is_line_after : {row : Laid} {limit pieces wide : ℕ} {word : Option WordState} {gap : ℕ} {title : Option TitleState} (last cells : List Cell) (v : Option WordState) (k : ℕ) (t : Option TitleState) → IsLine row limit pieces wide word gap title
     → pieces + (cells_in row.pieces + length last) + length cells ≤ limit → k ≤ 1365
     → ((w : WordState) → v ≡ Some w → IsWord w (drop pieces row.pieces) last) → (is_none v ≡ true → (length row.pieces ≡ pieces) × (length last ≡ 0))
     → ((u : TitleState) → t ≡ Some u → parted_title u ≤ length cells) → (is_none t ≡ true → length cells ≡ 0)
     → IsLine (record row { last = last; title = cells }) limit pieces wide v k t
-is_line_behind last cells v k t h within gap_within word_is no_word title_is no_title = record {
+is_line_after last cells v k t h within gap_within word_is no_word title_is no_title = record {
   room = h.room;
   is_small = h.is_small;
   within = within;
@@ -140,13 +140,13 @@ is_line_behind last cells v k t h within gap_within word_is no_word title_is no_
 pub is_line_untitled : {row : Laid} {limit pieces wide : ℕ} {word : Option WordState} {gap : ℕ} {title : Option TitleState} → IsLine row limit pieces wide word gap title
     → IsLine (record row { title = [] }) limit pieces wide word gap None
 is_line_untitled {row} {word = word} {gap = gap} h =
-    is_line_behind row.last [] word gap None h (omega (arith, h.within)) h.gap_within h.word_is h.no_word (λ t e. no_title_state t e) (λ none. refl)
+    is_line_after row.last [] word gap None h (omega (arith, h.within)) h.gap_within h.word_is h.no_word (λ t e. no_title_state t e) (λ none. refl)
 
 -- with another state of the word
 pub is_line_word : {row : Laid} {limit pieces wide : ℕ} {word : Option WordState} {gap : ℕ} {title : Option TitleState} (w : WordState) → IsLine row limit pieces wide word gap title
     → IsWord w (drop pieces row.pieces) row.last → IsLine row limit pieces wide (Some w) gap title
 is_line_word {row} {gap = gap} {title = title} w h hw =
-    is_line_behind row.last row.title (Some w) gap title h h.within h.gap_within (only_word w hw) (λ none. is_some_word w none) h.title_is h.no_title
+    is_line_after row.last row.title (Some w) gap title h h.within h.gap_within (only_word w hw) (λ none. is_some_word w none) h.title_is h.no_title
 
 -- a word that opens
 pub is_line_opened : {row : Laid} {limit pieces wide : ℕ} {gap : ℕ} {title : Option TitleState} (w : WordState) → IsLine row limit pieces wide None gap title
@@ -162,14 +162,14 @@ is_line_opened {row} {pieces = pieces} {title = title} w h is =
       join_within = h.gap_within;
       needed = omega arith;
     } in
-    is_line_behind row.last row.title (Some w) 0 title h h.within (omega arith) (only_word w hw) (λ none. is_some_word w none) h.title_is h.no_title
+    is_line_after row.last row.title (Some w) 0 title h h.within (omega arith) (only_word w hw) (λ none. is_some_word w none) h.title_is h.no_title
 
 -- with other cells of the piece that is being read
 pub is_line_last : {row : Laid} {limit pieces wide : ℕ} {word : Option WordState} {gap : ℕ} {title : Option TitleState} (last : List Cell) (w : WordState) → IsLine row limit pieces wide word gap title
     → IsWord w (drop pieces row.pieces) last → pieces + (cells_in row.pieces + length last) + length row.title ≤ limit
     → IsLine (record row { last = last }) limit pieces wide (Some w) gap title
 is_line_last {row} {gap = gap} {title = title} last w h hw within =
-    is_line_behind last row.title (Some w) gap title h within h.gap_within (only_word w hw) (λ none. is_some_word w none) h.title_is h.no_title
+    is_line_after last row.title (Some w) gap title h within h.gap_within (only_word w hw) (λ none. is_some_word w none) h.title_is h.no_title
 
 -- cells of the piece that is being read are a piece
 pub is_word_closed : {ps : List Piece} {last : List Cell} {w : WordState} (v : WordState) (n : ℕ) → IsWord w ps last → n ≤ length last → 0 < n
@@ -200,7 +200,7 @@ is_line_closed {row} {pieces = pieces} {w = w} v n h within some parted_is wide_
     let closed = is_word_closed v n iw within some parted_is wide_is join needed in
     let low = h.pieces_within in
     let same = take-append-le pieces row.pieces (p ∷ []) low in
-    let behind = drop-append-le pieces row.pieces (p ∷ []) low in
+    let afterwards = drop-append-le pieces row.pieces (p ∷ []) low in
     let cells = sum_by_push (λ (q : Piece). length q.cells) row.pieces p in
     let long = length-take-le n row.last within in
     record {
@@ -211,7 +211,7 @@ is_line_closed {row} {pieces = pieces} {w = w} v n h within some parted_is wide_
       wide_is = ap pieces_width same ∙ h.wide_is;
       gaps_within = All-push (λ (q : Piece). join_width q.join ≤ 1365) row.pieces p h.gaps_within iw.join_within;
       gap_within = h.gap_within;
-      word_is = only_word v (rw behind closed);
+      word_is = only_word v (rw afterwards closed);
       no_word = λ none. is_some_word v none;
       title_is = h.title_is;
       no_title = h.no_title;
@@ -223,11 +223,11 @@ join_before-within [] j all h = h
 join_before-within (p ∷ ps) j all h = all 0 p (omega arith)
 
 -- pieces of the word after the first n of the row have no end
-pub is_line_opened_behind : {row : Laid} {limit pieces wide : ℕ} {word : Option WordState} {gap : ℕ} {title : Option TitleState} (v : WordState) (n : ℕ) → IsLine row limit pieces wide word gap title
+pub is_line_opened_after : {row : Laid} {limit pieces wide : ℕ} {word : Option WordState} {gap : ℕ} {title : Option TitleState} (v : WordState) (n : ℕ) → IsLine row limit pieces wide word gap title
     → pieces ≤ n → n ≤ length row.pieces
     → IsWord v (drop pieces (take n row.pieces)) (flat_map (λ (p : Piece). p.cells) (drop n row.pieces) ++ row.last)
     → IsLine (record row { pieces = take n row.pieces; last = flat_map (λ (p : Piece). p.cells) (drop n row.pieces) ++ row.last }) limit pieces wide (Some v) gap title
-is_line_opened_behind {row} {pieces = pieces} v n h low high hw =
+is_line_opened_after {row} {pieces = pieces} v n h low high hw =
     let cells = sum_by-take-drop (λ (p : Piece). length p.cells) row.pieces n in
     let others = flat_map (λ (p : Piece). p.cells) (drop n row.pieces) in
     let same = take-take pieces n row.pieces low in
@@ -329,8 +329,8 @@ is_line_removed {row} {pieces = pieces} {word = word} n taken_wide h within wide
     let fewer = length-drop n row.pieces in
     let low = h.pieces_within in
     let rest : n + (pieces - n) ≡ pieces = omega arith in
-    let behind : drop (pieces - n) (drop n row.pieces) ≡ drop pieces row.pieces = drop-drop (pieces - n) n row.pieces ∙ ap (λ k. drop k row.pieces) rest in
-    let front : take (pieces - n) (drop n row.pieces) ≡ drop n (take pieces row.pieces) = sym (drop-take n (pieces - n) row.pieces) ∙ ap (λ k. drop n (take k row.pieces)) rest in
+    let afterwards : drop (pieces - n) (drop n row.pieces) ≡ drop pieces row.pieces = drop-drop (pieces - n) n row.pieces ∙ ap (λ k. drop k row.pieces) rest in
+    let prefix : take (pieces - n) (drop n row.pieces) ≡ drop n (take pieces row.pieces) = sym (drop-take n (pieces - n) row.pieces) ∙ ap (λ k. drop n (take k row.pieces)) rest in
     let part : take n (take pieces row.pieces) ≡ take n row.pieces = take-take n pieces row.pieces within in
     let widths = sum_by-take-drop piece_width (take pieces row.pieces) n in
     let first = ap pieces_width part in
@@ -340,10 +340,10 @@ is_line_removed {row} {pieces = pieces} {word = word} n taken_wide h within wide
       is_small = h.is_small;
       within = omega (arith, h.within);
       pieces_within = omega arith;
-      wide_is = ap pieces_width front ∙ (let e : pieces_width (drop n (take pieces row.pieces)) ≡ _ - taken_wide = omega arith in e);
+      wide_is = ap pieces_width prefix ∙ (let e : pieces_width (drop n (take pieces row.pieces)) ≡ _ - taken_wide = omega arith in e);
       gaps_within = All-drop (λ (p : Piece). join_width p.join ≤ 1365) n row.pieces h.gaps_within;
       gap_within = h.gap_within;
-      word_is = λ w e. rw behind (h.word_is w e);
+      word_is = λ w e. rw afterwards (h.word_is w e);
       no_word = λ none. let old = h.no_word none in (omega arith, old.1);
       title_is = h.title_is;
       no_title = h.no_title;
@@ -355,7 +355,7 @@ is_line_removed {row} {pieces = pieces} {word = word} n taken_wide h within wide
 pub is_line_titled : {row : Laid} {limit pieces wide : ℕ} {word : Option WordState} {gap : ℕ} {title : Option TitleState} (t : TitleState) → IsLine row limit pieces wide word gap title
     → parted_title t ≤ length row.title → IsLine row limit pieces wide word gap (Some t)
 is_line_titled {row} {word = word} {gap = gap} t h within =
-    is_line_behind row.last row.title word gap (Some t) h h.within h.gap_within h.word_is h.no_word
+    is_line_after row.last row.title word gap (Some t) h h.within h.gap_within h.word_is h.no_word
     (λ u e. let same : t ≡ u = (cc) in subst (λ (x : TitleState). parted_title x ≤ length row.title) same within) (λ none. absurd (let f : false ≡ true = none in cc))
 
 -- one cell more of a title
@@ -363,7 +363,7 @@ pub is_line_title_cell : {row : Laid} {limit pieces wide : ℕ} {word : Option W
     → is_none title ≡ false → pieces + read_cells row + length row.title < limit → IsLine (record row { title = row.title ++ x ∷ [] }) limit pieces wide word gap title
 is_line_title_cell {row} {word = word} {gap = gap} {title = title} x h some below =
     let longer = length-append row.title (x ∷ []) in
-    is_line_behind row.last (row.title ++ x ∷ []) word gap title h (omega arith) h.gap_within h.word_is h.no_word
+    is_line_after row.last (row.title ++ x ∷ []) word gap title h (omega arith) h.gap_within h.word_is h.no_word
     (λ t e. let old = h.title_is t e in omega arith) (λ none. absurd (let f : true ≡ false = sym none ∙ some in cc))
 
 -- what has no value is None
@@ -445,9 +445,9 @@ is_none_word None ps cells = refl
 is_none_word (Some w) ps cells = refl
 
 -- the pieces after the first ones
-pub pieces_behind : (n pieces : ℕ) (ps : List Piece) → n ≤ pieces
+pub pieces_after : (n pieces : ℕ) (ps : List Piece) → n ≤ pieces
     → (take (pieces - n) (drop n ps) ≡ drop n (take pieces ps)) × (drop (pieces - n) (drop n ps) ≡ drop pieces ps)
-pieces_behind n pieces ps h =
+pieces_after n pieces ps h =
     let rest : n + (pieces - n) ≡ pieces = omega arith in
     (sym (drop-take n (pieces - n) ps) ∙ ap (λ k. drop n (take k ps)) rest, drop-drop (pieces - n) n ps ∙ ap (λ k. drop k ps) rest)
 

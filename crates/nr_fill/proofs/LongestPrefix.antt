@@ -5,7 +5,7 @@ use Rattle.std.proofs.lemmas.List.{length-take-le, get_or-take, take-take, drop_
 use Rattle.std.proofs.lemmas.List.Sums.{sum_by-take-le, sum_by-cons}
 use Rattle.nr_vectors.specs.declared.cell.Cell.{Cell}
 use Rattle.nr_fill.specs.declared.piece.PieceSlot.{PieceSlot}
-use Rattle.nr_fill.specs.Cutting.{join_width, hyphen_width, hyphen_before, fits, most_that_fit, width, piece_width, front_width}
+use Rattle.nr_fill.specs.Cutting.{join_width, hyphen_width, hyphen_before, fits, most_that_fit, width, piece_width, prefix_width}
 use Rattle.nr_fill.specs.Piece.{Piece}
 use Rattle.nr_fill.specs.Slots.{pieces_of, cells_in_slots, slots_width}
 use Rattle.nr_fill.proofs.PiecesOf.{take-pieces_of, pieces_width-pieces_of}
@@ -35,20 +35,20 @@ most_that_fit_stays line ps (suc n) k h none =
     ]
 
 -- the width of the first pieces
-width_front_of : (slots : List PieceSlot) (cells : List Cell) (d : PieceSlot) → 0 < length slots → cells_in_slots slots ≤ length cells
+width_prefix_of : (slots : List PieceSlot) (cells : List Cell) (d : PieceSlot) → 0 < length slots → cells_in_slots slots ≤ length cells
     → width (pieces_of slots cells) + join_width (get_or slots 0 d).join ≡ slots_width slots
-width_front_of [] cells d h k = absurd (omega arith)
-width_front_of (slot ∷ slots) cells d h k =
+width_prefix_of [] cells d h k = absurd (omega arith)
+width_prefix_of (slot ∷ slots) cells d h k =
     let all = pieces_width-pieces_of (slot ∷ slots) cells k in
     let parts = sum_by-cons piece_width (record { join = slot.join; cells = take slot.len cells }) (pieces_of slots (drop slot.len cells)) in
     omega arith
 
-pub width_front : (slots : List PieceSlot) (cells : List Cell) (n : ℕ) (d : PieceSlot) → 0 < n → n ≤ length slots → cells_in_slots slots ≤ length cells
+pub width_prefix : (slots : List PieceSlot) (cells : List Cell) (n : ℕ) (d : PieceSlot) → 0 < n → n ≤ length slots → cells_in_slots slots ≤ length cells
     → width (take n (pieces_of slots cells)) + join_width (get_or slots 0 d).join ≡ slots_width (take n slots)
-width_front slots cells n d some within h =
+width_prefix slots cells n d some within h =
     let long = length-take-le n slots within in
     let part = sum_by-take-le (λ (s : PieceSlot). s.len) slots n in
-    rw (take-pieces_of n slots cells, ← get_or-take n slots 0 d some) (width_front_of (take n slots) cells d (omega arith) (omega arith))
+    rw (take-pieces_of n slots cells, ← get_or-take n slots 0 d some) (width_prefix_of (take n slots) cells d (omega arith) (omega arith))
 
 -- the hyphen after the first pieces
 pub hyphen_at : (slots : List PieceSlot) (cells : List Cell) (n : ℕ) (d : PieceSlot) → n < length slots → hyphen_before (drop n (pieces_of slots cells)) ≡ hyphen_width (get_or slots n d).join
@@ -71,14 +71,14 @@ pub too_wide : (line : ℕ) (slots : List PieceSlot) (cells : List Cell) (n wide
     → wide + join_width (get_or slots 0 d).join ≡ slots_width (take n slots) → line < wide
     → (m : ℕ) → n ≤ m → m ≤ length slots → fits line m (pieces_of slots cells) ≡ false
 too_wide line slots cells n wide d some h is far m more within =
-    let w = width_front slots cells m d (omega arith) within h in
+    let w = width_prefix slots cells m d (omega arith) within h in
     let grown = wider slots n m more in
     lt-leb _ _ (omega arith)
 
 -- the first pieces fit
-pub fits_front : (line : ℕ) (slots : List PieceSlot) (cells : List Cell) (n wide hyphen : ℕ) (d : PieceSlot) → 0 < n → n ≤ length slots → cells_in_slots slots ≤ length cells
+pub fits_prefix : (line : ℕ) (slots : List PieceSlot) (cells : List Cell) (n wide hyphen : ℕ) (d : PieceSlot) → 0 < n → n ≤ length slots → cells_in_slots slots ≤ length cells
     → wide + join_width (get_or slots 0 d).join ≡ slots_width (take n slots) → hyphen_before (drop n (pieces_of slots cells)) ≡ hyphen
     → fits line n (pieces_of slots cells) ≡ nat_le (wide + hyphen) line
-fits_front line slots cells n wide hyphen d some within h is hyphen_is =
-    let w = width_front slots cells n d some within h in
-    ap (λ k. nat_le k line) (let e : front_width n (pieces_of slots cells) ≡ wide + hyphen = omega arith in e)
+fits_prefix line slots cells n wide hyphen d some within h is hyphen_is =
+    let w = width_prefix slots cells n d some within h in
+    ap (λ k. nat_le k line) (let e : prefix_width n (pieces_of slots cells) ≡ wide + hyphen = omega arith in e)

@@ -8,7 +8,7 @@ use Rattle.nr_vectors.specs.declared.cell.Cell.{Cell}
 use Rattle.nr_vectors.specs.declared.cell.Look.{Look}
 use Rattle.nr_fill.specs.declared.line.LineCells.{LineCells}
 use Rattle.nr_settings.specs.declared.indents.Margins.{Margins}
-use Rattle.nr_fill.specs.declared.piece.Behind.{Behind}
+use Rattle.nr_fill.specs.declared.piece.CutAfter.{CutAfter}
 use Rattle.nr_fill.specs.declared.stops.Pending.{Pending}
 use Rattle.nr_fill.specs.declared.stops.Pending.TheVariants.{Nothing, AtPoint, ForStop}
 use Rattle.nr_settings.specs.declared.stops.StopKind.{StopKind}
@@ -51,7 +51,7 @@ pub text_cells-ended : (c : Collected) → text_cells (in_word ended c) ≡ text
 text_cells-ended c = let same = word_cells-ended c.word c refl in omega arith
 
 -- one cell more is 1 more
-pub line_cells-add_cell : (m : Margins) (b : Behind) (x : Cell) (c : Collected) → line_cells (add_cell m b x c) ≡ text_cells c + 1
+pub line_cells-add_cell : (m : Margins) (b : CutAfter) (x : Cell) (c : Collected) → line_cells (add_cell m b x c) ≡ text_cells c + 1
 line_cells-add_cell m b x c =
     let w = word_or_new c.gap c.word in
     let new = word_length-new c.gap c.word in

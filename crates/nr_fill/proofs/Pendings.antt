@@ -3,8 +3,8 @@ use Rattle.std.proofs.Common.{◌≡◌, ℕ, ◌+◌, ◌-◌, ◌≤◌, ◌<�
 use Rattle.std.proofs.lemmas.Bool.{cases_Bool, cases_lt, lt-ltb, le-ltb, ltb-true}
 use Rattle.std.proofs.lemmas.List.Sums.{sum_by-take-drop}
 use Rattle.nr_fill.specs.declared.line.WordState.{WordState}
-use Rattle.nr_fill.specs.declared.piece.Behind.{Behind}
-use Rattle.nr_fill.specs.declared.piece.Behind.TheVariants.{Letter, Hyphen, Dash}
+use Rattle.nr_fill.specs.declared.piece.CutAfter.{CutAfter}
+use Rattle.nr_fill.specs.declared.piece.CutAfter.TheVariants.{Letter, Hyphen, Dash}
 use Rattle.nr_fill.specs.declared.piece.Point.{Point}
 use Rattle.nr_fill.specs.declared.stops.Pending.{Pending}
 use Rattle.nr_fill.specs.declared.stops.Pending.TheVariants.{Nothing, AtPoint, ForStop}
@@ -41,16 +41,16 @@ needed_named q Nothing b k n h = elim (cases_Bool (nat_lt 0 n)) [
 needed_named q (AtPoint point) b k n h = elim (cases_Bool (nat_lt 0 n)) [ inl below ↦ rw below h | inr above ↦ rw above h ]
 needed_named q (ForStop f) b k n h = h
 
-pub needed_behind : (mark : Behind) (m : ℕ) (p : Pending) (b k n : ℕ) → cells_needed p b k ≤ n → cells_needed (pending_after mark m p) 0 k ≤ n + 1
-needed_behind Letter m (ForStop f) b k n h = omega arith
-needed_behind Hyphen m (ForStop f) b k n h = omega arith
-needed_behind Dash m (ForStop f) b k n h = omega arith
-needed_behind Letter m Nothing b k n h = omega arith
-needed_behind Letter m (AtPoint point) b k n h = omega arith
-needed_behind Hyphen m Nothing b k n h = elim (cases_Bool (nat_lt 1 m)) [ inl below ↦ rw below (omega arith) | inr above ↦ rw above (omega arith) ]
-needed_behind Hyphen m (AtPoint point) b k n h = elim (cases_Bool (nat_lt 1 m)) [ inl below ↦ rw below (omega arith) | inr above ↦ rw above (omega arith) ]
-needed_behind Dash m Nothing b k n h = elim (cases_Bool (nat_lt 2 m)) [ inl below ↦ rw below (omega arith) | inr above ↦ rw above (omega arith) ]
-needed_behind Dash m (AtPoint point) b k n h = elim (cases_Bool (nat_lt 2 m)) [ inl below ↦ rw below (omega arith) | inr above ↦ rw above (omega arith) ]
+pub needed_after : (mark : CutAfter) (m : ℕ) (p : Pending) (b k n : ℕ) → cells_needed p b k ≤ n → cells_needed (pending_after mark m p) 0 k ≤ n + 1
+needed_after Letter m (ForStop f) b k n h = omega arith
+needed_after Hyphen m (ForStop f) b k n h = omega arith
+needed_after Dash m (ForStop f) b k n h = omega arith
+needed_after Letter m Nothing b k n h = omega arith
+needed_after Letter m (AtPoint point) b k n h = omega arith
+needed_after Hyphen m Nothing b k n h = elim (cases_Bool (nat_lt 1 m)) [ inl below ↦ rw below (omega arith) | inr above ↦ rw above (omega arith) ]
+needed_after Hyphen m (AtPoint point) b k n h = elim (cases_Bool (nat_lt 1 m)) [ inl below ↦ rw below (omega arith) | inr above ↦ rw above (omega arith) ]
+needed_after Dash m Nothing b k n h = elim (cases_Bool (nat_lt 2 m)) [ inl below ↦ rw below (omega arith) | inr above ↦ rw above (omega arith) ]
+needed_after Dash m (AtPoint point) b k n h = elim (cases_Bool (nat_lt 2 m)) [ inl below ↦ rw below (omega arith) | inr above ↦ rw above (omega arith) ]
 
 pub needed_without_point : (p : Pending) (b k n : ℕ) → cells_needed p b k ≤ n → cells_needed (pending_without_point p) b k ≤ n
 needed_without_point Nothing b k n h = h
@@ -68,10 +68,10 @@ needed_more (AtPoint point) b k n m h = omega arith
 needed_more (ForStop f) b k n m h = omega arith
 
 -- cells after a point inside the piece
-pub needed_behind_point : (p : Pending) (b k m : ℕ) → is_for_stop p ≡ false → b < m → cells_needed p b k ≤ m
-needed_behind_point Nothing b k m other h = omega arith
-needed_behind_point (AtPoint point) b k m other h = omega arith
-needed_behind_point (ForStop f) b k m other h = absurd (let e : true ≡ false = other in cc)
+pub needed_after_point : (p : Pending) (b k m : ℕ) → is_for_stop p ≡ false → b < m → cells_needed p b k ≤ m
+needed_after_point Nothing b k m other h = omega arith
+needed_after_point (AtPoint point) b k m other h = omega arith
+needed_after_point (ForStop f) b k m other h = absurd (let e : true ≡ false = other in cc)
 
 -- a word with something else after it
 pub is_line_pending : {row : Laid} {limit pieces wide : ℕ} {w : WordState} {gap : ℕ} {title : Option TitleState} (p : Pending) (b : ℕ) → IsLine row limit pieces wide (Some w) gap title

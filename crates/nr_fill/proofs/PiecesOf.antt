@@ -7,7 +7,7 @@ use Rattle.std.proofs.lemmas.List.Sums.{sum_by-cons}
 use Rattle.nr_vectors.specs.declared.cell.Cell.{Cell}
 use Rattle.nr_fill.specs.declared.piece.Join.{Join}
 use Rattle.nr_fill.specs.declared.piece.PieceSlot.{PieceSlot}
-use Rattle.nr_fill.specs.Cutting.{join_width, piece_width, pieces_width, width, front_width, hyphen_before}
+use Rattle.nr_fill.specs.Cutting.{join_width, piece_width, pieces_width, width, prefix_width, hyphen_before}
 use Rattle.nr_fill.specs.Piece.{Piece, cells_in, join_before}
 use Rattle.nr_fill.specs.Slots.{pieces_of, cells_in_slots, slots_width, gap_slots}
 use Rattle.nr_fill.specs.Spreading.{gaps, is_gap}
@@ -105,6 +105,6 @@ width-le [] = omega arith
 width-le (p ∷ ps) = let all = sum_by-cons piece_width p ps in omega arith
 
 -- all of them have no hyphen after them
-pub front_width-all : (ps : List Piece) → front_width (length ps) ps ≡ width ps
-front_width-all ps =
+pub prefix_width-all : (ps : List Piece) → prefix_width (length ps) ps ≡ width ps
+prefix_width-all ps =
     ap₂ (λ a b. width a + hyphen_before b) (take_all (length ps) ps (omega arith)) (drop_all (length ps) ps (omega arith)) ∙ (let e : width ps + 0 ≡ width ps = omega arith in e)

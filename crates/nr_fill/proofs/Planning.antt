@@ -8,7 +8,7 @@ use Rattle.nr_fill.specs.declared.margins.Turn.{Turn}
 use Rattle.nr_fill.specs.declared.piece.Join.{Join}
 use Rattle.nr_fill.specs.declared.piece.Join.TheVariants.{Soft}
 use Rattle.nr_fill.specs.declared.title.TitleState.{TitleState}
-use Rattle.nr_fill.specs.Cutting.{pieces_width, piece_width, join_width, front_width, hyphen_before}
+use Rattle.nr_fill.specs.Cutting.{pieces_width, piece_width, join_width, prefix_width, hyphen_before}
 use Rattle.nr_fill.specs.Laid.{Laid}
 use Rattle.nr_fill.specs.PieceRow.{IsLine, collected_of}
 use Rattle.nr_fill.specs.Piece.{Piece, word_or_new, word_pieces}
@@ -17,16 +17,16 @@ use Rattle.nr_fill.proofs.PiecesOf.{width-first}
 use Rattle.nr_fill.proofs.Lines.{first_is, column_pieces, widths_small}
 
 -- the first n pieces, how wide they are with their first gap, and how wide that is
-pub record IsFront (row : Laid) (pieces n wide first : ℕ) : Type 0 where
-  pub front : take n (take pieces row.pieces) ≡ take n row.pieces
+pub record IsPrefix (row : Laid) (pieces n wide first : ℕ) : Type 0 where
+  pub prefix : take n (take pieces row.pieces) ≡ take n row.pieces
   pub first_within : first ≤ wide
   pub small : wide < 2 ^ 44
-  pub width : (hyphen : ℕ) → hyphen ≡ hyphen_before (drop n (take pieces row.pieces)) → wide - first + hyphen ≡ front_width n (take pieces row.pieces)
+  pub width : (hyphen : ℕ) → hyphen ≡ hyphen_before (drop n (take pieces row.pieces)) → wide - first + hyphen ≡ prefix_width n (take pieces row.pieces)
 
-pub is_front : {row : Laid} {limit pieces wide : ℕ} {word : Option WordState} {gap : ℕ} {title : Option TitleState} (n front_wide first : ℕ) (join : Join)
-    → IsLine row limit pieces wide word gap title → 0 < n → n ≤ pieces → front_wide ≡ pieces_width (take n row.pieces)
-    → ((p : Piece) (ps : List Piece) → row.pieces ≡ p ∷ ps → join ≡ p.join) → first ≡ join_width join → IsFront row pieces n front_wide first
-is_front {row} {pieces = pieces} n front_wide first join h some within wide_is join_is first_is_wide =
+pub is_prefix : {row : Laid} {limit pieces wide : ℕ} {word : Option WordState} {gap : ℕ} {title : Option TitleState} (n prefix_wide first : ℕ) (join : Join)
+    → IsLine row limit pieces wide word gap title → 0 < n → n ≤ pieces → prefix_wide ≡ pieces_width (take n row.pieces)
+    → ((p : Piece) (ps : List Piece) → row.pieces ≡ p ∷ ps → join ≡ p.join) → first ≡ join_width join → IsPrefix row pieces n prefix_wide first
+is_prefix {row} {pieces = pieces} n prefix_wide first join h some within wide_is join_is first_is_wide =
     let d : Piece = record { join = Soft; cells = [] } in
     let low = h.pieces_within in
     let long = length-take-le pieces row.pieces low in
@@ -34,14 +34,14 @@ is_front {row} {pieces = pieces} n front_wide first join h some within wide_is j
     let ps = take n (take pieces row.pieces) in
     let any : 0 < length ps = omega (arith, length-take n (take pieces row.pieces)) in
     let all = width-first ps d any in
-    let wide : front_wide ≡ pieces_width ps = wide_is ∙ ap pieces_width (sym part) in
+    let wide : prefix_wide ≡ pieces_width ps = wide_is ∙ ap pieces_width (sym part) in
     let head = first_is row.pieces join d (omega arith) join_is in
     let same : get_or ps 0 d ≡ get_or row.pieces 0 d = get_or-take n (take pieces row.pieces) 0 d some ∙ get_or-take pieces row.pieces 0 d (omega arith) in
     let width : first ≡ join_width (get_or ps 0 d).join = first_is_wide ∙ ap join_width head ∙ ap (λ (p : Piece). join_width p.join) (sym same) in
     let small = widths_small h in
     let taken = sum_by-take-le piece_width row.pieces n in
     record {
-      front = part;
+      prefix = part;
       first_within = omega arith;
       small = omega arith;
       width = λ hyphen is. omega arith;

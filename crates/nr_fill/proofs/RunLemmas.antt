@@ -4,7 +4,7 @@ use Rattle.std.proofs.lemmas.List.{get_or-take, length-map, length-take, length-
 use Rattle.nr_vectors.specs.declared.cell.Cell.{Cell}
 use Rattle.nr_vectors.specs.declared.cell.Look.{Look}
 use Rattle.nr_settings.specs.declared.indents.Margins.{Margins}
-use Rattle.nr_fill.specs.declared.piece.Behind.TheVariants.{Letter}
+use Rattle.nr_fill.specs.declared.piece.CutAfter.TheVariants.{Letter}
 use Rattle.nr_fill.specs.declared.stops.Pending.{Pending}
 use Rattle.nr_fill.specs.declared.stops.Pending.TheVariants.{Nothing, AtPoint, ForStop}
 use Rattle.nr_fill.specs.Piece.{Collected, Word, add_cell, add_cell_after, append, begins_line, end_word, ended, ended_at, ends_sentence, in_word, is_nil, one_blank_more, pending_after, pending_without_point, with_word, word_length, word_or_new}
@@ -31,10 +31,10 @@ run_sentence-last before look b (x ∷ bs) =
 
 -- ---- what waits after a letter
 
-behind_letter : (n : ℕ) (p : Pending) → pending_after Letter n p ≡ pending_without_point p
-behind_letter n Nothing = refl
-behind_letter n (AtPoint point) = refl
-behind_letter n (ForStop f) = refl
+after_letter : (n : ℕ) (p : Pending) → pending_after Letter n p ≡ pending_without_point p
+after_letter n Nothing = refl
+after_letter n (AtPoint point) = refl
+after_letter n (ForStop f) = refl
 
 -- no break point waits
 abbrev pub HasNoPoint : Pending → Type 0
@@ -70,7 +70,7 @@ add_cell-at_word m look b c w sentence none =
     let x : Cell = run_cell look b in
     ap (λ (k : Collected). record (in_word (add_cell_after Letter x) (in_word ended k)) { sentence = ends_sentence x }) (with_word-at_word m c w sentence)
     ∙ ap (λ (v : Word). at_word c (add_cell_after Letter x v) (ends_sentence x)) (ended_at-none w.pending w none)
-    ∙ ap (λ (p : Pending). at_word c (record (append (x ∷ []) w) { pending = p }) (ends_sentence x)) (behind_letter (word_length (append (x ∷ []) w)) w.pending)
+    ∙ ap (λ (p : Pending). at_word c (record (append (x ∷ []) w) { pending = p }) (ends_sentence x)) (after_letter (word_length (append (x ∷ []) w)) w.pending)
 
 -- one run after another
 run_after-cons : (look : Look) (b : ℕ) (bs : List ℕ) (w : Word) → run_after look bs (run_after look (b ∷ []) w) ≡ run_after look (b ∷ bs) w
@@ -98,7 +98,7 @@ add_cell-ended : (m : Margins) (look : Look) (b : ℕ) (c : Collected)
 add_cell-ended m look b c =
     let x : Cell = run_cell look b in
     let w = ended (word_or_new c.gap c.word) in
-    ap (λ (p : Pending). at_word (with_word m c) (record (append (x ∷ []) w) { pending = p }) (ends_sentence x)) (behind_letter (word_length (append (x ∷ []) w)) w.pending)
+    ap (λ (p : Pending). at_word (with_word m c) (record (append (x ∷ []) w) { pending = p }) (ends_sentence x)) (after_letter (word_length (append (x ∷ []) w)) w.pending)
 
 add_run-at_once : (m : Margins) (look : Look) (b : ℕ) (bs : List ℕ) (c : Collected)
     → add_run m look (b ∷ bs) c
@@ -146,20 +146,20 @@ add_word-none m look bs c none some = ap (λ (k : Collected). one_blank_more (en
 
 -- ---- a run of the bytes that there is room for
 
-module _ (count most : ℕ) (bytes : List ℕ) (front : count ≤ length (take most bytes)) where
+module _ (count most : ℕ) (bytes : List ℕ) (prefix : count ≤ length (take most bytes)) where
   -- it begins all bytes
-  pub taken_front : take count (take most bytes) ≡ take count bytes
-  taken_front = take-take count most bytes (omega (arith, front, length-take most bytes))
+  pub taken_prefix : take count (take most bytes) ≡ take count bytes
+  taken_prefix = take-take count most bytes (omega (arith, prefix, length-take most bytes))
 
-  pub length_front : length (take count bytes) ≡ count
-  length_front = length-take-le count bytes (omega (arith, front, length-take most bytes))
+  pub length_prefix : length (take count bytes) ≡ count
+  length_prefix = length-take-le count bytes (omega (arith, prefix, length-take most bytes))
 
   -- its last byte
-  pub last_front : 0 < count → get_or (take most bytes) (count - 1) 0 ≡ get_or (take count bytes) (length (take count bytes) - 1) 0
-  last_front some =
-      let within : count - 1 < most = omega (arith, some, front, length-take most bytes) in
+  pub last_prefix : 0 < count → get_or (take most bytes) (count - 1) 0 ≡ get_or (take count bytes) (length (take count bytes) - 1) 0
+  last_prefix some =
+      let within : count - 1 < most = omega (arith, some, prefix, length-take most bytes) in
       let below : count - 1 < count = omega (arith, some) in
-      get_or-take most bytes (count - 1) 0 within ∙ sym (get_or-take count bytes (count - 1) 0 below) ∙ ap (λ k. get_or (take count bytes) (k - 1) 0) (sym length_front)
+      get_or-take most bytes (count - 1) 0 within ∙ sym (get_or-take count bytes (count - 1) 0 below) ∙ ap (λ k. get_or (take count bytes) (k - 1) 0) (sym length_prefix)
 
   -- what it makes of a line in which neither a word nor a title is read
   module _ {row : Laid} {limit pieces wide : ℕ} {word : Option WordState} {gap : ℕ} {title : Option TitleState} (look : Look) (h : IsLine row limit pieces wide word gap title)
@@ -171,7 +171,7 @@ module _ (count most : ℕ) (bytes : List ℕ) (front : count ≤ length (take m
     nothing_read = nil_from_length row.last (untitled.no_word refl).1
 
     length_run : length (map (run_cell look) (take count (take most bytes))) ≡ count
-    length_run = length-map (take count (take most bytes)) (run_cell look) ∙ length-take-le count (take most bytes) front
+    length_run = length-map (take count (take most bytes)) (run_cell look) ∙ length-take-le count (take most bytes) prefix
 
     -- a word that goes on
     pub run_begun : (w : WordState) → w ≡ record { join = Gap gap; pending = Nothing; blanks = 0; parted = 0; wide = 0 }
@@ -179,7 +179,7 @@ module _ (count most : ℕ) (bytes : List ℕ) (front : count ≤ length (take m
     run_begun w is =
         let titled = untitled.no_title refl in
         let read = untitled.no_word refl in
-        rw (nothing_read, no_title) (is_line_begun w (map (run_cell look) (take count (take most bytes))) untitled is (omega (arith, titled, read, length_run, room, front, length-take most bytes)))
+        rw (nothing_read, no_title) (is_line_begun w (map (run_cell look) (take count (take most bytes))) untitled is (omega (arith, titled, read, length_run, room, prefix, length-take most bytes)))
 
     -- a word that a blank ends
     pub run_worded : count < most → IsLine (record row {

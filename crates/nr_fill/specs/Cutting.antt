@@ -30,12 +30,12 @@ hyphen_before [] = 0
 hyphen_before (p ∷ ps) = hyphen_width p.join
 
 -- the width of the first n pieces as a line of their own
-abbrev pub front_width : ℕ → List Piece → ℕ
-front_width n ps = width (take n ps) + hyphen_before (drop n ps)
+abbrev pub prefix_width : ℕ → List Piece → ℕ
+prefix_width n ps = width (take n ps) + hyphen_before (drop n ps)
 
 -- the first n pieces fit a line
 abbrev pub fits : ℕ → ℕ → List Piece → Bool
-fits line n ps = nat_le (front_width n ps) line
+fits line n ps = nat_le (prefix_width n ps) line
 
 -- the greatest number up to n of first pieces that fit
 abbrev pub most_that_fit : ℕ → List Piece → ℕ → ℕ

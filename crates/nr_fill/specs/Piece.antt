@@ -9,8 +9,8 @@ use Rattle.nr_fill.specs.declared.piece.Join.{Join}
 use Rattle.nr_fill.specs.declared.piece.Join.TheVariants.{Gap, Soft, Hard}
 use Rattle.nr_fill.specs.declared.piece.Point.{Point}
 use Rattle.nr_fill.specs.declared.piece.Point.TheVariants as points
-use Rattle.nr_fill.specs.declared.piece.Behind.{Behind}
-use Rattle.nr_fill.specs.declared.piece.Behind.TheVariants.{Letter, Hyphen, Dash}
+use Rattle.nr_fill.specs.declared.piece.CutAfter.{CutAfter}
+use Rattle.nr_fill.specs.declared.piece.CutAfter.TheVariants.{Letter, Hyphen, Dash}
 use Rattle.nr_settings.specs.declared.indents.Margins.{Margins}
 use Rattle.nr_fill.specs.declared.margins.Turn.{Turn}
 use Rattle.nr_fill.specs.declared.margins.Turn.TheVariants as turns
@@ -132,13 +132,13 @@ abbrev pub ended : Word → Word
 ended w = ended_at w.pending w
 
 -- how many cells a mark has at whose end a point may stand
-abbrev pub mark_cells : Behind → ℕ
+abbrev pub mark_cells : CutAfter → ℕ
 mark_cells Letter = 0
 mark_cells Hyphen = 1
 mark_cells Dash = 2
 
 -- A hard point stands after `-`, `\(hy` and `\(em` where the word, of n cells, has a cell before them. The text for a right or centring stop has none.
-abbrev pub pending_after : Behind → ℕ → Pending → Pending
+abbrev pub pending_after : CutAfter → ℕ → Pending → Pending
 pending_after mark n (ForStop f) = ForStop f
 pending_after Letter n pending = Nothing
 pending_after mark n pending = if nat_lt (mark_cells mark) n then AtPoint points.Hard else Nothing
@@ -214,14 +214,14 @@ abbrev pub append : List Cell → Word → Word
 append xs w = record w { last = record w.last { cells = w.last.cells ++ xs }; blanks = 0 }
 
 -- one cell more
-abbrev pub add_cell_after : Behind → Cell → Word → Word
-add_cell_after behind x w =
+abbrev pub add_cell_after : CutAfter → Cell → Word → Word
+add_cell_after afterwards x w =
     let longer = append (x ∷ []) w in
-    record longer { pending = pending_after behind (word_length longer) w.pending }
+    record longer { pending = pending_after afterwards (word_length longer) w.pending }
 
-abbrev pub add_cell : Margins → Behind → Cell → Collected → Collected
-add_cell margins behind x c =
-    record (in_word (add_cell_after behind x) (in_word ended (with_word margins c)))
+abbrev pub add_cell : Margins → CutAfter → Cell → Collected → Collected
+add_cell margins afterwards x c =
+    record (in_word (add_cell_after afterwards x) (in_word ended (with_word margins c)))
     { sentence = ends_sentence x }
 
 -- a blank of the text that is a cell, as others where a break point waits

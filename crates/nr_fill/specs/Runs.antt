@@ -4,7 +4,7 @@ use Rattle.std.specs.Prelude.{◌≡◌, ℕ, zero, suc, ◌+◌, ◌<◌, Bool,
 use Rattle.nr_vectors.specs.Cell.{blank}
 use Rattle.nr_vectors.specs.declared.cell.Look.{Look}
 use Rattle.nr_settings.specs.declared.indents.Margins.{Margins}
-use Rattle.nr_fill.specs.declared.piece.Behind.TheVariants.{Letter}
+use Rattle.nr_fill.specs.declared.piece.CutAfter.TheVariants.{Letter}
 use Rattle.nr_fill.specs.Piece.{Collected, Word, add_blank, add_cell, append, end_word, one_blank_more, pending_without_point}
 use Rattle.nr_fill.specs.Plain.{run_cell}
 
@@ -36,6 +36,6 @@ add_blanks margins zero c = c
 add_blanks margins (suc n) c = add_blanks margins n (add_blank margins c)
 
 -- so many blanks after the cells of a word
-abbrev pub blanks_behind : ℕ → Word → Word
-blanks_behind n w =
+abbrev pub blanks_after : ℕ → Word → Word
+blanks_after n w =
     record w { last = record w.last { cells = w.last.cells ++ replicate n blank }; blanks = w.blanks + n }

@@ -10,7 +10,7 @@ use Rattle.nr_settings.specs.declared.filling.Align.TheVariants.{Left, Spread, R
 use Rattle.nr_fill.specs.declared.setting.Extra.{Extra}
 use Rattle.nr_fill.specs.declared.setting.Setting.{Setting}
 use Rattle.nr_fill.specs.Piece.{Collected, begins_line}
-use Rattle.nr_fill.specs.Cutting.{front_width, hyphen_before, cut}
+use Rattle.nr_fill.specs.Cutting.{prefix_width, hyphen_before, cut}
 use Rattle.nr_fill.specs.Spreading.{gaps, no_extra, shared, other_turn, cells_in_line}
 
 -- the hyphen that a cut at a soft point prints
@@ -36,7 +36,7 @@ shift Centre e = e / 2
 
 -- what the first n pieces leave of the line
 abbrev pub left_over : Collected → ℕ → ℕ
-left_over c n = c.margins.length - front_width n c.pieces
+left_over c n = c.margins.length - prefix_width n c.pieces
 
 abbrev pub spreads : Align → Collected → ℕ → Bool
 spreads align c n = is_spread align (left_over c n) (gaps (take n c.pieces))
@@ -65,8 +65,8 @@ set_width s c n = length (trimmed (text_of s.align c n))
 
 -- What is left after the first n pieces. A line that begins with what is left, if only with the word that is being read, takes its margins
 -- now, and the turn changes after a line that was spread.
-abbrev pub without_front : ℕ → Bool → Margins → Collected → Collected
-without_front n spread margins c =
+abbrev pub without_prefix : ℕ → Bool → Margins → Collected → Collected
+without_prefix n spread margins c =
     let rest = drop n c.pieces in
     record c {
       pieces = rest;
@@ -74,8 +74,8 @@ without_front n spread margins c =
       turn = if spread then other_turn c.turn else c.turn;
     }
 
-abbrev pub behind : Margins → Align → Collected → ℕ → Collected
-behind margins align c n = without_front n (spreads align c n) margins c
+abbrev pub afterwards : Margins → Align → Collected → ℕ → Collected
+afterwards margins align c n = without_prefix n (spreads align c n) margins c
 
 -- the number of pieces of the next full line
 abbrev pub cut_of : Collected → ℕ

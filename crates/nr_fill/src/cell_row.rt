@@ -18,15 +18,15 @@ pub trait CellRow {
     ghost Holds: { Self → Items CellValue };
 
     /// Adds the first n of these cells.
-    fn add_front(&mut self, cells: &[Cell], n: usize)
-        requires front { n ≤ length cells.now }
+    fn add_prefix(&mut self, cells: &[Cell], n: usize)
+        requires prefix { n ≤ length cells.now }
         requires room { length (Holds self.old).items + n ≤ (Holds self.old).capacity }
         ensures items { (Holds self.new).items ≡ (Holds self.old).items ++ take n cells.now }
         ensures room { (Holds self.new).capacity ≡ (Holds self.old).capacity };
 
     /// Adds copies of a cell, and after them the first n of these cells.
     fn add_after_copies(&mut self, cell: Cell, copies: usize, cells: &[Cell], n: usize)
-        requires front { n ≤ length cells.now }
+        requires prefix { n ≤ length cells.now }
         requires room { length (Holds self.old).items + copies + n ≤ (Holds self.old).capacity }
         ensures items { (Holds self.new).items ≡ (Holds self.old).items ++ replicate copies cell
             ++ take n cells.now }
@@ -37,8 +37,8 @@ impl CellRow for FixedVec<Cell> {
     ghost Holds = { λ row. row };
 
     #[inline(always)]
-    fn add_front(&mut self, cells: &[Cell], n: usize) {
-        self.extend_front(cells, n);
+    fn add_prefix(&mut self, cells: &[Cell], n: usize) {
+        self.extend_prefix(cells, n);
     }
 
     #[inline(always)]
@@ -51,14 +51,14 @@ impl CellRow for SliceVec<'_, Cell> {
     ghost Holds = { λ row. row };
 
     #[inline(always)]
-    fn add_front(&mut self, cells: &[Cell], n: usize) {
-        self.extend_front(cells, n);
+    fn add_prefix(&mut self, cells: &[Cell], n: usize) {
+        self.extend_prefix(cells, n);
     }
 
     #[inline(always)]
     fn add_after_copies(&mut self, cell: Cell, copies: usize, cells: &[Cell], n: usize) {
         self.extend_copies(cell, copies);
-        self.extend_front(cells, n);
+        self.extend_prefix(cells, n);
     }
 }
 
@@ -75,7 +75,7 @@ pub fn lay_line<R: CellRow>(slots: &[PieceSlot], cells: &[Cell], extra: Extra, r
     ensures room { (R.Holds row.new).capacity ≡ (R.Holds row.old).capacity }
 {
     let mut taken = slots[0].len as usize;
-    row.add_front(cells, taken);
+    row.add_prefix(cells, taken);
     let mut gap = 1;
     let others = &slots[1..];
     for slot in others {

@@ -21,7 +21,7 @@ pub(crate) fn margins_after(margins: Margins, left: usize, wordless: bool, next:
 
 impl Turn {
     /// The turn after a line, which was spread or not.
-    pub(crate) fn behind(self, spread: bool) -> Self
+    pub(crate) fn afterwards(self, spread: bool) -> Self
         ensures { result ≡ (if spread then other_turn self else self) }
     {
         match (spread, self) {

@@ -28,7 +28,7 @@ pub enum Point {
 
 /// What kind of cell is read: whether a line may be cut after it.
 #[derive(Clone, Copy)]
-pub enum Behind {
+pub enum CutAfter {
     /// No break point stands after it.
     Letter,
     /// A `-` or `\(hy`: a hard point, where the word has a cell before it and one after it.
@@ -91,16 +91,16 @@ impl Join {
     }
 }
 
-impl Behind {
+impl CutAfter {
     /// How many cells a mark has at whose end a point may stand.
     #[inline]
     pub(crate) fn mark_cells(self) -> usize
         ensures { result ≡ mark_cells self }
     {
         match self {
-            Behind::Letter => 0,
-            Behind::Hyphen => 1,
-            Behind::Dash => 2,
+            CutAfter::Letter => 0,
+            CutAfter::Hyphen => 1,
+            CutAfter::Dash => 2,
         }
     }
 }

@@ -151,7 +151,7 @@ impl PieceRow {
     pub(crate) fn push_plain(&mut self, look: Look, bytes: &[u8]) -> usize
         requires room { read_cells self.old + length bytes.now ≤ self.old.capacity }
         requires no_title { self.old.title ≡ [] }
-        ensures front { result ≤ length bytes.now }
+        ensures prefix { result ≤ length bytes.now }
         ensures plain { All IsPlain (take result bytes.now) }
         ensures stops { result < length bytes.now → ¬ IsPlain (slice_index bytes.now result) }
         ensures cells { self.new ≡ record self.old
@@ -339,13 +339,13 @@ impl PieceRow {
     }
 
     /// Takes the first n pieces away, which have so many cells.
-    pub(crate) fn remove_front(&mut self, n: usize, cells: usize)
+    pub(crate) fn remove_prefix(&mut self, n: usize, cells: usize)
         requires within { n ≤ length self.old.pieces }
         requires cells { cells ≡ cells_in (take n self.old.pieces) }
         ensures { self.new ≡ record self.old { pieces = drop n self.old.pieces } }
     {
-        self.slots.remove_front(n);
-        self.cells.remove_front(cells);
+        self.slots.remove_prefix(n);
+        self.cells.remove_prefix(cells);
         self.pieced -= cells;
         self.read -= cells;
     }

@@ -19,7 +19,7 @@ pub(crate) fn is_plain(byte: u8) -> bool
 #[inline]
 pub(crate) fn set_plain(slots: &mut [Cell], look: Look, bytes: &[u8]) -> usize
     requires { length bytes.now ≤ length slots.old }
-    ensures front { result ≤ length bytes.now }
+    ensures prefix { result ≤ length bytes.now }
     ensures plain { All IsPlain (take result bytes.now) }
     ensures stops { result < length bytes.now → ¬ IsPlain (slice_index bytes.now result) }
     ensures cells { take result slots.new ≡ map (run_cell look) (take result bytes.now) }

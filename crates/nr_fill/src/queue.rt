@@ -1,4 +1,4 @@
-// Items that come in at the end and go out at the front, whose capacity is taken once.
+// Items that come in at the end and go out at the beginning, whose capacity is taken once.
 ghost use Rattle.std.specs.Prelude.{◌≡◌, ◌+◌, ◌-◌, ◌<◌, ◌≤◌, [], ◌∷◌, ◌++◌, length, map, take, drop, replicate, slice_index, All, IfOk};
 ghost use Rattle.nr_fill.specs.Plain.{IsPlain, run_cell};
 
@@ -8,7 +8,7 @@ use nr_vectors::{CountedAlloc, ReservedVec};
 use std::alloc::AllocError;
 use std::marker::Model;
 
-/// Items, and room for a number of them that stays; `new` is the only call that allocates. A front that is taken away stays
+/// Items, and room for a number of them that stays; `new` is the only call that allocates. A prefix that is taken away stays
 /// where it is until it is as long as what is left or its place is needed, so that taking a prefix costs no more than it had
 /// items.
 #[derive(Drop)]
@@ -64,13 +64,13 @@ fn make_room<T: Copy>(
     if n <= slots.len() - span.end {
         return span;
     }
-    move_to_front(slots, capacity, span, n, item)
+    move_to_start(slots, capacity, span, n, item)
 }
 
-/// The same where there are not so many: the items move to the front. There are slots for twice as many items and n more then, if
+/// The same where there are not so many: the items move to the beginning. There are slots for twice as many items and n more then, if
 /// there is room for so many.
 #[cold]
-fn move_to_front<T: Copy>(
+fn move_to_start<T: Copy>(
     slots: &mut ReservedVec<T>,
     capacity: usize,
     span: Span,
@@ -110,7 +110,7 @@ impl Queue<Cell> {
     #[inline]
     pub(crate) fn push_plain(&mut self, look: Look, bytes: &[u8]) -> usize
         requires { length self.old.items + length bytes.now ≤ self.old.capacity }
-        ensures front { result ≤ length bytes.now }
+        ensures prefix { result ≤ length bytes.now }
         ensures plain { All IsPlain (take result bytes.now) }
         ensures stops { result < length bytes.now → ¬ IsPlain (slice_index bytes.now result) }
         ensures items { self.new.items ≡ self.old.items ++ map (run_cell look) (take result bytes.now) }
@@ -225,7 +225,7 @@ impl<T: Copy> Queue<T> {
     }
 
     /// Takes the first n items away.
-    pub(crate) fn remove_front(&mut self, n: usize)
+    pub(crate) fn remove_prefix(&mut self, n: usize)
         requires { n ≤ length self.old.items }
         ensures items { self.new.items ≡ drop n self.old.items }
         ensures room { self.new.capacity ≡ self.old.capacity }

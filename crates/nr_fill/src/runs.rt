@@ -25,7 +25,7 @@ pub struct WordRun {
 
 /// How many blanks these bytes begin with.
 fn count_blanks(bytes: &[u8]) -> usize
-    ensures front { result ≤ length bytes.now }
+    ensures prefix { result ≤ length bytes.now }
     ensures blanks { take result bytes.now ≡ replicate result (code " ") }
 {
     let mut count = 0;
@@ -46,7 +46,7 @@ impl Line {
     /// Proved: A run of plain bytes, and a word with the blank after it, are put as byte by byte, as many as can be.
     /// (`Line::{put_run, put_word}`)
     pub fn put_run(&mut self, margins: Margins, look: Look, bytes: &[u8]) -> usize
-        ensures front { result ≤ length bytes.now }
+        ensures prefix { result ≤ length bytes.now }
         ensures plain { All IsPlain (take result bytes.now) }
         ensures cells { self.new ≡ record self.old
             { collected = add_run margins look (take result bytes.now) self.old.collected } }
@@ -69,7 +69,7 @@ impl Line {
     /// up only where the line may take them.
     #[inline(always)]
     pub fn put_word(&mut self, indents: &Indents, look: Look, ends: bool, bytes: &[u8]) -> WordRun
-        ensures front { result.count ≤ length bytes.now }
+        ensures prefix { result.count ≤ length bytes.now }
         ensures plain { All IsPlain (take result.count bytes.now) }
         ensures run { result.ended ≡ false → self.new ≡ record self.old {
           collected = add_run (margins_of indents.now) look (take result.count bytes.now)
@@ -102,7 +102,7 @@ impl Line {
     fn put_new_word(&mut self, indents: &Indents, look: Look, bytes: &[u8]) -> WordRun
         requires word { self.old.collected.word ≡ None }
         requires title { self.old.collected.title ≡ None }
-        ensures front { result.count ≤ length bytes.now }
+        ensures prefix { result.count ≤ length bytes.now }
         ensures plain { All IsPlain (take result.count bytes.now) }
         ensures run { result.ended ≡ false → self.new ≡ record self.old {
           collected = add_run (margins_of indents.now) look (take result.count bytes.now)
@@ -171,7 +171,7 @@ impl Line {
         requires word { is_none self.old.collected.word ≡ false }
         requires no_title { self.old.collected.title ≡ None }
         ensures some { 0 < result }
-        ensures front { result ≤ length bytes.now }
+        ensures prefix { result ≤ length bytes.now }
         ensures plain { All IsPlain (take result bytes.now) }
         ensures stops { result < length bytes.now → ¬ IsPlain (slice_index bytes.now result) }
         ensures cells { self.new ≡ record self.old {
@@ -200,7 +200,7 @@ impl Line {
     /// Proved: Blanks that are cells are put as one by one, each within the limit; how many is not claimed, and costs
     /// speed alone.
     pub fn put_blanks(&mut self, margins: Margins, bytes: &[u8]) -> usize
-        ensures front { result ≤ length bytes.now }
+        ensures prefix { result ≤ length bytes.now }
         ensures blanks { take result bytes.now ≡ replicate result (code " ") }
         ensures cells { self.new ≡ record self.old
             { collected = add_blanks margins result self.old.collected } }

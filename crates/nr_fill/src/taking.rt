@@ -4,7 +4,7 @@ ghost use Rattle.nr_vectors.specs.Cell.{blank, trimmed};
 ghost use Rattle.nr_fill.specs.Cutting.{hyphen_before, pieces_width};
 ghost use Rattle.nr_fill.specs.Piece.{cells_in};
 ghost use Rattle.nr_fill.specs.Spreading.{cells_in_line, gaps};
-ghost use Rattle.nr_fill.specs.Setting.{behind, cut_of, extra_of, hyphens, left_over, line_row, set_width, shift, spreads, without_front};
+ghost use Rattle.nr_fill.specs.Setting.{afterwards, cut_of, extra_of, hyphens, left_over, line_row, set_width, shift, spreads, without_prefix};
 
 use crate::cells::CellSink;
 use crate::cutting::Sums;
@@ -15,7 +15,7 @@ use nr_vectors::cell::{Cell, Look};
 
 /// What the first pieces of a line come to.
 #[derive(Clone, Copy)]
-struct Front {
+struct Prefix {
     sums: Sums,
     hyphens: u16,
     /// How many cells of the line's length are left over.
@@ -64,12 +64,12 @@ impl Line {
         ensures width { result ≡ set_width setting self.old.collected (cut_of self.old.collected) }
         ensures small { result < 2 ^ 48 }
         ensures rest { self.new ≡ record self.old
-            { collected = behind next setting.align self.old.collected (cut_of self.old.collected) } }
+            { collected = afterwards next setting.align self.old.collected (cut_of self.old.collected) } }
     {
         let n = self
             .row
             .longest_prefix(self.pieces, self.wide, self.margins.length as usize);
-        self.take_front(n, next, setting, out)
+        self.take_prefix(n, next, setting, out)
     }
 
     /// Sets all pieces as one line in a row, after what stands there, as in no-fill mode and where lines are centred.
@@ -84,13 +84,13 @@ impl Line {
         ensures width { result ≡ set_width setting self.old.collected (length self.old.collected.pieces) }
         ensures small { result < 2 ^ 48 }
         ensures rest { self.new ≡ record self.old
-            { collected = behind next setting.align self.old.collected (length self.old.collected.pieces) } }
+            { collected = afterwards next setting.align self.old.collected (length self.old.collected.pieces) } }
     {
-        self.take_front(self.pieces, next, setting, out)
+        self.take_prefix(self.pieces, next, setting, out)
     }
 
     /// The first n pieces go out as one line.
-    fn take_front<S: CellSink>(
+    fn take_prefix<S: CellSink>(
         &mut self,
         n: usize,
         next: Margins,
@@ -103,7 +103,7 @@ impl Line {
         ensures width { result ≡ set_width setting self.old.collected n }
         ensures small { result < 2 ^ 48 }
         ensures rest { self.new ≡ record self.old
-            { collected = behind next setting.align self.old.collected n } }
+            { collected = afterwards next setting.align self.old.collected n } }
     {
         let plan = self.plan(n, setting);
         let width = self.set(n, plan, out);
@@ -112,7 +112,7 @@ impl Line {
     }
 
     /// What the first n pieces come to as a line.
-    fn front(&self, n: usize) -> Front
+    fn prefix(&self, n: usize) -> Prefix
         requires some { 0 < n }
         requires within { n ≤ length self.now.collected.pieces }
         ensures left_over { result.left_over ≡ left_over self.now.collected n }
@@ -128,7 +128,7 @@ impl Line {
         let first = usize::from(self.row.first_join().width());
         let hyphens = self.row.hyphen(n, self.pieces);
         let width = sums.wide - first + usize::from(hyphens);
-        Front {
+        Prefix {
             sums,
             hyphens,
             left_over: (self.margins.length as usize).saturating_sub(width),
@@ -152,11 +152,11 @@ impl Line {
         ensures cells { result.cells ≡ cells_in (take n self.now.collected.pieces) }
         ensures wide { result.wide ≡ pieces_width (take n self.now.collected.pieces) }
     {
-        let Front {
+        let Prefix {
             sums,
             hyphens,
             left_over,
-        } = self.front(n);
+        } = self.prefix(n);
         let spread = spreads_gaps(setting.align, left_over, sums.gaps);
         let shift = shift_of(setting.align, left_over);
         Plan {
@@ -207,12 +207,12 @@ impl Line {
         requires cells { plan.cells ≡ cells_in (take n self.old.collected.pieces) }
         requires wide { plan.wide ≡ pieces_width (take n self.old.collected.pieces) }
         ensures { self.new ≡ record self.old
-            { collected = without_front n plan.spread next self.old.collected } }
+            { collected = without_prefix n plan.spread next self.old.collected } }
     {
-        self.row.remove_front(n, plan.cells);
+        self.row.remove_prefix(n, plan.cells);
         self.pieces -= n;
         self.wide -= plan.wide;
-        self.turn = self.turn.behind(plan.spread);
+        self.turn = self.turn.afterwards(plan.spread);
         self.margins = margins_after(self.margins, self.pieces, self.word.is_none(), next);
     }
 }

@@ -2,11 +2,11 @@
 ghost use Rattle.std.specs.Prelude.{◌≡◌, ◌+◌, ◌<◌, ◌≤◌, ◌++◌, ◌∷◌, [], None, OnOk, OnErr, false, replicate};
 ghost use Rattle.nr_fill.specs.Line.{afforded};
 ghost use Rattle.nr_fill.specs.Piece.{Word, add_blank, add_cell, add_cell_after, add_cells, after_newline, append, barred_here, end_word, ended, ends_in_joint, ends_sentence, hyphenated, in_word, is_inside, joined, line_cells, marked, one_blank_more, pending_after, pending_named, pending_soft, pending_without_point, pointed_here, text_cells, with_blanks_kept, with_word, without_blanks};
-ghost use Rattle.nr_fill.specs.Runs.{blanks_behind};
+ghost use Rattle.nr_fill.specs.Runs.{blanks_after};
 
 use crate::line::{Line, LineCells, WIDEST_GAP, WordState};
 use crate::margins::Margins;
-use crate::piece::{Behind, Join, Point};
+use crate::piece::{CutAfter, Join, Point};
 use crate::stops::Pending;
 use nr_vectors::cell::Cell;
 
@@ -56,14 +56,14 @@ impl WordState {
 impl Pending {
     /// Goes on after a cell, where the word has n cells then.
     #[inline]
-    fn step_after(&mut self, mark: Behind, n: usize)
+    fn step_after(&mut self, mark: CutAfter, n: usize)
         ensures { self.new ≡ pending_after mark n self.old }
     {
         if matches!(self, Pending::ForStop(_)) {
             return;
         }
         *self = match mark {
-            Behind::Letter => Pending::Nothing,
+            CutAfter::Letter => Pending::Nothing,
             _ if mark.mark_cells() < n => Pending::AtPoint(Point::Hard),
             _ => Pending::Nothing,
         };
@@ -153,11 +153,16 @@ impl Line {
     /// (`Line::{put, put_blank, put_cells, end_word}`; `Line::{tab, end_field}` in tabs.rt; `Line::put_title` in
     /// titling.rt)
     #[inline(always)]
-    pub fn put(&mut self, margins: Margins, cell: Cell, behind: Behind) -> Result<(), LineCells>
+    pub fn put(
+        &mut self,
+        margins: Margins,
+        cell: Cell,
+        afterwards: CutAfter,
+    ) -> Result<(), LineCells>
         ensures result { result
-            ≡ afforded (record self.old { collected = add_cell margins behind cell self.old.collected }) }
+            ≡ afforded (record self.old { collected = add_cell margins afterwards cell self.old.collected }) }
         ensures ok { OnOk result (self.new ≡ record self.old
-            { collected = add_cell margins behind cell self.old.collected }) }
+            { collected = add_cell margins afterwards cell self.old.collected }) }
         ensures err { OnErr result (self.new ≡ self.old) }
     {
         if self.text_measure() == self.limit {
@@ -165,17 +170,17 @@ impl Line {
         }
         self.open_word(margins);
         self.end_piece();
-        self.push_cell(cell, behind);
+        self.push_cell(cell, afterwards);
         Ok(())
     }
 
     /// One more cell of the piece that is being read.
     #[inline(always)]
-    fn push_cell(&mut self, cell: Cell, behind: Behind)
+    fn push_cell(&mut self, cell: Cell, afterwards: CutAfter)
         requires room { text_cells self.old.collected < self.old.limit }
         requires no_title { self.old.collected.title ≡ None }
         ensures { self.new ≡ record self.old {
-          collected = record (in_word (add_cell_after behind cell) self.old.collected)
+          collected = record (in_word (add_cell_after afterwards cell) self.old.collected)
               { sentence = ends_sentence cell };
         } }
     {
@@ -183,7 +188,7 @@ impl Line {
         if let Some(word) = &mut self.word {
             self.row.push(cell);
             let n = word.parted + self.row.last_len();
-            word.pending.step_after(behind, n);
+            word.pending.step_after(afterwards, n);
             word.blanks = 0;
         }
     }
@@ -213,7 +218,7 @@ impl Line {
         requires room { text_cells self.old.collected + n ≤ self.old.limit }
         requires no_title { self.old.collected.title ≡ None }
         ensures { self.new ≡ record self.old {
-          collected = record (in_word (blanks_behind n) self.old.collected)
+          collected = record (in_word (blanks_after n) self.old.collected)
               { sentence = false };
         } }
     {

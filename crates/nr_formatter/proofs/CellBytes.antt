@@ -6,7 +6,7 @@ use Rattle.std.proofs.lemmas.Bool.{cond_both, eqb-true}
 use Rattle.nr_vectors.specs.declared.cell.Cell.{Cell}
 use Rattle.nr_settings.specs.declared.indents.Margins.{Margins}
 use Rattle.nr_settings.specs.declared.stops.Stop.{Stop}
-use Rattle.nr_fill.specs.declared.piece.Behind.TheVariants.{Hyphen}
+use Rattle.nr_fill.specs.declared.piece.CutAfter.TheVariants.{Hyphen}
 use Rattle.nr_fill.specs.Piece.{Collected, add_cells, begins_line, is_nil}
 use Rattle.nr_fill.specs.Tabs.{column, first_beyond, is_aligned, to_stop}
 use Rattle.nr_reading.specs.declared.event.Event.TheVariants as events

@@ -32,9 +32,9 @@ manner_bytes [] f g puts = ap manner_of puts
 manner_bytes (b ∷ bs) f g puts = manner_bytes bs (byte_put b f) g puts.1
 
 -- some after others
-pub puts_behind : (bs cs : List ℕ) (f g h : Formatter) → PutsCellBytes bs f g → PutsCellBytes cs g h → PutsCellBytes (bs ++ cs) f h
-puts_behind [] cs f g h puts more = subst (λ (x : Formatter). PutsCellBytes cs x h) puts more
-puts_behind (b ∷ bs) cs f g h puts more = (puts.0, puts_behind bs cs (byte_put b f) g h puts.1 more)
+pub puts_after : (bs cs : List ℕ) (f g h : Formatter) → PutsCellBytes bs f g → PutsCellBytes cs g h → PutsCellBytes (bs ++ cs) f h
+puts_after [] cs f g h puts more = subst (λ (x : Formatter). PutsCellBytes cs x h) puts more
+puts_after (b ∷ bs) cs f g h puts more = (puts.0, puts_after bs cs (byte_put b f) g h puts.1 more)
 
 -- a byte that was not refused passes no limit
 fits_afforded : (v : Lined) (u : Unit {0}) → ◌≡◌ {A = Result (Unit {0}) LineCells} (Ok u) (afforded v) → line_cells v.collected ≤ v.limit
@@ -52,7 +52,7 @@ byte_taken b f g (Err e) line goes is put err = absurd (let wrong : true ≡ fal
 pub puts_one : (n b : ℕ) (bs : List ℕ) (f g h : Formatter) → n < length bs → slice_index bs n ≡ b → PutsCellBytes (take n bs) f g → IsCellByte b g → h ≡ byte_put b g
     → PutsCellBytes (take (n + 1) bs) f h
 puts_one n b bs f g h below is puts byte put =
-    subst (λ xs. PutsCellBytes xs f h) (sym (take_more bs n 0 below ∙ ap (λ c. take n bs ++ c ∷ []) is)) (puts_behind (take n bs) (b ∷ []) f g h puts (byte, put))
+    subst (λ xs. PutsCellBytes xs f h) (sym (take_more bs n 0 below ∙ ap (λ c. take n bs ++ c ∷ []) is)) (puts_after (take n bs) (b ∷ []) f g h puts (byte, put))
 
 -- blanks, which are added at once
 pub puts_blanks : (n : ℕ) (f : Formatter) → is_in_line f ≡ true → goes_to_word (code " ") f ≡ true → (0 < n → line_cells (add_blanks (margins f) n (collected f)) ≤ f.line.limit)

@@ -22,7 +22,7 @@ use Rattle.nr_formatter.specs.declared.formatter.Formatter.{Formatter}
 use Rattle.nr_formatter.specs.Access.{collected, spacing, diversion}
 use Rattle.nr_formatter.specs.DiversionRow.{diverted_cells}
 use Rattle.nr_formatter.specs.Diversions.{divert_line, divert_title, trap_reached, with_diverted_cell, with_diverted_end, with_diverted_space}
-use Rattle.nr_formatter.specs.Lines.{pieces_going, rest_behind, row_going}
+use Rattle.nr_formatter.specs.Lines.{pieces_going, rest_after, row_going}
 use Rattle.nr_formatter.specs.Weights.{Falls, weight, owed, steps_left, weight_of_built, weight_of_diversion, weight_of_diversions, weight_of_line, weight_of_name}
 
 -- ---- the line
@@ -35,13 +35,13 @@ either-pos false m n some more = more
 pieces_going-pos : (going : Going) (c : Collected) → 0 < length c.pieces → 0 < pieces_going going c
 pieces_going-pos going c some = either-pos going.whole (length c.pieces) (cut_of c) some (omega arith)
 
-pub rest_behind-fewer : (going : Going) (f : Formatter) → 0 < length (collected f).pieces → length (rest_behind going f).pieces < length (collected f).pieces
-rest_behind-fewer going f some =
+pub rest_after-fewer : (going : Going) (f : Formatter) → 0 < length (collected f).pieces → length (rest_after going f).pieces < length (collected f).pieces
+rest_after-fewer going f some =
     let out = pieces_going-pos going (collected f) some in
     omega (arith, length-drop (pieces_going going (collected f)) (collected f).pieces)
 
-line-lighter : (going : Going) (f : Formatter) → 0 < length (collected f).pieces → weight_of_line (rest_behind going f) + 5 ≤ weight_of_line (collected f)
-line-lighter going f some = let fewer = rest_behind-fewer going f some in omega arith
+line-lighter : (going : Going) (f : Formatter) → 0 < length (collected f).pieces → weight_of_line (rest_after going f) + 5 ≤ weight_of_line (collected f)
+line-lighter going f some = let fewer = rest_after-fewer going f some in omega arith
 
 -- ---- the diversions
 

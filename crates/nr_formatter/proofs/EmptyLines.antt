@@ -10,8 +10,8 @@ use Rattle.nr_fill.specs.Piece.{begins_line, is_nil}
 use Rattle.nr_reading.specs.declared.ask.Ask.{Ask}
 use Rattle.nr_reading.specs.declared.event.Event.TheVariants as events
 use Rattle.nr_reading.specs.declared.half.Half.{Half}
-use Rattle.nr_reading.specs.declared.mode.Due.{Due}
-use Rattle.nr_reading.specs.declared.mode.Due.TheVariants as dues
+use Rattle.nr_reading.specs.declared.mode.PendingAct.{PendingAct}
+use Rattle.nr_reading.specs.declared.mode.PendingAct.TheVariants as pending_acts
 use Rattle.nr_reading.specs.declared.mode.Escape.{Escape}
 use Rattle.nr_reading.specs.declared.mode.Escape.TheVariants as escapes
 use Rattle.nr_reading.specs.declared.mode.Mode.{Mode}
@@ -207,20 +207,20 @@ falls_gone f is room =
 
 -- ---- at a line's beginning
 
-at_line_by : (m : Mode) (e : Escape) (d : Due) (asks : List Ask) → is_at_line_by m e d asks ≡ true → (m ≡ modes.Start) × (e ≡ escapes.Plain) × (d ≡ dues.Look) × (asks ≡ [])
-at_line_by modes.Start escapes.Plain dues.Look [] is = (refl, refl, refl, refl)
-at_line_by modes.Start escapes.Plain dues.Look (a ∷ asks) is = absurd (let wrong : false ≡ true = is in cc)
+at_line_by : (m : Mode) (e : Escape) (d : PendingAct) (asks : List Ask) → is_at_line_by m e d asks ≡ true → (m ≡ modes.Start) × (e ≡ escapes.Plain) × (d ≡ pending_acts.Look) × (asks ≡ [])
+at_line_by modes.Start escapes.Plain pending_acts.Look [] is = (refl, refl, refl, refl)
+at_line_by modes.Start escapes.Plain pending_acts.Look (a ∷ asks) is = absurd (let wrong : false ≡ true = is in cc)
 at_line_by m e d asks is = absurd (let wrong : false ≡ true = is in cc)
 
 pub at_line : (h : Half) → is_at_line h ≡ true → IsAtLine h
 at_line h is =
-    let all = and_parts (is_at_line_by h.reading.mode h.reading.escape h.reading.due h.asks) (ends_lines h.signs) is in
-    let reading = at_line_by h.reading.mode h.reading.escape h.reading.due h.asks all.0 in
+    let all = and_parts (is_at_line_by h.reading.mode h.reading.escape h.reading.pending_act h.asks) (ends_lines h.signs) is in
+    let reading = at_line_by h.reading.mode h.reading.escape h.reading.pending_act h.asks all.0 in
     let signs = and_parts (not (h.signs.control == code "\n")) (not (h.signs.no_break == code "\n")) all.1 in
     record {
       mode = reading.0;
       escape = reading.1;
-      due = reading.2;
+      pending_act = reading.2;
       asks = reading.3;
       control = not-true (h.signs.control == code "\n") signs.0;
       no_break = not-true (h.signs.no_break == code "\n") signs.1;

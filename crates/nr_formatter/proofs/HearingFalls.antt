@@ -7,7 +7,7 @@ use Rattle.nr_reading.specs.declared.event.Event.TheVariants as events
 use Rattle.nr_reading.specs.declared.half.Half.{Half}
 use Rattle.nr_reading.specs.Conditionals.{judged, part_mode, answer_of}
 use Rattle.nr_reading.specs.Weights.{blanks_of_mode}
-use Rattle.nr_reading.specs.declared.mode.Due.TheVariants as dues
+use Rattle.nr_reading.specs.declared.mode.PendingAct.TheVariants as pending_acts
 use Rattle.nr_input.specs.Acting.{next}
 use Rattle.nr_input.specs.Weights.{Splices}
 use Rattle.nr_input.specs.declared.refusal.Refusal.{Refusal}
@@ -101,8 +101,8 @@ falls-control e f is some = falls-heard e f.task f is (omega arith) (omega arith
 -- ---- what is spliced
 
 -- what is owed for a title rises by no more than that
-spliced_owes : (t : Task) (h : Half) → owed_by_task t (next dues.Look h) ≤ owed_by_task t h + 1000
-spliced_owes (tasks.Room rooms.Title) h = omega (arith, title_costs (next dues.Look h))
+spliced_owes : (t : Task) (h : Half) → owed_by_task t (next pending_acts.Look h) ≤ owed_by_task t h + 1000
+spliced_owes (tasks.Room rooms.Title) h = omega (arith, title_costs (next pending_acts.Look h))
 spliced_owes (tasks.Room rooms.Line) h = omega arith
 spliced_owes t h = omega arith
 

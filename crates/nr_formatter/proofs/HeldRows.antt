@@ -60,13 +60,13 @@ holds_blank {before} {store} {row} {blanks} {refused} cell now agrees h now_is =
 }
 
 -- a cell that is no blank, after plain ones
-ends_behind : (front : List Cell) (cell : Cell) → is_blank cell ≡ false → (xs : List Cell) → trimmed (xs ++ (front ++ cell ∷ [])) ≡ xs ++ (front ++ cell ∷ [])
-ends_behind front cell some xs =
-    subst (λ (zs : List Cell). trimmed zs ≡ zs) (append_assoc xs front (cell ∷ [])) (trimmed-some (xs ++ front) cell some)
+ends_after : (prefix : List Cell) (cell : Cell) → is_blank cell ≡ false → (xs : List Cell) → trimmed (xs ++ (prefix ++ cell ∷ [])) ≡ xs ++ (prefix ++ cell ∷ [])
+ends_after prefix cell some xs =
+    subst (λ (zs : List Cell). trimmed zs ≡ zs) (append_assoc xs prefix (cell ∷ [])) (trimmed-some (xs ++ prefix) cell some)
 
 -- one that is no blank by itself
 pub ends_one : (cell : Cell) → is_blank cell ≡ false → EndsRow (cell ∷ [])
-ends_one cell some = record { plain_is = ap (λ (x : Cell). x ∷ []) (plain-some cell some); all_written = ends_behind [] cell some }
+ends_one cell some = record { plain_is = ap (λ (x : Cell). x ∷ []) (plain-some cell some); all_written = ends_after [] cell some }
 
 -- a blank that looks plain is a plain blank
 plain_look : (look : Look) (byte : ℕ) → (not (is_plain look) && (byte == code " ")) ≡ false → plain (record { byte = byte; look = look }) ≡ record { byte = byte; look = look }
@@ -96,7 +96,7 @@ ends_row cells d some none last =
     let all : cells ≡ take n cells ++ cell ∷ [] = sym (take_all (n + 1) cells (omega (arith, one))) ∙ take_more cells n d (omega (arith, some)) in
     record {
       plain_is = plain_cells cells none;
-      all_written = λ xs. subst (λ (zs : List Cell). trimmed (xs ++ zs) ≡ xs ++ zs) (sym all) (ends_behind (take n cells) cell (ne_eqb cell.byte (code " ") last) xs);
+      all_written = λ xs. subst (λ (zs : List Cell). trimmed (xs ++ zs) ≡ xs ++ zs) (sym all) (ends_after (take n cells) cell (ne_eqb cell.byte (code " ") last) xs);
     }
 
 -- the row up to such cells
@@ -142,20 +142,20 @@ counted_all v (b ∷ bs) is done blanks waiting cells counted few =
 
 -- such cells, where nothing was refused before
 module _ {before store : Stored Resume} {row : List Cell} {blanks : ℕ} (cells : List Cell) (ends : EndsRow cells) (h : HoldsRow before row store blanks false) where
-  abbrev pub behind : List Cell
-  behind = replicate blanks blank ++ cells
+  abbrev pub afterwards : List Cell
+  afterwards = replicate blanks blank ++ cells
 
-  added_is : with_cells behind store ≡ with_cells (h.done ++ behind) before
-  added_is = ap (with_cells behind) (h.store_is refl) ∙ with_cells-with_cells h.done behind before
+  added_is : with_cells afterwards store ≡ with_cells (h.done ++ afterwards) before
+  added_is = ap (with_cells afterwards) (h.store_is refl) ∙ with_cells-with_cells h.done afterwards before
 
-  length-behind : length behind ≡ blanks + length cells
-  length-behind = omega (arith, length-append (replicate blanks blank) cells, length-replicate blanks blank)
+  length-afterwards : length afterwards ≡ blanks + length cells
+  length-afterwards = omega (arith, length-append (replicate blanks blank) cells, length-replicate blanks blank)
 
-  charge_after : charge_of (with_cells behind store) ≡ charge_of before + share before.building (length h.done + (blanks + length cells))
-  charge_after = ap charge_of added_is ∙ charge_of-with_cells (h.done ++ behind) before
-      ∙ ap (λ n. charge_of before + share before.building n) (length-append h.done behind ∙ ap (λ n. length h.done + n) length-behind)
+  charge_after : charge_of (with_cells afterwards store) ≡ charge_of before + share before.building (length h.done + (blanks + length cells))
+  charge_after = ap charge_of added_is ∙ charge_of-with_cells (h.done ++ afterwards) before
+      ∙ ap (λ n. charge_of before + share before.building n) (length-append h.done afterwards ∙ ap (λ n. length h.done + n) length-afterwards)
 
-  pub holds_some : (store_now : Stored Resume) → store_now ≡ with_cells behind store → charge_of (with_cells behind store) < 2 ^ 32 → HoldsRow before (row ++ cells) store_now 0 false
+  pub holds_some : (store_now : Stored Resume) → store_now ≡ with_cells afterwards store → charge_of (with_cells afterwards store) < 2 ^ 32 → HoldsRow before (row ++ cells) store_now 0 false
   holds_some store_now now_is small = record {
     done = longer_row cells ends h;
     waiting = 0;
@@ -170,7 +170,7 @@ module _ {before store : Stored Resume} {row : List Cell} {blanks : ℕ} (cells 
     limits = ap stored_limits now_is ∙ h.limits;
   }
 
-  pub holds_no_more : (store_now : Stored Resume) (now : ℕ) → stored_limits store_now ≡ stored_limits store → store.limit < charge_of (with_cells behind store)
+  pub holds_no_more : (store_now : Stored Resume) (now : ℕ) → stored_limits store_now ≡ stored_limits store → store.limit < charge_of (with_cells afterwards store)
       → HoldsRow before (row ++ cells) store_now now true
   holds_no_more store_now now limits above = record {
     done = longer_row cells ends h;

@@ -18,7 +18,7 @@ use Rattle.nr_formatter.specs.Lines.{reads_a_field, word_ended, break_word_end, 
 use Rattle.nr_formatter.specs.Titles.{title_set}
 use Rattle.nr_formatter.specs.Weights.{weight_of_agenda, weight_of_task, weight_of_break, weight_of_step, owed_by_then, owed_by_task, Falls}
 use Rattle.nr_formatter.proofs.WorkFalls.{falls-work}
-use Rattle.nr_formatter.proofs.LineWeights.{weight-behind}
+use Rattle.nr_formatter.proofs.LineWeights.{weight-afterwards}
 use Rattle.nr_formatter.proofs.TextFalls.{falls-field_ended}
 use Rattle.nr_formatter.proofs.WordEnds.{weight-word_ended_less}
 
@@ -39,7 +39,7 @@ some-pieces_going going c some = cond_both going.whole _ _ (λ n. 0 < n) (λ _. 
 pub falls-after_line : (going : Going) (f : Formatter) → 0 < length (collected f).pieces → Falls 5 0 f (after_line going f)
 falls-after_line going f some =
     falls-work 5 0 f (after_line going f) refl (omega arith)
-    (omega (arith, weight-behind (margins f) going.align (collected f) (pieces_going going (collected f)) (some-pieces_going going (collected f) some) some))
+    (omega (arith, weight-afterwards (margins f) going.align (collected f) (pieces_going going (collected f)) (some-pieces_going going (collected f) some) some))
 
 pub falls-title_set : (f : Formatter) → f.event ≡ events.Nothing → f.task ≡ tasks.Title → Falls 5 0 f (title_set f)
 falls-title_set f event task =

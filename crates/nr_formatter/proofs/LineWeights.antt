@@ -6,15 +6,15 @@ use Rattle.nr_vectors.specs.declared.cell.Cell.{Cell}
 use Rattle.nr_settings.specs.declared.filling.Align.{Align}
 use Rattle.nr_settings.specs.declared.indents.Margins.{Margins}
 use Rattle.nr_settings.specs.declared.stops.Stop.{Stop}
-use Rattle.nr_fill.specs.declared.piece.Behind.{Behind}
-use Rattle.nr_fill.specs.declared.piece.Behind.TheVariants.{Letter, Hyphen, Dash}
+use Rattle.nr_fill.specs.declared.piece.CutAfter.{CutAfter}
+use Rattle.nr_fill.specs.declared.piece.CutAfter.TheVariants.{Letter, Hyphen, Dash}
 use Rattle.nr_fill.specs.declared.piece.Point.{Point}
 use Rattle.nr_fill.specs.declared.piece.Point.TheVariants as points
 use Rattle.nr_fill.specs.declared.stops.Pending.{Pending}
 use Rattle.nr_fill.specs.declared.stops.Pending.TheVariants.{Nothing, AtPoint, ForStop}
 use Rattle.nr_fill.specs.Piece.{Word, Collected, word_or_new, with_word, ended_at, ended, pending_after, pending_named, with_named_point, pending_soft, with_soft_point, pending_without_point, add_cell_after, add_cell, add_blank, add_cells, marked, pointed_here, barred_here, joined_at, shortened, without_blanks, reads_field, append, word_length}
 use Rattle.nr_fill.specs.Tabs.{to_stop, tabbed, first_beyond, column, is_aligned, filled_by, with_field_filled}
-use Rattle.nr_fill.specs.Setting.{behind}
+use Rattle.nr_fill.specs.Setting.{afterwards}
 use Rattle.nr_formatter.specs.Weights.{weight_of_pending, weight_of_word, weight_of_line}
 
 -- ---- what waits after the word
@@ -22,7 +22,7 @@ use Rattle.nr_formatter.specs.Weights.{weight_of_pending, weight_of_word, weight
 weight-pending_if : (b : Bool) (p : Pending) (n : ℕ) → weight_of_pending p ≡ 0 → weight_of_pending (if b then p else Nothing) ≤ n
 weight-pending_if b p n none = cond_both b p Nothing (λ q. weight_of_pending q ≤ n) (λ _. omega arith) (λ _. omega arith)
 
-weight-pending_after : (mark : Behind) (n : ℕ) (p : Pending) → weight_of_pending (pending_after mark n p) ≤ weight_of_pending p
+weight-pending_after : (mark : CutAfter) (n : ℕ) (p : Pending) → weight_of_pending (pending_after mark n p) ≤ weight_of_pending p
 weight-pending_after Letter n Nothing = omega arith
 weight-pending_after Letter n (AtPoint q) = omega arith
 weight-pending_after Letter n (ForStop f) = omega arith
@@ -59,8 +59,8 @@ weight-ended_at Nothing w = omega arith
 weight-ended_at (AtPoint q) w = omega (arith, length-append w.parts (w.last ∷ []))
 weight-ended_at (ForStop f) w = omega arith
 
-weight-add_cell_after : (behind : Behind) (x : Cell) (w : Word) → weight_of_word (Some (add_cell_after behind x w)) ≤ weight_of_word (Some w)
-weight-add_cell_after behind x w = omega (arith, weight-pending_after behind (word_length (append (x ∷ []) w)) w.pending)
+weight-add_cell_after : (afterwards : CutAfter) (x : Cell) (w : Word) → weight_of_word (Some (add_cell_after afterwards x w)) ≤ weight_of_word (Some w)
+weight-add_cell_after afterwards x w = omega (arith, weight-pending_after afterwards (word_length (append (x ∷ []) w)) w.pending)
 
 weight-with_soft_point : (o : Option Word) → weight_of_word (option_map with_soft_point o) ≤ weight_of_word o
 weight-with_soft_point None = omega arith
@@ -79,7 +79,7 @@ weight_of_begun c = let w = word_or_new c.gap c.word in omega (arith, weight-wor
 pub weight-with_word : (m : Margins) (c : Collected) → weight_of_line (with_word m c) ≤ weight_of_line c + 170
 weight-with_word m c = omega (arith, weight-word_or_new c.gap c.word)
 
-pub weight-add_cell : (m : Margins) (b : Behind) (x : Cell) (c : Collected) → weight_of_line (add_cell m b x c) ≤ weight_of_line c + 175
+pub weight-add_cell : (m : Margins) (b : CutAfter) (x : Cell) (c : Collected) → weight_of_line (add_cell m b x c) ≤ weight_of_line c + 175
 weight-add_cell m b x c = omega (arith, weight_of_begun c, weight-add_cell_after b x (ended (word_or_new c.gap c.word)))
 
 pub weight-add_blank : (m : Margins) (c : Collected) → weight_of_line (add_blank m c) ≤ weight_of_line c + 175
@@ -134,5 +134,5 @@ weight-with_field_filled c reads = omega (arith, weight-filled_word c.word reads
 
 -- ---- a line goes out
 
-pub weight-behind : (m : Margins) (align : Align) (c : Collected) (n : ℕ) → 0 < n → 0 < length c.pieces → weight_of_line (behind m align c n) + 5 ≤ weight_of_line c
-weight-behind m align c n some pieces = omega (arith, length-drop n c.pieces)
+pub weight-afterwards : (m : Margins) (align : Align) (c : Collected) (n : ℕ) → 0 < n → 0 < length c.pieces → weight_of_line (afterwards m align c n) + 5 ≤ weight_of_line c
+weight-afterwards m align c n some pieces = omega (arith, length-drop n c.pieces)

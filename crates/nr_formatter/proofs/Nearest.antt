@@ -257,14 +257,14 @@ eq_other a b h =
 named_first : (length : ℤ) (t : Trap) (ts : List Trap) → macro_at length (on_page t.place length) (t ∷ ts) ≡ Some t.name
 named_first length t ts = let e = eq_itself (on_page t.place length) in rw e refl
 
-named_behind : (length place : ℤ) (t : Trap) (ts : List Trap) → (on_page t.place length ≡ place → ⊥) → macro_at length place (t ∷ ts) ≡ macro_at length place ts
-named_behind length place t ts h = let e = eq_other (on_page t.place length) place h in rw e refl
+named_after : (length place : ℤ) (t : Trap) (ts : List Trap) → (on_page t.place length ≡ place → ⊥) → macro_at length place (t ∷ ts) ≡ macro_at length place ts
+named_after length place t ts h = let e = eq_other (on_page t.place length) place h in rw e refl
 
 named_better : (length : ℤ) (t : Trap) (ts : List Trap) (n : Option Trap) → IsNamed length n ts → IsNamed length (better (at length t) n) (t ∷ ts)
 named_better length t ts None h = named_first length t ts
 named_better length t ts (Some x) h =
     elim (int_lt x.place (on_page t.place length)) as (λ v. int_lt x.place (on_page t.place length) ≡ v → IsNamed length (cond v (Some x) (Some (at length t))) (t ∷ ts)) [
-      | true ↦ λ e. let lt = lt_true x.place (on_page t.place length) e in named_behind length x.place t ts (λ same. omega (arith, ints)) ∙ h
+      | true ↦ λ e. let lt = lt_true x.place (on_page t.place length) e in named_after length x.place t ts (λ same. omega (arith, ints)) ∙ h
       | false ↦ λ e. named_first length t ts
     ] refl
 
@@ -272,7 +272,7 @@ named_other : (above length : ℤ) (t : Trap) (ts : List Trap) (n : Option Trap)
     IsFound above length n → IsNamed length n ts → IsNamed length n (t ∷ ts)
 named_other above length t ts None a i h = tt
 named_other above length t ts (Some x) a i h =
-    named_behind length x.place t ts (λ same. let both : true ≡ false = sym i ∙ (ap (is_ahead above length) (sym same) ∙ a) in cc) ∙ h
+    named_after length x.place t ts (λ same. let both : true ≡ false = sym i ∙ (ap (is_ahead above length) (sym same) ∙ a) in cc) ∙ h
 
 named_by : (above length : ℤ) (t : Trap) (ts : List Trap) (n : Option Trap) (v : Bool) → is_ahead above length (on_page t.place length) ≡ v →
     IsFound above length n → IsNamed length n ts → IsNamed length (cond v (better (at length t) n) n) (t ∷ ts)

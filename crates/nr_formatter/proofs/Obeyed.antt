@@ -212,16 +212,16 @@ acts-act r f may = acts-by (may_set r f) r f refl may
 -- ---- the formatter that acts
 
 -- after a break or without one
-abbrev pub behind_by : Bool → Formatter → Formatter
-behind_by first f =
+abbrev pub after_by : Bool → Formatter → Formatter
+after_by first f =
     if first then break_done (thens.Act f.reader.request) (heard_for (tasks.Break (thens.Act f.reader.request)) f)
     else heard_for (tasks.Act f.reader.request) f
 
-pub springs_behind : (first : Bool) (f : Formatter) → (behind_by first f).springs ≡ f.springs
-springs_behind true f = refl
-springs_behind false f = refl
+pub springs_after : (first : Bool) (f : Formatter) → (after_by first f).springs ≡ f.springs
+springs_after true f = refl
+springs_after false f = refl
 
-pub event_after : (first : Bool) (f : Formatter) → (behind_by first f).event ≡ events.Nothing
+pub event_after : (first : Bool) (f : Formatter) → (after_by first f).event ≡ events.Nothing
 event_after true f = refl
 event_after false f = refl
 
@@ -260,7 +260,7 @@ obeyed-limits f acts may =
     ap limits_of there ∙ space-limits (acted f).task (acted f) ∙ (acts-act f.reader.request (after_break f) acts).limits ∙ after_break-limits f
 
 -- each move takes off one
-falls-acted : (first : Bool) (f : Formatter) → breaks_first f ≡ first → f.event ≡ events.Request → Falls (if first then 3 else 2) 0 f (act f.reader.request (behind_by first f))
+falls-acted : (first : Bool) (f : Formatter) → breaks_first f ≡ first → f.event ≡ events.Request → Falls (if first then 3 else 2) 0 f (act f.reader.request (after_by first f))
 falls-acted true f b is =
     let r = f.reader.request in
     let task : task_requested f ≡ tasks.Break (thens.Act r) = rw b refl in

@@ -6,7 +6,7 @@ use Rattle.std.proofs.lemmas.Bool.{ne_eqb, le-leb, lt-ltb}
 use Rattle.nr_vectors.specs.declared.cell.Cell.{Cell}
 use Rattle.nr_vectors.specs.declared.cell.Look.{Look}
 use Rattle.nr_settings.specs.declared.indents.Margins.{Margins}
-use Rattle.nr_fill.specs.declared.piece.Behind.TheVariants.{Letter}
+use Rattle.nr_fill.specs.declared.piece.CutAfter.TheVariants.{Letter}
 use Rattle.nr_fill.specs.Piece.{Collected, Word, add_cell, begins_line, end_word, one_blank_more, is_nil, line_cells, may_hyphenate, text_cells}
 use Rattle.nr_fill.specs.Plain.{IsPlain, run_cell}
 use Rattle.nr_fill.specs.Runs.{add_run}

@@ -27,8 +27,8 @@ use Rattle.nr_settings.specs.declared.traps.TrapMove.{TrapMove}
 use Rattle.nr_units.specs.declared.number_text.Format.{Format}
 use Rattle.nr_reading.specs.declared.event.Event.TheVariants as events
 use Rattle.nr_reading.specs.declared.half.Half.{Half}
-use Rattle.nr_reading.specs.declared.mode.Due.{Due}
-use Rattle.nr_reading.specs.declared.mode.Due.TheVariants as dues
+use Rattle.nr_reading.specs.declared.mode.PendingAct.{PendingAct}
+use Rattle.nr_reading.specs.declared.mode.PendingAct.TheVariants as pending_acts
 use Rattle.nr_reading.specs.declared.mode.Escape.{Escape}
 use Rattle.nr_reading.specs.declared.mode.Mode.TheVariants as modes
 use Rattle.nr_reading.specs.Setting.{defining}
@@ -195,13 +195,13 @@ falls-sp_by (negsuc n) f none is = falls-read requests.Sp f _ none is (view-task
 
 -- ---- definitions
 
-body-le : (d : Due) (e : Escape) → weight_by d (modes.BodyStart 0) e ≤ weight_by d modes.Diverting e + 22
-body-le dues.Seek e = omega arith
-body-le (dues.Judge b) e = omega arith
+body-le : (d : PendingAct) (e : Escape) → weight_by d (modes.BodyStart 0) e ≤ weight_by d modes.Diverting e + 22
+body-le pending_acts.Seek e = omega arith
+body-le (pending_acts.Judge b) e = omega arith
 body-le d e = omega arith
 
 defining-le : (h : Half) (name ends : List ℕ) (kept : Bool) → weight_read (defining name ends kept h) ≤ weight_read h + 23
-defining-le h name ends kept = omega (arith, body-le h.reading.due h.reading.escape, diverting_costs h)
+defining-le h name ends kept = omega (arith, body-le h.reading.pending_act h.reading.escape, diverting_costs h)
 
 base-keeps : (d : Definition) (name : List ℕ) (f : Formatter) → KeepsInput f (record f { store = base d name f.store })
 base-keeps definitions.De name f = record { levels = refl; limit = refl; burst = refl; most = refl }

@@ -3,8 +3,8 @@ use Prim.Native.Char.{code}
 use Rattle.std.proofs.Common.{◌≡◌, ◌≤◌, ◌==◌, ℕ, ◌+◌, true, not, List, [], ◌∷◌, replicate, Option, None, Some, unwrap_or, refl, ap, arith}
 use Rattle.std.proofs.lemmas.Bool.{cond_both}
 use Rattle.nr_vectors.specs.declared.cell.Cell.{Cell}
-use Rattle.nr_fill.specs.declared.piece.Behind.{Behind}
-use Rattle.nr_fill.specs.declared.piece.Behind.TheVariants.{Letter, Hyphen, Dash}
+use Rattle.nr_fill.specs.declared.piece.CutAfter.{CutAfter}
+use Rattle.nr_fill.specs.declared.piece.CutAfter.TheVariants.{Letter, Hyphen, Dash}
 use Rattle.nr_fill.specs.declared.piece.Point.{Point}
 use Rattle.nr_fill.specs.declared.piece.Point.TheVariants as points
 use Rattle.nr_fill.specs.Piece.{Collected, with_title_cell}
@@ -25,7 +25,7 @@ use Rattle.nr_formatter.specs.Moves.{is_text}
 use Rattle.nr_formatter.specs.Text.{put, after_of, blank_cell, has_word, gap_blank, blank, tab, text_byte, dash, dash_end, break_point, special_at, special, cells, mark, percent, break_word, blanks_dropped, word_line_ended, trimmed_end, line_end, joins_lines, text_line_end, text}
 use Rattle.nr_formatter.specs.Titles.{with_title_cells, titled, title_byte, printed, title_special, title_dash_end, title}
 use Rattle.nr_formatter.specs.Weights.{weight_of_line, weight_of_event, weight_of_agenda, weight_of_task, owed_by_task, Falls}
-use Rattle.nr_formatter.proofs.WorkFalls.{falls-work, falls-behind, falls-heard_for, falls-heard}
+use Rattle.nr_formatter.proofs.WorkFalls.{falls-work, falls-afterwards, falls-heard_for, falls-heard}
 use Rattle.nr_formatter.proofs.LineWeights.{weight-add_cell, weight-add_blank, weight-add_cells, weight-marked, weight-tabbed, weight-pointed_here, weight-barred_here, weight-without_blanks, weight-with_field_filled}
 use Rattle.nr_formatter.proofs.WordEnds.{weight-word_ended}
 
@@ -34,7 +34,7 @@ use Rattle.nr_formatter.proofs.WordEnds.{weight-word_ended}
 falls-done : (f : Formatter) → 1 ≤ weight_of_event f.event → Falls 1 0 f (done f)
 falls-done f is = falls-heard 0 f (done f) refl is refl refl refl refl (omega arith)
 
-falls-put : (x : Cell) (b : Behind) (f : Formatter) → 177 ≤ weight_of_event f.event → Falls 1 0 f (put x b f)
+falls-put : (x : Cell) (b : CutAfter) (f : Formatter) → 177 ≤ weight_of_event f.event → Falls 1 0 f (put x b f)
 falls-put x b f is = falls-heard 175 f (put x b f) refl (omega arith) refl refl refl refl (omega (arith, weight-add_cell (margins f) b x (collected f)))
 
 falls-blank_cell : (f : Formatter) → 177 ≤ weight_of_event f.event → Falls 1 0 f (blank_cell f)
@@ -123,7 +123,7 @@ falls-trimmed_end after f is = cond_both (reads_a_field f) _ _ (λ g. Falls 1 0 
 falls-line_end : (after : After) (f : Formatter) → 18 ≤ weight_of_event f.event → Falls 1 0 f (line_end after f)
 unfolding line_end
 falls-line_end after f is =
-    falls-behind 1 0 f (blanks_dropped f) _ (falls-blanks_dropped f) (falls-trimmed_end after (blanks_dropped f) (omega (arith, ap weight_of_event (event-blanks_dropped f))))
+    falls-afterwards 1 0 f (blanks_dropped f) _ (falls-blanks_dropped f) (falls-trimmed_end after (blanks_dropped f) (omega (arith, ap weight_of_event (event-blanks_dropped f))))
 
 falls-text_line_end : (f : Formatter) → 18 ≤ weight_of_event f.event → Falls 1 0 f (text_line_end f)
 unfolding text_line_end

@@ -65,8 +65,8 @@ falls-work down up f g rest owes less = record {
 
 -- ---- one move after another, and an answer
 
-pub falls-behind : (down up : ℕ) (f g h : Formatter) → Falls 0 0 f g → Falls down up g h → Falls down up f h
-falls-behind down up f g h first second = record {
+pub falls-afterwards : (down up : ℕ) (f g h : Formatter) → Falls 0 0 f g → Falls down up g h → Falls down up f h
+falls-afterwards down up f g h first second = record {
   limit = second.limit ∙ first.limit;
   most = second.most ∙ first.most;
   falls = λ p. omega (arith, first.falls p, second.falls p);
@@ -81,7 +81,7 @@ falls-on_ok down up f g h (Err e) is falls = tt
 
 -- ---- text was heard
 
--- what was told is acted on before what is under way
+-- what was emitted is acted on before what is under way
 weight-agenda : (e : Event) (t : Task) (s : Step) → 1 ≤ weight_of_event e → weight_of_agenda e t s ≡ weight_of_event e + weight_of_task t s
 weight-agenda events.Nothing t s some = let wrong : ⊥ = omega (arith, some) in absurd wrong
 weight-agenda events.Over t s some = let wrong : ⊥ = omega (arith, some) in absurd wrong

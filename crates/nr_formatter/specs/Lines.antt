@@ -5,7 +5,7 @@ use Rattle.nr_vectors.specs.declared.cell.Cell.{Cell}
 use Rattle.nr_fill.specs.Piece.{Collected, is_nil, begins_line, cells_of_word, end_word, hyphenated, joined, may_hyphenate, reads_field, word_or_new}
 use Rattle.nr_fill.specs.Tabs.{with_field_filled}
 use Rattle.nr_fill.specs.Cutting.{fits}
-use Rattle.nr_fill.specs.Setting.{behind, cut_of, line_row, set_width}
+use Rattle.nr_fill.specs.Setting.{afterwards, cut_of, line_row, set_width}
 use Rattle.nr_settings.specs.declared.filling.Align.TheVariants as aligns
 use Rattle.nr_settings.specs.Filling.{align_of, after_centred_line}
 use Rattle.nr_settings.specs.Fonts.{after_underlined_line}
@@ -88,22 +88,22 @@ whole_line f =
     record { whole = true; align = if f.settings.filling.centred == 0 then aligns.Left else aligns.Centre }
 
 -- as much as fits; full where it is to be adjusted
-abbrev pub front_line : Bool → Formatter → Going
-front_line full f = record { whole = false; align = align_of full f.settings.filling }
+abbrev pub next_line : Bool → Formatter → Going
+next_line full f = record { whole = false; align = align_of full f.settings.filling }
 
 -- The line that goes out next where a word or a text line ended: a full one; with `\p` the rest, as a full one.
 abbrev pub flow_line : After → Bool → Formatter → Option Going
 flow_line after breaks f =
     if is_nil (collected f).pieces then None
     else (if not (is_filling f) then (if goes_out after then Some (whole_line f) else None)
-    else (if fits_line (collected f) && not breaks then None else Some (front_line true f)))
+    else (if fits_line (collected f) && not breaks then None else Some (next_line true f)))
 
 -- the line that goes out next at a break
 abbrev pub break_line : Formatter → Option Going
 break_line f =
     if is_nil (collected f).pieces then None
     else (if not (is_filling f) then Some (whole_line f)
-    else Some (front_line (not (fits_line (collected f))) f))
+    else Some (next_line (not (fits_line (collected f))) f))
 
 -- how many pieces go out
 abbrev pub pieces_going : Going → Collected → ℕ
@@ -126,10 +126,10 @@ greatest = 2147483647
 
 -- what is left; a line that begins with it takes its margins now
 abbrev pub rest_of : Going → Indents → Collected → Collected
-rest_of going s c = behind (margins_of s) going.align c (pieces_going going c)
+rest_of going s c = afterwards (margins_of s) going.align c (pieces_going going c)
 
-abbrev pub rest_behind : Going → Formatter → Collected
-rest_behind going f = rest_of going f.settings.indents (collected f)
+abbrev pub rest_after : Going → Formatter → Collected
+rest_after going f = rest_of going f.settings.indents (collected f)
 
 -- a line went out: where something is left, if only an open word, a `.ti` is used up
 abbrev pub settings_after : Going → Collected → Settings → Settings
@@ -140,7 +140,7 @@ settings_after going c s = record s {
 
 abbrev pub after_line : Going → Formatter → Formatter
 after_line going f =
-    record (with_collected (rest_behind going f) f)
+    record (with_collected (rest_after going f) f)
     { settings = settings_after going (collected f) f.settings }
 
 -- ---- where nothing more goes out

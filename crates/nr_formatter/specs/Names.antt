@@ -1,7 +1,7 @@
 -- Names and what they stand for; control characters; hyphenation words. (CSTR 54, sections 7, 10 and 13; groff manual, `.cp`.)
 use Rattle.std.specs.Prelude.{ℕ, zero, suc, ◌==◌, if◌then◌else◌, List, [], length, Option, None, Some, unwrap_or}
 use Rattle.nr_store.specs.Store.{Stored, removed, renamed, worded}
-use Rattle.nr_settings.specs.Arguments.{name_in, behind_name, word_in, after_word}
+use Rattle.nr_settings.specs.Arguments.{name_in, after_name, word_in, after_word}
 use Rattle.nr_settings.specs.Characters as characters
 use Rattle.nr_reading.specs.Setting.{defining, with_control, with_no_break, with_long_names}
 use Rattle.nr_input.specs.declared.splicing.Definition.{Definition}
@@ -18,7 +18,7 @@ abbrev pub first_name : Formatter → Option (List ℕ)
 first_name f = name_in (long f) (line f)
 
 abbrev pub second_name : Formatter → Option (List ℕ)
-second_name f = name_in (long f) (behind_name (long f) (line f))
+second_name f = name_in (long f) (after_name (long f) (line f))
 
 -- ---- definitions
 

@@ -39,8 +39,8 @@ begins_first_page t f = is_unbegun f.paper.state && (begins_page t && not (is_di
 -- ---- moves down the page
 
 -- the place at which a line of this height ends
-abbrev pub place_behind : ℕ → Formatter → ℕ
-place_behind height f = min (f.paper.place + height) lowest
+abbrev pub place_after : ℕ → Formatter → ℕ
+place_after height f = min (f.paper.place + height) lowest
 
 -- the macro of a trap that a move to this place reaches
 abbrev pub reached : ℕ → Option Trap → Option (List ℕ)
@@ -61,7 +61,7 @@ without_no_space f =
 
 -- a line of this height was placed; it ends no-space mode
 abbrev pub line_placed : ℕ → Formatter → Formatter
-line_placed height f = moved_to (place_behind height f) (without_no_space f)
+line_placed height f = moved_to (place_after height f) (without_no_space f)
 
 -- ---- beginning
 

@@ -2,8 +2,8 @@
 use Prim.Native.Char.{code}
 use Rattle.std.specs.Prelude.{ℕ, Bool, not, ◌&&◌, ◌||◌, ◌==◌, if◌then◌else◌, Option, None, Some, is_none, unwrap_or}
 use Rattle.nr_vectors.specs.declared.cell.Cell.{Cell}
-use Rattle.nr_fill.specs.declared.piece.Behind.{Behind}
-use Rattle.nr_fill.specs.declared.piece.Behind.TheVariants.{Letter, Hyphen, Dash}
+use Rattle.nr_fill.specs.declared.piece.CutAfter.{CutAfter}
+use Rattle.nr_fill.specs.declared.piece.CutAfter.TheVariants.{Letter, Hyphen, Dash}
 use Rattle.nr_fill.specs.declared.piece.Point.{Point}
 use Rattle.nr_fill.specs.declared.piece.Point.TheVariants as points
 use Rattle.nr_fill.specs.Piece.{Collected, begins_line, add_cell, add_cells, add_blank, marked, barred_here, pointed_here, ends_in_joint, one_blank_more, after_newline, without_blanks}
@@ -42,11 +42,11 @@ abbrev pub to_word : (Margins → Collected → Collected) → Formatter → For
 to_word add f = done (with_collected (add (margins f) (collected f)) (line_begun f))
 
 -- a cell, and what may stand after it
-abbrev pub put : Cell → Behind → Formatter → Formatter
-put x behind f = to_word (λ m. add_cell m behind x) f
+abbrev pub put : Cell → CutAfter → Formatter → Formatter
+put x afterwards f = to_word (λ m. add_cell m afterwards x) f
 
 -- a `-` has a break point after it
-abbrev pub after_of : ℕ → Behind
+abbrev pub after_of : ℕ → CutAfter
 after_of byte = if byte == code "-" then Hyphen else Letter
 
 abbrev pub character : ℕ → Formatter → Formatter

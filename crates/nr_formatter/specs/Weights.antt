@@ -128,7 +128,7 @@ owed_by_event events.Title = weight_of_text
 owed_by_event events.Diverted = 1
 owed_by_event e = 0
 
--- What the move that told it has paid for those who act on it. A blank of a line's beginning is paid by those that are owed.
+-- What the move that emitted it has paid for those who act on it. A blank of a line's beginning is paid by those that are owed.
 abbrev pub weight_of_event : Event → ℕ
 weight_of_event events.Lead = cost_of_text - 1
 weight_of_event e = cost_of_event e - (1 + owed_by_event e)

@@ -4,7 +4,7 @@ ghost use Rattle.nr_fill.specs.Line.{afforded};
 ghost use Rattle.nr_reading.specs.declared.event.Event.TheVariants as events;
 ghost use Rattle.nr_formatter.specs.Access.{collected, with_collected};
 ghost use Rattle.nr_formatter.specs.Limits.{limits_of};
-ghost use Rattle.nr_formatter.specs.Lines.{with_points, most_points, pointed, breaks_after, word_ended, break_word_end, goes_out, whole_line, front_line, flow_line, break_line, row_of, row_going, rest_of, settings_after, after_line, task_after, flow_done, task_of, step_after, break_done, count, count_input};
+ghost use Rattle.nr_formatter.specs.Lines.{with_points, most_points, pointed, breaks_after, word_ended, break_word_end, goes_out, whole_line, next_line, flow_line, break_line, row_of, row_going, rest_of, settings_after, after_line, task_after, flow_done, task_of, step_after, break_done, count, count_input};
 ghost use Rattle.nr_formatter.specs.Weights.{Falls};
 
 use crate::formatter::{Formatter, InputTrap};
@@ -157,8 +157,8 @@ impl Formatter {
     }
 
     /// As much as fits.
-    fn front_line(&self, full: bool) -> Going
-        ensures { result ≡ front_line full self.now }
+    fn next_line(&self, full: bool) -> Going
+        ensures { result ≡ next_line full self.now }
     {
         Going {
             whole: false,
@@ -198,7 +198,7 @@ impl Formatter {
         if self.line.fits() && !breaks {
             return None;
         }
-        Some(self.front_line(true))
+        Some(self.next_line(true))
     }
 
     /// The line that goes out next at a break.
@@ -211,7 +211,7 @@ impl Formatter {
         if !self.settings.filling.is_filling() {
             return Some(self.whole_line());
         }
-        Some(self.front_line(!self.line.fits()))
+        Some(self.next_line(!self.line.fits()))
     }
 
     /// Sets the line that goes out next in a row after what stands there, so many cells on, and takes it away.

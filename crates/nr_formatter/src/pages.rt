@@ -4,7 +4,7 @@ ghost use Rattle.nr_reading.specs.declared.event.Event.TheVariants as events;
 ghost use Rattle.nr_formatter.specs.declared.paper.Outlet.TheVariants as outlets;
 ghost use Rattle.nr_formatter.specs.declared.tasks.Ejected.{Ejected};
 ghost use Rattle.nr_formatter.specs.declared.tasks.Task.TheVariants as tasks;
-ghost use Rattle.nr_formatter.specs.Pages.{begins_page, begins_first_page, place_behind, reached, moved_to, line_placed, task_begun, page_begun, task_ejected, task_ended, page_ended, turned, is_ejecting, names_text, next_springing};
+ghost use Rattle.nr_formatter.specs.Pages.{begins_page, begins_first_page, place_after, reached, moved_to, line_placed, task_begun, page_begun, task_ejected, task_ended, page_ended, turned, is_ejecting, names_text, next_springing};
 ghost use Rattle.nr_formatter.specs.Places.{is_open, page_outlet, trap_below, IsBelow};
 ghost use Rattle.nr_formatter.specs.Limits.{IsWithin, limits_of};
 ghost use Rattle.nr_formatter.specs.Registers.{splice_checked};
@@ -99,8 +99,8 @@ impl Formatter {
 
     /// The place at which a line of this height ends, in u.
     #[inline]
-    pub fn place_behind(&self, height: u32) -> u32
-        ensures { result ≡ place_behind height self.now }
+    pub fn place_after(&self, height: u32) -> u32
+        ensures { result ≡ place_after height self.now }
     {
         self.paper.place.saturating_add(height).min(LOWEST)
     }
@@ -115,7 +115,7 @@ impl Formatter {
         ensures falls { Falls 0 4 self.old self.new }
     {
         self.settings.pages.no_space = false;
-        self.move_to(self.place_behind(height));
+        self.move_to(self.place_after(height));
     }
 
     /// A break begins the first page, before anything goes out.

@@ -10,7 +10,7 @@ use crate::formatter::Formatter;
 use crate::tasks::{After, Task};
 use nr_fill::line::LineCells;
 use nr_fill::margins::Margins;
-use nr_fill::piece::{Behind, Point};
+use nr_fill::piece::{CutAfter, Point};
 use nr_input::Event;
 use nr_settings::{Special, prints};
 use nr_vectors::cell::Cell;
@@ -28,13 +28,13 @@ impl Formatter {
     }
 
     /// A cell, and what may stand after it.
-    fn put(&mut self, cell: Cell, behind: Behind) -> Result<(), LineCells>
-        ensures result { result ≡ afforded (put cell behind self.old).line }
-        ensures ok { OnOk result (self.new ≡ put cell behind self.old) }
+    fn put(&mut self, cell: Cell, afterwards: CutAfter) -> Result<(), LineCells>
+        ensures result { result ≡ afforded (put cell afterwards self.old).line }
+        ensures ok { OnOk result (self.new ≡ put cell afterwards self.old) }
         ensures limits { limits_of self.new ≡ limits_of self.old }
     {
         let margins = self.margins();
-        self.line.put(margins, cell, behind)?;
+        self.line.put(margins, cell, afterwards)?;
         self.event = Event::Nothing;
         Ok(())
     }
@@ -45,13 +45,13 @@ impl Formatter {
         ensures ok { OnOk result (self.new ≡ character byte self.old) }
         ensures limits { limits_of self.new ≡ limits_of self.old }
     {
-        let behind = if byte == b'-' {
-            Behind::Hyphen
+        let afterwards = if byte == b'-' {
+            CutAfter::Hyphen
         } else {
-            Behind::Letter
+            CutAfter::Letter
         };
         let cell = self.settings.fonts.cell(byte);
-        self.put(cell, behind)
+        self.put(cell, afterwards)
     }
 
     /// A byte that is a cell of its own, with no break point after it.
@@ -61,7 +61,7 @@ impl Formatter {
         ensures limits { limits_of self.new ≡ limits_of self.old }
     {
         let cell = self.settings.fonts.cell(byte);
-        self.put(cell, Behind::Letter)
+        self.put(cell, CutAfter::Letter)
     }
 
     /// A blank that is a cell of its word.
@@ -155,7 +155,7 @@ impl Formatter {
         ensures limits { limits_of self.new ≡ limits_of self.old }
     {
         let cell = self.settings.fonts.cell(b'-');
-        self.put(cell, Behind::Hyphen)
+        self.put(cell, CutAfter::Hyphen)
     }
 
     /// The first cell of a dash.
@@ -176,7 +176,7 @@ impl Formatter {
         ensures limits { limits_of self.new ≡ limits_of self.old }
     {
         let cell = self.settings.fonts.cell(b'-');
-        self.put(cell, Behind::Dash)?;
+        self.put(cell, CutAfter::Dash)?;
         self.task = Task::Read;
         Ok(())
     }
@@ -339,7 +339,7 @@ impl Formatter {
         match event {
             Event::Byte(byte) => self.byte(byte),
             Event::Lead => self.blank_cell(),
-            Event::Cell(cell) => self.put(cell, Behind::Letter),
+            Event::Cell(cell) => self.put(cell, CutAfter::Letter),
             Event::Plain(byte) => self.letter(byte),
             Event::Fixed => self.letter(b' '),
             Event::Tab => self.tab(self.settings.tabs.tab),

@@ -6,8 +6,8 @@ use Rattle.nr_store.specs.Store.{Stored, begun, words, reading, shared_by, enter
 use Rattle.nr_store.specs.Laws.{named_weighs}
 use Rattle.nr_store.specs.declared.element.Element.{Element}
 use Rattle.nr_reading.specs.declared.half.Half.{Half}
-use Rattle.nr_reading.specs.declared.mode.Due.{Due}
-use Rattle.nr_reading.specs.declared.mode.Due.TheVariants as dues
+use Rattle.nr_reading.specs.declared.mode.PendingAct.{PendingAct}
+use Rattle.nr_reading.specs.declared.mode.PendingAct.TheVariants as pending_acts
 use Rattle.nr_reading.specs.declared.mode.Escape.{Escape}
 use Rattle.nr_reading.specs.declared.mode.Escape.TheVariants as escapes
 use Rattle.nr_reading.specs.declared.mode.Mode.{Mode}
@@ -42,27 +42,27 @@ mode-ge modes.Diverted = omega arith
 mode-ge m = omega arith
 
 -- in another mode that weighs so much, and so much with a `\`
-in_mode-le : (d : Due) (m k : Mode) (e : Escape) (w : ℕ) → weight_of_mode k ≤ w → weight_of_mode k + weight_of_backslash k ≤ w + 155 → held_by_mode k ≡ 0 → weight_by d k e ≤ weight_by d m e + w
-in_mode-le dues.Seek m k e w few begun none = omega arith
-in_mode-le (dues.Judge b) m k e w few begun none = omega arith
+in_mode-le : (d : PendingAct) (m k : Mode) (e : Escape) (w : ℕ) → weight_of_mode k ≤ w → weight_of_mode k + weight_of_backslash k ≤ w + 155 → held_by_mode k ≡ 0 → weight_by d k e ≤ weight_by d m e + w
+in_mode-le pending_acts.Seek m k e w few begun none = omega arith
+in_mode-le (pending_acts.Judge b) m k e w few begun none = omega arith
 in_mode-le d m k escapes.Begun w few begun none = omega (arith, mode-ge m)
 in_mode-le d m k e w few begun none = omega arith
 
 pub title_costs : (h : Half) → CostsAtMost weight_of_text h (in_mode modes.TitleBefore h)
-title_costs h = omega (arith, in_mode-le h.reading.due h.reading.mode modes.TitleBefore h.reading.escape 40 (omega arith) (omega arith) refl)
+title_costs h = omega (arith, in_mode-le h.reading.pending_act h.reading.mode modes.TitleBefore h.reading.escape 40 (omega arith) (omega arith) refl)
 
 pub diverting_costs : (h : Half) → CostsAtMost 1 h (in_mode modes.Diverting h)
-diverting_costs h = omega (arith, in_mode-le h.reading.due h.reading.mode modes.Diverting h.reading.escape 1 (omega arith) (omega arith) refl)
+diverting_costs h = omega (arith, in_mode-le h.reading.pending_act h.reading.mode modes.Diverting h.reading.escape 1 (omega arith) (omega arith) refl)
 
 pub stand_costs : (s : Standing) (h : Half) → CostsAtMost cost_of_standing h (resumed s h)
-stand_costs standings.Start h = omega (arith, in_mode-le h.reading.due h.reading.mode modes.Start h.reading.escape 21 (omega arith) (omega arith) refl)
-stand_costs standings.Leading h = omega (arith, in_mode-le h.reading.due h.reading.mode (modes.Leading 1) h.reading.escape 41 (omega arith) (omega arith) refl)
-stand_costs standings.Text h = omega (arith, in_mode-le h.reading.due h.reading.mode modes.Text h.reading.escape 40 (omega arith) (omega arith) refl)
-stand_costs standings.Continued h = omega (arith, in_mode-le h.reading.due h.reading.mode modes.Continued h.reading.escape 41 (omega arith) (omega arith) refl)
+stand_costs standings.Start h = omega (arith, in_mode-le h.reading.pending_act h.reading.mode modes.Start h.reading.escape 21 (omega arith) (omega arith) refl)
+stand_costs standings.Leading h = omega (arith, in_mode-le h.reading.pending_act h.reading.mode (modes.Leading 1) h.reading.escape 41 (omega arith) (omega arith) refl)
+stand_costs standings.Text h = omega (arith, in_mode-le h.reading.pending_act h.reading.mode modes.Text h.reading.escape 40 (omega arith) (omega arith) refl)
+stand_costs standings.Continued h = omega (arith, in_mode-le h.reading.pending_act h.reading.mode modes.Continued h.reading.escape 41 (omega arith) (omega arith) refl)
 
 part_costs : (holds : Bool) (n : Notes) (h : Half) → CostsAtMost weight_of_judged h (in_mode (part_mode holds) (record h { notes = n }))
-part_costs true n h = omega (arith, in_mode-le h.reading.due h.reading.mode modes.Accepted h.reading.escape 22 (omega arith) (omega arith) refl)
-part_costs false n h = omega (arith, in_mode-le h.reading.due h.reading.mode (modes.Skip 0) h.reading.escape 22 (omega arith) (omega arith) refl)
+part_costs true n h = omega (arith, in_mode-le h.reading.pending_act h.reading.mode modes.Accepted h.reading.escape 22 (omega arith) (omega arith) refl)
+part_costs false n h = omega (arith, in_mode-le h.reading.pending_act h.reading.mode (modes.Skip 0) h.reading.escape 22 (omega arith) (omega arith) refl)
 
 pub judged_costs : (b : Bool) (h : Half) → CostsAtMost weight_of_judged h (judged b h)
 judged_costs b h = part_costs (answer_of b h.notes) (remembering b h).notes h
@@ -82,7 +82,7 @@ bytes_splice bytes v w r s is =
     let n = reading_bytes bytes v in
     let leads = called-ok (splicing_answer true n r) n (expanded r) tt v w r s tt is in
     let fits = splicing-fits n r leads.allowed in
-    rw (leads.stored, leads.reader) (splices v n r (idle r).half (bytes_open bytes v fits.charge) fits.burst (omega (arith, idle-le r.half.reading.due r.half.reading.mode r.half.reading.escape)))
+    rw (leads.stored, leads.reader) (splices v n r (idle r).half (bytes_open bytes v fits.charge) fits.burst (omega (arith, idle-le r.half.reading.pending_act r.half.reading.mode r.half.reading.escape)))
 
 -- ---- springs
 

@@ -13,10 +13,10 @@ left_of-items : {K : Type 0} (rest : List Element) (old : List (List ℕ)) (char
 left_of-items [] old charge None ls v = omega (arith, sum_by-cons items_in (Read (record { rest = []; old = old; charge = charge; resume = None })) ls)
 left_of-items [] old charge (Some mode) ls v =
     let before = sum_by-cons items_in (Read (record { rest = []; old = old; charge = charge; resume = Some mode })) ls in
-    let behind = sum_by-cons items_in (Mark mode) ls in omega arith
+    let afterwards = sum_by-cons items_in (Mark mode) ls in omega arith
 left_of-items (x ∷ xs) old charge resume ls v =
     let before = sum_by-cons items_in (Read (record { rest = x ∷ xs; old = old; charge = charge; resume = resume })) ls in
-    let behind = sum_by-cons items_in (Read (record { rest = xs; old = old; charge = charge; resume = resume })) ls in omega arith
+    let afterwards = sum_by-cons items_in (Read (record { rest = xs; old = old; charge = charge; resume = resume })) ls in omega arith
 
 -- what is taken of a level is one item; a mark counts as two
 abbrev pub items_taken : {K : Type 0} → Level K → ℕ

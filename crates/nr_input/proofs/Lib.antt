@@ -1,4 +1,4 @@
-mod Due
+mod PendingAct
 pub mod Costs
 pub mod Hearing
 pub mod Items

@@ -9,8 +9,8 @@ use Rattle.nr_store.specs.declared.named.Meaning.TheVariants as meanings
 use Rattle.nr_store.specs.declared.register.Register.{Register}
 use Rattle.nr_reading.specs.declared.ask.Sign.TheVariants as signs
 use Rattle.nr_reading.specs.declared.event.Event.{Event}
-use Rattle.nr_reading.specs.declared.mode.Due.{Due}
-use Rattle.nr_reading.specs.declared.mode.Due.TheVariants as dues
+use Rattle.nr_reading.specs.declared.mode.PendingAct.{PendingAct}
+use Rattle.nr_reading.specs.declared.mode.PendingAct.TheVariants as pending_acts
 use Rattle.nr_input.specs.declared.reader.Reader.{Reader}
 use Rattle.nr_input.specs.declared.refusal.Refusal.{Refusal}
 use Rattle.nr_input.specs.declared.refusal.Refusal.TheVariants as refusals
@@ -59,60 +59,60 @@ left-limits [] v r = refl
 left-limits (Read l ∷ ls) v r = left_of-limits l.rest l ls v r
 left-limits (Mark mode ∷ ls) v r = refl
 
--- ---- what is due
+-- ---- what is pending
 
 splicing-limits : {K : Type 0} (is_text : Bool) (w : Stored K) (r : Reader) → limits_of (splicing is_text w r).stored (splicing is_text w r).reader ≡ limits_of w r
 splicing-limits true w r = refl
 splicing-limits false w r = refl
 
-act-limits : {K : Type 0} (d : Due) (v : Stored K) (r : Reader) → limits_of (act d v r).stored (act d v r).reader ≡ limits_of v r
-act-limits dues.Look v r = refl
-act-limits dues.Begin v r = base-limits r.half.notes.defining.appends (name_in r) v r
-act-limits (dues.Add b) v r = refl
-act-limits (dues.Release held n b) v r = refl
-act-limits dues.Define v r = naming-limits r.half.notes.defining.keeps (name_in r) v r
-act-limits dues.DefineAndCall v r = naming-limits r.half.notes.defining.keeps (name_in r) v r
-act-limits dues.CallEnding v r =
+act-limits : {K : Type 0} (d : PendingAct) (v : Stored K) (r : Reader) → limits_of (act d v r).stored (act d v r).reader ≡ limits_of v r
+act-limits pending_acts.Look v r = refl
+act-limits pending_acts.Begin v r = base-limits r.half.notes.defining.appends (name_in r) v r
+act-limits (pending_acts.Add b) v r = refl
+act-limits (pending_acts.Release held n b) v r = refl
+act-limits pending_acts.Define v r = naming-limits r.half.notes.defining.keeps (name_in r) v r
+act-limits pending_acts.DefineAndCall v r = naming-limits r.half.notes.defining.keeps (name_in r) v r
+act-limits pending_acts.CallEnding v r =
     let name = r.half.notes.defining.ending in
     splicing-limits (has_text name v) (entered name (words (find name v.names)) None v) r ∙ entered-limits name (words (find name v.names)) None v r
-act-limits dues.Splice v r =
+act-limits pending_acts.Splice v r =
     let name = r.half.notes.asked in
     splicing-limits (has_text name v) (entered name (words (find name v.names)) None v) r ∙ entered-limits name (words (find name v.names)) None v r
-act-limits (dues.Register signs.None) v r = refl
-act-limits (dues.Register signs.Plus) v r = written-limits (option_and_then (gone_on true) (find r.half.notes.asked v.registers)) r.half.notes.asked v r
-act-limits (dues.Register signs.Minus) v r = written-limits (option_and_then (gone_on false) (find r.half.notes.asked v.registers)) r.half.notes.asked v r
-act-limits (dues.Argument n) v r = refl
-act-limits (dues.Put b) v r = refl
-act-limits dues.EndArgument v r = refl
-act-limits dues.Call v r =
+act-limits (pending_acts.Register signs.None) v r = refl
+act-limits (pending_acts.Register signs.Plus) v r = written-limits (option_and_then (gone_on true) (find r.half.notes.asked v.registers)) r.half.notes.asked v r
+act-limits (pending_acts.Register signs.Minus) v r = written-limits (option_and_then (gone_on false) (find r.half.notes.asked v.registers)) r.half.notes.asked v r
+act-limits (pending_acts.Argument n) v r = refl
+act-limits (pending_acts.Put b) v r = refl
+act-limits pending_acts.EndArgument v r = refl
+act-limits pending_acts.Call v r =
     let name = name_in r in
     splicing-limits (has_text name v) (called_text name (words (find name v.names)) v) r ∙ called-limits name (words (find name v.names)) v r
-act-limits dues.Seek v r = meaning-limits (meaning_in v r) v r
-act-limits (dues.Judge b) v r = refl
-act-limits (dues.Lead n) v r = refl
-act-limits dues.Expanded v r = refl
+act-limits pending_acts.Seek v r = meaning-limits (meaning_in v r) v r
+act-limits (pending_acts.Judge b) v r = refl
+act-limits (pending_acts.Lead n) v r = refl
+act-limits pending_acts.Expanded v r = refl
 
 -- ---- a call that is allowed or not
 
 -- the limits after a call
-abbrev limits_behind : {K A : Type 0} → Called K A → Limits
-limits_behind c = limits_of c.stored c.reader
+abbrev limits_after : {K A : Type 0} → Called K A → Limits
+limits_after c = limits_of c.stored c.reader
 
-called_by-limits : {K A : Type 0} (x : Result (Unit {0}) Refusal) (new : Stored K) (behind : Reader) (a : A) (v : Stored K) (r : Reader)
-    → limits_of new behind ≡ limits_of v r → limits_behind (called_by x new behind a v r) ≡ limits_of v r
-called_by-limits (Ok x) new behind a v r same = same
-called_by-limits (Err refusals.Expansions) new behind a v r same = ap (λ (l : Limits). record l { expansions = r.most }) same
-called_by-limits (Err e) new behind a v r same = refl
+called_by-limits : {K A : Type 0} (x : Result (Unit {0}) Refusal) (new : Stored K) (afterwards : Reader) (a : A) (v : Stored K) (r : Reader)
+    → limits_of new afterwards ≡ limits_of v r → limits_after (called_by x new afterwards a v r) ≡ limits_of v r
+called_by-limits (Ok x) new afterwards a v r same = same
+called_by-limits (Err refusals.Expansions) new afterwards a v r same = ap (λ (l : Limits). record l { expansions = r.most }) same
+called_by-limits (Err e) new afterwards a v r same = refl
 
 module _ {K : Type 0} (v w : Stored K) (r s : Reader) where
-  -- what is due
-  pub act_stays : (d : Due) (x : Result Event Refusal) → called w s x ≡ acted d v r → limits_of w s ≡ limits_of v r
+  -- what is pending
+  pub act_stays : (d : PendingAct) (x : Result Event Refusal) → called w s x ≡ acted d v r → limits_of w s ≡ limits_of v r
   act_stays d x is =
-      ap (λ (c : Called K (Result Event Refusal)). limits_behind c) is ∙ called_by-limits (answer d v r) (act d v r).stored (act d v r).reader (act d v r).event v r (act-limits d v r)
+      ap (λ (c : Called K (Result Event Refusal)). limits_after c) is ∙ called_by-limits (answer d v r) (act d v r).stored (act d v r).reader (act d v r).event v r (act-limits d v r)
 
   -- what is given
   pub give_stays : (bytes : List ℕ) (x : Result (Unit {0}) Refusal) → called w s x ≡ giving bytes v r → limits_of w s ≡ limits_of v r
   give_stays bytes x is =
       let new = reading_bytes bytes v in
       let done : Unit {0} = tt in
-      ap (λ (c : Called K (Result (Unit {0}) Refusal)). limits_behind c) is ∙ called_by-limits (splicing_answer true new r) new (expanded r) done v r refl
+      ap (λ (c : Called K (Result (Unit {0}) Refusal)). limits_after c) is ∙ called_by-limits (splicing_answer true new r) new (expanded r) done v r refl

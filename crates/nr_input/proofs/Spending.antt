@@ -1,4 +1,4 @@
--- What is due is paid when it is done.
+-- What is pending is paid when it is done.
 use Rattle.std.specs.Prelude.{nat_le, nat_lt, is_some, map, drop, slice_get, slice_index, sum_by}
 use Rattle.std.specs.Option.{option_and_then}
 use Rattle.std.proofs.Common.{◌≡◌, ℕ, ◌+◌, ◌-◌, ◌*◌, ◌<◌, ◌≤◌, Bool, true, false, if◌then◌else◌, List, [], ◌∷◌, length, Option, None, Some, Result, Ok, Err, refl, ap, sym, ◌∙◌, subst, arith}
@@ -23,8 +23,8 @@ use Rattle.nr_reading.specs.declared.event.Event.TheVariants as events
 use Rattle.nr_reading.specs.declared.half.Half.{Half}
 use Rattle.nr_reading.specs.declared.mode.Calls.{Calls}
 use Rattle.nr_reading.specs.declared.mode.Calls.TheVariants as calls
-use Rattle.nr_reading.specs.declared.mode.Due.{Due}
-use Rattle.nr_reading.specs.declared.mode.Due.TheVariants as dues
+use Rattle.nr_reading.specs.declared.mode.PendingAct.{PendingAct}
+use Rattle.nr_reading.specs.declared.mode.PendingAct.TheVariants as pending_acts
 use Rattle.nr_reading.specs.declared.mode.Escape.{Escape}
 use Rattle.nr_reading.specs.declared.mode.Escape.TheVariants as escapes
 use Rattle.nr_reading.specs.declared.mode.Mode.{Mode}
@@ -34,12 +34,12 @@ use Rattle.nr_reading.specs.Conditionals.{part_mode, in_mode, answer_of, remembe
 use Rattle.nr_reading.specs.Definitions.{last_line}
 use Rattle.nr_reading.specs.Seeking.{sought, sought_event}
 use Rattle.nr_reading.specs.Spelled.{is_empty}
-use Rattle.nr_reading.specs.Weights.{cost_of_event, weight_by, weight_of_escape, weight_of_backslash, weight_of_half, blanks_owed, blanks_of_due}
+use Rattle.nr_reading.specs.Weights.{cost_of_event, weight_by, weight_of_escape, weight_of_backslash, weight_of_half, blanks_owed, blanks_of_pending}
 use Rattle.nr_input.specs.declared.reader.Reader.{Reader}
 use Rattle.nr_input.specs.declared.refusal.Refusal.{Refusal}
 use Rattle.nr_input.specs.declared.refusal.Refusal.TheVariants as refusals
-use Rattle.nr_input.specs.declared.told.Told.TheVariants as tells
-use Rattle.nr_input.specs.Acting.{Acted, done, then_due, idle, splicing, name_in, base_of, after_held, naming, splicing_bytes, register_text, calls_of, request_of, meaning_in, after_meaning, act}
+use Rattle.nr_input.specs.declared.emitted.Emitted.TheVariants as tells
+use Rattle.nr_input.specs.Acting.{Acted, done, then_pending, idle, splicing, name_in, base_of, after_held, naming, splicing_bytes, register_text, calls_of, request_of, meaning_in, after_meaning, act}
 use Rattle.nr_input.specs.Refusal.{answer, splicing_by, splicing_answer, called, acted}
 use Rattle.nr_input.specs.Place.{Reached}
 use Rattle.nr_input.specs.Laws.{weight_of_mode-le, weight_of_backslash-le}
@@ -47,17 +47,17 @@ use Rattle.nr_input.specs.Weights.{IfLead, Pays, risen, items_in, items_left, ex
 use Rattle.nr_input.proofs.Items.{expansions_worth-spent}
 use Rattle.nr_input.proofs.Refusals.{acted-ok}
 
--- ---- what is half read, with nothing due
+-- ---- what is half read, with nothing pending
 
 weight_of_escape-le : (w : ℕ) (e : Escape) → w ≤ 156 → weight_of_escape w e ≤ weight_of_escape 156 e
 weight_of_escape-le w escapes.Plain few = omega arith
 weight_of_escape-le w escapes.Begun few = few
 weight_of_escape-le w escapes.Comment few = omega arith
 
--- nothing due weighs little more than anything due
-pub idle-le : (d : Due) (m : Mode) (e : Escape) → weight_by dues.Look m e ≤ weight_by d m e + 188
-idle-le dues.Seek m e = omega (arith, weight_of_mode-le m, weight_of_escape-le (weight_of_backslash m) e (weight_of_backslash-le m))
-idle-le (dues.Judge b) m e = omega (arith, weight_of_mode-le m, weight_of_escape-le (weight_of_backslash m) e (weight_of_backslash-le m))
+-- nothing pending weighs little more than anything pending
+pub idle-le : (d : PendingAct) (m : Mode) (e : Escape) → weight_by pending_acts.Look m e ≤ weight_by d m e + 188
+idle-le pending_acts.Seek m e = omega (arith, weight_of_mode-le m, weight_of_escape-le (weight_of_backslash m) e (weight_of_backslash-le m))
+idle-le (pending_acts.Judge b) m e = omega (arith, weight_of_mode-le m, weight_of_escape-le (weight_of_backslash m) e (weight_of_backslash-le m))
 idle-le d m e = omega arith
 
 -- ---- what is stored keeps its levels
@@ -66,7 +66,7 @@ record Keeps {K : Type 0} (v w : Stored K) : Type 0 where
   pub levels : w.levels ≡ v.levels
   pub limit : w.limit ≡ v.limit
 
--- what is due is paid
+-- what is pending is paid
 abbrev Spends : {K : Type 0} → Stored K → Reached → Reader → Acted K → Type 0
 Spends v p r a = Pays v p r (tells.Event a.event) a.stored p a.reader
 
@@ -87,7 +87,7 @@ pub record Opens {K : Type 0} (v w : Stored K) : Type 0 where
   pub limit : w.limit ≡ v.limit
 
 -- it is counted
-splice_spends : {K : Type 0} (v w : Stored K) (p : Reached) (d : Due) (r : Reader) → Opens v w → r.burst < r.most → Spends v p (then_due d r) (splicing true w (then_due d r))
+splice_spends : {K : Type 0} (v w : Stored K) (p : Reached) (d : PendingAct) (r : Reader) → Opens v w → r.burst < r.most → Spends v p (then_pending d r) (splicing true w (then_pending d r))
 splice_spends v w p d r opens few =
     let items = opens.items in
     let spent = expansions_worth-spent r.most r.burst v.limit few in
@@ -139,20 +139,20 @@ splicing-fits w r ok =
     fits_by charged deep (nat_le r.most r.burst) w r (ltb-false w.limit (charge_of w)) (leb-false r.most r.burst) (sym (splicing_same charged deep r) ∙ ok)
 
 -- nothing is spliced
-unspliced : {K : Type 0} (v w : Stored K) (p : Reached) (d : Due) (r : Reader) → Keeps v w
-    → weight_by dues.Look r.half.reading.mode r.half.reading.escape + 1 ≤ weight_by d r.half.reading.mode r.half.reading.escape
-    → Spends v p (then_due d r) (splicing false w (then_due d r))
-unspliced v w p d r keeps less = kept v w p (then_due d r) (idle (then_due d r)).half r.request events.Nothing keeps (omega arith) tt
+unspliced : {K : Type 0} (v w : Stored K) (p : Reached) (d : PendingAct) (r : Reader) → Keeps v w
+    → weight_by pending_acts.Look r.half.reading.mode r.half.reading.escape + 1 ≤ weight_by d r.half.reading.mode r.half.reading.escape
+    → Spends v p (then_pending d r) (splicing false w (then_pending d r))
+unspliced v w p d r keeps less = kept v w p (then_pending d r) (idle (then_pending d r)).half r.request events.Nothing keeps (omega arith) tt
 
 -- the text of a name, or none
-name_spends : {K : Type 0} (name : List ℕ) (text : Option (List Element)) (v : Stored K) (p : Reached) (d : Due) (r : Reader) → words (find name v.names) ≡ text
-    → weight_by dues.Look r.half.reading.mode r.half.reading.escape + 1 ≤ weight_by d r.half.reading.mode r.half.reading.escape
-    → let w = entered name text None v in splicing_answer (is_some text) w (then_due d r) ≡ Ok tt → Spends v p (then_due d r) (splicing (is_some text) w (then_due d r))
+name_spends : {K : Type 0} (name : List ℕ) (text : Option (List Element)) (v : Stored K) (p : Reached) (d : PendingAct) (r : Reader) → words (find name v.names) ≡ text
+    → weight_by pending_acts.Look r.half.reading.mode r.half.reading.escape + 1 ≤ weight_by d r.half.reading.mode r.half.reading.escape
+    → let w = entered name text None v in splicing_answer (is_some text) w (then_pending d r) ≡ Ok tt → Spends v p (then_pending d r) (splicing (is_some text) w (then_pending d r))
 name_spends name None v p d r is less ok = unspliced v v p d r (record { levels = refl; limit = refl }) less
 name_spends name (Some text) v p d r is less ok =
     let w = reading text [] 16 None (shared_by name text v.texts) v in
     let held = named_weighs name text v.names is in
-    let fits = splicing-fits w (then_due d r) ok in
+    let fits = splicing-fits w (then_pending d r) ok in
     splice_spends v w p d r (record { items = opened text [] 16 None (shared_by name text v.texts) v (omega (arith, held)) fits.charge; limit = refl }) fits.burst
 
 called_items : {K : Type 0} (name : List ℕ) (text : List Element) (v : Stored K) → weight text ≤ sum_by (λ (n : Named Means). weight_of n.value) v.names
@@ -161,28 +161,28 @@ called_items {K} name text v held afforded =
     let level : Level K = Read (record { rest = text; old = v.arguments; charge = 16 + bytes_in v.gathered.kept; resume = None }) in
     omega (arith, held, sum_by-cons items_in level v.levels, sum_by-cons level_charge level v.levels)
 
-call_spends : {K : Type 0} (name : List ℕ) (text : Option (List Element)) (v : Stored K) (p : Reached) (d : Due) (r : Reader) → words (find name v.names) ≡ text
-    → weight_by dues.Look r.half.reading.mode r.half.reading.escape + 1 ≤ weight_by d r.half.reading.mode r.half.reading.escape
-    → let w = called_text name text v in splicing_answer (is_some text) w (then_due d r) ≡ Ok tt → Spends v p (then_due d r) (splicing (is_some text) w (then_due d r))
+call_spends : {K : Type 0} (name : List ℕ) (text : Option (List Element)) (v : Stored K) (p : Reached) (d : PendingAct) (r : Reader) → words (find name v.names) ≡ text
+    → weight_by pending_acts.Look r.half.reading.mode r.half.reading.escape + 1 ≤ weight_by d r.half.reading.mode r.half.reading.escape
+    → let w = called_text name text v in splicing_answer (is_some text) w (then_pending d r) ≡ Ok tt → Spends v p (then_pending d r) (splicing (is_some text) w (then_pending d r))
 call_spends name None v p d r is less ok = unspliced v (ungathered v) p d r (record { levels = refl; limit = refl }) less
 call_spends name (Some text) v p d r is less ok =
     let w = called_text name (Some text) v in
-    let fits = splicing-fits w (then_due d r) ok in
+    let fits = splicing-fits w (then_pending d r) ok in
     splice_spends v w p d r (record { items = called_items name text v (named_weighs name text v.names is) fits.charge; limit = refl }) fits.burst
 
-bytes_spend : {K : Type 0} (bytes : List ℕ) (v : Stored K) (p : Reached) (d : Due) (r : Reader)
-    → splicing_answer true (reading_bytes bytes v) (then_due d r) ≡ Ok tt → Spends v p (then_due d r) (splicing_bytes bytes v (then_due d r))
+bytes_spend : {K : Type 0} (bytes : List ℕ) (v : Stored K) (p : Reached) (d : PendingAct) (r : Reader)
+    → splicing_answer true (reading_bytes bytes v) (then_pending d r) ≡ Ok tt → Spends v p (then_pending d r) (splicing_bytes bytes v (then_pending d r))
 bytes_spend bytes v p d r ok =
     let w = reading_bytes bytes v in
-    let fits = splicing-fits w (then_due d r) ok in
+    let fits = splicing-fits w (then_pending d r) ok in
     splice_spends v w p d r (bytes_open bytes v fits.charge) fits.burst
 
 -- ---- what is added to what is stored
 
-stored_spends : {K : Type 0} (v w : Stored K) (p : Reached) (d t : Due) (r : Reader) → Keeps v w
-    → weight_by t r.half.reading.mode r.half.reading.escape + 1 + 178 * blanks_of_due t ≤ weight_by d r.half.reading.mode r.half.reading.escape
-    → Spends v p (then_due d r) (done events.Nothing w (then_due t (then_due d r)))
-stored_spends v w p d t r keeps less = kept v w p (then_due d r) (then_due t (then_due d r)).half r.request events.Nothing keeps (omega arith) tt
+stored_spends : {K : Type 0} (v w : Stored K) (p : Reached) (d t : PendingAct) (r : Reader) → Keeps v w
+    → weight_by t r.half.reading.mode r.half.reading.escape + 1 + 178 * blanks_of_pending t ≤ weight_by d r.half.reading.mode r.half.reading.escape
+    → Spends v p (then_pending d r) (done events.Nothing w (then_pending t (then_pending d r)))
+stored_spends v w p d t r keeps less = kept v w p (then_pending d r) (then_pending t (then_pending d r)).half r.request events.Nothing keeps (omega arith) tt
 
 base_keeps : {K : Type 0} (appends : Bool) (name : List ℕ) (v : Stored K) → Keeps v (if appends then begun (text_of name v) None v else begun [] None v)
 base_keeps true name v = record { levels = refl; limit = refl }
@@ -201,25 +201,25 @@ written_keeps None name v = record { levels = refl; limit = refl }
 written_keeps (Some x) name v = record { levels = refl; limit = refl }
 
 -- a byte that was held back
-release_weighs : (held n : ℕ) (b : Option ℕ) (m : Mode) (e : Escape) → weight_by (after_held held n b) m e + 1 + 178 * blanks_of_due (after_held held n b) ≤ weight_by (dues.Release held n b) m e
+release_weighs : (held n : ℕ) (b : Option ℕ) (m : Mode) (e : Escape) → weight_by (after_held held n b) m e + 1 + 178 * blanks_of_pending (after_held held n b) ≤ weight_by (pending_acts.Release held n b) m e
 release_weighs held n (Some b) m e = more (nat_lt (n + 1) held) (ltb-true (n + 1) held)
   where
     more : (t : Bool) → (t ≡ true → n + 1 < held)
-        → let d = if t then dues.Release held (n + 1) (Some b) else dues.Add b in weight_by d m e + 1 + 178 * blanks_of_due d ≤ weight_by (dues.Release held n (Some b)) m e
+        → let d = if t then pending_acts.Release held (n + 1) (Some b) else pending_acts.Add b in weight_by d m e + 1 + 178 * blanks_of_pending d ≤ weight_by (pending_acts.Release held n (Some b)) m e
     more true less = let few = less refl in omega arith
     more false less = omega arith
 release_weighs held n None m e = more (nat_lt (n + 1) held) (ltb-true (n + 1) held)
   where
     more : (t : Bool) → (t ≡ true → n + 1 < held)
-        → let d = if t then dues.Release held (n + 1) None else dues.Look in weight_by d m e + 1 + 178 * blanks_of_due d ≤ weight_by (dues.Release held n None) m e
+        → let d = if t then pending_acts.Release held (n + 1) None else pending_acts.Look in weight_by d m e + 1 + 178 * blanks_of_pending d ≤ weight_by (pending_acts.Release held n None) m e
     more true less = let few = less refl in omega arith
     more false less = omega arith
 
 -- the text of lines takes its name
 definition_spends : {K : Type 0} (none : Bool) (v w : Stored K) (p : Reached) (r : Reader) → Keeps v w
-    → Spends v p (then_due dues.DefineAndCall r) (done events.Nothing w (then_due (if none then dues.Look else dues.CallEnding) (then_due dues.DefineAndCall r)))
-definition_spends true v w p r keeps = kept v w p (then_due dues.DefineAndCall r) (idle r).half r.request events.Nothing keeps (omega arith) tt
-definition_spends false v w p r keeps = kept v w p (then_due dues.DefineAndCall r) (then_due dues.CallEnding r).half r.request events.Nothing keeps (omega arith) tt
+    → Spends v p (then_pending pending_acts.DefineAndCall r) (done events.Nothing w (then_pending (if none then pending_acts.Look else pending_acts.CallEnding) (then_pending pending_acts.DefineAndCall r)))
+definition_spends true v w p r keeps = kept v w p (then_pending pending_acts.DefineAndCall r) (idle r).half r.request events.Nothing keeps (omega arith) tt
+definition_spends false v w p r keeps = kept v w p (then_pending pending_acts.DefineAndCall r) (then_pending pending_acts.CallEnding r).half r.request events.Nothing keeps (omega arith) tt
 
 -- ---- what a control line calls
 
@@ -231,24 +231,24 @@ abbrev found : Notes → Reader → Half
 found n r = record (idle r).half { notes = n }
 
 else_spends : {K : Type 0} (o : Option Bool) (n : Notes) (v w : Stored K) (p : Reached) (r : Reader) (q : Request) → Keeps v w
-    → Spends v p (then_due dues.Seek r) (done events.Nothing w (record { half = in_mode (else_mode o) (found n r); request = q; burst = r.burst; most = r.most }))
-else_spends None n v w p r q keeps = kept v w p (then_due dues.Seek r) (in_mode (modes.Skip 0) (found n r)) q events.Nothing keeps (omega arith) tt
-else_spends (Some true) n v w p r q keeps = kept v w p (then_due dues.Seek r) (in_mode (modes.Skip 0) (found n r)) q events.Nothing keeps (omega arith) tt
-else_spends (Some false) n v w p r q keeps = kept v w p (then_due dues.Seek r) (in_mode modes.Accepted (found n r)) q events.Nothing keeps (omega arith) tt
+    → Spends v p (then_pending pending_acts.Seek r) (done events.Nothing w (record { half = in_mode (else_mode o) (found n r); request = q; burst = r.burst; most = r.most }))
+else_spends None n v w p r q keeps = kept v w p (then_pending pending_acts.Seek r) (in_mode (modes.Skip 0) (found n r)) q events.Nothing keeps (omega arith) tt
+else_spends (Some true) n v w p r q keeps = kept v w p (then_pending pending_acts.Seek r) (in_mode (modes.Skip 0) (found n r)) q events.Nothing keeps (omega arith) tt
+else_spends (Some false) n v w p r q keeps = kept v w p (then_pending pending_acts.Seek r) (in_mode modes.Accepted (found n r)) q events.Nothing keeps (omega arith) tt
 
 seeking_spends : {K : Type 0} (c : Calls) (v w : Stored K) (p : Reached) (r : Reader) (q : Request) → Keeps v w
-    → let h = (idle r).half in Spends v p (then_due dues.Seek r) (done (sought_event c) w (record { half = sought c h; request = q; burst = r.burst; most = r.most }))
-seeking_spends calls.Nothing v w p r q keeps = kept v w p (then_due dues.Seek r) (sought calls.Nothing (idle r).half) q events.Nothing keeps (omega arith) tt
-seeking_spends calls.Macro v w p r q keeps = kept v w p (then_due dues.Seek r) (sought calls.Macro (idle r).half) q events.Nothing keeps (omega arith) tt
-seeking_spends calls.Request v w p r q keeps = kept v w p (then_due dues.Seek r) (sought calls.Request (idle r).half) q events.Nothing keeps (omega arith) tt
-seeking_spends calls.NewString v w p r q keeps = kept v w p (then_due dues.Seek r) (sought calls.NewString (idle r).half) q events.Nothing keeps (omega arith) tt
-seeking_spends calls.MoreString v w p r q keeps = kept v w p (then_due dues.Seek r) (sought calls.MoreString (idle r).half) q events.Nothing keeps (omega arith) tt
-seeking_spends calls.If v w p r q keeps = kept v w p (then_due dues.Seek r) (sought calls.If (idle r).half) q events.Nothing keeps (omega arith) tt
-seeking_spends calls.IfElse v w p r q keeps = kept v w p (then_due dues.Seek r) (sought calls.IfElse (idle r).half) q events.Nothing keeps (omega arith) tt
+    → let h = (idle r).half in Spends v p (then_pending pending_acts.Seek r) (done (sought_event c) w (record { half = sought c h; request = q; burst = r.burst; most = r.most }))
+seeking_spends calls.Nothing v w p r q keeps = kept v w p (then_pending pending_acts.Seek r) (sought calls.Nothing (idle r).half) q events.Nothing keeps (omega arith) tt
+seeking_spends calls.Macro v w p r q keeps = kept v w p (then_pending pending_acts.Seek r) (sought calls.Macro (idle r).half) q events.Nothing keeps (omega arith) tt
+seeking_spends calls.Request v w p r q keeps = kept v w p (then_pending pending_acts.Seek r) (sought calls.Request (idle r).half) q events.Nothing keeps (omega arith) tt
+seeking_spends calls.NewString v w p r q keeps = kept v w p (then_pending pending_acts.Seek r) (sought calls.NewString (idle r).half) q events.Nothing keeps (omega arith) tt
+seeking_spends calls.MoreString v w p r q keeps = kept v w p (then_pending pending_acts.Seek r) (sought calls.MoreString (idle r).half) q events.Nothing keeps (omega arith) tt
+seeking_spends calls.If v w p r q keeps = kept v w p (then_pending pending_acts.Seek r) (sought calls.If (idle r).half) q events.Nothing keeps (omega arith) tt
+seeking_spends calls.IfElse v w p r q keeps = kept v w p (then_pending pending_acts.Seek r) (sought calls.IfElse (idle r).half) q events.Nothing keeps (omega arith) tt
 seeking_spends calls.Else v w p r q keeps =
     else_spends (slice_get r.half.notes.answers 0) (record r.half.notes { answers = drop 1 r.half.notes.answers }) v w p r q keeps
 seeking_spends calls.Title v w p r q keeps =
-    kept v w p (then_due dues.Seek r) (sought calls.Title (idle r).half) q events.Title keeps (omega (arith, title_weighs r.half.reading.escape)) tt
+    kept v w p (then_pending pending_acts.Seek r) (sought calls.Title (idle r).half) q events.Title keeps (omega (arith, title_weighs r.half.reading.escape)) tt
 
 meaning_keeps : {K : Type 0} (m : Meaning) (v : Stored K) → Keeps v (after_meaning m v)
 meaning_keeps meanings.Text v = record { levels = refl; limit = refl }
@@ -257,61 +257,61 @@ meaning_keeps m v = record { levels = refl; limit = refl }
 -- ---- conditions
 
 judged_by : {K : Type 0} (holds found : Bool) (n : Notes) (b : Bool) (v : Stored K) (p : Reached) (r : Reader)
-    → Spends v p (then_due (dues.Judge b) r) (done events.Nothing v (record (idle r) { half = in_mode (part_mode holds) (record (idle r).half { notes = n }) }))
+    → Spends v p (then_pending (pending_acts.Judge b) r) (done events.Nothing v (record (idle r) { half = in_mode (part_mode holds) (record (idle r).half { notes = n }) }))
 judged_by true found n b v p r =
-    kept v v p (then_due (dues.Judge b) r) (in_mode modes.Accepted (record (idle r).half { notes = n })) r.request events.Nothing (record { levels = refl; limit = refl }) (omega arith) tt
+    kept v v p (then_pending (pending_acts.Judge b) r) (in_mode modes.Accepted (record (idle r).half { notes = n })) r.request events.Nothing (record { levels = refl; limit = refl }) (omega arith) tt
 judged_by false found n b v p r =
-    kept v v p (then_due (dues.Judge b) r) (in_mode (modes.Skip 0) (record (idle r).half { notes = n })) r.request events.Nothing (record { levels = refl; limit = refl }) (omega arith) tt
+    kept v v p (then_pending (pending_acts.Judge b) r) (in_mode (modes.Skip 0) (record (idle r).half { notes = n })) r.request events.Nothing (record { levels = refl; limit = refl }) (omega arith) tt
 
 -- ---- blanks of a line's beginning
 
 lead_spends : {K : Type 0} (few : Bool) (n : ℕ) (v : Stored K) (p : Reached) (r : Reader) → (few ≡ true → n ≤ 1) → (few ≡ false → 1 < n)
-    → Spends v p (then_due (dues.Lead n) r) (done events.Lead v (then_due (if few then dues.Look else dues.Lead (n - 1)) (then_due (dues.Lead n) r)))
+    → Spends v p (then_pending (pending_acts.Lead n) r) (done events.Lead v (then_pending (if few then pending_acts.Look else pending_acts.Lead (n - 1)) (then_pending (pending_acts.Lead n) r)))
 lead_spends true n v p r one more =
     let few = one refl in
-    kept v v p (then_due (dues.Lead n) r) (idle r).half r.request events.Lead (record { levels = refl; limit = refl }) (omega arith) (omega arith)
+    kept v v p (then_pending (pending_acts.Lead n) r) (idle r).half r.request events.Lead (record { levels = refl; limit = refl }) (omega arith) (omega arith)
 lead_spends false n v p r one more =
     let many = more refl in
-    kept v v p (then_due (dues.Lead n) r) (then_due (dues.Lead (n - 1)) r).half r.request events.Lead (record { levels = refl; limit = refl }) (omega arith) (omega arith)
+    kept v v p (then_pending (pending_acts.Lead n) r) (then_pending (pending_acts.Lead (n - 1)) r).half r.request events.Lead (record { levels = refl; limit = refl }) (omega arith) (omega arith)
 
 -- ---- all of it
 
-due_spends : {K : Type 0} (d : Due) (v : Stored K) (p : Reached) (r : Reader) → (d ≡ dues.Look → ⊥) → answer d v (then_due d r) ≡ Ok tt → Spends v p (then_due d r) (act d v (then_due d r))
-due_spends dues.Look v p r some ok = absurd (some refl)
-due_spends dues.Begin v p r some ok = stored_spends v (base_of r v) p dues.Begin dues.Look r (base_keeps r.half.notes.defining.appends (name_in r) v) (omega arith)
-due_spends (dues.Add b) v p r some ok = stored_spends v (added (elements.Byte b ∷ []) v) p (dues.Add b) dues.Look r (record { levels = refl; limit = refl }) (omega arith)
-due_spends (dues.Release held n b) v p r some ok =
+pending_spends : {K : Type 0} (d : PendingAct) (v : Stored K) (p : Reached) (r : Reader) → (d ≡ pending_acts.Look → ⊥) → answer d v (then_pending d r) ≡ Ok tt → Spends v p (then_pending d r) (act d v (then_pending d r))
+pending_spends pending_acts.Look v p r some ok = absurd (some refl)
+pending_spends pending_acts.Begin v p r some ok = stored_spends v (base_of r v) p pending_acts.Begin pending_acts.Look r (base_keeps r.half.notes.defining.appends (name_in r) v) (omega arith)
+pending_spends (pending_acts.Add b) v p r some ok = stored_spends v (added (elements.Byte b ∷ []) v) p (pending_acts.Add b) pending_acts.Look r (record { levels = refl; limit = refl }) (omega arith)
+pending_spends (pending_acts.Release held n b) v p r some ok =
     let w = added (elements.Byte (slice_index (last_line r.half.notes.defining) n) ∷ []) v in
-    stored_spends v w p (dues.Release held n b) (after_held held n b) r (record { levels = refl; limit = refl }) (release_weighs held n b r.half.reading.mode r.half.reading.escape)
-due_spends dues.Define v p r some ok =
-    kept v (naming r v) p (then_due dues.Define r) (idle r).half r.request events.Nothing (naming_keeps r.half.notes.defining.keeps (name_in r) v) (omega arith) tt
-due_spends dues.DefineAndCall v p r some ok =
+    stored_spends v w p (pending_acts.Release held n b) (after_held held n b) r (record { levels = refl; limit = refl }) (release_weighs held n b r.half.reading.mode r.half.reading.escape)
+pending_spends pending_acts.Define v p r some ok =
+    kept v (naming r v) p (then_pending pending_acts.Define r) (idle r).half r.request events.Nothing (naming_keeps r.half.notes.defining.keeps (name_in r) v) (omega arith) tt
+pending_spends pending_acts.DefineAndCall v p r some ok =
     definition_spends (is_empty r.half.notes.defining.ending) v (naming r v) p r (naming_keeps r.half.notes.defining.keeps (name_in r) v)
-due_spends dues.CallEnding v p r some ok =
-    let name = r.half.notes.defining.ending in name_spends name (words (find name v.names)) v p dues.CallEnding r refl (omega arith) ok
-due_spends dues.Splice v p r some ok = let name = r.half.notes.asked in name_spends name (words (find name v.names)) v p dues.Splice r refl (omega arith) ok
-due_spends (dues.Register signs.None) v p r some ok = bytes_spend (register_text (register_of (find r.half.notes.asked v.registers))) v p (dues.Register signs.None) r ok
-due_spends (dues.Register signs.Plus) v p r some ok =
-    kept v (stepped r.half.notes.asked true v) p (then_due (dues.Register signs.Plus) r) (then_due (dues.Register signs.None) r).half r.request events.Nothing
+pending_spends pending_acts.CallEnding v p r some ok =
+    let name = r.half.notes.defining.ending in name_spends name (words (find name v.names)) v p pending_acts.CallEnding r refl (omega arith) ok
+pending_spends pending_acts.Splice v p r some ok = let name = r.half.notes.asked in name_spends name (words (find name v.names)) v p pending_acts.Splice r refl (omega arith) ok
+pending_spends (pending_acts.Register signs.None) v p r some ok = bytes_spend (register_text (register_of (find r.half.notes.asked v.registers))) v p (pending_acts.Register signs.None) r ok
+pending_spends (pending_acts.Register signs.Plus) v p r some ok =
+    kept v (stepped r.half.notes.asked true v) p (then_pending (pending_acts.Register signs.Plus) r) (then_pending (pending_acts.Register signs.None) r).half r.request events.Nothing
     (written_keeps (option_and_then (gone_on true) (find r.half.notes.asked v.registers)) r.half.notes.asked v) (omega arith) tt
-due_spends (dues.Register signs.Minus) v p r some ok =
-    kept v (stepped r.half.notes.asked false v) p (then_due (dues.Register signs.Minus) r) (then_due (dues.Register signs.None) r).half r.request events.Nothing
+pending_spends (pending_acts.Register signs.Minus) v p r some ok =
+    kept v (stepped r.half.notes.asked false v) p (then_pending (pending_acts.Register signs.Minus) r) (then_pending (pending_acts.Register signs.None) r).half r.request events.Nothing
     (written_keeps (option_and_then (gone_on false) (find r.half.notes.asked v.registers)) r.half.notes.asked v) (omega arith) tt
-due_spends (dues.Argument n) v p r some ok = bytes_spend (argument v.arguments n) v p (dues.Argument n) r ok
-due_spends (dues.Put b) v p r some ok = stored_spends v (gathering b v) p (dues.Put b) dues.Look r (record { levels = refl; limit = refl }) (omega arith)
-due_spends dues.EndArgument v p r some ok =
-    kept v (gathered_whole v) p (then_due dues.EndArgument r) (idle r).half r.request events.Nothing (record { levels = refl; limit = refl }) (omega arith) tt
-due_spends dues.Call v p r some ok = let name = name_in r in call_spends name (words (find name v.names)) v p dues.Call r refl (omega arith) ok
-due_spends dues.Seek v p r some ok =
+pending_spends (pending_acts.Argument n) v p r some ok = bytes_spend (argument v.arguments n) v p (pending_acts.Argument n) r ok
+pending_spends (pending_acts.Put b) v p r some ok = stored_spends v (gathering b v) p (pending_acts.Put b) pending_acts.Look r (record { levels = refl; limit = refl }) (omega arith)
+pending_spends pending_acts.EndArgument v p r some ok =
+    kept v (gathered_whole v) p (then_pending pending_acts.EndArgument r) (idle r).half r.request events.Nothing (record { levels = refl; limit = refl }) (omega arith) tt
+pending_spends pending_acts.Call v p r some ok = let name = name_in r in call_spends name (words (find name v.names)) v p pending_acts.Call r refl (omega arith) ok
+pending_spends pending_acts.Seek v p r some ok =
     let m = meaning_in v r in seeking_spends (calls_of m) v (after_meaning m v) p r (request_of m r.request) (meaning_keeps m v)
-due_spends (dues.Judge b) v p r some ok =
+pending_spends (pending_acts.Judge b) v p r some ok =
     let h = (idle r).half in judged_by (answer_of b h.notes) b (remembering b h).notes b v p r
-due_spends (dues.Lead n) v p r some ok = lead_spends (nat_le n 1) n v p r (leb-true n 1) (leb-false n 1)
-due_spends dues.Expanded v p r some ok = cc
+pending_spends (pending_acts.Lead n) v p r some ok = lead_spends (nat_le n 1) n v p r (leb-true n 1) (leb-false n 1)
+pending_spends pending_acts.Expanded v p r some ok = cc
 
-pub act_pays : {K : Type 0} (v w : Stored K) (p : Reached) (r s : Reader) (e : Event) → (r.half.reading.due ≡ dues.Look → ⊥)
-    → called w s (Ok e) ≡ acted r.half.reading.due v r → Pays v p r (tells.Event e) w p s
+pub act_pays : {K : Type 0} (v w : Stored K) (p : Reached) (r s : Reader) (e : Event) → (r.half.reading.pending_act ≡ pending_acts.Look → ⊥)
+    → called w s (Ok e) ≡ acted r.half.reading.pending_act v r → Pays v p r (tells.Event e) w p s
 act_pays {K} v w p r s e some is =
-    let d = r.half.reading.due in
+    let d = r.half.reading.pending_act in
     let done = acted-ok (answer d v r) (act d v r) v w r s e is in
-    subst (λ (a : Acted K). Pays v p r (tells.Event a.event) a.stored p a.reader) (sym done.1) (due_spends d v p r some done.0)
+    subst (λ (a : Acted K). Pays v p r (tells.Event a.event) a.stored p a.reader) (sym done.1) (pending_spends d v p r some done.0)

@@ -1,4 +1,4 @@
--- What is due begins no diversion.
+-- What is pending begins no diversion.
 use Rattle.std.specs.Prelude.{slice_index}
 use Rattle.std.specs.Option.{option_and_then}
 use Rattle.std.proofs.Common.{◌≡◌, ℕ, ◌≤◌, Bool, true, false, if◌then◌else◌, List, [], ◌∷◌, Option, None, Some, Result, Ok, Err, refl, ap, sym, subst, arith}
@@ -13,8 +13,8 @@ use Rattle.nr_store.specs.declared.named.Meaning.TheVariants as meanings
 use Rattle.nr_store.specs.declared.register.Register.{Register}
 use Rattle.nr_reading.specs.declared.ask.Sign.TheVariants as signs
 use Rattle.nr_reading.specs.declared.event.Event.{Event}
-use Rattle.nr_reading.specs.declared.mode.Due.{Due}
-use Rattle.nr_reading.specs.declared.mode.Due.TheVariants as dues
+use Rattle.nr_reading.specs.declared.mode.PendingAct.{PendingAct}
+use Rattle.nr_reading.specs.declared.mode.PendingAct.TheVariants as pending_acts
 use Rattle.nr_reading.specs.Definitions.{last_line}
 use Rattle.nr_input.specs.declared.reader.Reader.{Reader}
 use Rattle.nr_input.specs.declared.refusal.Refusal.{Refusal}
@@ -74,26 +74,26 @@ meaning_more m v = same v v refl
 
 -- ---- all of it
 
-due_more : {K : Type 0} (d : Due) (v : Stored K) (r : Reader) → NoMore v (act d v r).stored
-due_more dues.Look v r = same v v refl
-due_more dues.Begin v r = base_more r.half.notes.defining.appends (name_in r) v
-due_more (dues.Add b) v r = added_more (elements.Byte b ∷ []) v
-due_more (dues.Release held n b) v r = added_more (elements.Byte (slice_index (last_line r.half.notes.defining) n) ∷ []) v
-due_more dues.Define v r = naming_more r.half.notes.defining.keeps (name_in r) v
-due_more dues.DefineAndCall v r = naming_more r.half.notes.defining.keeps (name_in r) v
-due_more dues.CallEnding v r = entered_more r.half.notes.defining.ending (words (find r.half.notes.defining.ending v.names)) v
-due_more dues.Splice v r = entered_more r.half.notes.asked (words (find r.half.notes.asked v.names)) v
-due_more (dues.Register signs.None) v r = same v (reading_bytes (register_text (register_of (find r.half.notes.asked v.registers))) v) refl
-due_more (dues.Register signs.Plus) v r = written_more (option_and_then (gone_on true) (find r.half.notes.asked v.registers)) r.half.notes.asked v
-due_more (dues.Register signs.Minus) v r = written_more (option_and_then (gone_on false) (find r.half.notes.asked v.registers)) r.half.notes.asked v
-due_more (dues.Argument n) v r = same v (reading_bytes (argument v.arguments n) v) refl
-due_more (dues.Put b) v r = same v (gathering b v) refl
-due_more dues.EndArgument v r = same v (gathered_whole v) refl
-due_more dues.Call v r = called_more (name_in r) (words (find (name_in r) v.names)) v
-due_more dues.Seek v r = meaning_more (meaning_in v r) v
-due_more (dues.Judge b) v r = same v v refl
-due_more (dues.Lead n) v r = same v v refl
-due_more dues.Expanded v r = same v v refl
+pending_more : {K : Type 0} (d : PendingAct) (v : Stored K) (r : Reader) → NoMore v (act d v r).stored
+pending_more pending_acts.Look v r = same v v refl
+pending_more pending_acts.Begin v r = base_more r.half.notes.defining.appends (name_in r) v
+pending_more (pending_acts.Add b) v r = added_more (elements.Byte b ∷ []) v
+pending_more (pending_acts.Release held n b) v r = added_more (elements.Byte (slice_index (last_line r.half.notes.defining) n) ∷ []) v
+pending_more pending_acts.Define v r = naming_more r.half.notes.defining.keeps (name_in r) v
+pending_more pending_acts.DefineAndCall v r = naming_more r.half.notes.defining.keeps (name_in r) v
+pending_more pending_acts.CallEnding v r = entered_more r.half.notes.defining.ending (words (find r.half.notes.defining.ending v.names)) v
+pending_more pending_acts.Splice v r = entered_more r.half.notes.asked (words (find r.half.notes.asked v.names)) v
+pending_more (pending_acts.Register signs.None) v r = same v (reading_bytes (register_text (register_of (find r.half.notes.asked v.registers))) v) refl
+pending_more (pending_acts.Register signs.Plus) v r = written_more (option_and_then (gone_on true) (find r.half.notes.asked v.registers)) r.half.notes.asked v
+pending_more (pending_acts.Register signs.Minus) v r = written_more (option_and_then (gone_on false) (find r.half.notes.asked v.registers)) r.half.notes.asked v
+pending_more (pending_acts.Argument n) v r = same v (reading_bytes (argument v.arguments n) v) refl
+pending_more (pending_acts.Put b) v r = same v (gathering b v) refl
+pending_more pending_acts.EndArgument v r = same v (gathered_whole v) refl
+pending_more pending_acts.Call v r = called_more (name_in r) (words (find (name_in r) v.names)) v
+pending_more pending_acts.Seek v r = meaning_more (meaning_in v r) v
+pending_more (pending_acts.Judge b) v r = same v v refl
+pending_more (pending_acts.Lead n) v r = same v v refl
+pending_more pending_acts.Expanded v r = same v v refl
 
 stored_by_more : {K : Type 0} (x : Result (Unit {0}) Refusal) (v w : Stored K) → NoMore v w → NoMore v (stored_by x w v)
 stored_by_more (Ok x) v w few = few
@@ -101,9 +101,9 @@ stored_by_more (Err refusals.Expansions) v w few = few
 stored_by_more (Err e) v w few = same v v refl
 
 -- the same, as the program has it
-pub act_begins_none : {K : Type 0} (v w : Stored K) (r s : Reader) (x : Result Event Refusal) → called w s x ≡ acted r.half.reading.due v r
+pub act_begins_none : {K : Type 0} (v w : Stored K) (r s : Reader) (x : Result Event Refusal) → called w s x ≡ acted r.half.reading.pending_act v r
     → diversions_in w.building ≤ diversions_in v.building
 act_begins_none {K} v w r s x is =
-    let d = r.half.reading.due in
+    let d = r.half.reading.pending_act in
     let there : w ≡ stored_by (answer d v r) (act d v r).stored v = ap (λ (c : Called K (Result Event Refusal)). c.stored) is in
-    let few : NoMore v w = subst (λ (y : Stored K). NoMore v y) (sym there) (stored_by_more (answer d v r) v (act d v r).stored (due_more d v r)) in few.within
+    let few : NoMore v w = subst (λ (y : Stored K). NoMore v y) (sym there) (stored_by_more (answer d v r) v (act d v r).stored (pending_more d v r)) in few.within

@@ -1,4 +1,4 @@
--- What a move does that is due, whatever limits it passes. Where it is refused stands in Refusal.
+-- What a move does that is pending, whatever limits it passes. Where it is refused stands in Refusal.
 use Rattle.std.specs.Prelude.{ℕ, ◌+◌, ◌-◌, nat_le, nat_lt, Bool, true, false, if◌then◌else◌, List, [], ◌∷◌, slice_index, Option, None, Some, is_some}
 use Rattle.nr_units.specs.NumberText.{number_text}
 use Rattle.nr_levels.specs.Levels.{argument}
@@ -16,8 +16,8 @@ use Rattle.nr_reading.specs.declared.event.Event.TheVariants as events
 use Rattle.nr_reading.specs.declared.half.Half.{Half}
 use Rattle.nr_reading.specs.declared.mode.Calls.{Calls}
 use Rattle.nr_reading.specs.declared.mode.Calls.TheVariants as calls
-use Rattle.nr_reading.specs.declared.mode.Due.{Due}
-use Rattle.nr_reading.specs.declared.mode.Due.TheVariants as dues
+use Rattle.nr_reading.specs.declared.mode.PendingAct.{PendingAct}
+use Rattle.nr_reading.specs.declared.mode.PendingAct.TheVariants as pending_acts
 use Rattle.nr_reading.specs.Conditionals.{judged}
 use Rattle.nr_reading.specs.Definitions.{last_line}
 use Rattle.nr_reading.specs.Seeking.{sought, sought_event}
@@ -33,18 +33,18 @@ pub record Acted (K : Type 0) : Type 0 where
 abbrev pub done : {K : Type 0} → Event → Stored K → Reader → Acted K
 done e v r = record { stored = v; reader = r; event = e }
 
--- with this due next
-abbrev pub next : Due → Half → Half
-next d h = record h { reading = record h.reading { due = d } }
+-- with this pending next
+abbrev pub next : PendingAct → Half → Half
+next d h = record h { reading = record h.reading { pending_act = d } }
 
 abbrev pub on_half : (Half → Half) → Reader → Reader
 on_half f r = record r { half = f r.half }
 
-abbrev pub then_due : Due → Reader → Reader
-then_due d r = on_half (next d) r
+abbrev pub then_pending : PendingAct → Reader → Reader
+then_pending d r = on_half (next d) r
 
 abbrev pub idle : Reader → Reader
-idle r = then_due dues.Look r
+idle r = then_pending pending_acts.Look r
 
 -- ---- definitions
 
@@ -56,13 +56,13 @@ name_in r = name_of r.half.notes.name
 abbrev pub base_of : {K : Type 0} → Reader → Stored K → Stored K
 base_of r v = if r.half.notes.defining.appends then begun (text_of (name_in r) v) None v else begun [] None v
 
-abbrev pub adding_byte : {K : Type 0} → ℕ → Due → Stored K → Reader → Acted K
-adding_byte b d v r = done events.Nothing (added (elements.Byte b ∷ []) v) (then_due d r)
+abbrev pub adding_byte : {K : Type 0} → ℕ → PendingAct → Stored K → Reader → Acted K
+adding_byte b d v r = done events.Nothing (added (elements.Byte b ∷ []) v) (then_pending d r)
 
--- what is due after a byte that was held back
-abbrev pub after_held : ℕ → ℕ → Option ℕ → Due
-after_held held n (Some b) = if nat_lt (n + 1) held then dues.Release held (n + 1) (Some b) else dues.Add b
-after_held held n None = if nat_lt (n + 1) held then dues.Release held (n + 1) None else dues.Look
+-- what is pending after a byte that was held back
+abbrev pub after_held : ℕ → ℕ → Option ℕ → PendingAct
+after_held held n (Some b) = if nat_lt (n + 1) held then pending_acts.Release held (n + 1) (Some b) else pending_acts.Add b
+after_held held n None = if nat_lt (n + 1) held then pending_acts.Release held (n + 1) None else pending_acts.Look
 
 abbrev pub act_release : {K : Type 0} → ℕ → ℕ → Option ℕ → Stored K → Reader → Acted K
 act_release held n b v r =
@@ -72,8 +72,8 @@ act_release held n b v r =
 abbrev pub naming : {K : Type 0} → Reader → Stored K → Stored K
 naming r v = if r.half.notes.defining.keeps then defined (name_in r) v else v
 
-abbrev pub after_definition : Reader → Due
-after_definition r = if is_empty r.half.notes.defining.ending then dues.Look else dues.CallEnding
+abbrev pub after_definition : Reader → PendingAct
+after_definition r = if is_empty r.half.notes.defining.ending then pending_acts.Look else pending_acts.CallEnding
 
 -- ---- splices
 
@@ -136,49 +136,49 @@ after_meaning meanings.Text v = ungathered v
 after_meaning m v = v
 
 -- what is half read after a name that means this
-abbrev pub behind_name : Meaning → Reader → Reader
-behind_name m r =
-    record r { half = sought (calls_of m) (next dues.Look r.half); request = request_of m r.request }
+abbrev pub after_name : Meaning → Reader → Reader
+after_name m r =
+    record r { half = sought (calls_of m) (next pending_acts.Look r.half); request = request_of m r.request }
 
 abbrev pub seeking : {K : Type 0} → Meaning → Stored K → Reader → Acted K
 seeking m v r =
     done (sought_event (calls_of m)) (after_meaning m v)
-    (record r { half = sought (calls_of m) (next dues.Look r.half); request = request_of m r.request })
+    (record r { half = sought (calls_of m) (next pending_acts.Look r.half); request = request_of m r.request })
 
 -- ---- the blanks that a text line begins with
 
-abbrev pub after_lead : ℕ → Due
-after_lead n = if nat_le n 1 then dues.Look else dues.Lead (n - 1)
+abbrev pub after_lead : ℕ → PendingAct
+after_lead n = if nat_le n 1 then pending_acts.Look else pending_acts.Lead (n - 1)
 
 -- ---- all of it
 
-abbrev pub act : {K : Type 0} → Due → Stored K → Reader → Acted K
-act dues.Look v r = done events.Nothing v r
-act dues.Begin v r = done events.Nothing (base_of r v) (idle r)
-act (dues.Add b) v r = adding_byte b dues.Look v r
-act (dues.Release held n b) v r = act_release held n b v r
-act dues.Define v r = done events.Nothing (naming r v) (idle r)
-act dues.DefineAndCall v r = done events.Nothing (naming r v) (then_due (after_definition r) r)
-act dues.CallEnding v r = splicing_name r.half.notes.defining.ending v r
-act dues.Splice v r = splicing_name r.half.notes.asked v r
-act (dues.Register signs.None) v r =
+abbrev pub act : {K : Type 0} → PendingAct → Stored K → Reader → Acted K
+act pending_acts.Look v r = done events.Nothing v r
+act pending_acts.Begin v r = done events.Nothing (base_of r v) (idle r)
+act (pending_acts.Add b) v r = adding_byte b pending_acts.Look v r
+act (pending_acts.Release held n b) v r = act_release held n b v r
+act pending_acts.Define v r = done events.Nothing (naming r v) (idle r)
+act pending_acts.DefineAndCall v r = done events.Nothing (naming r v) (then_pending (after_definition r) r)
+act pending_acts.CallEnding v r = splicing_name r.half.notes.defining.ending v r
+act pending_acts.Splice v r = splicing_name r.half.notes.asked v r
+act (pending_acts.Register signs.None) v r =
     splicing_bytes (register_text (register_of (find r.half.notes.asked v.registers))) v r
 -- the step is added or taken away first
-act (dues.Register signs.Plus) v r =
-    done events.Nothing (stepped r.half.notes.asked true v) (then_due (dues.Register signs.None) r)
-act (dues.Register signs.Minus) v r =
-    done events.Nothing (stepped r.half.notes.asked false v) (then_due (dues.Register signs.None) r)
+act (pending_acts.Register signs.Plus) v r =
+    done events.Nothing (stepped r.half.notes.asked true v) (then_pending (pending_acts.Register signs.None) r)
+act (pending_acts.Register signs.Minus) v r =
+    done events.Nothing (stepped r.half.notes.asked false v) (then_pending (pending_acts.Register signs.None) r)
 -- a missing argument is empty
-act (dues.Argument n) v r = splicing_bytes (argument v.arguments n) v r
-act (dues.Put b) v r = done events.Nothing (gathering b v) (idle r)
-act dues.EndArgument v r = done events.Nothing (gathered_whole v) (idle r)
-act dues.Call v r = act_call v r
-act dues.Seek v r = seeking (meaning_in v r) v r
-act (dues.Judge b) v r = done events.Nothing v (on_half (λ h. judged b (next dues.Look h)) r)
-act (dues.Lead n) v r = done events.Lead v (then_due (after_lead n) r)
+act (pending_acts.Argument n) v r = splicing_bytes (argument v.arguments n) v r
+act (pending_acts.Put b) v r = done events.Nothing (gathering b v) (idle r)
+act pending_acts.EndArgument v r = done events.Nothing (gathered_whole v) (idle r)
+act pending_acts.Call v r = act_call v r
+act pending_acts.Seek v r = seeking (meaning_in v r) v r
+act (pending_acts.Judge b) v r = done events.Nothing v (on_half (λ h. judged b (next pending_acts.Look h)) r)
+act (pending_acts.Lead n) v r = done events.Lead v (then_pending (after_lead n) r)
 -- a splice was refused, and is from then on
-act dues.Expanded v r = done events.Nothing v r
+act pending_acts.Expanded v r = done events.Nothing v r
 
-abbrev pub is_look : Due → Bool
-is_look dues.Look = true
+abbrev pub is_look : PendingAct → Bool
+is_look pending_acts.Look = true
 is_look d = false

@@ -1,6 +1,6 @@
 pub mod Acting
 pub mod Place
-pub mod Told
+pub mod Emitted
 pub mod Laws
 pub mod Limits
 pub mod Moving

@@ -6,14 +6,14 @@ use Rattle.nr_store.specs.declared.request.Request.TheVariants as requests
 use Rattle.nr_store.specs.declared.shown.Shown.{Shown}
 use Rattle.nr_store.specs.declared.shown.Shown.TheVariants as shows
 use Rattle.nr_reading.specs.declared.event.Event.{Event}
-use Rattle.nr_reading.specs.Half.{Met, meet, nothing_half}
+use Rattle.nr_reading.specs.Half.{TakenIn, take_in, nothing_half}
 use Rattle.nr_input.specs.declared.reader.Reader.{Reader}
 use Rattle.nr_input.specs.declared.refusal.Refusal.{Refusal}
-use Rattle.nr_input.specs.declared.told.Told.{Told}
-use Rattle.nr_input.specs.declared.told.Told.TheVariants as tells
+use Rattle.nr_input.specs.declared.emitted.Emitted.{Emitted}
+use Rattle.nr_input.specs.declared.emitted.Emitted.TheVariants as tells
 use Rattle.nr_input.specs.Acting.{Acted, act, is_look}
 use Rattle.nr_input.specs.Refusal.{answer, stored_by, reader_by}
-use Rattle.nr_input.specs.Place.{Coming, Reached, HoldsComing, front, behind, MayLook, RefusesLook}
+use Rattle.nr_input.specs.Place.{Coming, Reached, HoldsComing, next_item, afterwards, MayLook, RefusesLook}
 
 -- nothing was read, under a limit of so many splices
 abbrev pub nothing_read : ℕ → Reader
@@ -31,7 +31,7 @@ situation stored coming reader = record { stored = stored; coming = coming; read
 -- where a move leads, and what it tells
 pub record Move (K : Type 0) : Type 0 where
   pub situation : Situation K
-  pub told : Told K
+  pub emitted : Emitted K
 
 -- ---- an item
 
@@ -42,51 +42,51 @@ burst_past before taken burst = if taken == before then burst else 0
 abbrev pub burst_after : Coming → Coming → ℕ → ℕ
 burst_after before after burst = burst_past before.taken after.taken burst
 
--- what is told: a resume mark that is taken resumes what was under way
-abbrev pub told_of : {K : Type 0} → Shown K → Event → Told K
-told_of (shows.Resume k) e = tells.Resume k
-told_of s e = tells.Event e
+-- what is emitted: a resume mark that is taken resumes what was under way
+abbrev pub emitted_of : {K : Type 0} → Shown K → Event → Emitted K
+emitted_of (shows.Resume k) e = tells.Resume k
+emitted_of s e = tells.Event e
 
--- the item in front has met what is half read, and is taken
-abbrev pub taken_at : {K : Type 0} → Met → Situation K → Move K
+-- the next item has come to what is half read, and is taken
+abbrev pub taken_at : {K : Type 0} → TakenIn → Situation K → Move K
 taken_at m s = record {
-  situation = situation (left s.stored.levels s.stored) (behind (shown s.stored.levels) s.coming)
+  situation = situation (left s.stored.levels s.stored) (afterwards (shown s.stored.levels) s.coming)
       (record s.reader {
         half = m.half;
-        burst = burst_after s.coming (behind (shown s.stored.levels) s.coming)
+        burst = burst_after s.coming (afterwards (shown s.stored.levels) s.coming)
             s.reader.burst;
       });
-  told = told_of (shown s.stored.levels) m.event;
+  emitted = emitted_of (shown s.stored.levels) m.event;
 }
 
 -- it stays
-abbrev pub stays_at : {K : Type 0} → Met → Situation K → Move K
+abbrev pub stays_at : {K : Type 0} → TakenIn → Situation K → Move K
 stays_at m s =
-    record { situation = record s { reader = record s.reader { half = m.half } }; told = tells.Event m.event }
+    record { situation = record s { reader = record s.reader { half = m.half } }; emitted = tells.Event m.event }
 
-abbrev pub met_at : {K : Type 0} → Met → Situation K → Move K
-met_at m s = if m.takes then taken_at m s else stays_at m s
+abbrev pub taken_in_at : {K : Type 0} → TakenIn → Situation K → Move K
+taken_in_at m s = if m.takes then taken_at m s else stays_at m s
 
 abbrev pub look : {K : Type 0} → Situation K → Move K
-look s = met_at (meet (front (shown s.stored.levels) s.coming) s.reader.half) s
+look s = taken_in_at (take_in (next_item (shown s.stored.levels) s.coming) s.reader.half) s
 
--- ---- what is due
+-- ---- what is pending
 
 abbrev pub acting : {K : Type 0} → Situation K → Acted K
-acting s = act s.reader.half.reading.due s.stored s.reader
+acting s = act s.reader.half.reading.pending_act s.stored s.reader
 
 -- it is done
 abbrev pub acted_at : {K : Type 0} → Situation K → Move K
 acted_at s =
     record {
       situation = situation (acting s).stored s.coming (acting s).reader;
-      told = tells.Event (acting s).event;
+      emitted = tells.Event (acting s).event;
     }
 
 -- ---- a move
 
 abbrev pub looks : {K : Type 0} → Situation K → Bool
-looks s = is_look s.reader.half.reading.due
+looks s = is_look s.reader.half.reading.pending_act
 
 -- one move, whatever limits it passes
 abbrev pub move : {K : Type 0} → Situation K → Move K
@@ -94,9 +94,9 @@ move s = if looks s then look s else acted_at s
 
 -- ---- which moves are made
 
--- whether what is due is done, or why not
+-- whether what is pending is done, or why not
 abbrev pub answer_at : {K : Type 0} → Situation K → Result (Unit {0}) Refusal
-answer_at s = answer s.reader.half.reading.due s.stored s.reader
+answer_at s = answer s.reader.half.reading.pending_act s.stored s.reader
 
 abbrev pub GoesBy : {K : Type 0} → Bool → Situation K → Type 0
 GoesBy true s = MayLook (shown s.stored.levels) s.coming
@@ -126,7 +126,7 @@ pub record Stands {K : Type 0} (s : Situation K) (v : Stored K) (r : Reader) (p 
   pub coming : HoldsComing s.coming p supply
 
 -- a move was made, or why not
-abbrev pub AfterMove : {K : Type 0} → Situation K → Result (Told K) Refusal → Stored K → Reader → Reached
+abbrev pub AfterMove : {K : Type 0} → Situation K → Result (Emitted K) Refusal → Stored K → Reader → Reached
     → Option Supply → Type 0
-AfterMove s (Ok t) v r p supply = (t ≡ (move s).told) × Stands (move s).situation v r p supply × Goes s
+AfterMove s (Ok t) v r p supply = (t ≡ (move s).emitted) × Stands (move s).situation v r p supply × Goes s
 AfterMove s (Err e) v r p supply = Refuses s e × Stands (stuck e s) v r p supply

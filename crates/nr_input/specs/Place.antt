@@ -6,8 +6,8 @@ use Rattle.nr_store.specs.declared.element.Element.{Element}
 use Rattle.nr_store.specs.declared.element.Element.TheVariants as elements
 use Rattle.nr_store.specs.declared.shown.Shown.{Shown}
 use Rattle.nr_store.specs.declared.shown.Shown.TheVariants as shows
-use Rattle.nr_reading.specs.declared.front.Front.{Front}
-use Rattle.nr_reading.specs.declared.front.Front.TheVariants as fronts
+use Rattle.nr_reading.specs.declared.next_item.NextItem.{NextItem}
+use Rattle.nr_reading.specs.declared.next_item.NextItem.TheVariants as next_items
 use Rattle.nr_input.specs.declared.place.Ahead.{Ahead}
 use Rattle.nr_input.specs.declared.place.Ahead.TheVariants.{Unseen, Byte, End, Failed, TooMany}
 use Rattle.nr_input.specs.declared.refusal.Refusal.{Refusal}
@@ -31,37 +31,37 @@ emptied c = record { supply = record { bytes = []; faults = Never }; taken = c.t
 
 -- ---- the items
 
--- what the source has in front: a byte, the newline that is added, or nothing
-abbrev pub front_of : List ℕ → Bool → Front
-front_of (b ∷ bs) inside = fronts.Byte b
-front_of [] true = fronts.Byte (code "\n")
-front_of [] false = fronts.Over
+-- what the source has next: a byte, the newline that is added, or nothing
+abbrev pub next_item_of : List ℕ → Bool → NextItem
+next_item_of (b ∷ bs) inside = next_items.Byte b
+next_item_of [] true = next_items.Byte (code "\n")
+next_item_of [] false = next_items.Over
 
-abbrev pub element_front : Element → Front
-element_front (elements.Byte b) = fronts.Byte b
-element_front (elements.Cell c) = fronts.Cell c
-element_front (elements.LineEnd h) = fronts.LineEnd h
+abbrev pub element_item : Element → NextItem
+element_item (elements.Byte b) = next_items.Byte b
+element_item (elements.Cell c) = next_items.Cell c
+element_item (elements.LineEnd h) = next_items.LineEnd h
 
--- the item in front of the list: the levels' first, by what a look at them shows
-abbrev pub front : {K : Type 0} → Shown K → Coming → Front
-front shows.Nothing c = front_of c.supply.bytes c.inside
-front shows.End c = fronts.Mark
-front (shows.Item x) c = element_front x
-front (shows.Resume k) c = fronts.Resume
+-- the next item of the list: the levels' first, by what a look at them shows
+abbrev pub next_item : {K : Type 0} → Shown K → Coming → NextItem
+next_item shows.Nothing c = next_item_of c.supply.bytes c.inside
+next_item shows.End c = next_items.Mark
+next_item (shows.Item x) c = element_item x
+next_item (shows.Resume k) c = next_items.Resume
 
-abbrev pub after_front_of : List ℕ → Coming → Coming
-after_front_of (b ∷ bs) c =
+abbrev pub after_item_of : List ℕ → Coming → Coming
+after_item_of (b ∷ bs) c =
     record {
       supply = record { bytes = bs; faults = one_later c.supply.faults };
       taken = c.taken + 1;
       inside = not (b == code "\n");
     }
-after_front_of [] c = record c { inside = false }
+after_item_of [] c = record c { inside = false }
 
--- what is to come of the source after the item in front of the list
-abbrev pub behind : {K : Type 0} → Shown K → Coming → Coming
-behind shows.Nothing c = after_front_of c.supply.bytes c
-behind s c = c
+-- what is to come of the source after the next item of the list
+abbrev pub afterwards : {K : Type 0} → Shown K → Coming → Coming
+afterwards shows.Nothing c = after_item_of c.supply.bytes c
+afterwards s c = c
 
 -- the byte that is there, if one is, would be the 2^40th
 abbrev pub IsOneTooMany : List ℕ → ℕ → Type 0
@@ -133,22 +133,22 @@ abbrev pub RefusesLook : {K : Type 0} → Shown K → Coming → Refusal → Typ
 RefusesLook shows.Nothing c r = RefusesSight c r
 RefusesLook s c r = ⊥
 
--- the front of the list was looked at, or not
-abbrev pub AfterLook : {K : Type 0} → Shown K → Coming → Result Front Refusal → Reached
+-- the next item of the list was looked at, or not
+abbrev pub AfterLook : {K : Type 0} → Shown K → Coming → Result NextItem Refusal → Reached
     → Option Supply → Type 0
-AfterLook s c (Ok f) p supply = (f ≡ front s c) × HoldsComing c p supply × MayLook s c
+AfterLook s c (Ok f) p supply = (f ≡ next_item s c) × HoldsComing c p supply × MayLook s c
 AfterLook s c (Err r) p supply = HoldsComing c p supply × RefusesLook s c r
 
--- the front of the list was looked at
+-- the next item of the list was looked at
 abbrev pub is_ready : {K : Type 0} → Shown K → Ahead → Bool
 is_ready shows.Nothing ahead = is_seen ahead
 is_ready s ahead = true
 
--- what the source has in front, once it was looked at
-abbrev pub seen_front : Ahead → Bool → Front
-seen_front (Byte b) inside = fronts.Byte b
-seen_front End inside = if inside then fronts.Byte (code "\n") else fronts.Over
-seen_front a inside = fronts.Over
+-- what the source has next, once it was looked at
+abbrev pub seen_item : Ahead → Bool → NextItem
+seen_item (Byte b) inside = next_items.Byte b
+seen_item End inside = if inside then next_items.Byte (code "\n") else next_items.Over
+seen_item a inside = next_items.Over
 
 -- after it
 abbrev pub passed_by : Ahead → Reached → Reached
@@ -163,12 +163,12 @@ passed p = passed_by p.ahead p
 abbrev pub passed_run : ℕ → ℕ → Reached → Reached
 passed_run last n p = record { ahead = Unseen; taken = p.taken + n; inside = not (last == code "\n") }
 
--- the item in front, as the program sees it once the source was looked at
-abbrev pub front_seen : {K : Type 0} → Shown K → Reached → Front
-front_seen shows.Nothing p = seen_front p.ahead p.inside
-front_seen shows.End p = fronts.Mark
-front_seen (shows.Item x) p = element_front x
-front_seen (shows.Resume k) p = fronts.Resume
+-- the next item, as the program sees it once the source was looked at
+abbrev pub next_item_seen : {K : Type 0} → Shown K → Reached → NextItem
+next_item_seen shows.Nothing p = seen_item p.ahead p.inside
+next_item_seen shows.End p = next_items.Mark
+next_item_seen (shows.Item x) p = element_item x
+next_item_seen (shows.Resume k) p = next_items.Resume
 
 -- after it: where there is a level the source stays
 abbrev pub passed_in : {K : Type 0} → Shown K → Reached → Reached

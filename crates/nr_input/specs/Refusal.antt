@@ -2,8 +2,8 @@
 use Rattle.std.specs.Prelude.{ℕ, ◌-◌, ◌==◌, nat_le, Bool, true, false, if◌then◌else◌, Result, Ok, Err}
 use Rattle.nr_reading.specs.declared.ask.Sign.TheVariants as signs
 use Rattle.nr_reading.specs.declared.event.Event.{Event}
-use Rattle.nr_reading.specs.declared.mode.Due.{Due}
-use Rattle.nr_reading.specs.declared.mode.Due.TheVariants as dues
+use Rattle.nr_reading.specs.declared.mode.PendingAct.{PendingAct}
+use Rattle.nr_reading.specs.declared.mode.PendingAct.TheVariants as pending_acts
 use Rattle.nr_reading.specs.declared.mode.Escape.{Escape}
 use Rattle.nr_reading.specs.declared.mode.Escape.TheVariants as escapes
 use Rattle.nr_store.specs.Store.{Stored, afforded, checked}
@@ -13,7 +13,7 @@ use Rattle.nr_store.specs.declared.refusal.StoredBytes.{StoredBytes}
 use Rattle.nr_input.specs.declared.reader.Reader.{Reader}
 use Rattle.nr_input.specs.declared.refusal.Refusal.{Refusal}
 use Rattle.nr_input.specs.declared.refusal.Refusal.TheVariants as refusals
-use Rattle.nr_input.specs.Acting.{Acted, act, then_due, name_in, has_text}
+use Rattle.nr_input.specs.Acting.{Acted, act, then_pending, name_in, has_text}
 
 -- ---- limits
 
@@ -44,9 +44,9 @@ storing_by (Err e) = Err refusals.Stored
 abbrev pub storing_answer : {K : Type 0} → Stored K → Result (Unit {0}) Refusal
 storing_answer new = storing_by (afforded new tt)
 
--- ---- what is due
+-- ---- what is pending
 
--- what a move that is due asks of the limits
+-- what a move that is pending asks of the limits
 pub data Asking : Type 0 where
   -- nothing
   Nothing : Asking
@@ -57,17 +57,17 @@ pub data Asking : Type 0 where
   -- a splice was refused, and is from then on
   Refused : Asking
 
-abbrev pub asking : {K : Type 0} → Due → Stored K → Reader → Asking
-asking dues.Begin v r = Bytes
-asking (dues.Add b) v r = Bytes
-asking (dues.Release held n b) v r = Bytes
-asking (dues.Put b) v r = Bytes
-asking dues.CallEnding v r = Splice (has_text r.half.notes.defining.ending v)
-asking dues.Splice v r = Splice (has_text r.half.notes.asked v)
-asking (dues.Register signs.None) v r = Splice true
-asking (dues.Argument n) v r = Splice true
-asking dues.Call v r = Splice (has_text (name_in r) v)
-asking dues.Expanded v r = Refused
+abbrev pub asking : {K : Type 0} → PendingAct → Stored K → Reader → Asking
+asking pending_acts.Begin v r = Bytes
+asking (pending_acts.Add b) v r = Bytes
+asking (pending_acts.Release held n b) v r = Bytes
+asking (pending_acts.Put b) v r = Bytes
+asking pending_acts.CallEnding v r = Splice (has_text r.half.notes.defining.ending v)
+asking pending_acts.Splice v r = Splice (has_text r.half.notes.asked v)
+asking (pending_acts.Register signs.None) v r = Splice true
+asking (pending_acts.Argument n) v r = Splice true
+asking pending_acts.Call v r = Splice (has_text (name_in r) v)
+asking pending_acts.Expanded v r = Refused
 asking d v r = Nothing
 
 -- how that is answered, by what it leads to
@@ -77,8 +77,8 @@ answer_to Bytes new r = storing_answer new
 answer_to (Splice is_text) new r = splicing_answer is_text new r
 answer_to Refused new r = Err refusals.Expansions
 
--- whether what is due is done, or why not
-abbrev pub answer : {K : Type 0} → Due → Stored K → Reader → Result (Unit {0}) Refusal
+-- whether what is pending is done, or why not
+abbrev pub answer : {K : Type 0} → PendingAct → Stored K → Reader → Result (Unit {0}) Refusal
 answer d v r = answer_to (asking d v r) (act d v r).stored r
 
 -- ---- where a refused call stays
@@ -102,7 +102,7 @@ stored_by (Err e) new v = v
 
 abbrev pub reader_by : Result (Unit {0}) Refusal → Reader → Reader → Reader
 reader_by (Ok x) after r = after
-reader_by (Err refusals.Expansions) after r = then_due dues.Expanded r
+reader_by (Err refusals.Expansions) after r = then_pending pending_acts.Expanded r
 reader_by (Err e) after r = r
 
 -- what it answers then
@@ -119,8 +119,8 @@ abbrev pub acted_by : {K : Type 0} → Result (Unit {0}) Refusal → Acted K →
     → Called K (Result Event Refusal)
 acted_by x a v r = called_by x a.stored a.reader a.event v r
 
--- what comes of what is due
-abbrev pub acted : {K : Type 0} → Due → Stored K → Reader → Called K (Result Event Refusal)
+-- what comes of what is pending
+abbrev pub acted : {K : Type 0} → PendingAct → Stored K → Reader → Called K (Result Event Refusal)
 acted d v r = acted_by (answer d v r) (act d v r) v r
 
 -- ---- the place of the input that is reported
@@ -128,13 +128,13 @@ acted d v r = acted_by (answer d v r) (act d v r) v r
 -- A string's text is charged before its first element is taken. Where that element begins with a `\`, what stands after the `\`
 -- tells so: this byte was read, and counts with its element. One that a level gave is no byte of the input: there is a level
 -- only after a splice, and none was made since the last byte.
-abbrev pub uncounted_by : Due → Escape → ℕ → ℕ
-uncounted_by dues.Begin escapes.Begun burst = if burst == 0 then 1 else 0
+abbrev pub uncounted_by : PendingAct → Escape → ℕ → ℕ
+uncounted_by pending_acts.Begin escapes.Begun burst = if burst == 0 then 1 else 0
 uncounted_by d e burst = 0
 
 abbrev pub uncounted : Reader → ℕ
-uncounted r = uncounted_by r.half.reading.due r.half.reading.escape r.burst
+uncounted r = uncounted_by r.half.reading.pending_act r.half.reading.escape r.burst
 
 -- where a limit is reported, so many bytes having been read
-abbrev pub place_told : ℕ → Reader → ℕ
-place_told taken r = taken - uncounted r
+abbrev pub place_reported : ℕ → Reader → ℕ
+place_reported taken r = taken - uncounted r

@@ -7,8 +7,8 @@ use Rattle.nr_reading.specs.declared.half.Half.{Half}
 use Rattle.nr_reading.specs.Weights.{item_worth, cost_of_text, cost_of_event, weight_of_start, weight_of_text, weight_of_half, blanks_owed}
 use Rattle.nr_input.specs.declared.reader.Reader.{Reader}
 use Rattle.nr_input.specs.declared.refusal.Refusal.{Refusal}
-use Rattle.nr_input.specs.declared.told.Told.{Told}
-use Rattle.nr_input.specs.declared.told.Told.TheVariants as tells
+use Rattle.nr_input.specs.declared.emitted.Emitted.{Emitted}
+use Rattle.nr_input.specs.declared.emitted.Emitted.TheVariants as tells
 use Rattle.nr_input.specs.Place.{Reached}
 
 -- ---- the items before the next byte: those of the levels, their marks among them, and the newline that is added
@@ -60,12 +60,12 @@ abbrev pub left_to_resume : ℕ
 left_to_resume = 2 * item_worth - 2
 
 -- what a move costs by what it tells
-abbrev pub cost_of_told : {K : Type 0} → Told K → ℕ
-cost_of_told (tells.Event e) = cost_of_event e
-cost_of_told (tells.Resume k) = left_to_resume + 1
+abbrev pub cost_of_emitted : {K : Type 0} → Emitted K → ℕ
+cost_of_emitted (tells.Event e) = cost_of_event e
+cost_of_emitted (tells.Resume k) = left_to_resume + 1
 
--- a blank of a line's beginning is told
-abbrev pub IfLead : {K : Type 0} → Told K → Type 0 → Type 0
+-- a blank of a line's beginning is emitted
+abbrev pub IfLead : {K : Type 0} → Emitted K → Type 0 → Type 0
 IfLead (tells.Event events.Lead) P = P
 IfLead t P = Unit {0}
 
@@ -74,17 +74,17 @@ abbrev pub risen : Half → Half → ℕ
 risen old new = blanks_owed new - blanks_owed old
 
 -- A move was made: it is paid out of what may still come, and a byte that it takes pays this much or more. Of the blanks that
--- are owed each that is told takes one off.
-pub record Pays {K : Type 0} (v : Stored K) (p : Reached) (r : Reader) (t : Told K) (v' : Stored K)
+-- are owed each that is emitted takes one off.
+pub record Pays {K : Type 0} (v : Stored K) (p : Reached) (r : Reader) (t : Emitted K) (v' : Stored K)
     (p' : Reached) (r' : Reader) : Type 0 where
   pub limit : v'.limit ≡ v.limit
   pub most : r'.most ≡ r.most
   pub pays : (worth : ℕ) → byte_worth r.most v.limit ≤ worth →
-      weight_before_byte v' p' r' + cost_of_told t + cost_of_text * risen r.half r'.half + worth * p.taken
+      weight_before_byte v' p' r' + cost_of_emitted t + cost_of_text * risen r.half r'.half + worth * p.taken
       ≤ weight_before_byte v p r + worth * p'.taken
   pub lead : IfLead t (blanks_owed r'.half + 1 ≡ blanks_owed r.half)
 
-abbrev pub PaysIfMade : {K : Type 0} → Stored K → Reached → Reader → Result (Told K) Refusal → Stored K
+abbrev pub PaysIfMade : {K : Type 0} → Stored K → Reached → Reader → Result (Emitted K) Refusal → Stored K
     → Reached → Reader → Type 0
 PaysIfMade v p r (Ok t) v' p' r' = Pays v p r t v' p' r'
 PaysIfMade v p r (Err e) v' p' r' = Unit {0}

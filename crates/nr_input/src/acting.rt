@@ -1,10 +1,10 @@
-//! What a move does that is due.
+//! What a move does that is pending.
 ghost use Rattle.std.specs.Prelude.{◌≡◌};
 ghost use Rattle.nr_input.specs.Acting.{calls_of, calls_of_request, request_of, after_held, after_lead};
 
 use super::reader::Reader;
 use super::refusal::Refusal;
-use nr_reading::{Calls, Due, Event, Sign};
+use nr_reading::{Calls, Event, PendingAct, Sign};
 use nr_store::{Element, Meaning, Request, Store};
 use nr_units::{Name, format_number};
 
@@ -44,37 +44,37 @@ fn request_of(meaning: Meaning, old: Request) -> Request
     }
 }
 
-// What is due after a byte that was held back.
-fn after_held(held: u8, next: u8, then: Option<u8>) -> Due
+// What is pending after a byte that was held back.
+fn after_held(held: u8, next: u8, then: Option<u8>) -> PendingAct
     ensures { result ≡ after_held held next then }
 {
     if next < held && next + 1 < held {
-        return Due::Release {
+        return PendingAct::Release {
             held,
             next: next + 1,
             then,
         };
     }
     match then {
-        Some(byte) => Due::Add(byte),
-        None => Due::Look,
+        Some(byte) => PendingAct::Add(byte),
+        None => PendingAct::Look,
     }
 }
 
-// What is due after one of the blanks that a text line begins with.
-fn after_lead(count: u32) -> Due
+// What is pending after one of the blanks that a text line begins with.
+fn after_lead(count: u32) -> PendingAct
     ensures { result ≡ after_lead count }
 {
     if count <= 1 {
-        return Due::Look;
+        return PendingAct::Look;
     }
-    Due::Lead(count - 1)
+    PendingAct::Lead(count - 1)
 }
 
 impl Reader {
     ghost use Rattle.std.specs.Prelude.{◌+◌, ◌≤◌, true, Ok};
     ghost use Rattle.nr_store.specs.Store.{stepped};
-    ghost use Rattle.nr_input.specs.Acting.{name_in, adding_byte, naming, after_definition, has_text, expanded, splicing_name, splicing_bytes, meaning_in, is_look, then_due, behind_name};
+    ghost use Rattle.nr_input.specs.Acting.{name_in, adding_byte, naming, after_definition, has_text, expanded, splicing_name, splicing_bytes, meaning_in, is_look, then_pending, after_name};
     ghost use Rattle.nr_reading.specs.Seeking.{sought_event};
     ghost use Rattle.nr_input.specs.Refusal.{expanding_answer, storing_answer, splicing_answer, called, reader_by, answered, acted_by, acted};
 
@@ -84,11 +84,11 @@ impl Reader {
         ensures answer { result ≡ answered (expanding_answer self.old) Event.Nothing }
     {
         if self.burst >= self.most {
-            self.half.reading.due = Due::Expanded;
+            self.half.reading.pending_act = PendingAct::Expanded;
             return Err(Refusal::Expansions);
         }
         self.burst += 1;
-        self.half.reading.due = Due::Look;
+        self.half.reading.pending_act = PendingAct::Look;
         Ok(Event::Nothing)
     }
 
@@ -110,7 +110,7 @@ impl Reader {
 
     /// A string's text begins.
     pub fn begin<K: Copy>(&mut self, store: &mut Store<K>) -> Result<Event, Refusal>
-        ensures { called store.new self.new result ≡ acted Due.Begin store.old self.old }
+        ensures { called store.new self.new result ≡ acted PendingAct.Begin store.old self.old }
     {
         let begun = if self.half.notes.defining.appends {
             store.begin_from(self.name())
@@ -119,21 +119,26 @@ impl Reader {
         };
         match begun {
             Ok(()) => {
-                self.half.reading.due = Due::Look;
+                self.half.reading.pending_act = PendingAct::Look;
                 Ok(Event::Nothing)
             }
             Err(_) => Err(Refusal::Stored),
         }
     }
 
-    // A byte is added to the text that is built, and then this is due.
-    fn add<K: Copy>(&mut self, byte: u8, due: Due, store: &mut Store<K>) -> Result<Event, Refusal>
-        ensures { let a = adding_byte byte due store.old self.old in
+    // A byte is added to the text that is built, and then this is pending.
+    fn add<K: Copy>(
+        &mut self,
+        byte: u8,
+        pending_act: PendingAct,
+        store: &mut Store<K>,
+    ) -> Result<Event, Refusal>
+        ensures { let a = adding_byte byte pending_act store.old self.old in
             called store.new self.new result ≡ acted_by (storing_answer a.stored) a store.old self.old }
     {
         match store.add(Element::Byte(byte)) {
             Ok(()) => {
-                self.half.reading.due = due;
+                self.half.reading.pending_act = pending_act;
                 Ok(Event::Nothing)
             }
             Err(_) => Err(Refusal::Stored),
@@ -148,7 +153,7 @@ impl Reader {
         then: Option<u8>,
         store: &mut Store<K>,
     ) -> Result<Event, Refusal>
-        ensures { called store.new self.new result ≡ acted (Due.Release held next then) store.old self.old }
+        ensures { called store.new self.new result ≡ acted (PendingAct.Release held next then) store.old self.old }
     {
         let byte = self.half.notes.defining.last_line_byte(next);
         self.add(byte, after_held(held, next, then), store)
@@ -163,14 +168,14 @@ impl Reader {
         }
     }
 
-    // What is due after a definition of lines.
-    fn after_definition(&self) -> Due
+    // What is pending after a definition of lines.
+    fn after_definition(&self) -> PendingAct
         ensures { result ≡ after_definition self.now }
     {
         if self.half.notes.defining.ending.is_empty() {
-            return Due::Look;
+            return PendingAct::Look;
         }
-        Due::CallEnding
+        PendingAct::CallEnding
     }
 
     // The text of a name is spliced, with no arguments in force.
@@ -186,7 +191,7 @@ impl Reader {
                 if spliced {
                     return self.expand();
                 }
-                self.half.reading.due = Due::Look;
+                self.half.reading.pending_act = PendingAct::Look;
                 Ok(Event::Nothing)
             }
         }
@@ -194,7 +199,7 @@ impl Reader {
 
     // A macro is called with the arguments that were read.
     fn call<K: Copy>(&mut self, store: &mut Store<K>) -> Result<Event, Refusal>
-        ensures { called store.new self.new result ≡ acted Due.Call store.old self.old }
+        ensures { called store.new self.new result ≡ acted PendingAct.Call store.old self.old }
     {
         match store.call(self.name()) {
             Err(refusal) => Err(Refusal::from(refusal)),
@@ -202,7 +207,7 @@ impl Reader {
                 if called {
                     return self.expand();
                 }
-                self.half.reading.due = Due::Look;
+                self.half.reading.pending_act = PendingAct::Look;
                 Ok(Event::Nothing)
             }
         }
@@ -226,7 +231,7 @@ impl Reader {
 
     // A register is spliced.
     fn splice_register<K: Copy>(&mut self, store: &mut Store<K>) -> Result<Event, Refusal>
-        ensures { called store.new self.new result ≡ acted (Due.Register Sign.None) store.old self.old }
+        ensures { called store.new self.new result ≡ acted (PendingAct.Register Sign.None) store.old self.old }
     {
         let register = store.register(self.half.notes.asked);
         let text = format_number(i64::from(register.value), register.format);
@@ -235,7 +240,7 @@ impl Reader {
 
     // An argument is spliced.
     fn splice_argument<K: Copy>(&mut self, n: u8, store: &mut Store<K>) -> Result<Event, Refusal>
-        ensures { called store.new self.new result ≡ acted (Due.Argument n) store.old self.old }
+        ensures { called store.new self.new result ≡ acted (PendingAct.Argument n) store.old self.old }
     {
         match store.enter_argument(usize::from(n)) {
             Err(refusal) => Err(Refusal::from(refusal)),
@@ -247,16 +252,16 @@ impl Reader {
     pub fn step<K: Copy>(&mut self, up: bool, store: &mut Store<K>) -> Result<Event, Refusal>
         ensures { called store.new self.new result
             ≡ called (stepped self.old.half.notes.asked up store.old)
-            (then_due (Due.Register Sign.None) self.old) (Ok Event.Nothing) }
+            (then_pending (PendingAct.Register Sign.None) self.old) (Ok Event.Nothing) }
     {
         store.step_register(self.half.notes.asked, up);
-        self.half.reading.due = Due::Register(Sign::None);
+        self.half.reading.pending_act = PendingAct::Register(Sign::None);
         Ok(Event::Nothing)
     }
 
     // A register is spliced; where it has a sign, its step is made first.
     fn interpolate<K: Copy>(&mut self, sign: Sign, store: &mut Store<K>) -> Result<Event, Refusal>
-        ensures { called store.new self.new result ≡ acted (Due.Register sign) store.old self.old }
+        ensures { called store.new self.new result ≡ acted (PendingAct.Register sign) store.old self.old }
     {
         match sign {
             Sign::None => self.splice_register(store),
@@ -268,11 +273,11 @@ impl Reader {
     /// A byte is added to the argument that is read.
     #[inline]
     pub fn put<K: Copy>(&mut self, byte: u8, store: &mut Store<K>) -> Result<Event, Refusal>
-        ensures { called store.new self.new result ≡ acted (Due.Put byte) store.old self.old }
+        ensures { called store.new self.new result ≡ acted (PendingAct.Put byte) store.old self.old }
     {
         match store.add_argument_byte(byte) {
             Ok(()) => {
-                self.half.reading.due = Due::Look;
+                self.half.reading.pending_act = PendingAct::Look;
                 Ok(Event::Nothing)
             }
             Err(_) => Err(Refusal::Stored),
@@ -282,10 +287,10 @@ impl Reader {
     /// The argument that is read ends.
     #[inline]
     pub fn end_argument<K: Copy>(&mut self, store: &mut Store<K>)
-        ensures { called store.new self.new (Ok Event.Nothing) ≡ acted Due.EndArgument store.old self.old }
+        ensures { called store.new self.new (Ok Event.Nothing) ≡ acted PendingAct.EndArgument store.old self.old }
     {
         store.end_argument();
-        self.half.reading.due = Due::Look;
+        self.half.reading.pending_act = PendingAct::Look;
     }
 
     /// What the name that was read means.
@@ -299,23 +304,23 @@ impl Reader {
         store.lookup(spelled.bytes)
     }
 
-    /// What the name of a control line means is taken. Answers what is told of it.
+    /// What the name of a control line means is taken. Answers what is emitted of it.
     #[inline(always)]
     pub fn take_meaning(&mut self, meaning: Meaning) -> Event
-        ensures reader { self.new ≡ behind_name meaning self.old }
-        ensures told { result ≡ sought_event (calls_of meaning) }
+        ensures reader { self.new ≡ after_name meaning self.old }
+        ensures emitted { result ≡ sought_event (calls_of meaning) }
     {
         let calls = calls_of(meaning);
-        self.half.reading.due = Due::Look;
+        self.half.reading.pending_act = PendingAct::Look;
         self.half.seek(calls);
         self.request = request_of(meaning, self.request);
         calls.event()
     }
 
-    /// The name of a control line is looked up. Answers what is told of it.
+    /// The name of a control line is looked up. Answers what is emitted of it.
     #[inline(always)]
     pub fn seek<K: Copy>(&mut self, store: &mut Store<K>) -> Event
-        ensures { called store.new self.new (Ok result) ≡ acted Due.Seek store.old self.old }
+        ensures { called store.new self.new (Ok result) ≡ acted PendingAct.Seek store.old self.old }
     {
         let meaning = self.meaning(store);
         if matches!(meaning, Meaning::Text) {
@@ -324,57 +329,57 @@ impl Reader {
         self.take_meaning(meaning)
     }
 
-    /// Nothing is due: the item in front is looked at.
+    /// Nothing is pending: the next item is looked at.
     #[inline]
     pub fn looks(&self) -> bool
-        ensures { result ≡ is_look self.now.half.reading.due }
+        ensures { result ≡ is_look self.now.half.reading.pending_act }
     {
-        matches!(self.half.reading.due, Due::Look)
+        matches!(self.half.reading.pending_act, PendingAct::Look)
     }
 
-    /// Does what is due.
+    /// Does what is pending.
     ///
-    /// Proved: What is due with the store is done as the definition says, which knows no limit, or refused where a
+    /// Proved: What is pending with the store is done as the definition says, which knows no limit, or refused where a
     /// limit would be passed, and where that leaves all is reported.
     pub fn act<K: Copy>(&mut self, store: &mut Store<K>) -> Result<Event, Refusal>
-        ensures { called store.new self.new result ≡ acted self.old.half.reading.due store.old self.old }
+        ensures { called store.new self.new result ≡ acted self.old.half.reading.pending_act store.old self.old }
     {
-        match self.half.reading.due {
-            Due::Look => Ok(Event::Nothing),
-            Due::Begin => self.begin(store),
-            Due::Add(byte) => self.add(byte, Due::Look, store),
-            Due::Release { held, next, then } => self.release(held, next, then, store),
-            Due::Define => {
+        match self.half.reading.pending_act {
+            PendingAct::Look => Ok(Event::Nothing),
+            PendingAct::Begin => self.begin(store),
+            PendingAct::Add(byte) => self.add(byte, PendingAct::Look, store),
+            PendingAct::Release { held, next, then } => self.release(held, next, then, store),
+            PendingAct::Define => {
                 self.name_text(store);
-                self.half.reading.due = Due::Look;
+                self.half.reading.pending_act = PendingAct::Look;
                 Ok(Event::Nothing)
             }
-            Due::DefineAndCall => {
+            PendingAct::DefineAndCall => {
                 self.name_text(store);
-                self.half.reading.due = self.after_definition();
+                self.half.reading.pending_act = self.after_definition();
                 Ok(Event::Nothing)
             }
-            Due::CallEnding => self.splice(self.half.notes.defining.ending, store),
-            Due::Splice => self.splice(self.half.notes.asked, store),
-            Due::Register(sign) => self.interpolate(sign, store),
-            Due::Argument(n) => self.splice_argument(n, store),
-            Due::Put(byte) => self.put(byte, store),
-            Due::EndArgument => {
+            PendingAct::CallEnding => self.splice(self.half.notes.defining.ending, store),
+            PendingAct::Splice => self.splice(self.half.notes.asked, store),
+            PendingAct::Register(sign) => self.interpolate(sign, store),
+            PendingAct::Argument(n) => self.splice_argument(n, store),
+            PendingAct::Put(byte) => self.put(byte, store),
+            PendingAct::EndArgument => {
                 self.end_argument(store);
                 Ok(Event::Nothing)
             }
-            Due::Call => self.call(store),
-            Due::Seek => Ok(self.seek(store)),
-            Due::Judge(found) => {
-                self.half.reading.due = Due::Look;
+            PendingAct::Call => self.call(store),
+            PendingAct::Seek => Ok(self.seek(store)),
+            PendingAct::Judge(found) => {
+                self.half.reading.pending_act = PendingAct::Look;
                 self.half.judge(found);
                 Ok(Event::Nothing)
             }
-            Due::Lead(count) => {
-                self.half.reading.due = after_lead(count);
+            PendingAct::Lead(count) => {
+                self.half.reading.pending_act = after_lead(count);
                 Ok(Event::Lead)
             }
-            Due::Expanded => Err(Refusal::Expansions),
+            PendingAct::Expanded => Err(Refusal::Expansions),
         }
     }
 }

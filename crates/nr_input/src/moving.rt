@@ -6,14 +6,14 @@ ghost use Rattle.nr_store.specs.declared.shown.Shown.TheVariants as shows;
 ghost use Rattle.nr_store.specs.Store.{shown};
 ghost use Rattle.nr_input.specs.Place.{Coming, HoldsComing, fails_now, has_failed, KeepsRefusal, RefusesAgain};
 ghost use Rattle.nr_input.specs.Moving.{burst_past, situation, AfterMove};
-ghost use Rattle.nr_input.specs.Told.{heard_of, told_with};
+ghost use Rattle.nr_input.specs.Emitted.{heard_of, emitted_with};
 ghost use Rattle.nr_input.specs.Limits.{limits_of};
 ghost use Rattle.nr_input.specs.Weights.{PaysIfMade, diversions_in};
 
+use super::emitted::Heard;
 use super::place::Place;
 use super::reader::Reader;
 use super::refusal::Refusal;
-use super::told::Heard;
 use nr_reading::Event;
 use nr_store::{Sight, Store};
 use nr_units::source::Source;
@@ -29,7 +29,7 @@ fn burst_after(before: u64, taken: u64, burst: u64) -> u64
     0
 }
 
-// What is told: a resume mark that is taken resumes what was under way.
+// What is emitted: a resume mark that is taken resumes what was under way.
 fn heard_of(sight: Sight, event: Event) -> Heard
     ensures { result ≡ heard_of sight event }
 {
@@ -39,7 +39,7 @@ fn heard_of(sight: Sight, event: Event) -> Heard
     }
 }
 
-// The item in front is looked at, and taken or left.
+// The next item is looked at, and taken or left.
 fn look<K: Copy, R: Source>(
     place: &mut Place,
     reader: &mut Reader,
@@ -47,13 +47,13 @@ fn look<K: Copy, R: Source>(
     source: &mut R,
     mode: &mut K,
 ) -> Result<Heard, Refusal>
-    requires { is_look reader.old.half.reading.due ≡ true }
+    requires { is_look reader.old.half.reading.pending_act ≡ true }
     ensures moved { (c : Coming) → HoldsComing c place.old (R.supply source.old) →
-        AfterMove (situation store.old c reader.old) (told_with mode.new result) store.new reader.new
+        AfterMove (situation store.old c reader.old) (emitted_with mode.new result) store.new reader.new
         place.new (R.supply source.new) }
     ensures failures { R.failures source.new ≡ counted_if (fails_now place.old.ahead result)
         (R.failures source.old) }
-    ensures pays { PaysIfMade store.old place.old reader.old (told_with mode.new result) store.new
+    ensures pays { PaysIfMade store.old place.old reader.old (emitted_with mode.new result) store.new
         place.new reader.new }
     ensures diversions { diversions_in store.new.building ≤ diversions_in store.old.building }
     ensures limits { limits_of store.new reader.new ≡ limits_of store.old reader.old }
@@ -61,8 +61,8 @@ fn look<K: Copy, R: Source>(
     ensures keeps { KeepsRefusal result place.new.ahead }
     ensures again { shown store.old.levels ≡ shows.Nothing → RefusesAgain place.old.ahead result }
 {
-    let front = place.look(store, source)?;
-    let seen = reader.half.meet(front);
+    let next_item = place.look(store, source)?;
+    let seen = reader.half.take_in(next_item);
     if !seen.takes {
         return Ok(Heard::Event(seen.event));
     }
@@ -97,18 +97,18 @@ pub fn advance<K: Copy, R: Source>(
     mode: &mut K,
 ) -> Result<Heard, Refusal>
     ensures moved { (c : Coming) → HoldsComing c place.old (R.supply source.old) →
-        AfterMove (situation store.old c reader.old) (told_with mode.new result) store.new reader.new
+        AfterMove (situation store.old c reader.old) (emitted_with mode.new result) store.new reader.new
         place.new (R.supply source.new) }
     ensures failures { R.failures source.new ≡ counted_if (fails_now place.old.ahead result)
         (R.failures source.old) }
-    ensures pays { PaysIfMade store.old place.old reader.old (told_with mode.new result) store.new
+    ensures pays { PaysIfMade store.old place.old reader.old (emitted_with mode.new result) store.new
         place.new reader.new }
     ensures diversions { diversions_in store.new.building ≤ diversions_in store.old.building }
     ensures limits { limits_of store.new reader.new ≡ limits_of store.old reader.old }
     ensures unfailed { OnOk result (has_failed place.new.ahead ≡ has_failed place.old.ahead) }
     // What the source refused is refused from then on.
     ensures keeps { KeepsRefusal result place.new.ahead }
-    ensures again { is_look reader.old.half.reading.due ≡ true → shown store.old.levels ≡ shows.Nothing
+    ensures again { is_look reader.old.half.reading.pending_act ≡ true → shown store.old.levels ≡ shows.Nothing
         → RefusesAgain place.old.ahead result }
 {
     if reader.looks() {

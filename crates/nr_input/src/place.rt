@@ -2,7 +2,7 @@
 ghost use Rattle.std.specs.Prelude.{◌≡◌};
 
 use super::refusal::Refusal;
-use nr_reading::Front;
+use nr_reading::NextItem;
 use nr_store::{Element, Sight, Store};
 use nr_units::source::Source;
 use std::marker::Model;
@@ -51,7 +51,7 @@ impl Place {
     ghost use Rattle.nr_store.specs.declared.shown.Shown.TheVariants as shows;
     ghost use Rattle.nr_store.specs.Store.{shown, left};
     ghost use Rattle.nr_store.specs.Sights.{shown_with};
-    ghost use Rattle.nr_input.specs.Place.{Coming, Reached, HoldsComing, AfterSee, AfterLook, is_seen, is_ready, seen_front, passed, ended, front_seen, passed_in, StaysThere, nothing_reached, behind, emptied, fails_now, has_failed, KeepsRefusal, RefusesAgain, is_unseen, passed_run};
+    ghost use Rattle.nr_input.specs.Place.{Coming, Reached, HoldsComing, AfterSee, AfterLook, is_seen, is_ready, seen_item, passed, ended, next_item_seen, passed_in, StaysThere, nothing_reached, afterwards, emptied, fails_now, has_failed, KeepsRefusal, RefusesAgain, is_unseen, passed_run};
 
     /// Nothing is taken yet.
     pub fn new() -> Self
@@ -100,7 +100,7 @@ impl Place {
         self.inside = last != b'\n';
     }
 
-    // The byte in front of the source is read ahead, or its end is seen.
+    // The next byte of the source is read ahead, or its end is seen.
     fn see<R: Source>(&mut self, source: &mut R) -> Result<(), Refusal>
         ensures sees { (c : Coming) → HoldsComing c self.old (R.supply source.old)
             → AfterSee c result self.new (R.supply source.new) }
@@ -138,19 +138,19 @@ impl Place {
     }
 
     // What was looked at.
-    fn front(&self) -> Front
-        ensures { result ≡ seen_front self.now.ahead self.now.inside }
+    fn next_item(&self) -> NextItem
+        ensures { result ≡ seen_item self.now.ahead self.now.inside }
     {
         match self.ahead {
-            Ahead::Byte(byte) => Front::Byte(byte),
+            Ahead::Byte(byte) => NextItem::Byte(byte),
             Ahead::End => {
                 if self.inside {
-                    Front::Byte(b'\n')
+                    NextItem::Byte(b'\n')
                 } else {
-                    Front::Over
+                    NextItem::Over
                 }
             }
-            _ => Front::Over,
+            _ => NextItem::Over,
         }
     }
 
@@ -169,16 +169,16 @@ impl Place {
         }
     }
 
-    /// The item in front of the list, which stays there.
+    /// The next item of the list, which stays there.
     pub(crate) fn look<K: Copy, R: Source>(
         &mut self,
         store: &Store<K>,
         source: &mut R,
-    ) -> Result<Front, Refusal>
+    ) -> Result<NextItem, Refusal>
         ensures looks { (c : Coming) → HoldsComing c self.old (R.supply source.old)
             → AfterLook (shown store.now.levels) c result self.new (R.supply source.new) }
         ensures ready { OnOk result (is_ready (shown store.now.levels) self.new.ahead ≡ true) }
-        ensures front { IfOk result (λ f. f ≡ front_seen (shown store.now.levels) self.new) }
+        ensures next_item { IfOk result (λ f. f ≡ next_item_seen (shown store.now.levels) self.new) }
         ensures stays { StaysThere self.old self.new }
         ensures failures { R.failures source.new ≡ counted_if (fails_now self.old.ahead result)
             (R.failures source.old) }
@@ -188,20 +188,20 @@ impl Place {
     {
         match store.look() {
             Sight::Item(element) => match element {
-                Element::Byte(byte) => Ok(Front::Byte(byte)),
-                Element::Cell(cell) => Ok(Front::Cell(cell)),
-                Element::LineEnd(height) => Ok(Front::LineEnd(height.units())),
+                Element::Byte(byte) => Ok(NextItem::Byte(byte)),
+                Element::Cell(cell) => Ok(NextItem::Cell(cell)),
+                Element::LineEnd(height) => Ok(NextItem::LineEnd(height.units())),
             },
-            Sight::End => Ok(Front::Mark),
-            Sight::Resume => Ok(Front::Resume),
+            Sight::End => Ok(NextItem::Mark),
+            Sight::Resume => Ok(NextItem::Resume),
             Sight::Nothing => {
                 self.see(source)?;
-                Ok(self.front())
+                Ok(self.next_item())
             }
         }
     }
 
-    /// The item in front of the list, which was looked at, is taken. Answers what was taken of the levels, and puts a mode
+    /// The next item of the list, which was looked at, is taken. Answers what was taken of the levels, and puts a mode
     /// into `mode`.
     pub(crate) fn take<K: Copy>(&mut self, store: &mut Store<K>, mode: &mut K) -> Sight
         requires { is_ready (shown store.old.levels) self.old.ahead ≡ true }
@@ -209,7 +209,7 @@ impl Place {
         ensures store { store.new ≡ left store.old.levels store.old }
         ensures place { self.new ≡ passed_in (shown store.old.levels) self.old }
         ensures takes { (c : Coming) → (supply : Option Supply) → HoldsComing c self.old supply
-            → HoldsComing (behind (shown store.old.levels) c) self.new supply }
+            → HoldsComing (afterwards (shown store.old.levels) c) self.new supply }
     {
         let sight = store.take(mode);
         match sight {

@@ -2,7 +2,7 @@
 ghost use Rattle.std.specs.Prelude.{◌≡◌};
 
 use super::reader::Reader;
-use nr_reading::{Due, Escape};
+use nr_reading::{Escape, PendingAct};
 use nr_store::StoredBytes;
 
 /// Why a move is not made. The same answer comes again from then on.
@@ -46,22 +46,22 @@ impl From<StoredBytes> for Refusal {
 }
 
 impl Reader {
-    ghost use Rattle.nr_input.specs.Refusal.{uncounted, place_told};
+    ghost use Rattle.nr_input.specs.Refusal.{uncounted, place_reported};
 
     // How many of the bytes that were read do not count yet: the `\` that begins the first element of a string's text,
     // before that text is charged.
     fn uncounted(&self) -> u64
         ensures { result ≡ uncounted self.now }
     {
-        match (self.half.reading.due, self.half.reading.escape) {
-            (Due::Begin, Escape::Begun) => u64::from(self.burst == 0),
+        match (self.half.reading.pending_act, self.half.reading.escape) {
+            (PendingAct::Begin, Escape::Begun) => u64::from(self.burst == 0),
             _ => 0,
         }
     }
 
     /// Where the input stands for a limit that the next move would pass, so many bytes of it having been taken.
-    pub fn place_told(&self, taken: u64) -> u64
-        ensures { result ≡ place_told taken self.now }
+    pub fn place_reported(&self, taken: u64) -> u64
+        ensures { result ≡ place_reported taken self.now }
     {
         taken.saturating_sub(self.uncounted())
     }

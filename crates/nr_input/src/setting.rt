@@ -34,7 +34,7 @@ impl Reader {
         self.half.begin_title();
     }
 
-    /// A diverted line is read, if one is in front.
+    /// A diverted line is read, if one comes next.
     pub fn begin_diverted_line(&mut self)
         ensures sets { self.new ≡ on_half (in_mode modes.Diverting) self.old }
         ensures costs { CostsAtMost 1 self.old.half self.new.half }

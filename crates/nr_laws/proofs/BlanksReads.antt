@@ -11,19 +11,19 @@ use Rattle.nr_reading.specs.declared.ask.Stage.{Stage}
 use Rattle.nr_reading.specs.declared.ask.Stage.TheVariants as stages
 use Rattle.nr_reading.specs.declared.event.Event.{Event}
 use Rattle.nr_reading.specs.declared.event.Event.TheVariants as events
-use Rattle.nr_reading.specs.declared.front.Front.{Front}
-use Rattle.nr_reading.specs.declared.front.Front.TheVariants as fronts
+use Rattle.nr_reading.specs.declared.next_item.NextItem.{NextItem}
+use Rattle.nr_reading.specs.declared.next_item.NextItem.TheVariants as next_items
 use Rattle.nr_reading.specs.declared.half.Half.{Half}
-use Rattle.nr_reading.specs.declared.mode.Due.TheVariants as dues
+use Rattle.nr_reading.specs.declared.mode.PendingAct.TheVariants as pending_acts
 use Rattle.nr_reading.specs.declared.mode.Escape.{Escape}
 use Rattle.nr_reading.specs.declared.mode.Escape.TheVariants as escapes
 use Rattle.nr_reading.specs.declared.mode.Mode.TheVariants as modes
 use Rattle.nr_reading.specs.declared.mode.Reading.{Reading}
 use Rattle.nr_reading.specs.declared.mode.Signs.{Signs}
 use Rattle.nr_reading.specs.Ask.{begun_ask, answer, answer_byte, argument_asked, answer_first, answer_two, answer_bracket, answer_digit, cut, is_argument, is_digit, is_given, is_unsigned, reads_argument}
-use Rattle.nr_reading.specs.Ended.{due_of, event_of}
+use Rattle.nr_reading.specs.Ended.{pending_of, event_of}
 use Rattle.nr_reading.specs.Escape.{offer, offer_byte, raw_offer, escaped as copied_escape}
-use Rattle.nr_reading.specs.Half.{Met, meet, met_directly, answered, offered, hear_by, over_by, offer_to, meet_by, asking, too_deep, beginning, silent, escaping as escaping_half}
+use Rattle.nr_reading.specs.Half.{TakenIn, take_in, taken_in_directly, answered, offered, hear_by, over_by, offer_to, take_in_by, asking, too_deep, beginning, silent, escaping as escaping_half}
 use Rattle.nr_reading.specs.Mode.{is_direct, reads_arguments}
 use Rattle.nr_reading.specs.Nesting.{may_nest}
 use Rattle.nr_reading.specs.Notes.{Note}
@@ -33,9 +33,9 @@ use Rattle.nr_reading.specs.Spelled.{is_blank, is_empty, name_of, spelled}
 use Rattle.nr_reading.specs.Step.{Step, to, escaping, go, tell}
 use Rattle.nr_reading.specs.Text.{begin_escape, one_blank_more, text_after_blanks, leading}
 use Rattle.nr_reading.specs.TextEscape.{plain, interpolated, escape_by, spliced_or, escaped}
-use Rattle.nr_reading.specs.Weights.{blanks_of_mode, blanks_of_due}
+use Rattle.nr_reading.specs.Weights.{blanks_of_mode, blanks_of_pending}
 
--- what may be told while blanks wait
+-- what may be emitted while blanks wait
 abbrev pub IsQuiet : Event → Type 0
 IsQuiet events.Nothing = Unit {0}
 IsQuiet events.Given = Unit {0}
@@ -46,17 +46,17 @@ IsQuiet events.Horizontal = Unit {0}
 IsQuiet events.Rule = Unit {0}
 IsQuiet e = ⊥
 
--- After an item the blanks still wait, or they are due, or there are none but one.
+-- After an item the blanks still wait, or they are pending, or there are none but one.
 pub data After (e : Event) (r : Reading) : Type 0 where
-  Wait : (n : ℕ) → r.mode ≡ modes.Leading n → blanks_of_due r.due ≡ 0 → IsQuiet e → After e r
-  Tell : (n : ℕ) → r.mode ≡ modes.Text → r.due ≡ dues.Lead n → e ≡ events.Nothing → After e r
-  Few : blanks_of_mode r.mode + blanks_of_due r.due ≤ 1 → After e r
+  Wait : (n : ℕ) → r.mode ≡ modes.Leading n → blanks_of_pending r.pending_act ≡ 0 → IsQuiet e → After e r
+  Tell : (n : ℕ) → r.mode ≡ modes.Text → r.pending_act ≡ pending_acts.Lead n → e ≡ events.Nothing → After e r
+  Few : blanks_of_mode r.mode + blanks_of_pending r.pending_act ≤ 1 → After e r
 
 abbrev Steps : Step → Type 0
 Steps s = After s.event s.reading
 
-abbrev Meets : Met → Type 0
-Meets m = After m.event m.half.reading
+abbrev TakesIn : TakenIn → Type 0
+TakesIn m = After m.event m.half.reading
 
 choose : (c : Bool) (x y : Step) → Steps x → Steps y → Steps (if c then x else y)
 choose true x y first second = first
@@ -64,19 +64,19 @@ choose false x y first second = second
 
 -- ---- items as they are
 
-module _ (n : ℕ) (r : Reading) (mode : r.mode ≡ modes.Leading n) (none : blanks_of_due r.due ≡ 0) where
-  leading-after : (f : Front) → Steps (leading f n r)
-  leading-after fronts.Mark = Wait n mode none tt
-  leading-after (fronts.Byte b) =
+module _ (n : ℕ) (r : Reading) (mode : r.mode ≡ modes.Leading n) (none : blanks_of_pending r.pending_act ≡ 0) where
+  leading-after : (f : NextItem) → Steps (leading f n r)
+  leading-after next_items.Mark = Wait n mode none tt
+  leading-after (next_items.Byte b) =
       let c3 : Step = if b == code "\\" then begin_escape r else text_after_blanks n r in
       let c2 : Step = if b == code " " then go (to (modes.Leading (one_blank_more n)) r) else c3 in
       choose (b == code "\n") (tell events.Empty (to modes.Start r)) c2 (Few (omega (arith, none)))
       (choose (b == code " ") (go (to (modes.Leading (one_blank_more n)) r)) c3 (Wait (one_blank_more n) refl none tt)
       (choose (b == code "\\") (begin_escape r) (text_after_blanks n r) (Wait n mode none tt) (Tell n refl refl refl)))
-  leading-after (fronts.Cell x) = Tell n refl refl refl
-  leading-after (fronts.LineEnd k) = Few (omega (arith, none))
-  leading-after fronts.Resume = Few (omega (arith, none))
-  leading-after fronts.Over = Few (omega (arith, none))
+  leading-after (next_items.Cell x) = Tell n refl refl refl
+  leading-after (next_items.LineEnd k) = Few (omega (arith, none))
+  leading-after next_items.Resume = Few (omega (arith, none))
+  leading-after next_items.Over = Few (omega (arith, none))
 
   spliced-after : (b : ℕ) (k : Option Kind) (long : Bool) → Steps (spliced_or b k long r)
   spliced-after b (Some k) long = Wait n mode none tt
@@ -84,45 +84,45 @@ module _ (n : ℕ) (r : Reading) (mode : r.mode ≡ modes.Leading n) (none : bla
       choose (b == code "\n") (go (plain r)) (if b == code "\"" then go (escaping escapes.Comment r) else escape_by b long r.mode r) (Wait n mode none tt)
       (choose (b == code "\"") (go (escaping escapes.Comment r)) (escape_by b long r.mode r) (Wait n mode none tt) (rw mode (Tell n refl refl refl)))
 
-  escaped-after : (f : Front) (long : Bool) → Steps (escaped f long r)
-  escaped-after fronts.Mark long = Wait n mode none tt
-  escaped-after (fronts.Byte b) long = spliced-after b (interpolated b) long
-  escaped-after (fronts.Cell x) long = rw mode (Tell n refl refl refl)
-  escaped-after (fronts.LineEnd k) long = rw mode (Tell n refl refl refl)
-  escaped-after fronts.Resume long = rw mode (Tell n refl refl refl)
-  escaped-after fronts.Over long = rw mode (Tell n refl refl refl)
+  escaped-after : (f : NextItem) (long : Bool) → Steps (escaped f long r)
+  escaped-after next_items.Mark long = Wait n mode none tt
+  escaped-after (next_items.Byte b) long = spliced-after b (interpolated b) long
+  escaped-after (next_items.Cell x) long = rw mode (Tell n refl refl refl)
+  escaped-after (next_items.LineEnd k) long = rw mode (Tell n refl refl refl)
+  escaped-after next_items.Resume long = rw mode (Tell n refl refl refl)
+  escaped-after next_items.Over long = rw mode (Tell n refl refl refl)
 
-  unescaped-after : (f : Front) (s : Signs) → Steps (unescaped r.mode f s r)
+  unescaped-after : (f : NextItem) (s : Signs) → Steps (unescaped r.mode f s r)
   unescaped-after f s = subst (λ m. Steps (unescaped m f s r)) (sym mode) (leading-after f)
 
-direct-after : (e : Escape) (n : ℕ) (f : Front) (s : Signs) (r : Reading) → r.mode ≡ modes.Leading n → blanks_of_due r.due ≡ 0 → Steps (direct_by e f s r)
+direct-after : (e : Escape) (n : ℕ) (f : NextItem) (s : Signs) (r : Reading) → r.mode ≡ modes.Leading n → blanks_of_pending r.pending_act ≡ 0 → Steps (direct_by e f s r)
 direct-after escapes.Plain n f s r mode none = unescaped-after n r mode none f s
 direct-after escapes.Begun n f s r mode none = subst (λ m. Steps (after_backslash m f s r)) (sym mode) (escaped-after n r mode none f s.long)
 direct-after escapes.Comment n f s r mode none =
     choose (ends_comment f) (unescaped r.mode f s (plain r)) (go r) (unescaped-after n (plain r) mode none f s) (Wait n mode none tt)
 
-directly-by : (k : Note) (s : Step) (h : Half) → Steps s → Meets (met_directly (record s { note = k }) h)
+directly-by : (k : Note) (s : Step) (h : Half) → Steps s → TakesIn (taken_in_directly (record s { note = k }) h)
 directly-by (notes.Begin a) s h after = after
 directly-by k s h after = after
 
-directly : (s : Step) (h : Half) → Steps s → Meets (met_directly s h)
+directly : (s : Step) (h : Half) → Steps s → TakesIn (taken_in_directly s h)
 directly s h after = directly-by s.note s h after
 
 -- ---- escapes whose arguments are still to be read
 
 -- the blanks still wait, and what is no item of its own is not taken
-record Asked (n : ℕ) (front : Bool) (m : Met) : Type 0 where
+record Asked (n : ℕ) (next_item : Bool) (m : TakenIn) : Type 0 where
   mode : m.half.reading.mode ≡ modes.Leading n
-  none : blanks_of_due m.half.reading.due ≡ 0
+  none : blanks_of_pending m.half.reading.pending_act ≡ 0
   quiet : IsQuiet m.event
-  stays : front ≡ false → m.takes ≡ false
+  stays : next_item ≡ false → m.takes ≡ false
 
 -- where an item of its own may be taken or not
-from-left : {n : ℕ} {m : Met} → Asked n false m → Asked n true m
+from-left : {n : ℕ} {m : TakenIn} → Asked n false m → Asked n true m
 from-left h = record { mode = h.mode; none = h.none; quiet = h.quiet; stays = λ x. h.stays refl }
 
-abbrev is_no_resume : Front → Bool
-is_no_resume fronts.Resume = false
+abbrev is_no_resume : NextItem → Bool
+is_no_resume next_items.Resume = false
 is_no_resume f = true
 
 given : (c : Bool) → IsQuiet (if c then events.Given else events.Nothing)
@@ -138,16 +138,16 @@ ended-quiet kinds.Horizontal name = tt
 ended-quiet kinds.Rule name = tt
 ended-quiet k name = tt
 
-register-none : (c : Bool) (s : Sign) → blanks_of_due (if c then dues.Look else dues.Register s) ≡ 0
+register-none : (c : Bool) (s : Sign) → blanks_of_pending (if c then pending_acts.Look else pending_acts.Register s) ≡ 0
 register-none true s = refl
 register-none false s = refl
 
-ended-none : (k : Kind) (name : List ℕ) → blanks_of_due (due_of k name) ≡ 0
+ended-none : (k : Kind) (name : List ℕ) → blanks_of_pending (pending_of k name) ≡ 0
 ended-none kinds.String name = refl
 ended-none (kinds.Register s) name = register-none (is_given name) s
 ended-none k name = refl
 
-deep-none : (k : Kind) (h : Half) → blanks_of_due h.reading.due ≡ 0 → blanks_of_due (too_deep k h).reading.due ≡ 0
+deep-none : (k : Kind) (h : Half) → blanks_of_pending h.reading.pending_act ≡ 0 → blanks_of_pending (too_deep k h).reading.pending_act ≡ 0
 deep-none (kinds.Register s) h none = refl
 deep-none k h none = none
 
@@ -155,7 +155,7 @@ deep-mode : (k : Kind) (h : Half) → (too_deep k h).reading.mode ≡ h.reading.
 deep-mode (kinds.Register s) h = refl
 deep-mode k h = refl
 
-begins-none : (c : Bool) (k : Kind) (h : Half) → blanks_of_due h.reading.due ≡ 0 → blanks_of_due (if c then asking (begun_ask k) h else too_deep k h).reading.due ≡ 0
+begins-none : (c : Bool) (k : Kind) (h : Half) → blanks_of_pending h.reading.pending_act ≡ 0 → blanks_of_pending (if c then asking (begun_ask k) h else too_deep k h).reading.pending_act ≡ 0
 begins-none true k h none = none
 begins-none false k h none = deep-none k h none
 
@@ -163,19 +163,19 @@ begins-mode : (c : Bool) (k : Kind) (h : Half) → (if c then asking (begun_ask 
 begins-mode true k h = refl
 begins-mode false k h = deep-mode k h
 
-module _ (n : ℕ) (h : Half) (mode : h.reading.mode ≡ modes.Leading n) (none : blanks_of_due h.reading.due ≡ 0) where
-  argument-asked : (front : Bool) (b : ℕ) (a : Ask) → Asked n front (answered front (argument_asked b a) h)
-  argument-asked front b a = by (nat_le (code "1") b && nat_le b (code "9")) refl
+module _ (n : ℕ) (h : Half) (mode : h.reading.mode ≡ modes.Leading n) (none : blanks_of_pending h.reading.pending_act ≡ 0) where
+  argument-asked : (next_item : Bool) (b : ℕ) (a : Ask) → Asked n next_item (answered next_item (argument_asked b a) h)
+  argument-asked next_item b a = by (nat_le (code "1") b && nat_le b (code "9")) refl
     where
-      by : (c : Bool) → (nat_le (code "1") b && nat_le b (code "9")) ≡ c → Asked n front (answered front (argument_asked b a) h)
+      by : (c : Bool) → (nat_le (code "1") b && nat_le b (code "9")) ≡ c → Asked n next_item (answered next_item (argument_asked b a) h)
       by true e = rw e (record { mode = mode; none = refl; quiet = tt; stays = λ x. x })
       by false e = rw e (record { mode = mode; none = ended-none a.kind (name_of a.name); quiet = ended-quiet a.kind (name_of a.name); stays = λ x. x })
 
-  first-asked : (front : Bool) (b : ℕ) (long : Bool) (a : Ask) → Asked n front (answered front (answer_first b long a) h)
-  first-asked front b long a = by (b == code "(") ((b == code "[") && long) ((b == code "+") && is_unsigned a.kind) ((b == code "-") && is_unsigned a.kind) refl refl refl refl
+  first-asked : (next_item : Bool) (b : ℕ) (long : Bool) (a : Ask) → Asked n next_item (answered next_item (answer_first b long a) h)
+  first-asked next_item b long a = by (b == code "(") ((b == code "[") && long) ((b == code "+") && is_unsigned a.kind) ((b == code "-") && is_unsigned a.kind) refl refl refl refl
     where
       by : (c d e f : Bool) → (b == code "(") ≡ c → ((b == code "[") && long) ≡ d → ((b == code "+") && is_unsigned a.kind) ≡ e → ((b == code "-") && is_unsigned a.kind) ≡ f
-          → Asked n front (answered front (answer_first b long a) h)
+          → Asked n next_item (answered next_item (answer_first b long a) h)
       by true d e f c-is d-is e-is f-is = rw c-is (record { mode = mode; none = none; quiet = tt; stays = λ x. x })
       by false true e f c-is d-is e-is f-is = rw (c-is, d-is) (record { mode = mode; none = none; quiet = tt; stays = λ x. x })
       by false false true f c-is d-is e-is f-is = rw (c-is, d-is, e-is) (record { mode = mode; none = none; quiet = tt; stays = λ x. x })
@@ -184,70 +184,70 @@ module _ (n : ℕ) (h : Half) (mode : h.reading.mode ≡ modes.Leading n) (none 
           let name = name_of (spelled b a.name) in
           rw (c-is, d-is, e-is, f-is) (record { mode = mode; none = ended-none a.kind name; quiet = ended-quiet a.kind name; stays = λ x. x })
 
-  two-asked : (front : Bool) (b : ℕ) (a : Ask) → Asked n front (answered front (answer_two b a) h)
-  two-asked front b a = by (is_empty a.name.bytes) refl
+  two-asked : (next_item : Bool) (b : ℕ) (a : Ask) → Asked n next_item (answered next_item (answer_two b a) h)
+  two-asked next_item b a = by (is_empty a.name.bytes) refl
     where
-      by : (c : Bool) → is_empty a.name.bytes ≡ c → Asked n front (answered front (answer_two b a) h)
+      by : (c : Bool) → is_empty a.name.bytes ≡ c → Asked n next_item (answered next_item (answer_two b a) h)
       by true e = rw e (record { mode = mode; none = none; quiet = tt; stays = λ x. x })
       by false e = let name = name_of (spelled b a.name) in rw e (record { mode = mode; none = ended-none a.kind name; quiet = ended-quiet a.kind name; stays = λ x. x })
 
-  bracket-asked : (front : Bool) (b : ℕ) (a : Ask) → Asked n front (answered front (answer_bracket b a) h)
-  bracket-asked front b a = by (b == code "]") (is_blank b) refl refl
+  bracket-asked : (next_item : Bool) (b : ℕ) (a : Ask) → Asked n next_item (answered next_item (answer_bracket b a) h)
+  bracket-asked next_item b a = by (b == code "]") (is_blank b) refl refl
     where
-      by : (c d : Bool) → (b == code "]") ≡ c → is_blank b ≡ d → Asked n front (answered front (answer_bracket b a) h)
+      by : (c d : Bool) → (b == code "]") ≡ c → is_blank b ≡ d → Asked n next_item (answered next_item (answer_bracket b a) h)
       by true d c-is d-is = rw c-is (record { mode = mode; none = ended-none a.kind (name_of a.name); quiet = ended-quiet a.kind (name_of a.name); stays = λ x. x })
       by false true c-is d-is = rw (c-is, d-is) (record { mode = mode; none = none; quiet = tt; stays = λ x. x })
       by false false c-is d-is = rw (c-is, d-is) (record { mode = mode; none = none; quiet = tt; stays = λ x. x })
 
-  digit-asked : (front : Bool) (b : ℕ) (signed : Bool) (a : Ask) → Asked n front (answered front (answer_digit b signed a) h)
-  digit-asked front b signed a = by (is_digit b) (not signed && nat_le (code "1") b && nat_le b (code "3")) refl refl
+  digit-asked : (next_item : Bool) (b : ℕ) (signed : Bool) (a : Ask) → Asked n next_item (answered next_item (answer_digit b signed a) h)
+  digit-asked next_item b signed a = by (is_digit b) (not signed && nat_le (code "1") b && nat_le b (code "3")) refl refl
     where
-      by : (c d : Bool) → is_digit b ≡ c → (not signed && nat_le (code "1") b && nat_le b (code "3")) ≡ d → Asked n front (answered front (answer_digit b signed a) h)
+      by : (c d : Bool) → is_digit b ≡ c → (not signed && nat_le (code "1") b && nat_le b (code "3")) ≡ d → Asked n next_item (answered next_item (answer_digit b signed a) h)
       by false d c-is d-is = rw c-is (record { mode = mode; none = ended-none a.kind (name_of a.name); quiet = ended-quiet a.kind (name_of a.name); stays = λ x. refl })
       by true true c-is d-is = rw (c-is, d-is) (record { mode = mode; none = none; quiet = tt; stays = λ x. x })
       by true false c-is d-is = rw (c-is, d-is) (record { mode = mode; none = ended-none a.kind (name_of a.name); quiet = ended-quiet a.kind (name_of a.name); stays = λ x. x })
 
-  kind-asked : (front : Bool) (b : ℕ) (long : Bool) (a : Ask) → Asked n front (answered front (answer_byte b long stages.First a) h)
-  kind-asked front b long a = by (is_argument a.kind) refl
+  kind-asked : (next_item : Bool) (b : ℕ) (long : Bool) (a : Ask) → Asked n next_item (answered next_item (answer_byte b long stages.First a) h)
+  kind-asked next_item b long a = by (is_argument a.kind) refl
     where
-      by : (c : Bool) → is_argument a.kind ≡ c → Asked n front (answered front (answer_byte b long stages.First a) h)
-      by true e = rw e (argument-asked front b a)
-      by false e = rw e (first-asked front b long a)
+      by : (c : Bool) → is_argument a.kind ≡ c → Asked n next_item (answered next_item (answer_byte b long stages.First a) h)
+      by true e = rw e (argument-asked next_item b a)
+      by false e = rw e (first-asked next_item b long a)
 
-  stage-asked : (front : Bool) (b : ℕ) (long : Bool) (s : Stage) (a : Ask) → Asked n front (answered front (answer_byte b long s a) h)
-  stage-asked front b long stages.First a = kind-asked front b long a
-  stage-asked front b long stages.Two a = two-asked front b a
-  stage-asked front b long stages.Bracket a = bracket-asked front b a
-  stage-asked front b long stages.Delimiter a = record { mode = mode; none = none; quiet = tt; stays = λ x. x }
-  stage-asked front b long (stages.Inside d) a = by (b == d) refl
+  stage-asked : (next_item : Bool) (b : ℕ) (long : Bool) (s : Stage) (a : Ask) → Asked n next_item (answered next_item (answer_byte b long s a) h)
+  stage-asked next_item b long stages.First a = kind-asked next_item b long a
+  stage-asked next_item b long stages.Two a = two-asked next_item b a
+  stage-asked next_item b long stages.Bracket a = bracket-asked next_item b a
+  stage-asked next_item b long stages.Delimiter a = record { mode = mode; none = none; quiet = tt; stays = λ x. x }
+  stage-asked next_item b long (stages.Inside d) a = by (b == d) refl
     where
-      by : (c : Bool) → (b == d) ≡ c → Asked n front (answered front (answer_byte b long (stages.Inside d) a) h)
+      by : (c : Bool) → (b == d) ≡ c → Asked n next_item (answered next_item (answer_byte b long (stages.Inside d) a) h)
       by true e = rw e (record { mode = mode; none = ended-none a.kind (name_of a.name); quiet = ended-quiet a.kind (name_of a.name); stays = λ x. x })
       by false e = rw e (record { mode = mode; none = none; quiet = tt; stays = λ x. x })
-  stage-asked front b long stages.Sign a = by ((b == code "+") || (b == code "-")) refl
+  stage-asked next_item b long stages.Sign a = by ((b == code "+") || (b == code "-")) refl
     where
-      by : (c : Bool) → ((b == code "+") || (b == code "-")) ≡ c → Asked n front (answered front (answer_byte b long stages.Sign a) h)
+      by : (c : Bool) → ((b == code "+") || (b == code "-")) ≡ c → Asked n next_item (answered next_item (answer_byte b long stages.Sign a) h)
       by true e = rw e (record { mode = mode; none = none; quiet = tt; stays = λ x. x })
       by false e = rw e (record { mode = mode; none = none; quiet = tt; stays = λ x. refl })
-  stage-asked front b long (stages.Digit signed) a = digit-asked front b signed a
-  stage-asked front b long stages.Second a = by (is_digit b) refl
+  stage-asked next_item b long (stages.Digit signed) a = digit-asked next_item b signed a
+  stage-asked next_item b long stages.Second a = by (is_digit b) refl
     where
-      by : (c : Bool) → is_digit b ≡ c → Asked n front (answered front (answer_byte b long stages.Second a) h)
+      by : (c : Bool) → is_digit b ≡ c → Asked n next_item (answered next_item (answer_byte b long stages.Second a) h)
       by true e = rw e (record { mode = mode; none = ended-none a.kind (name_of a.name); quiet = ended-quiet a.kind (name_of a.name); stays = λ x. x })
       by false e = rw e (record { mode = mode; none = ended-none a.kind (name_of a.name); quiet = ended-quiet a.kind (name_of a.name); stays = λ x. refl })
 
-  answer-asked : (front : Bool) (b : ℕ) (long : Bool) (a : Ask) → Asked n front (answered front (answer b long a) h)
-  answer-asked front b long a = by (b == code "\n") refl
+  answer-asked : (next_item : Bool) (b : ℕ) (long : Bool) (a : Ask) → Asked n next_item (answered next_item (answer b long a) h)
+  answer-asked next_item b long a = by (b == code "\n") refl
     where
-      by : (c : Bool) → (b == code "\n") ≡ c → Asked n front (answered front (answer b long a) h)
+      by : (c : Bool) → (b == code "\n") ≡ c → Asked n next_item (answered next_item (answer b long a) h)
       by true e =
           let cutted = cut a.stage a in
           rw e (record { mode = mode; none = ended-none cutted.kind (name_of cutted.name); quiet = ended-quiet cutted.kind (name_of cutted.name); stays = λ x. refl })
-      by false e = rw e (stage-asked front b long a.stage a)
+      by false e = rw e (stage-asked next_item b long a.stage a)
 
-  hear-asked : (asks : List Ask) (front : Bool) (b : ℕ) → Asked n front (hear_by asks front b h)
-  hear-asked [] front b = rw mode (record { mode = refl; none = none; quiet = tt; stays = λ x. x })
-  hear-asked (a ∷ asks) front b = answer-asked front b h.signs.long a
+  hear-asked : (asks : List Ask) (next_item : Bool) (b : ℕ) → Asked n next_item (hear_by asks next_item b h)
+  hear-asked [] next_item b = rw mode (record { mode = refl; none = none; quiet = tt; stays = λ x. x })
+  hear-asked (a ∷ asks) next_item b = answer-asked next_item b h.signs.long a
 
   over-asked : (asks : List Ask) → Asked n false (over_by asks h)
   over-asked [] = rw mode (record { mode = refl; none = none; quiet = tt; stays = λ x. x })
@@ -292,60 +292,60 @@ module _ (n : ℕ) (h : Half) (mode : h.reading.mode ≡ modes.Leading n) (none 
       by true e = rw e (hear-asked h.asks true (code "\n"))
       by false e = rw e (record { mode = mode; none = none; quiet = tt; stays = λ x. x })
 
-  offered-asked : (f : Front) (e : Escape) (argument : Bool) → Asked n (is_no_resume f) (offered (offer f e argument) h)
-  offered-asked fronts.Mark e argument = record { mode = mode; none = none; quiet = tt; stays = λ x. x }
-  offered-asked (fronts.Byte b) e argument = byte-asked b e argument
-  offered-asked (fronts.Cell x) escapes.Plain argument = hear-asked h.asks true x.byte
-  offered-asked (fronts.Cell x) escapes.Begun argument = from-left (hear-asked h.asks false (code "\\"))
-  offered-asked (fronts.Cell x) escapes.Comment argument = record { mode = mode; none = none; quiet = tt; stays = λ x. x }
-  offered-asked (fronts.LineEnd n) escapes.Begun argument = from-left (hear-asked h.asks false (code "\\"))
-  offered-asked (fronts.LineEnd n) escapes.Plain argument = hear-asked h.asks true (code "\n")
-  offered-asked (fronts.LineEnd n) escapes.Comment argument = hear-asked h.asks true (code "\n")
-  offered-asked fronts.Resume escapes.Begun argument = hear-asked h.asks false (code "\\")
-  offered-asked fronts.Resume escapes.Plain argument = over-asked h.asks
-  offered-asked fronts.Resume escapes.Comment argument = over-asked h.asks
-  offered-asked fronts.Over escapes.Begun argument = from-left (hear-asked h.asks false (code "\\"))
-  offered-asked fronts.Over escapes.Plain argument = from-left (over-asked h.asks)
-  offered-asked fronts.Over escapes.Comment argument = from-left (over-asked h.asks)
+  offered-asked : (f : NextItem) (e : Escape) (argument : Bool) → Asked n (is_no_resume f) (offered (offer f e argument) h)
+  offered-asked next_items.Mark e argument = record { mode = mode; none = none; quiet = tt; stays = λ x. x }
+  offered-asked (next_items.Byte b) e argument = byte-asked b e argument
+  offered-asked (next_items.Cell x) escapes.Plain argument = hear-asked h.asks true x.byte
+  offered-asked (next_items.Cell x) escapes.Begun argument = from-left (hear-asked h.asks false (code "\\"))
+  offered-asked (next_items.Cell x) escapes.Comment argument = record { mode = mode; none = none; quiet = tt; stays = λ x. x }
+  offered-asked (next_items.LineEnd n) escapes.Begun argument = from-left (hear-asked h.asks false (code "\\"))
+  offered-asked (next_items.LineEnd n) escapes.Plain argument = hear-asked h.asks true (code "\n")
+  offered-asked (next_items.LineEnd n) escapes.Comment argument = hear-asked h.asks true (code "\n")
+  offered-asked next_items.Resume escapes.Begun argument = hear-asked h.asks false (code "\\")
+  offered-asked next_items.Resume escapes.Plain argument = over-asked h.asks
+  offered-asked next_items.Resume escapes.Comment argument = over-asked h.asks
+  offered-asked next_items.Over escapes.Begun argument = from-left (hear-asked h.asks false (code "\\"))
+  offered-asked next_items.Over escapes.Plain argument = from-left (over-asked h.asks)
+  offered-asked next_items.Over escapes.Comment argument = from-left (over-asked h.asks)
 
-  raw-asked : (f : Front) (e : Escape) → Asked n (is_no_resume f) (offered (raw_offer f e) h)
-  raw-asked fronts.Mark e = record { mode = mode; none = none; quiet = tt; stays = λ x. x }
-  raw-asked (fronts.Byte b) e = hear-asked h.asks true b
-  raw-asked (fronts.Cell x) e = from-left (over-asked h.asks)
-  raw-asked (fronts.LineEnd k) e = from-left (over-asked h.asks)
-  raw-asked fronts.Resume e = over-asked h.asks
-  raw-asked fronts.Over e = from-left (over-asked h.asks)
+  raw-asked : (f : NextItem) (e : Escape) → Asked n (is_no_resume f) (offered (raw_offer f e) h)
+  raw-asked next_items.Mark e = record { mode = mode; none = none; quiet = tt; stays = λ x. x }
+  raw-asked (next_items.Byte b) e = hear-asked h.asks true b
+  raw-asked (next_items.Cell x) e = from-left (over-asked h.asks)
+  raw-asked (next_items.LineEnd k) e = from-left (over-asked h.asks)
+  raw-asked next_items.Resume e = over-asked h.asks
+  raw-asked next_items.Over e = from-left (over-asked h.asks)
 
-  to-asked : (k : Kind) (f : Front) (e : Escape) → Asked n (is_no_resume f) (offered (offer_to k f e) h)
+  to-asked : (k : Kind) (f : NextItem) (e : Escape) → Asked n (is_no_resume f) (offered (offer_to k f e) h)
   to-asked kinds.Size f e = raw-asked f e
   to-asked k f e = offered-asked f e (reads_argument k)
 
--- ---- the item in front
+-- ---- the next item
 
-asked-after : (n : ℕ) (front : Bool) (m : Met) → Asked n front m → Meets m
-asked-after n front m h = Wait n h.mode h.none h.quiet
+asked-after : (n : ℕ) (next_item : Bool) (m : TakenIn) → Asked n next_item m → TakesIn m
+asked-after n next_item m h = Wait n h.mode h.none h.quiet
 
-by-asks : (asks : List Ask) (n : ℕ) (f : Front) (h : Half) → h.reading.mode ≡ modes.Leading n → blanks_of_due h.reading.due ≡ 0 → Meets (meet_by asks f h)
+by-asks : (asks : List Ask) (n : ℕ) (f : NextItem) (h : Half) → h.reading.mode ≡ modes.Leading n → blanks_of_pending h.reading.pending_act ≡ 0 → TakesIn (take_in_by asks f h)
 by-asks [] n f h mode none =
-    subst (λ m. Meets (if is_direct m then met_directly (direct f h.signs h.reading) h else offered (offer f h.reading.escape (reads_arguments h.reading.mode)) h)) (sym mode)
+    subst (λ m. TakesIn (if is_direct m then taken_in_directly (direct f h.signs h.reading) h else offered (offer f h.reading.escape (reads_arguments h.reading.mode)) h)) (sym mode)
     (directly (direct f h.signs h.reading) h (direct-after h.reading.escape n f h.signs h.reading mode none))
 by-asks (a ∷ asks) n f h mode none = asked-after n (is_no_resume f) (offered (offer_to a.kind f h.reading.escape) h) (to-asked n h mode none a.kind f h.reading.escape)
 
-pub meet-after : (n : ℕ) (f : Front) (h : Half) → h.reading.mode ≡ modes.Leading n → blanks_of_due h.reading.due ≡ 0 → Meets (meet f h)
-meet-after n f h mode none = by-asks h.asks n f h mode none
+pub take_in-after : (n : ℕ) (f : NextItem) (h : Half) → h.reading.mode ≡ modes.Leading n → blanks_of_pending h.reading.pending_act ≡ 0 → TakesIn (take_in f h)
+take_in-after n f h mode none = by-asks h.asks n f h mode none
 
 -- ---- a resume mark is left
 
-resume-direct : (e : Escape) (n : ℕ) (s : Signs) (r : Reading) → r.mode ≡ modes.Leading n → (direct_by e fronts.Resume s r).takes ≡ false
+resume-direct : (e : Escape) (n : ℕ) (s : Signs) (r : Reading) → r.mode ≡ modes.Leading n → (direct_by e next_items.Resume s r).takes ≡ false
 resume-direct escapes.Plain n s r mode = rw mode refl
 resume-direct escapes.Begun n s r mode = rw mode refl
 resume-direct escapes.Comment n s r mode = rw mode refl
 
-resume-asks : (asks : List Ask) (n : ℕ) (h : Half) → h.reading.mode ≡ modes.Leading n → blanks_of_due h.reading.due ≡ 0 → (meet_by asks fronts.Resume h).takes ≡ false
+resume-asks : (asks : List Ask) (n : ℕ) (h : Half) → h.reading.mode ≡ modes.Leading n → blanks_of_pending h.reading.pending_act ≡ 0 → (take_in_by asks next_items.Resume h).takes ≡ false
 resume-asks [] n h mode none =
-    subst (λ m. (if is_direct m then met_directly (direct fronts.Resume h.signs h.reading) h else offered (offer fronts.Resume h.reading.escape (reads_arguments h.reading.mode)) h).takes ≡ false) (sym mode)
+    subst (λ m. (if is_direct m then taken_in_directly (direct next_items.Resume h.signs h.reading) h else offered (offer next_items.Resume h.reading.escape (reads_arguments h.reading.mode)) h).takes ≡ false) (sym mode)
     (resume-direct h.reading.escape n h.signs h.reading mode)
-resume-asks (a ∷ asks) n h mode none = (to-asked n h mode none a.kind fronts.Resume h.reading.escape).stays refl
+resume-asks (a ∷ asks) n h mode none = (to-asked n h mode none a.kind next_items.Resume h.reading.escape).stays refl
 
-pub resume-stays : (n : ℕ) (h : Half) → h.reading.mode ≡ modes.Leading n → blanks_of_due h.reading.due ≡ 0 → (meet fronts.Resume h).takes ≡ false
+pub resume-stays : (n : ℕ) (h : Half) → h.reading.mode ≡ modes.Leading n → blanks_of_pending h.reading.pending_act ≡ 0 → (take_in next_items.Resume h).takes ≡ false
 resume-stays n h mode none = resume-asks h.asks n h mode none

@@ -6,17 +6,17 @@ use Rattle.nr_settings.specs.declared.specials.Special.TheVariants as specials
 use Rattle.nr_store.specs.Store.{Stored, shown}
 use Rattle.nr_store.specs.declared.shown.Shown.{Shown}
 use Rattle.nr_store.specs.declared.shown.Shown.TheVariants as shows
-use Rattle.nr_reading.specs.Half.{Met, meet}
-use Rattle.nr_reading.specs.Weights.{blanks_owed, blanks_of_due, blanks_of_mode}
+use Rattle.nr_reading.specs.Half.{TakenIn, take_in}
+use Rattle.nr_reading.specs.Weights.{blanks_owed, blanks_of_pending, blanks_of_mode}
 use Rattle.nr_reading.specs.declared.event.Event.{Event}
 use Rattle.nr_reading.specs.declared.event.Event.TheVariants as events
 use Rattle.nr_reading.specs.declared.half.Half.{Half}
 use Rattle.nr_reading.specs.declared.mode.Mode.TheVariants as modes
-use Rattle.nr_input.specs.Moving.{looks, look, taken_at, stays_at, acted_at, acting, told_of}
+use Rattle.nr_input.specs.Moving.{looks, look, taken_at, stays_at, acted_at, acting, emitted_of}
 use Rattle.nr_input.specs.Moving as input
-use Rattle.nr_input.specs.Place.{Coming, front}
+use Rattle.nr_input.specs.Place.{Coming, next_item}
 use Rattle.nr_input.specs.declared.reader.Reader.{Reader}
-use Rattle.nr_input.specs.declared.told.Told.TheVariants as tells
+use Rattle.nr_input.specs.declared.emitted.Emitted.TheVariants as tells
 use Rattle.nr_formatter.specs.Access.{asked, done}
 use Rattle.nr_formatter.specs.BuiltIn.{given_named}
 use Rattle.nr_formatter.specs.Moves as moves
@@ -33,9 +33,9 @@ use Rattle.nr_machine.specs.State.{State, plainly}
 use Rattle.nr_machine.specs.Machine.{work, hear, step, situation_of, with_situation}
 use Rattle.nr_machine.specs.Run.{Reads, Kind, kind, Goes, GoesBy}
 use Rattle.nr_laws.proofs.BlanksActs.{act-after, act-silent}
-use Rattle.nr_laws.proofs.BlanksReads.{IsQuiet, After, Wait as Waiting, Tell, Few, meet-after, resume-stays}
-use Rattle.nr_laws.proofs.BlanksSaved.{Saves, blanks_in, look-saves, due-saves}
-use Rattle.nr_laws.proofs.BlanksTold.{Leads, step-hears}
+use Rattle.nr_laws.proofs.BlanksReads.{IsQuiet, After, Wait as Waiting, Tell, Few, take_in-after, resume-stays}
+use Rattle.nr_laws.proofs.BlanksSaved.{Saves, blanks_in, look-saves, pending_act-saves}
+use Rattle.nr_laws.proofs.BlanksEmitted.{Leads, step-hears}
 use Rattle.nr_laws.proofs.MovesPaid.{step-paid}
 use Rattle.nr_laws.proofs.PageLengths.{HasHeight}
 use Rattle.nr_laws.proofs.ReadMoves.{reads-step}
@@ -52,12 +52,12 @@ pub record Waits (n : ℕ) (s : State) : Type 0 where
   pub springs : s.formatter.springs ≡ None
   pub calm : IsCalm s.formatter.event s.formatter.task
   pub mode : s.formatter.reader.half.reading.mode ≡ modes.Leading n
-  pub none : blanks_of_due s.formatter.reader.half.reading.due ≡ 0
+  pub none : blanks_of_pending s.formatter.reader.half.reading.pending_act ≡ 0
 
--- no more than so many blanks are owed, or they are due, or they wait
+-- no more than so many blanks are owed, or they are pending, or they wait
 pub data Stands (most : ℕ) (s : State) : Type 0 where
   Has : blanks_in s ≤ most → Stands most s
-  Told : (n : ℕ) → Leads n s → Stands most s
+  Emitted : (n : ℕ) → Leads n s → Stands most s
   Wait : (n : ℕ) → Waits n s → Stands most s
 
 -- ---- after a move that reads
@@ -66,17 +66,17 @@ after-stands : (most : ℕ) (s : State) (v : Stored Resume) (c : Coming) (r : Re
     → After e r.half.reading → Stands most (record s { coming = c; formatter = record s.formatter { store = v; reader = r; event = e } })
 after-stands most s v c r e some chosen springs task (Waiting n mode none quiet) =
     Wait n (record { chosen = chosen; springs = springs; calm = subst (λ (t : Task). IsCalm e t) (sym task) quiet; mode = mode; none = none })
-after-stands most s v c r e some chosen springs task (Tell n mode due event) =
-    Told n (record { chosen = chosen; springs = springs; event = event; task = task; mode = mode; due = due })
+after-stands most s v c r e some chosen springs task (Tell n mode pending_act event) =
+    Emitted n (record { chosen = chosen; springs = springs; event = event; task = task; mode = mode; pending_act = pending_act })
 after-stands most s v c r e some chosen springs task (Few few) = Has (omega (arith, few, some))
 
--- what is told where an item is taken: a resume mark is not
-event-told : (sh : Shown Resume) (n : ℕ) (c : Coming) (h : Half) → h.reading.mode ≡ modes.Leading n → blanks_of_due h.reading.due ≡ 0
-    → let m = meet (front sh c) h in m.takes ≡ true → told_of sh m.event ≡ tells.Event m.event
-event-told (shows.Resume k) n c h mode none takes = absurd (let wrong : true ≡ false = sym takes ∙ resume-stays n h mode none in cc)
-event-told sh n c h mode none takes = refl
+-- what is emitted where an item is taken: a resume mark is not
+event-emitted : (sh : Shown Resume) (n : ℕ) (c : Coming) (h : Half) → h.reading.mode ≡ modes.Leading n → blanks_of_pending h.reading.pending_act ≡ 0
+    → let m = take_in (next_item sh c) h in m.takes ≡ true → emitted_of sh m.event ≡ tells.Event m.event
+event-emitted (shows.Resume k) n c h mode none takes = absurd (let wrong : true ≡ false = sym takes ∙ resume-stays n h mode none in cc)
+event-emitted sh n c h mode none takes = refl
 
-looked : (b : Bool) (most : ℕ) (m : Met) (s : State) → (b ≡ true → told_of (shown s.formatter.store.levels) m.event ≡ tells.Event m.event) → 1 ≤ most
+looked : (b : Bool) (most : ℕ) (m : TakenIn) (s : State) → (b ≡ true → emitted_of (shown s.formatter.store.levels) m.event ≡ tells.Event m.event) → 1 ≤ most
     → s.chosen ≡ [] → s.formatter.springs ≡ None → s.formatter.task ≡ tasks.Read → After m.event m.half.reading
     → Stands most (with_situation (if b then taken_at m (situation_of s) else stays_at m (situation_of s)) s)
 looked true most m s event some chosen springs task after =
@@ -93,9 +93,9 @@ record Keeps (f g : Formatter) : Type 0 where
   springs : g.springs ≡ f.springs
   calm : IsCalm g.event g.task
   mode : g.reader.half.reading.mode ≡ f.reader.half.reading.mode
-  none : blanks_of_due g.reader.half.reading.due ≡ 0
+  none : blanks_of_pending g.reader.half.reading.pending_act ≡ 0
 
-module _ (f : Formatter) (task : f.task ≡ tasks.Read) (none : blanks_of_due f.reader.half.reading.due ≡ 0) where
+module _ (f : Formatter) (task : f.task ≡ tasks.Read) (none : blanks_of_pending f.reader.half.reading.pending_act ≡ 0) where
   calm : IsCalm events.Nothing f.task
   calm = rw task tt
 
@@ -134,7 +134,7 @@ module _ (f : Formatter) (task : f.task ≡ tasks.Read) (none : blanks_of_due f.
   heard-keeps n e mode quiet = absurd quiet
 
 -- the second cell of a dash
-dash-keeps : (c : Bool) (f : Formatter) → c ≡ false → f.event ≡ events.Nothing → blanks_of_due f.reader.half.reading.due ≡ 0 → Keeps f (if c then titles.title_dash_end f else texts.dash_end f)
+dash-keeps : (c : Bool) (f : Formatter) → c ≡ false → f.event ≡ events.Nothing → blanks_of_pending f.reader.half.reading.pending_act ≡ 0 → Keeps f (if c then titles.title_dash_end f else texts.dash_end f)
 dash-keeps true f untitled idle none = absurd (let wrong : true ≡ false = untitled in cc)
 dash-keeps false f untitled idle none = record { springs = refl; calm = tt; mode = refl; none = none }
 
@@ -159,19 +159,19 @@ module _ (most n : ℕ) (s : State) (some : 1 ≤ most) (h : Waits n s) where
   read-holds true looking idle task goes =
       let half = s.formatter.reader.half in
       let sh = shown s.formatter.store.levels in
-      let m = meet (front sh s.coming) half in
-      let event = event-told sh n s.coming half h.mode h.none in
+      let m = take_in (next_item sh s.coming) half in
+      let event = event-emitted sh n s.coming half h.mode h.none in
       record {
         saves = look-saves s event looking idle task;
-        stands = looked m.takes most m s event some h.chosen h.springs task (meet-after n (front sh s.coming) half h.mode h.none);
+        stands = looked m.takes most m s event some h.chosen h.springs task (take_in-after n (next_item sh s.coming) half h.mode h.none);
       }
   read-holds false looking idle task goes =
       let v = s.formatter.store in
       let r = s.formatter.reader in
       let a = acting (situation_of s) in
       record {
-        saves = due-saves s looking idle task goes (act-silent n v r h.mode h.none r.half.reading.due h.none);
-        stands = after-stands most s a.stored s.coming a.reader a.event some h.chosen h.springs task (act-after n v r h.mode h.none r.half.reading.due h.none);
+        saves = pending_act-saves s looking idle task goes (act-silent n v r h.mode h.none r.half.reading.pending_act h.none);
+        stands = after-stands most s a.stored s.coming a.reader a.event some h.chosen h.springs task (act-after n v r h.mode h.none r.half.reading.pending_act h.none);
       }
 
   kept-holds : (f : Formatter) → Keeps s.formatter f → Paid s (record s { formatter = f }) → Holds most s (record s { formatter = f })

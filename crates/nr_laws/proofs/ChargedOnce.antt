@@ -107,21 +107,21 @@ head-less : (x : List ℕ) (c : Bool) (o : Option (List ℕ)) (n : ℕ) → (if 
 head-less x true o n = omega arith
 head-less x false o n = omega arith
 
-behind-less : (x name : List ℕ) (ts : List Shared) → charge_after x (renamed_by (without_name name) ts) ≤ charge_after x ts
-behind-less x name [] = omega arith
-behind-less x name (t ∷ ts) =
+afterwards-less : (x name : List ℕ) (ts : List Shared) → charge_after x (renamed_by (without_name name) ts) ≤ charge_after x ts
+afterwards-less x name [] = omega arith
+afterwards-less x name (t ∷ ts) =
     let u : Shared = record t { name = without_name name t.name } in
-    omega (arith, more x t ts, more x u (renamed_by (without_name name) ts), head-less x (is_named name t.name) t.name t.share, behind-less x name ts)
+    omega (arith, more x t ts, more x u (renamed_by (without_name name) ts), head-less x (is_named name t.name) t.name t.share, afterwards-less x name ts)
 
 head-gone : (name : List ℕ) (o : Option (List ℕ)) (n : ℕ) (c : Bool) → is_named name o ≡ c → (if is_named name (if c then None else o) then n else 0) ≡ 0
 head-gone name o n true is = refl
 head-gone name o n false is = false-is (is_named name o) n 0 is
 
-behind-gone : (name : List ℕ) (ts : List Shared) → charge_after name (renamed_by (without_name name) ts) ≡ 0
-behind-gone name [] = refl
-behind-gone name (t ∷ ts) =
+afterwards-gone : (name : List ℕ) (ts : List Shared) → charge_after name (renamed_by (without_name name) ts) ≡ 0
+afterwards-gone name [] = refl
+afterwards-gone name (t ∷ ts) =
     let u : Shared = record t { name = without_name name t.name } in
-    omega (arith, more name u (renamed_by (without_name name) ts), head-gone name t.name t.share (is_named name t.name) refl, behind-gone name ts)
+    omega (arith, more name u (renamed_by (without_name name) ts), head-gone name t.name t.share (is_named name t.name) refl, afterwards-gone name ts)
 
 not-read : (name : List ℕ) (ts : List Shared) → is_read name ts ≡ false → charge_after name ts ≡ 0
 not-read name [] none = refl
@@ -139,15 +139,15 @@ pub once-removed : (name : List ℕ) (ns : List (Named Means)) (ts : List Shared
 once-removed name ns ts once x = by (is_same name x) refl
   where
     by : (c : Bool) → is_same name x ≡ c → charge_after x (renamed_by (without_name name) ts) ≤ charge_under (find x (without name ns))
-    by true is = let none = subst (λ y. charge_after y (renamed_by (without_name name) ts) ≡ 0) (same_is name x is) (behind-gone name ts) in omega (arith, none)
-    by false is = omega (arith, once x, behind-less x name ts, ap charge_under (without-other name x is ns))
+    by true is = let none = subst (λ y. charge_after y (renamed_by (without_name name) ts) ≡ 0) (same_is name x is) (afterwards-gone name ts) in omega (arith, none)
+    by false is = omega (arith, once x, afterwards-less x name ts, ap charge_under (without-other name x is ns))
 
 pub once-named : (name : List ℕ) (m : Means) (ns : List (Named Means)) (ts : List Shared) → AreOnce ns ts → AreOnce (put name m ns) (renamed_by (without_name name) ts)
 once-named name m ns ts once x = by (is_same name x) refl
   where
     by : (c : Bool) → is_same name x ≡ c → charge_after x (renamed_by (without_name name) ts) ≤ charge_under (find x (put name m ns))
-    by true is = let none = subst (λ y. charge_after y (renamed_by (without_name name) ts) ≡ 0) (same_is name x is) (behind-gone name ts) in omega (arith, none)
-    by false is = omega (arith, once x, behind-less x name ts, ap charge_under (put-other name x is m ns))
+    by true is = let none = subst (λ y. charge_after y (renamed_by (without_name name) ts) ≡ 0) (same_is name x is) (afterwards-gone name ts) in omega (arith, none)
+    by false is = omega (arith, once x, afterwards-less x name ts, ap charge_under (put-other name x is m ns))
 
 -- one name takes what another had
 
@@ -156,31 +156,31 @@ module _ (from to : List ℕ) where
   head-to o n true is = omega (arith, true-is (is_same to to) n 0 (same_itself to to refl), true-is (is_named from o) n 0 is)
   head-to o n false is = omega (arith, head-gone to o n (is_named to o) refl)
 
-  behind-to : (ts : List Shared) → charge_after to (renamed_by (with_name from to) ts) ≤ charge_after from ts
-  behind-to [] = omega arith
-  behind-to (t ∷ ts) =
+  afterwards-to : (ts : List Shared) → charge_after to (renamed_by (with_name from to) ts) ≤ charge_after from ts
+  afterwards-to [] = omega arith
+  afterwards-to (t ∷ ts) =
       let u : Shared = record t { name = with_name from to t.name } in
-      omega (arith, more from t ts, more to u (renamed_by (with_name from to) ts), head-to t.name t.share (is_named from t.name) refl, behind-to ts)
+      omega (arith, more from t ts, more to u (renamed_by (with_name from to) ts), head-to t.name t.share (is_named from t.name) refl, afterwards-to ts)
 
   head-from : is_same to from ≡ false → (o : Option (List ℕ)) (n : ℕ) (c : Bool) → is_named from o ≡ c → (if is_named from (if c then Some to else without_name to o) then n else 0) ≤ 0
   head-from apart o n true is = omega (arith, false-is (is_same to from) n 0 apart)
   head-from apart o n false is = omega (arith, head-less from (is_named to o) o n, false-is (is_named from o) n 0 is)
 
-  behind-from : is_same to from ≡ false → (ts : List Shared) → charge_after from (renamed_by (with_name from to) ts) ≤ 0
-  behind-from apart [] = omega arith
-  behind-from apart (t ∷ ts) =
+  afterwards-from : is_same to from ≡ false → (ts : List Shared) → charge_after from (renamed_by (with_name from to) ts) ≤ 0
+  afterwards-from apart [] = omega arith
+  afterwards-from apart (t ∷ ts) =
       let u : Shared = record t { name = with_name from to t.name } in
-      omega (arith, more from u (renamed_by (with_name from to) ts), head-from apart t.name t.share (is_named from t.name) refl, behind-from apart ts)
+      omega (arith, more from u (renamed_by (with_name from to) ts), head-from apart t.name t.share (is_named from t.name) refl, afterwards-from apart ts)
 
   head-other : (x : List ℕ) → is_same to x ≡ false → (o : Option (List ℕ)) (n : ℕ) (c : Bool) → (if is_named x (if c then Some to else without_name to o) then n else 0) ≤ (if is_named x o then n else 0)
   head-other x apart o n true = omega (arith, false-is (is_same to x) n 0 apart)
   head-other x apart o n false = head-less x (is_named to o) o n
 
-  behind-other : (x : List ℕ) → is_same to x ≡ false → (ts : List Shared) → charge_after x (renamed_by (with_name from to) ts) ≤ charge_after x ts
-  behind-other x apart [] = omega arith
-  behind-other x apart (t ∷ ts) =
+  afterwards-other : (x : List ℕ) → is_same to x ≡ false → (ts : List Shared) → charge_after x (renamed_by (with_name from to) ts) ≤ charge_after x ts
+  afterwards-other x apart [] = omega arith
+  afterwards-other x apart (t ∷ ts) =
       let u : Shared = record t { name = with_name from to t.name } in
-      omega (arith, more x t ts, more x u (renamed_by (with_name from to) ts), head-other x apart t.name t.share (is_named from t.name), behind-other x apart ts)
+      omega (arith, more x t ts, more x u (renamed_by (with_name from to) ts), head-other x apart t.name t.share (is_named from t.name), afterwards-other x apart ts)
 
 same-both : (a b : List ℕ) → is_same b a ≡ true → is_same a b ≡ true
 same-both a b is = same_itself a b (sym (same_is b a is))
@@ -199,13 +199,13 @@ once-moved from to m ns ts apart has once x = by (is_same to x) (is_same from x)
     by : (c d : Bool) → is_same to x ≡ c → is_same from x ≡ d → charge_after x (renamed_by (with_name from to) ts) ≤ charge_under (find x (put to m (without from ns)))
     by true d is-to is-from =
         subst (λ y. charge_after y (renamed_by (with_name from to) ts) ≤ charge_under (find y (put to m (without from ns)))) (same_is to x is-to)
-        (omega (arith, behind-to from to ts, once from, ap charge_under has, ap charge_under (put-same to m (without from ns))))
+        (omega (arith, afterwards-to from to ts, once from, ap charge_under has, ap charge_under (put-same to m (without from ns))))
     by false true is-to is-from =
         let none : charge_after x (renamed_by (with_name from to) ts) ≤ 0 =
-        subst (λ y. charge_after y (renamed_by (with_name from to) ts) ≤ 0) (same_is from x is-from) (behind-from from to (other-way (is_same to from) refl ∙ refl) ts) in
+        subst (λ y. charge_after y (renamed_by (with_name from to) ts) ≤ 0) (same_is from x is-from) (afterwards-from from to (other-way (is_same to from) refl ∙ refl) ts) in
         omega (arith, none)
     by false false is-to is-from =
-        omega (arith, once x, behind-other from to x is-to ts, ap charge_under (put-other to x is-to m (without from ns)), ap charge_under (without-other from x is-from ns))
+        omega (arith, once x, afterwards-other from to x is-to ts, ap charge_under (put-other to x is-to m (without from ns)), ap charge_under (without-other from x is-from ns))
 
 -- another level reads the text of a name
 

@@ -11,8 +11,8 @@ use Rattle.nr_store.specs.declared.request.TheConstants.{REQUESTS}
 use Rattle.nr_store.specs.Request.{with_acts, name_of}
 use Rattle.nr_store.specs.Store.{Means, Act, charge_of, shown, weight_of}
 use Rattle.nr_store.proofs.Naming.{sum_of, put_sum, put_sum_new}
-use Rattle.nr_reading.specs.declared.mode.Due.{Due}
-use Rattle.nr_reading.specs.declared.mode.Due.TheVariants as dues
+use Rattle.nr_reading.specs.declared.mode.PendingAct.{PendingAct}
+use Rattle.nr_reading.specs.declared.mode.PendingAct.TheVariants as pending_acts
 use Rattle.nr_input.specs.Acting.{name_in}
 use Rattle.nr_input.specs.Moving.{looks}
 use Rattle.nr_input.specs.Moving as input
@@ -28,7 +28,7 @@ use Rattle.nr_machine.specs.declared.outcome.Measure.{Measure}
 use Rattle.nr_machine.specs.declared.outcome.Measure.TheVariants as measures
 use Rattle.nr_laws.specs.Moves.{LimitsAreExact}
 use Rattle.nr_laws.proofs.MadeMoves.{above_is_refused}
-use Rattle.nr_laws.proofs.PrintedFronts.{IsDue}
+use Rattle.nr_laws.proofs.PrintedItems.{IsPending}
 use Rattle.nr_laws.proofs.PrintedLines.{all-among, every}
 use Rattle.nr_laws.proofs.PrintedStates.{AreClear, clear-after, starts-clear}
 use Rattle.nr_laws.proofs.RefusedMoves.{refused_is_above}
@@ -66,13 +66,13 @@ passed-none s none =
     (nat_lt f.reader.most f.reader.burst) s (ltb-false f.store.limit (charge_of f.store)) (ltb-false f.store.deepest (length f.store.levels)) (ltb-false f.line.limit (line_cells (collected f)))
     (ltb-false s.page_limit (page_charge s.lines)) (ltb-false f.reader.most f.reader.burst) none
 
-due-not : (d : Due) → IsDue every d → d ≢ dues.Expanded
-due-not dues.Expanded h is = h
-due-not d h is = (let wrong : ⊥ = cc in wrong)
+pending_act-not : (d : PendingAct) → IsPending every d → d ≢ pending_acts.Expanded
+pending_act-not pending_acts.Expanded h is = h
+pending_act-not d h is = (let wrong : ⊥ = cc in wrong)
 
 module _ (s : State) (within : IsWithin s) (clear : AreClear every s) where
-  refuses : s.formatter.reader.half.reading.due ≢ dues.Expanded
-  refuses = due-not s.formatter.reader.half.reading.due clear.kept.half.due
+  refuses : s.formatter.reader.half.reading.pending_act ≢ pending_acts.Expanded
+  refuses = pending_act-not s.formatter.reader.half.reading.pending_act clear.kept.half.pending_act
 
   above : (m : Measure) → passed (step s) ≡ Some m → Passes s m
   above m is = above_is_refused s m within refuses (λ names. clear.kept.stored.once (name_in s.formatter.reader)) is

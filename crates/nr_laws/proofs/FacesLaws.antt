@@ -28,12 +28,12 @@ use Rattle.nr_laws.proofs.PlainPages.{if-false}
 abbrev rows_of : Ended → List ℕ
 rows_of p = range_with_len 0 (max p.rows (row_count p.lines))
 
--- a row, and what goes out behind it
+-- a row, and what goes out after it
 row_and : (f : Faces) (lines : List Placed) (row : ℕ) (rows bs : List ℕ)
     → flat_map (row_bytes f lines) (row ∷ rows) ++ bs ≡ flat_map (cell_bytes f) (row_cells lines row) ++ 10 ∷ (flat_map (row_bytes f lines) rows ++ bs)
 row_and f lines row rows bs =
-    let behind = flat_map (row_bytes f lines) rows in
-    append_assoc (row_bytes f lines row) behind bs ∙ append_assoc (flat_map (cell_bytes f) (row_cells lines row)) (10 ∷ []) (behind ++ bs)
+    let afterwards = flat_map (row_bytes f lines) rows in
+    append_assoc (row_bytes f lines row) afterwards bs ∙ append_assoc (flat_map (cell_bytes f) (row_cells lines row)) (10 ∷ []) (afterwards ++ bs)
 
 -- ---- what is struck over, taken out
 
@@ -42,7 +42,7 @@ abbrev NoneIsBackspace : List ℕ → Type 0
 NoneIsBackspace [] = Unit {0}
 NoneIsBackspace (b ∷ bs) = ((b == 8) ≡ false) × NoneIsBackspace bs
 
--- nor any behind the first: so it is where what is struck over is taken out
+-- nor any after the first: so it is where what is struck over is taken out
 abbrev IsClean : List ℕ → Type 0
 IsClean [] = Unit {0}
 IsClean (b ∷ bs) = NoneIsBackspace bs
@@ -51,12 +51,12 @@ over-clean : (b : ℕ) (bs : List ℕ) → IsClean bs → IsClean (over b bs)
 over-clean b [] clean = tt
 over-clean b (c ∷ cs) clean = by (c == 8) refl
   where
-    behind : (ds : List ℕ) → NoneIsBackspace ds → IsClean ds
-    behind [] none = tt
-    behind (d ∷ ds) none = none.1
+    afterwards : (ds : List ℕ) → NoneIsBackspace ds → IsClean ds
+    afterwards [] none = tt
+    afterwards (d ∷ ds) none = none.1
 
     by : (is : Bool) → (c == 8) ≡ is → IsClean (if is then cs else b ∷ c ∷ cs)
-    by true is = behind cs clean
+    by true is = afterwards cs clean
     by false is = (is, clean)
 
 struck_out-clean : (bs : List ℕ) → IsClean (struck_out bs)
@@ -66,17 +66,17 @@ struck_out-clean (b ∷ bs) = over-clean b (struck_out bs) (struck_out-clean bs)
 over-other : (b c : ℕ) (cs : List ℕ) → (c == 8) ≡ false → over b (c ∷ cs) ≡ b ∷ c ∷ cs
 over-other b c cs is = if-false (c == 8) cs (b ∷ c ∷ cs) is
 
--- a byte behind one that it is struck over
+-- a byte after one that it is struck over
 over-struck : (a b : ℕ) (bs : List ℕ) → (b == 8) ≡ false → IsClean bs → over a (over 8 (over b bs)) ≡ over b bs
 over-struck a b [] other clean = ap (over a) (over-other 8 b [] other)
 over-struck a b (c ∷ cs) other clean = by (c == 8)
   where
-    behind : (ds : List ℕ) → NoneIsBackspace ds → over a (over 8 ds) ≡ ds
-    behind [] none = refl
-    behind (d ∷ ds) none = ap (over a) (over-other 8 d ds none.0)
+    afterwards : (ds : List ℕ) → NoneIsBackspace ds → over a (over 8 ds) ≡ ds
+    afterwards [] none = refl
+    afterwards (d ∷ ds) none = ap (over a) (over-other 8 d ds none.0)
 
     by : (is : Bool) → over a (over 8 (if is then cs else b ∷ c ∷ cs)) ≡ (if is then cs else b ∷ c ∷ cs)
-    by true = behind cs clean
+    by true = afterwards cs clean
     by false = ap (over a) (over-other 8 b (c ∷ cs) other)
 
 -- a backspace would show as it is
@@ -146,7 +146,7 @@ kept-plain b (c ∷ []) begins = refl
 kept-plain b (c ∷ d ∷ ds) begins =
     if-false (c == 8) (if (b == code "_") && is_ascii_alphanumeric d then b ∷ c ∷ d ∷ ds else d ∷ ds) (b ∷ c ∷ d ∷ ds) begins
 
--- a byte behind a byte and a backspace
+-- a byte after a byte and a backspace
 kept-struck : (a b : ℕ) (bs : List ℕ) → (b == 8) ≡ false → Begins (letters_underlined bs)
     → letters_underlined (a ∷ 8 ∷ b ∷ bs) ≡ (if (a == code "_") && is_ascii_alphanumeric b then a ∷ 8 ∷ b ∷ letters_underlined bs else b ∷ letters_underlined bs)
 kept-struck a b bs other begins =
@@ -189,12 +189,12 @@ struck_begins Plain b bs other = other
 struck_begins Under b bs other = refl
 struck_begins Bold b bs other = other
 
--- what goes out without faces, behind no backspace
+-- what goes out without faces, after no backspace
 cells_begin : (xs : List Cell) (bs : List ℕ) → NoBackspace xs → Begins bs → Begins (flat_map (cell_bytes Letters) xs ++ bs)
 cells_begin [] bs none begins = begins
 cells_begin (x ∷ xs) bs none begins =
-    let behind = flat_map (cell_bytes Letters) xs in
-    subst Begins (sym (append_assoc (cell_bytes Letters x) behind bs)) (struck_begins (shown_look Letters x) x.byte (behind ++ bs) none.0)
+    let afterwards = flat_map (cell_bytes Letters) xs in
+    subst Begins (sym (append_assoc (cell_bytes Letters x) afterwards bs)) (struck_begins (shown_look Letters x) x.byte (afterwards ++ bs) none.0)
 
 rows_begin : (lines : List Placed) (rows bs : List ℕ) → ((row : ℕ) → NoBackspace (row_cells lines row)) → Begins bs → Begins (flat_map (row_bytes Letters lines) rows ++ bs)
 rows_begin lines [] bs none begins = begins

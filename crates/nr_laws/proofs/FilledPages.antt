@@ -18,9 +18,9 @@ abbrev pub Consecutive : ℕ → List Placed → Type 0
 Consecutive k [] = Unit {0}
 Consecutive k (l ∷ ls) = (l.row ≡ k) × (trimmed l.cells ≡ l.cells) × Consecutive (k + 1) ls
 
-pub consecutive-behind : (k r : ℕ) (ls : List Placed) (cells : List Cell) → Consecutive k ls → trimmed cells ≡ cells → r ≡ k + length ls → Consecutive k (ls ++ record { row = r; cells = cells } ∷ [])
-consecutive-behind k r [] cells c whole is = (omega arith, whole, tt)
-consecutive-behind k r (l ∷ ls) cells c whole is = (c.0, c.1, consecutive-behind (k + 1) r ls cells c.2 whole (omega arith))
+pub consecutive-afterwards : (k r : ℕ) (ls : List Placed) (cells : List Cell) → Consecutive k ls → trimmed cells ≡ cells → r ≡ k + length ls → Consecutive k (ls ++ record { row = r; cells = cells } ∷ [])
+consecutive-afterwards k r [] cells c whole is = (omega arith, whole, tt)
+consecutive-afterwards k r (l ∷ ls) cells c whole is = (c.0, c.1, consecutive-afterwards (k + 1) r ls cells c.2 whole (omega arith))
 
 -- the rows of these lines
 abbrev pub rows_shown : List Placed → List (List Cell)

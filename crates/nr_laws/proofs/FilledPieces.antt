@@ -70,9 +70,9 @@ still_begun [] None e = absurd (let x : true ≡ false = e in cc)
 still_begun [] (Some w) e = refl
 still_begun (p ∷ ps) w e = refl
 
-pub some_behind : (ps qs : List Piece) → is_nil ps ≡ false → is_nil (ps ++ qs) ≡ false
-some_behind [] qs some = absurd (let x : true ≡ false = some in cc)
-some_behind (p ∷ ps) qs some = refl
+pub some_after : (ps qs : List Piece) → is_nil ps ≡ false → is_nil (ps ++ qs) ≡ false
+some_after [] qs some = absurd (let x : true ≡ false = some in cc)
+some_after (p ∷ ps) qs some = refl
 
 pub margins_by : (b : Bool) (c : Collected) → (b ≡ false → c.margins ≡ first_margins) → (if b then first_margins else c.margins) ≡ first_margins
 margins_by true c same = refl

@@ -5,7 +5,7 @@ use Rattle.nr_fill.specs.Piece.{Collected, is_nil, begins_line}
 use Rattle.nr_page.specs.Grid.{Placed}
 use Rattle.nr_reading.specs.declared.event.Event.{Event}
 use Rattle.nr_reading.specs.declared.event.Event.TheVariants as events
-use Rattle.nr_reading.specs.declared.mode.Due.{Due}
+use Rattle.nr_reading.specs.declared.mode.PendingAct.{PendingAct}
 use Rattle.nr_reading.specs.declared.mode.Mode.{Mode}
 use Rattle.nr_reading.specs.declared.mode.Mode.TheVariants as modes
 use Rattle.nr_input.specs.Acting.{is_look}
@@ -32,7 +32,7 @@ abbrev pub is_past_lead : Mode → Bool
 is_past_lead (modes.Leading n) = false
 is_past_lead m = true
 
--- what is told is neither an empty line nor a blank at a line's beginning
+-- what is emitted is neither an empty line nor a blank at a line's beginning
 abbrev pub is_of_words : Event → Bool
 is_of_words events.Lead = false
 is_of_words events.Leading = false
@@ -49,8 +49,8 @@ is_unbroken (tasks.Break t) = is_last_break t
 is_unbroken (tasks.Space n) = false
 is_unbroken t = true
 
--- what is always so where filled text is read: the mode, what is due, what was told, what is under way, and what is to come
-pub record InFilledText (m : Mode) (d : Due) (e : Event) (k : Task) (bs : List ℕ) (i : Bool) : Type 0 where
+-- what is always so where filled text is read: the mode, what is pending, what was emitted, what is under way, and what is to come
+pub record InFilledText (m : Mode) (d : PendingAct) (e : Event) (k : Task) (bs : List ℕ) (i : Bool) : Type 0 where
   pub goes : (is_look d && (is_past_lead m && (is_of_words e && is_unbroken k))) ≡ true
   pub bytes : is_filled_from (is_start m) bs ≡ true
   pub inside : is_start m ≡ true → i ≡ false
@@ -64,14 +64,14 @@ pub record OnFilledPage (c : Collected) (ls : List Placed) (place : ℕ) (open_p
   pub measure : begins_line c ≡ false → c.margins ≡ first_margins
 
 abbrev pub ReadsFilled : State → Type 0
-ReadsFilled s = InFilledText s.formatter.reader.half.reading.mode s.formatter.reader.half.reading.due s.formatter.event s.formatter.task s.coming.supply.bytes s.coming.inside
+ReadsFilled s = InFilledText s.formatter.reader.half.reading.mode s.formatter.reader.half.reading.pending_act s.formatter.event s.formatter.task s.coming.supply.bytes s.coming.inside
 
 abbrev pub PrintsFilled : State → Type 0
 PrintsFilled s = OnFilledPage (collected s.formatter) s.lines s.formatter.paper.place (is_open s.formatter.paper.state)
 
 -- ---- the output that a state leads to
 
--- the byte that was told and is not acted on yet
+-- the byte that was emitted and is not acted on yet
 abbrev pub event_bytes : Event → List ℕ
 event_bytes (events.Byte b) = b ∷ []
 event_bytes events.EndLine = 10 ∷ []

@@ -25,7 +25,7 @@ use Rattle.nr_formatter.specs.Spacing.{is_spaceless}
 use Rattle.nr_machine.specs.State.{State, Ended, Choice, plainly}
 use Rattle.nr_machine.specs.Machine.{page_of, begin_page, end_page, turn_page, put_line_to, put_or, break_part, continues_none, break_out, room_in, title_to, cell_to, line_to, space_to, put_space, eject_to, eject, act, work, hear, spring_or, choose_or, step, state_after}
 use Rattle.nr_machine.specs.Printing.{bytes_of, text}
-use Rattle.nr_laws.specs.Laws.{IsFrontOf}
+use Rattle.nr_laws.specs.Laws.{IsPrefixOf}
 
 -- more pages have ended
 pub record Ends (s t : State) : Type 0 where
@@ -143,12 +143,12 @@ pub after-ends : (n : ℕ) (s : State) → Ends s (state_after n s)
 after-ends zero s = stays s s refl
 after-ends (suc n) s = ends-trans s (state_after n s) (state_after (suc n) s) (after-ends n s) (step-ends (state_after n s))
 
-ends-text : (s t : State) → Ends s t → IsFrontOf (text s.pages) (text t.pages)
+ends-text : (s t : State) → Ends s t → IsPrefixOf (text s.pages) (text t.pages)
 ends-text s t e = record { rest = text e.more; whole_is = ap text e.grows ∙ flat_map-append bytes_of s.pages e.more }
 
-pub text-grows : (n m : ℕ) (s : State) → n ≤ m → IsFrontOf (text (state_after n s).pages) (text (state_after m s).pages)
+pub text-grows : (n m : ℕ) (s : State) → n ≤ m → IsPrefixOf (text (state_after n s).pages) (text (state_after m s).pages)
 text-grows n m s h =
     let e : n + (m - n) ≡ m = omega arith in
-    subst (λ k. IsFrontOf (text (state_after n s).pages) (text (state_after k s).pages)) e
-    (subst (λ t. IsFrontOf (text (state_after n s).pages) (text t.pages)) (sym (state_after-add s n (m - n)))
+    subst (λ k. IsPrefixOf (text (state_after n s).pages) (text (state_after k s).pages)) e
+    (subst (λ t. IsPrefixOf (text (state_after n s).pages) (text t.pages)) (sym (state_after-add s n (m - n)))
     (ends-text (state_after n s) (state_after (m - n) (state_after n s)) (after-ends (m - n) (state_after n s))))

@@ -1,4 +1,4 @@
--- What is due leads to the same under any limits, and what is made under some is made under wider ones.
+-- What is pending leads to the same under any limits, and what is made under some is made under wider ones.
 use Rattle.std.specs.Prelude.{nat_le, nat_lt, length}
 use Rattle.std.specs.Option.{option_and_then}
 use Rattle.std.proofs.lemmas.Bool.{ltb-false, leb-false}
@@ -13,17 +13,17 @@ use Rattle.nr_store.specs.declared.refusal.Refusal.TheVariants as stores
 use Rattle.nr_store.specs.declared.register.Register.{Register}
 use Rattle.nr_reading.specs.declared.ask.Sign.TheVariants as signs
 use Rattle.nr_reading.specs.declared.event.Event.TheVariants as events
-use Rattle.nr_reading.specs.declared.mode.Due.{Due}
-use Rattle.nr_reading.specs.declared.mode.Due.TheVariants as dues
+use Rattle.nr_reading.specs.declared.mode.PendingAct.{PendingAct}
+use Rattle.nr_reading.specs.declared.mode.PendingAct.TheVariants as pending_acts
 use Rattle.nr_reading.specs.Seeking.{sought, sought_event}
 use Rattle.nr_input.specs.declared.reader.Reader.{Reader}
 use Rattle.nr_input.specs.declared.refusal.Refusal.{Refusal}
 use Rattle.nr_input.specs.declared.refusal.Refusal.TheVariants as refusals
-use Rattle.nr_input.specs.Acting.{Acted, done, splicing, has_text, name_in, then_due, idle, meaning_in, after_meaning, after_definition, act, calls_of, request_of, next}
+use Rattle.nr_input.specs.Acting.{Acted, done, splicing, has_text, name_in, then_pending, idle, meaning_in, after_meaning, after_definition, act, calls_of, request_of, next}
 use Rattle.nr_input.specs.Refusal.{Asking, Nothing, Bytes, Splice, Refused, asking, answer_to, answer, storing_by, splicing_by, expanding_answer}
 use Rattle.nr_laws.specs.Limited.{stored_under, reader_under}
 
--- ---- what is due does not depend on limits
+-- ---- what is pending does not depend on limits
 
 -- with these limits
 abbrev pub acted_under : {K : Type 0} → ℕ → ℕ → ℕ → Acted K → Acted K
@@ -72,47 +72,47 @@ name_under : {K : Type 0} (l d m : ℕ) (name : List ℕ) (is_text : Bool) (text
 name_under l d m name is_text text v r =
     ap (λ w. splicing is_text w (reader_under m r)) (entered_under l d name text None v) ∙ splicing_under l d m is_text (entered name text None v) r
 
-pub act-under : {K : Type 0} (l d m : ℕ) (due : Due) (v : Stored K) (r : Reader) → act due (stored_under l d v) (reader_under m r) ≡ acted_under l d m (act due v r)
-act-under l d m dues.Look v r = refl
-act-under l d m dues.Begin v r = ap (λ w. done events.Nothing w (reader_under m (idle r))) (base_under l d r.half.notes.defining.appends (name_in r) v)
-act-under l d m (dues.Add b) v r = refl
-act-under l d m (dues.Release held n b) v r = refl
-act-under l d m dues.Define v r = ap (λ w. done events.Nothing w (reader_under m (idle r))) (naming_under l d r.half.notes.defining.keeps (name_in r) v)
-act-under l d m dues.DefineAndCall v r =
-    ap (λ w. done events.Nothing w (reader_under m (then_due (after_definition r) r))) (naming_under l d r.half.notes.defining.keeps (name_in r) v)
-act-under l d m dues.CallEnding v r =
+pub act-under : {K : Type 0} (l d m : ℕ) (pending_act : PendingAct) (v : Stored K) (r : Reader) → act pending_act (stored_under l d v) (reader_under m r) ≡ acted_under l d m (act pending_act v r)
+act-under l d m pending_acts.Look v r = refl
+act-under l d m pending_acts.Begin v r = ap (λ w. done events.Nothing w (reader_under m (idle r))) (base_under l d r.half.notes.defining.appends (name_in r) v)
+act-under l d m (pending_acts.Add b) v r = refl
+act-under l d m (pending_acts.Release held n b) v r = refl
+act-under l d m pending_acts.Define v r = ap (λ w. done events.Nothing w (reader_under m (idle r))) (naming_under l d r.half.notes.defining.keeps (name_in r) v)
+act-under l d m pending_acts.DefineAndCall v r =
+    ap (λ w. done events.Nothing w (reader_under m (then_pending (after_definition r) r))) (naming_under l d r.half.notes.defining.keeps (name_in r) v)
+act-under l d m pending_acts.CallEnding v r =
     let name = r.half.notes.defining.ending in name_under l d m name (has_text name v) (words (find name v.names)) v r
-act-under l d m dues.Splice v r = let name = r.half.notes.asked in name_under l d m name (has_text name v) (words (find name v.names)) v r
-act-under l d m (dues.Register signs.None) v r = refl
-act-under l d m (dues.Register signs.Plus) v r =
-    ap (λ w. done events.Nothing w (reader_under m (then_due (dues.Register signs.None) r))) (written_under l d (option_and_then (gone_on true) (find r.half.notes.asked v.registers)) r.half.notes.asked v)
-act-under l d m (dues.Register signs.Minus) v r =
-    ap (λ w. done events.Nothing w (reader_under m (then_due (dues.Register signs.None) r))) (written_under l d (option_and_then (gone_on false) (find r.half.notes.asked v.registers)) r.half.notes.asked v)
-act-under l d m (dues.Argument n) v r = refl
-act-under l d m (dues.Put b) v r = refl
-act-under l d m dues.EndArgument v r = refl
-act-under l d m dues.Call v r =
+act-under l d m pending_acts.Splice v r = let name = r.half.notes.asked in name_under l d m name (has_text name v) (words (find name v.names)) v r
+act-under l d m (pending_acts.Register signs.None) v r = refl
+act-under l d m (pending_acts.Register signs.Plus) v r =
+    ap (λ w. done events.Nothing w (reader_under m (then_pending (pending_acts.Register signs.None) r))) (written_under l d (option_and_then (gone_on true) (find r.half.notes.asked v.registers)) r.half.notes.asked v)
+act-under l d m (pending_acts.Register signs.Minus) v r =
+    ap (λ w. done events.Nothing w (reader_under m (then_pending (pending_acts.Register signs.None) r))) (written_under l d (option_and_then (gone_on false) (find r.half.notes.asked v.registers)) r.half.notes.asked v)
+act-under l d m (pending_acts.Argument n) v r = refl
+act-under l d m (pending_acts.Put b) v r = refl
+act-under l d m pending_acts.EndArgument v r = refl
+act-under l d m pending_acts.Call v r =
     let text = words (find (name_in r) v.names) in
     let is_text = has_text (name_in r) v in
     ap (λ w. splicing is_text w (reader_under m r)) (called_under l d (name_in r) text v) ∙ splicing_under l d m is_text (called (name_in r) text v) r
-act-under l d m dues.Seek v r =
+act-under l d m pending_acts.Seek v r =
     let q = meaning_in v r in
-    ap (λ w. done (sought_event (calls_of q)) w (record (reader_under m r) { half = sought (calls_of q) (next dues.Look r.half); request = request_of q r.request })) (meaning_under l d q v)
-act-under l d m (dues.Judge b) v r = refl
-act-under l d m (dues.Lead n) v r = refl
-act-under l d m dues.Expanded v r = refl
+    ap (λ w. done (sought_event (calls_of q)) w (record (reader_under m r) { half = sought (calls_of q) (next pending_acts.Look r.half); request = request_of q r.request })) (meaning_under l d q v)
+act-under l d m (pending_acts.Judge b) v r = refl
+act-under l d m (pending_acts.Lead n) v r = refl
+act-under l d m pending_acts.Expanded v r = refl
 
 -- nor does what it asks of them
-asking-under : {K : Type 0} (l d m : ℕ) (due : Due) (v : Stored K) (r : Reader) → asking due (stored_under l d v) (reader_under m r) ≡ asking due v r
-asking-under l d m (dues.Register signs.None) v r = refl
-asking-under l d m (dues.Register signs.Plus) v r = refl
-asking-under l d m (dues.Register signs.Minus) v r = refl
-asking-under l d m due v r = refl
+asking-under : {K : Type 0} (l d m : ℕ) (pending_act : PendingAct) (v : Stored K) (r : Reader) → asking pending_act (stored_under l d v) (reader_under m r) ≡ asking pending_act v r
+asking-under l d m (pending_acts.Register signs.None) v r = refl
+asking-under l d m (pending_acts.Register signs.Plus) v r = refl
+asking-under l d m (pending_acts.Register signs.Minus) v r = refl
+asking-under l d m pending_act v r = refl
 
-answer-under : {K : Type 0} (l d m : ℕ) (due : Due) (v : Stored K) (r : Reader)
-    → answer due (stored_under l d v) (reader_under m r) ≡ answer_to (asking due v r) (stored_under l d (act due v r).stored) (reader_under m r)
-answer-under {K} l d m due v r =
-    ap₂ (λ (a : Asking) (x : Acted K). answer_to a x.stored (reader_under m r)) (asking-under l d m due v r) (act-under l d m due v r)
+answer-under : {K : Type 0} (l d m : ℕ) (pending_act : PendingAct) (v : Stored K) (r : Reader)
+    → answer pending_act (stored_under l d v) (reader_under m r) ≡ answer_to (asking pending_act v r) (stored_under l d (act pending_act v r).stored) (reader_under m r)
+answer-under {K} l d m pending_act v r =
+    ap₂ (λ (a : Asking) (x : Acted K). answer_to a x.stored (reader_under m r)) (asking-under l d m pending_act v r) (act-under l d m pending_act v r)
 
 -- ---- what is allowed under some limits is allowed under wider ones
 
@@ -163,6 +163,6 @@ module _ {K : Type 0} (l l' d d' m m' : ℕ) (few : l ≤ l') (shallow : d ≤ d
       (lt-wider l l' (charge_of w) few) (lt-wider d d' (length w.levels) shallow) (splices_wider (nat_le m r.burst) (nat_le m' r.burst) (le-wider m m' r.burst rare)) ok
   answered_wider Refused w r ok = cc
 
-  pub answer-wider : (due : Due) (v : Stored K) (r : Reader) → answer due (stored_under l d v) (reader_under m r) ≡ Ok tt → answer due (stored_under l' d' v) (reader_under m' r) ≡ Ok tt
-  answer-wider due v r ok =
-      answer-under l' d' m' due v r ∙ answered_wider (asking due v r) (act due v r).stored r (sym (answer-under l d m due v r) ∙ ok)
+  pub answer-wider : (pending_act : PendingAct) (v : Stored K) (r : Reader) → answer pending_act (stored_under l d v) (reader_under m r) ≡ Ok tt → answer pending_act (stored_under l' d' v) (reader_under m' r) ≡ Ok tt
+  answer-wider pending_act v r ok =
+      answer-under l' d' m' pending_act v r ∙ answered_wider (asking pending_act v r) (act pending_act v r).stored r (sym (answer-under l d m pending_act v r) ∙ ok)

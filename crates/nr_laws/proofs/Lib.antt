@@ -2,7 +2,7 @@ pub mod BlanksActs
 pub mod BlanksBetween
 pub mod BlanksReads
 pub mod BlanksSaved
-pub mod BlanksTold
+pub mod BlanksEmitted
 pub mod BlanksWait
 pub mod ChargedOnce
 pub mod ExactRuns
@@ -34,7 +34,7 @@ pub mod PlainReads
 pub mod PlainStates
 pub mod PlainWorks
 pub mod PrintedLaw
-pub mod PrintedFronts
+pub mod PrintedItems
 pub mod PrintedLines
 pub mod PrintedNumbers
 pub mod PrintedDirect

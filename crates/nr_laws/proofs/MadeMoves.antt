@@ -16,25 +16,25 @@ use Rattle.nr_store.specs.declared.register.Register.{Register}
 use Rattle.nr_store.proofs.Besides.{put_length}
 use Rattle.nr_store.proofs.Naming.{sum_of, put_sum, put_sum_new}
 use Rattle.nr_levels.specs.Levels.{argument}
-use Rattle.nr_reading.specs.Half.{Met, meet}
+use Rattle.nr_reading.specs.Half.{TakenIn, take_in}
 use Rattle.nr_reading.specs.declared.ask.Sign.TheVariants as signs
-use Rattle.nr_reading.specs.declared.mode.Due.{Due}
-use Rattle.nr_reading.specs.declared.mode.Due.TheVariants as dues
+use Rattle.nr_reading.specs.declared.mode.PendingAct.{PendingAct}
+use Rattle.nr_reading.specs.declared.mode.PendingAct.TheVariants as pending_acts
 use Rattle.nr_input.specs.Acting.{act, name_in, after_meaning, meaning_in, register_text, expanded, idle}
 use Rattle.nr_input.specs.Moving.{Situation, looks, look, taken_at, stays_at, acted_at, answer_at, move as input_move}
 use Rattle.nr_input.specs.Moving as input
-use Rattle.nr_input.specs.Place.{front}
+use Rattle.nr_input.specs.Place.{next_item}
 use Rattle.nr_input.specs.Refusal.{answer, storing_by, splicing_answer}
 use Rattle.nr_input.specs.declared.reader.Reader.{Reader}
 use Rattle.nr_input.specs.declared.refusal.Refusal.{Refusal}
-use Rattle.nr_input.specs.declared.told.Told.{Told}
-use Rattle.nr_input.specs.declared.told.Told.TheVariants as tells
+use Rattle.nr_input.specs.declared.emitted.Emitted.{Emitted}
+use Rattle.nr_input.specs.declared.emitted.Emitted.TheVariants as tells
 use Rattle.nr_formatter.specs.Access.{collected}
 use Rattle.nr_formatter.specs.Limits as formatter
 use Rattle.nr_formatter.specs.declared.formatter.Formatter.{Formatter}
 use Rattle.nr_formatter.specs.declared.tasks.Resume.{Resume}
 use Rattle.nr_machine.specs.State.{State}
-use Rattle.nr_machine.specs.Machine.{step, told, situation_of, with_situation}
+use Rattle.nr_machine.specs.Machine.{step, emitted, situation_of, with_situation}
 use Rattle.nr_machine.specs.Measures.{IsWithin, passed}
 use Rattle.nr_machine.specs.Run.{Kind, Reads, Works, Over, kind, IsRefusal, PassesBy, Passes}
 use Rattle.nr_machine.specs.declared.outcome.Measure.{Measure}
@@ -63,13 +63,13 @@ record Fits (v : Stored Resume) (r : Reader) : Type 0 where
   depth : length v.levels ≤ v.deepest
   burst : r.burst ≤ r.most
 
-told_within : (t : Told Resume) (f : Formatter) → formatter.IsWithin f → formatter.IsWithin (told t f)
-told_within (tells.Event e) f w = record { stored = w.stored; depth = w.depth; line = w.line; burst = w.burst }
-told_within (tells.Resume k) f w = record { stored = w.stored; depth = w.depth; line = w.line; burst = w.burst }
+emitted_within : (t : Emitted Resume) (f : Formatter) → formatter.IsWithin f → formatter.IsWithin (emitted t f)
+emitted_within (tells.Event e) f w = record { stored = w.stored; depth = w.depth; line = w.line; burst = w.burst }
+emitted_within (tells.Resume k) f w = record { stored = w.stored; depth = w.depth; line = w.line; burst = w.burst }
 
 situated : (m : input.Move Resume) (s : State) → IsWithin s → Fits m.situation.stored m.situation.reader → IsWithin (with_situation m s)
 situated m s w fits = record {
-  formatter = told_within m.told _ (record { stored = fits.stored; depth = fits.depth; line = w.formatter.line; burst = fits.burst });
+  formatter = emitted_within m.emitted _ (record { stored = fits.stored; depth = fits.depth; line = w.formatter.line; burst = fits.burst });
   page = w.page;
 }
 
@@ -119,16 +119,16 @@ past : (same : Bool) (burst most : ℕ) → burst ≤ most → (if same then bur
 past true burst most h = h
 past false burst most h = omega arith
 
-met : (b : Bool) (m : Met) (q : Situation Resume) → Fits q.stored q.reader → (let n = if b then taken_at m q else stays_at m q in Fits n.situation.stored n.situation.reader)
-met true m q fits =
+taken_in : (b : Bool) (m : TakenIn) (q : Situation Resume) → Fits q.stored q.reader → (let n = if b then taken_at m q else stays_at m q in Fits n.situation.stored n.situation.reader)
+taken_in true m q fits =
     let there = level_left q.stored.levels q.stored q.reader refl fits in
     record { stored = there.stored; depth = there.depth; burst = past _ q.reader.burst q.reader.most fits.burst }
-met false m q fits = record { stored = fits.stored; depth = fits.depth; burst = fits.burst }
+taken_in false m q fits = record { stored = fits.stored; depth = fits.depth; burst = fits.burst }
 
 looked : (q : Situation Resume) → Fits q.stored q.reader → Fits (look q).situation.stored (look q).situation.reader
-looked q fits = let m = meet (front (shown q.stored.levels) q.coming) q.reader.half in met m.takes m q fits
+looked q fits = let m = take_in (next_item (shown q.stored.levels) q.coming) q.reader.half in taken_in m.takes m q fits
 
--- ---- what is due
+-- ---- what is pending
 
 storing : (over : Bool) (v w : Stored Resume) (r s : Reader) → w.levels ≡ v.levels → w.deepest ≡ v.deepest → s.burst ≡ r.burst → s.most ≡ r.most → (over ≡ false → charge_of w ≤ w.limit)
     → storing_by (if over then Err (record {}) else Ok tt) ≡ Ok tt → Fits v r → Fits w s
@@ -235,7 +235,7 @@ naming_fits : (keeps : Bool) (name : List ℕ) (v : Stored Resume) (r s : Reader
 naming_fits true name v r s once burst most fits = named_newest_fits v.building name v r s refl once burst most fits
 naming_fits false name v r s once burst most fits = let few = fits.burst in record { stored = fits.stored; depth = fits.depth; burst = omega (arith, few, burst, most) }
 
--- ---- all that is due
+-- ---- all that is pending
 
 base_levels : (appends : Bool) (x y v : Stored Resume) → x.levels ≡ v.levels → y.levels ≡ v.levels → (if appends then x else y).levels ≡ v.levels
 base_levels true x y v first second = first
@@ -245,34 +245,34 @@ base_deepest : (appends : Bool) (x y v : Stored Resume) → x.deepest ≡ v.deep
 base_deepest true x y v first second = first
 base_deepest false x y v first second = second
 
-acted : (d : Due) (v : Stored Resume) (r : Reader) → (names_text d ≡ true → IsChargedOnce (name_in r) v) → answer d v r ≡ Ok tt → Fits v r → Fits (act d v r).stored (act d v r).reader
-acted dues.Begin v r is ok fits =
-    let a = act dues.Begin v r in
+acted : (d : PendingAct) (v : Stored Resume) (r : Reader) → (names_text d ≡ true → IsChargedOnce (name_in r) v) → answer d v r ≡ Ok tt → Fits v r → Fits (act d v r).stored (act d v r).reader
+acted pending_acts.Begin v r is ok fits =
+    let a = act pending_acts.Begin v r in
     let w = a.stored in
     storing (nat_lt w.limit (charge_of w)) v w r a.reader (base_levels r.half.notes.defining.appends _ _ v refl refl) (base_deepest r.half.notes.defining.appends _ _ v refl refl) refl refl (ltb-false w.limit (charge_of w)) ok fits
-acted (dues.Add b) v r is ok fits =
-    let a = act (dues.Add b) v r in let w = a.stored in storing (nat_lt w.limit (charge_of w)) v w r a.reader refl refl refl refl (ltb-false w.limit (charge_of w)) ok fits
-acted (dues.Release held n b) v r is ok fits =
-    let a = act (dues.Release held n b) v r in let w = a.stored in storing (nat_lt w.limit (charge_of w)) v w r a.reader refl refl refl refl (ltb-false w.limit (charge_of w)) ok fits
-acted (dues.Put b) v r is ok fits =
-    let a = act (dues.Put b) v r in let w = a.stored in storing (nat_lt w.limit (charge_of w)) v w r a.reader refl refl refl refl (ltb-false w.limit (charge_of w)) ok fits
-acted dues.Define v r is ok fits = naming_fits r.half.notes.defining.keeps (name_in r) v r (act dues.Define v r).reader (is refl) refl refl fits
-acted dues.DefineAndCall v r is ok fits = naming_fits r.half.notes.defining.keeps (name_in r) v r (act dues.DefineAndCall v r).reader (is refl) refl refl fits
-acted dues.CallEnding v r is ok fits = let name = r.half.notes.defining.ending in opened name (words (find name v.names)) v r fits ok
-acted dues.Splice v r is ok fits = let name = r.half.notes.asked in opened name (words (find name v.names)) v r fits ok
-acted (dues.Register signs.None) v r is ok fits = spliced (reading_bytes (register_text (register_of (find r.half.notes.asked v.registers))) v) r ok
-acted (dues.Register signs.Plus) v r is ok fits = set (find r.half.notes.asked v.registers) true r.half.notes.asked v r (act (dues.Register signs.Plus) v r).reader refl refl refl fits
-acted (dues.Register signs.Minus) v r is ok fits = set (find r.half.notes.asked v.registers) false r.half.notes.asked v r (act (dues.Register signs.Minus) v r).reader refl refl refl fits
-acted (dues.Argument n) v r is ok fits = spliced (reading_bytes (argument v.arguments n) v) r ok
-acted dues.EndArgument v r is ok fits =
+acted (pending_acts.Add b) v r is ok fits =
+    let a = act (pending_acts.Add b) v r in let w = a.stored in storing (nat_lt w.limit (charge_of w)) v w r a.reader refl refl refl refl (ltb-false w.limit (charge_of w)) ok fits
+acted (pending_acts.Release held n b) v r is ok fits =
+    let a = act (pending_acts.Release held n b) v r in let w = a.stored in storing (nat_lt w.limit (charge_of w)) v w r a.reader refl refl refl refl (ltb-false w.limit (charge_of w)) ok fits
+acted (pending_acts.Put b) v r is ok fits =
+    let a = act (pending_acts.Put b) v r in let w = a.stored in storing (nat_lt w.limit (charge_of w)) v w r a.reader refl refl refl refl (ltb-false w.limit (charge_of w)) ok fits
+acted pending_acts.Define v r is ok fits = naming_fits r.half.notes.defining.keeps (name_in r) v r (act pending_acts.Define v r).reader (is refl) refl refl fits
+acted pending_acts.DefineAndCall v r is ok fits = naming_fits r.half.notes.defining.keeps (name_in r) v r (act pending_acts.DefineAndCall v r).reader (is refl) refl refl fits
+acted pending_acts.CallEnding v r is ok fits = let name = r.half.notes.defining.ending in opened name (words (find name v.names)) v r fits ok
+acted pending_acts.Splice v r is ok fits = let name = r.half.notes.asked in opened name (words (find name v.names)) v r fits ok
+acted (pending_acts.Register signs.None) v r is ok fits = spliced (reading_bytes (register_text (register_of (find r.half.notes.asked v.registers))) v) r ok
+acted (pending_acts.Register signs.Plus) v r is ok fits = set (find r.half.notes.asked v.registers) true r.half.notes.asked v r (act (pending_acts.Register signs.Plus) v r).reader refl refl refl fits
+acted (pending_acts.Register signs.Minus) v r is ok fits = set (find r.half.notes.asked v.registers) false r.half.notes.asked v r (act (pending_acts.Register signs.Minus) v r).reader refl refl refl fits
+acted (pending_acts.Argument n) v r is ok fits = spliced (reading_bytes (argument v.arguments n) v) r ok
+acted pending_acts.EndArgument v r is ok fits =
     let stored = fits.stored in
     record { stored = omega (arith, stored, ended_whole (length v.gathered.kept == 9) v.gathered); depth = fits.depth; burst = fits.burst }
-acted dues.Call v r is ok fits = called_text (name_in r) (words (find (name_in r) v.names)) v r fits ok
-acted dues.Seek v r is ok fits = meant (meaning_in v r) v r (act dues.Seek v r).reader refl refl fits
-acted (dues.Judge b) v r is ok fits = still v r (act (dues.Judge b) v r).reader refl refl fits
-acted (dues.Lead n) v r is ok fits = still v r (act (dues.Lead n) v r).reader refl refl fits
-acted dues.Look v r is ok fits = fits
-acted dues.Expanded v r is ok fits = let wrong : ⊥ = cc in absurd wrong
+acted pending_acts.Call v r is ok fits = called_text (name_in r) (words (find (name_in r) v.names)) v r fits ok
+acted pending_acts.Seek v r is ok fits = meant (meaning_in v r) v r (act pending_acts.Seek v r).reader refl refl fits
+acted (pending_acts.Judge b) v r is ok fits = still v r (act (pending_acts.Judge b) v r).reader refl refl fits
+acted (pending_acts.Lead n) v r is ok fits = still v r (act (pending_acts.Lead n) v r).reader refl refl fits
+acted pending_acts.Look v r is ok fits = fits
+acted pending_acts.Expanded v r is ok fits = let wrong : ⊥ = cc in absurd wrong
 
 -- ---- a move that leads above a limit
 
@@ -291,7 +291,7 @@ named refusals.TooLong l = elim l [ ]
 not_passed : (s : State) (m : Measure) → IsWithin s → passed s ≡ Some m → ⊥
 not_passed s m within is = (let wrong : None ≡ Some m = sym (passed_none s within) ∙ is in cc)
 
-module _ (s : State) (m : Measure) (within : IsWithin s) (refuses : s.formatter.reader.half.reading.due ≢ dues.Expanded) (reads : kind s ≡ Reads) (above : passed (step s) ≡ Some m) where
+module _ (s : State) (m : Measure) (within : IsWithin s) (refuses : s.formatter.reader.half.reading.pending_act ≢ pending_acts.Expanded) (reads : kind s ≡ Reads) (above : passed (step s) ≡ Some m) where
   fits : Fits s.formatter.store s.formatter.reader
   fits = record { stored = within.formatter.stored; depth = within.formatter.depth; burst = within.formatter.burst }
 
@@ -306,20 +306,20 @@ module _ (s : State) (m : Measure) (within : IsWithin s) (refuses : s.formatter.
       let same : Some limit.which ≡ Some m = sym (refused_is_above s limit.which within refuses passes) ∙ above in
       subst (λ w. Passes s w) (cc) passes
 
-  answered : (x : Result (Unit {0}) Refusal) → looks (situation_of s) ≡ false → (names_text s.formatter.reader.half.reading.due ≡ true → IsChargedOnce (name_in s.formatter.reader) s.formatter.store) → answer_at (situation_of s) ≡ x
+  answered : (x : Result (Unit {0}) Refusal) → looks (situation_of s) ≡ false → (names_text s.formatter.reader.half.reading.pending_act ≡ true → IsChargedOnce (name_in s.formatter.reader) s.formatter.store) → answer_at (situation_of s) ≡ x
       → passed (with_situation (acted_at (situation_of s)) s) ≡ Some m → Passes s m
   answered (Ok u) looking other is there =
       absurd (not_passed (with_situation (acted_at (situation_of s)) s) m
-      (situated (acted_at (situation_of s)) s within (acted s.formatter.reader.half.reading.due s.formatter.store s.formatter.reader other is fits)) there)
+      (situated (acted_at (situation_of s)) s within (acted s.formatter.reader.half.reading.pending_act s.formatter.store s.formatter.reader other is fits)) there)
   answered (Err r) looking other is there = refused r looking is
 
-  moved : (b : Bool) → looks (situation_of s) ≡ b → (names_text s.formatter.reader.half.reading.due ≡ true → IsChargedOnce (name_in s.formatter.reader) s.formatter.store)
+  moved : (b : Bool) → looks (situation_of s) ≡ b → (names_text s.formatter.reader.half.reading.pending_act ≡ true → IsChargedOnce (name_in s.formatter.reader) s.formatter.store)
       → passed (with_situation (if b then look (situation_of s) else acted_at (situation_of s)) s) ≡ Some m → Passes s m
   moved true looking other there =
       absurd (not_passed (with_situation (look (situation_of s)) s) m (situated (look (situation_of s)) s within (looked (situation_of s) fits)) there)
   moved false looking other there = answered (answer_at (situation_of s)) looking other refl there
 
-above_by : (k : Kind) (s : State) (m : Measure) → kind s ≡ k → IsWithin s → s.formatter.reader.half.reading.due ≢ dues.Expanded → (names_text s.formatter.reader.half.reading.due ≡ true → IsChargedOnce (name_in s.formatter.reader) s.formatter.store)
+above_by : (k : Kind) (s : State) (m : Measure) → kind s ≡ k → IsWithin s → s.formatter.reader.half.reading.pending_act ≢ pending_acts.Expanded → (names_text s.formatter.reader.half.reading.pending_act ≡ true → IsChargedOnce (name_in s.formatter.reader) s.formatter.store)
     → passed (step s) ≡ Some m → Passes s m
 above_by Reads s m is within refuses other above = moved s m within refuses is above (looks (situation_of s)) refl other (leads s m within refuses is above)
 above_by Works s m is within refuses other above = subst (λ k. PassesBy k s m) (sym is) above

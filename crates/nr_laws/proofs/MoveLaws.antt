@@ -13,13 +13,13 @@ use Rattle.nr_store.specs.declared.element.Diversion.{Diversion}
 use Rattle.nr_reading.specs.declared.event.Event.{Event}
 use Rattle.nr_reading.specs.declared.event.Event.TheVariants as events
 use Rattle.nr_reading.specs.declared.half.Half.{Half}
-use Rattle.nr_reading.specs.declared.mode.Due.{Due}
-use Rattle.nr_reading.specs.declared.mode.Due.TheVariants as dues
+use Rattle.nr_reading.specs.declared.mode.PendingAct.{PendingAct}
+use Rattle.nr_reading.specs.declared.mode.PendingAct.TheVariants as pending_acts
 use Rattle.nr_reading.specs.declared.mode.Mode.{Mode}
 use Rattle.nr_reading.specs.declared.mode.Mode.TheVariants as modes
 use Rattle.nr_reading.specs.Weights.{cost_of_text, weight_of_argument, weight_of_half, blanks_owed, held_by_mode}
 use Rattle.nr_reading.proofs.Weighing.{cost_of_event-le}
-use Rattle.nr_input.specs.Laws.{weight_of_half-le, held_by_due, held_back, most_of_reading}
+use Rattle.nr_input.specs.Laws.{weight_of_half-le, held_by_pending, held_back, most_of_reading}
 use Rattle.nr_input.specs.Place.{whole}
 use Rattle.nr_input.specs.Weights.{expansions_worth, items_left, newline_left}
 use Rattle.nr_input.proofs.Costs.{title_costs}
@@ -40,7 +40,7 @@ use Rattle.nr_formatter.proofs.Falling.{weight_of_name-le, weight_of_outlet-le, 
 use Rattle.nr_machine.specs.State.{State, Choice, Register, start, formatter_at_first}
 use Rattle.nr_machine.specs.Machine.{state_after}
 use Rattle.nr_machine.specs.Run.{Runs, Goes, moves_a_byte}
-use Rattle.nr_laws.specs.Moves.{IsBehindByte, NoneIsTaken, MovesAreFew, MovesBeforeByte, MovesBetween, moves_of_texts, moves_of_rest, moves_at_most, parts_of}
+use Rattle.nr_laws.specs.Moves.{IsAfterByte, NoneIsTaken, MovesAreFew, MovesBeforeByte, MovesBetween, moves_of_texts, moves_of_rest, moves_at_most, parts_of}
 use Rattle.nr_laws.specs.Laws.{nothing_allowed}
 use Rattle.nr_laws.proofs.BlanksBetween.{IsPaid, byte-taken, stands-enough}
 use Rattle.nr_laws.proofs.BlanksWait.{Stands, Has}
@@ -48,7 +48,7 @@ use Rattle.nr_laws.proofs.Growing.{state_after-add}
 use Rattle.nr_laws.proofs.MovesPaid.{step-paid}
 use Rattle.nr_laws.proofs.PaidMoves.{all_paid}
 use Rattle.nr_laws.proofs.PageLengths.{HasHeight, height-after}
-use Rattle.nr_laws.proofs.PrintedFronts.{IsDue}
+use Rattle.nr_laws.proofs.PrintedItems.{IsPending}
 use Rattle.nr_laws.proofs.PrintedLines.{IsLined, IsRead, all-among, every, parts-le}
 use Rattle.nr_laws.proofs.PrintedDirect.{IsHeld, IsHalf}
 use Rattle.nr_laws.proofs.PrintedStates.{AreClear, clear-after, starts-clear}
@@ -206,11 +206,11 @@ module _ (b : Bounds) (options : Options) (supply : Supply) where
       let splices : (f.reader.most - f.reader.burst) * (f.store.limit + 3) ≡ b.expansions * (b.stored + 3) = rw (all, limit) refl in
       omega (arith, none, splices)
 
-  behind : (m : ℕ) → length options.registers.items ≤ 32 → Runs m first → IsBehindByte m first → let s = state_after m first in length s.chosen + moves_of_texts s.formatter ≤ 33 + 256 * (b.expansions * (b.stored + 3))
-  behind zero registers runs taken =
+  afterwards : (m : ℕ) → length options.registers.items ≤ 32 → Runs m first → IsAfterByte m first → let s = state_after m first in length s.chosen + moves_of_texts s.formatter ≤ 33 + 256 * (b.expansions * (b.stored + 3))
+  afterwards zero registers runs taken =
       let register : ℕ × ℤ → Choice = λ r. Register r.0 r.1 in
       omega (arith, registers, length-map options.registers.items register, texts-are first.formatter refl refl refl refl)
-  behind (suc m) registers runs taken =
+  afterwards (suc m) registers runs taken =
       let s = state_after m first in
       let t = state_after (suc m) first in
       let all = all_paid (suc m) first (height zero) runs in
@@ -239,13 +239,13 @@ mode-le : (m : Mode) → IsHeld every m → held_by_mode m ≤ 33
 mode-le (modes.BodyStart held) h = h
 mode-le m h = omega arith
 
-due-le : (d : Due) → IsDue every d → held_by_due d ≤ 33
-due-le (dues.Release held n b) h = h.0
-due-le d h = omega arith
+pending_act-le : (d : PendingAct) → IsPending every d → held_by_pending d ≤ 33
+pending_act-le (pending_acts.Release held n b) h = h.0
+pending_act-le d h = omega arith
 
 -- so many bytes are held back, and are still to be added
 held_back-le : (h : Half) → IsHalf every h → held_back h ≤ 66
-held_back-le h is = omega (arith, mode-le h.reading.mode is.held, due-le h.reading.due is.due)
+held_back-le h is = omega (arith, mode-le h.reading.mode is.held, pending_act-le h.reading.pending_act is.pending_act)
 
 kept : (b : Bounds) (options : Options) (supply : Supply) (m : ℕ) → Runs m (start b options supply) → IsKept (state_after m (start b options supply)).formatter
 kept b options supply m runs =
@@ -274,7 +274,7 @@ module _ (b : Bounds) (options : Options) (supply : Supply) (limits : AreLimits 
       omega (arith, weight_of_half-le h, few, held_back-le h half)
 
   -- what the moves after so many leave of the number for a byte, where what is half read and the blanks that are owed weigh this much
-  rest-le : (m n weighs : ℕ) → length options.registers.items ≤ 32 → Runs m (start b options supply) → IsBehindByte m (start b options supply)
+  rest-le : (m n weighs : ℕ) → length options.registers.items ≤ 32 → Runs m (start b options supply) → IsAfterByte m (start b options supply)
       → let s = state_after m (start b options supply) in
       n + weight_of_half s.formatter.reader.half + cost_of_text * blanks_owed s.formatter.reader.half ≤ may_come s + weighs
       → weighs ≤ most_of_reading + 10 * weight_of_argument + 66 + 180 * b.cells + 256 → n ≤ moves_a_byte b
@@ -288,7 +288,7 @@ module _ (b : Bounds) (options : Options) (supply : Supply) (limits : AreLimits 
         arith,
         most,
         few,
-        behind b options supply m registers runs taken,
+        afterwards b options supply m registers runs taken,
         read-le s,
         line,
         built,
@@ -298,8 +298,8 @@ module _ (b : Bounds) (options : Options) (supply : Supply) (limits : AreLimits 
         enough b.expansions b.stored b.cells b.depth limits.0,
       )
 
-  -- where the blanks are few, due, or wait
-  stands-le : (m n : ℕ) → length options.registers.items ≤ 32 → Runs (m + n) (start b options supply) → IsBehindByte m (start b options supply) → NoneIsTaken m n (start b options supply)
+  -- where the blanks are few, pending, or wait
+  stands-le : (m n : ℕ) → length options.registers.items ≤ 32 → Runs (m + n) (start b options supply) → IsAfterByte m (start b options supply) → NoneIsTaken m n (start b options supply)
       → Stands b.cells (state_after m (start b options supply)) → n ≤ moves_a_byte b
   stands-le m n registers runs taken same stands =
       let first = start b options supply in
@@ -311,7 +311,7 @@ module _ (b : Bounds) (options : Options) (supply : Supply) (limits : AreLimits 
       rest-le m n (weight_of_half s.formatter.reader.half + 180 * b.cells + 2) registers (λ k less. runs k (omega (arith, less))) taken (omega (arith, most, bytes)) (omega (arith, half))
 
   -- where what is half read is paid by the byte and what was half read before it
-  paid-le : (m n : ℕ) → length options.registers.items ≤ 32 → Runs (suc m + n) (start b options supply) → IsBehindByte (suc m) (start b options supply)
+  paid-le : (m n : ℕ) → length options.registers.items ≤ 32 → Runs (suc m + n) (start b options supply) → IsAfterByte (suc m) (start b options supply)
       → NoneIsTaken (suc m) n (start b options supply) → IsPaid b.cells (state_after m (start b options supply)) (state_after (suc m) (start b options supply)) → n ≤ moves_a_byte b
   paid-le m n registers runs taken same paid =
       let before = state_after m (start b options supply) in
@@ -319,7 +319,7 @@ module _ (b : Bounds) (options : Options) (supply : Supply) (limits : AreLimits 
       let half = half-le m in
       rest-le (suc m) n (weight_of_half before.formatter.reader.half + 178 * b.cells + 256) registers (λ k less. runs k (omega (arith, less))) taken (omega (arith, most, paid)) (omega (arith, half))
 
-  either-le : (m n : ℕ) → length options.registers.items ≤ 32 → Runs (suc m + n) (start b options supply) → IsBehindByte (suc m) (start b options supply)
+  either-le : (m n : ℕ) → length options.registers.items ≤ 32 → Runs (suc m + n) (start b options supply) → IsAfterByte (suc m) (start b options supply)
       → NoneIsTaken (suc m) n (start b options supply)
       → Stands b.cells (state_after (suc m) (start b options supply)) ⊎ IsPaid b.cells (state_after m (start b options supply)) (state_after (suc m) (start b options supply)) → n ≤ moves_a_byte b
   either-le m n registers runs taken same (inl stands) = stands-le (suc m) n registers runs taken same stands

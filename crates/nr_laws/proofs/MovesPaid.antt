@@ -60,7 +60,7 @@ use Rattle.nr_formatter.proofs.PageFalls.{falls-line_placed, falls-spaced, falls
 use Rattle.nr_formatter.proofs.RequestFalls.{falls-if, falls-ex, falls-act}
 use Rattle.nr_formatter.proofs.TaskFalls.{falls-task, falls-gone_on}
 use Rattle.nr_formatter.proofs.TextFalls.{falls-text, falls-title, falls-title_dash_end, falls-dash_end}
-use Rattle.nr_formatter.proofs.WorkFalls.{falls-behind}
+use Rattle.nr_formatter.proofs.WorkFalls.{falls-afterwards}
 use Rattle.nr_machine.specs.State.{State, Choice, First, Register, plainly}
 use Rattle.nr_machine.specs.Machine as machine
 use Rattle.nr_machine.specs.Machine.{step}
@@ -239,8 +239,8 @@ unfolding steps_left owed
 continued-falls t f task =
     let g = machine.continues_none f in
     let before : owed_by_task f.task f.reader.half ≡ owed_by_task (tasks.Break t) f.reader.half = rw task refl in
-    let behind : owed_by_task f.task g.reader.half ≡ owed_by_task (tasks.Break t) g.reader.half = rw task refl in
-    falls-kept 0 0 f g (record { levels = refl; limit = refl; burst = refl; most = refl }) (omega (arith, before, behind)) (omega arith)
+    let afterwards : owed_by_task f.task g.reader.half ≡ owed_by_task (tasks.Break t) g.reader.half = rw task refl in
+    falls-kept 0 0 f g (record { levels = refl; limit = refl; burst = refl; most = refl }) (omega (arith, before, afterwards)) (omega arith)
 
 -- one of two
 light_if : (c : Bool) (s t u : State) → (c ≡ true → Lightens s t) → (c ≡ false → Lightens s u) → Lightens s (if c then t else u)
@@ -270,7 +270,7 @@ broken_out t s height idle task =
     let u = plainly machine.continues_none s in
     let part = break_goes t u height idle task in
     lightens s (machine.break_out t s) part.chosen part.coming
-    (falls-behind 1 0 s.formatter u.formatter (machine.break_out t s).formatter (continued-falls t s.formatter task) part.falls)
+    (falls-afterwards 1 0 s.formatter u.formatter (machine.break_out t s).formatter (continued-falls t s.formatter task) part.falls)
 
 -- ---- titles, diverted lines and space
 
@@ -323,7 +323,7 @@ cell_goes outlets.Diversion x s event =
     let f = s.formatter in
     let margin = machine.margin_in (machine.indent f) s.row in
     let g = with_diverted_cell margin x f in
-    lightens s _ refl refl (falls-behind 1 0 f g (done g) (falls-diverted_cell margin x f) (cell-falls x g event))
+    lightens s _ refl refl (falls-afterwards 1 0 f g (done g) (falls-diverted_cell margin x f) (cell-falls x g event))
 cell_goes o x s event = lightens s _ refl refl (cell-falls x s.formatter event)
 
 -- ---- ejecting

@@ -38,8 +38,8 @@ use Rattle.nr_reading.specs.declared.event.Event.TheVariants as events
 use Rattle.nr_input.specs.Moving.{move as input_move}
 use Rattle.nr_input.specs.declared.splicing.Definition.{Definition}
 use Rattle.nr_input.specs.declared.splicing.Definition.TheVariants as definitions
-use Rattle.nr_input.specs.declared.told.Told.{Told}
-use Rattle.nr_input.specs.declared.told.Told.TheVariants as tells
+use Rattle.nr_input.specs.declared.emitted.Emitted.{Emitted}
+use Rattle.nr_input.specs.declared.emitted.Emitted.TheVariants as tells
 use Rattle.nr_formatter.specs.declared.formatter.Formatter.{Formatter}
 use Rattle.nr_formatter.specs.declared.built_in.BuiltInRegister.{BuiltInRegister}
 use Rattle.nr_formatter.specs.declared.built_in.BuiltInRegister.TheVariants as given
@@ -415,12 +415,12 @@ acted_on : (r : Request) (s : State) → HasHeight s.formatter → HasHeight (ma
 acted_on requests.Ex s h = h
 acted_on r s h = acted r s.formatter h
 
-told : (t : Told Resume) (f : Formatter) → HasHeight f → HasHeight (machine.told t f)
-told (tells.Event e) f h = h
-told (tells.Resume k) f h = h
+emitted : (t : Emitted Resume) (f : Formatter) → HasHeight f → HasHeight (machine.emitted t f)
+emitted (tells.Event e) f h = h
+emitted (tells.Resume k) f h = h
 
 work : (t : Task) (s : State) → HasHeight s.formatter → HasHeight (machine.work t s).formatter
-work tasks.Read s h = told (input_move (machine.situation_of s)).told _ h
+work tasks.Read s h = emitted (input_move (machine.situation_of s)).emitted _ h
 work (tasks.Flow after breaks) s h = put (lines.flow_line after breaks s.formatter) (lines.flow_done after) s h h
 work (tasks.Break t) s h = broken t (plainly machine.continues_none s) h
 work (tasks.Act r) s h = acted_on r s h

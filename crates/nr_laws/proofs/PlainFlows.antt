@@ -12,13 +12,13 @@ use Rattle.nr_page.specs.PageBytes.{page_bytes}
 use Rattle.nr_settings.specs.Indents.{margins_of, first_indents}
 use Rattle.nr_settings.specs.declared.indents.Indents.{Indents}
 use Rattle.nr_reading.specs.declared.event.Event.TheVariants as events
-use Rattle.nr_reading.specs.declared.mode.Due.{Due}
+use Rattle.nr_reading.specs.declared.mode.PendingAct.{PendingAct}
 use Rattle.nr_reading.specs.declared.mode.Mode.{Mode}
 use Rattle.nr_formatter.specs.declared.lines.Going.{Going}
 use Rattle.nr_formatter.specs.declared.tasks.Step.{Step}
 use Rattle.nr_formatter.specs.declared.tasks.Task.{Task}
 use Rattle.nr_formatter.specs.Access.{collected, spacing}
-use Rattle.nr_formatter.specs.Lines.{row_going, after_line, pieces_going, rest_behind}
+use Rattle.nr_formatter.specs.Lines.{row_going, after_line, pieces_going, rest_after}
 use Rattle.nr_formatter.specs.Pages.{task_begun, task_ended}
 use Rattle.nr_formatter.specs.Places.{is_open}
 use Rattle.nr_machine.specs.State.{State, Ended}
@@ -27,30 +27,30 @@ use Rattle.nr_machine.specs.Printing.{bytes_of, text}
 use Rattle.nr_laws.specs.FilledText.{first_margins, text_of}
 use Rattle.nr_laws.specs.PlainText.{squeezed}
 use Rattle.nr_laws.proofs.PlainPages.{Ascends, Above, above-more, ink, ink-trimmed, lines_ink, page-ink, squeezed-append, trimmed-twice, same_if}
-use Rattle.nr_laws.proofs.PlainLines.{collected_ink, cut-ink, behind-clean}
-use Rattle.nr_laws.proofs.FilledPages.{rows_shown, consecutive-behind, full-page}
+use Rattle.nr_laws.proofs.PlainLines.{collected_ink, cut-ink, afterwards-clean}
+use Rattle.nr_laws.proofs.FilledPages.{rows_shown, consecutive-afterwards, full-page}
 use Rattle.nr_laws.proofs.FilledPieces.{rows_after}
 use Rattle.nr_laws.proofs.FilledStates.{OnFilledPage, ReadsFilled, PrintsFilled, never_here}
 use Rattle.nr_laws.proofs.PlainStates.{calm, Phase, Drained, Closed, OrderlyIn, Keeps, keeps}
 
 -- ---- rows
 
-ascends-behind : (k r : ℕ) (ls : List Placed) (cells : List Cell) → Ascends k ls → Above r ls → k ≤ r → Ascends k (ls ++ record { row = r; cells = cells } ∷ [])
-ascends-behind k r [] cells up under h = (h, tt)
-ascends-behind k r (l ∷ ls) cells up under h = (up.0, ascends-behind (l.row + 1) r ls cells up.1 under.1 (let x = under.0 in omega arith))
+ascends-afterwards : (k r : ℕ) (ls : List Placed) (cells : List Cell) → Ascends k ls → Above r ls → k ≤ r → Ascends k (ls ++ record { row = r; cells = cells } ∷ [])
+ascends-afterwards k r [] cells up under h = (h, tt)
+ascends-afterwards k r (l ∷ ls) cells up under h = (up.0, ascends-afterwards (l.row + 1) r ls cells up.1 under.1 (let x = under.0 in omega arith))
 
-above-behind : (n r : ℕ) (ls : List Placed) (cells : List Cell) → Above n ls → r < n → Above n (ls ++ record { row = r; cells = cells } ∷ [])
-above-behind n r [] cells under h = (h, tt)
-above-behind n r (l ∷ ls) cells under h = (under.0, above-behind n r ls cells under.1 h)
+above-afterwards : (n r : ℕ) (ls : List Placed) (cells : List Cell) → Above n ls → r < n → Above n (ls ++ record { row = r; cells = cells } ∷ [])
+above-afterwards n r [] cells under h = (h, tt)
+above-afterwards n r (l ∷ ls) cells under h = (under.0, above-afterwards n r ls cells under.1 h)
 
-lines_ink-behind : (faces : Faces) (ls : List Placed) (l : Placed) → lines_ink faces (ls ++ l ∷ []) ≡ lines_ink faces ls ++ ink faces l.cells
-lines_ink-behind faces ls l = flat_map-append (λ (x : Placed). ink faces x.cells) ls (l ∷ []) ∙ ap (λ z. lines_ink faces ls ++ z) (append-nil (ink faces l.cells))
+lines_ink-afterwards : (faces : Faces) (ls : List Placed) (l : Placed) → lines_ink faces (ls ++ l ∷ []) ≡ lines_ink faces ls ++ ink faces l.cells
+lines_ink-afterwards faces ls l = flat_map-append (λ (x : Placed). ink faces x.cells) ls (l ∷ []) ∙ ap (λ z. lines_ink faces ls ++ z) (append-nil (ink faces l.cells))
 
 pub text-one : (pages : List Ended) (page : Ended) → text (pages ++ page ∷ []) ≡ text pages ++ bytes_of page
 text-one pages page = flat_map-append bytes_of pages (page ∷ []) ∙ ap (λ z. text pages ++ z) (append-nil (bytes_of page))
 
-rows_shown-behind : (ls : List Placed) (l : Placed) → rows_shown (ls ++ l ∷ []) ≡ rows_shown ls ++ l.cells ∷ []
-rows_shown-behind ls l = map-append (λ (x : Placed). x.cells) ls (l ∷ [])
+rows_shown-afterwards : (ls : List Placed) (l : Placed) → rows_shown (ls ++ l ∷ []) ≡ rows_shown ls ++ l.cells ∷ []
+rows_shown-afterwards ls l = map-append (λ (x : Placed). x.cells) ls (l ∷ [])
 
 not_nil : (ls : List Placed) (l : Placed) → ls ++ l ∷ [] ≡ [] → false ≡ true
 not_nil [] l none = ap is_nil none
@@ -60,7 +60,7 @@ pub begun_by : (ps : List Piece) (b : Bool) → is_nil ps ≡ false → (is_nil 
 begun_by [] b some = absurd (let e : true ≡ false = some in cc)
 begun_by (p ∷ ps) b some = refl
 
-module _ (m : Mode) (d : Due) (k : Task) (p : Step) (bs : List ℕ) (i : Bool) (s : State) (o : OrderlyIn k p s) where
+module _ (m : Mode) (d : PendingAct) (k : Task) (p : Step) (bs : List ℕ) (i : Bool) (s : State) (o : OrderlyIn k p s) where
   -- what is under way
   abbrev at : State
   at = calm m d events.Nothing k p bs i s
@@ -114,7 +114,7 @@ module _ (m : Mode) (d : Due) (k : Task) (p : Step) (bs : List ℕ) (i : Bool) (
   -- ---- a line is placed
 
   abbrev pub left : Going → Collected
-  left g = rest_behind g at.formatter
+  left g = rest_after g at.formatter
 
   -- the state after it, where the margins are these
   abbrev placed : Going → Indents → State
@@ -144,16 +144,16 @@ module _ (m : Mode) (d : Due) (k : Task) (p : Step) (bs : List ℕ) (i : Bool) (
       keeps at (place row (spacing at.formatter) (after_line g at.formatter) at) (placed g first_indents) m d events.Nothing k p bs i
       (ap (placed g) (same_if (begins_line (left g)) first_indents)) refl phase
       (record {
-        clean = behind-clean (margins_of first_indents) (record { align = g.align; offset = 0 }) c n o.clean;
-        ascends = subst (Ascends 0) (sym lines_are) (ascends-behind 0 (down / 40) s.lines (trimmed row) o.ascends o.above (omega arith));
+        clean = afterwards-clean (margins_of first_indents) (record { align = g.align; offset = 0 }) c n o.clean;
+        ascends = subst (Ascends 0) (sym lines_are) (ascends-afterwards 0 (down / 40) s.lines (trimmed row) o.ascends o.above (omega arith));
         above = subst (Above (min (down + 40) 2147483647 / 40)) (sym lines_are)
-            (above-behind (min (down + 40) 2147483647 / 40) (down / 40) s.lines (trimmed row) (above-more (down / 40) (min (down + 40) 2147483647 / 40) s.lines less o.above) lower);
+            (above-afterwards (min (down + 40) 2147483647 / 40) (down / 40) s.lines (trimmed row) (above-more (down / 40) (min (down + 40) 2147483647 / 40) s.lines less o.above) lower);
         shut = λ no. absurd (let e : true ≡ false = sym is_open_now ∙ no in cc);
         drained = drained;
         closed = closed;
       })
       (ap (λ ls. squeezed (text s.pages) ++ (lines_ink s.faces ls ++ (collected_ink s.faces (left g) ++ ([] ++ squeezed bs)))) lines_are
-      ∙ ap (λ z. squeezed (text s.pages) ++ (z ++ (collected_ink s.faces (left g) ++ ([] ++ squeezed bs)))) (lines_ink-behind s.faces s.lines (record { row = down / 40; cells = trimmed row }) ∙ ap (λ z. lines_ink s.faces s.lines ++ z) (ink-trimmed s.faces row))
+      ∙ ap (λ z. squeezed (text s.pages) ++ (z ++ (collected_ink s.faces (left g) ++ ([] ++ squeezed bs)))) (lines_ink-afterwards s.faces s.lines (record { row = down / 40; cells = trimmed row }) ∙ ap (λ z. lines_ink s.faces s.lines ++ z) (ink-trimmed s.faces row))
       ∙ ap (λ z. squeezed (text s.pages) ++ z) (append_assoc (lines_ink s.faces s.lines) (ink s.faces row) (collected_ink s.faces (left g) ++ ([] ++ squeezed bs))
       ∙ ap (λ z. lines_ink s.faces s.lines ++ z) (sym (append_assoc (ink s.faces row) (collected_ink s.faces (left g)) ([] ++ squeezed bs))
       ∙ ap (λ z. z ++ ([] ++ squeezed bs)) (cut-ink s.faces (record { align = g.align; offset = 0 }) (margins_of first_indents) c n o.clean.pieces))))
@@ -163,7 +163,7 @@ module _ (m : Mode) (d : Due) (k : Task) (p : Step) (bs : List ℕ) (i : Bool) (
             let at_place = f.down is_open_now in
             let long = length-append s.lines (record { row = down / 40; cells = trimmed row } ∷ []) in
             let filled : OnFilledPage (left g) line (min (down + 40) 2147483647) true = record {
-              rows = consecutive-behind 0 (down / 40) s.lines (trimmed row) f.rows (trimmed-twice row) (omega arith);
+              rows = consecutive-afterwards 0 (down / 40) s.lines (trimmed row) f.rows (trimmed-twice row) (omega arith);
               down = λ is_so. omega arith;
               few = omega arith;
               begun = λ is_so none. never_here (not_nil s.lines (record { row = down / 40; cells = trimmed row }) none);
@@ -174,6 +174,6 @@ module _ (m : Mode) (d : Due) (k : Task) (p : Step) (bs : List ℕ) (i : Bool) (
         same =
             let rest = rows_after (left g) bs in
             ap (λ ls. text s.pages ++ text_of s.faces (rows_shown ls ++ rest)) lines_are
-            ∙ ap (λ rows. text s.pages ++ text_of s.faces rows) (ap (λ rows. rows ++ rest) (rows_shown-behind s.lines (record { row = down / 40; cells = trimmed row }))
+            ∙ ap (λ rows. text s.pages ++ text_of s.faces rows) (ap (λ rows. rows ++ rest) (rows_shown-afterwards s.lines (record { row = down / 40; cells = trimmed row }))
             ∙ append_assoc (rows_shown s.lines) (trimmed row ∷ []) rest ∙ ap (λ rows. rows_shown s.lines ++ rows) (sym (next r f)));
       })

@@ -1,4 +1,4 @@
--- What of plain text was told goes into the line.
+-- What of plain text was emitted goes into the line.
 use Rattle.std.specs.Prelude.{◌==◌, ◌&&◌, not, is_none}
 use Rattle.std.proofs.lemmas.Bool.{eqb-true, ne_eqb}
 use Rattle.std.proofs.lemmas.Bool.Decides.{nat_tests}
@@ -11,8 +11,8 @@ use Rattle.nr_settings.specs.Characters.{prints}
 use Rattle.nr_settings.specs.Indents.{margins_of, first_indents}
 use Rattle.nr_settings.specs.declared.indents.Indents.{Indents}
 use Rattle.nr_reading.specs.declared.event.Event.TheVariants as events
-use Rattle.nr_reading.specs.declared.mode.Due.{Due}
-use Rattle.nr_reading.specs.declared.mode.Due.TheVariants as dues
+use Rattle.nr_reading.specs.declared.mode.PendingAct.{PendingAct}
+use Rattle.nr_reading.specs.declared.mode.PendingAct.TheVariants as pending_acts
 use Rattle.nr_reading.specs.declared.mode.Mode.{Mode}
 use Rattle.nr_reading.specs.declared.mode.Mode.TheVariants as modes
 use Rattle.nr_formatter.specs.declared.formatter.Formatter.{Formatter}
@@ -38,7 +38,7 @@ use Rattle.nr_input.specs.Acting.{is_look}
 use Rattle.nr_laws.specs.FilledText.{text_of}
 use Rattle.nr_laws.proofs.FilledLines.{rows_at}
 use Rattle.nr_laws.proofs.FilledPages.{rows_shown}
-use Rattle.nr_laws.proofs.FilledPieces.{pieces_after, still_begun, some_behind, margins_by}
+use Rattle.nr_laws.proofs.FilledPieces.{pieces_after, still_begun, some_after, margins_by}
 use Rattle.nr_laws.proofs.FilledStates.{OnFilledPage, never_here, is_unbroken}
 use Rattle.nr_laws.proofs.PlainStates.{calm, Owes, Nothing, Phase, InText, FlowsText, FlowsLine, BreaksEmpty, BreaksLeading, Finishes, Closed, Orderly, OrderlyIn, Keeps, keeps}
 
@@ -76,8 +76,8 @@ module _ (s : State) (o : OrderlyIn tasks.Read steps.NotYet s) where
   changed : (t : Task) (k : Collected) → Closed t s.lines s.formatter.paper.ejecting → Clean k → Orderly t steps.NotYet k s.lines s.formatter.paper.place (is_open s.formatter.paper.state) s.formatter.paper.ejecting
   changed t k closed clean = record { clean = clean; ascends = o.ascends; above = o.above; shut = o.shut; drained = tt; closed = closed }
 
-  abbrev told : Mode → Due → Event → List ℕ → Bool → State
-  told m d e bs i = calm m d e tasks.Read steps.NotYet bs i s
+  abbrev emitted : Mode → PendingAct → Event → List ℕ → Bool → State
+  emitted m d e bs i = calm m d e tasks.Read steps.NotYet bs i s
 
   -- what is collected
   abbrev c : Collected
@@ -97,39 +97,39 @@ module _ (s : State) (o : OrderlyIn tasks.Read steps.NotYet s) where
 
   -- ---- what ends no word
 
-  pub leading_hears : (bs : List ℕ) (i : Bool) → is_plain_from false bs ≡ true → Keeps (told (modes.Leading 1) dues.Look events.Leading bs i) (step (told (modes.Leading 1) dues.Look events.Leading bs i))
+  pub leading_hears : (bs : List ℕ) (i : Bool) → is_plain_from false bs ≡ true → Keeps (emitted (modes.Leading 1) pending_acts.Look events.Leading bs i) (step (emitted (modes.Leading 1) pending_acts.Look events.Leading bs i))
   unfolding step
   leading_hears bs i plain =
-      let x = told (modes.Leading 1) dues.Look events.Leading bs i in
-      keeps x (step x) (step x) (modes.Leading 1) dues.Look events.Nothing (tasks.Break thens.Leading) steps.NotYet bs i refl refl (BreaksLeading plain) (changed (tasks.Break thens.Leading) c tt o.clean) refl (λ r p. never_here r.goes)
+      let x = emitted (modes.Leading 1) pending_acts.Look events.Leading bs i in
+      keeps x (step x) (step x) (modes.Leading 1) pending_acts.Look events.Nothing (tasks.Break thens.Leading) steps.NotYet bs i refl refl (BreaksLeading plain) (changed (tasks.Break thens.Leading) c tt o.clean) refl (λ r p. never_here r.goes)
 
-  pub empty_hears : (bs : List ℕ) (i : Bool) → is_plain_from true bs ≡ true → Keeps (told modes.Start dues.Look events.Empty bs i) (step (told modes.Start dues.Look events.Empty bs i))
+  pub empty_hears : (bs : List ℕ) (i : Bool) → is_plain_from true bs ≡ true → Keeps (emitted modes.Start pending_acts.Look events.Empty bs i) (step (emitted modes.Start pending_acts.Look events.Empty bs i))
   unfolding step
   empty_hears bs i plain =
-      let x = told modes.Start dues.Look events.Empty bs i in
-      keeps x (step x) (step x) modes.Start dues.Look events.Nothing (tasks.Break thens.Space) steps.NotYet bs i refl refl (BreaksEmpty plain) (changed (tasks.Break thens.Space) c tt o.clean) refl (λ r p. never_here r.goes)
+      let x = emitted modes.Start pending_acts.Look events.Empty bs i in
+      keeps x (step x) (step x) modes.Start pending_acts.Look events.Nothing (tasks.Break thens.Space) steps.NotYet bs i refl refl (BreaksEmpty plain) (changed (tasks.Break thens.Space) c tt o.clean) refl (λ r p. never_here r.goes)
 
-  pub over_hears : Keeps (told modes.Start dues.Look events.Over [] false) (step (told modes.Start dues.Look events.Over [] false))
+  pub over_hears : Keeps (emitted modes.Start pending_acts.Look events.Over [] false) (step (emitted modes.Start pending_acts.Look events.Over [] false))
   unfolding step
   over_hears =
-      let x = told modes.Start dues.Look events.Over [] false in
-      keeps x (step x) (step x) modes.Start dues.Look events.Nothing tasks.Finish steps.NotYet [] false refl refl (Finishes steps.NotYet refl) (changed tasks.Finish c tt o.clean) refl
+      let x = emitted modes.Start pending_acts.Look events.Over [] false in
+      keeps x (step x) (step x) modes.Start pending_acts.Look events.Nothing tasks.Finish steps.NotYet [] false refl refl (Finishes steps.NotYet refl) (changed tasks.Finish c tt o.clean) refl
       (λ r p. record { reads = record { goes = refl; bytes = refl; inside = λ begins. refl }; prints = p; same = refl })
 
   -- ---- a blank at the line's beginning
 
   -- a blank at the line's beginning is none of filled text
-  lead_never : (d : Due) → (is_look d && (true && (false && true))) ≡ true → false ≡ true
+  lead_never : (d : PendingAct) → (is_look d && (true && (false && true))) ≡ true → false ≡ true
   lead_never d goes = by (is_look d) goes
     where
       by : (b : Bool) → (b && false) ≡ true → false ≡ true
       by true goes = goes
       by false goes = goes
 
-  pub lead_hears : (d : Due) (bs : List ℕ) (i : Bool) → Owes d → is_plain_from false bs ≡ true → Keeps (told modes.Text d events.Lead bs i) (step (told modes.Text d events.Lead bs i))
+  pub lead_hears : (d : PendingAct) (bs : List ℕ) (i : Bool) → Owes d → is_plain_from false bs ≡ true → Keeps (emitted modes.Text d events.Lead bs i) (step (emitted modes.Text d events.Lead bs i))
   unfolding step
   lead_hears d bs i owes plain =
-      let x = told modes.Text d events.Lead bs i in
+      let x = emitted modes.Text d events.Lead bs i in
       let e = add_blank (margins_of first_indents) c in
       keeps x (step x) (with_line e tasks.Read x) modes.Text d events.Nothing tasks.Read steps.NotYet bs i (ap (indented e x) (same_if (begins_line c) first_indents)) refl (InText owes plain)
       (changed tasks.Read e tt (add_blank-clean (margins_of first_indents) c o.clean))
@@ -139,10 +139,10 @@ module _ (s : State) (o : OrderlyIn tasks.Read steps.NotYet s) where
   -- ---- a character
 
   character_hears : (b : ℕ) (bs : List ℕ) (i : Bool) → 32 ≤ b → b ≤ 126 → (b == 32) ≡ false → is_plain_from false bs ≡ true
-      → Keeps (told modes.Text dues.Look (events.Byte b) bs i) (step (told modes.Text dues.Look (events.Byte b) bs i))
+      → Keeps (emitted modes.Text pending_acts.Look (events.Byte b) bs i) (step (emitted modes.Text pending_acts.Look (events.Byte b) bs i))
   unfolding step texts.text_byte
   character_hears b bs i least most other plain =
-      let x = told modes.Text dues.Look (events.Byte b) bs i in
+      let x = emitted modes.Text pending_acts.Look (events.Byte b) bs i in
       let f = x.formatter in
       let no_tab : (b == 9) ≡ false = ne_eqb b 9 (omega arith) in
       let no_leader : (b == 1) ≡ false = ne_eqb b 1 (omega arith) in
@@ -155,7 +155,7 @@ module _ (s : State) (o : OrderlyIn tasks.Read steps.NotYet s) where
       ∙ if-false (b == 1) (texts.tab f.settings.tabs.leader f) (if prints b then texts.character b f else record f { event = events.Nothing }) no_leader
       ∙ if-true (prints b) (texts.character b f) (record f { event = events.Nothing }) is)
       ∙ ap (indented e x) (same_if (begins_line c) first_indents) in
-      keeps x (step x) (with_line e tasks.Read x) modes.Text dues.Look events.Nothing tasks.Read steps.NotYet bs i leads refl (InText Nothing plain)
+      keeps x (step x) (with_line e tasks.Read x) modes.Text pending_acts.Look events.Nothing tasks.Read steps.NotYet bs i leads refl (InText Nothing plain)
       (changed tasks.Read e tt (add_cell-clean (margins_of first_indents) (texts.after_of b) (record { byte = b; look = Plain }) c o.clean))
       (ap (λ z. around s (z ++ ([] ++ squeezed bs))) (add_cell-ink s.faces (margins_of first_indents) (texts.after_of b) (record { byte = b; look = Plain }) c o.clean
       ∙ ap (λ z. collected_ink s.faces c ++ squeezed (z ++ [])) (plain_bytes s.faces b))
@@ -170,7 +170,7 @@ module _ (s : State) (o : OrderlyIn tasks.Read steps.NotYet s) where
   -- ---- a word's end
 
   -- no points are given, and the line is filled
-  pointed_is : (m : Mode) (d : Due) (e : Event) (bs : List ℕ) (i : Bool) → lines.pointed (told m d e bs i).formatter ≡ c
+  pointed_is : (m : Mode) (d : PendingAct) (e : Event) (bs : List ℕ) (i : Bool) → lines.pointed (emitted m d e bs i).formatter ≡ c
   unfolding lines.pointed
   pointed_is m d e bs i = same_if (may_hyphenate c) c
 
@@ -180,7 +180,7 @@ module _ (s : State) (o : OrderlyIn tasks.Read steps.NotYet s) where
   newline_clean : Clean (after_newline (end_word c))
   newline_clean = let e = end_word-clean c o.clean in record { pieces = e.pieces; word = e.word }
 
-  phase_by : (b : Bool) (bs : List ℕ) (i : Bool) → is_plain_from false bs ≡ true → Phase modes.Text dues.Look events.Nothing (if b then tasks.Flow afters.Text false else tasks.Read) steps.NotYet bs i
+  phase_by : (b : Bool) (bs : List ℕ) (i : Bool) → is_plain_from false bs ≡ true → Phase modes.Text pending_acts.Look events.Nothing (if b then tasks.Flow afters.Text false else tasks.Read) steps.NotYet bs i
   phase_by true bs i plain = FlowsText plain
   phase_by false bs i plain = InText Nothing plain
 
@@ -198,41 +198,41 @@ module _ (s : State) (o : OrderlyIn tasks.Read steps.NotYet s) where
     rows = p.rows;
     down = p.down;
     few = p.few;
-    begun = λ is_so none. some_behind c.pieces (word_pieces c.word) (p.begun is_so none);
+    begun = λ is_so none. some_after c.pieces (word_pieces c.word) (p.begun is_so none);
     measure = λ begun. p.measure (still_begun c.pieces c.word begun);
   }
 
-  blank_hears : (bs : List ℕ) (i : Bool) → is_plain_from false bs ≡ true → Keeps (told modes.Text dues.Look (events.Byte 32) bs i) (step (told modes.Text dues.Look (events.Byte 32) bs i))
+  blank_hears : (bs : List ℕ) (i : Bool) → is_plain_from false bs ≡ true → Keeps (emitted modes.Text pending_acts.Look (events.Byte 32) bs i) (step (emitted modes.Text pending_acts.Look (events.Byte 32) bs i))
   unfolding step texts.text_byte texts.blank
   blank_hears bs i plain =
-      let x = told modes.Text dues.Look (events.Byte 32) bs i in
+      let x = emitted modes.Text pending_acts.Look (events.Byte 32) bs i in
       let f = x.formatter in
       let some = not (is_none c.word) in
       let task = if some then tasks.Flow afters.Text false else tasks.Read in
       let leads : step x ≡ with_line (one_blank_more (end_word c)) task x =
       ap (λ (g : Formatter). record x { formatter = g }) (if-false (lines.reads_a_field f) (lines.field_ended f) (texts.gap_blank f) (no_field c.word o.clean.word))
-      ∙ ap (λ k. with_line (one_blank_more (end_word k)) task x) (pointed_is modes.Text dues.Look (events.Byte 32) bs i) in
-      keeps x (step x) (with_line (one_blank_more (end_word c)) task x) modes.Text dues.Look events.Nothing task steps.NotYet bs i leads refl (phase_by some bs i plain)
+      ∙ ap (λ k. with_line (one_blank_more (end_word k)) task x) (pointed_is modes.Text pending_acts.Look (events.Byte 32) bs i) in
+      keeps x (step x) (with_line (one_blank_more (end_word c)) task x) modes.Text pending_acts.Look events.Nothing task steps.NotYet bs i leads refl (phase_by some bs i plain)
       (orderly_by some (one_blank_more (end_word c)) ended_clean) (ap (λ z. around s (z ++ ([] ++ squeezed bs))) (end_word-ink s.faces c))
       (λ r p. record { reads = record { goes = goes_by some; bytes = r.bytes; inside = λ begins. never_here begins }; prints = let w = word_printed p in record { rows = w.rows; down = w.down; few = w.few; begun = w.begun; measure = w.measure }; same = refl })
 
-  pub end_hears : (bs : List ℕ) (i : Bool) → is_plain_from true bs ≡ true → Keeps (told modes.Start dues.Look events.EndLine bs i) (step (told modes.Start dues.Look events.EndLine bs i))
+  pub end_hears : (bs : List ℕ) (i : Bool) → is_plain_from true bs ≡ true → Keeps (emitted modes.Start pending_acts.Look events.EndLine bs i) (step (emitted modes.Start pending_acts.Look events.EndLine bs i))
   unfolding step texts.line_end texts.text_line_end
   end_hears bs i plain =
-      let x = told modes.Start dues.Look events.EndLine bs i in
+      let x = emitted modes.Start pending_acts.Look events.EndLine bs i in
       let f = x.formatter in
       let task = tasks.Flow afters.Line false in
       let leads : step x ≡ with_line (after_newline (end_word c)) task x =
       ap (λ (g : Formatter). record x { formatter = g }) (if-false (texts.joins_lines f) (done f) _ (rw (no_joint c.word o.clean.word) refl)
       ∙ if-false (lines.reads_a_field f) (lines.field_ended f) (texts.word_line_ended afters.Line f) (no_field c.word o.clean.word))
-      ∙ ap (λ k. with_line (after_newline (end_word k)) task x) (pointed_is modes.Start dues.Look events.EndLine bs i) in
-      keeps x (step x) (with_line (after_newline (end_word c)) task x) modes.Start dues.Look events.Nothing task steps.NotYet bs i leads refl (FlowsLine plain)
+      ∙ ap (λ k. with_line (after_newline (end_word k)) task x) (pointed_is modes.Start pending_acts.Look events.EndLine bs i) in
+      keeps x (step x) (with_line (after_newline (end_word c)) task x) modes.Start pending_acts.Look events.Nothing task steps.NotYet bs i leads refl (FlowsLine plain)
       (record { clean = newline_clean; ascends = o.ascends; above = o.above; shut = o.shut; drained = tt; closed = tt }) (ap (λ z. around s (z ++ ([] ++ squeezed bs))) (end_word-ink s.faces c))
       (λ r p. record { reads = record { goes = refl; bytes = r.bytes; inside = r.inside }; prints = let w = word_printed p in record { rows = w.rows; down = w.down; few = w.few; begun = w.begun; measure = w.measure }; same = refl })
 
-  pub byte_hears : (b : ℕ) (bs : List ℕ) (i : Bool) → 32 ≤ b → b ≤ 126 → is_plain_from false bs ≡ true → Keeps (told modes.Text dues.Look (events.Byte b) bs i) (step (told modes.Text dues.Look (events.Byte b) bs i))
+  pub byte_hears : (b : ℕ) (bs : List ℕ) (i : Bool) → 32 ≤ b → b ≤ 126 → is_plain_from false bs ≡ true → Keeps (emitted modes.Text pending_acts.Look (events.Byte b) bs i) (step (emitted modes.Text pending_acts.Look (events.Byte b) bs i))
   byte_hears b bs i least most plain = by (b == 32) refl
     where
-      by : (blank : Bool) → (b == 32) ≡ blank → Keeps (told modes.Text dues.Look (events.Byte b) bs i) (step (told modes.Text dues.Look (events.Byte b) bs i))
-      by true is = subst (λ n. Keeps (told modes.Text dues.Look (events.Byte n) bs i) (step (told modes.Text dues.Look (events.Byte n) bs i))) (sym (eqb-true b 32 is)) (blank_hears bs i plain)
+      by : (blank : Bool) → (b == 32) ≡ blank → Keeps (emitted modes.Text pending_acts.Look (events.Byte b) bs i) (step (emitted modes.Text pending_acts.Look (events.Byte b) bs i))
+      by true is = subst (λ n. Keeps (emitted modes.Text pending_acts.Look (events.Byte n) bs i) (step (emitted modes.Text pending_acts.Look (events.Byte n) bs i))) (sym (eqb-true b 32 is)) (blank_hears bs i plain)
       by false is = character_hears b bs i least most is plain

@@ -6,8 +6,8 @@ use Rattle.nr_store.specs.declared.register.Register.{Register}
 use Rattle.nr_store.specs.Store.{is_held, set_to, register_of, written}
 use Rattle.nr_reading.specs.declared.event.Event.{Event}
 use Rattle.nr_reading.specs.declared.event.Event.TheVariants as events
-use Rattle.nr_reading.specs.declared.mode.Due.{Due}
-use Rattle.nr_reading.specs.declared.mode.Due.TheVariants as dues
+use Rattle.nr_reading.specs.declared.mode.PendingAct.{PendingAct}
+use Rattle.nr_reading.specs.declared.mode.PendingAct.TheVariants as pending_acts
 use Rattle.nr_reading.specs.declared.mode.Mode.{Mode}
 use Rattle.nr_reading.specs.declared.mode.Mode.TheVariants as modes
 use Rattle.nr_formatter.specs.declared.formatter.Formatter.{Formatter}
@@ -45,7 +45,7 @@ use Rattle.nr_laws.proofs.PlainStates.{calm, Phase, AtStart, InLead, InText, Hal
 
 -- before the input, with these choices left
 abbrev choosing : List Choice → List ℕ → Bool → State → State
-choosing cs bs i s = record (calm modes.Start dues.Look events.Nothing tasks.Read steps.NotYet bs i s) { chosen = cs }
+choosing cs bs i s = record (calm modes.Start pending_acts.Look events.Nothing tasks.Read steps.NotYet bs i s) { chosen = cs }
 
 -- a state that plain text leads to, the options among it
 data Good (s : State) : Type 0 where
@@ -54,7 +54,7 @@ data Good (s : State) : Type 0 where
 
 good_of : (cs : List Choice) (bs : List ℕ) (i : Bool) (t : State) → is_plain_from true bs ≡ true → OrderlyIn tasks.Read steps.NotYet t → Good (choosing cs bs i t)
 good_of [] bs i t plain o =
-    IsFine (record { mode = modes.Start; due = dues.Look; event = events.Nothing; task = tasks.Read; stage = steps.NotYet; bytes = bs; inside = i; is = refl; phase = AtStart plain; orderly = o })
+    IsFine (record { mode = modes.Start; pending_act = pending_acts.Look; event = events.Nothing; task = tasks.Read; stage = steps.NotYet; bytes = bs; inside = i; is = refl; phase = AtStart plain; orderly = o })
 good_of (c ∷ cs) bs i t plain o = IsChoosing c cs bs i refl plain o
 
 record Leads (s t : State) : Type 0 where
@@ -132,7 +132,7 @@ reads_on e = cc
 works_on : Works ≡ Over → ⊥
 works_on e = cc
 
-over_by : {m : Mode} {d : Due} {e : Event} {k : Task} {p : Step} {bs : List ℕ} {i : Bool} (s : State) → Phase m d e k p bs i → OrderlyIn k p s → kind (calm m d e k p bs i s) ≡ Over
+over_by : {m : Mode} {d : PendingAct} {e : Event} {k : Task} {p : Step} {bs : List ℕ} {i : Bool} (s : State) → Phase m d e k p bs i → OrderlyIn k p s → kind (calm m d e k p bs i s) ≡ Over
     → whole (calm m d e k p bs i s) ≡ squeezed (text s.pages)
 over_by s Halts o over =
     ap (λ ls. squeezed (text s.pages) ++ (lines_ink s.faces ls ++ ((pieces_ink s.faces (collected s.formatter).pieces ++ word_ink s.faces (collected s.formatter).word) ++ []))) o.closed
@@ -175,7 +175,7 @@ plain_text_stays b options supply n out plain all a =
 -- ---- filled text
 
 -- where the run is over, nothing more comes
-output_by : {m : Mode} {d : Due} {e : Event} {k : Task} {p : Step} {bs : List ℕ} {i : Bool} (s : State) → Phase m d e k p bs i → OrderlyIn k p s → kind (calm m d e k p bs i s) ≡ Over
+output_by : {m : Mode} {d : PendingAct} {e : Event} {k : Task} {p : Step} {bs : List ℕ} {i : Bool} (s : State) → Phase m d e k p bs i → OrderlyIn k p s → kind (calm m d e k p bs i s) ≡ Over
     → output_of (calm m d e k p bs i s) ≡ text s.pages
 output_by s Halts o over =
     let c = collected s.formatter in

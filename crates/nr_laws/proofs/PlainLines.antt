@@ -8,8 +8,8 @@ use Rattle.nr_vectors.specs.Cell.{blank}
 use Rattle.nr_page.specs.declared.faces.Faces.{Faces}
 use Rattle.nr_vectors.specs.declared.cell.Look.TheVariants.{Plain}
 use Rattle.nr_vectors.specs.declared.cell.Cell.{Cell}
-use Rattle.nr_fill.specs.declared.piece.Behind.{Behind}
-use Rattle.nr_fill.specs.declared.piece.Behind.TheVariants as behinds
+use Rattle.nr_fill.specs.declared.piece.CutAfter.{CutAfter}
+use Rattle.nr_fill.specs.declared.piece.CutAfter.TheVariants as behinds
 use Rattle.nr_fill.specs.declared.piece.Join.{Join}
 use Rattle.nr_fill.specs.declared.piece.Join.TheVariants as joins
 use Rattle.nr_fill.specs.declared.stops.Pending.{Pending}
@@ -18,7 +18,7 @@ use Rattle.nr_fill.specs.declared.piece.Point.TheVariants as points
 use Rattle.nr_fill.specs.Piece.{Piece, Word, Collected, ended, ended_at, word_or_new, pending_after, word_length, add_cell_after, add_cell, add_blank, word_pieces, end_word}
 use Rattle.nr_fill.specs.Cutting.{hyphen_before, hyphen_width}
 use Rattle.nr_fill.specs.Spreading.{blanks_before, next_gap, cells_after, cells_in_line}
-use Rattle.nr_fill.specs.Setting.{line_row, extra_of, shift, left_over, behind}
+use Rattle.nr_fill.specs.Setting.{line_row, extra_of, shift, left_over, afterwards}
 use Rattle.nr_fill.specs.declared.setting.Setting.{Setting}
 use Rattle.nr_settings.specs.declared.indents.Margins.{Margins}
 use Rattle.nr_fill.specs.declared.setting.Extra.{Extra}
@@ -119,12 +119,12 @@ pending_if : (b : Bool) → IsPlainPending (if b then pendings.AtPoint points.Ha
 pending_if true = tt
 pending_if false = tt
 
-pending_plain : (mark : Behind) (n : ℕ) → IsPlainPending (pending_after mark n pendings.Nothing)
+pending_plain : (mark : CutAfter) (n : ℕ) → IsPlainPending (pending_after mark n pendings.Nothing)
 pending_plain behinds.Letter n = tt
 pending_plain behinds.Hyphen n = pending_if (nat_lt 1 n)
 pending_plain behinds.Dash n = pending_if (nat_lt 2 n)
 
-pub add_cell-ink : (faces : Faces) (m : Margins) (mark : Behind) (x : Cell) (c : Collected) → Clean c → collected_ink faces (add_cell m mark x c) ≡ collected_ink faces c ++ ink faces (x ∷ [])
+pub add_cell-ink : (faces : Faces) (m : Margins) (mark : CutAfter) (x : Cell) (c : Collected) → Clean c → collected_ink faces (add_cell m mark x c) ≡ collected_ink faces c ++ ink faces (x ∷ [])
 add_cell-ink faces m mark x c clean =
     let w = word_or_new c.gap c.word in
     let g = going w (word_clean c.gap c.word clean.word) in
@@ -133,7 +133,7 @@ add_cell-ink faces m mark x c clean =
     ∙ ap (λ z. z ++ ink faces (x ∷ [])) (g.same_ink faces ∙ word_same faces c.gap c.word) in
     ap (λ z. pieces_ink faces c.pieces ++ z) longer ∙ sym (append_assoc (pieces_ink faces c.pieces) (word_ink faces c.word) (ink faces (x ∷ [])))
 
-pub add_cell-clean : (m : Margins) (mark : Behind) (x : Cell) (c : Collected) → Clean c → Clean (add_cell m mark x c)
+pub add_cell-clean : (m : Margins) (mark : CutAfter) (x : Cell) (c : Collected) → Clean c → Clean (add_cell m mark x c)
 add_cell-clean m mark x c clean =
     let w = word_or_new c.gap c.word in
     let g = going w (word_clean c.gap c.word clean.word) in
@@ -174,15 +174,15 @@ end_word-clean c clean = record { pieces = no_soft-append c.pieces (word_pieces 
 
 -- ---- a line goes out
 
-behind-ink : (faces : Faces) (x : Extra) (i : ℕ) (ps : List Piece) → ink faces (cells_after x i ps) ≡ pieces_ink faces ps
-behind-ink faces x i [] = refl
-behind-ink faces x i (p ∷ ps) =
+afterwards-ink : (faces : Faces) (x : Extra) (i : ℕ) (ps : List Piece) → ink faces (cells_after x i ps) ≡ pieces_ink faces ps
+afterwards-ink faces x i [] = refl
+afterwards-ink faces x i (p ∷ ps) =
     ink-append faces (replicate (blanks_before x i p.join) blank ++ p.cells) (cells_after x (next_gap i p.join) ps)
-    ∙ ap₂ (λ a b. a ++ b) (ink-append faces (replicate (blanks_before x i p.join) blank) p.cells ∙ ap (λ z. z ++ ink faces p.cells) (ink-blanks faces (blanks_before x i p.join))) (behind-ink faces x (next_gap i p.join) ps)
+    ∙ ap₂ (λ a b. a ++ b) (ink-append faces (replicate (blanks_before x i p.join) blank) p.cells ∙ ap (λ z. z ++ ink faces p.cells) (ink-blanks faces (blanks_before x i p.join))) (afterwards-ink faces x (next_gap i p.join) ps)
 
 line-ink : (faces : Faces) (x : Extra) (ps : List Piece) → ink faces (cells_in_line x ps) ≡ pieces_ink faces ps
 line-ink faces x [] = refl
-line-ink faces x (p ∷ ps) = ink-append faces p.cells (cells_after x 1 ps) ∙ ap (λ z. ink faces p.cells ++ z) (behind-ink faces x 1 ps)
+line-ink faces x (p ∷ ps) = ink-append faces p.cells (cells_after x 1 ps) ∙ ap (λ z. ink faces p.cells ++ z) (afterwards-ink faces x 1 ps)
 
 no_width : (j : Join) → is_soft j ≡ false → hyphen_width j ≡ 0
 no_width (joins.Gap k) is = refl
@@ -202,11 +202,11 @@ row-ink faces s c n clean =
     ∙ ink-append faces (replicate before blank) (cells_in_line x (take n c.pieces) ++ []) ∙ ap₂ (λ a b. a ++ b) (ink-blanks faces before) (ap (ink faces) (append-nil (cells_in_line x (take n c.pieces))) ∙ line-ink faces x (take n c.pieces))
 
 -- and of what is left after it
-pub cut-ink : (faces : Faces) (s : Setting) (m : Margins) (c : Collected) (n : ℕ) → NoSoft c.pieces → ink faces (line_row s c n) ++ collected_ink faces (behind m s.align c n) ≡ collected_ink faces c
+pub cut-ink : (faces : Faces) (s : Setting) (m : Margins) (c : Collected) (n : ℕ) → NoSoft c.pieces → ink faces (line_row s c n) ++ collected_ink faces (afterwards m s.align c n) ≡ collected_ink faces c
 cut-ink faces s m c n clean =
     ap (λ z. z ++ (pieces_ink faces (drop n c.pieces) ++ word_ink faces c.word)) (row-ink faces s c n clean)
     ∙ sym (append_assoc (pieces_ink faces (take n c.pieces)) (pieces_ink faces (drop n c.pieces)) (word_ink faces c.word))
     ∙ ap (λ z. z ++ word_ink faces c.word) (sym (pieces_ink-append faces (take n c.pieces) (drop n c.pieces)) ∙ ap (pieces_ink faces) (take-append-drop n c.pieces))
 
-pub behind-clean : (m : Margins) (s : Setting) (c : Collected) (n : ℕ) → Clean c → Clean (behind m s.align c n)
-behind-clean m s c n clean = record { pieces = no_soft-drop n c.pieces clean.pieces; word = clean.word }
+pub afterwards-clean : (m : Margins) (s : Setting) (c : Collected) (n : ℕ) → Clean c → Clean (afterwards m s.align c n)
+afterwards-clean m s c n clean = record { pieces = no_soft-drop n c.pieces clean.pieces; word = clean.word }

@@ -75,13 +75,13 @@ ink-one_blank faces = ink-cons faces blank [] ∙ append-nil (squeezed (cell_byt
 
 -- ---- trimming
 
-suffix_behind : (xs : List Cell) (x : Cell) → suffix_len is_blank (xs ++ x ∷ []) ≡ (if is_blank x then 1 + suffix_len is_blank xs else 0)
-suffix_behind xs x = ap (prefix_len is_blank) (reverse-append xs (x ∷ []))
+suffix_after : (xs : List Cell) (x : Cell) → suffix_len is_blank (xs ++ x ∷ []) ≡ (if is_blank x then 1 + suffix_len is_blank xs else 0)
+suffix_after xs x = ap (prefix_len is_blank) (reverse-append xs (x ∷ []))
 
 -- a blank after cells is trimmed away
 trimmed-blank : (xs : List Cell) (x : Cell) → is_blank x ≡ true → trimmed (xs ++ x ∷ []) ≡ trimmed xs
 trimmed-blank xs x is =
-    let more : suffix_len is_blank (xs ++ x ∷ []) ≡ 1 + suffix_len is_blank xs = suffix_behind xs x ∙ if-true (is_blank x) (1 + suffix_len is_blank xs) 0 is in
+    let more : suffix_len is_blank (xs ++ x ∷ []) ≡ 1 + suffix_len is_blank xs = suffix_after xs x ∙ if-true (is_blank x) (1 + suffix_len is_blank xs) 0 is in
     let long = length-append xs (x ∷ []) in
     let left : length (xs ++ x ∷ []) - suffix_len is_blank (xs ++ x ∷ []) ≡ length xs - suffix_len is_blank xs = omega arith in
     ap (λ n. take n (xs ++ x ∷ [])) left ∙ take-append-le (length xs - suffix_len is_blank xs) xs (x ∷ []) (omega arith)
@@ -89,7 +89,7 @@ trimmed-blank xs x is =
 -- any other cell stays, and all before it
 trimmed-shown : (xs : List Cell) (x : Cell) → is_blank x ≡ false → trimmed (xs ++ x ∷ []) ≡ xs ++ x ∷ []
 trimmed-shown xs x is =
-    let none : suffix_len is_blank (xs ++ x ∷ []) ≡ 0 = suffix_behind xs x ∙ if-false (is_blank x) (1 + suffix_len is_blank xs) 0 is in
+    let none : suffix_len is_blank (xs ++ x ∷ []) ≡ 0 = suffix_after xs x ∙ if-false (is_blank x) (1 + suffix_len is_blank xs) 0 is in
     ap (λ n. take (length (xs ++ x ∷ []) - n) (xs ++ x ∷ [])) none ∙ take_all (length (xs ++ x ∷ []) - 0) (xs ++ x ∷ []) (omega arith)
 
 -- what holds of no cells, and of cells with one more after them where it holds of those, holds of all
@@ -100,21 +100,21 @@ by_last P none more xs = subst P (reverse-reverse xs) (back (reverse xs))
     back [] = none
     back (y ∷ ys) = subst P (sym (reverse-append (y ∷ []) ys)) (more (reverse ys) y (is_blank y) refl (back ys))
 
-trimmed_behind : (faces : Faces) (xs : List Cell) (x : Cell) (b : Bool) → is_blank x ≡ b → ink faces (trimmed xs) ≡ ink faces xs → ink faces (trimmed (xs ++ x ∷ [])) ≡ ink faces (xs ++ x ∷ [])
-trimmed_behind faces xs x true is before =
+trimmed_after : (faces : Faces) (xs : List Cell) (x : Cell) (b : Bool) → is_blank x ≡ b → ink faces (trimmed xs) ≡ ink faces xs → ink faces (trimmed (xs ++ x ∷ [])) ≡ ink faces (xs ++ x ∷ [])
+trimmed_after faces xs x true is before =
     let nothing : ink faces xs ++ ink faces (x ∷ []) ≡ ink faces xs = ap (λ z. ink faces xs ++ z) (ink-cons faces x [] ∙ append-nil (squeezed (cell_bytes faces x)) ∙ ink-blank faces x is) ∙ append-nil (ink faces xs) in
     ap (ink faces) (trimmed-blank xs x is) ∙ before ∙ sym (ink-append faces xs (x ∷ []) ∙ nothing)
-trimmed_behind faces xs x false is before = ap (ink faces) (trimmed-shown xs x is)
+trimmed_after faces xs x false is before = ap (ink faces) (trimmed-shown xs x is)
 
 pub ink-trimmed : (faces : Faces) (xs : List Cell) → ink faces (trimmed xs) ≡ ink faces xs
-ink-trimmed faces xs = by_last (λ zs. ink faces (trimmed zs) ≡ ink faces zs) refl (trimmed_behind faces) xs
+ink-trimmed faces xs = by_last (λ zs. ink faces (trimmed zs) ≡ ink faces zs) refl (trimmed_after faces) xs
 
-twice_behind : (xs : List Cell) (x : Cell) (b : Bool) → is_blank x ≡ b → trimmed (trimmed xs) ≡ trimmed xs → trimmed (trimmed (xs ++ x ∷ [])) ≡ trimmed (xs ++ x ∷ [])
-twice_behind xs x true is before = let e = trimmed-blank xs x is in ap trimmed e ∙ before ∙ sym e
-twice_behind xs x false is before = ap trimmed (trimmed-shown xs x is)
+twice_after : (xs : List Cell) (x : Cell) (b : Bool) → is_blank x ≡ b → trimmed (trimmed xs) ≡ trimmed xs → trimmed (trimmed (xs ++ x ∷ [])) ≡ trimmed (xs ++ x ∷ [])
+twice_after xs x true is before = let e = trimmed-blank xs x is in ap trimmed e ∙ before ∙ sym e
+twice_after xs x false is before = ap trimmed (trimmed-shown xs x is)
 
 pub trimmed-twice : (xs : List Cell) → trimmed (trimmed xs) ≡ trimmed xs
-trimmed-twice xs = by_last (λ zs. trimmed (trimmed zs) ≡ trimmed zs) refl twice_behind xs
+trimmed-twice xs = by_last (λ zs. trimmed (trimmed zs) ≡ trimmed zs) refl twice_after xs
 
 -- ---- a row
 
@@ -142,12 +142,12 @@ bytes_shown : (faces : Faces) (xs : List Cell) → flat_map (cell_bytes faces) (
 bytes_shown faces [] = refl
 bytes_shown faces (x ∷ xs) = ap₂ (λ a b. a ++ b) (shown_by faces x (is_blank x) refl).1 (bytes_shown faces xs)
 
-shown_behind : (faces : Faces) (xs : List Cell) (x : Cell) (b : Bool) → is_blank x ≡ b → flat_map (cell_bytes faces) (trimmed (map shown xs)) ≡ flat_map (cell_bytes faces) (trimmed xs)
+shown_after : (faces : Faces) (xs : List Cell) (x : Cell) (b : Bool) → is_blank x ≡ b → flat_map (cell_bytes faces) (trimmed (map shown xs)) ≡ flat_map (cell_bytes faces) (trimmed xs)
     → flat_map (cell_bytes faces) (trimmed (map shown (xs ++ x ∷ []))) ≡ flat_map (cell_bytes faces) (trimmed (xs ++ x ∷ []))
-shown_behind faces xs x true is before =
+shown_after faces xs x true is before =
     ap (λ zs. flat_map (cell_bytes faces) (trimmed zs)) (map-append shown xs (x ∷ [])) ∙ ap (flat_map (cell_bytes faces)) (trimmed-blank (map shown xs) (shown x) (shown_by faces x true is).0)
     ∙ before ∙ ap (flat_map (cell_bytes faces)) (sym (trimmed-blank xs x is))
-shown_behind faces xs x false is before =
+shown_after faces xs x false is before =
     ap (λ zs. flat_map (cell_bytes faces) (trimmed zs)) (map-append shown xs (x ∷ [])) ∙ ap (flat_map (cell_bytes faces)) (trimmed-shown (map shown xs) (shown x) (shown_by faces x false is).0 ∙ sym (map-append shown xs (x ∷ [])))
     ∙ bytes_shown faces (xs ++ x ∷ []) ∙ ap (flat_map (cell_bytes faces)) (sym (trimmed-shown xs x is))
 
@@ -167,7 +167,7 @@ row_shown-one faces l =
     ap (λ k. map (λ column. last_shown (cells_at (l ∷ []) column)) (range_with_len 0 k)) n
     ∙ columns-shown 0 l.cells (λ column. slice_index_or l.cells column blank) (λ i h. (let e : 0 + i ≡ i = omega arith in ap (λ j. slice_index_or l.cells j blank) e)) in
     ap (λ zs. flat_map (cell_bytes faces) (trimmed zs) ++ 10 ∷ []) own
-    ∙ ap (λ z. z ++ 10 ∷ []) (by_last (λ zs. flat_map (cell_bytes faces) (trimmed (map shown zs)) ≡ flat_map (cell_bytes faces) (trimmed zs)) refl (shown_behind faces) l.cells)
+    ∙ ap (λ z. z ++ 10 ∷ []) (by_last (λ zs. flat_map (cell_bytes faces) (trimmed (map shown zs)) ≡ flat_map (cell_bytes faces) (trimmed zs)) refl (shown_after faces) l.cells)
 
 -- what of it is ink
 abbrev shows : Faces → List Placed → List ℕ

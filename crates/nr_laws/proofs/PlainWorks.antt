@@ -9,10 +9,10 @@ use Rattle.nr_settings.specs.declared.filling.Align.TheVariants.{Left, Spread}
 use Rattle.nr_settings.specs.declared.indents.Margins.{Margins}
 use Rattle.nr_fill.specs.Cutting.{fits}
 use Rattle.nr_fill.specs.Piece.{Piece, Word, Collected, is_nil, word_pieces, end_word, may_hyphenate}
-use Rattle.nr_fill.specs.Setting.{cut_of, set_line, behind}
+use Rattle.nr_fill.specs.Setting.{cut_of, set_line, afterwards}
 use Rattle.nr_page.specs.Grid.{Placed}
 use Rattle.nr_reading.specs.declared.event.Event.TheVariants as events
-use Rattle.nr_reading.specs.declared.mode.Due.{Due}
+use Rattle.nr_reading.specs.declared.mode.PendingAct.{PendingAct}
 use Rattle.nr_reading.specs.declared.mode.Mode.{Mode}
 use Rattle.nr_formatter.specs.declared.formatter.Formatter.{Formatter}
 use Rattle.nr_formatter.specs.declared.lines.Going.{Going}
@@ -36,9 +36,9 @@ use Rattle.nr_laws.proofs.PlainLines.{end_word-ink, end_word-clean}
 use Rattle.nr_laws.proofs.PlainHears.{no_field}
 use Rattle.nr_laws.proofs.PlainFlows.{left, begun_by, begins_page, ends_page, places_line, IsNextRow}
 use Rattle.nr_laws.specs.FilledText.{first_margins, text_of}
-use Rattle.nr_laws.proofs.FilledLines.{rows_at, rows-next, rows-front}
+use Rattle.nr_laws.proofs.FilledLines.{rows_at, rows-next, rows-prefix}
 use Rattle.nr_laws.proofs.FilledPages.{rows_shown}
-use Rattle.nr_laws.proofs.FilledPieces.{core, pieces_after, rows_after, pieces-after, pieces_after-clean, still_begun, some_behind}
+use Rattle.nr_laws.proofs.FilledPieces.{core, pieces_after, rows_after, pieces-after, pieces_after-clean, still_begun, some_after}
 use Rattle.nr_laws.proofs.FilledStates.{ReadsFilled, is_last_break, never_here}
 use Rattle.nr_laws.proofs.PlainStates.{calm, Phase, Drained, Closed, OrderlyIn, Keeps, keeps}
 
@@ -46,7 +46,7 @@ pub by_bool : (b : Bool) → (P : Type 0) → (b ≡ true → P) → (b ≡ fals
 by_bool true P first second = first refl
 by_bool false P first second = second refl
 
-module _ (m : Mode) (d : Due) (k : Task) (p : Step) (bs : List ℕ) (i : Bool) (s : State) (o : OrderlyIn k p s)
+module _ (m : Mode) (d : PendingAct) (k : Task) (p : Step) (bs : List ℕ) (i : Bool) (s : State) (o : OrderlyIn k p s)
     (begun : task_begun k ≡ k) (ended : task_ended k ≡ k) (closed : (ls : List Placed) (x : Bool) → Closed k ls x) (phase : Phase m d events.Nothing k p bs i) where
   abbrev at : State
   at = calm m d events.Nothing k p bs i s
@@ -56,10 +56,10 @@ module _ (m : Mode) (d : Due) (k : Task) (p : Step) (bs : List ℕ) (i : Bool) (
 
   -- the line that goes out of what is full, and the line that a break puts
   abbrev full : Going
-  full = lines.front_line true at.formatter
+  full = lines.next_line true at.formatter
 
   abbrev going : Going
-  going = lines.front_line (not (lines.fits_line c)) at.formatter
+  going = lines.next_line (not (lines.fits_line c)) at.formatter
 
   -- ---- the next row of filled text
 
@@ -68,8 +68,8 @@ module _ (m : Mode) (d : Due) (k : Task) (p : Step) (bs : List ℕ) (i : Bool) (
   other_way false = refl
 
   -- the first row of what is collected, and those of these pieces
-  abbrev by_front : Align → Collected → List Piece → List (List Cell)
-  by_front align x rest = set_line (record { align = align; offset = 0 }) x (cut_of x) ∷ rows_at (behind first_margins align x (cut_of x)).turn rest
+  abbrev by_prefix : Align → Collected → List Piece → List (List Cell)
+  by_prefix align x rest = set_line (record { align = align; offset = 0 }) x (cut_of x) ∷ rows_at (afterwards first_margins align x (cut_of x)).turn rest
 
   -- a full line, where it is as long as any
   next_full : is_nil c.pieces ≡ false → c.margins ≡ first_margins → lines.fits_line c ≡ false → rows_after c bs ≡ trimmed (lines.row_going full 0 at.formatter) ∷ rows_after (left m d k p bs i s o full) bs
@@ -77,8 +77,8 @@ module _ (m : Mode) (d : Due) (k : Task) (p : Step) (bs : List ℕ) (i : Bool) (
       let fit : fits 65 (length c.pieces) c.pieces ≡ false = ap (λ (x : Margins). fits x.length (length c.pieces) c.pieces) (sym measure) ∙ unfit in
       let more = pieces_after (core c) bs in
       let clean = pieces_after-clean (core c) bs (record { pieces = tt; word = o.clean.word }) in
-      ap (rows_at c.turn) (pieces-after c bs) ∙ rows-front c.turn c.pieces more some o.clean.pieces clean fit
-      ∙ ap (λ (x : Margins). by_front Spread (record c { margins = x }) (drop (cut_of (record c { margins = x })) c.pieces ++ more)) (sym measure)
+      ap (rows_at c.turn) (pieces-after c bs) ∙ rows-prefix c.turn c.pieces more some o.clean.pieces clean fit
+      ∙ ap (λ (x : Margins). by_prefix Spread (record c { margins = x }) (drop (cut_of (record c { margins = x })) c.pieces ++ more)) (sym measure)
       ∙ ap (λ ps. trimmed (lines.row_going full 0 at.formatter) ∷ rows_at (left m d k p bs i s o full).turn ps) (sym (pieces-after (left m d k p bs i s o full) bs))
 
   -- the line of a break, with no word and nothing to come
@@ -88,8 +88,8 @@ module _ (m : Mode) (d : Due) (k : Task) (p : Step) (bs : List ℕ) (i : Bool) (
       let row = trimmed (lines.row_going going 0 at.formatter) in
       let rest = left m d k p bs i s o going in
       ap (λ w. rows_at c.turn (c.pieces ++ word_pieces w)) none ∙ ap (rows_at c.turn) (append-nil c.pieces) ∙ rows-next c.turn c.pieces some
-      ∙ ap (λ (a : Align). by_front a (record c { margins = first_margins }) (drop (cut_of (record c { margins = first_margins })) c.pieces)) (other_way fit)
-      ∙ ap (λ (x : Margins). by_front (if not (fits x.length (length c.pieces) c.pieces) then Spread else Left) (record c { margins = x }) (drop (cut_of (record c { margins = x })) c.pieces)) (sym measure)
+      ∙ ap (λ (a : Align). by_prefix a (record c { margins = first_margins }) (drop (cut_of (record c { margins = first_margins })) c.pieces)) (other_way fit)
+      ∙ ap (λ (x : Margins). by_prefix (if not (fits x.length (length c.pieces) c.pieces) then Spread else Left) (record c { margins = x }) (drop (cut_of (record c { margins = x })) c.pieces)) (sym measure)
       ∙ ap (λ ps. row ∷ rows_at rest.turn ps) (sym (append-nil rest.pieces)) ∙ ap (λ w. row ∷ rows_at rest.turn (rest.pieces ++ word_pieces w)) (sym none)
 
   -- ---- a line goes out
@@ -161,7 +161,7 @@ module _ (m : Mode) (d : Due) (k : Task) (p : Step) (bs : List ℕ) (i : Bool) (
           rows = f.rows;
           down = f.down;
           few = f.few;
-          begun = λ is_so none. some_behind c.pieces (word_pieces c.word) (f.begun is_so none);
+          begun = λ is_so none. some_after c.pieces (word_pieces c.word) (f.begun is_so none);
           measure = λ begun. f.measure (still_begun c.pieces c.word begun);
         };
         same = ap (λ rows. text s.pages ++ text_of s.faces (rows_shown s.lines ++ rows)) (word_rows bs (last r));

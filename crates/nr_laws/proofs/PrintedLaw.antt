@@ -160,12 +160,12 @@ module _ (set : ℕ → Bool) where
   rows-row : (f : Faces) (ls : List Placed) (rows bs : List ℕ) → ArePlaced set ls → AreOfRow (struck_out bs) → AreOfRow (struck_out (flat_map (row_bytes f ls) rows ++ bs))
   rows-row f ls [] bs h rest = rest
   rows-row f ls (row ∷ rows) bs h rest =
-      let behind = flat_map (row_bytes f ls) rows in
+      let afterwards = flat_map (row_bytes f ls) rows in
       let cells = flat_map (cell_bytes f) (row_cells ls row) in
-      let one : (cells ++ code "\n" ∷ []) ++ behind ++ bs ≡ cells ++ (code "\n" ∷ (behind ++ bs)) =
-      append_assoc (cells ++ code "\n" ∷ []) behind bs ∙ append_assoc cells (code "\n" ∷ []) (behind ++ bs) in
+      let one : (cells ++ code "\n" ∷ []) ++ afterwards ++ bs ≡ cells ++ (code "\n" ∷ (afterwards ++ bs)) =
+      append_assoc (cells ++ code "\n" ∷ []) afterwards bs ∙ append_assoc cells (code "\n" ∷ []) (afterwards ++ bs) in
       subst (λ ys. AreOfRow (struck_out ys)) (sym one)
-      (cells-row f (row_cells ls row) (code "\n" ∷ (behind ++ bs)) (row-printed ls row h) (over-row (code "\n") (struck_out (behind ++ bs)) refl (rows-row f ls rows bs h rest)))
+      (cells-row f (row_cells ls row) (code "\n" ∷ (afterwards ++ bs)) (row-printed ls row h) (over-row (code "\n") (struck_out (afterwards ++ bs)) refl (rows-row f ls rows bs h rest)))
 
   page-row : (c : Bool) (p : Ended) (bs : List ℕ) → IsClosed set p → AreOfRow (struck_out bs) → AreOfRow (struck_out ((if c then page_bytes p.faces p.rows p.lines else []) ++ bs))
   page-row true p bs h rest = rows-row p.faces p.lines (range_with_len 0 (max p.rows (row_count p.lines))) bs h rest
@@ -196,9 +196,9 @@ module _ (set : ℕ → Bool) where
 cut-out : (P : ℕ → Type 0) (b : Bounds) (options : Options) (supply : Supply) (n : ℕ) (outcome : Outcome) (bytes : List ℕ)
     → AnswersWith b options supply n outcome bytes → All P (unlimited_text options supply (n + 1)) → All P bytes
 cut-out P b options supply n outcome bytes answers all =
-    let front = limits_cut b options supply n outcome bytes answers (n + 1) (omega arith) in
-    let whole : All P (bytes ++ front.rest) = subst (λ bs. All P bs) front.whole_is all in
-    subst (λ bs. All P bs) (take-append_seam bytes front.rest) (All-take P (length bytes) (bytes ++ front.rest) whole)
+    let prefix = limits_cut b options supply n outcome bytes answers (n + 1) (omega arith) in
+    let whole : All P (bytes ++ prefix.rest) = subst (λ bs. All P bs) prefix.whole_is all in
+    subst (λ bs. All P bs) (take-append_seam bytes prefix.rest) (All-take P (length bytes) (bytes ++ prefix.rest) whole)
 
 abbrev pub GoesOut : ℕ → Type 0
 GoesOut b = (is_of_row b || b == 8) ≡ true

@@ -15,8 +15,8 @@ use Rattle.nr_settings.specs.declared.stops.Stop.{Stop}
 use Rattle.nr_settings.specs.declared.stops.StopKind.{StopKind}
 use Rattle.nr_fill.specs.declared.setting.Setting.{Setting}
 use Rattle.nr_fill.specs.declared.setting.Extra.{Extra}
-use Rattle.nr_fill.specs.declared.piece.Behind.{Behind}
-use Rattle.nr_fill.specs.declared.piece.Behind.TheVariants.{Letter, Hyphen, Dash}
+use Rattle.nr_fill.specs.declared.piece.CutAfter.{CutAfter}
+use Rattle.nr_fill.specs.declared.piece.CutAfter.TheVariants.{Letter, Hyphen, Dash}
 use Rattle.nr_fill.specs.declared.piece.Join.TheVariants as joins
 use Rattle.nr_fill.specs.declared.piece.Point.{Point}
 use Rattle.nr_fill.specs.declared.piece.Point.TheVariants as points
@@ -161,7 +161,7 @@ module _ (set : ℕ → Bool) where
   ended-word : (m : Margins) (c : Collected) → IsLined c → IsLined (in_word ended (with_word m c))
   ended-word m c h = changed ended (with_word m c) (λ w k. ended-at w.pending w refl k) (worded m c h)
 
-  pended : (m : Behind) (n : ℕ) (p : Pending) → IsFilled p → IsFilled (pending_after m n p)
+  pended : (m : CutAfter) (n : ℕ) (p : Pending) → IsFilled p → IsFilled (pending_after m n p)
   pended m n (pendings.ForStop f) h = h
   pended Letter n pendings.Nothing h = tt
   pended Letter n (pendings.AtPoint p) h = tt
@@ -195,7 +195,7 @@ module _ (set : ℕ → Bool) where
   one : (x : Cell) → IsPrinted x → ArePrinted (x ∷ [])
   one x h = All-cons IsPrinted x [] h (All-nil IsPrinted)
 
-  celled : (b : Behind) (x : Cell) (w : Word) → IsPrinted x → IsWord w → IsWord (add_cell_after b x w)
+  celled : (b : CutAfter) (x : Cell) (w : Word) → IsPrinted x → IsWord w → IsWord (add_cell_after b x w)
   celled b x w is h =
       let longer = appended (x ∷ []) w (one x is) h in
       let n = word_length (append (x ∷ []) w) in
@@ -208,7 +208,7 @@ module _ (set : ℕ → Bool) where
         pointed = any-pointed (pending_after b n w.pending) (length (w.last.cells ++ x ∷ [])) (omega (arith, one-more));
       }
 
-  pub add_cell-lined : (m : Margins) (b : Behind) (x : Cell) (c : Collected) → IsPrinted x → IsLined c → IsLined (add_cell m b x c)
+  pub add_cell-lined : (m : Margins) (b : CutAfter) (x : Cell) (c : Collected) → IsPrinted x → IsLined c → IsLined (add_cell m b x c)
   add_cell-lined m b x c is h = changed (add_cell_after b x) (in_word ended (with_word m c)) (λ w k. celled b x w is k) (ended-word m c h)
 
   blanked : (w : Word) → IsWord w → IsWord (add_blank_to w)
@@ -308,20 +308,20 @@ module _ (set : ℕ → Bool) where
       n : ℕ
       n = place - cells_in w.parts
 
-      front : Piece
-      front = record { join = w.last.join; cells = take n w.last.cells }
+      prefix : Piece
+      prefix = record { join = w.last.join; cells = take n w.last.cells }
 
       by : (c : Bool) → is_inside n w.blanks (length w.last.cells) w.pending ≡ c
-          → IsWord (if c then record w { parts = w.parts ++ front ∷ []; last = record { join = joins.Soft; cells = drop n w.last.cells } } else w)
+          → IsWord (if c then record w { parts = w.parts ++ prefix ∷ []; last = record { join = joins.Soft; cells = drop n w.last.cells } } else w)
       by true is =
           let between = inside n w.blanks (length w.last.cells) w.pending is in
           let before : 0 < length (take n w.last.cells) = omega (arith, between.0, between.1, length-take n w.last.cells) in
           let after : 0 < length (drop n w.last.cells) = omega (arith, between.0, between.1, length-drop n w.last.cells) in
           record {
-            parts = All-push IsSet w.parts front h.parts (All-take IsPrinted n w.last.cells h.last);
+            parts = All-push IsSet w.parts prefix h.parts (All-take IsPrinted n w.last.cells h.last);
             last = All-drop IsPrinted n w.last.cells h.last;
             pending = h.pending;
-            few = more w.parts front before h.few;
+            few = more w.parts prefix before h.few;
             pointed = any-pointed w.pending (length (drop n w.last.cells)) after;
           }
       by false is = h
@@ -403,22 +403,22 @@ module _ (set : ℕ → Bool) where
 
   -- ---- rows
 
-  behind-cells : (x : Extra) (i : ℕ) (ps : List Piece) → AreSet ps → ArePrinted (cells_after x i ps)
-  behind-cells x i [] h = All-nil IsPrinted
-  behind-cells x i (p ∷ ps) h =
+  afterwards-cells : (x : Extra) (i : ℕ) (ps : List Piece) → AreSet ps → ArePrinted (cells_after x i ps)
+  afterwards-cells x i [] h = All-nil IsPrinted
+  afterwards-cells x i (p ∷ ps) h =
       join (replicate (blanks_before x i p.join) blank ++ p.cells) (cells_after x (next_gap i p.join) ps)
       (join (replicate (blanks_before x i p.join) blank) p.cells (blanks (blanks_before x i p.join)) (All-head IsSet p ps h))
-      (behind-cells x (next_gap i p.join) ps (All-tail IsSet p ps h))
+      (afterwards-cells x (next_gap i p.join) ps (All-tail IsSet p ps h))
 
   in-line : (x : Extra) (ps : List Piece) → AreSet ps → ArePrinted (cells_in_line x ps)
   in-line x [] h = All-nil IsPrinted
-  in-line x (p ∷ ps) h = join p.cells (cells_after x 1 ps) (All-head IsSet p ps h) (behind-cells x 1 ps (All-tail IsSet p ps h))
+  in-line x (p ∷ ps) h = join p.cells (cells_after x 1 ps) (All-head IsSet p ps h) (afterwards-cells x 1 ps (All-tail IsSet p ps h))
 
   pub line_row-printed : (s : Setting) (c : Collected) (n : ℕ) → IsLined c → ArePrinted (line_row s c n)
   line_row-printed s c n h =
-      let front = s.offset + c.margins.indent + shift s.align (left_over c n) in
+      let prefix = s.offset + c.margins.indent + shift s.align (left_over c n) in
       let cut = hyphen_before (drop n c.pieces) in
-      join (replicate front blank) (text_of s.align c n) (blanks front)
+      join (replicate prefix blank) (text_of s.align c n) (blanks prefix)
       (join (cells_in_line (extra_of s.align c n) (take n c.pieces)) (hyphens cut) (in-line (extra_of s.align c n) (take n c.pieces) (All-take IsSet n c.pieces h.pieces)) (All-replicate IsPrinted cut hyphen refl))
 
   -- ---- titles

@@ -17,7 +17,7 @@ use Rattle.nr_store.specs.declared.request.Request.{Request}
 use Rattle.nr_store.specs.declared.request.Request.TheVariants as requests
 use Rattle.nr_symbol_tables.specs.Word.{word_of}
 use Rattle.nr_store.specs.Store.{Stored, words, newest_diversion, diversion_ended as ended_diversion, begun, fresh, text_of, trapped, removed, renamed, written, set_to, register_of, is_held, unregistered, worded}
-use Rattle.nr_settings.specs.Arguments.{is_blank as is_space, name_in, name_of, name_len, behind_blanks, behind_name, byte_in, word_in, after_word}
+use Rattle.nr_settings.specs.Arguments.{is_blank as is_space, name_in, name_of, name_len, after_blanks, after_name, byte_in, word_in, after_word}
 use Rattle.nr_settings.specs.Numbers.{applied}
 use Rattle.nr_settings.specs.Registers as register_lines
 use Rattle.nr_settings.specs.Spacing as space_lines
@@ -64,16 +64,16 @@ use Rattle.nr_formatter.specs.Text as texts
 use Rattle.nr_formatter.specs.Titles as titles
 use Rattle.nr_formatter.specs.Traps as traps
 use Rattle.nr_fill.specs.Piece.{add_cell, with_title_cell}
-use Rattle.nr_fill.specs.declared.piece.Behind.TheVariants.{Dash}
+use Rattle.nr_fill.specs.declared.piece.CutAfter.TheVariants.{Dash}
 use Rattle.nr_laws.proofs.ChargedOnce.{once-none}
 use Rattle.nr_laws.proofs.PrintedLines.{IsAmong, AreAmong, IsPrinted, ArePrinted, IsLined, IsSet, either, trim, line_row-printed, titled_row-printed, add_cell-lined, with_title_cell-lined}
 use Rattle.nr_laws.proofs.PrintedStores.{AreStored, IfText, no_words, none-gathered, begun-stored, begun_empty, text_of-stored, diverted-stored, diverted_end-stored, diversion_ended-stored, removed-stored, renamed-stored, entered-stored, named-words, added-stored, blanks_and, no_levels, trapped-stored}
-use Rattle.nr_laws.proofs.PrintedFronts.{IfAmong}
+use Rattle.nr_laws.proofs.PrintedItems.{IfAmong}
 use Rattle.nr_laws.proofs.PrintedDirect.{none-texts}
 use Rattle.nr_laws.proofs.PrintedWorks.{IsKept, printing-filler}
 
 module _ (set : ℕ → Bool) where
-  -- nothing is told that is still to be heard
+  -- nothing is emitted that is still to be heard
   pub record Resting (f : Formatter) : Type 0 where
     pub kept : IsKept set f
     pub idle : f.event ≡ events.Nothing
@@ -101,8 +101,8 @@ module _ (set : ℕ → Bool) where
   pub row-printed : (g : Going) (offset : ℕ) (f : Formatter) → IsKept set f → ArePrinted set (lines.row_going g offset f)
   row-printed g offset f h = line_row-printed set (record { align = g.align; offset = offset }) (collected f) (lines.pieces_going g (collected f)) h.lined
 
-  pub line-behind : (g : Going) (f : Formatter) → Resting f → Resting (lines.after_line g f)
-  line-behind g f h =
+  pub line-afterwards : (g : Going) (f : Formatter) → Resting f → Resting (lines.after_line g f)
+  line-afterwards g f h =
       record {
         kept = record {
           stored = h.kept.stored;
@@ -117,8 +117,8 @@ module _ (set : ℕ → Bool) where
   pub title-row : (offset : ℕ) (f : Formatter) → IsKept set f → ArePrinted set (titles.title_row offset f)
   title-row offset f h = titled_row-printed set offset (f.settings.indents.title_length.value / 24) (collected f).title h.lined.title
 
-  pub title-behind : (f : Formatter) → Resting f → Resting (titles.title_set f)
-  title-behind f h =
+  pub title-afterwards : (f : Formatter) → Resting f → Resting (titles.title_set f)
+  title-afterwards f h =
       record {
         kept = record { stored = h.kept.stored; lined = record { pieces = h.kept.lined.pieces; word = h.kept.lined.word; title = tt }; tab = h.kept.tab; leader = h.kept.leader; half = h.kept.half };
         idle = h.idle;
@@ -132,10 +132,10 @@ module _ (set : ℕ → Bool) where
   row-diverted xs f is h = diverted-with 0 xs (spacing f) (pages.without_no_space f) is (record { kept = h.kept; idle = h.idle })
 
   pub line-diverted : (g : Going) (f : Formatter) → Resting f → Resting (diversions.divert_line g f)
-  line-diverted g f h = row-diverted (diverted_cells (lines.row_going g 0 f)) (lines.after_line g f) (diverted-row (lines.row_going g 0 f) (row-printed g 0 f h.kept)) (line-behind g f h)
+  line-diverted g f h = row-diverted (diverted_cells (lines.row_going g 0 f)) (lines.after_line g f) (diverted-row (lines.row_going g 0 f) (row-printed g 0 f h.kept)) (line-afterwards g f h)
 
   pub title-diverted : (f : Formatter) → Resting f → Resting (diversions.divert_title f)
-  title-diverted f h = row-diverted (diverted_cells (titles.title_row 0 f)) (titles.title_set f) (diverted-row (titles.title_row 0 f) (title-row 0 f h.kept)) (title-behind f h)
+  title-diverted f h = row-diverted (diverted_cells (titles.title_row 0 f)) (titles.title_set f) (diverted-row (titles.title_row 0 f) (title-row 0 f h.kept)) (title-afterwards f h)
 
   pub space-diverted : (n : ℕ) (f : Formatter) → Resting f → Resting (diversions.with_diverted_space n f)
   space-diverted n f h =
@@ -153,7 +153,7 @@ module _ (set : ℕ → Bool) where
   pub text-sprung : (name : List ℕ) (text : Option (List Element)) (f : Formatter) → words (find name f.store.names) ≡ text → IfText set text → IsKept set f → IsKept set (springing.sprung_text name text f)
   text-sprung name None f has is h = h
   text-sprung name (Some text) f has is h =
-      record { stored = entered-stored set name (Some text) (Some (springing.interrupted f)) f.store has is h.half.line h.stored; lined = h.lined; tab = h.tab; leader = h.leader; half = record { due = tt; held = tt; few = omega arith; ending = h.half.ending; ends = h.half.ends; line = h.half.line; texts = none-texts set } }
+      record { stored = entered-stored set name (Some text) (Some (springing.interrupted f)) f.store has is h.half.line h.stored; lined = h.lined; tab = h.tab; leader = h.leader; half = record { pending_act = tt; held = tt; few = omega arith; ending = h.half.ending; ends = h.half.ends; line = h.half.line; texts = none-texts set } }
 
   pub sprung-kept : (name : List ℕ) (f : Formatter) → IsKept set f → IsKept set (springing.sprung name f)
   sprung-kept name f h = text-sprung name (words (find name f.store.names)) f refl (named-words set name f.store h.stored) h
@@ -235,24 +235,24 @@ module _ (set : ℕ → Bool) where
   IfName None = Unit {0}
   IfName (Some name) = AreAmong set name
 
-  behind-among : (text : List ℕ) → AreAmong set text → AreAmong set (behind_blanks text)
-  behind-among text h = All-drop (IsAmong set) (prefix_len is_space text) text h
+  afterwards-among : (text : List ℕ) → AreAmong set text → AreAmong set (after_blanks text)
+  afterwards-among text h = All-drop (IsAmong set) (prefix_len is_space text) text h
 
   name-among : (long : Bool) (text : List ℕ) → AreAmong set text → IfName (name_in long text)
   name-among long text h =
-      let bytes = take (name_len long (behind_blanks text)) (behind_blanks text) in
-      either IfName ((length bytes == 0) || nat_lt 32 (length bytes)) None (Some bytes) tt (All-take (IsAmong set) (name_len long (behind_blanks text)) (behind_blanks text) (behind-among text h))
+      let bytes = take (name_len long (after_blanks text)) (after_blanks text) in
+      either IfName ((length bytes == 0) || nat_lt 32 (length bytes)) None (Some bytes) tt (All-take (IsAmong set) (name_len long (after_blanks text)) (after_blanks text) (afterwards-among text h))
 
-  second-among : (long : Bool) (text : List ℕ) → AreAmong set text → IfName (name_in long (behind_name long text))
+  second-among : (long : Bool) (text : List ℕ) → AreAmong set text → IfName (name_in long (after_name long text))
   second-among long text h =
-      name-among long (behind_name long text) (All-drop (IsAmong set) (name_len long (behind_blanks text)) (behind_blanks text) (behind-among text h))
+      name-among long (after_name long text) (All-drop (IsAmong set) (name_len long (after_blanks text)) (after_blanks text) (afterwards-among text h))
 
   first-among : (bs : List ℕ) → AreAmong set bs → IfAmong set (slice_get bs 0)
   first-among [] h = tt
   first-among (b ∷ bs) h = All-head (IsAmong set) b bs h
 
   byte-among : (text : List ℕ) → AreAmong set text → IfAmong set (byte_in text)
-  byte-among text h = first-among (behind_blanks text) (behind-among text h)
+  byte-among text h = first-among (after_blanks text) (afterwards-among text h)
 
   or-none : (name : Option (List ℕ)) → IfName name → AreAmong set (unwrap_or name [])
   or-none None h = All-nil (IsAmong set)
@@ -294,7 +294,7 @@ module _ (set : ℕ → Bool) where
       by false false few = few refl
 
   few-named : (long : Bool) (text : List ℕ) → length (unwrap_or (name_in long text) []) ≤ 32
-  few-named long text = few-bytes (take (name_len long (behind_blanks text)) (behind_blanks text))
+  few-named long text = few-bytes (take (name_len long (after_blanks text)) (after_blanks text))
 
   base-stored : (d : Definition) (name : List ℕ) (v : Stored Resume) → AreStored set v → AreStored set (base d name v)
   base-stored definitions.De name v h = begun_empty set None v tt h
@@ -309,14 +309,14 @@ module _ (set : ℕ → Bool) where
           lined = h.kept.lined;
           tab = h.kept.tab;
           leader = h.kept.leader;
-          half = record { due = h.kept.half.due; held = omega arith; few = h.kept.half.few; ending = few; ends = or-none end is; line = h.kept.half.line; texts = h.kept.half.texts };
+          half = record { pending_act = h.kept.half.pending_act; held = omega arith; few = h.kept.half.few; ending = few; ends = or-none end is; line = h.kept.half.line; texts = h.kept.half.texts };
         };
         idle = h.idle;
       }
 
   defined-as : (d : Definition) (name : Option (List ℕ)) (f : Formatter) → Resting f → Resting (naming.defined_as d name f)
   defined-as d None f h = h
-  defined-as d (Some name) f h = with-lines d name (naming.second_name f) f (few-named (long f) (behind_name (long f) (line f))) (second-among (long f) (line f) h.kept.half.line) h
+  defined-as d (Some name) f h = with-lines d name (naming.second_name f) f (few-named (long f) (after_name (long f) (line f))) (second-among (long f) (line f) h.kept.half.line) h
 
   without-name : (name : Option (List ℕ)) (f : Formatter) → Resting f → Resting (naming.without_name name f)
   without-name None f h = h

@@ -22,8 +22,8 @@ use Rattle.nr_reading.specs.declared.ask.Ask.{Ask}
 use Rattle.nr_reading.specs.declared.ask.Sign.TheVariants as signs
 use Rattle.nr_reading.specs.declared.mode.Calls.{Calls}
 use Rattle.nr_reading.specs.declared.mode.Calls.TheVariants as calls
-use Rattle.nr_reading.specs.declared.mode.Due.{Due}
-use Rattle.nr_reading.specs.declared.mode.Due.TheVariants as dues
+use Rattle.nr_reading.specs.declared.mode.PendingAct.{PendingAct}
+use Rattle.nr_reading.specs.declared.mode.PendingAct.TheVariants as pending_acts
 use Rattle.nr_reading.specs.declared.mode.Mode.{Mode}
 use Rattle.nr_reading.specs.declared.mode.Mode.TheVariants as modes
 use Rattle.nr_reading.specs.declared.mode.Standing.{Standing}
@@ -32,15 +32,15 @@ use Rattle.nr_reading.specs.Seeking.{sought, sought_event}
 use Rattle.nr_reading.specs.Spelled.{is_empty}
 use Rattle.nr_reading.specs.declared.half.Half.{Half}
 use Rattle.nr_input.specs.declared.reader.Reader.{Reader}
-use Rattle.nr_reading.specs.Half.{Met, meet}
+use Rattle.nr_reading.specs.Half.{TakenIn, take_in}
 use Rattle.nr_reading.specs.Conditionals.{answer_of, else_mode}
 use Rattle.nr_reading.specs.Mode.{mode_of}
-use Rattle.nr_input.specs.Moving.{Situation, Move, look, looks, taken_at, stays_at, acted_at, told_of, move as input_move}
-use Rattle.nr_input.specs.Acting.{act as act_due, after_held, calls_of, has_text, meaning_in, name_in, next, splicing}
+use Rattle.nr_input.specs.Moving.{Situation, Move, look, looks, taken_at, stays_at, acted_at, emitted_of, move as input_move}
+use Rattle.nr_input.specs.Acting.{act as act_pending, after_held, calls_of, has_text, meaning_in, name_in, next, splicing}
 use Rattle.nr_reading.specs.Delimited.{Texts}
-use Rattle.nr_input.specs.Place.{front}
-use Rattle.nr_input.specs.declared.told.Told.{Told}
-use Rattle.nr_input.specs.declared.told.Told.TheVariants as tells
+use Rattle.nr_input.specs.Place.{next_item}
+use Rattle.nr_input.specs.declared.emitted.Emitted.{Emitted}
+use Rattle.nr_input.specs.declared.emitted.Emitted.TheVariants as tells
 use Rattle.nr_options.specs.Limits.{Bounds}
 use Rattle.nr_options.specs.declared.options.Options.{Options}
 use Rattle.nr_formatter.specs.Access.{collected, spacing, done}
@@ -66,16 +66,16 @@ use Rattle.nr_formatter.specs.declared.tasks.Task.{Task}
 use Rattle.nr_formatter.specs.declared.tasks.Task.TheVariants as tasks
 use Rattle.nr_formatter.specs.declared.tasks.Then.{Then}
 use Rattle.nr_machine.specs.State.{State, Ended, Choice, First, Register, plainly, start}
-use Rattle.nr_machine.specs.Machine.{begin_page, end_page, page_of, turn_page, placed as placed_line, place, put_line_to, put_or, break_part, continues_none, break_out, room_in, title_to, with_cell, margin_in, indent, offset, cell_to, width, line_to, space_to, put_space, eject_to, eject, act, work, hear, spring_or, choose, choose_or, step, state_after, situation_of, told, read}
+use Rattle.nr_machine.specs.Machine.{begin_page, end_page, page_of, turn_page, placed as placed_line, place, put_line_to, put_or, break_part, continues_none, break_out, room_in, title_to, with_cell, margin_in, indent, offset, cell_to, width, line_to, space_to, put_space, eject_to, eject, act, work, hear, spring_or, choose, choose_or, step, state_after, situation_of, emitted, read}
 use Rattle.nr_store.specs.Request.{request_names}
 use Rattle.nr_laws.proofs.ChargedOnce.{once-none}
 use Rattle.nr_laws.proofs.PrintedLines.{IsAmong, AreAmong, IsPrinted, ArePrinted, IsSet, either, join, blanks, trim}
-use Rattle.nr_laws.proofs.PrintedFronts.{IfAmong, IsDue, IsResume, act-stored, behind-among, front-printed, resume-among}
+use Rattle.nr_laws.proofs.PrintedItems.{IfAmong, IsPending, IsResume, act-stored, afterwards-among, next_item-printed, resume-among}
 use Rattle.nr_laws.proofs.PrintedStores.{AreStored, no_words, none-gathered, left-stored, no_levels, no_building, request_names-stored}
 use Rattle.nr_laws.proofs.PrintedDirect.{IsHeard, IsHeld, Halved, IsHalf, none-texts}
-use Rattle.nr_laws.proofs.PrintedReads.{meet-told}
+use Rattle.nr_laws.proofs.PrintedReads.{take_in-emitted}
 use Rattle.nr_laws.proofs.PrintedWorks.{IsKept, Hearing, part-held, heard-hearing, break-word-end}
-use Rattle.nr_laws.proofs.PrintedRests.{Resting, row-printed, line-behind, title-row, title-behind, line-diverted, title-diverted, space-diverted, end-diverted, cell-diverted, sprung-resting, ejected-resting, tasked, worked-resting}
+use Rattle.nr_laws.proofs.PrintedRests.{Resting, row-printed, line-afterwards, title-row, title-afterwards, line-diverted, title-diverted, space-diverted, end-diverted, cell-diverted, sprung-resting, ejected-resting, tasked, worked-resting}
 
 module _ (set : ℕ → Bool) where
   abbrev pub IsPlaced : Placed → Type 0
@@ -99,7 +99,7 @@ module _ (set : ℕ → Bool) where
   abbrev IsClean : State → Type 0
   IsClean s = Clean s.row s.lines s.pages s.coming.supply.bytes
 
-  -- nothing is told that is still to be heard
+  -- nothing is emitted that is still to be heard
   record Rests (s : State) : Type 0 where
     clean : IsClean s
     resting : Resting set s.formatter
@@ -139,7 +139,7 @@ module _ (set : ℕ → Bool) where
 
   line-goes : (o : Outlet) (g : Going) (s : State) → Rests s → Rests (put_line_to o g s)
   line-goes outlets.Diversion g s h = plain-rests s _ h.clean (line-diverted set g s.formatter h.resting)
-  line-goes outlets.Room g s h = placed (lines.row_going g (offset s.formatter) s.formatter) (spacing s.formatter) (lines.after_line g s.formatter) s (row-printed set g (offset s.formatter) s.formatter h.resting.kept) h.clean (line-behind set g s.formatter h.resting)
+  line-goes outlets.Room g s h = placed (lines.row_going g (offset s.formatter) s.formatter) (spacing s.formatter) (lines.after_line g s.formatter) s (row-printed set g (offset s.formatter) s.formatter h.resting.kept) h.clean (line-afterwards set g s.formatter h.resting)
   line-goes o g s h = turned o s h
 
   goes-or : (g : Option Going) (done : Formatter → Formatter) (s : State) → Rests s → Rests (plainly done s) → Rests (put_or g done s)
@@ -166,15 +166,15 @@ module _ (set : ℕ → Bool) where
 
   -- ---- titles, diverted lines and space
 
-  in-mode : {d : Due} {m n : Mode} {asks : List Ask} {name x : List ℕ} {y : Texts} → Halved set d m asks name x y → IsHeld set n → Halved set d n asks name x y
-  in-mode h held = record { due = h.due; held = held; few = h.few; ending = h.ending; ends = h.ends; line = h.line; texts = h.texts }
+  in-mode : {d : PendingAct} {m n : Mode} {asks : List Ask} {name x : List ℕ} {y : Texts} → Halved set d m asks name x y → IsHeld set n → Halved set d n asks name x y
+  in-mode h held = record { pending_act = h.pending_act; held = held; few = h.few; ending = h.ending; ends = h.ends; line = h.line; texts = h.texts }
 
   read-in : (r : Room) (f : Formatter) → Resting set f → Resting set (moves.read_in r f)
   read-in rooms.Title f h =
-      let half : Halved set f.reader.half.reading.due modes.TitleBefore f.reader.half.asks f.reader.half.notes.defining.ending f.reader.half.notes.line f.reader.half.delimited = in-mode h.kept.half tt in
+      let half : Halved set f.reader.half.reading.pending_act modes.TitleBefore f.reader.half.asks f.reader.half.notes.defining.ending f.reader.half.notes.line f.reader.half.delimited = in-mode h.kept.half tt in
       record { kept = record { stored = h.kept.stored; lined = h.kept.lined; tab = h.kept.tab; leader = h.kept.leader; half = half }; idle = h.idle }
   read-in rooms.Line f h =
-      let half : Halved set f.reader.half.reading.due modes.Diverting f.reader.half.asks f.reader.half.notes.defining.ending f.reader.half.notes.line f.reader.half.delimited = in-mode h.kept.half tt in
+      let half : Halved set f.reader.half.reading.pending_act modes.Diverting f.reader.half.asks f.reader.half.notes.defining.ending f.reader.half.notes.line f.reader.half.delimited = in-mode h.kept.half tt in
       record { kept = record { stored = h.kept.stored; lined = h.kept.lined; tab = h.kept.tab; leader = h.kept.leader; half = half }; idle = h.idle }
 
   room-made : (o : Outlet) (r : Room) (s : State) → Rests s → Rests (room_in o r s)
@@ -184,7 +184,7 @@ module _ (set : ℕ → Bool) where
 
   title-goes : (o : Outlet) (s : State) → Rests s → Rests (title_to o s)
   title-goes outlets.Diversion s h = plain-rests s _ h.clean (title-diverted set s.formatter h.resting)
-  title-goes outlets.Room s h = placed (titles.title_row (offset s.formatter) s.formatter) (spacing s.formatter) (titles.title_set s.formatter) s (title-row set (offset s.formatter) s.formatter h.resting.kept) h.clean (title-behind set s.formatter h.resting)
+  title-goes outlets.Room s h = placed (titles.title_row (offset s.formatter) s.formatter) (spacing s.formatter) (titles.title_set s.formatter) s (title-row set (offset s.formatter) s.formatter h.resting.kept) h.clean (title-afterwards set s.formatter h.resting)
   title-goes o s h = turned o s h
 
   row-goes : (o : Outlet) (n : ℕ) (s : State) → Rests s → Rests (line_to o n s)
@@ -219,7 +219,7 @@ module _ (set : ℕ → Bool) where
 
   -- ---- all states
 
-  -- what is told is still to be heard, but for a macro that springs before
+  -- what is emitted is still to be heard, but for a macro that springs before
   abbrev IsAwaited : Option (List ℕ) → Event → Mode → Type 0
   IsAwaited None e m = IsHeard set e m
   IsAwaited (Some n) e m = e ≡ events.Nothing
@@ -247,122 +247,122 @@ module _ (set : ℕ → Bool) where
 
   -- ---- reading
 
-  met : (c : Bool) (m : Met) (q : Situation Resume) → AreStored set q.stored → AreStored set (if c then taken_at m q else stays_at m q).situation.stored
-  met true m q h = left-stored set q.stored.levels q.stored h.levels h
-  met false m q h = h
+  taken_in : (c : Bool) (m : TakenIn) (q : Situation Resume) → AreStored set q.stored → AreStored set (if c then taken_at m q else stays_at m q).situation.stored
+  taken_in true m q h = left-stored set q.stored.levels q.stored h.levels h
+  taken_in false m q h = h
 
   moved-stored : (c : Bool) (q : Situation Resume) → AreStored set q.stored → IsHalf set q.reader.half → AreStored set (if c then look q else acted_at q).situation.stored
-  moved-stored true q h half = let m = meet (front (shown q.stored.levels) q.coming) q.reader.half in met m.takes m q h
-  moved-stored false q h half = act-stored set q.reader.half.reading.due q.stored q.reader half.due half.ends h
+  moved-stored true q h half = let m = take_in (next_item (shown q.stored.levels) q.coming) q.reader.half in taken_in m.takes m q h
+  moved-stored false q h half = act-stored set q.reader.half.reading.pending_act q.stored q.reader half.pending_act half.ends h
 
-  met-coming : (c : Bool) (m : Met) (q : Situation Resume) → AreAmong set q.coming.supply.bytes → AreAmong set (if c then taken_at m q else stays_at m q).situation.coming.supply.bytes
-  met-coming true m q h = behind-among set (shown q.stored.levels) q.coming h
-  met-coming false m q h = h
+  taken_in-coming : (c : Bool) (m : TakenIn) (q : Situation Resume) → AreAmong set q.coming.supply.bytes → AreAmong set (if c then taken_at m q else stays_at m q).situation.coming.supply.bytes
+  taken_in-coming true m q h = afterwards-among set (shown q.stored.levels) q.coming h
+  taken_in-coming false m q h = h
 
   moved-coming : (c : Bool) (q : Situation Resume) → AreAmong set q.coming.supply.bytes → AreAmong set (if c then look q else acted_at q).situation.coming.supply.bytes
-  moved-coming true q h = let m = meet (front (shown q.stored.levels) q.coming) q.reader.half in met-coming m.takes m q h
+  moved-coming true q h = let m = take_in (next_item (shown q.stored.levels) q.coming) q.reader.half in taken_in-coming m.takes m q h
   moved-coming false q h = h
 
-  -- an event that is told, in the mode that the move leads to
-  abbrev IsToldIn : Mode → Told Resume → Type 0
-  IsToldIn m (tells.Event e) = IsHeard set e m
-  IsToldIn m (tells.Resume k) = AreAmong set k.line
+  -- an event that is emitted, in the mode that the move leads to
+  abbrev IsEmittedIn : Mode → Emitted Resume → Type 0
+  IsEmittedIn m (tells.Event e) = IsHeard set e m
+  IsEmittedIn m (tells.Resume k) = AreAmong set k.line
 
-  abbrev IsTold : Move Resume → Type 0
-  IsTold m = IsToldIn m.situation.reader.half.reading.mode m.told
+  abbrev IsEmitted : Move Resume → Type 0
+  IsEmitted m = IsEmittedIn m.situation.reader.half.reading.mode m.emitted
 
   -- what a look tells
-  shown-told : (x : Shown Resume) (e : Event) (m : Mode) → IsHeard set e m → IsResume set x → IsToldIn m (told_of x e)
-  shown-told shows.Nothing e m h is = h
-  shown-told shows.End e m h is = h
-  shown-told (shows.Item x) e m h is = h
-  shown-told (shows.Resume k) e m h is = is
+  shown-emitted : (x : Shown Resume) (e : Event) (m : Mode) → IsHeard set e m → IsResume set x → IsEmittedIn m (emitted_of x e)
+  shown-emitted shows.Nothing e m h is = h
+  shown-emitted shows.End e m h is = h
+  shown-emitted (shows.Item x) e m h is = h
+  shown-emitted (shows.Resume k) e m h is = is
 
-  looked-told : (c : Bool) (m : Met) (q : Situation Resume) → IsHeard set m.event m.half.reading.mode → IsResume set (shown q.stored.levels) → IsTold (if c then taken_at m q else stays_at m q)
-  looked-told true m q h is = shown-told (shown q.stored.levels) m.event m.half.reading.mode h is
-  looked-told false m q h is = h
+  looked-emitted : (c : Bool) (m : TakenIn) (q : Situation Resume) → IsHeard set m.event m.half.reading.mode → IsResume set (shown q.stored.levels) → IsEmitted (if c then taken_at m q else stays_at m q)
+  looked-emitted true m q h is = shown-emitted (shown q.stored.levels) m.event m.half.reading.mode h is
+  looked-emitted false m q h is = h
 
-  sought-told : (c : Calls) (m : Mode) → IsHeard set (sought_event c) m
-  sought-told calls.Title m = tt
-  sought-told c m = tt
+  sought-emitted : (c : Calls) (m : Mode) → IsHeard set (sought_event c) m
+  sought-emitted calls.Title m = tt
+  sought-emitted c m = tt
 
-  acted-told : (d : Due) (v : Stored Resume) (r : Reader) (m : Mode) → IsHeard set (act_due d v r).event m
-  acted-told dues.Begin v r m = tt
-  acted-told (dues.Register signs.None) v r m = tt
-  acted-told (dues.Register signs.Plus) v r m = tt
-  acted-told (dues.Register signs.Minus) v r m = tt
-  acted-told dues.Seek v r m = sought-told (calls_of (meaning_in v r)) m
-  acted-told (dues.Lead n) v r m = tt
-  acted-told d v r m = tt
+  acted-emitted : (d : PendingAct) (v : Stored Resume) (r : Reader) (m : Mode) → IsHeard set (act_pending d v r).event m
+  acted-emitted pending_acts.Begin v r m = tt
+  acted-emitted (pending_acts.Register signs.None) v r m = tt
+  acted-emitted (pending_acts.Register signs.Plus) v r m = tt
+  acted-emitted (pending_acts.Register signs.Minus) v r m = tt
+  acted-emitted pending_acts.Seek v r m = sought-emitted (calls_of (meaning_in v r)) m
+  acted-emitted (pending_acts.Lead n) v r m = tt
+  acted-emitted d v r m = tt
 
-  moved-told : (c : Bool) (q : Situation Resume) → AreAmong set q.coming.supply.bytes → AreStored set q.stored → IsHalf set q.reader.half → IsTold (if c then look q else acted_at q)
-  moved-told true q coming h half =
-      let f = front (shown q.stored.levels) q.coming in
-      let m = meet f q.reader.half in
-      looked-told m.takes m q (meet-told set f q.reader.half half (front-printed set q.stored.levels q.coming coming h.levels)).heard (resume-among set q.stored.levels h.levels)
-  moved-told false q coming h half = acted-told q.reader.half.reading.due q.stored q.reader (act_due q.reader.half.reading.due q.stored q.reader).reader.half.reading.mode
+  moved-emitted : (c : Bool) (q : Situation Resume) → AreAmong set q.coming.supply.bytes → AreStored set q.stored → IsHalf set q.reader.half → IsEmitted (if c then look q else acted_at q)
+  moved-emitted true q coming h half =
+      let f = next_item (shown q.stored.levels) q.coming in
+      let m = take_in f q.reader.half in
+      looked-emitted m.takes m q (take_in-emitted set f q.reader.half half (next_item-printed set q.stored.levels q.coming coming h.levels)).heard (resume-among set q.stored.levels h.levels)
+  moved-emitted false q coming h half = acted-emitted q.reader.half.reading.pending_act q.stored q.reader (act_pending q.reader.half.reading.pending_act q.stored q.reader).reader.half.reading.mode
 
-  met-half : (c : Bool) (m : Met) (q : Situation Resume) → IsHalf set m.half → IsHalf set (if c then taken_at m q else stays_at m q).situation.reader.half
-  met-half true m q h = h
-  met-half false m q h = h
+  taken_in-half : (c : Bool) (m : TakenIn) (q : Situation Resume) → IsHalf set m.half → IsHalf set (if c then taken_at m q else stays_at m q).situation.reader.half
+  taken_in-half true m q h = h
+  taken_in-half false m q h = h
 
-  next-half : (d : Due) (h : Half) → IsDue set d → IsHalf set h → IsHalf set (next d h)
-  next-half d h due is = record { due = due; held = is.held; few = is.few; ending = is.ending; ends = is.ends; line = is.line; texts = is.texts }
+  next-half : (d : PendingAct) (h : Half) → IsPending set d → IsHalf set h → IsHalf set (next d h)
+  next-half d h pending_act is = record { pending_act = pending_act; held = is.held; few = is.few; ending = is.ending; ends = is.ends; line = is.line; texts = is.texts }
 
-  test-due : (c : Bool) (x y : Due) → IsDue set x → IsDue set y → IsDue set (if c then x else y)
-  test-due true x y first second = first
-  test-due false x y first second = second
+  test-pending_act : (c : Bool) (x y : PendingAct) → IsPending set x → IsPending set y → IsPending set (if c then x else y)
+  test-pending_act true x y first second = first
+  test-pending_act false x y first second = second
 
-  held-due : (held n : ℕ) (b : Option ℕ) → held ≤ 33 → IfAmong set b → IsDue set (after_held held n b)
-  held-due held n (Some b) few among = test-due (nat_lt (n + 1) held) (dues.Release held (n + 1) (Some b)) (dues.Add b) (few, among) among
-  held-due held n None few among = test-due (nat_lt (n + 1) held) (dues.Release held (n + 1) None) dues.Look (few, tt) tt
+  held-pending_act : (held n : ℕ) (b : Option ℕ) → held ≤ 33 → IfAmong set b → IsPending set (after_held held n b)
+  held-pending_act held n (Some b) few among = test-pending_act (nat_lt (n + 1) held) (pending_acts.Release held (n + 1) (Some b)) (pending_acts.Add b) (few, among) among
+  held-pending_act held n None few among = test-pending_act (nat_lt (n + 1) held) (pending_acts.Release held (n + 1) None) pending_acts.Look (few, tt) tt
 
   else-held : (answer : Option Bool) → IsHeld set (else_mode answer)
   else-held None = tt
   else-held (Some answer) = part-held set (not answer)
 
   sought-half : (c : Calls) (h : Half) → IsHalf set h → IsHalf set (sought c h)
-  sought-half calls.Else h is = record { due = is.due; held = else-held (slice_get h.notes.answers 0); few = is.few; ending = is.ending; ends = is.ends; line = is.line; texts = is.texts }
-  sought-half c h is = record { due = is.due; held = tt; few = is.few; ending = is.ending; ends = is.ends; line = is.line; texts = is.texts }
+  sought-half calls.Else h is = record { pending_act = is.pending_act; held = else-held (slice_get h.notes.answers 0); few = is.few; ending = is.ending; ends = is.ends; line = is.line; texts = is.texts }
+  sought-half c h is = record { pending_act = is.pending_act; held = tt; few = is.few; ending = is.ending; ends = is.ends; line = is.line; texts = is.texts }
 
   spliced-half : (c : Bool) (v : Stored Resume) (r : Reader) → IsHalf set r.half → IsHalf set (splicing c v r).reader.half
-  spliced-half true v r h = next-half dues.Look r.half tt h
-  spliced-half false v r h = next-half dues.Look r.half tt h
+  spliced-half true v r h = next-half pending_acts.Look r.half tt h
+  spliced-half false v r h = next-half pending_acts.Look r.half tt h
 
-  acted-half : (d : Due) (v : Stored Resume) (r : Reader) → r.half.reading.due ≡ d → IsHalf set r.half → IsHalf set (act_due d v r).reader.half
-  acted-half dues.Look v r is h = h
-  acted-half dues.Begin v r is h = next-half dues.Look r.half tt h
-  acted-half (dues.Add b) v r is h = next-half dues.Look r.half tt h
-  acted-half (dues.Release held n b) v r is h =
-      let due : IsDue set (dues.Release held n b) = subst (IsDue set) is h.due in
-      next-half (after_held held n b) r.half (held-due held n b due.0 due.1) h
-  acted-half dues.Define v r is h = next-half dues.Look r.half tt h
-  acted-half dues.DefineAndCall v r is h =
-      next-half (if is_empty r.half.notes.defining.ending then dues.Look else dues.CallEnding) r.half (test-due (is_empty r.half.notes.defining.ending) dues.Look dues.CallEnding tt tt) h
-  acted-half dues.CallEnding v r is h =
+  acted-half : (d : PendingAct) (v : Stored Resume) (r : Reader) → r.half.reading.pending_act ≡ d → IsHalf set r.half → IsHalf set (act_pending d v r).reader.half
+  acted-half pending_acts.Look v r is h = h
+  acted-half pending_acts.Begin v r is h = next-half pending_acts.Look r.half tt h
+  acted-half (pending_acts.Add b) v r is h = next-half pending_acts.Look r.half tt h
+  acted-half (pending_acts.Release held n b) v r is h =
+      let pending_act : IsPending set (pending_acts.Release held n b) = subst (IsPending set) is h.pending_act in
+      next-half (after_held held n b) r.half (held-pending_act held n b pending_act.0 pending_act.1) h
+  acted-half pending_acts.Define v r is h = next-half pending_acts.Look r.half tt h
+  acted-half pending_acts.DefineAndCall v r is h =
+      next-half (if is_empty r.half.notes.defining.ending then pending_acts.Look else pending_acts.CallEnding) r.half (test-pending_act (is_empty r.half.notes.defining.ending) pending_acts.Look pending_acts.CallEnding tt tt) h
+  acted-half pending_acts.CallEnding v r is h =
       let name = r.half.notes.defining.ending in
       spliced-half (has_text name v) (entered name (words (find name v.names)) None v) r h
-  acted-half dues.Splice v r is h =
+  acted-half pending_acts.Splice v r is h =
       let name = r.half.notes.asked in
       spliced-half (has_text name v) (entered name (words (find name v.names)) None v) r h
-  acted-half (dues.Register signs.None) v r is h = next-half dues.Look r.half tt h
-  acted-half (dues.Register signs.Plus) v r is h = next-half (dues.Register signs.None) r.half tt h
-  acted-half (dues.Register signs.Minus) v r is h = next-half (dues.Register signs.None) r.half tt h
-  acted-half (dues.Argument n) v r is h = next-half dues.Look r.half tt h
-  acted-half (dues.Put b) v r is h = next-half dues.Look r.half tt h
-  acted-half dues.EndArgument v r is h = next-half dues.Look r.half tt h
-  acted-half dues.Call v r is h = spliced-half (has_text (name_in r) v) (called (name_in r) (words (find (name_in r) v.names)) v) r h
-  acted-half dues.Seek v r is h = sought-half (calls_of (meaning_in v r)) (next dues.Look r.half) (next-half dues.Look r.half tt h)
-  acted-half (dues.Judge b) v r is h = record { due = tt; held = part-held set (answer_of b r.half.notes); few = h.few; ending = h.ending; ends = h.ends; line = h.line; texts = h.texts }
-  acted-half (dues.Lead n) v r is h = next-half (if nat_le n 1 then dues.Look else dues.Lead (n - 1)) r.half (test-due (nat_le n 1) dues.Look (dues.Lead (n - 1)) tt tt) h
-  acted-half dues.Expanded v r is h = absurd (subst (IsDue set) is h.due)
+  acted-half (pending_acts.Register signs.None) v r is h = next-half pending_acts.Look r.half tt h
+  acted-half (pending_acts.Register signs.Plus) v r is h = next-half (pending_acts.Register signs.None) r.half tt h
+  acted-half (pending_acts.Register signs.Minus) v r is h = next-half (pending_acts.Register signs.None) r.half tt h
+  acted-half (pending_acts.Argument n) v r is h = next-half pending_acts.Look r.half tt h
+  acted-half (pending_acts.Put b) v r is h = next-half pending_acts.Look r.half tt h
+  acted-half pending_acts.EndArgument v r is h = next-half pending_acts.Look r.half tt h
+  acted-half pending_acts.Call v r is h = spliced-half (has_text (name_in r) v) (called (name_in r) (words (find (name_in r) v.names)) v) r h
+  acted-half pending_acts.Seek v r is h = sought-half (calls_of (meaning_in v r)) (next pending_acts.Look r.half) (next-half pending_acts.Look r.half tt h)
+  acted-half (pending_acts.Judge b) v r is h = record { pending_act = tt; held = part-held set (answer_of b r.half.notes); few = h.few; ending = h.ending; ends = h.ends; line = h.line; texts = h.texts }
+  acted-half (pending_acts.Lead n) v r is h = next-half (if nat_le n 1 then pending_acts.Look else pending_acts.Lead (n - 1)) r.half (test-pending_act (nat_le n 1) pending_acts.Look (pending_acts.Lead (n - 1)) tt tt) h
+  acted-half pending_acts.Expanded v r is h = absurd (subst (IsPending set) is h.pending_act)
 
   moved-half : (c : Bool) (q : Situation Resume) → AreAmong set q.coming.supply.bytes → AreStored set q.stored → IsHalf set q.reader.half → IsHalf set (if c then look q else acted_at q).situation.reader.half
   moved-half true q coming h half =
-      let f = front (shown q.stored.levels) q.coming in
-      let m = meet f q.reader.half in
-      met-half m.takes m q (meet-told set f q.reader.half half (front-printed set q.stored.levels q.coming coming h.levels)).half
-  moved-half false q coming h half = acted-half q.reader.half.reading.due q.stored q.reader refl half
+      let f = next_item (shown q.stored.levels) q.coming in
+      let m = take_in f q.reader.half in
+      taken_in-half m.takes m q (take_in-emitted set f q.reader.half half (next_item-printed set q.stored.levels q.coming coming h.levels)).half
+  moved-half false q coming h half = acted-half q.reader.half.reading.pending_act q.stored q.reader refl half
 
   record IsClear (f : Formatter) : Type 0 where
     kept : IsKept set f
@@ -374,11 +374,11 @@ module _ (set : ℕ → Bool) where
   standing-held standings.Text = tt
   standing-held standings.Continued = tt
 
-  told-clear : (t : Told Resume) (f : Formatter) → IsKept set f → f.springs ≡ None → IsToldIn f.reader.half.reading.mode t → IsClear (told t f)
-  told-clear (tells.Event e) f h calm is =
+  emitted-clear : (t : Emitted Resume) (f : Formatter) → IsKept set f → f.springs ≡ None → IsEmittedIn f.reader.half.reading.mode t → IsClear (emitted t f)
+  emitted-clear (tells.Event e) f h calm is =
       record { kept = record { stored = h.stored; lined = h.lined; tab = h.tab; leader = h.leader; half = h.half }; awaited = awaits f.springs e f.reader.half.reading.mode calm is }
-  told-clear (tells.Resume k) f h calm is =
-      record { kept = record { stored = h.stored; lined = h.lined; tab = h.tab; leader = h.leader; half = record { due = h.half.due; held = standing-held k.standing; few = h.half.few; ending = h.half.ending; ends = h.half.ends; line = All-take (IsAmong set) 256 k.line is; texts = h.half.texts } }; awaited = quiet f.springs events.Nothing (mode_of k.standing) refl }
+  emitted-clear (tells.Resume k) f h calm is =
+      record { kept = record { stored = h.stored; lined = h.lined; tab = h.tab; leader = h.leader; half = record { pending_act = h.half.pending_act; held = standing-held k.standing; few = h.half.few; ending = h.half.ending; ends = h.half.ends; line = All-take (IsAmong set) 256 k.line is; texts = h.half.texts } }; awaited = quiet f.springs events.Nothing (mode_of k.standing) refl }
 
   with-formatter : (s t : State) → IsClean s → t.row ≡ s.row → t.lines ≡ s.lines → t.pages ≡ s.pages → AreAmong set t.coming.supply.bytes → IsClear t.formatter → AreClear t
   with-formatter s t clean row lines pages coming h =
@@ -394,8 +394,8 @@ module _ (set : ℕ → Bool) where
       let m = input_move q in
       let stored : AreStored set m.situation.stored = moved-stored (looks q) q h.stored h.half in
       with-formatter s (read s) clean refl refl refl (moved-coming (looks q) q clean.coming)
-      (told-clear m.told (record s.formatter { store = m.situation.stored; reader = m.situation.reader })
-      (record { stored = stored; lined = h.lined; tab = h.tab; leader = h.leader; half = moved-half (looks q) q clean.coming h.stored h.half }) calm (moved-told (looks q) q clean.coming h.stored h.half))
+      (emitted-clear m.emitted (record s.formatter { store = m.situation.stored; reader = m.situation.reader })
+      (record { stored = stored; lined = h.lined; tab = h.tab; leader = h.leader; half = moved-half (looks q) q clean.coming h.stored h.half }) calm (moved-emitted (looks q) q clean.coming h.stored h.half))
 
   -- ---- a move
 
@@ -498,7 +498,7 @@ module _ (set : ℕ → Bool) where
           lined = record { pieces = All-nil (IsSet set); word = tt; title = tt };
           tab = tt;
           leader = refl;
-          half = record { due = tt; held = tt; few = omega arith; ending = omega arith; ends = All-nil (IsAmong set); line = All-nil (IsAmong set); texts = none-texts set };
+          half = record { pending_act = tt; held = tt; few = omega arith; ending = omega arith; ends = All-nil (IsAmong set); line = All-nil (IsAmong set); texts = none-texts set };
         };
         awaited = tt;
       }

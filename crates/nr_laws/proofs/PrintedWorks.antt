@@ -7,8 +7,8 @@ use Rattle.std.proofs.lemmas.List.Elements.{All-nil, All-cons, All-head, All-tai
 use Rattle.std.proofs.Common.{◌≡◌, ℕ, ◌==◌, Bool, true, false, if◌then◌else◌, List, [], ◌∷◌, Option, None, Some, refl, subst, ◌∙◌}
 use Rattle.nr_vectors.specs.declared.cell.Cell.{Cell}
 use Rattle.nr_units.specs.NumberText.{number_text}
-use Rattle.nr_fill.specs.declared.piece.Behind.{Behind}
-use Rattle.nr_fill.specs.declared.piece.Behind.TheVariants.{Letter, Hyphen}
+use Rattle.nr_fill.specs.declared.piece.CutAfter.{CutAfter}
+use Rattle.nr_fill.specs.declared.piece.CutAfter.TheVariants.{Letter, Hyphen}
 use Rattle.nr_fill.specs.declared.piece.Point.{Point}
 use Rattle.nr_fill.specs.declared.piece.Point.TheVariants as points
 use Rattle.nr_fill.specs.Piece.{Collected, Word, Piece, add_cell, add_cells, add_blank, marked, pointed_here, barred_here, without_blanks, hyphenated, joined, may_hyphenate, with_title_cell}
@@ -28,8 +28,8 @@ use Rattle.nr_levels.specs.Gathering.{Gathered}
 use Rattle.nr_store.specs.declared.element.Diversion.{Diversion}
 use Rattle.nr_store.specs.Store.{Built, Level, Means, Shared, reading_bytes}
 use Rattle.nr_reading.specs.declared.ask.Ask.{Ask}
-use Rattle.nr_reading.specs.declared.mode.Due.{Due}
-use Rattle.nr_reading.specs.declared.mode.Due.TheVariants as dues
+use Rattle.nr_reading.specs.declared.mode.PendingAct.{PendingAct}
+use Rattle.nr_reading.specs.declared.mode.PendingAct.TheVariants as pending_acts
 use Rattle.nr_symbol_tables.specs.Table.{Named}
 use Rattle.nr_reading.specs.declared.event.Event.{Event}
 use Rattle.nr_reading.specs.declared.event.Event.TheVariants as events
@@ -56,7 +56,7 @@ use Rattle.nr_formatter.specs.declared.built_in.BuiltInRegister.TheVariants as g
 use Rattle.nr_formatter.specs.Text as texts
 use Rattle.nr_formatter.specs.Titles as titles
 use Rattle.nr_laws.proofs.PrintedLines.{IsAmong, AreAmong, IsShown, IsPrinted, ArePrinted, IsLined, Lined, either, add_cell-lined, add_cells-lined, add_blank-lined, marked-lined, named-lined, barred-lined, hyphenated-lined, joined-lined, without_blanks-lined, end_word-lined, tabbed-lined, filled-lined, with_title_cell-lined, with_title-lined, with_part_ended-lined}
-use Rattle.nr_laws.proofs.PrintedFronts.{IfAmong}
+use Rattle.nr_laws.proofs.PrintedItems.{IfAmong}
 use Rattle.nr_laws.proofs.PrintedNumbers.{IsAscii, AreAscii, decimal-printed, number-printed}
 use Rattle.nr_laws.proofs.PrintedStores.{AreStored, IsNamed, Stores, ascii-stored, bytes-stored, innermost-named}
 use Rattle.nr_laws.proofs.PrintedDirect.{IsByte, IsHeard, IsHeld, Halved}
@@ -124,7 +124,7 @@ module _ (set : ℕ → Bool) where
 
   -- ---- a formatter
 
-  pub record Kept (ns : List (Named Means)) (bs : List Built) (ls : List (Level Resume)) (ps : List Piece) (w : Option Word) (t : Option Title) (b l : Option ℕ) (ts : List Shared) (ws : List (List ℕ)) (g : Gathered) (d : Due) (m : Mode) (asks : List Ask) (name x : List ℕ) (y : Texts) : Type 0 where
+  pub record Kept (ns : List (Named Means)) (bs : List Built) (ls : List (Level Resume)) (ps : List Piece) (w : Option Word) (t : Option Title) (b l : Option ℕ) (ts : List Shared) (ws : List (List ℕ)) (g : Gathered) (d : PendingAct) (m : Mode) (asks : List Ask) (name x : List ℕ) (y : Texts) : Type 0 where
     pub stored : Stores set ns bs ls ts ws g
     pub lined : Lined set ps w t
     pub tab : IsFiller b
@@ -134,7 +134,7 @@ module _ (set : ℕ → Bool) where
   abbrev pub IsKept : Formatter → Type 0
   IsKept f =
       Kept f.store.names f.store.building f.store.levels (collected f).pieces (collected f).word (collected f).title f.settings.tabs.tab f.settings.tabs.leader
-      f.store.texts f.store.arguments f.store.gathered f.reader.half.reading.due f.reader.half.reading.mode f.reader.half.asks f.reader.half.notes.defining.ending f.reader.half.notes.line f.reader.half.delimited
+      f.store.texts f.store.arguments f.store.gathered f.reader.half.reading.pending_act f.reader.half.reading.mode f.reader.half.asks f.reader.half.notes.defining.ending f.reader.half.notes.line f.reader.half.delimited
 
   -- what was heard was put somewhere, or is still to be heard
   pub record Hearing (f : Formatter) : Type 0 where
@@ -143,8 +143,8 @@ module _ (set : ℕ → Bool) where
     pub calm : f.springs ≡ None
 
   -- a text that is spliced is read next
-  spliced-half : {d : Due} {m : Mode} {asks : List Ask} {name x : List ℕ} {y : Texts} → Halved set d m asks name x y → Halved set dues.Look m asks name x y
-  spliced-half h = record { due = tt; held = h.held; few = h.few; ending = h.ending; ends = h.ends; line = h.line; texts = h.texts }
+  spliced-half : {d : PendingAct} {m : Mode} {asks : List Ask} {name x : List ℕ} {y : Texts} → Halved set d m asks name x y → Halved set pending_acts.Look m asks name x y
+  spliced-half h = record { pending_act = tt; held = h.held; few = h.few; ending = h.ending; ends = h.ends; line = h.line; texts = h.texts }
 
   kept-with : (f : Formatter) (c : Collected) → IsKept f → IsLined set c → IsKept (with_collected c f)
   kept-with f c h is = record { stored = h.stored; lined = is; tab = h.tab; leader = h.leader; half = h.half }
@@ -156,7 +156,7 @@ module _ (set : ℕ → Bool) where
   put-word : (add : Margins → Collected → Collected) (f : Formatter) → Hearing f → IsLined set (add (margins f) (collected f)) → Hearing (texts.to_word add f)
   put-word add f h is = record { kept = record { stored = h.kept.stored; lined = is; tab = h.kept.tab; leader = h.kept.leader; half = h.kept.half }; heard = tt; calm = h.calm }
 
-  put-cell : (x : Cell) (b : Behind) (f : Formatter) → IsPrinted set x → Hearing f → Hearing (texts.put x b f)
+  put-cell : (x : Cell) (b : CutAfter) (f : Formatter) → IsPrinted set x → Hearing f → Hearing (texts.put x b f)
   put-cell x b f is h = put-word (λ m. add_cell m b x) f h (add_cell-lined set (margins f) b x (collected f) is h.kept.lined)
 
   done-hearing : (f : Formatter) → Hearing f → Hearing (done f)
@@ -383,7 +383,7 @@ module _ (set : ℕ → Bool) where
   beside-hearing (events.Judge q) f h =
       let found = answer_of (conditions.holds q f) f.reader.half.notes in
       record {
-        kept = record { stored = h.kept.stored; lined = h.kept.lined; tab = h.kept.tab; leader = h.kept.leader; half = record { due = h.kept.half.due; held = part-held found; few = h.kept.half.few; ending = h.kept.half.ending; ends = h.kept.half.ends; line = h.kept.half.line; texts = h.kept.half.texts } };
+        kept = record { stored = h.kept.stored; lined = h.kept.lined; tab = h.kept.tab; leader = h.kept.leader; half = record { pending_act = h.kept.half.pending_act; held = part-held found; few = h.kept.half.few; ending = h.kept.half.ending; ends = h.kept.half.ends; line = h.kept.half.line; texts = h.kept.half.texts } };
         heard = tt;
         calm = h.calm;
       }

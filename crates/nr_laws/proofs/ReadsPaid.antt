@@ -7,25 +7,25 @@ use Rattle.nr_store.specs.declared.element.Diversion.{Diversion}
 use Rattle.nr_store.specs.declared.element.Element.{Element}
 use Rattle.nr_store.specs.declared.shown.Shown.{Shown}
 use Rattle.nr_store.specs.declared.shown.Shown.TheVariants as shows
-use Rattle.nr_reading.specs.Half.{Met, meet}
+use Rattle.nr_reading.specs.Half.{TakenIn, take_in}
 use Rattle.nr_reading.specs.Weights.{PaysFor, cost_of_event, blanks_owed}
 use Rattle.nr_reading.specs.declared.event.Event.{Event}
 use Rattle.nr_reading.specs.declared.event.Event.TheVariants as events
 use Rattle.nr_reading.proofs.Paying.{pays_for}
 use Rattle.nr_input.specs.Acting.{is_look}
-use Rattle.nr_input.specs.Moving.{Situation, looks, look, taken_at, stays_at, acted_at, acting, answer_at, burst_past, told_of, move as input_move}
+use Rattle.nr_input.specs.Moving.{Situation, looks, look, taken_at, stays_at, acted_at, acting, answer_at, burst_past, emitted_of, move as input_move}
 use Rattle.nr_input.specs.Moving as input
-use Rattle.nr_input.specs.Place.{Coming, Reached, StaysThere, front, front_of, behind, after_front_of, front_seen, seen_front, passed_in, passed_by}
+use Rattle.nr_input.specs.Place.{Coming, Reached, StaysThere, next_item, next_item_of, afterwards, after_item_of, next_item_seen, seen_item, passed_in, passed_by}
 use Rattle.nr_input.specs.Refusal.{acted_by}
 use Rattle.nr_input.specs.Weights.{Pays, IfLead, byte_worth, newline_left, diversions_in, diversions_of, count_of_diversion}
 use Rattle.nr_input.specs.declared.place.Ahead.{Ahead}
 use Rattle.nr_input.specs.declared.place.Ahead.TheVariants as aheads
 use Rattle.nr_input.specs.declared.reader.Reader.{Reader}
-use Rattle.nr_input.specs.declared.told.Told.{Told}
-use Rattle.nr_input.specs.declared.told.Told.TheVariants as tells
+use Rattle.nr_input.specs.declared.emitted.Emitted.{Emitted}
+use Rattle.nr_input.specs.declared.emitted.Emitted.TheVariants as tells
 use Rattle.nr_input.proofs.Spending.{act_pays}
 use Rattle.nr_input.proofs.Staying.{act_begins_none}
-use Rattle.nr_input.proofs.Taking.{look_takes, look_leaves, due_look}
+use Rattle.nr_input.proofs.Taking.{look_takes, look_leaves, pending_look}
 use Rattle.nr_formatter.specs.Springing.{resumed}
 use Rattle.nr_formatter.specs.Weights.{Falls, weight, steps_left, owed, owed_by_event, owed_by_task, weight_of_agenda, weight_of_diversion, weight_of_built, weight_of_diversions}
 use Rattle.nr_formatter.specs.declared.formatter.Formatter.{Formatter}
@@ -34,7 +34,7 @@ use Rattle.nr_formatter.specs.declared.tasks.Step.{Step}
 use Rattle.nr_formatter.specs.declared.tasks.Task.TheVariants as tasks
 use Rattle.nr_formatter.proofs.InputFalls.{falls-resumed}
 use Rattle.nr_machine.specs.State.{State}
-use Rattle.nr_machine.specs.Machine.{read, situation_of, told, with_situation}
+use Rattle.nr_machine.specs.Machine.{read, situation_of, emitted, with_situation}
 
 -- ---- how a program would stand before what is to come, having looked at it
 
@@ -74,9 +74,9 @@ pub record Paid (s t : State) : Type 0 where
   pub pays : may_come t + 1 + worth s * s.coming.taken ≤ may_come s + worth s * t.coming.taken
   pub fresh : t.coming.taken ≢ s.coming.taken → IsFresh s t
 
--- ---- what is told is paid
+-- ---- what is emitted is paid
 
--- a blank of a line's beginning is told out of the blanks that are owed
+-- a blank of a line's beginning is emitted out of the blanks that are owed
 abbrev pub lead_of : Event → ℕ
 lead_of events.Lead = 178
 lead_of e = 0
@@ -109,15 +109,15 @@ unfolding weight steps_left owed
 event_spends p q f v r e idle task pays fewer =
     let before : weight_of_agenda f.event f.task f.step ≡ 4 = rw (idle, task) refl in
     let owed_before : owed_by_event f.event + owed_by_task f.task f.reader.half ≡ 0 = rw (idle, task) refl in
-    let behind_it : weight_of_agenda e f.task f.step ≡ weight_of_agenda e tasks.Read f.step = rw task refl in
-    let owed_behind : owed_by_task f.task r.half ≡ 0 = rw task refl in
+    let after_that : weight_of_agenda e f.task f.step ≡ weight_of_agenda e tasks.Read f.step = rw task refl in
+    let owed_afterwards : owed_by_task f.task r.half ≡ 0 = rw task refl in
     let paid = pays.pays (byte_worth f.reader.most f.store.limit) (omega arith) in
     omega (
       arith,
       before,
       owed_before,
-      behind_it,
-      owed_behind,
+      after_that,
+      owed_afterwards,
       paid,
       event_paid e f.step,
       blanks_paid e (blanks_owed f.reader.half) (blanks_owed r.half) pays.lead,
@@ -134,14 +134,14 @@ unfolding weight steps_left owed
 resume_spends p q f g v r k idle task pays fewer falls =
     let w = byte_worth f.reader.most f.store.limit in
     let owed_before : owed_by_event f.event + owed_by_task f.task f.reader.half ≡ 0 = rw (idle, task) refl in
-    let owed_behind : owed_by_event f.event + owed_by_task f.task r.half ≡ 0 = rw (idle, task) refl in
-    omega (arith, owed_before, owed_behind, falls.falls q, pays.pays w (omega arith), same_count v.building, same_count f.store.building, fewer)
+    let owed_afterwards : owed_by_event f.event + owed_by_task f.task r.half ≡ 0 = rw (idle, task) refl in
+    omega (arith, owed_before, owed_afterwards, falls.falls q, pays.pays w (omega arith), same_count v.building, same_count f.store.building, fewer)
 
 -- the state after it
-told_paid : (s : State) (t : Told Resume) (v : Stored Resume) (c : Coming) (q : Reached) (r : Reader) → s.chosen ≡ [] → (c.taken ≢ s.coming.taken → (v.levels ≡ []) × (r.burst ≡ 0)) → s.formatter.event ≡ events.Nothing → s.formatter.task ≡ tasks.Read
+emitted_paid : (s : State) (t : Emitted Resume) (v : Stored Resume) (c : Coming) (q : Reached) (r : Reader) → s.chosen ≡ [] → (c.taken ≢ s.coming.taken → (v.levels ≡ []) × (r.burst ≡ 0)) → s.formatter.event ≡ events.Nothing → s.formatter.task ≡ tasks.Read
     → Pays s.formatter.store (reached s.coming) s.formatter.reader t v q r → diversions_in v.building ≤ diversions_in s.formatter.store.building
-    → q.taken ≡ c.taken → q.inside ≡ c.inside → Paid s (record s { coming = c; formatter = told t (record s.formatter { store = v; reader = r }) })
-told_paid s (tells.Event e) v c q r chosen fresh idle task pays fewer taken inside = record {
+    → q.taken ≡ c.taken → q.inside ≡ c.inside → Paid s (record s { coming = c; formatter = emitted t (record s.formatter { store = v; reader = r }) })
+emitted_paid s (tells.Event e) v c q r chosen fresh idle task pays fewer taken inside = record {
   limit = pays.limit;
   most = pays.most;
   pays =
@@ -151,7 +151,7 @@ told_paid s (tells.Event e) v c q r chosen fresh idle task pays fewer taken insi
       omega (arith, spent, same, bytes);
   fresh = λ other. record { idle = idle; task = task; chosen = chosen; levels = (fresh other).0; burst = (fresh other).1 };
 }
-told_paid s (tells.Resume k) v c q r chosen fresh idle task pays fewer taken inside = record {
+emitted_paid s (tells.Resume k) v c q r chosen fresh idle task pays fewer taken inside = record {
   limit = pays.limit;
   most = pays.most;
   pays =
@@ -163,28 +163,28 @@ told_paid s (tells.Resume k) v c q r chosen fresh idle task pays fewer taken ins
   fresh = λ other. record { idle = idle; task = task; chosen = chosen; levels = (fresh other).0; burst = (fresh other).1 };
 }
 
--- ---- the item in front
+-- ---- the next item
 
-front_bytes : (bs : List ℕ) (inside : Bool) → front_of bs inside ≡ seen_front (ahead_of bs) inside
-front_bytes [] true = refl
-front_bytes [] false = refl
-front_bytes (b ∷ bs) inside = refl
+next_item_bytes : (bs : List ℕ) (inside : Bool) → next_item_of bs inside ≡ seen_item (ahead_of bs) inside
+next_item_bytes [] true = refl
+next_item_bytes [] false = refl
+next_item_bytes (b ∷ bs) inside = refl
 
-pub front_same : (sh : Shown Resume) (c : Coming) → front sh c ≡ front_seen sh (reached c)
-front_same shows.Nothing c = front_bytes c.supply.bytes c.inside
-front_same sh c = refl
+pub next_item_same : (sh : Shown Resume) (c : Coming) → next_item sh c ≡ next_item_seen sh (reached c)
+next_item_same shows.Nothing c = next_item_bytes c.supply.bytes c.inside
+next_item_same sh c = refl
 
 -- the place after it
 abbrev pub AreSame : Reached → Coming → Type 0
 AreSame p c = (p.taken ≡ c.taken) × (p.inside ≡ c.inside)
 
-behind_bytes : (bs : List ℕ) (c : Coming) → AreSame (passed_by (ahead_of bs) (reached c)) (after_front_of bs c)
-behind_bytes [] c = (refl, refl)
-behind_bytes (b ∷ bs) c = (refl, refl)
+after_bytes : (bs : List ℕ) (c : Coming) → AreSame (passed_by (ahead_of bs) (reached c)) (after_item_of bs c)
+after_bytes [] c = (refl, refl)
+after_bytes (b ∷ bs) c = (refl, refl)
 
-pub behind_same : (sh : Shown Resume) (c : Coming) → AreSame (passed_in sh (reached c)) (behind sh c)
-behind_same shows.Nothing c = behind_bytes c.supply.bytes c
-behind_same sh c = (refl, refl)
+pub after_same : (sh : Shown Resume) (c : Coming) → AreSame (passed_in sh (reached c)) (afterwards sh c)
+after_same shows.Nothing c = after_bytes c.supply.bytes c
+after_same sh c = (refl, refl)
 
 text_built : (xs : List Element) (l : Reading Resume) (ls : List (Level Resume)) (v : Stored Resume) → (left_of xs l ls v).building ≡ v.building
 text_built [] l ls v = refl
@@ -195,12 +195,12 @@ left_built [] v = refl
 left_built (Read l ∷ ls) v = text_built l.rest l ls v
 left_built (Mark k ∷ ls) v = refl
 
-text_stays : (xs : List Element) (c : Coming) → (behind (shown_of {K = Resume} xs) c).taken ≢ c.taken → ⊥
+text_stays : (xs : List Element) (c : Coming) → (afterwards (shown_of {K = Resume} xs) c).taken ≢ c.taken → ⊥
 text_stays [] c other = other refl
 text_stays (x ∷ xs) c other = other refl
 
 -- a byte is taken only where there is no level
-no_level : (ls : List (Level Resume)) (v : Stored Resume) (c : Coming) → v.levels ≡ ls → (behind (shown ls) c).taken ≢ c.taken → (left ls v).levels ≡ []
+no_level : (ls : List (Level Resume)) (v : Stored Resume) (c : Coming) → v.levels ≡ ls → (afterwards (shown ls) c).taken ≢ c.taken → (left ls v).levels ≡ []
 no_level [] v c is other = is
 no_level (Read l ∷ ls) v c is other = absurd (text_stays l.rest c other)
 no_level (Mark k ∷ ls) v c is other = absurd (other refl)
@@ -214,8 +214,8 @@ stays_there p = record { taken = refl; inside = refl }
 
 -- ---- a look
 
-look_at : (b : Bool) (m : Met) (s : State) → s.chosen ≡ [] → m.takes ≡ b → is_look s.formatter.reader.half.reading.due ≡ true → s.formatter.event ≡ events.Nothing → s.formatter.task ≡ tasks.Read
-    → PaysFor (front (shown s.formatter.store.levels) s.coming) s.formatter.reader.half m.half (record { event = m.event; takes = m.takes })
+look_at : (b : Bool) (m : TakenIn) (s : State) → s.chosen ≡ [] → m.takes ≡ b → is_look s.formatter.reader.half.reading.pending_act ≡ true → s.formatter.event ≡ events.Nothing → s.formatter.task ≡ tasks.Read
+    → PaysFor (next_item (shown s.formatter.store.levels) s.coming) s.formatter.reader.half m.half (record { event = m.event; takes = m.takes })
     → Paid s (with_situation (if b then taken_at m (situation_of s) else stays_at m (situation_of s)) s)
 look_at true m s chosen takes looking idle task pays =
     let v = s.formatter.store in
@@ -223,33 +223,33 @@ look_at true m s chosen takes looking idle task pays =
     let r = s.formatter.reader in
     let p = reached s.coming in
     let n = passed_in sh p in
-    let c = behind sh s.coming in
-    let same = behind_same sh s.coming in
+    let c = afterwards sh s.coming in
+    let same = after_same sh s.coming in
     let burst = ap (λ k. burst_past s.coming.taken k r.burst) (sym same.0) in
     let fewer : diversions_in (left v.levels v).building ≤ diversions_in v.building = let built = ap diversions_in (left_built v.levels v) in omega arith in
-    told_paid s (told_of sh m.event) (left v.levels v) c n (record r { half = m.half; burst = burst_past s.coming.taken c.taken r.burst }) chosen
+    emitted_paid s (emitted_of sh m.event) (left v.levels v) c n (record r { half = m.half; burst = burst_past s.coming.taken c.taken r.burst }) chosen
     (λ other. (no_level v.levels v s.coming refl other, no_burst (c.taken == s.coming.taken) s.coming.taken c.taken r.burst refl other)) idle task
-    (look_takes v (left v.levels v) p p n r (front sh s.coming) m.half (record { event = m.event; takes = m.takes }) (burst_past s.coming.taken c.taken r.burst) (told_of sh m.event)
-    looking (stays_there p) (front_same sh s.coming) (λ look. pays) takes refl refl burst refl)
+    (look_takes v (left v.levels v) p p n r (next_item sh s.coming) m.half (record { event = m.event; takes = m.takes }) (burst_past s.coming.taken c.taken r.burst) (emitted_of sh m.event)
+    looking (stays_there p) (next_item_same sh s.coming) (λ look. pays) takes refl refl burst refl)
     fewer same.0 same.1
 look_at false m s chosen takes looking idle task pays =
     let v = s.formatter.store in
     let r = s.formatter.reader in
     let p = reached s.coming in
-    told_paid s (tells.Event m.event) v s.coming p (record r { half = m.half }) chosen (λ other. absurd (other refl)) idle task
-    (look_leaves v p p r (front (shown v.levels) s.coming) m.half (record { event = m.event; takes = m.takes }) looking (stays_there p) (λ look. pays) takes)
+    emitted_paid s (tells.Event m.event) v s.coming p (record r { half = m.half }) chosen (λ other. absurd (other refl)) idle task
+    (look_leaves v p p r (next_item (shown v.levels) s.coming) m.half (record { event = m.event; takes = m.takes }) looking (stays_there p) (λ look. pays) takes)
     (omega arith) refl refl
 
--- ---- what is due
+-- ---- what is pending
 
-due_paid : (s : State) → s.chosen ≡ [] → is_look s.formatter.reader.half.reading.due ≡ false → s.formatter.event ≡ events.Nothing → s.formatter.task ≡ tasks.Read → answer_at (situation_of s) ≡ Ok tt
+pending_paid : (s : State) → s.chosen ≡ [] → is_look s.formatter.reader.half.reading.pending_act ≡ false → s.formatter.event ≡ events.Nothing → s.formatter.task ≡ tasks.Read → answer_at (situation_of s) ≡ Ok tt
     → Paid s (with_situation (acted_at (situation_of s)) s)
-due_paid s chosen looking idle task ok =
+pending_paid s chosen looking idle task ok =
     let v = s.formatter.store in
     let r = s.formatter.reader in
     let a = acting (situation_of s) in
     let is = ap (λ x. acted_by x a v r) (sym ok) in
-    told_paid s (tells.Event a.event) a.stored s.coming (reached s.coming) a.reader chosen (λ other. absurd (other refl)) idle task
+    emitted_paid s (tells.Event a.event) a.stored s.coming (reached s.coming) a.reader chosen (λ other. absurd (other refl)) idle task
     (act_pays v a.stored (reached s.coming) r a.reader a.event (λ look. let wrong : true ≡ false = sym (ap is_look look) ∙ looking in cc) is)
     (act_begins_none v a.stored r a.reader (Ok a.event) is) refl refl
 
@@ -259,10 +259,10 @@ moved_by : (b : Bool) (s : State) → s.chosen ≡ [] → looks (situation_of s)
     → Paid s (with_situation (if b then look (situation_of s) else acted_at (situation_of s)) s)
 moved_by true s chosen looking idle task goes =
     let h = s.formatter.reader.half in
-    let f = front (shown s.formatter.store.levels) s.coming in
-    let m = meet f h in
-    look_at m.takes m s chosen refl looking idle task (pays_for f h m.half (record { event = m.event; takes = m.takes }) refl (due_look h.reading.due looking))
-moved_by false s chosen looking idle task goes = due_paid s chosen looking idle task goes
+    let f = next_item (shown s.formatter.store.levels) s.coming in
+    let m = take_in f h in
+    look_at m.takes m s chosen refl looking idle task (pays_for f h m.half (record { event = m.event; takes = m.takes }) refl (pending_look h.reading.pending_act looking))
+moved_by false s chosen looking idle task goes = pending_paid s chosen looking idle task goes
 
 pub read-paid : (s : State) → s.chosen ≡ [] → s.formatter.event ≡ events.Nothing → s.formatter.task ≡ tasks.Read → input.Goes (situation_of s) → Paid s (read s)
 read-paid s chosen idle task goes = moved_by (looks (situation_of s)) s chosen refl idle task goes

@@ -7,8 +7,8 @@ use Rattle.nr_page.specs.Grid.{page_charge}
 use Rattle.nr_store.specs.Store.{Stored, charge_of, shown}
 use Rattle.nr_store.specs.declared.refusal.Refusal.TheVariants as stores
 use Rattle.nr_reading.specs.declared.ask.Sign.TheVariants as signs
-use Rattle.nr_reading.specs.declared.mode.Due.{Due}
-use Rattle.nr_reading.specs.declared.mode.Due.TheVariants as dues
+use Rattle.nr_reading.specs.declared.mode.PendingAct.{PendingAct}
+use Rattle.nr_reading.specs.declared.mode.PendingAct.TheVariants as pending_acts
 use Rattle.nr_input.specs.Acting.{splicing, act, has_text, name_in}
 use Rattle.nr_input.specs.Moving.{Situation, looks, look, acted_at, acting, answer_at}
 use Rattle.nr_input.specs.Moving as input
@@ -110,15 +110,15 @@ counts_splice : {K : Type 0} (is_text : Bool) (w : Stored K) (r : Reader) → Co
 counts_splice true w r = (refl, refl)
 counts_splice false w r = tt
 
-counts : {K : Type 0} (d : Due) (v : Stored K) (r : Reader) → (d ≡ dues.Expanded → ⊥) → Counts (asking d v r) r (act d v r).reader
-counts dues.CallEnding v r some = counts_splice (has_text r.half.notes.defining.ending v) (act dues.CallEnding v r).stored r
-counts dues.Splice v r some = counts_splice (has_text r.half.notes.asked v) (act dues.Splice v r).stored r
-counts (dues.Register signs.None) v r some = (refl, refl)
-counts (dues.Register signs.Plus) v r some = tt
-counts (dues.Register signs.Minus) v r some = tt
-counts (dues.Argument n) v r some = (refl, refl)
-counts dues.Call v r some = counts_splice (has_text (name_in r) v) (act dues.Call v r).stored r
-counts dues.Expanded v r some = absurd (some refl)
+counts : {K : Type 0} (d : PendingAct) (v : Stored K) (r : Reader) → (d ≡ pending_acts.Expanded → ⊥) → Counts (asking d v r) r (act d v r).reader
+counts pending_acts.CallEnding v r some = counts_splice (has_text r.half.notes.defining.ending v) (act pending_acts.CallEnding v r).stored r
+counts pending_acts.Splice v r some = counts_splice (has_text r.half.notes.asked v) (act pending_acts.Splice v r).stored r
+counts (pending_acts.Register signs.None) v r some = (refl, refl)
+counts (pending_acts.Register signs.Plus) v r some = tt
+counts (pending_acts.Register signs.Minus) v r some = tt
+counts (pending_acts.Argument n) v r some = (refl, refl)
+counts pending_acts.Call v r some = counts_splice (has_text (name_in r) v) (act pending_acts.Call v r).stored r
+counts pending_acts.Expanded v r some = absurd (some refl)
 counts d v r some = tt
 
 full_over : (r s : Reader) → s.burst ≡ r.burst + 1 → s.most ≡ r.most → nat_le r.most r.burst ≡ true → nat_lt s.most s.burst ≡ true
@@ -141,7 +141,7 @@ answer_passes Refused w r s x m counted is refused = absurd counted
 
 -- ---- a move that reads
 
--- the state that what is due leads to
+-- the state that what is pending leads to
 abbrev acted_state : State → State
 acted_state s = with_situation (acted_at (situation_of s)) s
 
@@ -151,20 +151,20 @@ passed_five s within =
     let f = s.formatter in
     rw (le-ltb f.line.limit (line_cells (collected f)) within.formatter.line, le-ltb s.page_limit (page_charge s.lines) within.page) refl
 
-due_passes : (s : State) (x : Refusal) (m : Measure) → IsWithin s → (s.formatter.reader.half.reading.due ≡ dues.Expanded → ⊥) → answer_at (situation_of s) ≡ Err x → IsRefusal m x
+pending_passes : (s : State) (x : Refusal) (m : Measure) → IsWithin s → (s.formatter.reader.half.reading.pending_act ≡ pending_acts.Expanded → ⊥) → answer_at (situation_of s) ≡ Err x → IsRefusal m x
     → passed (acted_state s) ≡ Some m
-due_passes s x m within some is refused =
+pending_passes s x m within some is refused =
     let f = s.formatter in
-    let d = f.reader.half.reading.due in
+    let d = f.reader.half.reading.pending_act in
     passed_five s within
     ∙ answer_passes (asking d f.store f.reader) (act d f.store f.reader).stored f.reader (act d f.store f.reader).reader x m (counts d f.store f.reader some) is refused
 
-read_by : (b : Bool) (s : State) (x : Refusal) (m : Measure) → IsWithin s → (s.formatter.reader.half.reading.due ≡ dues.Expanded → ⊥) → input.RefusesBy b (situation_of s) x → IsRefusal m x
+read_by : (b : Bool) (s : State) (x : Refusal) (m : Measure) → IsWithin s → (s.formatter.reader.half.reading.pending_act ≡ pending_acts.Expanded → ⊥) → input.RefusesBy b (situation_of s) x → IsRefusal m x
     → passed (with_situation (if b then look (situation_of s) else acted_at (situation_of s)) s) ≡ Some m
 read_by true s x m within some is refused = absurd (no_sight (shown s.formatter.store.levels) s.coming x (for_limit m x refused) is)
-read_by false s x m within some is refused = due_passes s x m within some is refused
+read_by false s x m within some is refused = pending_passes s x m within some is refused
 
-passes_by : (k : Kind) (s : State) (m : Measure) → kind s ≡ k → IsWithin s → (s.formatter.reader.half.reading.due ≡ dues.Expanded → ⊥) → PassesBy k s m → passed (step s) ≡ Some m
+passes_by : (k : Kind) (s : State) (m : Measure) → kind s ≡ k → IsWithin s → (s.formatter.reader.half.reading.pending_act ≡ pending_acts.Expanded → ⊥) → PassesBy k s m → passed (step s) ≡ Some m
 passes_by Reads s m is within some h =
     ap passed (reads-step s is) ∙ read_by (looks (situation_of s)) s h.0 m within some h.1 h.2
 passes_by Works s m is within some h = h

@@ -2,8 +2,8 @@
 use Rattle.std.specs.Prelude.{◌≡◌, ◌≢◌, ℕ, ◌≤◌, Bool, true, false, if◌then◌else◌, List, sum_by, Option, None, Some}
 use Rattle.nr_symbol_tables.specs.Table.{find}
 use Rattle.nr_store.specs.Store.{Stored, Means, Shared, is_named, weight_of}
-use Rattle.nr_reading.specs.declared.mode.Due.{Due}
-use Rattle.nr_reading.specs.declared.mode.Due.TheVariants as dues
+use Rattle.nr_reading.specs.declared.mode.PendingAct.{PendingAct}
+use Rattle.nr_reading.specs.declared.mode.PendingAct.TheVariants as pending_acts
 use Rattle.nr_input.specs.Acting.{name_in}
 use Rattle.nr_formatter.specs.declared.tasks.Resume.{Resume}
 use Rattle.nr_machine.specs.State.{State}
@@ -16,13 +16,13 @@ use Rattle.nr_machine.specs.declared.outcome.Measure.{Measure}
 -- it: also a move that reads. It sets out from a state within all limits, in which no splice was refused.
 abbrev pub RefusedIsAbove : Type 0
 RefusedIsAbove =
-    (s : State) (which : Measure) → IsWithin s → s.formatter.reader.half.reading.due ≢ dues.Expanded
+    (s : State) (which : Measure) → IsWithin s → s.formatter.reader.half.reading.pending_act ≢ pending_acts.Expanded
     → Passes s which → passed (step s) ≡ Some which
 
--- what is due gives the text of a definition its name
-abbrev pub names_text : Due → Bool
-names_text dues.Define = true
-names_text dues.DefineAndCall = true
+-- what is pending gives the text of a definition its name
+abbrev pub names_text : PendingAct → Bool
+names_text pending_acts.Define = true
+names_text pending_acts.DefineAndCall = true
 names_text d = false
 
 -- what a name is charged, if anything has it
@@ -42,7 +42,7 @@ IsChargedOnce name v = charge_after name v.texts ≤ charge_under (find name v.n
 -- nothing, since its text was charged while it was built: there the text that gives way has to be charged once.
 abbrev pub AboveIsRefused : Type 0
 AboveIsRefused =
-    (s : State) (which : Measure) → IsWithin s → s.formatter.reader.half.reading.due ≢ dues.Expanded
-    → (names_text s.formatter.reader.half.reading.due ≡ true
+    (s : State) (which : Measure) → IsWithin s → s.formatter.reader.half.reading.pending_act ≢ pending_acts.Expanded
+    → (names_text s.formatter.reader.half.reading.pending_act ≡ true
     → IsChargedOnce (name_in s.formatter.reader) s.formatter.store) → passed (step s) ≡ Some which
     → Passes s which

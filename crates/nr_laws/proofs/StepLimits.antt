@@ -29,21 +29,21 @@ use Rattle.nr_formatter.specs.Places.{outlet, to_read}
 use Rattle.nr_formatter.specs.Spacing.{is_spaceless}
 use Rattle.nr_formatter.specs.Springing.{sprung, ejected_to}
 use Rattle.nr_machine.specs.State.{State, Choice, First, Register, plainly}
-use Rattle.nr_machine.specs.Machine.{choose, begin_page, turn_page, put_line_to, put_line, put_or, break_part, continues_none, break_out, room_in, title_to, cell_to, line_to, space_to, put_space, eject_to, eject, told, with_situation, read, act, work, hear, spring_or, choose_or, step, state_after, situation_of}
+use Rattle.nr_machine.specs.Machine.{choose, begin_page, turn_page, put_line_to, put_line, put_or, break_part, continues_none, break_out, room_in, title_to, cell_to, line_to, space_to, put_space, eject_to, eject, emitted, with_situation, read, act, work, hear, spring_or, choose_or, step, state_after, situation_of}
 use Rattle.nr_laws.specs.Limited.{stored_under, reader_under, under, state_under}
 use Rattle.std.specs.List.{filter}
 use Rattle.nr_symbol_tables.specs.Trap.{nearest, on_page}
 use Rattle.nr_store.specs.declared.element.Element.{Element}
 use Rattle.nr_store.specs.Store.{Stored, Reading, Level, Read, Mark, left, left_of}
-use Rattle.nr_reading.specs.Half.{Met, meet}
+use Rattle.nr_reading.specs.Half.{TakenIn, take_in}
 use Rattle.nr_input.specs.Acting.{Acted}
-use Rattle.nr_input.specs.Place.{front, behind}
-use Rattle.nr_input.specs.Moving.{Situation, Move, situation, looks, look, taken_at, stays_at, burst_after, told_of, acted_at, move as input_move}
-use Rattle.nr_input.specs.declared.told.Told.{Told}
-use Rattle.nr_input.specs.declared.told.Told.TheVariants as tells
+use Rattle.nr_input.specs.Place.{next_item, afterwards}
+use Rattle.nr_input.specs.Moving.{Situation, Move, situation, looks, look, taken_at, stays_at, burst_after, emitted_of, acted_at, move as input_move}
+use Rattle.nr_input.specs.declared.emitted.Emitted.{Emitted}
+use Rattle.nr_input.specs.declared.emitted.Emitted.TheVariants as tells
 use Rattle.nr_formatter.specs.declared.tasks.Resume.{Resume}
 use Rattle.nr_laws.proofs.FormatterLimits.{outlet-under, heard-under, worked-under, sprung-under, ejected_to-under, register_set-under, break_word_end-under, either as formatter_either}
-use Rattle.nr_laws.proofs.InputLimits.{act-under as act_due-under}
+use Rattle.nr_laws.proofs.InputLimits.{act-under as act_pending-under}
 
 module _ (b : Bounds) where
   either : (c : Bool) (s t s' t' : State) → s' ≡ state_under b s → t' ≡ state_under b t → (if c then s' else t') ≡ state_under b (if c then s else t)
@@ -174,37 +174,37 @@ module _ (b : Bounds) where
   left-under (Read l ∷ ls) v = left_of-under l.rest l ls v
   left-under (Mark mode ∷ ls) v = refl
 
-  met_at-under : (c : Bool) (m : Met) (q : Situation Resume)
+  taken_in_at-under : (c : Bool) (m : TakenIn) (q : Situation Resume)
       → (if c then taken_at m (situation_under q) else stays_at m (situation_under q)) ≡ move_under (if c then taken_at m q else stays_at m q)
-  met_at-under true m q =
+  taken_in_at-under true m q =
       ap (λ (v : Stored Resume). record {
-        situation = situation v (behind (shown q.stored.levels) q.coming)
-            (record (reader_under b.expansions q.reader) { half = m.half; burst = burst_after q.coming (behind (shown q.stored.levels) q.coming) q.reader.burst });
-        told = told_of (shown q.stored.levels) m.event;
+        situation = situation v (afterwards (shown q.stored.levels) q.coming)
+            (record (reader_under b.expansions q.reader) { half = m.half; burst = burst_after q.coming (afterwards (shown q.stored.levels) q.coming) q.reader.burst });
+        emitted = emitted_of (shown q.stored.levels) m.event;
       }) (left-under q.stored.levels q.stored)
-  met_at-under false m q = refl
+  taken_in_at-under false m q = refl
 
   acted_at-under : (q : Situation Resume) → acted_at (situation_under q) ≡ move_under (acted_at q)
   acted_at-under q =
-      ap (λ (a : Acted Resume). record { situation = situation a.stored q.coming a.reader; told = tells.Event a.event })
-      (act_due-under b.stored b.depth b.expansions q.reader.half.reading.due q.stored q.reader)
+      ap (λ (a : Acted Resume). record { situation = situation a.stored q.coming a.reader; emitted = tells.Event a.event })
+      (act_pending-under b.stored b.depth b.expansions q.reader.half.reading.pending_act q.stored q.reader)
 
   look-under : (q : Situation Resume) → look (situation_under q) ≡ move_under (look q)
-  look-under q = let m = meet (front (shown q.stored.levels) q.coming) q.reader.half in met_at-under m.takes m q
+  look-under q = let m = take_in (next_item (shown q.stored.levels) q.coming) q.reader.half in taken_in_at-under m.takes m q
 
   move_if-under : (c : Bool) (q : Situation Resume)
       → (if c then look (situation_under q) else acted_at (situation_under q)) ≡ move_under (if c then look q else acted_at q)
   move_if-under true q = look-under q
   move_if-under false q = acted_at-under q
 
-  told-under : (t : Told Resume) (f : Formatter) → told t (under b f) ≡ under b (told t f)
-  told-under (tells.Event e) f = refl
-  told-under (tells.Resume r) f = refl
+  emitted-under : (t : Emitted Resume) (f : Formatter) → emitted t (under b f) ≡ under b (emitted t f)
+  emitted-under (tells.Event e) f = refl
+  emitted-under (tells.Resume r) f = refl
 
   with_situation-under : (m : Move Resume) (s : State) → with_situation (move_under m) (state_under b s) ≡ state_under b (with_situation m s)
   with_situation-under m s =
       ap (λ (f : Formatter). record (state_under b s) { coming = m.situation.coming; formatter = f })
-      (told-under m.told (record s.formatter { store = m.situation.stored; reader = m.situation.reader }))
+      (emitted-under m.emitted (record s.formatter { store = m.situation.stored; reader = m.situation.reader }))
 
   read-under : (s : State) → read (state_under b s) ≡ state_under b (read s)
   read-under s =

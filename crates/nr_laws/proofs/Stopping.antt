@@ -24,7 +24,7 @@ use Rattle.nr_machine.specs.declared.outcome.Outcome.{Outcome}
 use Rattle.nr_machine.specs.declared.outcome.Outcome.TheVariants.{Done, Limit, ReadFault, TooLong, WriteFault}
 use Rattle.nr_machine.specs.Run.{Kind, Reads, Works, Over, kind, Goes, GoesBy, IsRefusal, PassesBy, Stops}
 use Rattle.nr_options.specs.Limits.{Bounds}
-use Rattle.nr_laws.specs.Laws.{are_told, is_settled, is_limit}
+use Rattle.nr_laws.specs.Laws.{are_reported, is_settled, is_limit}
 use Rattle.nr_laws.specs.Limited.{state_under}
 
 -- ---- a look refuses nothing for a limit
@@ -67,7 +67,7 @@ not_fault refusals.Expansions ForExpansions e = cc
 not_fault refusals.ReadFault l e = elim l [ ]
 not_fault refusals.TooLong l e = elim l [ ]
 
--- ---- what is due is refused for a limit alone
+-- ---- what is pending is refused for a limit alone
 
 storing : (x : Result (Unit {0}) StoredBytes) (e : Refusal) → storing_by x ≡ Err e → ForLimit e
 storing (Ok x) e is = cc
@@ -90,7 +90,7 @@ answering (Splice is_text) new r e is = splicing (checked new is_text) r e is
 answering Refused new r e is = (let same : refusals.Expansions ≡ e = cc in subst ForLimit same ForExpansions)
 
 pub answer_for_limit : (q : Situation Resume) (e : Refusal) → answer_at q ≡ Err e → ForLimit e
-answer_for_limit q e is = answering (asking q.reader.half.reading.due q.stored q.reader) (input.acting q).stored q.reader e is
+answer_for_limit q e is = answering (asking q.reader.half.reading.pending_act q.stored q.reader) (input.acting q).stored q.reader e is
 
 same_limit : (m m' : Measure) (r : Refusal) → IsRefusal m r → IsRefusal m' r → m ≡ m'
 same_limit measures.Stored measures.Stored r a b = refl
@@ -131,31 +131,31 @@ long_goes : (c : Bool) (q : Situation Resume) → input.GoesBy c q → input.Ref
 long_goes true q goes h = long_look (shown q.stored.levels) q.coming goes h
 long_goes false q goes h = ok_or (answer_at q) refusals.TooLong goes h
 
--- a source of which it is told when it fails gives or fails, and not both
-gives_or : (f : Faults) → are_told f ≡ true → MayGive f → MayFail f → ⊥
-gives_or Never told gives fails = fails
-gives_or (After n) told gives fails = absurd (omega arith)
-gives_or Anytime told gives fails = (let e : false ≡ true = told in cc)
+-- a source that reports its failure gives or fails, and not both
+gives_or : (f : Faults) → are_reported f ≡ true → MayGive f → MayFail f → ⊥
+gives_or Never reported gives fails = fails
+gives_or (After n) reported gives fails = absurd (omega arith)
+gives_or Anytime reported gives fails = (let e : false ≡ true = reported in cc)
 
-fault_look : (s : Shown Resume) (c : Coming) → are_told c.supply.faults ≡ true → MayLook s c → RefusesLook s c refusals.ReadFault → ⊥
-fault_look shows.Nothing c told goes h = gives_or c.supply.faults told goes.0 h
-fault_look shows.End c told goes h = h
-fault_look (shows.Item x) c told goes h = h
-fault_look (shows.Resume k) c told goes h = h
+fault_look : (s : Shown Resume) (c : Coming) → are_reported c.supply.faults ≡ true → MayLook s c → RefusesLook s c refusals.ReadFault → ⊥
+fault_look shows.Nothing c reported goes h = gives_or c.supply.faults reported goes.0 h
+fault_look shows.End c reported goes h = h
+fault_look (shows.Item x) c reported goes h = h
+fault_look (shows.Resume k) c reported goes h = h
 
-fault_goes : (c : Bool) (q : Situation Resume) → are_told q.coming.supply.faults ≡ true → input.GoesBy c q → input.RefusesBy c q refusals.ReadFault → ⊥
-fault_goes true q told goes h = fault_look (shown q.stored.levels) q.coming told goes h
-fault_goes false q told goes h = ok_or (answer_at q) refusals.ReadFault goes h
+fault_goes : (c : Bool) (q : Situation Resume) → are_reported q.coming.supply.faults ≡ true → input.GoesBy c q → input.RefusesBy c q refusals.ReadFault → ⊥
+fault_goes true q reported goes h = fault_look (shown q.stored.levels) q.coming reported goes h
+fault_goes false q reported goes h = ok_or (answer_at q) refusals.ReadFault goes h
 
-fault_long_look : (s : Shown Resume) (c : Coming) → are_told c.supply.faults ≡ true → RefusesLook s c refusals.TooLong → RefusesLook s c refusals.ReadFault → ⊥
-fault_long_look shows.Nothing c told a h = gives_or c.supply.faults told a.0 h
-fault_long_look shows.End c told a h = h
-fault_long_look (shows.Item x) c told a h = h
-fault_long_look (shows.Resume k) c told a h = h
+fault_long_look : (s : Shown Resume) (c : Coming) → are_reported c.supply.faults ≡ true → RefusesLook s c refusals.TooLong → RefusesLook s c refusals.ReadFault → ⊥
+fault_long_look shows.Nothing c reported a h = gives_or c.supply.faults reported a.0 h
+fault_long_look shows.End c reported a h = h
+fault_long_look (shows.Item x) c reported a h = h
+fault_long_look (shows.Resume k) c reported a h = h
 
-fault_long : (c : Bool) (q : Situation Resume) → are_told q.coming.supply.faults ≡ true → input.RefusesBy c q refusals.TooLong → input.RefusesBy c q refusals.ReadFault → ⊥
-fault_long true q told a h = fault_long_look (shown q.stored.levels) q.coming told a h
-fault_long false q told a h = (let e : refusals.TooLong ≡ refusals.ReadFault = one_refusal (answer_at q) refusals.TooLong refusals.ReadFault a h in cc)
+fault_long : (c : Bool) (q : Situation Resume) → are_reported q.coming.supply.faults ≡ true → input.RefusesBy c q refusals.TooLong → input.RefusesBy c q refusals.ReadFault → ⊥
+fault_long true q reported a h = fault_long_look (shown q.stored.levels) q.coming reported a h
+fault_long false q reported a h = (let e : refusals.TooLong ≡ refusals.ReadFault = one_refusal (answer_at q) refusals.TooLong refusals.ReadFault a h in cc)
 
 limit_fault : (c : Bool) (q : Situation Resume) (r : Refusal) → ForLimit r → input.RefusesBy c q r → input.RefusesBy c q refusals.ReadFault → ⊥
 limit_fault true q r l a b = no_sight (shown q.stored.levels) q.coming r l a
@@ -173,22 +173,22 @@ limit_limit false q m m' r r' is is' a b =
 -- ---- a move is made, or the run stops
 
 goes_by : (k : Kind) (s : State) (o : Outcome) → kind s ≡ k → is_settled s.coming.supply.faults o ≡ true → GoesBy k s → Stops s o → ⊥
-goes_by Reads s Done is told goes stops = (let e : Reads ≡ Over = sym is ∙ stops in cc)
-goes_by Reads s (Limit which at) is told goes stops =
+goes_by Reads s Done is reported goes stops = (let e : Reads ≡ Over = sym is ∙ stops in cc)
+goes_by Reads s (Limit which at) is reported goes stops =
     let p : PassesBy Reads s which = subst (λ k. PassesBy k s which) is stops.0 in
     limit_goes (looks (situation_of s)) (situation_of s) p.0 (for_limit which p.0 p.2) goes p.1
-goes_by Reads s TooLong is told goes stops = long_goes (looks (situation_of s)) (situation_of s) goes stops.1
-goes_by Reads s (ReadFault at) is told goes stops = fault_goes (looks (situation_of s)) (situation_of s) told goes stops.1
-goes_by Works s Done is told goes stops = (let e : Works ≡ Over = sym is ∙ stops in cc)
-goes_by Works s (Limit which at) is told goes stops =
+goes_by Reads s TooLong is reported goes stops = long_goes (looks (situation_of s)) (situation_of s) goes stops.1
+goes_by Reads s (ReadFault at) is reported goes stops = fault_goes (looks (situation_of s)) (situation_of s) reported goes stops.1
+goes_by Works s Done is reported goes stops = (let e : Works ≡ Over = sym is ∙ stops in cc)
+goes_by Works s (Limit which at) is reported goes stops =
     let p : PassesBy Works s which = subst (λ k. PassesBy k s which) is stops.0 in (let e : None ≡ Some which = sym goes ∙ p in cc)
-goes_by Works s TooLong is told goes stops = (let e : Works ≡ Reads = sym is ∙ stops.0 in cc)
-goes_by Works s (ReadFault at) is told goes stops = (let e : Works ≡ Reads = sym is ∙ stops.0 in cc)
-goes_by Over s o is told goes stops = goes
-goes_by k s WriteFault is told goes stops = (let e : false ≡ true = told in cc)
+goes_by Works s TooLong is reported goes stops = (let e : Works ≡ Reads = sym is ∙ stops.0 in cc)
+goes_by Works s (ReadFault at) is reported goes stops = (let e : Works ≡ Reads = sym is ∙ stops.0 in cc)
+goes_by Over s o is reported goes stops = goes
+goes_by k s WriteFault is reported goes stops = (let e : false ≡ true = reported in cc)
 
 pub goes-stops : (s : State) (o : Outcome) → is_settled s.coming.supply.faults o ≡ true → Goes s → Stops s o → ⊥
-goes-stops s o told goes stops = goes_by (kind s) s o refl told goes stops
+goes-stops s o reported goes stops = goes_by (kind s) s o refl reported goes stops
 
 -- ---- the run stops in one way
 
@@ -213,25 +213,25 @@ fault_limits Works s m is p h = cc
 fault_limits Over s m is p h = p
 
 pub stops-one : (s : State) (o o' : Outcome) → is_settled s.coming.supply.faults o ≡ true → is_settled s.coming.supply.faults o' ≡ true → Stops s o → Stops s o' → o ≡ o'
-stops-one s WriteFault o' told told' a b = (let e : false ≡ true = told in cc)
-stops-one s o WriteFault told told' a b = (let e : false ≡ true = told' in cc)
-stops-one s Done Done told told' a b = refl
-stops-one s Done (Limit w at) told told' a b = absurd (over_limits (kind s) s w a b.0)
-stops-one s Done TooLong told told' a b = (let e : Over ≡ Reads = sym a ∙ b.0 in cc)
-stops-one s Done (ReadFault at) told told' a b = (let e : Over ≡ Reads = sym a ∙ b.0 in cc)
-stops-one s (Limit w at) Done told told' a b = absurd (over_limits (kind s) s w b a.0)
-stops-one s (Limit w at) (Limit w' at') told told' a b =
+stops-one s WriteFault o' reported reported' a b = (let e : false ≡ true = reported in cc)
+stops-one s o WriteFault reported reported' a b = (let e : false ≡ true = reported' in cc)
+stops-one s Done Done reported reported' a b = refl
+stops-one s Done (Limit w at) reported reported' a b = absurd (over_limits (kind s) s w a b.0)
+stops-one s Done TooLong reported reported' a b = (let e : Over ≡ Reads = sym a ∙ b.0 in cc)
+stops-one s Done (ReadFault at) reported reported' a b = (let e : Over ≡ Reads = sym a ∙ b.0 in cc)
+stops-one s (Limit w at) Done reported reported' a b = absurd (over_limits (kind s) s w b a.0)
+stops-one s (Limit w at) (Limit w' at') reported reported' a b =
     let e = limits_by (kind s) s w w' a.0 b.0 in let f : at ≡ at' = a.1 ∙ sym b.1 in cc
-stops-one s (Limit w at) TooLong told told' a b = absurd (long_limits (kind s) s w b.0 a.0 b.1)
-stops-one s (Limit w at) (ReadFault at') told told' a b = absurd (fault_limits (kind s) s w b.0 a.0 b.1)
-stops-one s TooLong Done told told' a b = (let e : Over ≡ Reads = sym b ∙ a.0 in cc)
-stops-one s TooLong (Limit w at) told told' a b = absurd (long_limits (kind s) s w a.0 b.0 a.1)
-stops-one s TooLong TooLong told told' a b = refl
-stops-one s TooLong (ReadFault at) told told' a b = absurd (fault_long (looks (situation_of s)) (situation_of s) told' a.1 b.1)
-stops-one s (ReadFault at) Done told told' a b = (let e : Over ≡ Reads = sym b ∙ a.0 in cc)
-stops-one s (ReadFault at) (Limit w at') told told' a b = absurd (fault_limits (kind s) s w a.0 b.0 a.1)
-stops-one s (ReadFault at) TooLong told told' a b = absurd (fault_long (looks (situation_of s)) (situation_of s) told b.1 a.1)
-stops-one s (ReadFault at) (ReadFault at') told told' a b = (let e : at ≡ at' = a.2 ∙ sym b.2 in cc)
+stops-one s (Limit w at) TooLong reported reported' a b = absurd (long_limits (kind s) s w b.0 a.0 b.1)
+stops-one s (Limit w at) (ReadFault at') reported reported' a b = absurd (fault_limits (kind s) s w b.0 a.0 b.1)
+stops-one s TooLong Done reported reported' a b = (let e : Over ≡ Reads = sym b ∙ a.0 in cc)
+stops-one s TooLong (Limit w at) reported reported' a b = absurd (long_limits (kind s) s w a.0 b.0 a.1)
+stops-one s TooLong TooLong reported reported' a b = refl
+stops-one s TooLong (ReadFault at) reported reported' a b = absurd (fault_long (looks (situation_of s)) (situation_of s) reported' a.1 b.1)
+stops-one s (ReadFault at) Done reported reported' a b = (let e : Over ≡ Reads = sym b ∙ a.0 in cc)
+stops-one s (ReadFault at) (Limit w at') reported reported' a b = absurd (fault_limits (kind s) s w a.0 b.0 a.1)
+stops-one s (ReadFault at) TooLong reported reported' a b = absurd (fault_long (looks (situation_of s)) (situation_of s) reported b.1 a.1)
+stops-one s (ReadFault at) (ReadFault at') reported reported' a b = (let e : at ≡ at' = a.2 ∙ sym b.2 in cc)
 
 -- ---- where no limit stops it, it stops there under any limits
 
@@ -240,10 +240,10 @@ refused_under true b b' s r other h = h
 refused_under false b b' s r other h = absurd (other (answer_for_limit (situation_of (state_under b s)) r h))
 
 pub stops-under : (b b' : Bounds) (s : State) (o : Outcome) → is_limit o ≡ false → is_settled s.coming.supply.faults o ≡ true → Stops (state_under b s) o → Stops (state_under b' s) o
-stops-under b b' s Done unmet told stops = stops
-stops-under b b' s (Limit which at) unmet told stops = (let e : true ≡ false = unmet in cc)
-stops-under b b' s (ReadFault at) unmet told stops =
+stops-under b b' s Done unmet reported stops = stops
+stops-under b b' s (Limit which at) unmet reported stops = (let e : true ≡ false = unmet in cc)
+stops-under b b' s (ReadFault at) unmet reported stops =
     (stops.0, refused_under (looks (situation_of s)) b b' s refusals.ReadFault (λ l. not_fault refusals.ReadFault l refl) stops.1, stops.2)
-stops-under b b' s TooLong unmet told stops =
+stops-under b b' s TooLong unmet reported stops =
     (stops.0, refused_under (looks (situation_of s)) b b' s refusals.TooLong (λ l. not_long refusals.TooLong l refl) stops.1)
-stops-under b b' s WriteFault unmet told stops = (let e : false ≡ true = told in cc)
+stops-under b b' s WriteFault unmet reported stops = (let e : false ≡ true = reported in cc)

@@ -16,8 +16,8 @@ module _ (kept : ℤ → Bool) (length place : ℤ) (name : List ℕ) where
 
   one_more : (t : Trap) (ts : List Trap) (here : Bool) → int_eq (on_page t.place length) place ≡ here → (here ≡ true → Some t.name ≡ Some name) → (here ≡ false → macro_at length place ts ≡ Some name)
       → macro_at length place (t ∷ ts) ≡ Some name
-  one_more t ts true is named behind = cond-true (int_eq (on_page t.place length) place) (Some t.name) (macro_at length place ts) is ∙ named refl
-  one_more t ts false is named behind = cond-false (int_eq (on_page t.place length) place) (Some t.name) (macro_at length place ts) is ∙ behind refl
+  one_more t ts true is named afterwards = cond-true (int_eq (on_page t.place length) place) (Some t.name) (macro_at length place ts) is ∙ named refl
+  one_more t ts false is named afterwards = cond-false (int_eq (on_page t.place length) place) (Some t.name) (macro_at length place ts) is ∙ afterwards refl
 
   -- one that is kept
   kept_first : (t : Trap) (ts : List Trap) (here : Bool) → int_eq (on_page t.place length) place ≡ here → kept (on_page t.place length) ≡ true
@@ -27,8 +27,8 @@ module _ (kept : ℤ → Bool) (length place : ℤ) (name : List ℕ) where
       let named : Some t.name ≡ Some name = sym (cond-true (int_eq (on_page t.place length) place) (Some t.name) (macro_at length place (at_kept kept length ts)) is) ∙ found in
       (sym (ap kept there) ∙ keeps, one_more t ts true is (λ e. named) (λ e. let wrong : ⊥ = cc in absurd wrong))
   kept_first t ts false is keeps rest found =
-      let behind = rest (sym (cond-false (int_eq (on_page t.place length) place) (Some t.name) (macro_at length place (at_kept kept length ts)) is) ∙ found) in
-      (behind.0, one_more t ts false is (λ e. let wrong : ⊥ = cc in absurd wrong) (λ e. behind.1))
+      let afterwards = rest (sym (cond-false (int_eq (on_page t.place length) place) (Some t.name) (macro_at length place (at_kept kept length ts)) is) ∙ found) in
+      (afterwards.0, one_more t ts false is (λ e. let wrong : ⊥ = cc in absurd wrong) (λ e. afterwards.1))
 
   -- one that is not
   dropped_first : (t : Trap) (ts : List Trap) (here : Bool) → int_eq (on_page t.place length) place ≡ here → kept (on_page t.place length) ≡ false → Is ts → Is (t ∷ ts)

@@ -39,7 +39,7 @@ passed-wider b b' s h none =
 input-wider : (c : Bool) (b b' : Bounds) (s : State) → AtLeast b b' → input.GoesBy c (situation_of (state_under b s)) → input.GoesBy c (situation_of (state_under b' s))
 input-wider true b b' s h goes = goes
 input-wider false b b' s h goes =
-    answer-wider b.stored b'.stored b.depth b'.depth b.expansions b'.expansions h.stored h.depth h.expansions s.formatter.reader.half.reading.due s.formatter.store s.formatter.reader goes
+    answer-wider b.stored b'.stored b.depth b'.depth b.expansions b'.expansions h.stored h.depth h.expansions s.formatter.reader.half.reading.pending_act s.formatter.store s.formatter.reader goes
 
 goes_by-wider : (k : Kind) (b b' : Bounds) (s : State) → AtLeast b b' → GoesBy k (state_under b s) → GoesBy k (state_under b' s)
 goes_by-wider Reads b b' s h goes = input-wider (looks (situation_of s)) b b' s h goes

@@ -13,23 +13,23 @@ use Rattle.nr_store.specs.declared.element.Element.TheVariants as elements
 use Rattle.nr_store.specs.declared.named.Meaning.{Meaning}
 use Rattle.nr_store.specs.declared.named.Meaning.TheVariants as meanings
 use Rattle.nr_store.specs.declared.register.Register.{Register}
-use Rattle.nr_reading.specs.Half.{Met, meet}
+use Rattle.nr_reading.specs.Half.{TakenIn, take_in}
 use Rattle.nr_reading.specs.declared.ask.Sign.TheVariants as signs
-use Rattle.nr_reading.specs.declared.mode.Due.{Due}
-use Rattle.nr_reading.specs.declared.mode.Due.TheVariants as dues
+use Rattle.nr_reading.specs.declared.mode.PendingAct.{PendingAct}
+use Rattle.nr_reading.specs.declared.mode.PendingAct.TheVariants as pending_acts
 use Rattle.nr_input.specs.Acting.{act, name_in, after_meaning, meaning_in, base_of}
 use Rattle.nr_input.specs.Moving.{Situation, looks, look, taken_at, stays_at, acted_at, answer_at, move as input_move}
 use Rattle.nr_input.specs.Moving as input
-use Rattle.nr_input.specs.Place.{front}
+use Rattle.nr_input.specs.Place.{next_item}
 use Rattle.nr_input.specs.Refusal.{answer, storing_by}
 use Rattle.nr_input.specs.declared.reader.Reader.{Reader}
-use Rattle.nr_input.specs.declared.told.Told.{Told}
-use Rattle.nr_input.specs.declared.told.Told.TheVariants as tells
+use Rattle.nr_input.specs.declared.emitted.Emitted.{Emitted}
+use Rattle.nr_input.specs.declared.emitted.Emitted.TheVariants as tells
 use Rattle.nr_formatter.specs.Access.{collected}
 use Rattle.nr_formatter.specs.declared.formatter.Formatter.{Formatter}
 use Rattle.nr_formatter.specs.declared.tasks.Resume.{Resume}
 use Rattle.nr_machine.specs.State.{State}
-use Rattle.nr_machine.specs.Machine.{step, state_after, read, told, situation_of}
+use Rattle.nr_machine.specs.Machine.{step, state_after, read, emitted, situation_of}
 use Rattle.nr_machine.specs.Measures.{passed}
 use Rattle.nr_machine.specs.Run.{Kind, Reads, Works, Over, kind, GoesBy, Runs}
 use Rattle.nr_machine.specs.declared.outcome.Measure.TheVariants as measures
@@ -52,7 +52,7 @@ built-le (b ∷ bs) = omega (arith, built-le bs, sum_by-cons (λ (x : Built). we
 charged : (v : Stored Resume) → charge_of v ≤ v.limit → AreFew v
 charged v within = omega (arith, within, built-le v.building)
 
--- ---- what is due
+-- ---- what is pending
 
 stored_ok : (over : Bool) (v : Stored Resume) → (over ≡ false → charge_of v ≤ v.limit) → storing_by (if over then Err (record {}) else Ok tt) ≡ Ok tt → AreFew v
 stored_ok true v within ok = let wrong : ⊥ = cc in absurd wrong
@@ -89,19 +89,19 @@ meant : (m : Meaning) (v : Stored Resume) → AreFew v → AreFew (after_meaning
 meant meanings.Text v h = h
 meant m v h = h
 
-acted : (d : Due) (v : Stored Resume) (r : Reader) → answer d v r ≡ Ok tt → AreFew v → AreFew (act d v r).stored
-acted dues.Begin v r ok h = let w = base_of r v in stored_ok (nat_lt w.limit (charge_of w)) w (ltb-false w.limit (charge_of w)) ok
-acted (dues.Add b) v r ok h = added (elements.Byte b ∷ []) v h
-acted (dues.Release held n b) v r ok h = added _ v h
-acted dues.Define v r ok h = naming r.half.notes.defining.keeps (name_in r) v h
-acted dues.DefineAndCall v r ok h = naming r.half.notes.defining.keeps (name_in r) v h
-acted dues.CallEnding v r ok h = opened r.half.notes.defining.ending (words (find r.half.notes.defining.ending v.names)) v h
-acted dues.Splice v r ok h = opened r.half.notes.asked (words (find r.half.notes.asked v.names)) v h
-acted (dues.Register signs.None) v r ok h = h
-acted (dues.Register signs.Plus) v r ok h = set (option_and_then (gone_on true) (find r.half.notes.asked v.registers)) r.half.notes.asked v h
-acted (dues.Register signs.Minus) v r ok h = set (option_and_then (gone_on false) (find r.half.notes.asked v.registers)) r.half.notes.asked v h
-acted dues.Call v r ok h = called_text (name_in r) (words (find (name_in r) v.names)) v h
-acted dues.Seek v r ok h = meant (meaning_in v r) v h
+acted : (d : PendingAct) (v : Stored Resume) (r : Reader) → answer d v r ≡ Ok tt → AreFew v → AreFew (act d v r).stored
+acted pending_acts.Begin v r ok h = let w = base_of r v in stored_ok (nat_lt w.limit (charge_of w)) w (ltb-false w.limit (charge_of w)) ok
+acted (pending_acts.Add b) v r ok h = added (elements.Byte b ∷ []) v h
+acted (pending_acts.Release held n b) v r ok h = added _ v h
+acted pending_acts.Define v r ok h = naming r.half.notes.defining.keeps (name_in r) v h
+acted pending_acts.DefineAndCall v r ok h = naming r.half.notes.defining.keeps (name_in r) v h
+acted pending_acts.CallEnding v r ok h = opened r.half.notes.defining.ending (words (find r.half.notes.defining.ending v.names)) v h
+acted pending_acts.Splice v r ok h = opened r.half.notes.asked (words (find r.half.notes.asked v.names)) v h
+acted (pending_acts.Register signs.None) v r ok h = h
+acted (pending_acts.Register signs.Plus) v r ok h = set (option_and_then (gone_on true) (find r.half.notes.asked v.registers)) r.half.notes.asked v h
+acted (pending_acts.Register signs.Minus) v r ok h = set (option_and_then (gone_on false) (find r.half.notes.asked v.registers)) r.half.notes.asked v h
+acted pending_acts.Call v r ok h = called_text (name_in r) (words (find (name_in r) v.names)) v h
+acted pending_acts.Seek v r ok h = meant (meaning_in v r) v h
 acted d v r ok h = h
 
 -- ---- a look
@@ -115,22 +115,22 @@ level_left [] v h = h
 level_left (Read l ∷ ls) v h = text_left l.rest l ls v h
 level_left (Mark k ∷ ls) v h = h
 
-met : (b : Bool) (m : Met) (q : Situation Resume) → AreFew q.stored → AreFew (if b then taken_at m q else stays_at m q).situation.stored
-met true m q h = level_left q.stored.levels q.stored h
-met false m q h = h
+taken_in : (b : Bool) (m : TakenIn) (q : Situation Resume) → AreFew q.stored → AreFew (if b then taken_at m q else stays_at m q).situation.stored
+taken_in true m q h = level_left q.stored.levels q.stored h
+taken_in false m q h = h
 
 moved : (b : Bool) (q : Situation Resume) → input.GoesBy b q → AreFew q.stored → AreFew (if b then look q else acted_at q).situation.stored
-moved true q goes h = let m = meet (front (shown q.stored.levels) q.coming) q.reader.half in met m.takes m q h
-moved false q goes h = acted q.reader.half.reading.due q.stored q.reader goes h
+moved true q goes h = let m = take_in (next_item (shown q.stored.levels) q.coming) q.reader.half in taken_in m.takes m q h
+moved false q goes h = acted q.reader.half.reading.pending_act q.stored q.reader goes h
 
 -- ---- a move
 
-told_kept : (t : Told Resume) (f : Formatter) → IsKept f → IsKept (told t f)
-told_kept (tells.Event e) f h = record { line = h.line; few = h.few }
-told_kept (tells.Resume k) f h = record { line = h.line; few = h.few }
+emitted_kept : (t : Emitted Resume) (f : Formatter) → IsKept f → IsKept (emitted t f)
+emitted_kept (tells.Event e) f h = record { line = h.line; few = h.few }
+emitted_kept (tells.Resume k) f h = record { line = h.line; few = h.few }
 
 read_kept : (s : State) → input.Goes (situation_of s) → IsKept s.formatter → IsKept (read s).formatter
-read_kept s goes h = told_kept (input_move (situation_of s)).told _ (record { line = h.line; few = moved (looks (situation_of s)) (situation_of s) goes h.few })
+read_kept s goes h = emitted_kept (input_move (situation_of s)).emitted _ (record { line = h.line; few = moved (looks (situation_of s)) (situation_of s) goes h.few })
 
 kept_by : (a b c p d : Bool) (f : Formatter) → (a ≡ false → charge_of f.store ≤ f.store.limit) → (c ≡ false → line_cells (collected f) ≤ f.line.limit)
     → (if a then Some measures.Stored else (if b then Some measures.Depth else (if c then Some measures.LineCells else (if p then Some measures.PageCells else (if d then Some measures.Expansions else None))))) ≡ None

@@ -10,7 +10,7 @@ use Rattle.nr_settings.specs.declared.filling.Align.{Align}
 use Rattle.nr_settings.specs.declared.filling.Align.TheVariants.{Left, Spread}
 use Rattle.nr_fill.specs.Piece.{Piece, Collected, is_nil, nothing_collected, add_cell, end_word, one_blank_more, after_newline}
 use Rattle.nr_fill.specs.Cutting.{fits, cut}
-use Rattle.nr_fill.specs.Setting.{cut_of, set_line, behind}
+use Rattle.nr_fill.specs.Setting.{cut_of, set_line, afterwards}
 use Rattle.nr_page.specs.PageBytes.{cell_bytes}
 use Rattle.nr_page.specs.declared.faces.Faces.{Faces}
 use Rattle.nr_options.specs.Limits.{Bounds}
@@ -51,7 +51,7 @@ rows_from zero c = []
 rows_from (suc most) c =
     if is_nil c.pieces then []
     else set_line (record { align = align_of c; offset = 0 }) c (cut_of c)
-    ∷ rows_from most (behind first_margins (align_of c) c (cut_of c))
+    ∷ rows_from most (afterwards first_margins (align_of c) c (cut_of c))
 
 -- all of them
 abbrev pub rows_of : List Piece → List (List Cell)

@@ -14,9 +14,9 @@ use Rattle.nr_laws.specs.Limited.{state_under}
 -- ---- the words of the laws
 
 -- the whole begins with this prefix
-pub record IsFrontOf (front whole : List ℕ) : Type 0 where
+pub record IsPrefixOf (prefix whole : List ℕ) : Type 0 where
   pub rest : List ℕ
-  pub whole_is : whole ≡ front ++ rest
+  pub whole_is : whole ≡ prefix ++ rest
 
 -- each limit of the second is at least that of the first
 pub record AtLeast (b b' : Bounds) : Type 0 where
@@ -27,14 +27,14 @@ pub record AtLeast (b b' : Bounds) : Type 0 where
   pub moves : b.moves ≤ b'.moves
 
 -- a source fails at no call, or at each call after so many bytes
-abbrev pub are_told : Faults → Bool
-are_told Never = true
-are_told (After n) = true
-are_told Anytime = false
+abbrev pub are_reported : Faults → Bool
+are_reported Never = true
+are_reported (After n) = true
+are_reported Anytime = false
 
 -- no fault ended the run but one at which each run over such a source stops
 abbrev pub is_settled : Faults → Outcome → Bool
-is_settled faults (ReadFault at) = are_told faults
+is_settled faults (ReadFault at) = are_reported faults
 is_settled faults WriteFault = false
 is_settled faults o = true
 
@@ -86,13 +86,13 @@ abbrev pub LimitsCut : Type 0
 LimitsCut =
     (b : Bounds) (options : Options) (supply : Supply) (n : ℕ) (outcome : Outcome) (out : List ℕ)
     → AnswersWith b options supply n outcome out → (m : ℕ) → n + 1 ≤ m
-    → IsFrontOf out (unlimited_text options supply m)
+    → IsPrefixOf out (unlimited_text options supply m)
 
 -- Where the run without limits ends, it is a prefix of all that goes out there.
 abbrev pub LimitsCutOutput : Type 0
 LimitsCutOutput =
     (b : Bounds) (options : Options) (supply : Supply) (n : ℕ) (outcome : Outcome) (out whole : List ℕ)
-    → AnswersWith b options supply n outcome out → UnlimitedOutput options supply whole → IsFrontOf out whole
+    → AnswersWith b options supply n outcome out → UnlimitedOutput options supply whole → IsPrefixOf out whole
 
 -- Where no limit and no fault stops the run, it is all of it.
 abbrev pub DoneIsWhole : Type 0
@@ -114,7 +114,7 @@ WiderLimits =
     (out out' : List ℕ)
     → AtLeast b b' → AnswersWith b options supply n outcome out
     → AnswersWith b' options supply n' outcome' out'
-    → is_settled supply.faults outcome' ≡ true → IsFrontOf out out'
+    → is_settled supply.faults outcome' ≡ true → IsPrefixOf out out'
 
 -- Where neither a limit nor such a fault stops a run, it is the same under wider limits.
 abbrev pub LimitsUnmet : Type 0

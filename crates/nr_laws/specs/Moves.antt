@@ -55,9 +55,9 @@ moves_of_rest f =
     + length f.store.building + moves_at_most
 
 -- a byte was taken in the last of these moves, or none was made
-abbrev pub IsBehindByte : ℕ → State → Type 0
-IsBehindByte zero s = Unit {0}
-IsBehindByte (suc m) s = (state_after (suc m) s).coming.taken ≢ (state_after m s).coming.taken
+abbrev pub IsAfterByte : ℕ → State → Type 0
+IsAfterByte zero s = Unit {0}
+IsAfterByte (suc m) s = (state_after (suc m) s).coming.taken ≢ (state_after m s).coming.taken
 
 -- no byte is taken in n moves after the first m
 abbrev pub NoneIsTaken : ℕ → ℕ → State → Type 0
@@ -84,5 +84,5 @@ abbrev pub MovesBetween : Type 0
 MovesBetween =
     (b : Bounds) (options : Options) (supply : Supply) (m n : ℕ) → AreLimits b
     → length options.registers.items ≤ 32 → Runs (m + n) (start b options supply)
-    → IsBehindByte m (start b options supply) → NoneIsTaken m n (start b options supply)
+    → IsAfterByte m (start b options supply) → NoneIsTaken m n (start b options supply)
     → n ≤ moves_a_byte b

@@ -120,11 +120,11 @@ pub length-spans_from : (start : ℕ) (lens : List ℕ) → length (spans_from s
 length-spans_from start [] = refl
 length-spans_from start (n ∷ ns) = ap suc (length-spans_from (start + n) ns)
 
-part_behind : (xs more : List ℕ) (n : ℕ) → n ≤ length more → drop (length xs) (take (length xs + n) (xs ++ more)) ≡ take n more
-part_behind [] more n le = ap (λ k. take k more) (omega arith)
-part_behind (x ∷ xs) more n le =
+part_after : (xs more : List ℕ) (n : ℕ) → n ≤ length more → drop (length xs) (take (length xs + n) (xs ++ more)) ≡ take n more
+part_after [] more n le = ap (λ k. take k more) (omega arith)
+part_after (x ∷ xs) more n le =
     let is : suc (length xs) + n ≡ suc (length xs + n) = omega arith in
-    ap (λ k. drop (suc (length xs)) (take k (x ∷ (xs ++ more)))) is ∙ part_behind xs more n le
+    ap (λ k. drop (suc (length xs)) (take k (x ∷ (xs ++ more)))) is ∙ part_after xs more n le
 
 pub spans_cut : (xs more : List ℕ) (start : ℕ) (lens : List ℕ) → start ≡ length xs → sum lens ≤ length more → map (part (xs ++ more)) (spans_from start lens) ≡ cut lens more
 spans_cut xs more start [] at le = refl
@@ -134,7 +134,7 @@ spans_cut xs more start (n ∷ ns) at le =
     let left = length-drop n more in
     let whole : xs ++ more ≡ (xs ++ take n more) ++ drop n more = sym (append_assoc xs (take n more) (drop n more) ∙ ap (λ zs. xs ++ zs) (take-append-drop n more)) in
     ap₂ (λ z zs. z ∷ zs)
-    (ap (λ k. drop k (take (k + n) (xs ++ more))) at ∙ part_behind xs more n (omega arith))
+    (ap (λ k. drop k (take (k + n) (xs ++ more))) at ∙ part_after xs more n (omega arith))
     (ap (λ zs. map (part zs) (spans_from (start + n) ns)) whole
     ∙ spans_cut (xs ++ take n more) (drop n more) (start + n) ns (omega (arith, length-append xs (take n more))) (omega arith))
 

@@ -5,12 +5,12 @@ use Rattle.std.proofs.lemmas.List.{take-take, length-take, drop_all, drop_more, 
 use Rattle.std.proofs.lemmas.Bool.{cases_lt}
 use Rattle.std.proofs.lemmas.List.Sums.{sum_by-cons}
 use Rattle.std.proofs.lemmas.Option.{get_or_from_slice_get}
-use Rattle.nr_levels.specs.Levels.{Source, Own, Mark, Open, Levels, total, front, front_of, marks, closed, HasNext, HasEnd}
+use Rattle.nr_levels.specs.Levels.{Source, Own, Mark, Open, Levels, total, next_item, next_item_of, marks, closed, HasNext, HasEnd}
 use Rattle.nr_levels.specs.Frame.{part, arguments_of, source_of, resume_of, open_of, opens_of, mode_of, modes_after, modes_in, mode_count, levels_of, EndBy, AreBelow, ReadsBelow, reader, readers, IsStacked, AreLevels, MarkHasMode, AreModes}
 use Rattle.nr_levels.specs.Windows.{left_in, rest_of}
 use Rattle.nr_levels.specs.declared.frame.Span.{Span}
 use Rattle.nr_levels.specs.declared.frame.Frame.{Frame}
-use Rattle.nr_levels.specs.declared.frame.Front.{Front}
+use Rattle.nr_levels.specs.declared.frame.NextItem.{NextItem}
 use Rattle.nr_levels.specs.declared.frame.Reads.{Reads}
 use Rattle.nr_levels.specs.declared.frame.Reads.TheVariants as reads
 
@@ -32,11 +32,11 @@ part_more xs s x some within is =
     drop_more row s.first x (omega (arith, length-take s.last xs)) ∙ ap (λ y. y ∷ drop (s.first + 1) row) here
 
 -- rows that agree up to q have the same parts up to there
-pub same_front : {X : Type 0} (xs ys : List X) (n q : ℕ) → n ≤ q → take q xs ≡ take q ys → take n xs ≡ take n ys
-same_front xs ys n q le same = sym (take-take n q xs le) ∙ ap (take n) same ∙ take-take n q ys le
+pub same_prefix : {X : Type 0} (xs ys : List X) (n q : ℕ) → n ≤ q → take q xs ≡ take q ys → take n xs ≡ take n ys
+same_prefix xs ys n q le same = sym (take-take n q xs le) ∙ ap (take n) same ∙ take-take n q ys le
 
 pub same_part : {X : Type 0} (xs ys : List X) (s : Span) (q : ℕ) → s.last ≤ q → take q xs ≡ take q ys → part xs s ≡ part ys s
-same_part xs ys s q le same = ap (drop s.first) (same_front xs ys s.last q le same)
+same_part xs ys s q le same = ap (drop s.first) (same_prefix xs ys s.last q le same)
 
 pub same_below : (ps qs : List Span) (q h : ℕ) (s : Span) → take q ps ≡ take q qs → s.last ≤ q → q ≤ length ps → AreBelow qs h s → AreBelow ps h s
 same_below ps qs q h s same le room below = record {
@@ -73,8 +73,8 @@ same_levels xs ys ps qs n q (f ∷ fs) ms now h same_bytes same_places below top
     let above = on.above in
     let mode = mode_of f.has_mode ms in
     let here : open_of xs ps f mode ≡ open_of ys qs f mode = ap₂ (λ (s : Source _) o. record { source = s; old = o; charge = f.charge; resume = resume_of f.reads mode })
-    (same_source xs ys h f.reads mode (same_front xs ys h n below same_bytes) on.reads)
-    (same_arguments xs ys ps qs f.height q f.old (same_front xs ys f.height n (omega arith) same_bytes) same_places (omega arith) on.old) in
+    (same_source xs ys h f.reads mode (same_prefix xs ys h n below same_bytes) on.reads)
+    (same_arguments xs ys ps qs f.height q f.old (same_prefix xs ys f.height n (omega arith) same_bytes) same_places (omega arith) on.old) in
     ap₂ (λ z zs. z ∷ zs) here (same_levels xs ys ps qs n q fs (modes_after f.has_mode ms) f.old f.height same_bytes same_places (omega arith) (omega arith) stacked.1)
 
 -- and they are stacked there too
@@ -145,10 +145,10 @@ length-opens_of xs ps (f ∷ fs) ms = ap suc (length-opens_of xs ps fs (modes_af
 
 -- ---- the newest level
 
-pub front_is : {K : Type 0} → (fs : List Frame) (ms : List K) (xs : List ℕ) (ps : List Span) (now : Span) (room most : ℕ) (v : Levels K) (f : Frame) (r : Reads)
-    → levels_of fs ms xs ps now room most ≡ v → slice_get fs 0 ≡ Some f → f.reads ≡ r → front_of v.levels ≡ Some (front (source_of xs r (mode_of f.has_mode ms)))
-front_is fs ms xs ps now room most v f r view top is =
-    ap (λ (w : Levels _). front_of w.levels) (sym view) ∙ ap (λ gs. front_of (opens_of xs ps gs ms)) (cons_of fs f top) ∙ ap (λ t. Some (front (source_of xs t (mode_of f.has_mode ms)))) is
+pub next_item_is : {K : Type 0} → (fs : List Frame) (ms : List K) (xs : List ℕ) (ps : List Span) (now : Span) (room most : ℕ) (v : Levels K) (f : Frame) (r : Reads)
+    → levels_of fs ms xs ps now room most ≡ v → slice_get fs 0 ≡ Some f → f.reads ≡ r → next_item_of v.levels ≡ Some (next_item (source_of xs r (mode_of f.has_mode ms)))
+next_item_is fs ms xs ps now room most v f r view top is =
+    ap (λ (w : Levels _). next_item_of w.levels) (sym view) ∙ ap (λ gs. next_item_of (opens_of xs ps gs ms)) (cons_of fs f top) ∙ ap (λ t. Some (next_item (source_of xs t (mode_of f.has_mode ms)))) is
 
 -- what is left of it
 pub left_is : {K : Type 0} → (fs : List Frame) (ms : List K) (xs : List ℕ) (ps : List Span) (now : Span) (room most : ℕ) (v : Levels K) (f : Frame) (r : Reads)
@@ -168,16 +168,16 @@ newest_on fs ps now h f stacked top = subst (λ gs. IsStacked ps gs now h) (cons
 pub reads_below : (h : ℕ) (r : Reads) (s : Span) → r ≡ reads.Own s → ReadsBelow h r → s.last ≤ h
 reads_below h r s is below = rw is at below
 
-pub front_none : {K : Type 0} → (xs : List ℕ) (s : Span) → s.last ≤ s.first → front {K = K} (Own (part xs s)) ≡ front (Own [])
-front_none xs s none = ap (λ ys. front (Own ys)) (part_none xs s none)
+pub next_item_none : {K : Type 0} → (xs : List ℕ) (s : Span) → s.last ≤ s.first → next_item {K = K} (Own (part xs s)) ≡ next_item (Own [])
+next_item_none xs s none = ap (λ ys. next_item (Own ys)) (part_none xs s none)
 
-pub front_some : {K : Type 0} → (xs : List ℕ) (s : Span) (b : ℕ) → s.first < s.last → s.last ≤ length xs → slice_get xs s.first ≡ Some b → front {K = K} (Own (part xs s)) ≡ front (Own (b ∷ []))
-front_some xs s b some within is = ap (λ ys. front (Own ys)) (part_more xs s b some within is)
+pub next_item_some : {K : Type 0} → (xs : List ℕ) (s : Span) (b : ℕ) → s.first < s.last → s.last ≤ length xs → slice_get xs s.first ≡ Some b → next_item {K = K} (Own (part xs s)) ≡ next_item (Own (b ∷ []))
+next_item_some xs s b some within is = ap (λ ys. next_item (Own ys)) (part_more xs s b some within is)
 
-pub has_next_own : {K : Type 0} → (xs : List ℕ) (s : Span) (o : Option (Front K)) → o ≡ Some (front (Own (part xs s))) → HasNext o → s.first < s.last
+pub has_next_own : {K : Type 0} → (xs : List ℕ) (s : Span) (o : Option (NextItem K)) → o ≡ Some (next_item (Own (part xs s))) → HasNext o → s.first < s.last
 has_next_own xs s o is next = elim (cases_lt s.first s.last) [
   | inl some ↦ some
-  | inr none ↦ let h = rw (is, front_none xs s none) at next in absurd h
+  | inr none ↦ let h = rw (is, next_item_none xs s none) at next in absurd h
 ]
 
 -- ---- the newest level's end
@@ -188,7 +188,7 @@ no_resume K (reads.Own s) = refl
 no_resume K reads.Mark = refl
 
 -- a frame whose end is still to be taken resumes its mode then
-end_resumes : {K : Type 0} (xs : List ℕ) (r : Reads) (mode : K) → HasEnd (Some (front (source_of xs r (Some mode)))) → resume_of r (Some mode) ≡ Some mode
+end_resumes : {K : Type 0} (xs : List ℕ) (r : Reads) (mode : K) → HasEnd (Some (next_item (source_of xs r (Some mode)))) → resume_of r (Some mode) ≡ Some mode
 end_resumes xs (reads.Text id place) mode end = refl
 end_resumes xs (reads.Own s) mode end = refl
 end_resumes xs reads.Mark mode end = absurd end
@@ -279,10 +279,10 @@ module _ (fs : List Frame) (xs : List ℕ) (ps : List Span) (now : Span) (room m
       ∙ whole ms v view
 
   -- with one
-  pub closed_marked : {K : Type 0} (ms : List K) (v : Levels K) → levels_of fs ms xs ps now room most ≡ v → f.has_mode ≡ true → HasEnd (front_of v.levels) → 0 < length ms → levels_of (marked ∷ drop 1 fs) ms low_bytes low_places f.old room most ≡ closed v.levels v
+  pub closed_marked : {K : Type 0} (ms : List K) (v : Levels K) → levels_of fs ms xs ps now room most ≡ v → f.has_mode ≡ true → HasEnd (next_item_of v.levels) → 0 < length ms → levels_of (marked ∷ drop 1 fs) ms low_bytes low_places f.old room most ≡ closed v.levels v
   closed_marked [] v view some end more = absurd (omega arith)
   closed_marked (m ∷ ms) v view some end more =
-      let here = front_is fs (m ∷ ms) xs ps now room most v f f.reads view top refl ∙ ap (λ has. Some (front (source_of xs f.reads (mode_of has (m ∷ ms))))) some in
+      let here = next_item_is fs (m ∷ ms) xs ps now room most v f f.reads view top refl ∙ ap (λ has. Some (next_item (source_of xs f.reads (mode_of has (m ∷ ms))))) some in
       marked_is m ms
       ∙ sym (ap (λ o. record { levels = marks o (arguments_of xs ps f.old) ++ opens_of xs ps (drop 1 fs) ms; arguments = arguments_of xs ps f.old; capacity = room; most = most }) (end_resumes xs f.reads m (subst HasEnd here end)))
       ∙ sym (ap (λ has. record { levels = marks (resume_of f.reads (mode_of has (m ∷ ms))) (arguments_of xs ps f.old) ++ opens_of xs ps (drop 1 fs) (modes_after has (m ∷ ms)); arguments = arguments_of xs ps f.old; capacity = room; most = most }) some)

@@ -1,7 +1,7 @@
 -- A stack of levels: texts that are being read, with what their ends restore.
 use Rattle.std.specs.Prelude.{ℕ, ◌+◌, ◌^◌, ◌<◌, List, [], ◌∷◌, ◌++◌, take, drop, slice_index_or, sum_by, Option, Some, None}
-use Rattle.nr_levels.specs.declared.frame.Front.{Front}
-use Rattle.nr_levels.specs.declared.frame.Front.TheVariants as fronts
+use Rattle.nr_levels.specs.declared.frame.NextItem.{NextItem}
+use Rattle.nr_levels.specs.declared.frame.NextItem.TheVariants as next_items
 
 -- what a level still reads: a text from a place on, or bytes; or its end was taken, and a mode is still to be resumed
 pub data Source (K : Type 0) : Type 0 where
@@ -37,51 +37,51 @@ abbrev pub total : {K : Type 0} → List (Open K) → ℕ
 total levels = sum_by (λ (l : Open _). l.charge) levels
 
 -- what comes next of a source
-abbrev pub front : {K : Type 0} → Source K → Front K
-front (Text id place) = fronts.Text id place
-front (Own []) = fronts.End
-front (Own (b ∷ bs)) = fronts.Byte b
-front (Mark mode) = fronts.Resume mode
+abbrev pub next_item : {K : Type 0} → Source K → NextItem K
+next_item (Text id place) = next_items.Text id place
+next_item (Own []) = next_items.End
+next_item (Own (b ∷ bs)) = next_items.Byte b
+next_item (Mark mode) = next_items.Resume mode
 
 -- what comes next of the newest level
-abbrev pub front_of : {K : Type 0} → List (Open K) → Option (Front K)
-front_of [] = None
-front_of (l ∷ ls) = Some (front l.source)
+abbrev pub next_item_of : {K : Type 0} → List (Open K) → Option (NextItem K)
+next_item_of [] = None
+next_item_of (l ∷ ls) = Some (next_item l.source)
 
 -- a source after what comes next
-abbrev pub behind : {K : Type 0} → Source K → Source K
-behind (Text id place) = Text id (place + 1)
-behind (Own bytes) = Own (drop 1 bytes)
-behind (Mark mode) = Mark mode
+abbrev pub afterwards : {K : Type 0} → Source K → Source K
+afterwards (Text id place) = Text id (place + 1)
+afterwards (Own bytes) = Own (drop 1 bytes)
+afterwards (Mark mode) = Mark mode
 
 -- the newest level after what comes next
 abbrev pub advanced : {K : Type 0} → List (Open K) → List (Open K)
 advanced [] = []
-advanced (l ∷ ls) = record l { source = behind l.source } ∷ ls
+advanced (l ∷ ls) = record l { source = afterwards l.source } ∷ ls
 
 -- an element comes next, where the text has one
-abbrev pub HasNext : {K : Type 0} → Option (Front K) → Type 0
+abbrev pub HasNext : {K : Type 0} → Option (NextItem K) → Type 0
 HasNext None = ⊥
-HasNext (Some (fronts.Text id place)) = place + 1 < 2 ^ 32
-HasNext (Some (fronts.Byte b)) = Unit {0}
-HasNext (Some fronts.End) = ⊥
-HasNext (Some (fronts.Resume mode)) = ⊥
+HasNext (Some (next_items.Text id place)) = place + 1 < 2 ^ 32
+HasNext (Some (next_items.Byte b)) = Unit {0}
+HasNext (Some next_items.End) = ⊥
+HasNext (Some (next_items.Resume mode)) = ⊥
 
 -- there is a level whose end is still to be taken
-abbrev pub HasEnd : {K : Type 0} → Option (Front K) → Type 0
+abbrev pub HasEnd : {K : Type 0} → Option (NextItem K) → Type 0
 HasEnd None = ⊥
-HasEnd (Some (fronts.Text id place)) = Unit {0}
-HasEnd (Some (fronts.Byte b)) = Unit {0}
-HasEnd (Some fronts.End) = Unit {0}
-HasEnd (Some (fronts.Resume mode)) = ⊥
+HasEnd (Some (next_items.Text id place)) = Unit {0}
+HasEnd (Some (next_items.Byte b)) = Unit {0}
+HasEnd (Some next_items.End) = Unit {0}
+HasEnd (Some (next_items.Resume mode)) = ⊥
 
 -- a mode that is to be resumed comes next
-abbrev pub HasMark : {K : Type 0} → Option (Front K) → Type 0
+abbrev pub HasMark : {K : Type 0} → Option (NextItem K) → Type 0
 HasMark None = ⊥
-HasMark (Some (fronts.Text id place)) = ⊥
-HasMark (Some (fronts.Byte b)) = ⊥
-HasMark (Some fronts.End) = ⊥
-HasMark (Some (fronts.Resume mode)) = Unit {0}
+HasMark (Some (next_items.Text id place)) = ⊥
+HasMark (Some (next_items.Byte b)) = ⊥
+HasMark (Some next_items.End) = ⊥
+HasMark (Some (next_items.Resume mode)) = Unit {0}
 
 -- with one level more
 abbrev pub deeper : {K : Type 0} → Source K → List (List ℕ) → ℕ → Option K → Levels K → Levels K

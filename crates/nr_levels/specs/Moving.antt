@@ -3,19 +3,19 @@ use Rattle.std.specs.Prelude.{◌≡◌, ℕ, ◌+◌, ◌-◌, ◌^◌, ◌<◌
 use Rattle.nr_levels.specs.Levels.{HasMark}
 use Rattle.nr_levels.specs.declared.frame.Next.{Next}
 use Rattle.nr_levels.specs.declared.frame.Next.TheVariants as nexts
-use Rattle.nr_levels.specs.declared.frame.Front.{Front}
-use Rattle.nr_levels.specs.declared.frame.Front.TheVariants as fronts
+use Rattle.nr_levels.specs.declared.frame.NextItem.{NextItem}
+use Rattle.nr_levels.specs.declared.frame.NextItem.TheVariants as next_items
 use Rattle.nr_levels.specs.declared.frame.Frame.{Frame}
 use Rattle.nr_levels.specs.declared.frame.Reads.{Reads}
 use Rattle.nr_levels.specs.declared.frame.Reads.TheVariants as reads
 
 -- this says what comes next of the newest level
-abbrev pub Comes : {K : Type 0} → Next → Option (Front K) → Type 0
-Comes nexts.Nothing front = front ≡ None
-Comes (nexts.Text id place) front = front ≡ Some (fronts.Text id place)
-Comes (nexts.Byte b) front = front ≡ Some (fronts.Byte b)
-Comes nexts.End front = front ≡ Some fronts.End
-Comes nexts.Resume front = HasMark front
+abbrev pub Comes : {K : Type 0} → Next → Option (NextItem K) → Type 0
+Comes nexts.Nothing next_item = next_item ≡ None
+Comes (nexts.Text id place) next_item = next_item ≡ Some (next_items.Text id place)
+Comes (nexts.Byte b) next_item = next_item ≡ Some (next_items.Byte b)
+Comes nexts.End next_item = next_item ≡ Some next_items.End
+Comes nexts.Resume next_item = HasMark next_item
 
 -- what a frame reads, so many elements further on
 abbrev pub gone_on : ℕ → Reads → Reads

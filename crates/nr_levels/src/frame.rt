@@ -12,7 +12,7 @@ pub struct Span {
 
 impl Span {
     // Without so many of its first places.
-    pub(crate) fn behind(self, n: u32) -> Span
+    pub(crate) fn afterwards(self, n: u32) -> Span
         requires { n ≤ self.last - self.first }
         ensures { result ≡ record self { first = self.first + n } }
     {
@@ -45,7 +45,7 @@ impl Reads {
     {
         match self {
             Reads::Text(_, place) => *place += n,
-            Reads::Own(span) => *span = span.behind(n),
+            Reads::Own(span) => *span = span.afterwards(n),
             Reads::Mark => {}
         }
     }
@@ -82,7 +82,7 @@ pub enum Next {
 
 /// What the newest level gives next.
 #[derive(Clone, Copy, Drop)]
-pub enum Front<K> {
+pub enum NextItem<K> {
     /// What a text has at a place, or the end where it has no more.
     Text(Id, u32),
     /// A byte.

@@ -1,11 +1,11 @@
 //! The levels that are open, and the bytes and arguments that they keep.
 ghost use Rattle.std.specs.Prelude.{◌≡◌, ◌+◌, ◌*◌, ◌/◌, ◌^◌, ◌<◌, ◌≤◌, [], length, min, sum, nat_le, Some, None, IfOk};
-ghost use Rattle.nr_levels.specs.Levels.{Text, Own, total, front_of, advanced, HasNext, HasEnd, HasMark, deeper, closed, charge_of_newest, resumed, argument, cut};
+ghost use Rattle.nr_levels.specs.Levels.{Text, Own, total, next_item_of, advanced, HasNext, HasEnd, HasMark, deeper, closed, charge_of_newest, resumed, argument, cut};
 ghost use Rattle.nr_levels.specs.Frame.{mode_of, modes_after, modes_in};
 ghost use Rattle.nr_levels.specs.Further.{further_on, NewestReaches};
 ghost use Rattle.nr_levels.specs.Windows.{source_in, rest_of};
 ghost use Rattle.nr_levels.specs.Moving.{Comes};
-ghost use Rattle.nr_levels.specs.declared.frame.Front.TheVariants as fronts;
+ghost use Rattle.nr_levels.specs.declared.frame.NextItem.TheVariants as next_items;
 
 use crate::frame::{Frame, Next, Reads, Rest, Span};
 use crate::spans::{push_spans, span_of};
@@ -150,10 +150,10 @@ impl<K: Copy> Levels<K> {
     /// What the newest level gives next.
     ///
     /// Proved: What comes next of the newest level, and all that is left of it, are those of the definition.
-    /// (`Levels::{front, rest}`)
+    /// (`Levels::{next_item, rest}`)
     #[inline(always)]
-    pub fn front(&self) -> Next
-        ensures { Comes result (front_of self.now.levels) }
+    pub fn next_item(&self) -> Next
+        ensures { Comes result (next_item_of self.now.levels) }
     {
         if self.frames.is_empty() {
             return Next::Nothing;
@@ -194,8 +194,8 @@ impl<K: Copy> Levels<K> {
     ///
     /// Proved: After the end of a sprung text the mode is resumed that it interrupted.
     pub fn resume(&mut self, mode: &mut K)
-        requires { HasMark (front_of self.old.levels) }
-        ensures mode { front_of self.old.levels ≡ Some (fronts.Resume mode.new) }
+        requires { HasMark (next_item_of self.old.levels) }
+        ensures mode { next_item_of self.old.levels ≡ Some (next_items.Resume mode.new) }
         ensures rest { self.new ≡ resumed self.old.levels self.old }
     {
         *mode = self.modes.get(0);
@@ -204,7 +204,7 @@ impl<K: Copy> Levels<K> {
 
     /// Takes the mode that comes next away.
     pub fn drop_mode(&mut self)
-        requires { HasMark (front_of self.old.levels) }
+        requires { HasMark (next_item_of self.old.levels) }
         ensures { self.new ≡ resumed self.old.levels self.old }
     {
         self.frames.pop();
@@ -216,7 +216,7 @@ impl<K: Copy> Levels<K> {
     /// Proved: The newest level goes on by one element or by many, as asked. (`Levels::{advance, skip}`)
     #[inline]
     pub fn advance(&mut self)
-        requires { HasNext (front_of self.old.levels) }
+        requires { HasNext (next_item_of self.old.levels) }
         ensures { self.new ≡ record self.old { levels = advanced self.old.levels } }
     {
         self.frames.go_on(1);
@@ -360,7 +360,7 @@ impl<K: Copy> Levels<K> {
     /// what the level was charged.
     #[inline]
     pub fn close(&mut self) -> u32
-        requires { HasEnd (front_of self.old.levels) }
+        requires { HasEnd (next_item_of self.old.levels) }
         ensures charge { result ≡ charge_of_newest self.old.levels }
         ensures rest { self.new ≡ closed self.old.levels self.old }
     {

@@ -9,7 +9,7 @@ pub mod levels;
 mod spans;
 pub mod stack;
 
-pub use frame::{Frame, Front, Next, Rest, Span};
+pub use frame::{Frame, Next, NextItem, Rest, Span};
 pub use gathering::Gathering;
 pub use levels::Levels;
 pub use stack::Stack;

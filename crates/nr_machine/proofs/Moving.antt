@@ -37,7 +37,7 @@ acts_of f e e' old new r w = record { comes = w.comes; unfailed = unfailed-light
 
 -- ---- whole moves, by their answers
 
--- whether the source is told to have failed, and the sink
+-- whether the source is reported to have failed, and the sink
 
 pub limited_reads : (n : ℕ) (r : Result (Unit {0}) Measure) → stops_reading (limited n r) ≡ false
 limited_reads n (Ok x) = refl

@@ -9,19 +9,19 @@ use Rattle.nr_store.specs.Store.{Stored, Built}
 use Rattle.nr_input.specs.Place.{Reached, ended}
 use Rattle.nr_input.specs.Weights.{byte_worth, weight_before_byte, risen, Pays, IfLead, diversions_in, diversions_of, count_of_diversion}
 use Rattle.nr_input.specs.declared.reader.Reader.{Reader}
-use Rattle.nr_input.specs.declared.told.Told.TheVariants as tells
+use Rattle.nr_input.specs.declared.emitted.Emitted.TheVariants as tells
 use Rattle.nr_formatter.specs.Weights.{Falls, weight, steps_left, owed, owed_by_event, owed_by_task, weight_of_agenda, weight_of_diversion, weight_of_built, weight_of_diversions}
 use Rattle.nr_formatter.specs.declared.formatter.Formatter.{Formatter}
 use Rattle.nr_formatter.specs.declared.tasks.Resume.{Resume}
 use Rattle.nr_formatter.specs.declared.tasks.Step.{Step}
 use Rattle.nr_formatter.specs.declared.tasks.Task.TheVariants as tasks
 
--- a blank of a line's beginning is told out of the blanks that are owed
+-- a blank of a line's beginning is emitted out of the blanks that are owed
 abbrev lead_of : Event → ℕ
 lead_of events.Lead = 178
 lead_of e = 0
 
--- what is told weighs no more than what the move pays for it
+-- what is emitted weighs no more than what the move pays for it
 event_paid : (e : Event) (s : Step) → weight_of_agenda e tasks.Read s + owed_by_event e + 1 ≤ 4 + cost_of_event e + lead_of e
 event_paid events.Nothing s = omega arith
 event_paid events.Over s = omega arith
@@ -69,8 +69,8 @@ same_count : (bs : List Built) → weight_of_diversions bs ≡ diversions_in bs
 same_count [] = refl
 same_count (b ∷ bs) = omega (arith, sum_by-cons weight_of_built b bs, sum_by-cons diversions_of b bs, same_diversion b.diversion, same_count bs)
 
--- so many moves read, and the last of them told this
-told_paid : (n : ℕ) (p q : Reached) (f : Formatter) (v : Stored Resume) (r : Reader) (e : Event) → f.event ≡ events.Nothing → f.task ≡ tasks.Read
+-- so many moves read, and the last of them emitted this
+emitted_paid : (n : ℕ) (p q : Reached) (f : Formatter) (v : Stored Resume) (r : Reader) (e : Event) → f.event ≡ events.Nothing → f.task ≡ tasks.Read
     → weight_before_byte v q r + cost_of_event e + n + 178 * risen f.reader.half r.half + byte_worth f.reader.most f.store.limit * p.taken
     ≤ weight_before_byte f.store p f.reader + 1 + byte_worth f.reader.most f.store.limit * q.taken
     → 178 * blanks_owed r.half + lead_of e ≤ 178 * (blanks_owed r.half - blanks_owed f.reader.half) + 178 * blanks_owed f.reader.half
@@ -78,20 +78,20 @@ told_paid : (n : ℕ) (p q : Reached) (f : Formatter) (v : Stored Resume) (r : R
     → weight q (record f { store = v; reader = r; event = e }) + n + byte_worth f.reader.most f.store.limit * p.taken
     ≤ weight p f + byte_worth f.reader.most f.store.limit * q.taken
 unfolding weight steps_left owed
-told_paid n p q f v r e idle task paid blanks fewer =
+emitted_paid n p q f v r e idle task paid blanks fewer =
     let before : weight_of_agenda f.event f.task f.step ≡ 4 = rw (idle, task) refl in
     let owed_before : owed_by_event f.event + owed_by_task f.task f.reader.half ≡ 0 = rw (idle, task) refl in
-    let behind : weight_of_agenda e f.task f.step ≡ weight_of_agenda e tasks.Read f.step = rw task refl in
-    let owed_behind : owed_by_task f.task r.half ≡ 0 = rw task refl in
-    omega (arith, before, owed_before, behind, owed_behind, paid, event_paid e f.step, blanks, same_count v.building, same_count f.store.building, fewer)
+    let afterwards : weight_of_agenda e f.task f.step ≡ weight_of_agenda e tasks.Read f.step = rw task refl in
+    let owed_afterwards : owed_by_task f.task r.half ≡ 0 = rw task refl in
+    omega (arith, before, owed_before, afterwards, owed_afterwards, paid, event_paid e f.step, blanks, same_count v.building, same_count f.store.building, fewer)
 
--- an event is told
-pub told_spends : (p q : Reached) (f : Formatter) (v : Stored Resume) (r : Reader) (e : Event) → f.event ≡ events.Nothing → f.task ≡ tasks.Read
+-- an event is emitted
+pub emitted_spends : (p q : Reached) (f : Formatter) (v : Stored Resume) (r : Reader) (e : Event) → f.event ≡ events.Nothing → f.task ≡ tasks.Read
     → Pays f.store p f.reader (tells.Event e) v q r → diversions_in v.building ≤ diversions_in f.store.building
     → weight q (record f { store = v; reader = r; event = e }) + 1 + byte_worth f.reader.most f.store.limit * p.taken
     ≤ weight p f + byte_worth f.reader.most f.store.limit * q.taken
-told_spends p q f v r e idle task pays fewer =
-    told_paid 1 p q f v r e idle task (let paid = pays.pays (byte_worth f.reader.most f.store.limit) (omega arith) in omega arith)
+emitted_spends p q f v r e idle task pays fewer =
+    emitted_paid 1 p q f v r e idle task (let paid = pays.pays (byte_worth f.reader.most f.store.limit) (omega arith) in omega arith)
     (blanks_paid e (blanks_owed f.reader.half) (blanks_owed r.half) pays.lead) fewer
 
 -- what was under way is gone on with
@@ -103,8 +103,8 @@ unfolding weight steps_left owed
 resumed_spends p q f g v r k idle task pays fewer falls =
     let w = byte_worth f.reader.most f.store.limit in
     let owed_before : owed_by_event f.event + owed_by_task f.task f.reader.half ≡ 0 = rw (idle, task) refl in
-    let owed_behind : owed_by_event f.event + owed_by_task f.task r.half ≡ 0 = rw (idle, task) refl in
-    omega (arith, owed_before, owed_behind, falls.falls q, pays.pays w (omega arith), same_count v.building, same_count f.store.building, fewer)
+    let owed_afterwards : owed_by_event f.event + owed_by_task f.task r.half ≡ 0 = rw (idle, task) refl in
+    omega (arith, owed_before, owed_afterwards, falls.falls q, pays.pays w (omega arith), same_count v.building, same_count f.store.building, fewer)
 
 -- nothing is to come of the source any more
 pub exit_spends : (w : ℕ) (p : Reached) (f g : Formatter) → Falls 1 0 f g → weight (ended p) g + 1 + w * p.taken ≤ weight p f + w * p.taken
@@ -119,12 +119,12 @@ no_lead : (e : Event) → is_lead e ≡ false → lead_of e ≡ 0
 no_lead events.Lead is = absurd (let wrong : true ≡ false = is in cc)
 no_lead e is = refl
 
--- so many moves read, and the last of them told this, which is no blank of a line's beginning
-pub told_no_lead : (n : ℕ) (p q : Reached) (f : Formatter) (v : Stored Resume) (r : Reader) (e : Event) → f.event ≡ events.Nothing → f.task ≡ tasks.Read
+-- so many moves read, and the last of them emitted this, which is no blank of a line's beginning
+pub emitted_no_lead : (n : ℕ) (p q : Reached) (f : Formatter) (v : Stored Resume) (r : Reader) (e : Event) → f.event ≡ events.Nothing → f.task ≡ tasks.Read
     → weight_before_byte v q r + cost_of_event e + n + 178 * risen f.reader.half r.half + byte_worth f.reader.most f.store.limit * p.taken
     ≤ weight_before_byte f.store p f.reader + 1 + byte_worth f.reader.most f.store.limit * q.taken
     → is_lead e ≡ false → diversions_in v.building ≤ diversions_in f.store.building
     → weight q (record f { store = v; reader = r; event = e }) + n + byte_worth f.reader.most f.store.limit * p.taken
     ≤ weight p f + byte_worth f.reader.most f.store.limit * q.taken
-told_no_lead n p q f v r e idle task paid tells fewer =
-    told_paid n p q f v r e idle task paid (let none = no_lead e tells in omega arith) fewer
+emitted_no_lead n p q f v r e idle task paid tells fewer =
+    emitted_paid n p q f v r e idle task paid (let none = no_lead e tells in omega arith) fewer

@@ -108,8 +108,8 @@ none_spent most n s less spent = omega (arith, less, spent.0)
 -- moves are spent here
 pub finishes_spent : (chosen : List Choice) (most made : ℕ) (s : State) (n : ℕ) (e : Shape) (x : Option Supply) (at : ℕ) (old new : Option (List ℕ)) → made ≡ most → (kind (state_after n s) ≡ Over → ⊥)
     → at ≡ (state_after n s).coming.taken → Made chosen s n e x old new → Finishes most made s n (Limit measures.Moves at) old new
-finishes_spent chosen most made s n e x at old new all due place m =
-    record { runs = m.runs; allowed = omega (arith, all); ends = inl ((all, due), ap (Limit measures.Moves) place); writes = m.wrote }
+finishes_spent chosen most made s n e x at old new all pending_act place m =
+    record { runs = m.runs; allowed = omega (arith, all); ends = inl ((all, pending_act), ap (Limit measures.Moves) place); writes = m.wrote }
 
 -- moves, and then others up to where the run ends
 pub finishes_after : (chosen : List Choice) (most made : ℕ) (s : State) (n m : ℕ) (e : Shape) (x : Option Supply) (outcome : Outcome) (old mid new : Option (List ℕ))
@@ -140,4 +140,4 @@ answers b s n outcome old new none h bound = record { runs = h.runs; allowed = h
     from (ReadFault at) w = all (state_after n s) w
     from TooLong w = all (state_after n s) w
     from WriteFault w =
-        record { between = w.0; ended = subst (Appends old w.0) (clean (state_after n s) w.1.wrote.0 w.1.wrote.1) w.1.wrote.2; page = w.2.page; ends = w.2.ends; front = w.2.front }
+        record { between = w.0; ended = subst (Appends old w.0) (clean (state_after n s) w.1.wrote.0 w.1.wrote.1) w.1.wrote.2; page = w.2.page; ends = w.2.ends; prefix = w.2.prefix }

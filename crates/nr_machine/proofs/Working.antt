@@ -11,7 +11,7 @@ use Rattle.nr_page.specs.Page.{Holds as HoldsPage}
 use Rattle.nr_input.specs.Place.{HoldsComing}
 use Rattle.nr_input.specs.Laws.{all_counted}
 use Rattle.nr_input.specs.Moving as input
-use Rattle.nr_input.specs.Refusal.{place_told}
+use Rattle.nr_input.specs.Refusal.{place_reported}
 use Rattle.nr_input.specs.declared.refusal.Refusal.{Refusal}
 use Rattle.nr_input.specs.declared.refusal.Refusal.TheVariants as refusals
 use Rattle.nr_formatter.specs.Limits as formatter
@@ -101,34 +101,34 @@ module _ (supply : Option Supply) (s t : State) (e : Shape) (works : kind s ≡ 
   passes : (which : Measure) → passed t ≡ Some which → Passes s which
   passes which over = subst (λ k. PassesBy k s which) (sym works) (ap passed is ∙ over)
 
-  -- it is told after all bytes that were taken
-  told_at : (n : ℕ) → n ≡ s.coming.taken → n ≡ place_by (kind s) s
-  told_at n taken = subst (λ k. n ≡ place_by k s) (sym works) taken
+  -- it is reported after all bytes that were taken
+  reported_at : (n : ℕ) → n ≡ s.coming.taken → n ≡ place_by (kind s) s
+  reported_at n taken = subst (λ k. n ≡ place_by k s) (sym works) taken
 
   -- a work that is all of a move, at this place of the input
   pub worked : (old new : Option (List ℕ)) (r : Result (Unit {0}) Stop) (n : ℕ) → n ≡ s.coming.taken → AfterWork supply s t e old new r → AfterMove s e supply old new (stopped n r)
   worked old new (Ok x) n taken w = moved old new w.0 w.1
-  worked old new (Err (stops.Limit which)) n taken w = ((passes which w.0, told_at n taken), w.1)
+  worked old new (Err (stops.Limit which)) n taken w = ((passes which w.0, reported_at n taken), w.1)
   worked old new (Err stops.WriteFault) n taken w = (
     (subst (λ k. GoesBy k s) (sym works) (ap passed is ∙ passed_none t w.0), (w.1.page, ap (λ x. x.pages) is ∙ w.1.ends)),
-    record { page = w.1.page; ends = ap (λ x. x.pages) is ∙ w.1.ends; front = w.1.front },
+    record { page = w.1.page; ends = ap (λ x. x.pages) is ∙ w.1.ends; prefix = w.1.prefix },
   )
 
   pub worked_quietly : (held : Option (List ℕ)) (r : Result (Unit {0}) Measure) (n : ℕ) → n ≡ s.coming.taken → AfterQuietWork supply s t e r → AfterMove s e supply held held (limited n r)
   worked_quietly held (Ok x) n taken w = moved held held w.0 (wrote_nothing s t held w.1)
-  worked_quietly held (Err which) n taken w = ((passes which w, told_at n taken), Keeps-refl held)
+  worked_quietly held (Err which) n taken w = ((passes which w, reported_at n taken), Keeps-refl held)
 
 -- ---- a move that reads is refused
 
-module _ (s : State) (reads : kind s ≡ ReadsKind) (n : ℕ) (told : n ≡ place_told s.coming.taken s.formatter.reader) where
+module _ (s : State) (reads : kind s ≡ ReadsKind) (n : ℕ) (emitted : n ≡ place_reported s.coming.taken s.formatter.reader) where
   at_place : n ≡ place_by (kind s) s
-  at_place = subst (λ k. n ≡ place_by k s) (sym reads) told
+  at_place = subst (λ k. n ≡ place_by k s) (sym reads) emitted
 
   pub refused_stops : (x : Refusal) → input.Refuses (situation_of s) x → Stops s (refusal_outcome n x)
   refused_stops refusals.Stored h = (subst (λ k. PassesBy k s measures.Stored) (sym reads) (refusals.Stored, h, refl), at_place)
   refused_stops refusals.Depth h = (subst (λ k. PassesBy k s measures.Depth) (sym reads) (refusals.Depth, h, refl), at_place)
   refused_stops refusals.Expansions h = (subst (λ k. PassesBy k s measures.Expansions) (sym reads) (refusals.Expansions, h, refl), at_place)
-  refused_stops refusals.ReadFault h = (reads, h, told ∙ all_counted (situation_of s) h)
+  refused_stops refusals.ReadFault h = (reads, h, emitted ∙ all_counted (situation_of s) h)
   refused_stops refusals.TooLong h = (reads, h)
 
 -- nothing goes out then

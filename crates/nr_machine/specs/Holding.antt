@@ -3,7 +3,7 @@ use Rattle.std.specs.Prelude.{◌≡◌, ◌≢◌, ℕ, ◌+◌, ◌*◌, ◌�
 use Rattle.std.specs.Io.KnownBytes.{Appends, Keeps}
 use Rattle.nr_units.specs.Failures.{counted_if}
 use Rattle.nr_units.specs.Source.{Supply}
-use Rattle.nr_units.specs.Sink.{AppendsFront}
+use Rattle.nr_units.specs.Sink.{AppendsPrefix}
 use Rattle.nr_vectors.specs.declared.cell.Cell.{Cell}
 use Rattle.nr_fill.specs.CellRow.{Row, IsRow}
 use Rattle.nr_page.specs.Grid.{Placed, page_charge}
@@ -133,17 +133,17 @@ pub record Wrote (s t : State) (old new : Option (List ℕ)) : Type 0 where
   pub wrote : (more : List ℕ) × Grows s t more × Appends old new more
 
 -- one page more ended between two states, and a prefix of it went out
-pub record WroteFront (s t : State) (old new : Option (List ℕ)) : Type 0 where
+pub record WrotePrefix (s t : State) (old new : Option (List ℕ)) : Type 0 where
   pub page : Ended
   pub ends : t.pages ≡ s.pages ++ page ∷ []
-  pub front : AppendsFront old new (bytes_of page)
+  pub prefix : AppendsPrefix old new (bytes_of page)
 
 -- from s the machine comes to t: the engine holds t, or a limit or a write stops it
 abbrev pub AfterWork : Option Supply → State → State → Shape → Option (List ℕ) → Option (List ℕ)
     → Result (Unit {0}) Stop → Type 0
 AfterWork supply s t e old new (Ok x) = Holds [] supply t e × Wrote s t old new
 AfterWork supply s t e old new (Err (stops.Limit which)) = (passed t ≡ Some which) × Keeps old new
-AfterWork supply s t e old new (Err stops.WriteFault) = IsWithin t × WroteFront s t old new
+AfterWork supply s t e old new (Err stops.WriteFault) = IsWithin t × WrotePrefix s t old new
 
 -- the same where no page ends
 abbrev pub AfterQuietWork : Option Supply → State → State → Shape → Result (Unit {0}) Measure → Type 0
@@ -220,7 +220,7 @@ Left s Done old new = Keeps old new
 Left s (Limit which at) old new = Keeps old new
 Left s (ReadFault at) old new = Keeps old new
 Left s TooLong old new = Keeps old new
-Left s WriteFault old new = WroteFront s (step s) old new
+Left s WriteFault old new = WrotePrefix s (step s) old new
 
 abbrev pub AfterMove : State → Shape → Option Supply → Option (List ℕ) → Option (List ℕ)
     → Result (Unit {0}) Outcome → Type 0
@@ -239,9 +239,9 @@ pub record Moves (e f : Shape) (supply supply' : Option Supply) (old new : Optio
   pub advances : Advances e f supply supply' old new r
   pub spends : OnOk r (Spends e f)
 
--- The count of the source's failed calls rises where this is told of one that had not failed before.
+-- The count of the source's failed calls rises where this is reported of one that had not failed before.
 abbrev pub CountsFault : Shape → Bool → ℕ → ℕ → Type 0
-CountsFault e told old new = has_failed e.place.ahead ≡ false → new ≡ counted_if told old
+CountsFault e emitted old new = has_failed e.place.ahead ≡ false → new ≡ counted_if emitted old
 
 -- what a move that reads tells of the source, by the count of its failed calls
 pub record TellsRead (e f : Shape) (r : Result (Unit {0}) Refusal) (old new : ℕ) : Type 0 where
@@ -269,7 +269,7 @@ WritesFrom s t (Limit which at) old new = Wrote s t old new
 WritesFrom s t (ReadFault at) old new = Wrote s t old new
 WritesFrom s t TooLong old new = Wrote s t old new
 WritesFrom s t WriteFault old new =
-    (between : Option (List ℕ)) × Wrote s t old between × WroteFront t (step t) between new
+    (between : Option (List ℕ)) × Wrote s t old between × WrotePrefix t (step t) between new
 
 -- n moves were made from s, and the run stops there
 pub record Halts (s : State) (n : ℕ) (outcome : Outcome) (old new : Option (List ℕ)) : Type 0 where

@@ -13,8 +13,8 @@ use Rattle.nr_reading.specs.Setting.{not_continued}
 use Rattle.nr_input.specs.Acting.{on_half}
 use Rattle.nr_input.specs.Place.{emptied}
 use Rattle.nr_input.specs.Moving.{Situation, Move, situation, move as input_move}
-use Rattle.nr_input.specs.declared.told.Told.{Told}
-use Rattle.nr_input.specs.declared.told.Told.TheVariants as tells
+use Rattle.nr_input.specs.declared.emitted.Emitted.{Emitted}
+use Rattle.nr_input.specs.declared.emitted.Emitted.TheVariants as tells
 use Rattle.nr_formatter.specs.declared.formatter.Formatter.{Formatter}
 use Rattle.nr_formatter.specs.declared.lines.Going.{Going}
 use Rattle.nr_formatter.specs.declared.paper.Outlet.{Outlet}
@@ -30,7 +30,7 @@ use Rattle.nr_symbol_tables.specs.declared.trap.Trap.{Trap}
 use Rattle.nr_formatter.specs.Access.{collected, spacing, done}
 use Rattle.nr_formatter.specs.Places.{outlet, to_read}
 use Rattle.nr_formatter.specs.Lines.{flow_line, break_line, row_going, after_line, flow_done, break_word_end, break_done}
-use Rattle.nr_formatter.specs.Pages.{begins_first_page, place_behind, line_placed, page_begun, page_ended, is_ejecting, task_ejected, next_springing}
+use Rattle.nr_formatter.specs.Pages.{begins_first_page, place_after, line_placed, page_begun, page_ended, is_ejecting, task_ejected, next_springing}
 use Rattle.nr_formatter.specs.Spacing.{is_spaceless, spaced}
 use Rattle.nr_formatter.specs.Diversions.{divert_line, divert_title, with_diverted_space, with_diverted_cell, with_diverted_end}
 use Rattle.nr_formatter.specs.Titles.{title_row, title_set}
@@ -51,20 +51,20 @@ abbrev pub choose : Choice → Formatter → Formatter
 choose (First n) f = first_set n f
 choose (Register name n) f = register_set (name ∷ []) n None f
 
--- ---- reading: the item in front is looked at, and taken or left; or what is due is done
+-- ---- reading: the next item is looked at, and taken or left; or what is pending is done
 
 abbrev pub situation_of : State → Situation Resume
 situation_of s = situation s.formatter.store s.coming s.formatter.reader
 
 -- what was read is acted on then; what a sprung macro interrupted is gone on with
-abbrev pub told : Told Resume → Formatter → Formatter
-told (tells.Event e) f = record f { event = e }
-told (tells.Resume r) f = resumed r f
+abbrev pub emitted : Emitted Resume → Formatter → Formatter
+emitted (tells.Event e) f = record f { event = e }
+emitted (tells.Resume r) f = resumed r f
 
 abbrev pub with_situation : Move Resume → State → State
 with_situation m s = record s {
   coming = m.situation.coming;
-  formatter = told m.told (record s.formatter { store = m.situation.stored; reader = m.situation.reader });
+  formatter = emitted m.emitted (record s.formatter { store = m.situation.stored; reader = m.situation.reader });
 }
 
 abbrev pub read : State → State
@@ -99,7 +99,7 @@ row_at place = place / 40 - 1
 
 -- the line that these cells make, of this height
 abbrev pub placed : List Cell → ℕ → Formatter → Placed
-placed cells height f = record { row = row_at (place_behind height f); cells = trimmed cells }
+placed cells height f = record { row = row_at (place_after height f); cells = trimmed cells }
 
 -- a row goes on the page as a line of this height, and the formatter is this one then
 abbrev pub place : List Cell → ℕ → Formatter → State → State

@@ -2,9 +2,9 @@
 use Rattle.std.specs.Prelude.{◌≡◌, ◌≢◌, ◌⊎◌, ℕ, ◌<◌, ◌≤◌, ◌+◌, ◌*◌, List, [], ◌∷◌, ◌++◌, Option, None, Some, Result, Ok, Err, Bool, true, false}
 use Rattle.std.specs.Io.KnownBytes.{Appends}
 use Rattle.nr_units.specs.Failures.{SinkFailures, counted_if, put_counted_if}
-use Rattle.nr_units.specs.Sink.{AppendsFront}
+use Rattle.nr_units.specs.Sink.{AppendsPrefix}
 use Rattle.nr_input.specs.Moving as input
-use Rattle.nr_input.specs.Refusal.{place_told}
+use Rattle.nr_input.specs.Refusal.{place_reported}
 use Rattle.nr_input.specs.declared.refusal.Refusal.{Refusal}
 use Rattle.nr_input.specs.declared.refusal.Refusal.TheVariants as refusals
 use Rattle.nr_reading.specs.declared.event.Event.{Event}
@@ -89,7 +89,7 @@ EndsPage s = (page : Ended) × ((step s).pages ≡ s.pages ++ page ∷ [])
 
 -- after how many bytes of the input the run stops at a limit
 abbrev pub place_by : Kind → State → ℕ
-place_by Reads s = place_told s.coming.taken s.formatter.reader
+place_by Reads s = place_reported s.coming.taken s.formatter.reader
 place_by k s = s.coming.taken
 
 -- the run stops here, as the outcome says
@@ -104,7 +104,7 @@ Stops s TooLong = (kind s ≡ Reads) × input.Refuses (situation_of s) refusals.
 -- the next move is made and ends a page, but not all of it is written
 Stops s WriteFault = Goes s × EndsPage s
 
--- So many moves were made as a run may make, and one more is due.
+-- So many moves were made as a run may make, and one more is pending.
 abbrev pub AreSpent : ℕ → ℕ → State → Type 0
 AreSpent most n s = (n ≡ most) × (kind s ≢ Over)
 
@@ -126,7 +126,7 @@ pub record BreaksOff (s : State) (old new : Option (List ℕ)) : Type 0 where
   pub ended : Appends old between (text s.pages)
   pub page : Ended
   pub ends : (step s).pages ≡ s.pages ++ page ∷ []
-  pub front : AppendsFront between new (bytes_of page)
+  pub prefix : AppendsPrefix between new (bytes_of page)
 
 -- the pages that have ended
 abbrev pub Writes : State → Outcome → Option (List ℕ) → Option (List ℕ) → Type 0
@@ -213,6 +213,6 @@ fails_writing (Err (stops.Limit which)) = false
 fails_writing (Err stops.WriteFault) = true
 
 -- A fault of the source or the sink is reported where a call of it failed, and no other call failed: by the counts of failed calls.
-pub record ToldFaults (outcome : Outcome) (reads reads' : ℕ) (writes writes' : SinkFailures) : Type 0 where
+pub record ReportedFaults (outcome : Outcome) (reads reads' : ℕ) (writes writes' : SinkFailures) : Type 0 where
   pub read_failures : reads' ≡ counted_if (is_read_fault outcome) reads
   pub write_failures : writes' ≡ put_counted_if (is_write_fault outcome) writes

@@ -40,9 +40,9 @@ impl Engine {
     ghost use Rattle.nr_input.specs.Weights.{left_to_resume};
     ghost use Rattle.nr_formatter.specs.Weights.{Falls};
     ghost use Rattle.nr_formatter.specs.declared.tasks.Resume.{Resume as ResumeValue};
-    ghost use Rattle.nr_input.specs.declared.told.Told.TheVariants as tells;
-    ghost use Rattle.nr_input.specs.Told.{told_as};
-    ghost use Rattle.nr_input.specs.Refusal.{place_told};
+    ghost use Rattle.nr_input.specs.declared.emitted.Emitted.TheVariants as tells;
+    ghost use Rattle.nr_input.specs.Emitted.{emitted_as};
+    ghost use Rattle.nr_input.specs.Refusal.{place_reported};
     ghost use Rattle.nr_formatter.specs.Moves.{works, worked};
     ghost use Rattle.nr_formatter.specs.Springing.{sprung};
     ghost use Rattle.nr_reading.specs.declared.event.Event.TheVariants as events;
@@ -50,7 +50,7 @@ impl Engine {
     ghost use Rattle.nr_formatter.specs.declared.tasks.Task.TheVariants as tasks;
     ghost use Rattle.nr_machine.specs.declared.outcome.Outcome.TheVariants as outcomes;
     ghost use Rattle.nr_machine.specs.State.{plainly};
-    ghost use Rattle.nr_machine.specs.Machine.{told as told_formatter, act as act_request, work as work_state, hear as hear_event};
+    ghost use Rattle.nr_machine.specs.Machine.{emitted as emitted_formatter, act as act_request, work as work_state, hear as hear_event};
     ghost use Rattle.nr_machine.specs.Run.{refused, fails_writing, stops_writing};
     ghost use Rattle.nr_machine.specs.Holding.{shape, ReadsNext, IsUnderWay, IsAtWork, WorksQuietly, Acts, ActsQuietly, Exits, Moves, TellsRead, TellsSource};
     ghost use Rattle.nr_machine.specs.Limits.{limits_of, limits_under};
@@ -97,13 +97,13 @@ impl Engine {
         }
     }
 
-    /// What was told is acted on then; what a sprung macro interrupted is gone on with.
+    /// What was emitted is acted on then; what a sprung macro interrupted is gone on with.
     #[inline(always)]
     fn tell(&mut self, heard: Heard)
         ensures is { shape self.new ≡ record (shape self.old)
-            { formatter = told_formatter (told_as self.old.resumed heard) self.old.formatter } }
+            { formatter = emitted_formatter (emitted_as self.old.resumed heard) self.old.formatter } }
         ensures limits { limits_of (shape self.new) ≡ limits_of (shape self.old) }
-        ensures falls { (resume : ResumeValue) → told_as self.old.resumed heard ≡ tells.Resume resume
+        ensures falls { (resume : ResumeValue) → emitted_as self.old.resumed heard ≡ tells.Resume resume
             → self.old.formatter.event ≡ events.Nothing → self.old.formatter.task ≡ tasks.Read
             → Falls 0 left_to_resume self.old.formatter self.new.formatter }
     {
@@ -113,13 +113,13 @@ impl Engine {
         }
     }
 
-    /// The item in front of the input is looked at, and taken or left; or what is due is done.
+    /// The next item of the input is looked at, and taken or left; or what is pending is done.
     #[inline(always)]
     fn read<R: Source>(&mut self, input: &mut R) -> Result<(), Refusal>
         requires { ReadsNext self.old.formatter }
         ensures moves { (held : Option (List ℕ))
             → Moves (shape self.old) (shape self.new) (R.supply input.old) (R.supply input.new) held held
-            (refused (place_told self.old.place.taken self.old.formatter.reader) result) }
+            (refused (place_reported self.old.place.taken self.old.formatter.reader) result) }
         ensures limits { limits_of (shape self.new) ≡ limits_of (shape self.old) }
         ensures tells { TellsRead (shape self.old) (shape self.new) result (R.failures input.old)
             (R.failures input.new) }
@@ -250,8 +250,8 @@ impl Engine {
         match self.formatter.event {
             Event::Nothing => match self.formatter.task {
                 Task::Read => {
-                    let told = self.formatter.reader.place_told(at);
-                    Outcome::refused(self.read(input), told)
+                    let emitted = self.formatter.reader.place_reported(at);
+                    Outcome::refused(self.read(input), emitted)
                 }
                 Task::Halted => Err(Outcome::Done),
                 task => Outcome::stopped(self.work(task, output), at),

@@ -1,7 +1,7 @@
 //! Beginning and ending a page, and what is placed on it. (CSTR 54, section 3.)
 ghost use Rattle.std.specs.Prelude.{◌≡◌, List, Option, Bool, Ok, Err, OnOk, OnErr, false};
 ghost use Rattle.std.specs.Io.KnownBytes.{Appends};
-ghost use Rattle.nr_units.specs.Sink.{AppendsFront};
+ghost use Rattle.nr_units.specs.Sink.{AppendsPrefix};
 ghost use Rattle.nr_fill.specs.CellRow.{IsRow};
 ghost use Rattle.nr_vectors.specs.declared.cell.Cell.{Cell as CellValue};
 ghost use Rattle.nr_page.specs.Page.{Holds as HoldsPage};
@@ -54,7 +54,7 @@ impl Engine {
             → Appends (W.held output.old) (W.held output.new) (bytes_of (page_of s))) }
         ensures err { OnErr result ((s : State) → HoldsPage s.lines self.now.page → s.select ≡ self.now.select
             → s.faces ≡ self.now.faces → s.formatter ≡ self.now.formatter
-            → AppendsFront (W.held output.old) (W.held output.new) (bytes_of (page_of s))) }
+            → AppendsPrefix (W.held output.old) (W.held output.new) (bytes_of (page_of s))) }
         ensures failures { W.failures output.new ≡ put_counted (W.failures output.old) result }
     {
         if !self.select.has(i64::from(self.formatter.paper.number)) {
@@ -108,7 +108,7 @@ impl Engine {
         ensures falls { OnOk result (Falls 0 4 self.old.formatter self.new.formatter
             × (self.new.place ≡ self.old.place)) }
     {
-        let row = row_at(self.formatter.place_behind(height));
+        let row = row_at(self.formatter.place_after(height));
         let Some(cells) = self.row.row() else {
             return Err(Measure::PageCells);
         };

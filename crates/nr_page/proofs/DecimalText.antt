@@ -1,4 +1,4 @@
--- Where the digits at the front of a text end, and how their value grows.
+-- Where the digits at the beginning of a text end, and how their value grows.
 use Rattle.std.proofs.Common.{◌≡◌, ℕ, zero, suc, ◌+◌, ◌*◌, ◌<◌, ◌≤◌, List, [], ◌∷◌, ◌++◌, length, get_or, drop, refl, ap, subst, arith}
 use Rattle.std.specs.Char.{digit_value}
 use Rattle.std.specs.Int.{IsOutOfRange}
@@ -35,14 +35,14 @@ pub digits_value_after-ge : (n : ℕ) (digits : List ℕ) → n ≤ digits_value
 digits_value_after-ge n [] = omega arith
 digits_value_after-ge n (digit ∷ digits) = omega (arith, digits_value_after-ge (n * 10 + digit_value digit) digits)
 
--- digits at the front of a text are the first of all those that it begins with
-pub digits_value_after-front : (n : ℕ) (a b c d : List ℕ) → AllDigits 10 a → AllDigits 10 b → BeginsNoDigit d → a ++ c ≡ b ++ d
+-- digits at the beginning of a text are the first of all those that it begins with
+pub digits_value_after-prefix : (n : ℕ) (a b c d : List ℕ) → AllDigits 10 a → AllDigits 10 b → BeginsNoDigit d → a ++ c ≡ b ++ d
     → digits_value_after 10 n a ≤ digits_value_after 10 n b
-digits_value_after-front n [] b c d p q k e = digits_value_after-ge n b
-digits_value_after-front n (x ∷ a) [] c [] p q k e = cc
-digits_value_after-front n (x ∷ a) [] c (z ∷ d) p q k e = let same : x ≡ z = cc in absurd (omega (arith, ap digit_value same, k, p.0))
-digits_value_after-front n (x ∷ a) (y ∷ b) c d p q k e =
+digits_value_after-prefix n [] b c d p q k e = digits_value_after-ge n b
+digits_value_after-prefix n (x ∷ a) [] c [] p q k e = cc
+digits_value_after-prefix n (x ∷ a) [] c (z ∷ d) p q k e = let same : x ≡ z = cc in absurd (omega (arith, ap digit_value same, k, p.0))
+digits_value_after-prefix n (x ∷ a) (y ∷ b) c d p q k e =
     let same : x ≡ y = cc in
     let rest : a ++ c ≡ b ++ d = cc in
     subst (λ (v : ℕ). digits_value_after 10 (n * 10 + digit_value x) a ≤ digits_value_after 10 (n * 10 + digit_value v) b) same
-    (digits_value_after-front (n * 10 + digit_value x) a b c d p.1 q.1 k rest)
+    (digits_value_after-prefix (n * 10 + digit_value x) a b c d p.1 q.1 k rest)

@@ -21,11 +21,11 @@ length-overlaid (cell ∷ below) [] = omega arith
 length-overlaid (cell ∷ below) (over ∷ above) = omega (arith, length-overlaid below above)
 
 -- after the cells that were laid, what was there before
-overlaid-behind : (below above : List Cell) (i : ℕ) → i < length below → i < length above → cell_or_blank (overlaid below (take i above)) i ≡ cell_or_blank below i
-overlaid-behind [] above i low within = absurd (omega arith)
-overlaid-behind (cell ∷ below) [] i low within = absurd (omega arith)
-overlaid-behind (cell ∷ below) (over ∷ above) zero low within = refl
-overlaid-behind (cell ∷ below) (over ∷ above) (suc i) low within = overlaid-behind below above i (omega arith) (omega arith)
+overlaid-afterwards : (below above : List Cell) (i : ℕ) → i < length below → i < length above → cell_or_blank (overlaid below (take i above)) i ≡ cell_or_blank below i
+overlaid-afterwards [] above i low within = absurd (omega arith)
+overlaid-afterwards (cell ∷ below) [] i low within = absurd (omega arith)
+overlaid-afterwards (cell ∷ below) (over ∷ above) zero low within = refl
+overlaid-afterwards (cell ∷ below) (over ∷ above) (suc i) low within = overlaid-afterwards below above i (omega arith) (omega arith)
 
 -- one cell more
 overlaid-take_suc : (below above : List Cell) (i : ℕ) → i < length below → i < length above
@@ -47,7 +47,7 @@ pub overlaid-take_blank : (below above : List Cell) (i : ℕ) → i < length bel
 overlaid-take_blank below above i low within nothing =
     let next : i + 1 ≡ suc i = omega arith in
     ap (λ n. overlaid below (take n above)) next ∙ overlaid-take_suc below above i low within
-    ∙ ap (set (overlaid below (take i above)) i) (covered_by_blank (cell_or_blank below i) (cell_or_blank above i) nothing ∙ sym (overlaid-behind below above i low within))
+    ∙ ap (set (overlaid below (take i above)) i) (covered_by_blank (cell_or_blank below i) (cell_or_blank above i) nothing ∙ sym (overlaid-afterwards below above i low within))
     ∙ set-get_or (overlaid below (take i above)) i blank
 
 overlaid-longer : (below above : List Cell) → length below ≤ length above → overlaid below (take (length below) above) ++ drop (length below) above ≡ overlaid below above

@@ -1,5 +1,5 @@
 mod Covering
-mod Fronts
+mod Prefixes
 mod Gapped
 mod Keeping
 mod Laying

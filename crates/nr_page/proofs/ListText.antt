@@ -13,11 +13,11 @@ Continues (next ∷ others) after = (rest : List ℕ) × (after ≡ comma ∷ re
 pub record FirstItem (items : List PageRange) (text : List ℕ) : Type 0 where
   pub item : PageRange
   pub others : List PageRange
-  pub front : List ℕ
+  pub prefix : List ℕ
   pub after : List ℕ
   pub items_are : items ≡ item ∷ others
-  pub text_is : text ≡ front ++ after
-  pub spelled : SpellsItem item front
+  pub text_is : text ≡ prefix ++ after
+  pub spelled : SpellsItem item prefix
   pub ends : BeginsAfterItem after
   pub continues : Continues others after
 
@@ -27,7 +27,7 @@ first_item [] text spelled = absurd spelled
 first_item (item ∷ []) text spelled = record {
   item = item;
   others = [];
-  front = text;
+  prefix = text;
   after = [];
   items_are = refl;
   text_is = sym (append-nil text);
@@ -35,10 +35,10 @@ first_item (item ∷ []) text spelled = record {
   ends = tt;
   continues = refl;
 }
-first_item (item ∷ next ∷ others) text (front, rest, text_is, spelled, rest_spelled) = record {
+first_item (item ∷ next ∷ others) text (prefix, rest, text_is, spelled, rest_spelled) = record {
   item = item;
   others = next ∷ others;
-  front = front;
+  prefix = prefix;
   after = comma ∷ rest;
   items_are = refl;
   text_is = text_is;
@@ -48,10 +48,10 @@ first_item (item ∷ next ∷ others) text (front, rest, text_is, spelled, rest_
 }
 
 -- one more item in front
-pub Spells-cons : (item : PageRange) (others : List PageRange) (front rest text : List ℕ) → SpellsItem item front → text ≡ front ++ comma ∷ rest
+pub Spells-cons : (item : PageRange) (others : List PageRange) (prefix rest text : List ℕ) → SpellsItem item prefix → text ≡ prefix ++ comma ∷ rest
     → Spells others rest → Spells (item ∷ others) text
-Spells-cons item [] front rest text spelled is rest_spelled = absurd rest_spelled
-Spells-cons item (next ∷ others) front rest text spelled is rest_spelled = (front, rest, is, spelled, rest_spelled)
+Spells-cons item [] prefix rest text spelled is rest_spelled = absurd rest_spelled
+Spells-cons item (next ∷ others) prefix rest text spelled is rest_spelled = (prefix, rest, is, spelled, rest_spelled)
 
 -- after an item at which the text ends there is none
 pub Continues-nil : (others : List PageRange) (after : List ℕ) → Continues others after → after ≡ [] → others ≡ []

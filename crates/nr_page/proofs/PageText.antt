@@ -167,7 +167,7 @@ module _ (faces : Faces) where
       (λ k le less. same k (omega arith) ∙ own.blanks k le)
       (λ some. same (size - 1) (omega arith) ∙ own.last some) in
       let left : length all - suffix_len is_blank all ≡ size = omega arith in
-      let front_len = length-take-le size all (omega arith) in
+      let prefix_length = length-take-le size all (omega arith) in
       let cells_len = length-take-le size cells short in
       let bytes : flat_map (cell_bytes faces) (trimmed all) ≡ flat_map (cell_bytes faces) (take size cells)
       = ap (λ k. flat_map (cell_bytes faces) (take k all)) left
@@ -208,7 +208,7 @@ module _ (faces : Faces) where
       (append_assoc (rows_bytes faces lines 0 done) (replicate (number - done) (code "\n")) (line_bytes faces cells))
 
   -- the rows up to a place, and those after it
-  pub rows_bytes-front : (lines : List Placed) (n all : ℕ) → n ≤ all → rows_bytes faces lines 0 all ≡ rows_bytes faces lines 0 n ++ rows_bytes faces lines n (all - n)
-  rows_bytes-front lines n all h =
+  pub rows_bytes-prefix : (lines : List Placed) (n all : ℕ) → n ≤ all → rows_bytes faces lines 0 all ≡ rows_bytes faces lines 0 n ++ rows_bytes faces lines n (all - n)
+  rows_bytes-prefix lines n all h =
       let sum : n + (all - n) ≡ all = omega arith in
       ap (rows_bytes faces lines 0) (sym sum) ∙ rows_bytes-add lines 0 n (all - n) ∙ rw (zero-add n)

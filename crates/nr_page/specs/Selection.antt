@@ -30,8 +30,8 @@ SpellsItem (From n) text = (first : List ℕ) × (text ≡ first ++ hyphen ∷ [
 abbrev pub Spells : List PageRange → List ℕ → Type 0
 Spells [] text = ⊥
 Spells (item ∷ []) text = SpellsItem item text
-Spells (item ∷ next ∷ items) text = (front : List ℕ) × (rest : List ℕ) × (text ≡ front ++ comma ∷ rest)
-    × SpellsItem item front × Spells (next ∷ items) rest
+Spells (item ∷ next ∷ items) text = (prefix : List ℕ) × (rest : List ℕ) × (text ≡ prefix ++ comma ∷ rest)
+    × SpellsItem item prefix × Spells (next ∷ items) rest
 
 -- the text is a page list of these items: 1 to 64 of them
 pub record IsPageList (items : List PageRange) (text : List ℕ) : Type 0 where

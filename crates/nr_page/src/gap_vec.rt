@@ -11,8 +11,8 @@ use std::marker::Model;
 #[derive(Drop)]
 pub(crate) struct GapVec<T: Copy> {
     slots: ReservedVec<T>,
-    // The items before the gap stand at the front of the slots, and those after it at their end.
-    front: usize,
+    // The items before the gap stand at the beginning of the slots, and those after it at their end.
+    prefix: usize,
     gap: usize,
     capacity: usize,
 }
@@ -24,11 +24,11 @@ impl<T: Copy> Model for GapVec<T> {
     ghost Value = { Items T };
 
     ghost view = { λ v. record {
-      items = take v.front v.slots.items ++ drop (v.front + v.gap) v.slots.items;
+      items = take v.prefix v.slots.items ++ drop (v.prefix + v.gap) v.slots.items;
       capacity = v.capacity;
     } };
 
-    ghost invariant = { λ v. (v.front + v.gap ≤ length v.slots.items)
+    ghost invariant = { λ v. (v.prefix + v.gap ≤ length v.slots.items)
         × ((length v.slots.items ≤ v.capacity) × (v.slots.capacity ≡ v.capacity)) };
 }
 
@@ -41,7 +41,7 @@ impl<T: Copy> GapVec<T> {
         let slots = ReservedVec::new(alloc, capacity)?;
         Ok(GapVec {
             slots,
-            front: 0,
+            prefix: 0,
             gap: 0,
             capacity,
         })
@@ -64,7 +64,7 @@ impl<T: Copy> GapVec<T> {
         ensures { slice_get self.now.items place ≡ Some result }
     {
         let slots = self.slots.as_slice();
-        if place < self.front {
+        if place < self.prefix {
             slots[place]
         } else {
             slots[self.gap + place]
@@ -76,7 +76,7 @@ impl<T: Copy> GapVec<T> {
         ensures items { self.new.items ≡ slice_set self.old.items place item }
         ensures room { self.new.capacity ≡ self.old.capacity }
     {
-        if place < self.front {
+        if place < self.prefix {
             self.slots[place] = item;
         } else {
             self.slots[self.gap + place] = item;
@@ -89,10 +89,10 @@ impl<T: Copy> GapVec<T> {
         ensures items { self.new.items ≡ insert self.old.items place item }
         ensures room { self.new.capacity ≡ self.old.capacity }
     {
-        move_gap(self.slots.as_mut_slice(), self.front, self.gap, place);
+        move_gap(self.slots.as_mut_slice(), self.prefix, self.gap, place);
         let gap = make_gap(&mut self.slots, self.capacity, place, self.gap, item);
         self.slots[place] = item;
-        self.front = place + 1;
+        self.prefix = place + 1;
         self.gap = gap - 1;
     }
 
@@ -100,7 +100,7 @@ impl<T: Copy> GapVec<T> {
         ensures items { self.new.items ≡ [] }
         ensures room { self.new.capacity ≡ self.old.capacity }
     {
-        self.front = 0;
+        self.prefix = 0;
         self.gap = self.slots.len();
     }
 }
@@ -136,15 +136,15 @@ fn make_gap<T: Copy>(
 }
 
 /// Moves the gap from one place to another.
-fn move_gap<T: Copy>(slots: &mut [T], front: usize, gap: usize, place: usize)
-    requires here { front + gap ≤ length slots.old }
+fn move_gap<T: Copy>(slots: &mut [T], prefix: usize, gap: usize, place: usize)
+    requires here { prefix + gap ≤ length slots.old }
     requires there { place + gap ≤ length slots.old }
-    ensures { take place slots.new ++ drop (place + gap) slots.new ≡ take front slots.old
-        ++ drop (front + gap) slots.old }
+    ensures { take place slots.new ++ drop (place + gap) slots.new ≡ take prefix slots.old
+        ++ drop (prefix + gap) slots.old }
 {
-    if place < front {
-        slots.copy_within(place..front, place + gap);
-    } else if place > front {
-        slots.copy_within(front + gap..place + gap, front);
+    if place < prefix {
+        slots.copy_within(place..prefix, place + gap);
+    } else if place > prefix {
+        slots.copy_within(prefix + gap..place + gap, prefix);
     }
 }

@@ -4,7 +4,7 @@ ghost use Rattle.nr_page.specs.Grid.{Placed, page_charge};
 ghost use Rattle.nr_page.specs.Page.{Holds};
 ghost use Rattle.std.specs.Io.KnownBytes.{Appends};
 ghost use Rattle.nr_units.specs.Failures.{put_counted};
-ghost use Rattle.nr_units.specs.Sink.{AppendsFront};
+ghost use Rattle.nr_units.specs.Sink.{AppendsPrefix};
 ghost use Rattle.nr_page.specs.PageBytes.{page_bytes};
 
 use crate::faces::Faces;
@@ -164,7 +164,7 @@ impl Page {
         ensures ok { OnOk result ((lines : List Placed) → Holds lines self.now
             → Appends (W.held output.old) (W.held output.new) (page_bytes faces rows lines)) }
         ensures err { OnErr result ((lines : List Placed) → Holds lines self.now
-            → AppendsFront (W.held output.old) (W.held output.new) (page_bytes faces rows lines)) }
+            → AppendsPrefix (W.held output.old) (W.held output.new) (page_bytes faces rows lines)) }
         ensures failures { W.failures output.new ≡ put_counted (W.failures output.old) result }
     {
         let count = self.row_count.max(rows as usize);

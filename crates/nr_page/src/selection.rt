@@ -157,12 +157,12 @@ fn read_list(text: &[u8]) -> Option<ArrayVec<PageRange, MOST_ITEMS>>
     }
 }
 
-/// The item at the front of the text, and what follows it.
+/// The item at the beginning of the text, and what follows it.
 fn read_item(text: &[u8]) -> Option<(PageRange, &[u8])>
-    ensures found { IfSome result (λ found. (front : List ℕ) × (text.now ≡ front ++ found.1.now)
-        × SpellsItem found.0 front) }
-    ensures read { (item : Item) (front after : List ℕ) → SpellsItem item front → BeginsAfterItem after
-        → text.now ≡ front ++ after → IsSomeAnd result (λ found. (found.0 ≡ item) × (found.1.now ≡ after)) }
+    ensures found { IfSome result (λ found. (prefix : List ℕ) × (text.now ≡ prefix ++ found.1.now)
+        × SpellsItem found.0 prefix) }
+    ensures read { (item : Item) (prefix after : List ℕ) → SpellsItem item prefix → BeginsAfterItem after
+        → text.now ≡ prefix ++ after → IsSomeAnd result (λ found. (found.0 ≡ item) × (found.1.now ≡ after)) }
 {
     if let Some(rest) = after_byte(text, HYPHEN) {
         let (last, after) = read_number(rest)?;
@@ -182,12 +182,12 @@ fn read_item(text: &[u8]) -> Option<(PageRange, &[u8])>
     }
 }
 
-/// The number at the front of the text, and what follows its last digit.
+/// The number at the beginning of the text, and what follows its last digit.
 fn read_number(text: &[u8]) -> Option<(u32, &[u8])>
-    ensures found { IfSome result (λ found. (front : List ℕ) × (text.now ≡ front ++ found.1.now)
-        × WritesNumber found.0 front) }
-    ensures read { (n : ℕ) (front after : List ℕ) → WritesNumber n front → BeginsNoDigit after
-        → text.now ≡ front ++ after → IsSomeAnd result (λ found. (found.0 ≡ n) × (found.1.now ≡ after)) }
+    ensures found { IfSome result (λ found. (prefix : List ℕ) × (text.now ≡ prefix ++ found.1.now)
+        × WritesNumber found.0 prefix) }
+    ensures read { (n : ℕ) (prefix after : List ℕ) → WritesNumber n prefix → BeginsNoDigit after
+        → text.now ≡ prefix ++ after → IsSomeAnd result (λ found. (found.0 ≡ n) × (found.1.now ≡ after)) }
 {
     let mut value: u64 = 0;
     let mut len = 0;

@@ -2,7 +2,7 @@
 ghost use Rattle.std.specs.Prelude.{◌≡◌, ℕ, ◌*◌, ◌≤◌, ◌++◌, length, replicate, OnOk, OnErr};
 ghost use Rattle.std.specs.Io.KnownBytes.{Appends};
 ghost use Rattle.nr_units.specs.Character.{code};
-ghost use Rattle.nr_units.specs.Sink.{AppendsFront};
+ghost use Rattle.nr_units.specs.Sink.{AppendsPrefix};
 ghost use Rattle.nr_units.specs.Failures.{put_counted};
 ghost use Rattle.nr_page.specs.Gathering.{GathersOrFails};
 ghost use Rattle.nr_page.specs.Overlay.{IsTrimmed, line_bytes, rows_bytes};
@@ -90,7 +90,7 @@ pub(crate) fn write_all<W: Sink>(
         (Appends (W.held output.old) (W.held output.new)
         (rows_bytes faces (rows_of texts.now rows.now.items) 0 count)) }
     ensures err { OnErr result
-        (AppendsFront (W.held output.old) (W.held output.new)
+        (AppendsPrefix (W.held output.old) (W.held output.new)
         (rows_bytes faces (rows_of texts.now rows.now.items) 0 count)) }
     ensures failures { W.failures output.new ≡ put_counted (W.failures output.old) result }
 {

@@ -118,7 +118,7 @@ module _ {T : Type 0} (E F : List T) (slots : List Slot) (used a b n i j : ℕ) 
             | inl k ↦ absurd (ne (h.is ∙ sym k.is))
             | inr q ↦ elim q [
               | inl k ↦ rw (h.now, k.now) (λ _ _ _. omega arith)
-              | inr k ↦ rw (h.now, k.now) (λ sx sy begins. let behind = packed.apart j y (λ e. k.not_j (sym e)) (omega arith) sy (omega arith) in omega arith)
+              | inr k ↦ rw (h.now, k.now) (λ sx sy begins. let afterwards = packed.apart j y (λ e. k.not_j (sym e)) (omega arith) sy (omega arith) in omega arith)
             ]
           ]
           | inr g ↦ elim g [
@@ -126,13 +126,13 @@ module _ {T : Type 0} (E F : List T) (slots : List Slot) (used a b n i j : ℕ) 
               | inl k ↦ rw (h.now, k.now) (λ sx sy begins. absurd (omega arith))
               | inr q ↦ elim q [
                 | inl k ↦ absurd (ne (h.is ∙ sym k.is))
-                | inr k ↦ rw (h.now, k.now) (λ sx sy begins. let behind = packed.apart i y (λ e. k.not_i (sym e)) (omega arith) sy (omega arith) in omega arith)
+                | inr k ↦ rw (h.now, k.now) (λ sx sy begins. let afterwards = packed.apart i y (λ e. k.not_i (sym e)) (omega arith) sy (omega arith) in omega arith)
               ]
             ]
             | inr h ↦ elim (at y) [
-              | inl k ↦ rw (h.now, k.now) (λ sx sy begins. let behind = packed.apart x j h.not_j sx (omega arith) (omega arith) in omega arith)
+              | inl k ↦ rw (h.now, k.now) (λ sx sy begins. let afterwards = packed.apart x j h.not_j sx (omega arith) (omega arith) in omega arith)
               | inr q ↦ elim q [
-                | inl k ↦ rw (h.now, k.now) (λ sx sy begins. let behind = packed.apart x i h.not_i sx (omega arith) (omega arith) in omega arith)
+                | inl k ↦ rw (h.now, k.now) (λ sx sy begins. let afterwards = packed.apart x i h.not_i sx (omega arith) (omega arith) in omega arith)
                 | inr k ↦ rw (h.now, k.now) (packed.apart x y ne)
               ]
             ]

@@ -207,14 +207,14 @@ slot_same E slots i new within same =
 -- what stands in F, which is E with xs from n on
 pub record IsExtended {T : Type 0} (E F xs : List T) (n : ℕ) : Type 0 where
   pub same_length : length F ≡ length E
-  pub front : (k : ℕ) (d : T) → k < n → get_or F k d ≡ get_or E k d
+  pub prefix : (k : ℕ) (d : T) → k < n → get_or F k d ≡ get_or E k d
   pub back : (k : ℕ) (d : T) → k < length xs → get_or F (n + k) d ≡ get_or xs k d
 
 -- one element is written
 pub one_more : {T : Type 0} (E : List T) (n : ℕ) (x : T) → n < length E → IsExtended E (set E n x) (x ∷ []) n
 one_more E n x room = record {
   same_length = length-set E n x;
-  front = λ k d below. get_or-set_other E n k x d (λ e. omega arith);
+  prefix = λ k d below. get_or-set_other E n k x d (λ e. omega arith);
   back = λ k d below. let none : k ≡ 0 = omega arith in rw none (ap (λ m. get_or (set E n x) m d) (add-zero n) ∙ get_or-set_same E n x d room);
 }
 
@@ -222,7 +222,7 @@ one_more E n x room = record {
 pub part_more : {T : Type 0} (E : List T) (n m : ℕ) (ys xs : List T) → ys ≡ xs → m ≡ length xs → n + length xs ≤ length E → IsExtended E (put_mid n m E ys) xs n
 part_more E n m ys xs is size room = rw (is, size) record {
   same_length = search (rules, places);
-  front = λ k d below. search (rules, places);
+  prefix = λ k d below. search (rules, places);
   back = λ k d below. search (rules, places);
 }
 
@@ -230,7 +230,7 @@ part_more E n m ys xs is size room = rw (is, size) record {
 pub copy_more : {T : Type 0} (E F : List T) (start len n : ℕ) (xs : List T) → xs ≡ take len (drop start E) → length xs ≡ len → length F ≡ length E → SameBelow E F n → CopiedTo E F start n len → IsExtended E F xs n
 copy_more E F start len n xs is size lengths before copied = record {
   same_length = lengths;
-  front = before;
+  prefix = before;
   back = λ k d below.
       let k_in : k < len = omega arith in
       copied (n + k) d (omega arith) (omega arith) ∙ ap (λ m. get_or E (start + m) d) (omega arith) ∙ sym (get_or-drop start E k d) ∙ sym (get_or-take len (drop start E) k d k_in) ∙ ap (λ ys. get_or ys k d) (sym is);
@@ -250,7 +250,7 @@ extended E F slots n p i id xs packed view at is_open last room more new start l
     let part : take new.len (drop new.start F) ≡ text p id ++ xs = same_lists _ _ (length_new ∙ len ∙ ap (λ m. m + length xs) (sym length_text) ∙ sym (length-append (text p id) xs)) (λ k d below.
     let in_new : k < new.len = omega arith in
     get_or-take new.len (drop new.start F) k d in_new ∙ get_or-drop new.start F k d ∙ ap (λ m. get_or F (m + k) d) start ∙ elim (cases_lt k s.len) [
-      | inl old ↦ more.front (s.start + k) d (omega arith) ∙ sym (get_or-drop s.start E k d) ∙ sym (get_or-take s.len (drop s.start E) k d old) ∙ ap (λ ys. get_or ys k d) (sym f.text_is) ∙ sym (get_or_append_left (text p id) xs d k (omega arith))
+      | inl old ↦ more.prefix (s.start + k) d (omega arith) ∙ sym (get_or-drop s.start E k d) ∙ sym (get_or-take s.len (drop s.start E) k d old) ∙ ap (λ ys. get_or ys k d) (sym f.text_is) ∙ sym (get_or_append_left (text p id) xs d k (omega arith))
       | inr added ↦
           let place : s.start + k ≡ n + (k - s.len) = omega arith in
           ap (λ m. get_or F m d) place ∙ more.back (k - s.len) d (omega arith) ∙ sym (get_or-append_right (text p id) xs s.len k d length_text added)
@@ -261,7 +261,7 @@ extended E F slots n p i id xs packed view at is_open last room more new start l
     rw (get_or-set_other slots i j new blank_slot other) (same_slot E F t t refl (same_part F E t.start t.start t.len
     (λ some. let inside = packed.inside j some in omega arith)
     (λ some. let inside = packed.inside j some in omega arith)
-    (λ k d below. let inside = packed.inside j (omega arith) in more.front (t.start + k) d (omega arith)))) in
+    (λ k d below. let inside = packed.inside j (omega arith) in more.prefix (t.start + k) d (omega arith)))) in
     let here : held_of F (slot_at (set slots i new) i) ≡ record { elements = text p id ++ xs; holders = holders p id } =
     rw (get_or-set_same slots i new blank_slot f.within) (ap₂ (λ m ys. record { elements = ys; holders = m }) (holders_is ∙ sym f.holders_is) part) in
     rewritten E F slots (set slots i new) p i id _ view at length_F (length-set slots i new) here others
@@ -296,7 +296,7 @@ replaced E slots n p i id k x packed view at is_open within =
     let inside = packed.inside j (omega arith) in
     get_or-set_other E (s.start + k) (t.start + m) x d (λ e.
     let before = packed.apart i j (λ q. other (sym q)) (omega arith) (omega arith) (omega arith) in
-    let behind = packed.apart j i other (omega arith) (omega arith) (omega arith) in
+    let afterwards = packed.apart j i other (omega arith) (omega arith) (omega arith) in
     omega arith))) in
     let here : held_of F (slot_at slots i) ≡ record { elements = set (text p id) k x; holders = holders p id } =
     ap₂ (λ m ys. record { elements = ys; holders = m }) (sym f.holders_is) part in

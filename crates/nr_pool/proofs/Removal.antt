@@ -57,7 +57,7 @@ module _ (capacity u : ℕ) (slots : List Slot) (i n e : ℕ) (new : Slot) (pack
           | inl h ↦ let len = ap (λ (s : Slot). s.len) h.1 in absurd (omega arith)
           | inr h ↦ elim (side j (slot_at closed j) h.0 h.1 long) [
             | inl before ↦ let l = before.len in let t = before.start in let b = before.below in omega arith
-            | inr behind ↦ let l = behind.len in let t = behind.start in let b = behind.inside in omega arith
+            | inr afterwards ↦ let l = afterwards.len in let t = afterwards.start in let b = afterwards.inside in omega arith
           ]
         ];
         apart = λ b c ne some_b some_c begins. elim (closed_at b) [
@@ -69,11 +69,11 @@ module _ (capacity u : ℕ) (slots : List Slot) (i n e : ℕ) (new : Slot) (pack
         ];
       }
 
--- what lies after the gap moved to its front
+-- what lies after the gap moved to its beginning
 pub record IsClosed {T : Type 0} (E F : List T) (a n u : ℕ) : Type 0 where
   pub same_length : length F ≡ length E
   pub before : SameBelow E F a
-  pub behind : CopiedTo E F (a + n) a (u - (a + n))
+  pub afterwards : CopiedTo E F (a + n) a (u - (a + n))
 
 -- ---- each other text is what it was
 
@@ -101,12 +101,12 @@ module _ {T : Type 0} (E F : List T) (u : ℕ) (slots : List Slot) (i n e : ℕ)
                     let start = before.start in
                     let below = before.below in
                     rw (len, start) (same_part F E s.start s.start s.len (λ _. omega arith) (λ _. omega arith) (λ k d in_len. moved.before (s.start + k) d (omega arith)))
-                | inr behind ↦
-                    let start = behind.start in
-                    let above = behind.above in
-                    let inside = behind.inside in
+                | inr afterwards ↦
+                    let start = afterwards.start in
+                    let above = afterwards.above in
+                    let inside = afterwards.inside in
                     rw len (same_part F E t.start s.start s.len (λ _. omega arith) (λ _. omega arith) (λ k d in_len.
-                    moved.behind (t.start + k) d (omega arith) (omega arith) ∙ ap (λ m. get_or E m d) (omega arith)))
+                    moved.afterwards (t.start + k) d (omega arith) (omega arith) ∙ ap (λ m. get_or E m d) (omega arith)))
               ]
               | inr short ↦
                   let no_t : t.len ≡ 0 = omega arith in
@@ -156,7 +156,7 @@ module _ {T : Type 0} (E : List T) (slots : List Slot) (u i next : ℕ) (packed 
         packed = elim (cases_lt 0 n) [
           | inl some ↦
               let inside = packed.inside i some in
-              let behind : u ≤ (slot_at slots i).start + n = elim last [ inl none ↦ absurd (omega arith) | inr h ↦ h ] in
+              let afterwards : u ≤ (slot_at slots i).start + n = elim last [ inl none ↦ absurd (omega arith) | inr h ↦ h ] in
               set_last (length E) u slots i new (u - n) packed within (omega arith) (omega arith) (omega arith) (λ long. absurd (omega arith)) (λ _. refl)
           | inr none ↦
               let nothing : u ≡ u - n = omega arith in

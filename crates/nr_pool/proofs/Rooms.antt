@@ -1,4 +1,4 @@
--- What holds of the texts in the front of a pool's room holds of the pool.
+-- What holds of the texts at the beginning of a pool's room holds of the pool.
 use Rattle.std.proofs.Common.{◌≡◌, ℕ, zero, suc, ◌+◌, ◌-◌, ◌<◌, ◌≤◌, ◌⊎◌, List, [], ◌∷◌, ◌++◌, length, take, drop, map, set, get_or, slice_get, Some, replicate, All, sum_by, ◌^◌, refl, sym, ap, ◌∙◌, inl, inr, subst, append_assoc, length-drop, arith}
 use Rattle.std.proofs.lemmas.List.{length-append, length-map, length-set, map-append, set-append_left, replicate-append-replicate, get_or_append_left, append-nil, take_at, length-take-le}
 use Rattle.std.proofs.lemmas.List.Sums.{sum_by-append}
@@ -25,9 +25,9 @@ entry-with_room c m q id = get_or_padded q.texts (m - length q.texts) id no_text
 
 pub used-with_room : {T : Type 0} (c m : ℕ) (q : Texts T) → used (with_room c m q) ≡ used q
 used-with_room {T = T} c m q =
-    let behind : List (Held T) = replicate (m - length q.texts) no_text in
-    let none : sum_by (λ (t : Held T). length t.elements) behind ≡ 0 = sum_by-replicate (λ (t : Held T). length t.elements) (m - length q.texts) no_text ∙ omega arith in
-    sum_by-append (λ (t : Held T). length t.elements) q.texts behind ∙ ap (λ n. used q + n) none ∙ omega arith
+    let afterwards : List (Held T) = replicate (m - length q.texts) no_text in
+    let none : sum_by (λ (t : Held T). length t.elements) afterwards ≡ 0 = sum_by-replicate (λ (t : Held T). length t.elements) (m - length q.texts) no_text ∙ omega arith in
+    sum_by-append (λ (t : Held T). length t.elements) q.texts afterwards ∙ ap (λ n. used q + n) none ∙ omega arith
 
 with_entry-with_room : {T : Type 0} (c m : ℕ) (q : Texts T) (id : ℕ) (t : Held T) → id < length q.texts → with_room c m (with_entry q id t) ≡ with_entry (with_room c m q) id t
 with_entry-with_room c m q id t within =
@@ -105,11 +105,11 @@ texts_spared E slots c m room =
     let ts = map (held_of E) slots in
     let long : length ts ≡ length slots = length-map slots (held_of E) in
     let k = m - (length slots + 1) in
-    let behind : length (ts ++ no_text ∷ []) ≡ length slots + 1 = omega (arith, length-append ts (no_text ∷ [])) in
+    let afterwards : length (ts ++ no_text ∷ []) ≡ length slots + 1 = omega (arith, length-append ts (no_text ∷ [])) in
     let all : 1 + k ≡ m - length slots = omega arith in
     ap (λ (us : List (Held _)). record { capacity = c; texts = us })
     (ap (λ (us : List (Held _)). us ++ replicate (m - length us) no_text) (map-append (held_of E) slots (blank_slot ∷ []))
-    ∙ ap (λ n. (ts ++ no_text ∷ []) ++ replicate (m - n) no_text) behind
+    ∙ ap (λ n. (ts ++ no_text ∷ []) ++ replicate (m - n) no_text) afterwards
     ∙ append_assoc ts (no_text ∷ []) (replicate k no_text)
     ∙ ap (λ us. ts ++ us) (replicate-append-replicate 1 k no_text)
     ∙ ap (λ n. ts ++ replicate n no_text) (all ∙ ap (λ n. m - n) (sym long)))
@@ -142,7 +142,7 @@ spared E slots news n count first c m p kept view which few = elim which [
 
 -- ---- numbers with and without a text
 
--- a number of the front with no text is one of the pool with none
+-- a number of the prefix with no text is one of the pool with none
 pub free_within : {T : Type 0} (c m : ℕ) (p q : Texts T) (id : ℕ) → with_room c m q ≡ p → slice_get q.texts id ≡ Some no_text → slice_get p.texts id ≡ Some no_text
 free_within c m p q id view free =
     let within = slice_get_within q.texts id no_text free in
@@ -151,7 +151,7 @@ free_within c m p q id view free =
     ∙ slice_get-get_or (q.texts ++ replicate (m - length q.texts) no_text) id no_text (omega arith)
     ∙ ap (λ (t : _). Some t) (get_or_padded q.texts (m - length q.texts) id no_text ∙ get_or_from_slice_get q.texts id no_text no_text free)
 
--- where the front has all numbers, and each has a text
+-- where the prefix has all numbers, and each has a text
 pub all_within : {T : Type 0} (c m : ℕ) (p q : Texts T) → with_room c m q ≡ p → length q.texts ≡ m → All (λ t. 0 < t.holders) q.texts → All (λ t. 0 < t.holders) p.texts
 all_within c m p q view full all =
     let none : m - length q.texts ≡ 0 = omega arith in

@@ -22,11 +22,11 @@ pub record IsMoved (e n : ℕ) (s t : Slot) : Type 0 where
 
 moved_by_shift : (e n : ℕ) (s : Slot) → IsMoved e n s (shifted e n s)
 moved_by_shift e n s = elim (cases_Bool (is_after e s)) [
-  | inl behind ↦
-      let parts = and_parts (ltb 0 s.len) (leb e s.start) behind in
+  | inl afterwards ↦
+      let parts = and_parts (ltb 0 s.len) (leb e s.start) afterwards in
       let some = ltb-true 0 s.len parts.0 in
       let high = leb-true e s.start parts.1 in
-      rw (cond-true (is_after e s) (record s { start = s.start - n }) s behind) record { len = refl; holders = refl; nothing = λ h. absurd (omega arith); low = λ h. absurd (omega arith); high = λ _ _. refl }
+      rw (cond-true (is_after e s) (record s { start = s.start - n }) s afterwards) record { len = refl; holders = refl; nothing = λ h. absurd (omega arith); low = λ h. absurd (omega arith); high = λ _ _. refl }
   | inr before ↦
       rw (cond-false (is_after e s) (record s { start = s.start - n }) s before) record {
         len = refl;
@@ -67,14 +67,14 @@ pub record IsBefore (e n u : ℕ) (moving s t : Slot) : Type 0 where
   pub start : t.start ≡ s.start
   pub below : s.start + s.len ≤ moving.start
 
-pub record IsBehind (e n u : ℕ) (moving s t : Slot) : Type 0 where
+pub record IsAfter (e n u : ℕ) (moving s t : Slot) : Type 0 where
   pub len : t.len ≡ s.len
   pub start : t.start + n ≡ s.start
   pub above : e ≤ s.start
   pub inside : s.start + s.len ≤ u
 
 pub side_of : (capacity u : ℕ) (slots : List Slot) (i : ℕ) (n e : ℕ) → IsPacked capacity slots u → n ≡ (slot_at slots i).len → 0 < n → e ≡ (slot_at slots i).start + n
-    → (j : ℕ) (t : Slot) → j ≢ i → IsMoved e n (slot_at slots j) t → 0 < t.len → IsBefore e n u (slot_at slots i) (slot_at slots j) t ⊎ IsBehind e n u (slot_at slots i) (slot_at slots j) t
+    → (j : ℕ) (t : Slot) → j ≢ i → IsMoved e n (slot_at slots j) t → 0 < t.len → IsBefore e n u (slot_at slots i) (slot_at slots j) t ⊎ IsAfter e n u (slot_at slots i) (slot_at slots j) t
 side_of capacity u slots i n e packed n_is nonempty e_is j t other moved some =
     let len = moved.len in
     elim (cases_lt (slot_at slots j).start e) [
@@ -128,7 +128,7 @@ packed_by_shift capacity u slots i new n e packed within n_is nonempty e_is last
         | inl h ↦ let t = h.1.start in let l = h.1.len in omega arith
         | inr h ↦ elim (side j (slot_at news j) h.0 h.1 some) [
           | inl before ↦ let l = before.len in let t = before.start in let b = before.below in omega arith
-          | inr behind ↦ let l = behind.len in let t = behind.start in let b = behind.inside in omega arith
+          | inr afterwards ↦ let l = afterwards.len in let t = afterwards.start in let b = afterwards.inside in omega arith
         ]
       ];
       apart = λ b c ne some_b some_c begins. elim (at b) [
@@ -136,13 +136,13 @@ packed_by_shift capacity u slots i new n e packed within n_is nonempty e_is last
           | inl k ↦ absurd (ne (h.0 ∙ sym k.0))
           | inr k ↦ elim (side c (slot_at news c) k.0 k.1 some_c) [
             | inl before ↦ let t = h.1.start in let l = before.len in let m = before.start in let w = before.below in omega arith
-            | inr behind ↦ let t = h.1.start in let l = behind.len in let m = behind.start in let w = behind.inside in omega arith
+            | inr afterwards ↦ let t = h.1.start in let l = afterwards.len in let m = afterwards.start in let w = afterwards.inside in omega arith
           ]
         ]
         | inr h ↦ elim (at c) [
           | inl k ↦ elim (side b (slot_at news b) h.0 h.1 some_b) [
             | inl before ↦ let t = k.1.start in let l = before.len in let m = before.start in let w = before.below in absurd (omega arith)
-            | inr behind ↦ let t = k.1.start in let l = behind.len in let m = behind.start in let w = behind.inside in absurd (omega arith)
+            | inr afterwards ↦ let t = k.1.start in let l = afterwards.len in let m = afterwards.start in let w = afterwards.inside in absurd (omega arith)
           ]
           | inr k ↦ apart_moved capacity u slots i n e packed n_is nonempty e_is b c (slot_at news b) (slot_at news c) ne h.0 k.0 h.1 k.1 some_b some_c begins
         ]
@@ -193,10 +193,10 @@ texts_by_shift E R u slots i new a n e packed within a_is n_is nonempty e_is rot
                   let below = before.below in
                   rw (len, start) (same_part F E o.start o.start o.len (λ _. omega arith) (λ _. omega arith) (λ k d in_len.
                   rotated_before E R a n u rotated (omega arith) (omega arith) (o.start + k) d (omega arith)))
-              | inr behind ↦
-                  let start = behind.start in
-                  let above = behind.above in
-                  let inside = behind.inside in
+              | inr afterwards ↦
+                  let start = afterwards.start in
+                  let above = afterwards.above in
+                  let inside = afterwards.inside in
                   rw len (same_part F E t.start o.start o.len (λ _. omega arith) (λ _. omega arith) (λ k d in_len.
                   rotated_within E R a n u rotated (omega arith) (omega arith) (t.start + k) d (omega arith) (omega arith) ∙ ap (λ m. get_or E m d) (omega arith)))
             ]
@@ -236,7 +236,7 @@ brought_last E R u slots shifts i new a n e packed within held a_is n_is nonempt
 -- the loop that moves the slots, at its end
 pub all_shifted : (e n k : ℕ) (slots now : List Slot) → now ≡ map (shifted e n) (take k slots) ++ drop k slots → length slots ≤ k → now ≡ map (shifted e n) slots
 all_shifted e n k slots now is all =
-    is ∙ ap₂ (λ front back. map (shifted e n) front ++ back) (take_all k slots all) (drop_all k slots all) ∙ append-nil (map (shifted e n) slots)
+    is ∙ ap₂ (λ prefix back. map (shifted e n) prefix ++ back) (take_all k slots all) (drop_all k slots all) ∙ append-nil (map (shifted e n) slots)
 
 -- the same loop, one slot further
 shift_step : (e n k : ℕ) (slots now : List Slot) → k < length slots → length now ≡ length slots → now ≡ map (shifted e n) (take k slots) ++ drop k slots
@@ -246,9 +246,9 @@ shift_step e n k slots now within lengths is =
 
 pub shift_step_moves : (e n k : ℕ) (slots now after : List Slot) → k < length slots → length now ≡ length slots → now ≡ map (shifted e n) (take k slots) ++ drop k slots
     → is_after e (slot_at now k) ≡ true → after ≡ set now k (record (slot_at now k) { start = (slot_at now k).start - n }) → after ≡ map (shifted e n) (take (k + 1) slots) ++ drop (k + 1) slots
-shift_step_moves e n k slots now after within lengths is behind written =
+shift_step_moves e n k slots now after within lengths is afterwards written =
     let o = slot_at now k in
-    written ∙ ap (set now k) (sym (cond-true (is_after e o) (record o { start = o.start - n }) o behind)) ∙ shift_step e n k slots now within lengths is
+    written ∙ ap (set now k) (sym (cond-true (is_after e o) (record o { start = o.start - n }) o afterwards)) ∙ shift_step e n k slots now within lengths is
 
 pub shift_step_keeps : (e n k : ℕ) (slots now after : List Slot) → k < length slots → length now ≡ length slots → now ≡ map (shifted e n) (take k slots) ++ drop k slots
     → is_after e (slot_at now k) ≡ false → after ≡ set now k (slot_at now k) → after ≡ map (shifted e n) (take (k + 1) slots) ++ drop (k + 1) slots

@@ -12,7 +12,7 @@ use std::marker::Model;
 /// Texts of elements of `T` as `Pool` has them, each with elements of its own.
 #[derive(Drop)]
 pub(crate) struct Packed<T: Copy> {
-    // The elements of the texts lie at the front. What lies after them is of no account.
+    // The elements of the texts lie at the beginning. What lies after them is of no account.
     elements: ReservedVec<T>,
     capacity: usize,
     // The slots that have had a text since all were removed.

@@ -12,7 +12,7 @@ const FEW: usize = 8;
 
 const SHORT: usize = 64;
 
-/// How many elements after a text that is removed move to the front in any case.
+/// How many elements after a text that is removed move to the beginning in any case.
 const MUCH: u32 = 64;
 
 /// What a `Pool` keeps for one text: 12 bytes.

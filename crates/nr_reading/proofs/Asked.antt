@@ -14,7 +14,7 @@ use Rattle.nr_reading.specs.declared.ask.Stage.{Stage}
 use Rattle.nr_reading.specs.declared.ask.Stage.TheVariants as stages
 use Rattle.nr_reading.specs.declared.event.Event.TheVariants as events
 use Rattle.nr_reading.specs.declared.half.Half.{Half}
-use Rattle.nr_reading.specs.declared.mode.Due.TheVariants as dues
+use Rattle.nr_reading.specs.declared.mode.PendingAct.TheVariants as pending_acts
 use Rattle.nr_reading.specs.declared.mode.Escape.{Escape}
 use Rattle.nr_reading.specs.declared.mode.Escape.TheVariants as escapes
 use Rattle.nr_reading.specs.declared.mode.Mode.{Mode}
@@ -23,15 +23,15 @@ use Rattle.nr_reading.specs.declared.mode.Signs.{Signs}
 use Rattle.nr_reading.specs.declared.notes.Notes.{Notes}
 use Rattle.nr_reading.specs.declared.spelled.Spelled.{Spelled}
 use Rattle.nr_reading.specs.Ask.{is_argument, is_digit, is_unsigned, is_given, answer_byte, answer}
-use Rattle.nr_reading.specs.Ended.{due_of, event_of}
+use Rattle.nr_reading.specs.Ended.{pending_of, event_of}
 use Rattle.nr_reading.specs.Delimited.{Texts}
-use Rattle.nr_reading.specs.Half.{Met, answered, left_escape}
+use Rattle.nr_reading.specs.Half.{TakenIn, answered, left_escape}
 use Rattle.nr_reading.specs.Spelled.{is_blank, is_empty, name_of}
-use Rattle.nr_reading.specs.Weights.{cost_of_event, paid_by, weight_by, weight_of_escape, weight_of_backslash, weight_of_half, weight_of_ask, blanks_owed, blanks_of_due, is_lead}
+use Rattle.nr_reading.specs.Weights.{cost_of_event, paid_by, weight_by, weight_of_escape, weight_of_backslash, weight_of_half, weight_of_ask, blanks_owed, blanks_of_pending, is_lead}
 use Rattle.nr_reading.proofs.Weighing.{at, weight_of_backslash-ge, weight_of_stage-ge}
 
--- an item met what is half read: what comes of it is paid, at so much for the item
-pub record Meets (h : Half) (worth : ℕ) (m : Met) : Type 0 where
+-- an item has come to what is half read: what comes of it is paid, at so much for the item
+pub record TakesIn (h : Half) (worth : ℕ) (m : TakenIn) : Type 0 where
   pub pays : weight_of_half m.half + cost_of_event m.event + 178 * (blanks_owed m.half - blanks_owed h) ≤ weight_of_half h + paid_by m.takes worth
   pub tells : is_lead m.event ≡ false
 
@@ -84,13 +84,13 @@ answer_answers b long a = either (b == code "\n") (record { pays = omega arith }
 -- ---- where it has ended, what it splices and what it tells weigh 367
 
 record Ends (k : Kind) (name : List ℕ) (m : Mode) (e : Escape) : Type 0 where
-  pub pays : weight_by (due_of k name) m e + cost_of_event (event_of k name) ≤ weight_by dues.Look m e + 367
-  pub blanks : blanks_of_due (due_of k name) ≡ 0
+  pub pays : weight_by (pending_of k name) m e + cost_of_event (event_of k name) ≤ weight_by pending_acts.Look m e + 367
+  pub blanks : blanks_of_pending (pending_of k name) ≡ 0
   pub tells : is_lead (event_of k name) ≡ false
 
 register_ends : (given : Bool) (s : Sign) (m : Mode) (e : Escape)
-    → (weight_by (if given then dues.Look else dues.Register s) m e + cost_of_event (if given then events.Given else events.Nothing) ≤ weight_by dues.Look m e + 367)
-    × (blanks_of_due (if given then dues.Look else dues.Register s) ≡ 0)
+    → (weight_by (if given then pending_acts.Look else pending_acts.Register s) m e + cost_of_event (if given then events.Given else events.Nothing) ≤ weight_by pending_acts.Look m e + 367)
+    × (blanks_of_pending (if given then pending_acts.Look else pending_acts.Register s) ≡ 0)
     × (is_lead (if given then events.Given else events.Nothing) ≡ false)
 register_ends true s m e = (omega arith, refl, refl)
 register_ends false signs.None m e = (omega arith, refl, refl)
@@ -102,59 +102,59 @@ ends (kinds.Register s) name m e = let r = register_ends (is_given name) s m e i
 ends kinds.String name m e = record { pays = omega arith; blanks = refl; tells = refl }
 ends k name m e = record { pays = omega arith; blanks = refl; tells = refl }
 
--- ---- the item in front comes to it
+-- ---- the next item comes to it
 
-pub front_meets : (x : Answer) (a : Ask) (asks : List Ask) (m : Mode) (e : Escape) (c n : Bool) (s : Signs) (d : Texts) (o : Notes) → Affords a x
-    → let h = half_at (at m e c n) s (a ∷ asks) d o in Meets h 256 (answered true x h)
-front_meets (answers.Goes b) a asks m e c n s d o p =
+pub next_item_takes_in : (x : Answer) (a : Ask) (asks : List Ask) (m : Mode) (e : Escape) (c n : Bool) (s : Signs) (d : Texts) (o : Notes) → Affords a x
+    → let h = half_at (at m e c n) s (a ∷ asks) d o in TakesIn h 256 (answered true x h)
+next_item_takes_in (answers.Goes b) a asks m e c n s d o p =
     let new = sum_by-cons weight_of_ask b asks in let old = sum_by-cons weight_of_ask a asks in let q = p.pays in record { pays = omega arith; tells = refl }
-front_meets (answers.Turns b) a asks m e c n s d o p =
+next_item_takes_in (answers.Turns b) a asks m e c n s d o p =
     let new = sum_by-cons weight_of_ask b asks in let old = sum_by-cons weight_of_ask a asks in let q = p.pays in record { pays = omega (arith, left_escape-le (weight_of_backslash m) e); tells = refl }
-front_meets (answers.Keeps b) a asks m e c n s d o p = record { pays = omega arith; tells = refl }
-front_meets (answers.Ends b) a asks m e c n s d o p =
+next_item_takes_in (answers.Keeps b) a asks m e c n s d o p = record { pays = omega arith; tells = refl }
+next_item_takes_in (answers.Ends b) a asks m e c n s d o p =
     let old = sum_by-cons weight_of_ask a asks in
     let end = ends b.kind (name_of b.name) m escapes.Plain in
     let worth = end.pays in
     let none = end.blanks in
     record { pays = omega (arith, weight_of_stage-ge a.stage); tells = end.tells }
-front_meets (answers.Stops b) a asks m e c n s d o p =
+next_item_takes_in (answers.Stops b) a asks m e c n s d o p =
     let old = sum_by-cons weight_of_ask a asks in
     let end = ends b.kind (name_of b.name) m (left_escape e) in
     let worth = end.pays in
     let none = end.blanks in
     record { pays = omega (arith, weight_of_stage-ge a.stage, left_escape-le (weight_of_backslash m) e); tells = end.tells }
-front_meets (answers.Argument k) a asks m e c n s d o p =
+next_item_takes_in (answers.Argument k) a asks m e c n s d o p =
     let old = sum_by-cons weight_of_ask a asks in record { pays = omega (arith, weight_of_stage-ge a.stage); tells = refl }
 
 -- ---- a `\` that was begun comes to it
 
-pub backslash_meets : (x : Answer) (a : Ask) (asks : List Ask) (m : Mode) (c n : Bool) (s : Signs) (d : Texts) (o : Notes) (w : ℕ) → Affords a x
-    → let h = half_at (at m escapes.Begun c n) s (a ∷ asks) d o in Meets h w (answered false x h)
-backslash_meets (answers.Goes b) a asks m c n s d o w p =
+pub backslash_takes_in : (x : Answer) (a : Ask) (asks : List Ask) (m : Mode) (c n : Bool) (s : Signs) (d : Texts) (o : Notes) (w : ℕ) → Affords a x
+    → let h = half_at (at m escapes.Begun c n) s (a ∷ asks) d o in TakesIn h w (answered false x h)
+backslash_takes_in (answers.Goes b) a asks m c n s d o w p =
     let new = sum_by-cons weight_of_ask b asks in let old = sum_by-cons weight_of_ask a asks in let q = p.pays in record { pays = omega (arith, weight_of_backslash-ge m); tells = refl }
-backslash_meets (answers.Turns b) a asks m c n s d o w p =
+backslash_takes_in (answers.Turns b) a asks m c n s d o w p =
     let new = sum_by-cons weight_of_ask b asks in let old = sum_by-cons weight_of_ask a asks in let q = p.pays in record { pays = omega arith; tells = refl }
-backslash_meets (answers.Keeps b) a asks m c n s d o w p = record { pays = omega (arith, weight_of_backslash-ge m); tells = refl }
-backslash_meets (answers.Ends b) a asks m c n s d o w p =
+backslash_takes_in (answers.Keeps b) a asks m c n s d o w p = record { pays = omega (arith, weight_of_backslash-ge m); tells = refl }
+backslash_takes_in (answers.Ends b) a asks m c n s d o w p =
     let old = sum_by-cons weight_of_ask a asks in
     let end = ends b.kind (name_of b.name) m escapes.Plain in
     let worth = end.pays in
     let none = end.blanks in
     record { pays = omega (arith, weight_of_stage-ge a.stage); tells = end.tells }
-backslash_meets (answers.Stops b) a asks m c n s d o w p =
+backslash_takes_in (answers.Stops b) a asks m c n s d o w p =
     let old = sum_by-cons weight_of_ask a asks in
     let end = ends b.kind (name_of b.name) m escapes.Begun in
     let worth = end.pays in
     let none = end.blanks in
     record { pays = omega (arith, weight_of_stage-ge a.stage); tells = end.tells }
-backslash_meets (answers.Argument k) a asks m c n s d o w p =
+backslash_takes_in (answers.Argument k) a asks m c n s d o w p =
     let old = sum_by-cons weight_of_ask a asks in record { pays = omega (arith, weight_of_stage-ge a.stage); tells = refl }
 
 -- ---- it ends where the list does
 
-pub stop_meets : (b a : Ask) (asks : List Ask) (m : Mode) (e : Escape) (c n : Bool) (s : Signs) (d : Texts) (o : Notes) (w : ℕ)
-    → let h = half_at (at m e c n) s (a ∷ asks) d o in Meets h w (answered false (answers.Stops b) h)
-stop_meets b a asks m e c n s d o w =
+pub stop_takes_in : (b a : Ask) (asks : List Ask) (m : Mode) (e : Escape) (c n : Bool) (s : Signs) (d : Texts) (o : Notes) (w : ℕ)
+    → let h = half_at (at m e c n) s (a ∷ asks) d o in TakesIn h w (answered false (answers.Stops b) h)
+stop_takes_in b a asks m e c n s d o w =
     let old = sum_by-cons weight_of_ask a asks in
     let end = ends b.kind (name_of b.name) m (left_escape e) in
     let worth = end.pays in

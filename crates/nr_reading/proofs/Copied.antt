@@ -1,9 +1,9 @@
--- Copied elements pay for what the reader makes of them: 8 for one that is taken, whether it is the item in front or a `\`.
+-- Copied elements pay for what the reader makes of them: 8 for one that is taken, whether it is the next item or a `\`.
 use Prim.Native.Char.{code}
 use Rattle.std.specs.Prelude.{nat_lt, ◌&&◌, ◌||◌, not, length, slice_index}
 use Rattle.std.proofs.Common.{◌≡◌, ℕ, ◌+◌, ◌≤◌, ◌==◌, Bool, true, false, if◌then◌else◌, None, Some, refl, arith}
 use Rattle.std.proofs.lemmas.Bool.{ltb-false, eqb-false}
-use Rattle.nr_reading.specs.declared.mode.Due.TheVariants as dues
+use Rattle.nr_reading.specs.declared.mode.PendingAct.TheVariants as pending_acts
 use Rattle.nr_reading.specs.declared.mode.Escape.{Escape}
 use Rattle.nr_reading.specs.declared.mode.Escape.TheVariants as escapes
 use Rattle.nr_reading.specs.declared.mode.Mode.{Mode}
@@ -21,14 +21,14 @@ use Rattle.nr_reading.specs.Definitions.{last_line, ends_whole, not_last, read_b
 use Rattle.nr_reading.specs.Mode.{is_direct}
 use Rattle.nr_reading.specs.Reader.{read_by, read_over_by}
 use Rattle.nr_reading.specs.Spelled.{is_blank, ends_name, name_of, is_empty}
-use Rattle.nr_reading.specs.Step.{to, due, go, leave}
+use Rattle.nr_reading.specs.Step.{to, pending_act, go, leave}
 use Rattle.nr_reading.specs.Strings.{read_string_name, read_string_blanks}
 use Rattle.nr_reading.specs.Weights.{cost_of_event, paid_by, weight_by, is_lead}
 use Rattle.nr_reading.proofs.Weighing.{at, blanks_in, weight_of_note}
 
 -- what is half read weighs this, whatever of an escape was read
 abbrev pub base_weight : Reading → ℕ
-base_weight r = weight_by r.due r.mode escapes.Plain
+base_weight r = weight_by r.pending_act r.mode escapes.Plain
 
 -- an element came: a step is paid, at so much for one that is taken
 pub record Hears (r : Reading) (worth : ℕ) (s : Step) : Type 0 where
@@ -126,7 +126,7 @@ transparent_hears b e c n s o = either (b == code "\n") (record { pays = omega a
 
 -- a byte of the text, in its line
 kept_hears : (held : ℕ) (keeps ends : Bool) (b : ℕ) (e : Escape) (c n : Bool)
-    → let r = at (modes.BodyStart held) e c n in Hears r 8 (go (due (if keeps then dues.Add b else dues.Look) (to (if ends then modes.BodyStart 0 else modes.Body) r)))
+    → let r = at (modes.BodyStart held) e c n in Hears r 8 (go (pending_act (if keeps then pending_acts.Add b else pending_acts.Look) (to (if ends then modes.BodyStart 0 else modes.Body) r)))
 kept_hears held true true b e c n = record { pays = omega arith; blanks = refl; escape = refl; tells = refl }
 kept_hears held true false b e c n = record { pays = omega arith; blanks = refl; escape = refl; tells = refl }
 kept_hears held false true b e c n = record { pays = omega arith; blanks = refl; escape = refl; tells = refl }
@@ -134,7 +134,7 @@ kept_hears held false false b e c n = record { pays = omega arith; blanks = refl
 
 -- bytes that were held back, and then this one
 released_hears : (held : ℕ) (keeps ends : Bool) (b : ℕ) (e : Escape) (c n : Bool)
-    → let r = at (modes.BodyStart held) e c n in Hears r 8 (go (due (if keeps then dues.Release held 0 (Some b) else dues.Look) (to (if ends then modes.BodyStart 0 else modes.Body) r)))
+    → let r = at (modes.BodyStart held) e c n in Hears r 8 (go (pending_act (if keeps then pending_acts.Release held 0 (Some b) else pending_acts.Look) (to (if ends then modes.BodyStart 0 else modes.Body) r)))
 released_hears held true true b e c n = record { pays = omega arith; blanks = refl; escape = refl; tells = refl }
 released_hears held true false b e c n = record { pays = omega arith; blanks = refl; escape = refl; tells = refl }
 released_hears held false true b e c n = record { pays = omega arith; blanks = refl; escape = refl; tells = refl }
@@ -155,7 +155,7 @@ body_start_hears b d held e c n =
     (λ whole. either ((b == code "\n") || is_blank b) (record { pays = omega (arith, ltb-false held (length (last_line d)) whole); blanks = refl; escape = refl; tells = refl }) (not_last_hears b d held e c n))
 
 body_hears : (b : ℕ) (keeps ends : Bool) (e : Escape) (c n : Bool)
-    → let r = at modes.Body e c n in Hears r 8 (go (due (if keeps then dues.Add b else dues.Look) (to (if ends then modes.BodyStart 0 else modes.Body) r)))
+    → let r = at modes.Body e c n in Hears r 8 (go (pending_act (if keeps then pending_acts.Add b else pending_acts.Look) (to (if ends then modes.BodyStart 0 else modes.Body) r)))
 body_hears b true true e c n = record { pays = omega arith; blanks = refl; escape = refl; tells = refl }
 body_hears b true false e c n = record { pays = omega arith; blanks = refl; escape = refl; tells = refl }
 body_hears b false true e c n = record { pays = omega arith; blanks = refl; escape = refl; tells = refl }
@@ -224,12 +224,12 @@ read_hears m b s o e c n is = let wrong : ⊥ = cc in absurd wrong
 
 -- ---- where the line ends, nothing is taken
 
-kept_end : (keeps : Bool) (e : Escape) (c n : Bool) → let r = at modes.Body e c n in Hears r 0 (go (due (if keeps then dues.Add (code "\n") else dues.Look) (to (modes.BodyStart 0) r)))
+kept_end : (keeps : Bool) (e : Escape) (c n : Bool) → let r = at modes.Body e c n in Hears r 0 (go (pending_act (if keeps then pending_acts.Add (code "\n") else pending_acts.Look) (to (modes.BodyStart 0) r)))
 kept_end true e c n = record { pays = omega arith; blanks = refl; escape = refl; tells = refl }
 kept_end false e c n = record { pays = omega arith; blanks = refl; escape = refl; tells = refl }
 
 released_end : (held : ℕ) (keeps : Bool) (e : Escape) (c n : Bool) → 1 ≤ held
-    → let r = at (modes.BodyStart held) e c n in Hears r 0 (leave (due (if keeps then dues.Release held 0 None else dues.Look) (to modes.Body r)))
+    → let r = at (modes.BodyStart held) e c n in Hears r 0 (leave (pending_act (if keeps then pending_acts.Release held 0 None else pending_acts.Look) (to modes.Body r)))
 released_end held true e c n some = record { pays = omega arith; blanks = refl; escape = refl; tells = refl }
 released_end held false e c n some = record { pays = omega arith; blanks = refl; escape = refl; tells = refl }
 

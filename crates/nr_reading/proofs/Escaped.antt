@@ -5,8 +5,8 @@ use Rattle.std.proofs.Common.{◌≡◌, ℕ, ◌==◌, Bool, true, false, if◌
 use Rattle.nr_reading.specs.declared.ask.Ask.{Ask}
 use Rattle.nr_reading.specs.declared.ask.Kind.{Kind}
 use Rattle.nr_reading.specs.declared.event.Event.{Event}
-use Rattle.nr_reading.specs.declared.front.Front.{Front}
-use Rattle.nr_reading.specs.declared.front.Front.TheVariants as fronts
+use Rattle.nr_reading.specs.declared.next_item.NextItem.{NextItem}
+use Rattle.nr_reading.specs.declared.next_item.NextItem.TheVariants as next_items
 use Rattle.nr_reading.specs.declared.mode.Escape.{Escape}
 use Rattle.nr_reading.specs.declared.mode.Escape.TheVariants as escapes
 use Rattle.nr_reading.specs.declared.mode.Mode.{Mode}
@@ -19,7 +19,7 @@ use Rattle.nr_reading.specs.Reader.{unescaped, after_backslash, direct}
 use Rattle.nr_reading.specs.Skipping.{accepted_escape, skip_escape}
 use Rattle.nr_reading.specs.Step.{to, tell}
 use Rattle.nr_reading.specs.TextEscape.{plain, interpolated, asked_in_text, is_nothing, is_plain, event_after, escape_in_text, escape_by, spliced_or, lone_escape, escaped}
-use Rattle.nr_reading.specs.Weights.{worth_of_front, is_lead}
+use Rattle.nr_reading.specs.Weights.{worth_of_item, is_lead}
 use Rattle.nr_reading.proofs.Unescaped.{unescaped_pays}
 use Rattle.nr_reading.proofs.Weighing.{at, Pays, either, cost_of_event-le, weight_of_stage-le, weight_of_backslash-ge}
 
@@ -106,34 +106,34 @@ lone_escape_pays (modes.Title d k) c n is own w = record { pays = omega arith; t
 lone_escape_pays modes.Diverted c n is own w = record { pays = omega arith; tells = refl }
 lone_escape_pays m c n is own w = let wrong : ⊥ = cc in absurd wrong
 
-escaped_pays : (f : Front) (long : Bool) (m : Mode) (c n : Bool) → is_direct m ≡ true → reads_escapes m ≡ true → Pays (at m escapes.Begun c n) (worth_of_front f) (escaped f long (at m escapes.Begun c n))
-escaped_pays fronts.Mark long m c n is own = record { pays = omega arith; tells = refl }
-escaped_pays (fronts.Byte b) long m c n is own = spliced_or_pays b (interpolated b) long m c n is own
-escaped_pays (fronts.Cell x) long m c n is own = lone_escape_pays m c n is own 256
-escaped_pays (fronts.LineEnd h) long m c n is own = lone_escape_pays m c n is own 256
-escaped_pays fronts.Resume long m c n is own = lone_escape_pays m c n is own 1
-escaped_pays fronts.Over long m c n is own = lone_escape_pays m c n is own 0
+escaped_pays : (f : NextItem) (long : Bool) (m : Mode) (c n : Bool) → is_direct m ≡ true → reads_escapes m ≡ true → Pays (at m escapes.Begun c n) (worth_of_item f) (escaped f long (at m escapes.Begun c n))
+escaped_pays next_items.Mark long m c n is own = record { pays = omega arith; tells = refl }
+escaped_pays (next_items.Byte b) long m c n is own = spliced_or_pays b (interpolated b) long m c n is own
+escaped_pays (next_items.Cell x) long m c n is own = lone_escape_pays m c n is own 256
+escaped_pays (next_items.LineEnd h) long m c n is own = lone_escape_pays m c n is own 256
+escaped_pays next_items.Resume long m c n is own = lone_escape_pays m c n is own 1
+escaped_pays next_items.Over long m c n is own = lone_escape_pays m c n is own 0
 
-accepted_escape_pays : (f : Front) (c n : Bool) → Pays (at modes.Accepted escapes.Begun c n) (worth_of_front f) (accepted_escape f (at modes.Accepted escapes.Begun c n))
-accepted_escape_pays fronts.Mark c n = record { pays = omega arith; tells = refl }
-accepted_escape_pays (fronts.Byte b) c n = either (b == code "{") (record { pays = omega arith; tells = refl }) (record { pays = omega arith; tells = refl })
-accepted_escape_pays (fronts.Cell x) c n = record { pays = omega arith; tells = refl }
-accepted_escape_pays (fronts.LineEnd h) c n = record { pays = omega arith; tells = refl }
-accepted_escape_pays fronts.Resume c n = record { pays = omega arith; tells = refl }
-accepted_escape_pays fronts.Over c n = record { pays = omega arith; tells = refl }
+accepted_escape_pays : (f : NextItem) (c n : Bool) → Pays (at modes.Accepted escapes.Begun c n) (worth_of_item f) (accepted_escape f (at modes.Accepted escapes.Begun c n))
+accepted_escape_pays next_items.Mark c n = record { pays = omega arith; tells = refl }
+accepted_escape_pays (next_items.Byte b) c n = either (b == code "{") (record { pays = omega arith; tells = refl }) (record { pays = omega arith; tells = refl })
+accepted_escape_pays (next_items.Cell x) c n = record { pays = omega arith; tells = refl }
+accepted_escape_pays (next_items.LineEnd h) c n = record { pays = omega arith; tells = refl }
+accepted_escape_pays next_items.Resume c n = record { pays = omega arith; tells = refl }
+accepted_escape_pays next_items.Over c n = record { pays = omega arith; tells = refl }
 
-skip_escape_pays : (f : Front) (k : ℕ) (c n : Bool) → Pays (at (modes.Skip k) escapes.Begun c n) (worth_of_front f) (skip_escape f k (at (modes.Skip k) escapes.Begun c n))
-skip_escape_pays fronts.Mark k c n = record { pays = omega arith; tells = refl }
-skip_escape_pays (fronts.Byte b) k c n = record { pays = omega arith; tells = refl }
-skip_escape_pays (fronts.Cell x) k c n = record { pays = omega arith; tells = refl }
-skip_escape_pays (fronts.LineEnd h) k c n = record { pays = omega arith; tells = refl }
-skip_escape_pays fronts.Resume k c n = record { pays = omega arith; tells = refl }
-skip_escape_pays fronts.Over k c n = record { pays = omega arith; tells = refl }
+skip_escape_pays : (f : NextItem) (k : ℕ) (c n : Bool) → Pays (at (modes.Skip k) escapes.Begun c n) (worth_of_item f) (skip_escape f k (at (modes.Skip k) escapes.Begun c n))
+skip_escape_pays next_items.Mark k c n = record { pays = omega arith; tells = refl }
+skip_escape_pays (next_items.Byte b) k c n = record { pays = omega arith; tells = refl }
+skip_escape_pays (next_items.Cell x) k c n = record { pays = omega arith; tells = refl }
+skip_escape_pays (next_items.LineEnd h) k c n = record { pays = omega arith; tells = refl }
+skip_escape_pays next_items.Resume k c n = record { pays = omega arith; tells = refl }
+skip_escape_pays next_items.Over k c n = record { pays = omega arith; tells = refl }
 
-behind_backslash_pays : (m : Mode) (f : Front) (s : Signs) (c n : Bool) → is_direct m ≡ true → Pays (at m escapes.Begun c n) (worth_of_front f) (after_backslash m f s (at m escapes.Begun c n))
-behind_backslash_pays modes.Accepted f s c n is = accepted_escape_pays f c n
-behind_backslash_pays (modes.Skip k) f s c n is = skip_escape_pays f k c n
-behind_backslash_pays m f s c n is = escaped_pays f s.long m c n is refl
+after_backslash_pays : (m : Mode) (f : NextItem) (s : Signs) (c n : Bool) → is_direct m ≡ true → Pays (at m escapes.Begun c n) (worth_of_item f) (after_backslash m f s (at m escapes.Begun c n))
+after_backslash_pays modes.Accepted f s c n is = accepted_escape_pays f c n
+after_backslash_pays (modes.Skip k) f s c n is = skip_escape_pays f k c n
+after_backslash_pays m f s c n is = escaped_pays f s.long m c n is refl
 
 -- ---- what is read as it is, with any part of an escape read
 
@@ -141,17 +141,17 @@ behind_backslash_pays m f s c n is = escaped_pays f s.long m c n is refl
 uncommented : (m : Mode) (c n : Bool) (w : ℕ) (x : Step) → Pays (at m escapes.Plain c n) w x → Pays (at m escapes.Comment c n) w x
 uncommented m c n w x p = record { pays = p.pays; tells = p.tells }
 
-comment_pays : (f : Front) (s : Signs) (m : Mode) (c n : Bool) → is_direct m ≡ true → Pays (at m escapes.Comment c n) (worth_of_front f) (direct f s (at m escapes.Comment c n))
-comment_pays fronts.Mark s m c n is = record { pays = omega arith; tells = refl }
-comment_pays (fronts.Byte b) s m c n is =
-    either (b == code "\n") (uncommented m c n 256 (unescaped m (fronts.Byte b) s (at m escapes.Plain c n)) (unescaped_pays m (fronts.Byte b) s c n is)) (record { pays = omega arith; tells = refl })
-comment_pays (fronts.Cell x) s m c n is = record { pays = omega arith; tells = refl }
-comment_pays (fronts.LineEnd h) s m c n is =
-    uncommented m c n 256 (unescaped m (fronts.LineEnd h) s (at m escapes.Plain c n)) (unescaped_pays m (fronts.LineEnd h) s c n is)
-comment_pays fronts.Resume s m c n is = uncommented m c n 1 (unescaped m fronts.Resume s (at m escapes.Plain c n)) (unescaped_pays m fronts.Resume s c n is)
-comment_pays fronts.Over s m c n is = uncommented m c n 0 (unescaped m fronts.Over s (at m escapes.Plain c n)) (unescaped_pays m fronts.Over s c n is)
+comment_pays : (f : NextItem) (s : Signs) (m : Mode) (c n : Bool) → is_direct m ≡ true → Pays (at m escapes.Comment c n) (worth_of_item f) (direct f s (at m escapes.Comment c n))
+comment_pays next_items.Mark s m c n is = record { pays = omega arith; tells = refl }
+comment_pays (next_items.Byte b) s m c n is =
+    either (b == code "\n") (uncommented m c n 256 (unescaped m (next_items.Byte b) s (at m escapes.Plain c n)) (unescaped_pays m (next_items.Byte b) s c n is)) (record { pays = omega arith; tells = refl })
+comment_pays (next_items.Cell x) s m c n is = record { pays = omega arith; tells = refl }
+comment_pays (next_items.LineEnd h) s m c n is =
+    uncommented m c n 256 (unescaped m (next_items.LineEnd h) s (at m escapes.Plain c n)) (unescaped_pays m (next_items.LineEnd h) s c n is)
+comment_pays next_items.Resume s m c n is = uncommented m c n 1 (unescaped m next_items.Resume s (at m escapes.Plain c n)) (unescaped_pays m next_items.Resume s c n is)
+comment_pays next_items.Over s m c n is = uncommented m c n 0 (unescaped m next_items.Over s (at m escapes.Plain c n)) (unescaped_pays m next_items.Over s c n is)
 
-pub direct_pays : (f : Front) (s : Signs) (m : Mode) (e : Escape) (c n : Bool) → is_direct m ≡ true → Pays (at m e c n) (worth_of_front f) (direct f s (at m e c n))
+pub direct_pays : (f : NextItem) (s : Signs) (m : Mode) (e : Escape) (c n : Bool) → is_direct m ≡ true → Pays (at m e c n) (worth_of_item f) (direct f s (at m e c n))
 direct_pays f s m escapes.Plain c n is = unescaped_pays m f s c n is
-direct_pays f s m escapes.Begun c n is = behind_backslash_pays m f s c n is
+direct_pays f s m escapes.Begun c n is = after_backslash_pays m f s c n is
 direct_pays f s m escapes.Comment c n is = comment_pays f s m c n is

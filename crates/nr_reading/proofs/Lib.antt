@@ -1,4 +1,4 @@
-pub mod Fronts
+pub mod NextItems
 pub mod InArgument
 pub mod InDefinition
 pub mod InText

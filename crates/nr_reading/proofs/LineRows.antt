@@ -8,7 +8,7 @@ use Rattle.nr_reading.specs.declared.mode.Mode.TheVariants as modes
 use Rattle.nr_reading.specs.declared.mode.Signs.{Signs}
 use Rattle.nr_reading.specs.Many.LineBeginnings.{begins_text, text_begun}
 use Rattle.nr_reading.specs.Half.{reads_next}
-use Rattle.nr_reading.proofs.Rows.{MeetsByte, standing}
+use Rattle.nr_reading.proofs.Rows.{TakesInByte, standing}
 
 -- a byte that begins the text of a line
 record BeginsText (b : ℕ) (s : Signs) : Type 0 where
@@ -25,7 +25,7 @@ begins b s is = by (b == code "\\") (b == code "\n") (b == code " ") (b == s.con
     by false false false false false p q r s t is = record { escape = p; newline = q; blank = r; control = s; no_break = t }
     by u v w x y p q r s t is = absurd (let wrong : false ≡ true = is in cc)
 
-pub meet-text : (b : ℕ) (h : Half) → h.reading.mode ≡ modes.Start → reads_next h ≡ true → begins_text b h.signs ≡ true → MeetsByte b h (text_begun h) (events.Byte b) true
-meet-text b h mode next is =
+pub take_in-text : (b : ℕ) (h : Half) → h.reading.mode ≡ modes.Start → reads_next h ≡ true → begins_text b h.signs ≡ true → TakesInByte b h (text_begun h) (events.Byte b) true
+take_in-text b h mode next is =
     let byte = begins b h.signs is in
-    subst (λ (k : Half). MeetsByte b k (text_begun k) (events.Byte b) true) (sym (standing modes.Start h mode next)) (rw (byte.control, byte.no_break, byte.newline, byte.escape, byte.blank) refl)
+    subst (λ (k : Half). TakesInByte b k (text_begun k) (events.Byte b) true) (sym (standing modes.Start h mode next)) (rw (byte.control, byte.no_break, byte.newline, byte.escape, byte.blank) refl)

@@ -1,15 +1,15 @@
--- Bytes that are met many at once.
+-- Bytes that are taken in many at once.
 use Prim.Native.Char.{code}
 use Rattle.std.specs.Prelude.{slice_get, ◌==◌, ◌&&◌, ◌||◌, not}
 use Rattle.std.proofs.Common.{◌≡◌, ℕ, ◌+◌, ◌<◌, Bool, true, false, List, [], ◌∷◌, length, Some, refl, sym, subst, ap₂, ◌∙◌}
 use Rattle.nr_reading.specs.declared.ask.Ask.{Ask}
 use Rattle.nr_reading.specs.declared.event.Event.TheVariants as events
-use Rattle.nr_reading.specs.declared.front.Front.{Front}
-use Rattle.nr_reading.specs.declared.front.Front.TheVariants as fronts
+use Rattle.nr_reading.specs.declared.next_item.NextItem.{NextItem}
+use Rattle.nr_reading.specs.declared.next_item.NextItem.TheVariants as next_items
 use Rattle.nr_reading.specs.declared.half.Half.{Half}
 use Rattle.nr_reading.specs.declared.half.Seen.{Seen}
-use Rattle.nr_reading.specs.declared.mode.Due.{Due}
-use Rattle.nr_reading.specs.declared.mode.Due.TheVariants as dues
+use Rattle.nr_reading.specs.declared.mode.PendingAct.{PendingAct}
+use Rattle.nr_reading.specs.declared.mode.PendingAct.TheVariants as pending_acts
 use Rattle.nr_reading.specs.declared.mode.Escape.{Escape}
 use Rattle.nr_reading.specs.declared.mode.Escape.TheVariants as escapes
 use Rattle.nr_reading.specs.declared.mode.Mode.{Mode}
@@ -17,12 +17,12 @@ use Rattle.nr_reading.specs.declared.mode.Mode.TheVariants as modes
 use Rattle.nr_reading.specs.declared.mode.Signs.{Signs}
 use Rattle.nr_reading.specs.declared.notes.Notes.{Notes}
 use Rattle.nr_reading.specs.Delimited.{Texts}
-use Rattle.nr_reading.specs.Half.{meet, meet_by}
+use Rattle.nr_reading.specs.Half.{take_in, take_in_by}
 use Rattle.nr_reading.specs.Mode.{is_direct}
 use Rattle.nr_reading.specs.Nesting.{is_none}
 use Rattle.nr_reading.specs.Many.Passing.{is_plain, drops_plain, passes_by, passes_plain, quiet, GoesOn}
 use Rattle.nr_reading.proofs.Asked.{half_at}
-use Rattle.nr_reading.proofs.Moving.{met_more}
+use Rattle.nr_reading.proofs.Moving.{taken_in_more}
 use Rattle.nr_reading.proofs.Paying.{pays_for}
 use Rattle.nr_reading.proofs.Weighing.{at}
 
@@ -33,11 +33,11 @@ abbrev taking : Seen
 taking = record { event = events.Nothing; takes = true }
 
 -- one byte more is taken
-pub goes_more : (fs : List Front) (to b : ℕ) (old half new : Half) → GoesOn fs to old half → to < length fs → slice_get fs to ≡ Some (fronts.Byte b) → half.reading.due ≡ dues.Look → new.reading.due ≡ half.reading.due
-    → meet (fronts.Byte b) half ≡ record { half = new; event = events.Nothing; takes = true } → GoesOn fs (to + 1) old new
+pub goes_more : (fs : List NextItem) (to b : ℕ) (old half new : Half) → GoesOn fs to old half → to < length fs → slice_get fs to ≡ Some (next_items.Byte b) → half.reading.pending_act ≡ pending_acts.Look → new.reading.pending_act ≡ half.reading.pending_act
+    → take_in (next_items.Byte b) half ≡ record { half = new; event = events.Nothing; takes = true } → GoesOn fs (to + 1) old new
 goes_more fs to b old half new goes within some look same is = record {
-  due = same ∙ goes.due;
-  met = met_more to fs old (quiet to half) (fronts.Byte b) new taking goes.met (record { some = within; due = look; event = refl }) some refl (sym is) (pays_for (fronts.Byte b) half new taking (sym is) look);
+  pending_act = same ∙ goes.pending_act;
+  taken_in = taken_in_more to fs old (quiet to half) (next_items.Byte b) new taking goes.taken_in (record { some = within; pending_act = look; event = refl }) some refl (sym is) (pays_for (next_items.Byte b) half new taking (sym is) look);
 }
 
 -- ---- one plain byte
@@ -66,7 +66,7 @@ no_asks (a ∷ asks) is = let wrong : ⊥ = cc in absurd wrong
 
 -- it is taken, and nothing else changes
 abbrev Passes : ℕ → Half → Type 0
-Passes b h = meet_by [] (fronts.Byte b) h ≡ record { half = h; event = events.Nothing; takes = true }
+Passes b h = take_in_by [] (next_items.Byte b) h ≡ record { half = h; event = events.Nothing; takes = true }
 
 -- in a comment
 in_comment : (direct : Bool) (m : Mode) (c n : Bool) (s : Signs) (d : Texts) (o : Notes) (b : ℕ) → is_direct m ≡ direct → IsApart b → Passes b (half_at (at m escapes.Comment c n) s [] d o)
@@ -91,12 +91,12 @@ by_escape escapes.Plain m c n s d o b is byte = in_mode m c n s d o b is byte
 by_escape escapes.Begun m c n s d o b is byte = let wrong : ⊥ = cc in absurd wrong
 by_escape escapes.Comment m c n s d o b is byte = in_comment (is_direct m) m c n s d o b refl byte
 
--- with nothing asked, and nothing due
-looking : (h : Half) → h.asks ≡ [] → h.reading.due ≡ dues.Look → h ≡ half_at (at h.reading.mode h.reading.escape h.reading.continued h.reading.no_break) h.signs [] h.delimited h.notes
-looking h none look = ap₂ (λ (asks : List Ask) (due : Due). record h { reading = record h.reading { due = due }; asks = asks }) none look
+-- with nothing asked, and nothing pending
+looking : (h : Half) → h.asks ≡ [] → h.reading.pending_act ≡ pending_acts.Look → h ≡ half_at (at h.reading.mode h.reading.escape h.reading.continued h.reading.no_break) h.signs [] h.delimited h.notes
+looking h none look = ap₂ (λ (asks : List Ask) (pending_act : PendingAct). record h { reading = record h.reading { pending_act = pending_act }; asks = asks }) none look
 
-pub meet-passed : (b : ℕ) (h : Half) → passes_plain h ≡ true → h.reading.due ≡ dues.Look → is_plain b ≡ true → meet (fronts.Byte b) h ≡ record { half = h; event = events.Nothing; takes = true }
-meet-passed b h passes look plain =
+pub take_in-passed : (b : ℕ) (h : Half) → passes_plain h ≡ true → h.reading.pending_act ≡ pending_acts.Look → is_plain b ≡ true → take_in (next_items.Byte b) h ≡ record { half = h; event = events.Nothing; takes = true }
+take_in-passed b h passes look plain =
     let two = both (is_none h.asks) (passes_by h.reading.escape h.reading.mode h.notes.defining) passes in
-    subst (λ (k : Half). meet (fronts.Byte b) k ≡ record { half = k; event = events.Nothing; takes = true }) (sym (looking h (no_asks h.asks two.0) look))
+    subst (λ (k : Half). take_in (next_items.Byte b) k ≡ record { half = k; event = events.Nothing; takes = true }) (sym (looking h (no_asks h.asks two.0) look))
     (by_escape h.reading.escape h.reading.mode h.reading.continued h.reading.no_break h.signs h.delimited h.notes b two.1 (apart b plain))

@@ -2,8 +2,8 @@
 use Prim.Native.Char.{code}
 use Rattle.std.proofs.Common.{◌≡◌, ℕ, ◌==◌, Bool, true, false, if◌then◌else◌, refl, arith}
 use Rattle.nr_reading.specs.declared.event.Event.TheVariants as events
-use Rattle.nr_reading.specs.declared.front.Front.{Front}
-use Rattle.nr_reading.specs.declared.front.Front.TheVariants as fronts
+use Rattle.nr_reading.specs.declared.next_item.NextItem.{NextItem}
+use Rattle.nr_reading.specs.declared.next_item.NextItem.TheVariants as next_items
 use Rattle.nr_reading.specs.declared.mode.Escape.TheVariants as escapes
 use Rattle.nr_reading.specs.declared.mode.Mode.{Mode}
 use Rattle.nr_reading.specs.declared.mode.Mode.TheVariants as modes
@@ -11,11 +11,11 @@ use Rattle.nr_reading.specs.declared.mode.Signs.{Signs}
 use Rattle.nr_reading.specs.Mode.{is_direct}
 use Rattle.nr_reading.specs.Reader.{unescaped}
 use Rattle.nr_reading.specs.Spelled.{is_blank}
-use Rattle.nr_reading.specs.Skipping.{accepted_byte, accepted, behind_newline, skip_byte, skip, diverted, diverting}
+use Rattle.nr_reading.specs.Skipping.{accepted_byte, accepted, past_newline, skip_byte, skip, diverted, diverting}
 use Rattle.nr_reading.specs.Step.{to, tell}
 use Rattle.nr_reading.specs.Text.{start_blank, start_newline, start_byte, start, leading_byte, leading, continued_byte, continued, text_byte, text}
 use Rattle.nr_reading.specs.Titles.{before_title_byte, before_title, title_byte, title}
-use Rattle.nr_reading.specs.Weights.{worth_of_front}
+use Rattle.nr_reading.specs.Weights.{worth_of_item}
 use Rattle.nr_reading.proofs.Weighing.{at, Pays, either, weight_of_backslash-le}
 
 start_blank_pays : (m : Mode) (c n : Bool) → Pays (at m escapes.Plain c n) 256 (start_blank (at m escapes.Plain c n))
@@ -76,103 +76,103 @@ accepted_byte_pays b c n =
     either (is_blank b) (record { pays = omega arith; tells = refl })
     (either (b == code "\n") (record { pays = omega arith; tells = refl }) (either (b == code "\\") (record { pays = omega arith; tells = refl }) (record { pays = omega arith; tells = refl })))
 
-behind_newline_pays : (k : ℕ) (c n : Bool) → Pays (at (modes.Skip k) escapes.Plain c n) 256 (behind_newline k (at (modes.Skip k) escapes.Plain c n))
-behind_newline_pays k c n = either (k == 0) (record { pays = omega arith; tells = refl }) (record { pays = omega arith; tells = refl })
+after_newline_pays : (k : ℕ) (c n : Bool) → Pays (at (modes.Skip k) escapes.Plain c n) 256 (past_newline k (at (modes.Skip k) escapes.Plain c n))
+after_newline_pays k c n = either (k == 0) (record { pays = omega arith; tells = refl }) (record { pays = omega arith; tells = refl })
 
 skip_byte_pays : (b k : ℕ) (c n : Bool) → Pays (at (modes.Skip k) escapes.Plain c n) 256 (skip_byte b k (at (modes.Skip k) escapes.Plain c n))
-skip_byte_pays b k c n = either (b == code "\n") (behind_newline_pays k c n) (either (b == code "\\") (record { pays = omega arith; tells = refl }) (record { pays = omega arith; tells = refl }))
+skip_byte_pays b k c n = either (b == code "\n") (after_newline_pays k c n) (either (b == code "\\") (record { pays = omega arith; tells = refl }) (record { pays = omega arith; tells = refl }))
 
 -- ---- by the mode
 
-start_pays : (f : Front) (s : Signs) (c n : Bool) → Pays (at modes.Start escapes.Plain c n) (worth_of_front f) (start f s (at modes.Start escapes.Plain c n))
-start_pays fronts.Mark s c n = record { pays = omega arith; tells = refl }
-start_pays (fronts.Byte b) s c n = start_byte_pays b s modes.Start c n
-start_pays (fronts.Cell x) s c n = record { pays = omega arith; tells = refl }
-start_pays (fronts.LineEnd h) s c n = record { pays = omega arith; tells = refl }
-start_pays fronts.Resume s c n = record { pays = omega arith; tells = refl }
-start_pays fronts.Over s c n = record { pays = omega arith; tells = refl }
+start_pays : (f : NextItem) (s : Signs) (c n : Bool) → Pays (at modes.Start escapes.Plain c n) (worth_of_item f) (start f s (at modes.Start escapes.Plain c n))
+start_pays next_items.Mark s c n = record { pays = omega arith; tells = refl }
+start_pays (next_items.Byte b) s c n = start_byte_pays b s modes.Start c n
+start_pays (next_items.Cell x) s c n = record { pays = omega arith; tells = refl }
+start_pays (next_items.LineEnd h) s c n = record { pays = omega arith; tells = refl }
+start_pays next_items.Resume s c n = record { pays = omega arith; tells = refl }
+start_pays next_items.Over s c n = record { pays = omega arith; tells = refl }
 
-diverting_pays : (f : Front) (s : Signs) (c n : Bool) → Pays (at modes.Diverting escapes.Plain c n) (worth_of_front f) (diverting f s (at modes.Diverting escapes.Plain c n))
-diverting_pays fronts.Mark s c n = record { pays = omega arith; tells = refl }
-diverting_pays (fronts.Byte b) s c n = start_byte_pays b s modes.Diverting c n
-diverting_pays (fronts.Cell x) s c n = record { pays = omega arith; tells = refl }
-diverting_pays (fronts.LineEnd h) s c n = record { pays = omega arith; tells = refl }
-diverting_pays fronts.Resume s c n = record { pays = omega arith; tells = refl }
-diverting_pays fronts.Over s c n = record { pays = omega arith; tells = refl }
+diverting_pays : (f : NextItem) (s : Signs) (c n : Bool) → Pays (at modes.Diverting escapes.Plain c n) (worth_of_item f) (diverting f s (at modes.Diverting escapes.Plain c n))
+diverting_pays next_items.Mark s c n = record { pays = omega arith; tells = refl }
+diverting_pays (next_items.Byte b) s c n = start_byte_pays b s modes.Diverting c n
+diverting_pays (next_items.Cell x) s c n = record { pays = omega arith; tells = refl }
+diverting_pays (next_items.LineEnd h) s c n = record { pays = omega arith; tells = refl }
+diverting_pays next_items.Resume s c n = record { pays = omega arith; tells = refl }
+diverting_pays next_items.Over s c n = record { pays = omega arith; tells = refl }
 
-leading_pays : (f : Front) (k : ℕ) (c n : Bool) → Pays (at (modes.Leading k) escapes.Plain c n) (worth_of_front f) (leading f k (at (modes.Leading k) escapes.Plain c n))
-leading_pays fronts.Mark k c n = record { pays = omega arith; tells = refl }
-leading_pays (fronts.Byte b) k c n = leading_byte_pays b k c n
-leading_pays (fronts.Cell x) k c n = record { pays = omega arith; tells = refl }
-leading_pays (fronts.LineEnd h) k c n = record { pays = omega arith; tells = refl }
-leading_pays fronts.Resume k c n = record { pays = omega arith; tells = refl }
-leading_pays fronts.Over k c n = record { pays = omega arith; tells = refl }
+leading_pays : (f : NextItem) (k : ℕ) (c n : Bool) → Pays (at (modes.Leading k) escapes.Plain c n) (worth_of_item f) (leading f k (at (modes.Leading k) escapes.Plain c n))
+leading_pays next_items.Mark k c n = record { pays = omega arith; tells = refl }
+leading_pays (next_items.Byte b) k c n = leading_byte_pays b k c n
+leading_pays (next_items.Cell x) k c n = record { pays = omega arith; tells = refl }
+leading_pays (next_items.LineEnd h) k c n = record { pays = omega arith; tells = refl }
+leading_pays next_items.Resume k c n = record { pays = omega arith; tells = refl }
+leading_pays next_items.Over k c n = record { pays = omega arith; tells = refl }
 
-continued_pays : (f : Front) (c n : Bool) → Pays (at modes.Continued escapes.Plain c n) (worth_of_front f) (continued f (at modes.Continued escapes.Plain c n))
-continued_pays fronts.Mark c n = record { pays = omega arith; tells = refl }
-continued_pays (fronts.Byte b) c n = continued_byte_pays b c n
-continued_pays (fronts.Cell x) c n = record { pays = omega arith; tells = refl }
-continued_pays (fronts.LineEnd h) c n = record { pays = omega arith; tells = refl }
-continued_pays fronts.Resume c n = record { pays = omega arith; tells = refl }
-continued_pays fronts.Over c n = record { pays = omega arith; tells = refl }
+continued_pays : (f : NextItem) (c n : Bool) → Pays (at modes.Continued escapes.Plain c n) (worth_of_item f) (continued f (at modes.Continued escapes.Plain c n))
+continued_pays next_items.Mark c n = record { pays = omega arith; tells = refl }
+continued_pays (next_items.Byte b) c n = continued_byte_pays b c n
+continued_pays (next_items.Cell x) c n = record { pays = omega arith; tells = refl }
+continued_pays (next_items.LineEnd h) c n = record { pays = omega arith; tells = refl }
+continued_pays next_items.Resume c n = record { pays = omega arith; tells = refl }
+continued_pays next_items.Over c n = record { pays = omega arith; tells = refl }
 
-text_pays : (f : Front) (c n : Bool) → Pays (at modes.Text escapes.Plain c n) (worth_of_front f) (text f (at modes.Text escapes.Plain c n))
-text_pays fronts.Mark c n = record { pays = omega arith; tells = refl }
-text_pays (fronts.Byte b) c n = text_byte_pays b c n
-text_pays (fronts.Cell x) c n = record { pays = omega arith; tells = refl }
-text_pays (fronts.LineEnd h) c n = record { pays = omega arith; tells = refl }
-text_pays fronts.Resume c n = record { pays = omega arith; tells = refl }
-text_pays fronts.Over c n = record { pays = omega arith; tells = refl }
+text_pays : (f : NextItem) (c n : Bool) → Pays (at modes.Text escapes.Plain c n) (worth_of_item f) (text f (at modes.Text escapes.Plain c n))
+text_pays next_items.Mark c n = record { pays = omega arith; tells = refl }
+text_pays (next_items.Byte b) c n = text_byte_pays b c n
+text_pays (next_items.Cell x) c n = record { pays = omega arith; tells = refl }
+text_pays (next_items.LineEnd h) c n = record { pays = omega arith; tells = refl }
+text_pays next_items.Resume c n = record { pays = omega arith; tells = refl }
+text_pays next_items.Over c n = record { pays = omega arith; tells = refl }
 
-interrupted_pays : (f : Front) (c n : Bool) → Pays (at modes.Interrupted escapes.Plain c n) (worth_of_front f) (text f (at modes.Interrupted escapes.Plain c n))
-interrupted_pays fronts.Mark c n = record { pays = omega arith; tells = refl }
-interrupted_pays (fronts.Byte b) c n = interrupted_byte_pays b c n
-interrupted_pays (fronts.Cell x) c n = record { pays = omega arith; tells = refl }
-interrupted_pays (fronts.LineEnd h) c n = record { pays = omega arith; tells = refl }
-interrupted_pays fronts.Resume c n = record { pays = omega arith; tells = refl }
-interrupted_pays fronts.Over c n = record { pays = omega arith; tells = refl }
+interrupted_pays : (f : NextItem) (c n : Bool) → Pays (at modes.Interrupted escapes.Plain c n) (worth_of_item f) (text f (at modes.Interrupted escapes.Plain c n))
+interrupted_pays next_items.Mark c n = record { pays = omega arith; tells = refl }
+interrupted_pays (next_items.Byte b) c n = interrupted_byte_pays b c n
+interrupted_pays (next_items.Cell x) c n = record { pays = omega arith; tells = refl }
+interrupted_pays (next_items.LineEnd h) c n = record { pays = omega arith; tells = refl }
+interrupted_pays next_items.Resume c n = record { pays = omega arith; tells = refl }
+interrupted_pays next_items.Over c n = record { pays = omega arith; tells = refl }
 
-before_title_pays : (f : Front) (c n : Bool) → Pays (at modes.TitleBefore escapes.Plain c n) (worth_of_front f) (before_title f (at modes.TitleBefore escapes.Plain c n))
-before_title_pays fronts.Mark c n = record { pays = omega arith; tells = refl }
-before_title_pays (fronts.Byte b) c n = before_title_byte_pays b c n
-before_title_pays (fronts.Cell x) c n = record { pays = omega arith; tells = refl }
-before_title_pays (fronts.LineEnd h) c n = record { pays = omega arith; tells = refl }
-before_title_pays fronts.Resume c n = record { pays = omega arith; tells = refl }
-before_title_pays fronts.Over c n = record { pays = omega arith; tells = refl }
+before_title_pays : (f : NextItem) (c n : Bool) → Pays (at modes.TitleBefore escapes.Plain c n) (worth_of_item f) (before_title f (at modes.TitleBefore escapes.Plain c n))
+before_title_pays next_items.Mark c n = record { pays = omega arith; tells = refl }
+before_title_pays (next_items.Byte b) c n = before_title_byte_pays b c n
+before_title_pays (next_items.Cell x) c n = record { pays = omega arith; tells = refl }
+before_title_pays (next_items.LineEnd h) c n = record { pays = omega arith; tells = refl }
+before_title_pays next_items.Resume c n = record { pays = omega arith; tells = refl }
+before_title_pays next_items.Over c n = record { pays = omega arith; tells = refl }
 
-title_pays : (f : Front) (d k : ℕ) (c n : Bool) → Pays (at (modes.Title d k) escapes.Plain c n) (worth_of_front f) (title f d k (at (modes.Title d k) escapes.Plain c n))
-title_pays fronts.Mark d k c n = record { pays = omega arith; tells = refl }
-title_pays (fronts.Byte b) d k c n = title_byte_pays b d k c n
-title_pays (fronts.Cell x) d k c n = record { pays = omega arith; tells = refl }
-title_pays (fronts.LineEnd h) d k c n = record { pays = omega arith; tells = refl }
-title_pays fronts.Resume d k c n = record { pays = omega arith; tells = refl }
-title_pays fronts.Over d k c n = record { pays = omega arith; tells = refl }
+title_pays : (f : NextItem) (d k : ℕ) (c n : Bool) → Pays (at (modes.Title d k) escapes.Plain c n) (worth_of_item f) (title f d k (at (modes.Title d k) escapes.Plain c n))
+title_pays next_items.Mark d k c n = record { pays = omega arith; tells = refl }
+title_pays (next_items.Byte b) d k c n = title_byte_pays b d k c n
+title_pays (next_items.Cell x) d k c n = record { pays = omega arith; tells = refl }
+title_pays (next_items.LineEnd h) d k c n = record { pays = omega arith; tells = refl }
+title_pays next_items.Resume d k c n = record { pays = omega arith; tells = refl }
+title_pays next_items.Over d k c n = record { pays = omega arith; tells = refl }
 
-diverted_pays : (f : Front) (c n : Bool) → Pays (at modes.Diverted escapes.Plain c n) (worth_of_front f) (diverted f (at modes.Diverted escapes.Plain c n))
-diverted_pays fronts.Mark c n = record { pays = omega arith; tells = refl }
-diverted_pays (fronts.Byte b) c n = record { pays = omega arith; tells = refl }
-diverted_pays (fronts.Cell x) c n = record { pays = omega arith; tells = refl }
-diverted_pays (fronts.LineEnd h) c n = record { pays = omega arith; tells = refl }
-diverted_pays fronts.Resume c n = record { pays = omega arith; tells = refl }
-diverted_pays fronts.Over c n = record { pays = omega arith; tells = refl }
+diverted_pays : (f : NextItem) (c n : Bool) → Pays (at modes.Diverted escapes.Plain c n) (worth_of_item f) (diverted f (at modes.Diverted escapes.Plain c n))
+diverted_pays next_items.Mark c n = record { pays = omega arith; tells = refl }
+diverted_pays (next_items.Byte b) c n = record { pays = omega arith; tells = refl }
+diverted_pays (next_items.Cell x) c n = record { pays = omega arith; tells = refl }
+diverted_pays (next_items.LineEnd h) c n = record { pays = omega arith; tells = refl }
+diverted_pays next_items.Resume c n = record { pays = omega arith; tells = refl }
+diverted_pays next_items.Over c n = record { pays = omega arith; tells = refl }
 
-accepted_pays : (f : Front) (c n : Bool) → Pays (at modes.Accepted escapes.Plain c n) (worth_of_front f) (accepted f (at modes.Accepted escapes.Plain c n))
-accepted_pays fronts.Mark c n = record { pays = omega arith; tells = refl }
-accepted_pays (fronts.Byte b) c n = accepted_byte_pays b c n
-accepted_pays (fronts.Cell x) c n = record { pays = omega arith; tells = refl }
-accepted_pays (fronts.LineEnd h) c n = record { pays = omega arith; tells = refl }
-accepted_pays fronts.Resume c n = record { pays = omega arith; tells = refl }
-accepted_pays fronts.Over c n = record { pays = omega arith; tells = refl }
+accepted_pays : (f : NextItem) (c n : Bool) → Pays (at modes.Accepted escapes.Plain c n) (worth_of_item f) (accepted f (at modes.Accepted escapes.Plain c n))
+accepted_pays next_items.Mark c n = record { pays = omega arith; tells = refl }
+accepted_pays (next_items.Byte b) c n = accepted_byte_pays b c n
+accepted_pays (next_items.Cell x) c n = record { pays = omega arith; tells = refl }
+accepted_pays (next_items.LineEnd h) c n = record { pays = omega arith; tells = refl }
+accepted_pays next_items.Resume c n = record { pays = omega arith; tells = refl }
+accepted_pays next_items.Over c n = record { pays = omega arith; tells = refl }
 
-skip_pays : (f : Front) (k : ℕ) (c n : Bool) → Pays (at (modes.Skip k) escapes.Plain c n) (worth_of_front f) (skip f k (at (modes.Skip k) escapes.Plain c n))
-skip_pays fronts.Mark k c n = record { pays = omega arith; tells = refl }
-skip_pays (fronts.Byte b) k c n = skip_byte_pays b k c n
-skip_pays (fronts.Cell x) k c n = record { pays = omega arith; tells = refl }
-skip_pays (fronts.LineEnd h) k c n = behind_newline_pays k c n
-skip_pays fronts.Resume k c n = record { pays = omega arith; tells = refl }
-skip_pays fronts.Over k c n = record { pays = omega arith; tells = refl }
+skip_pays : (f : NextItem) (k : ℕ) (c n : Bool) → Pays (at (modes.Skip k) escapes.Plain c n) (worth_of_item f) (skip f k (at (modes.Skip k) escapes.Plain c n))
+skip_pays next_items.Mark k c n = record { pays = omega arith; tells = refl }
+skip_pays (next_items.Byte b) k c n = skip_byte_pays b k c n
+skip_pays (next_items.Cell x) k c n = record { pays = omega arith; tells = refl }
+skip_pays (next_items.LineEnd h) k c n = after_newline_pays k c n
+skip_pays next_items.Resume k c n = record { pays = omega arith; tells = refl }
+skip_pays next_items.Over k c n = record { pays = omega arith; tells = refl }
 
-pub unescaped_pays : (m : Mode) (f : Front) (s : Signs) (c n : Bool) → is_direct m ≡ true → Pays (at m escapes.Plain c n) (worth_of_front f) (unescaped m f s (at m escapes.Plain c n))
+pub unescaped_pays : (m : Mode) (f : NextItem) (s : Signs) (c n : Bool) → is_direct m ≡ true → Pays (at m escapes.Plain c n) (worth_of_item f) (unescaped m f s (at m escapes.Plain c n))
 unescaped_pays modes.Start f s c n is = start_pays f s c n
 unescaped_pays modes.Diverting f s c n is = diverting_pays f s c n
 unescaped_pays (modes.Leading k) f s c n is = leading_pays f k c n

@@ -4,7 +4,7 @@ use Rattle.nr_reading.specs.declared.ask.Stage.{Stage}
 use Rattle.nr_reading.specs.declared.ask.Stage.TheVariants as stages
 use Rattle.nr_reading.specs.declared.event.Event.{Event}
 use Rattle.nr_reading.specs.declared.event.Event.TheVariants as events
-use Rattle.nr_reading.specs.declared.mode.Due.TheVariants as dues
+use Rattle.nr_reading.specs.declared.mode.PendingAct.TheVariants as pending_acts
 use Rattle.nr_reading.specs.declared.mode.Escape.{Escape}
 use Rattle.nr_reading.specs.declared.mode.Mode.{Mode}
 use Rattle.nr_reading.specs.declared.mode.Mode.TheVariants as modes
@@ -12,7 +12,7 @@ use Rattle.nr_reading.specs.declared.mode.Reading.{Reading}
 use Rattle.nr_reading.specs.Notes.{Note}
 use Rattle.nr_reading.specs.Notes as notes
 use Rattle.nr_reading.specs.Step.{Step}
-use Rattle.nr_reading.specs.Weights.{cost_of_event, paid_by, weight_of_backslash, weight_of_reading, weight_of_stage, weight_of_ask, blanks_of_mode, blanks_of_due, is_lead}
+use Rattle.nr_reading.specs.Weights.{cost_of_event, paid_by, weight_of_backslash, weight_of_reading, weight_of_stage, weight_of_ask, blanks_of_mode, blanks_of_pending, is_lead}
 
 pub cost_of_event-le : (e : Event) → cost_of_event e ≤ 367
 cost_of_event-le events.Nothing = omega arith
@@ -67,11 +67,11 @@ weight_of_note (notes.Begin a) = weight_of_ask a
 weight_of_note n = 0
 
 abbrev pub blanks_in : Reading → ℕ
-blanks_in r = blanks_of_mode r.mode + blanks_of_due r.due
+blanks_in r = blanks_of_mode r.mode + blanks_of_pending r.pending_act
 
 -- where an item is looked at
 abbrev pub at : Mode → Escape → Bool → Bool → Reading
-at m e c n = record { mode = m; escape = e; due = dues.Look; continued = c; no_break = n }
+at m e c n = record { mode = m; escape = e; pending_act = pending_acts.Look; continued = c; no_break = n }
 
 -- a step is paid, at so much for the item
 pub record Pays (r : Reading) (worth : ℕ) (s : Step) : Type 0 where

@@ -2,14 +2,14 @@
 use Prim.Native.Char.{code}
 use Rattle.std.specs.Prelude.{ℕ, ◌==◌, ◌&&◌, not, Bool, if◌then◌else◌, length}
 use Rattle.nr_reading.specs.declared.event.Event.TheVariants as events
-use Rattle.nr_reading.specs.declared.mode.Due.TheVariants as dues
+use Rattle.nr_reading.specs.declared.mode.PendingAct.TheVariants as pending_acts
 use Rattle.nr_reading.specs.declared.mode.Mode.TheVariants as modes
 use Rattle.nr_reading.specs.declared.mode.Reading.{Reading}
 use Rattle.nr_reading.specs.declared.spelled.Spelled.{Spelled}
 use Rattle.nr_reading.specs.Notes as notes
 use Rattle.nr_reading.specs.Step.{Step}
 use Rattle.nr_reading.specs.Spelled.{is_blank, ends_name}
-use Rattle.nr_reading.specs.Step.{to, due, go, leave, tell, noting, leave_noting}
+use Rattle.nr_reading.specs.Step.{to, pending_act, go, leave, tell, noting, leave_noting}
 
 -- Blanks may follow the control character.
 abbrev pub read_control : ℕ → Reading → Step
@@ -22,8 +22,8 @@ completes long name = not long && (length name.bytes == 1)
 -- A name ends before a blank, a newline or another control byte, and after its second byte where names aren't long.
 abbrev pub read_name : ℕ → Bool → Spelled → Reading → Step
 read_name b long name r =
-    if ends_name b then leave (due dues.Seek r)
-    else (if completes long name then noting (notes.Name b) (due dues.Seek r) else noting (notes.Name b) r)
+    if ends_name b then leave (pending_act pending_acts.Seek r)
+    else (if completes long name then noting (notes.Name b) (pending_act pending_acts.Seek r) else noting (notes.Name b) r)
 
 -- An empty or unknown name: the line is read in copy mode and dropped.
 abbrev pub read_drop : ℕ → Reading → Step
@@ -47,24 +47,24 @@ read_macro_blanks b r = if is_blank b then go r else leave (to modes.MacroGap r)
 -- Arguments are separated by spaces; a quote at the beginning groups.
 abbrev pub read_macro_gap : ℕ → Reading → Step
 read_macro_gap b r =
-    if b == code "\n" then go (due dues.Call (to modes.Start r))
+    if b == code "\n" then go (pending_act pending_acts.Call (to modes.Start r))
     else (if b == code " " then go r
     else (if b == code "\"" then go (to modes.Quoted r)
-    else go (due (dues.Put b) (to modes.Word r))))
+    else go (pending_act (pending_acts.Put b) (to modes.Word r))))
 
 -- A newline stays after the argument that it ends.
 abbrev pub read_word : ℕ → Reading → Step
 read_word b r =
-    if b == code "\n" then leave (due dues.EndArgument (to modes.MacroGap r))
-    else (if b == code " " then go (due dues.EndArgument (to modes.MacroGap r)) else go (due (dues.Put b) r))
+    if b == code "\n" then leave (pending_act pending_acts.EndArgument (to modes.MacroGap r))
+    else (if b == code " " then go (pending_act pending_acts.EndArgument (to modes.MacroGap r)) else go (pending_act (pending_acts.Put b) r))
 
 abbrev pub read_quoted : ℕ → Reading → Step
 read_quoted b r =
-    if b == code "\n" then leave (due dues.EndArgument (to modes.MacroGap r))
-    else (if b == code "\"" then go (to modes.Quote r) else go (due (dues.Put b) r))
+    if b == code "\n" then leave (pending_act pending_acts.EndArgument (to modes.MacroGap r))
+    else (if b == code "\"" then go (to modes.Quote r) else go (pending_act (pending_acts.Put b) r))
 
 -- Two quotes are one; a single one ends the argument.
 abbrev pub read_quote : ℕ → Reading → Step
 read_quote b r =
-    if b == code "\"" then go (due (dues.Put (code "\"")) (to modes.Quoted r))
-    else leave (due dues.EndArgument (to modes.MacroGap r))
+    if b == code "\"" then go (pending_act (pending_acts.Put (code "\"")) (to modes.Quoted r))
+    else leave (pending_act pending_acts.EndArgument (to modes.MacroGap r))

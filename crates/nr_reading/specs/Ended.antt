@@ -4,17 +4,17 @@ use Rattle.nr_reading.specs.declared.ask.Kind.{Kind}
 use Rattle.nr_reading.specs.declared.ask.Kind.TheVariants as kinds
 use Rattle.nr_reading.specs.declared.event.Event.{Event}
 use Rattle.nr_reading.specs.declared.event.Event.TheVariants as events
-use Rattle.nr_reading.specs.declared.mode.Due.{Due}
-use Rattle.nr_reading.specs.declared.mode.Due.TheVariants as dues
+use Rattle.nr_reading.specs.declared.mode.PendingAct.{PendingAct}
+use Rattle.nr_reading.specs.declared.mode.PendingAct.TheVariants as pending_acts
 use Rattle.nr_reading.specs.Ask.{is_given}
 
 -- a string or a register is spliced
-abbrev pub due_of : Kind → List ℕ → Due
-due_of kinds.String name = dues.Splice
-due_of (kinds.Register s) name = if is_given name then dues.Look else dues.Register s
-due_of k name = dues.Look
+abbrev pub pending_of : Kind → List ℕ → PendingAct
+pending_of kinds.String name = pending_acts.Splice
+pending_of (kinds.Register s) name = if is_given name then pending_acts.Look else pending_acts.Register s
+pending_of k name = pending_acts.Look
 
--- what its name or its text is told for
+-- what its name or its text is emitted for
 abbrev pub event_of : Kind → List ℕ → Event
 event_of (kinds.Register s) name = if is_given name then events.Given else events.Nothing
 event_of kinds.Width name = events.Width

@@ -1,4 +1,4 @@
--- Copy mode and argument mode: what the item in front is (CSTR 54, 7.2; the groff manual, Copy Mode).
+-- Copy mode and argument mode: what the next item is (CSTR 54, 7.2; the groff manual, Copy Mode).
 use Prim.Native.Char.{code}
 use Rattle.std.specs.Prelude.{ℕ, ◌==◌, ◌&&◌, Bool, if◌then◌else◌}
 use Rattle.nr_vectors.specs.declared.cell.Cell.{Cell}
@@ -6,8 +6,8 @@ use Rattle.nr_reading.specs.declared.ask.Kind.TheVariants as kinds
 use Rattle.nr_reading.specs.declared.ask.Sign.TheVariants as signs
 use Rattle.nr_reading.specs.declared.escape.Offer.{Offer}
 use Rattle.nr_reading.specs.declared.escape.Offer.TheVariants as offers
-use Rattle.nr_reading.specs.declared.front.Front.{Front}
-use Rattle.nr_reading.specs.declared.front.Front.TheVariants as fronts
+use Rattle.nr_reading.specs.declared.next_item.NextItem.{NextItem}
+use Rattle.nr_reading.specs.declared.next_item.NextItem.TheVariants as next_items
 use Rattle.nr_reading.specs.declared.mode.Escape.{Escape}
 use Rattle.nr_reading.specs.declared.mode.Escape.TheVariants as escapes
 
@@ -51,16 +51,16 @@ offer_over escapes.Begun = offers.Backslash
 offer_over e = offers.Over
 
 -- A level's end mark is taken before what is after it is looked at.
-abbrev pub offer : Front → Escape → Bool → Offer
-offer fronts.Mark e argument = offers.Skip e
-offer (fronts.Byte b) e argument = offer_byte b e argument
-offer (fronts.Cell c) e argument = offer_cell c e
-offer (fronts.LineEnd h) e argument = offer_line_end e
-offer fronts.Resume e argument = offer_over e
-offer fronts.Over e argument = offer_over e
+abbrev pub offer : NextItem → Escape → Bool → Offer
+offer next_items.Mark e argument = offers.Skip e
+offer (next_items.Byte b) e argument = offer_byte b e argument
+offer (next_items.Cell c) e argument = offer_cell c e
+offer (next_items.LineEnd h) e argument = offer_line_end e
+offer next_items.Resume e argument = offer_over e
+offer next_items.Over e argument = offer_over e
 
 -- what is read as it stands
-abbrev pub raw_offer : Front → Escape → Offer
-raw_offer fronts.Mark e = offers.Skip e
-raw_offer (fronts.Byte b) e = offers.Byte b
+abbrev pub raw_offer : NextItem → Escape → Offer
+raw_offer next_items.Mark e = offers.Skip e
+raw_offer (next_items.Byte b) e = offers.Byte b
 raw_offer f e = offers.Over

@@ -1,4 +1,4 @@
--- What the item in front does to what is half read.
+-- What the next item does to what is half read.
 use Prim.Native.Char.{code}
 use Rattle.std.specs.Prelude.{ℕ, ◌&&◌, Bool, true, false, if◌then◌else◌, List, [], ◌∷◌, drop}
 use Rattle.nr_reading.specs.declared.ask.Ask.{Ask}
@@ -11,18 +11,18 @@ use Rattle.nr_reading.specs.declared.escape.Offer.{Offer}
 use Rattle.nr_reading.specs.declared.escape.Offer.TheVariants as offers
 use Rattle.nr_reading.specs.declared.event.Event.{Event}
 use Rattle.nr_reading.specs.declared.event.Event.TheVariants as events
-use Rattle.nr_reading.specs.declared.front.Front.{Front}
+use Rattle.nr_reading.specs.declared.next_item.NextItem.{NextItem}
 use Rattle.nr_reading.specs.declared.half.Half.{Half}
 use Rattle.nr_reading.specs.declared.half.Seen.{Seen}
-use Rattle.nr_reading.specs.declared.mode.Due.{Due}
-use Rattle.nr_reading.specs.declared.mode.Due.TheVariants as dues
+use Rattle.nr_reading.specs.declared.mode.PendingAct.{PendingAct}
+use Rattle.nr_reading.specs.declared.mode.PendingAct.TheVariants as pending_acts
 use Rattle.nr_reading.specs.declared.mode.Escape.{Escape}
 use Rattle.nr_reading.specs.declared.mode.Escape.TheVariants as escapes
 use Rattle.nr_reading.specs.Notes.{Note}
 use Rattle.nr_reading.specs.Notes as notes
 use Rattle.nr_reading.specs.Step.{Step}
 use Rattle.nr_reading.specs.Ask.{has_text, reads_argument, is_size, begun_ask, answer}
-use Rattle.nr_reading.specs.Ended.{due_of, event_of}
+use Rattle.nr_reading.specs.Ended.{pending_of, event_of}
 use Rattle.nr_reading.specs.Escape.{offer, raw_offer}
 use Rattle.nr_reading.specs.Delimited.{begun_text, with_text_byte, ended_text, no_texts}
 use Rattle.nr_reading.specs.Mode.{is_direct, reads_arguments, at_a_line, first_signs}
@@ -32,14 +32,14 @@ use Rattle.nr_reading.specs.Reader.{read, read_over, direct}
 use Rattle.nr_reading.specs.Spelled.{name_of}
 
 -- what is half read after an item, what it tells, and whether it is taken
-pub record Met : Type 0 where
+pub record TakenIn : Type 0 where
   pub half : Half
   pub event : Event
   pub takes : Bool
 
 -- the same, as the program has it
-abbrev pub met : Half → Seen → Met
-met h seen = record { half = h; event = seen.event; takes = seen.takes }
+abbrev pub taken_in : Half → Seen → TakenIn
+taken_in h seen = record { half = h; event = seen.event; takes = seen.takes }
 
 -- nothing is half read
 abbrev pub nothing_half : Half
@@ -57,7 +57,7 @@ asking a h = record h {
 -- An interpolation that is nested too deep gives the empty name: a register that is undefined, and else nothing.
 abbrev pub too_deep : Kind → Half → Half
 too_deep (kinds.Register s) h = record h {
-  reading = record h.reading { due = dues.Register signs.None };
+  reading = record h.reading { pending_act = pending_acts.Register signs.None };
   notes = record h.notes { asked = [] };
 }
 too_deep k h = h
@@ -73,16 +73,16 @@ abbrev pub left_escape : Escape → Escape
 left_escape escapes.Comment = escapes.Plain
 left_escape e = e
 
-abbrev pub escape_behind : Bool → Escape → Escape
-escape_behind true e = escapes.Plain
-escape_behind false e = left_escape e
+abbrev pub escape_after : Bool → Escape → Escape
+escape_after true e = escapes.Plain
+escape_after false e = left_escape e
 
--- `front` says whether the item in front is the element
-abbrev pub settled : Bool → Bool → Event → Half → Met
-settled takes front event h = record {
-  half = record h { reading = record h.reading { escape = escape_behind takes h.reading.escape } };
+-- `next_item` says whether the next item is the element
+abbrev pub settled : Bool → Bool → Event → Half → TakenIn
+settled takes next_item event h = record {
+  half = record h { reading = record h.reading { escape = escape_after takes h.reading.escape } };
   event = event;
-  takes = takes && front;
+  takes = takes && next_item;
 }
 
 -- ---- an element comes to an escape
@@ -94,7 +94,7 @@ replaced a h = record h { asks = a ∷ drop 1 h.asks }
 -- it has ended: its name and its text are what was asked for
 abbrev pub finished : Ask → Half → Half
 finished a h = record h {
-  reading = record h.reading { due = due_of a.kind (name_of a.name) };
+  reading = record h.reading { pending_act = pending_of a.kind (name_of a.name) };
   asks = drop 1 h.asks;
   delimited = if has_text a.kind then ended_text h.delimited else h.delimited;
   notes = record h.notes { asked = name_of a.name };
@@ -102,18 +102,18 @@ finished a h = record h {
 
 -- the number of an argument was read
 abbrev pub argued : ℕ → Half → Half
-argued n h = record h { reading = record h.reading { due = dues.Argument n }; asks = drop 1 h.asks }
+argued n h = record h { reading = record h.reading { pending_act = pending_acts.Argument n }; asks = drop 1 h.asks }
 
 abbrev pub longer : ℕ → Half → Half
 longer b h = record h { delimited = with_text_byte b h.delimited }
 
-abbrev pub answered : Bool → Answer → Half → Met
-answered front (answers.Goes a) h = settled true front events.Nothing (replaced a h)
-answered front (answers.Turns a) h = settled false front events.Nothing (replaced a h)
-answered front (answers.Keeps b) h = settled true front events.Nothing (longer b h)
-answered front (answers.Ends a) h = settled true front (event_of a.kind (name_of a.name)) (finished a h)
-answered front (answers.Stops a) h = settled false front (event_of a.kind (name_of a.name)) (finished a h)
-answered front (answers.Argument n) h = settled true front events.Nothing (argued n h)
+abbrev pub answered : Bool → Answer → Half → TakenIn
+answered next_item (answers.Goes a) h = settled true next_item events.Nothing (replaced a h)
+answered next_item (answers.Turns a) h = settled false next_item events.Nothing (replaced a h)
+answered next_item (answers.Keeps b) h = settled true next_item events.Nothing (longer b h)
+answered next_item (answers.Ends a) h = settled true next_item (event_of a.kind (name_of a.name)) (finished a h)
+answered next_item (answers.Stops a) h = settled false next_item (event_of a.kind (name_of a.name)) (finished a h)
+answered next_item (answers.Argument n) h = settled true next_item events.Nothing (argued n h)
 
 -- ---- an element comes to the reader
 
@@ -130,53 +130,53 @@ abbrev pub stepped : Step → Half → Half
 stepped s h = asked_by s.note (record h { reading = s.reading; notes = noted s.note h.notes })
 
 -- items as they are
-abbrev pub met_directly : Step → Half → Met
-met_directly s h = record { half = stepped s h; event = s.event; takes = s.takes }
+abbrev pub taken_in_directly : Step → Half → TakenIn
+taken_in_directly s h = record { half = stepped s h; event = s.event; takes = s.takes }
 
-abbrev pub met_copied : Bool → Step → Half → Met
-met_copied front s h = settled s.takes front s.event (stepped s h)
+abbrev pub taken_in_copied : Bool → Step → Half → TakenIn
+taken_in_copied next_item s h = settled s.takes next_item s.event (stepped s h)
 
--- ---- the item in front, in copy mode: it comes to the newest escape, and to the reader where there is none
+-- ---- the next item, in copy mode: it comes to the newest escape, and to the reader where there is none
 
-abbrev pub hear_by : List Ask → Bool → ℕ → Half → Met
-hear_by [] front b h = met_copied front (read b h.signs h.notes h.reading) h
-hear_by (a ∷ asks) front b h = answered front (answer b h.signs.long a) h
+abbrev pub hear_by : List Ask → Bool → ℕ → Half → TakenIn
+hear_by [] next_item b h = taken_in_copied next_item (read b h.signs h.notes h.reading) h
+hear_by (a ∷ asks) next_item b h = answered next_item (answer b h.signs.long a) h
 
-abbrev pub over_by : List Ask → Half → Met
-over_by [] h = met_copied false (read_over h.signs h.notes h.reading) h
+abbrev pub over_by : List Ask → Half → TakenIn
+over_by [] h = taken_in_copied false (read_over h.signs h.notes h.reading) h
 over_by (a ∷ asks) h = answered false (answer (code "\n") h.signs.long a) h
 
 -- with another part of an escape read
 abbrev pub escaping : Escape → Half → Half
 escaping e h = record h { reading = record h.reading { escape = e } }
 
-abbrev pub silent : Half → Met
+abbrev pub silent : Half → TakenIn
 silent h = record { half = h; event = events.Nothing; takes = true }
 
-abbrev pub offered : Offer → Half → Met
+abbrev pub offered : Offer → Half → TakenIn
 offered (offers.Skip e) h = silent (escaping e h)
 offered (offers.Begin k) h = silent (beginning k (escaping escapes.Plain h))
 offered (offers.Byte b) h = hear_by h.asks true b h
 offered offers.Backslash h = hear_by h.asks false (code "\\") h
 offered offers.Over h = over_by h.asks h
 
--- what the item in front is to an escape
-abbrev pub offer_to : Kind → Front → Escape → Offer
+-- what the next item is to an escape
+abbrev pub offer_to : Kind → NextItem → Escape → Offer
 offer_to k f e = if is_size k then raw_offer f e else offer f e (reads_argument k)
 
--- ---- the item in front
+-- ---- the next item
 
-abbrev pub meet_by : List Ask → Front → Half → Met
-meet_by [] f h =
-    if is_direct h.reading.mode then met_directly (direct f h.signs h.reading) h
+abbrev pub take_in_by : List Ask → NextItem → Half → TakenIn
+take_in_by [] f h =
+    if is_direct h.reading.mode then taken_in_directly (direct f h.signs h.reading) h
     else offered (offer f h.reading.escape (reads_arguments h.reading.mode)) h
-meet_by (a ∷ asks) f h = offered (offer_to a.kind f h.reading.escape) h
+take_in_by (a ∷ asks) f h = offered (offer_to a.kind f h.reading.escape) h
 
-abbrev pub meet : Front → Half → Met
-meet f h = meet_by h.asks f h
+abbrev pub take_in : NextItem → Half → TakenIn
+take_in f h = take_in_by h.asks f h
 
--- what the item in front is in copy mode
-abbrev pub offer_by : List Ask → Front → Half → Offer
+-- what the next item is in copy mode
+abbrev pub offer_by : List Ask → NextItem → Half → Offer
 offer_by [] f h = offer f h.reading.escape (reads_arguments h.reading.mode)
 offer_by (a ∷ asks) f h = offer_to a.kind f h.reading.escape
 
@@ -193,9 +193,9 @@ abbrev pub reads_plainly : Half → Bool
 reads_plainly h = reads_plainly_at h.asks h.reading.escape
 
 -- an item is read next, and no part of an escape is half read
-abbrev pub reads_next_at : Due → List Ask → Escape → Bool
-reads_next_at dues.Look asks e = reads_plainly_at asks e
+abbrev pub reads_next_at : PendingAct → List Ask → Escape → Bool
+reads_next_at pending_acts.Look asks e = reads_plainly_at asks e
 reads_next_at d asks e = false
 
 abbrev pub reads_next : Half → Bool
-reads_next h = reads_next_at h.reading.due h.asks h.reading.escape
+reads_next h = reads_next_at h.reading.pending_act h.asks h.reading.escape

@@ -1,8 +1,8 @@
 -- What the reader does with an item, by its mode.
 use Prim.Native.Char.{code}
 use Rattle.std.specs.Prelude.{ℕ, ◌==◌, Bool, true, false, if◌then◌else◌}
-use Rattle.nr_reading.specs.declared.front.Front.{Front}
-use Rattle.nr_reading.specs.declared.front.Front.TheVariants as fronts
+use Rattle.nr_reading.specs.declared.next_item.NextItem.{NextItem}
+use Rattle.nr_reading.specs.declared.next_item.NextItem.TheVariants as next_items
 use Rattle.nr_reading.specs.declared.mode.Escape.{Escape}
 use Rattle.nr_reading.specs.declared.mode.Escape.TheVariants as escapes
 use Rattle.nr_reading.specs.declared.mode.Mode.{Mode}
@@ -63,7 +63,7 @@ read_over s n r = read_over_by r.mode s n r
 
 -- ---- items as they are
 
-abbrev pub unescaped : Mode → Front → Signs → Reading → Step
+abbrev pub unescaped : Mode → NextItem → Signs → Reading → Step
 unescaped modes.Diverting f s r = diverting f s r
 unescaped (modes.Leading n) f s r = leading f n r
 unescaped modes.Continued f s r = continued f r
@@ -77,22 +77,22 @@ unescaped (modes.Skip n) f s r = skip f n r
 unescaped m f s r = start f s r
 
 -- after a `\`
-abbrev pub after_backslash : Mode → Front → Signs → Reading → Step
+abbrev pub after_backslash : Mode → NextItem → Signs → Reading → Step
 after_backslash modes.Accepted f s r = accepted_escape f r
 after_backslash (modes.Skip n) f s r = skip_escape f n r
 after_backslash m f s r = escaped f s.long r
 
 -- a comment vanishes up to the newline, or what acts as one
-abbrev pub ends_comment : Front → Bool
-ends_comment fronts.Mark = false
-ends_comment (fronts.Byte b) = b == code "\n"
-ends_comment (fronts.Cell c) = false
+abbrev pub ends_comment : NextItem → Bool
+ends_comment next_items.Mark = false
+ends_comment (next_items.Byte b) = b == code "\n"
+ends_comment (next_items.Cell c) = false
 ends_comment f = true
 
-abbrev pub direct_by : Escape → Front → Signs → Reading → Step
+abbrev pub direct_by : Escape → NextItem → Signs → Reading → Step
 direct_by escapes.Plain f s r = unescaped r.mode f s r
 direct_by escapes.Begun f s r = after_backslash r.mode f s r
 direct_by escapes.Comment f s r = if ends_comment f then unescaped r.mode f s (plain r) else go r
 
-abbrev pub direct : Front → Signs → Reading → Step
+abbrev pub direct : NextItem → Signs → Reading → Step
 direct f s r = direct_by r.escape f s r

@@ -1,7 +1,7 @@
 -- What those who read events set (CSTR 54, 7.1, 10.4, 14; the groff manual, `.cp`).
 use Rattle.std.specs.Prelude.{ℕ, Bool, false, List, [], take}
 use Rattle.nr_reading.specs.declared.half.Half.{Half}
-use Rattle.nr_reading.specs.declared.mode.Due.TheVariants as dues
+use Rattle.nr_reading.specs.declared.mode.PendingAct.TheVariants as pending_acts
 use Rattle.nr_reading.specs.declared.mode.Escape.TheVariants as escapes
 use Rattle.nr_reading.specs.declared.mode.Mode.TheVariants as modes
 use Rattle.nr_reading.specs.declared.mode.Standing.{Standing}
@@ -31,7 +31,7 @@ with_line bytes h = record h { notes = record h.notes { line = take 256 bytes } 
 -- a sprung text begins a line, whatever is half read
 abbrev pub sprung : Half → Half
 sprung h = record h {
-  reading = record h.reading { mode = modes.Start; escape = escapes.Plain; due = dues.Look };
+  reading = record h.reading { mode = modes.Start; escape = escapes.Plain; pending_act = pending_acts.Look };
   asks = [];
   delimited = no_texts;
 }

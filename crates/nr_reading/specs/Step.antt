@@ -2,7 +2,7 @@
 use Rattle.std.specs.Prelude.{Bool, true, false}
 use Rattle.nr_reading.specs.declared.event.Event.{Event}
 use Rattle.nr_reading.specs.declared.event.Event.TheVariants as events
-use Rattle.nr_reading.specs.declared.mode.Due.{Due}
+use Rattle.nr_reading.specs.declared.mode.PendingAct.{PendingAct}
 use Rattle.nr_reading.specs.declared.mode.Escape.{Escape}
 use Rattle.nr_reading.specs.declared.mode.Mode.{Mode}
 use Rattle.nr_reading.specs.declared.mode.Reading.{Reading}
@@ -22,7 +22,7 @@ pub record Step : Type 0 where
   pub reading : Reading
   -- what is noted beside
   pub note : Note
-  -- what is told
+  -- what is emitted
   pub event : Event
   -- the item is taken
   pub takes : Bool
@@ -58,8 +58,8 @@ abbrev pub escaping : Escape → Reading → Reading
 escaping e r = record r { escape = e }
 
 -- with this to be done next
-abbrev pub due : Due → Reading → Reading
-due d r = record r { due = d }
+abbrev pub pending_act : PendingAct → Reading → Reading
+pending_act d r = record r { pending_act = d }
 
 -- the item is taken
 abbrev pub go : Reading → Step
@@ -69,7 +69,7 @@ go r = record { reading = r; note = notes.Nothing; event = events.Nothing; takes
 abbrev pub leave : Reading → Step
 leave r = record { reading = r; note = notes.Nothing; event = events.Nothing; takes = false }
 
--- the item is taken, and this is told
+-- the item is taken, and this is emitted
 abbrev pub tell : Event → Reading → Step
 tell e r = record { reading = r; note = notes.Nothing; event = e; takes = true }
 
@@ -77,7 +77,7 @@ tell e r = record { reading = r; note = notes.Nothing; event = e; takes = true }
 abbrev pub noting : Note → Reading → Step
 noting n r = record { reading = r; note = n; event = events.Nothing; takes = true }
 
--- the item is left, and this is told
+-- the item is left, and this is emitted
 abbrev pub leave_telling : Event → Reading → Step
 leave_telling e r = record { reading = r; note = notes.Nothing; event = e; takes = false }
 

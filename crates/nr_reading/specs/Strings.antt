@@ -1,7 +1,7 @@
 -- Definitions of strings, and transparent lines (CSTR 54, 7.1, 10.6).
 use Prim.Native.Char.{code}
 use Rattle.std.specs.Prelude.{ℕ, ◌==◌, Bool, if◌then◌else◌}
-use Rattle.nr_reading.specs.declared.mode.Due.TheVariants as dues
+use Rattle.nr_reading.specs.declared.mode.PendingAct.TheVariants as pending_acts
 use Rattle.nr_reading.specs.declared.mode.Mode.TheVariants as modes
 use Rattle.nr_reading.specs.declared.mode.Reading.{Reading}
 use Rattle.nr_reading.specs.declared.spelled.Spelled.{Spelled}
@@ -9,7 +9,7 @@ use Rattle.nr_reading.specs.Notes as notes
 use Rattle.nr_reading.specs.Step.{Step}
 use Rattle.nr_reading.specs.Control.{completes}
 use Rattle.nr_reading.specs.Spelled.{is_blank, ends_name, name_of, is_empty}
-use Rattle.nr_reading.specs.Step.{to, due, go, leave, noting, leave_noting}
+use Rattle.nr_reading.specs.Step.{to, pending_act, go, leave, noting, leave_noting}
 
 abbrev pub read_string_before : ℕ → Reading → Step
 read_string_before b r = if is_blank b then go r else leave_noting notes.NewName (to modes.StringName r)
@@ -29,14 +29,14 @@ read_string_name b long name r =
 abbrev pub read_string_blanks : ℕ → Reading → Step
 read_string_blanks b r =
     if is_blank b then go r
-    else (if b == code "\"" then go (due dues.Begin (to modes.StringText r))
-    else leave (due dues.Begin (to modes.StringText r)))
+    else (if b == code "\"" then go (pending_act pending_acts.Begin (to modes.StringText r))
+    else leave (pending_act pending_acts.Begin (to modes.StringText r)))
 
 abbrev pub read_string_text : ℕ → Reading → Step
 read_string_text b r =
-    if b == code "\n" then go (due dues.Define (to modes.Start r)) else go (due (dues.Add b) r)
+    if b == code "\n" then go (pending_act pending_acts.Define (to modes.Start r)) else go (pending_act (pending_acts.Add b) r)
 
 -- The line and its newline pass into the diversion.
 abbrev pub read_transparent : ℕ → Reading → Step
 read_transparent b r =
-    if b == code "\n" then go (due (dues.Add (code "\n")) (to modes.Start r)) else go (due (dues.Add b) r)
+    if b == code "\n" then go (pending_act (pending_acts.Add (code "\n")) (to modes.Start r)) else go (pending_act (pending_acts.Add b) r)

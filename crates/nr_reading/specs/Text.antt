@@ -3,9 +3,9 @@ use Prim.Native.Char.{code}
 use Rattle.std.specs.Prelude.{ℕ, ◌+◌, ◌==◌, ◌-◌, ◌^◌, min, Bool, true, false, if◌then◌else◌}
 use Rattle.nr_reading.specs.declared.event.Event.{Event}
 use Rattle.nr_reading.specs.declared.event.Event.TheVariants as events
-use Rattle.nr_reading.specs.declared.front.Front.{Front}
-use Rattle.nr_reading.specs.declared.front.Front.TheVariants as fronts
-use Rattle.nr_reading.specs.declared.mode.Due.TheVariants as dues
+use Rattle.nr_reading.specs.declared.next_item.NextItem.{NextItem}
+use Rattle.nr_reading.specs.declared.next_item.NextItem.TheVariants as next_items
+use Rattle.nr_reading.specs.declared.mode.PendingAct.TheVariants as pending_acts
 use Rattle.nr_reading.specs.declared.mode.Escape.TheVariants as escapes
 use Rattle.nr_reading.specs.declared.mode.Mode.{Mode}
 use Rattle.nr_reading.specs.declared.mode.Mode.TheVariants as modes
@@ -13,7 +13,7 @@ use Rattle.nr_reading.specs.declared.mode.Reading.{Reading}
 use Rattle.nr_reading.specs.declared.mode.Signs.{Signs}
 use Rattle.nr_reading.specs.Notes as notes
 use Rattle.nr_reading.specs.Step.{Step}
-use Rattle.nr_reading.specs.Step.{to, escaping, due, go, leave, tell, noting, leave_telling}
+use Rattle.nr_reading.specs.Step.{to, escaping, pending_act, go, leave, tell, noting, leave_telling}
 
 -- the next text line continues no word, or does
 abbrev pub continuing : Bool → Reading → Reading
@@ -54,14 +54,14 @@ start_byte b s r =
     else (if b == code " " then start_blank r
     else in_text (events.Byte b) r))))
 
--- A cell at a line's beginning is a diverted line. A resume mark and the empty list are met here alone.
-abbrev pub start : Front → Signs → Reading → Step
-start fronts.Mark s r = go r
-start (fronts.Byte b) s r = start_byte b s r
-start (fronts.Cell c) s r = leave_telling events.Diverted (to modes.Diverting r)
-start (fronts.LineEnd h) s r = leave_telling events.Diverted (to modes.Diverting r)
-start fronts.Resume s r = go r
-start fronts.Over s r = leave_telling events.Over r
+-- A cell at a line's beginning is a diverted line. A resume mark and the empty list are taken in here alone.
+abbrev pub start : NextItem → Signs → Reading → Step
+start next_items.Mark s r = go r
+start (next_items.Byte b) s r = start_byte b s r
+start (next_items.Cell c) s r = leave_telling events.Diverted (to modes.Diverting r)
+start (next_items.LineEnd h) s r = leave_telling events.Diverted (to modes.Diverting r)
+start next_items.Resume s r = go r
+start next_items.Over s r = leave_telling events.Over r
 
 -- ---- after leading blanks
 
@@ -71,7 +71,7 @@ one_blank_more n = min (2 ^ 32 - 1) (n + 1)
 
 -- The line isn't blank: its blanks become cells of the first word.
 abbrev pub text_after_blanks : ℕ → Reading → Step
-text_after_blanks n r = leave (due (dues.Lead n) (to modes.Text r))
+text_after_blanks n r = leave (pending_act (pending_acts.Lead n) (to modes.Text r))
 
 abbrev pub leading_byte : ℕ → ℕ → Reading → Step
 leading_byte b n r =
@@ -79,13 +79,13 @@ leading_byte b n r =
     else (if b == code " " then go (to (modes.Leading (one_blank_more n)) r)
     else (if b == code "\\" then begin_escape r else text_after_blanks n r))
 
-abbrev pub leading : Front → ℕ → Reading → Step
-leading fronts.Mark n r = go r
-leading (fronts.Byte b) n r = leading_byte b n r
-leading (fronts.Cell c) n r = text_after_blanks n r
-leading (fronts.LineEnd h) n r = tell events.Empty (to modes.Start r)
-leading fronts.Resume n r = leave_telling events.Empty (to modes.Start r)
-leading fronts.Over n r = leave_telling events.Empty (to modes.Start r)
+abbrev pub leading : NextItem → ℕ → Reading → Step
+leading next_items.Mark n r = go r
+leading (next_items.Byte b) n r = leading_byte b n r
+leading (next_items.Cell c) n r = text_after_blanks n r
+leading (next_items.LineEnd h) n r = tell events.Empty (to modes.Start r)
+leading next_items.Resume n r = leave_telling events.Empty (to modes.Start r)
+leading next_items.Over n r = leave_telling events.Empty (to modes.Start r)
 
 -- ---- after the blanks of a line that continues a word
 
@@ -98,13 +98,13 @@ continued_byte b r =
     else (if b == code " " then tell (events.Byte (code " ")) r
     else (if b == code "\\" then begin_escape r else in_text (events.Byte b) r))
 
-abbrev pub continued : Front → Reading → Step
-continued fronts.Mark r = go r
-continued (fronts.Byte b) r = continued_byte b r
-continued (fronts.Cell c) r = in_text (events.Cell c) r
-continued (fronts.LineEnd h) r = tell events.EndContinued (end_continued r)
-continued fronts.Resume r = leave_telling events.EndContinued (end_continued r)
-continued fronts.Over r = leave_telling events.EndContinued (end_continued r)
+abbrev pub continued : NextItem → Reading → Step
+continued next_items.Mark r = go r
+continued (next_items.Byte b) r = continued_byte b r
+continued (next_items.Cell c) r = in_text (events.Cell c) r
+continued (next_items.LineEnd h) r = tell events.EndContinued (end_continued r)
+continued next_items.Resume r = leave_telling events.EndContinued (end_continued r)
+continued next_items.Over r = leave_telling events.EndContinued (end_continued r)
 
 -- ---- in a text line
 
@@ -125,10 +125,10 @@ text_byte b r =
     else (if b == code "\\" then begin_escape r else tell (events.Byte b) (to modes.Text r))
 
 -- Cells inside a text line are cells of the word; a line end, a resume mark and the empty list end the line.
-abbrev pub text : Front → Reading → Step
-text fronts.Mark r = go r
-text (fronts.Byte b) r = text_byte b r
-text (fronts.Cell c) r = tell (events.Cell c) (to modes.Text r)
-text (fronts.LineEnd h) r = tell (end_event r) (ended r)
-text fronts.Resume r = leave_telling (end_event r) (ended r)
-text fronts.Over r = leave_telling (end_event r) (ended r)
+abbrev pub text : NextItem → Reading → Step
+text next_items.Mark r = go r
+text (next_items.Byte b) r = text_byte b r
+text (next_items.Cell c) r = tell (events.Cell c) (to modes.Text r)
+text (next_items.LineEnd h) r = tell (end_event r) (ended r)
+text next_items.Resume r = leave_telling (end_event r) (ended r)
+text next_items.Over r = leave_telling (end_event r) (ended r)

@@ -7,8 +7,8 @@ use Rattle.nr_reading.specs.declared.ask.Kind.TheVariants as kinds
 use Rattle.nr_reading.specs.declared.ask.Sign.TheVariants as signs
 use Rattle.nr_reading.specs.declared.event.Event.{Event}
 use Rattle.nr_reading.specs.declared.event.Event.TheVariants as events
-use Rattle.nr_reading.specs.declared.front.Front.{Front}
-use Rattle.nr_reading.specs.declared.front.Front.TheVariants as fronts
+use Rattle.nr_reading.specs.declared.next_item.NextItem.{NextItem}
+use Rattle.nr_reading.specs.declared.next_item.NextItem.TheVariants as next_items
 use Rattle.nr_reading.specs.declared.mode.Escape.TheVariants as escapes
 use Rattle.nr_reading.specs.declared.mode.Mode.{Mode}
 use Rattle.nr_reading.specs.declared.mode.Mode.TheVariants as modes
@@ -127,7 +127,7 @@ lone_escape modes.Interrupted r = leave (plain (to modes.Text r))
 lone_escape m r = leave (plain r)
 
 -- the item after `\`; an end mark is taken before what is after it is looked at
-abbrev pub escaped : Front → Bool → Reading → Step
-escaped fronts.Mark long r = go r
-escaped (fronts.Byte b) long r = escaped_byte b long r
+abbrev pub escaped : NextItem → Bool → Reading → Step
+escaped next_items.Mark long r = go r
+escaped (next_items.Byte b) long r = escaped_byte b long r
 escaped f long r = lone_escape r.mode r

@@ -2,8 +2,8 @@
 use Prim.Native.Char.{code}
 use Rattle.std.specs.Prelude.{ℕ, ◌==◌, if◌then◌else◌}
 use Rattle.nr_reading.specs.declared.event.Event.TheVariants as events
-use Rattle.nr_reading.specs.declared.front.Front.{Front}
-use Rattle.nr_reading.specs.declared.front.Front.TheVariants as fronts
+use Rattle.nr_reading.specs.declared.next_item.NextItem.{NextItem}
+use Rattle.nr_reading.specs.declared.next_item.NextItem.TheVariants as next_items
 use Rattle.nr_reading.specs.declared.mode.Mode.TheVariants as modes
 use Rattle.nr_reading.specs.declared.mode.Reading.{Reading}
 use Rattle.nr_reading.specs.Step.{Step}
@@ -22,13 +22,13 @@ before_title_byte b r =
     else (if b == code "\\" then begin_escape r
     else (if is_blank b then go r else tell events.TitlePart (to (modes.Title b 0) r)))
 
-abbrev pub before_title : Front → Reading → Step
-before_title fronts.Mark r = go r
-before_title (fronts.Byte b) r = before_title_byte b r
-before_title (fronts.Cell c) r = go r
-before_title (fronts.LineEnd h) r = tell events.TitleEnd (ended_title r)
-before_title fronts.Resume r = leave_telling events.TitleEnd (ended_title r)
-before_title fronts.Over r = leave_telling events.TitleEnd (ended_title r)
+abbrev pub before_title : NextItem → Reading → Step
+before_title next_items.Mark r = go r
+before_title (next_items.Byte b) r = before_title_byte b r
+before_title (next_items.Cell c) r = go r
+before_title (next_items.LineEnd h) r = tell events.TitleEnd (ended_title r)
+before_title next_items.Resume r = leave_telling events.TitleEnd (ended_title r)
+before_title next_items.Over r = leave_telling events.TitleEnd (ended_title r)
 
 -- after the right part the rest of the line is dropped
 abbrev pub next_part : ℕ → ℕ → Reading → Reading
@@ -43,13 +43,13 @@ title_byte b d n r =
     else (if b == code "\\" then begin_escape r
     else (if b == d then tell events.TitlePart (next_part d n r) else tell (events.Byte b) r))
 
-abbrev pub title : Front → ℕ → ℕ → Reading → Step
-title fronts.Mark d n r = go r
-title (fronts.Byte b) d n r = title_byte b d n r
-title (fronts.Cell c) d n r = tell (events.Cell c) r
-title (fronts.LineEnd h) d n r = tell events.TitleEnd (ended_title r)
-title fronts.Resume d n r = leave_telling events.TitleEnd (ended_title r)
-title fronts.Over d n r = leave_telling events.TitleEnd (ended_title r)
+abbrev pub title : NextItem → ℕ → ℕ → Reading → Step
+title next_items.Mark d n r = go r
+title (next_items.Byte b) d n r = title_byte b d n r
+title (next_items.Cell c) d n r = tell (events.Cell c) r
+title (next_items.LineEnd h) d n r = tell events.TitleEnd (ended_title r)
+title next_items.Resume d n r = leave_telling events.TitleEnd (ended_title r)
+title next_items.Over d n r = leave_telling events.TitleEnd (ended_title r)
 
 -- The rest of a title's line is read in copy mode, and dropped.
 abbrev pub read_title_rest : ℕ → Reading → Step

@@ -6,12 +6,12 @@ use Rattle.nr_reading.specs.declared.ask.Stage.{Stage}
 use Rattle.nr_reading.specs.declared.ask.Stage.TheVariants as stages
 use Rattle.nr_reading.specs.declared.event.Event.{Event}
 use Rattle.nr_reading.specs.declared.event.Event.TheVariants as events
-use Rattle.nr_reading.specs.declared.front.Front.{Front}
-use Rattle.nr_reading.specs.declared.front.Front.TheVariants as fronts
+use Rattle.nr_reading.specs.declared.next_item.NextItem.{NextItem}
+use Rattle.nr_reading.specs.declared.next_item.NextItem.TheVariants as next_items
 use Rattle.nr_reading.specs.declared.half.Half.{Half}
 use Rattle.nr_reading.specs.declared.half.Seen.{Seen}
-use Rattle.nr_reading.specs.declared.mode.Due.{Due}
-use Rattle.nr_reading.specs.declared.mode.Due.TheVariants as dues
+use Rattle.nr_reading.specs.declared.mode.PendingAct.{PendingAct}
+use Rattle.nr_reading.specs.declared.mode.PendingAct.TheVariants as pending_acts
 use Rattle.nr_reading.specs.declared.mode.Escape.{Escape}
 use Rattle.nr_reading.specs.declared.mode.Escape.TheVariants as escapes
 use Rattle.nr_reading.specs.declared.mode.Mode.{Mode}
@@ -33,11 +33,11 @@ cost_of_text = 178
 abbrev pub cost_of_special : ℕ
 cost_of_special = 367
 
--- anything else that is told, as the end of a line
+-- anything else that is emitted, as the end of a line
 abbrev pub cost_of_other : ℕ
 cost_of_other = 20
 
--- A line that has begun may end where the input ends: the end is told, of text that of its last word before.
+-- A line that has begun may end where the input ends: the end is emitted, of text that of its last word before.
 abbrev pub weight_of_start : ℕ
 weight_of_start = cost_of_other
 
@@ -74,7 +74,7 @@ backslash_elsewhere = backslash_in_text + weight_of_text + 1
 
 -- ---- events and items
 
--- What a move costs by what it tells: the move itself, and the moves of those to whom something is told. They count the end of
+-- What a move costs by what it tells: the move itself, and the moves of those to whom something is emitted. They count the end of
 -- the input and the blanks of a line's beginning themselves.
 abbrev pub cost_of_event : Event → ℕ
 cost_of_event events.Nothing = 1
@@ -96,11 +96,11 @@ cost_of_event events.Title = cost_of_setting
 cost_of_event e = cost_of_other
 
 -- What an item that is taken pays: a mark its own move, the end of the input nothing.
-abbrev pub worth_of_front : Front → ℕ
-worth_of_front fronts.Mark = 1
-worth_of_front fronts.Resume = 1
-worth_of_front fronts.Over = 0
-worth_of_front f = item_worth
+abbrev pub worth_of_item : NextItem → ℕ
+worth_of_item next_items.Mark = 1
+worth_of_item next_items.Resume = 1
+worth_of_item next_items.Over = 0
+worth_of_item f = item_worth
 
 abbrev pub paid_by : Bool → ℕ → ℕ
 paid_by true worth = worth
@@ -148,17 +148,17 @@ weight_of_mode modes.Condition = weight_of_request + 2
 weight_of_mode modes.Name = weight_of_sought + 1
 weight_of_mode modes.Control = weight_of_sought + 2
 
--- ---- what is due
+-- ---- what is pending
 
-abbrev pub weight_of_due : Due → ℕ
-weight_of_due dues.Look = 0
-weight_of_due dues.Expanded = 0
-weight_of_due (dues.Lead n) = 0
-weight_of_due (dues.Release held n b) = (held - n) + 2
-weight_of_due dues.DefineAndCall = 2
-weight_of_due (dues.Register signs.Plus) = 2
-weight_of_due (dues.Register signs.Minus) = 2
-weight_of_due d = 1
+abbrev pub weight_of_pending_act : PendingAct → ℕ
+weight_of_pending_act pending_acts.Look = 0
+weight_of_pending_act pending_acts.Expanded = 0
+weight_of_pending_act (pending_acts.Lead n) = 0
+weight_of_pending_act (pending_acts.Release held n b) = (held - n) + 2
+weight_of_pending_act pending_acts.DefineAndCall = 2
+weight_of_pending_act (pending_acts.Register signs.Plus) = 2
+weight_of_pending_act (pending_acts.Register signs.Minus) = 2
+weight_of_pending_act d = 1
 
 -- ---- a `\` that is begun: it begins the line's text, or is an element itself
 
@@ -184,13 +184,13 @@ held_by_mode (modes.BodyStart held) = held
 held_by_mode m = 0
 
 -- After a name that is looked up, and after a condition that is judged, another mode follows.
-abbrev pub weight_by : Due → Mode → Escape → ℕ
-weight_by dues.Seek m e = weight_of_sought + held_by_mode m + weight_of_escape backslash_elsewhere e
-weight_by (dues.Judge b) m e = weight_of_judged + held_by_mode m + weight_of_escape backslash_elsewhere e
-weight_by d m e = weight_of_mode m + weight_of_due d + weight_of_escape (weight_of_backslash m) e
+abbrev pub weight_by : PendingAct → Mode → Escape → ℕ
+weight_by pending_acts.Seek m e = weight_of_sought + held_by_mode m + weight_of_escape backslash_elsewhere e
+weight_by (pending_acts.Judge b) m e = weight_of_judged + held_by_mode m + weight_of_escape backslash_elsewhere e
+weight_by d m e = weight_of_mode m + weight_of_pending_act d + weight_of_escape (weight_of_backslash m) e
 
 abbrev pub weight_of_reading : Reading → ℕ
-weight_of_reading r = weight_by r.due r.mode r.escape
+weight_of_reading r = weight_by r.pending_act r.mode r.escape
 
 -- an escape whose argument is half read: it may end at once, and tell that
 abbrev pub weight_of_stage : Stage → ℕ
@@ -209,24 +209,24 @@ abbrev pub blanks_of_mode : Mode → ℕ
 blanks_of_mode (modes.Leading n) = max 1 n
 blanks_of_mode m = 0
 
-abbrev pub blanks_of_due : Due → ℕ
-blanks_of_due (dues.Lead n) = max 1 n
-blanks_of_due d = 0
+abbrev pub blanks_of_pending : PendingAct → ℕ
+blanks_of_pending (pending_acts.Lead n) = max 1 n
+blanks_of_pending d = 0
 
 abbrev pub blanks_owed : Half → ℕ
-blanks_owed h = blanks_of_mode h.reading.mode + blanks_of_due h.reading.due
+blanks_owed h = blanks_of_mode h.reading.mode + blanks_of_pending h.reading.pending_act
 
 -- ---- an item pays for what comes of it
 
--- one of the blanks that are owed is told
+-- one of the blanks that are owed is emitted
 abbrev pub is_lead : Event → Bool
 is_lead events.Lead = true
 is_lead e = false
 
 -- What it leads to and tells weighs no more than what was half read, and what is taken of it. A blank more that is owed costs
 -- as text does.
-pub record PaysFor (f : Front) (old new : Half) (seen : Seen) : Type 0 where
+pub record PaysFor (f : NextItem) (old new : Half) (seen : Seen) : Type 0 where
   pub pays : weight_of_half new + cost_of_event seen.event
       + cost_of_text * (blanks_owed new - blanks_owed old)
-      ≤ weight_of_half old + paid_by seen.takes (worth_of_front f)
+      ≤ weight_of_half old + paid_by seen.takes (worth_of_item f)
   pub tells : is_lead seen.event ≡ false

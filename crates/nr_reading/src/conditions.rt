@@ -5,7 +5,7 @@ ghost use Rattle.nr_reading.specs.Conditions.{begins_number, read_condition_byte
 
 use super::ask::is_digit;
 use super::event::{Event, Question};
-use super::mode::{Due, Mode, Reading};
+use super::mode::{Mode, PendingAct, Reading};
 use super::notes::Condition;
 use super::spelled::is_blank;
 use super::step::{Jot, Said, go, leave, leave_noting, leave_telling, noting, tell};
@@ -32,11 +32,11 @@ fn read_condition_byte(byte: u8, reading: &mut Reading) -> Said
         return tell(Event::Judge(Question::Even));
     }
     if byte == b't' {
-        reading.due = Due::Judge(false);
+        reading.pending_act = PendingAct::Judge(false);
         return go();
     }
     if byte == b'n' {
-        reading.due = Due::Judge(true);
+        reading.pending_act = PendingAct::Judge(true);
         return go();
     }
     if begins_number(byte) {
@@ -53,12 +53,12 @@ pub(crate) fn read_condition(byte: u8, negated: bool, reading: &mut Reading) -> 
     ensures { joined reading.new result ≡ read_condition byte negated reading.old }
 {
     if byte == b'\n' {
-        reading.due = Due::Judge(false);
+        reading.pending_act = PendingAct::Judge(false);
         return leave();
     }
     if is_blank(byte) {
         if negated {
-            reading.due = Due::Judge(false);
+            reading.pending_act = PendingAct::Judge(false);
             return leave();
         }
         return go();
@@ -107,7 +107,7 @@ pub(crate) fn read_first(
     ensures { joined reading.new result ≡ read_first byte delimiter condition reading.old }
 {
     if byte == b'\n' {
-        reading.due = Due::Judge(condition.are_equal());
+        reading.pending_act = PendingAct::Judge(condition.are_equal());
         return leave();
     }
     if byte == delimiter {
@@ -128,11 +128,11 @@ pub(crate) fn read_second(
     ensures { joined reading.new result ≡ read_second byte delimiter condition reading.old }
 {
     if byte == b'\n' {
-        reading.due = Due::Judge(condition.are_equal());
+        reading.pending_act = PendingAct::Judge(condition.are_equal());
         return leave();
     }
     if byte == delimiter {
-        reading.due = Due::Judge(condition.are_equal());
+        reading.pending_act = PendingAct::Judge(condition.are_equal());
         return go();
     }
     noting(Jot::Second(byte))

@@ -4,7 +4,7 @@ ghost use Rattle.nr_reading.specs.Step.{joined};
 ghost use Rattle.nr_reading.specs.Control.{read_control, completes, read_name, read_drop, read_request_blanks, read_request_line, read_macro_blanks, read_macro_gap, read_word, read_quoted, read_quote};
 
 use super::event::Event;
-use super::mode::{Due, Mode, Reading};
+use super::mode::{Mode, PendingAct, Reading};
 use super::spelled::{Spelled, ends_name, is_blank};
 use super::step::{Jot, Said, go, leave, leave_noting, noting, tell};
 
@@ -33,11 +33,11 @@ pub(crate) fn read_name(byte: u8, long: bool, name: &Spelled, reading: &mut Read
     ensures { joined reading.new result ≡ read_name byte long name.now reading.old }
 {
     if ends_name(byte) {
-        reading.due = Due::Seek;
+        reading.pending_act = PendingAct::Seek;
         return leave();
     }
     if completes(long, name) {
-        reading.due = Due::Seek;
+        reading.pending_act = PendingAct::Seek;
         return noting(Jot::Name(byte));
     }
     noting(Jot::Name(byte))
@@ -98,7 +98,7 @@ pub(crate) fn read_macro_gap(byte: u8, reading: &mut Reading) -> Said
 {
     if byte == b'\n' {
         reading.mode = Mode::Start;
-        reading.due = Due::Call;
+        reading.pending_act = PendingAct::Call;
         return go();
     }
     if byte == b' ' {
@@ -109,7 +109,7 @@ pub(crate) fn read_macro_gap(byte: u8, reading: &mut Reading) -> Said
         return go();
     }
     reading.mode = Mode::Word;
-    reading.due = Due::Put(byte);
+    reading.pending_act = PendingAct::Put(byte);
     go()
 }
 
@@ -120,15 +120,15 @@ pub(crate) fn read_word(byte: u8, reading: &mut Reading) -> Said
 {
     if byte == b'\n' {
         reading.mode = Mode::MacroGap;
-        reading.due = Due::EndArgument;
+        reading.pending_act = PendingAct::EndArgument;
         return leave();
     }
     if byte == b' ' {
         reading.mode = Mode::MacroGap;
-        reading.due = Due::EndArgument;
+        reading.pending_act = PendingAct::EndArgument;
         return go();
     }
-    reading.due = Due::Put(byte);
+    reading.pending_act = PendingAct::Put(byte);
     go()
 }
 
@@ -139,14 +139,14 @@ pub(crate) fn read_quoted(byte: u8, reading: &mut Reading) -> Said
 {
     if byte == b'\n' {
         reading.mode = Mode::MacroGap;
-        reading.due = Due::EndArgument;
+        reading.pending_act = PendingAct::EndArgument;
         return leave();
     }
     if byte == b'"' {
         reading.mode = Mode::Quote;
         return go();
     }
-    reading.due = Due::Put(byte);
+    reading.pending_act = PendingAct::Put(byte);
     go()
 }
 
@@ -157,10 +157,10 @@ pub(crate) fn read_quote(byte: u8, reading: &mut Reading) -> Said
 {
     if byte == b'"' {
         reading.mode = Mode::Quoted;
-        reading.due = Due::Put(b'"');
+        reading.pending_act = PendingAct::Put(b'"');
         return go();
     }
     reading.mode = Mode::MacroGap;
-    reading.due = Due::EndArgument;
+    reading.pending_act = PendingAct::EndArgument;
     leave()
 }

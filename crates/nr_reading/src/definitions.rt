@@ -3,7 +3,7 @@ ghost use Rattle.std.specs.Prelude.{◌≡◌, ◌≤◌, length, slice_index};
 ghost use Rattle.nr_reading.specs.Step.{joined};
 ghost use Rattle.nr_reading.specs.Definitions.{last_line, ends_whole, kept_byte, released, in_body, not_last, nearer_last, read_body_start, read_body, read_body_end, over_body_start};
 
-use super::mode::{Due, Mode, Reading};
+use super::mode::{Mode, PendingAct, Reading};
 use super::notes::Defining;
 use super::spelled::is_blank;
 use super::step::{Said, go, leave};
@@ -46,27 +46,27 @@ impl Defining {
     }
 
     // A byte of the text.
-    fn kept_byte(&self, byte: u8) -> Due
+    fn kept_byte(&self, byte: u8) -> PendingAct
         ensures { result ≡ kept_byte self.now byte }
     {
         if self.keeps {
-            return Due::Add(byte);
+            return PendingAct::Add(byte);
         }
-        Due::Look
+        PendingAct::Look
     }
 
     // Bytes that were held back, and then perhaps another.
-    fn released(&self, held: u8, then: Option<u8>) -> Due
+    fn released(&self, held: u8, then: Option<u8>) -> PendingAct
         ensures { result ≡ released self.now held then }
     {
         if self.keeps {
-            return Due::Release {
+            return PendingAct::Release {
                 held,
                 next: 0,
                 then,
             };
         }
-        Due::Look
+        PendingAct::Look
     }
 
     // The line is not the last.
@@ -76,11 +76,11 @@ impl Defining {
     {
         if held == 0 {
             reading.mode = in_body(byte);
-            reading.due = self.kept_byte(byte);
+            reading.pending_act = self.kept_byte(byte);
             return go();
         }
         reading.mode = in_body(byte);
-        reading.due = self.released(held, Some(byte));
+        reading.pending_act = self.released(held, Some(byte));
         go()
     }
 
@@ -120,7 +120,7 @@ impl Defining {
         ensures { joined reading.new result ≡ read_body byte self.now reading.old }
     {
         reading.mode = in_body(byte);
-        reading.due = self.kept_byte(byte);
+        reading.pending_act = self.kept_byte(byte);
         go()
     }
 
@@ -130,12 +130,12 @@ impl Defining {
     {
         if held == 0 {
             reading.mode = Mode::Start;
-            reading.due = Due::Define;
+            reading.pending_act = PendingAct::Define;
             return leave();
         }
         if held < self.last_line_len() {
             reading.mode = Mode::Body;
-            reading.due = self.released(held, None);
+            reading.pending_act = self.released(held, None);
             return leave();
         }
         reading.mode = Mode::BodyEnd;
@@ -160,7 +160,7 @@ pub(crate) fn read_body_end(byte: u8, reading: &mut Reading) -> Said
 {
     if byte == b'\n' {
         reading.mode = Mode::Start;
-        reading.due = Due::DefineAndCall;
+        reading.pending_act = PendingAct::DefineAndCall;
         return go();
     }
     go()

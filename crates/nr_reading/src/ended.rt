@@ -1,30 +1,30 @@
 //! What an escape asks for that has ended.
 ghost use Rattle.std.specs.Prelude.{◌≡◌};
-ghost use Rattle.nr_reading.specs.Ended.{due_of, event_of};
+ghost use Rattle.nr_reading.specs.Ended.{pending_of, event_of};
 ghost use Rattle.nr_reading.specs.Spelled.{name_of};
 
 use super::ask::{Ask, Kind, is_given};
 use super::event::Event;
-use super::mode::Due;
+use super::mode::PendingAct;
 
 impl Ask {
-    /// What is due once it has ended.
-    pub(crate) fn due(&self) -> Due
-        ensures { result ≡ due_of self.now.kind (name_of self.now.name) }
+    /// What is pending once it has ended.
+    pub(crate) fn pending_act(&self) -> PendingAct
+        ensures { result ≡ pending_of self.now.kind (name_of self.now.name) }
     {
         match self.kind {
-            Kind::String => Due::Splice,
+            Kind::String => PendingAct::Splice,
             Kind::Register(sign) => {
                 if is_given(self.name.name().as_bytes()) {
-                    return Due::Look;
+                    return PendingAct::Look;
                 }
-                Due::Register(sign)
+                PendingAct::Register(sign)
             }
-            _ => Due::Look,
+            _ => PendingAct::Look,
         }
     }
 
-    /// What is told once it has ended.
+    /// What is emitted once it has ended.
     pub(crate) fn event(&self) -> Event
         ensures { result ≡ event_of self.now.kind (name_of self.now.name) }
     {

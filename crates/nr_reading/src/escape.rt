@@ -1,12 +1,12 @@
-//! Copy mode and argument mode: what the item in front is.
+//! Copy mode and argument mode: what the next item is.
 ghost use Rattle.std.specs.Prelude.{◌≡◌};
 ghost use Rattle.nr_reading.specs.Escape.{escaped, offer_byte, offer, raw_offer};
 
 use super::ask::{Kind, Sign};
-use super::front::Front;
 use super::mode::Escape;
+use super::next_item::NextItem;
 
-/// What the item in front is in copy mode.
+/// What the next item is in copy mode.
 #[derive(Clone, Copy)]
 pub(crate) enum Offer {
     /// It is taken, and gives no element.
@@ -63,24 +63,24 @@ impl Escape {
         }
     }
 
-    /// What the item in front is; in argument mode a width is interpolated too.
+    /// What the next item is; in argument mode a width is interpolated too.
     #[inline(always)]
-    pub(crate) fn offer(self, front: Front, argument: bool) -> Offer
-        ensures { result ≡ offer front self argument }
+    pub(crate) fn offer(self, next_item: NextItem, argument: bool) -> Offer
+        ensures { result ≡ offer next_item self argument }
     {
-        match front {
-            Front::Mark => Offer::Skip(self),
-            Front::Byte(byte) => self.offer_byte(byte, argument),
-            Front::Cell(cell) => match self {
+        match next_item {
+            NextItem::Mark => Offer::Skip(self),
+            NextItem::Byte(byte) => self.offer_byte(byte, argument),
+            NextItem::Cell(cell) => match self {
                 Escape::Plain => Offer::Byte(cell.byte),
                 Escape::Begun => Offer::Backslash,
                 Escape::Comment => Offer::Skip(Escape::Comment),
             },
-            Front::LineEnd(_) => match self {
+            NextItem::LineEnd(_) => match self {
                 Escape::Begun => Offer::Backslash,
                 _ => Offer::Byte(b'\n'),
             },
-            Front::Resume | Front::Over => match self {
+            NextItem::Resume | NextItem::Over => match self {
                 Escape::Begun => Offer::Backslash,
                 _ => Offer::Over,
             },
@@ -88,12 +88,12 @@ impl Escape {
     }
 
     /// What it is where it is read as it stands.
-    pub(crate) fn raw_offer(self, front: Front) -> Offer
-        ensures { result ≡ raw_offer front self }
+    pub(crate) fn raw_offer(self, next_item: NextItem) -> Offer
+        ensures { result ≡ raw_offer next_item self }
     {
-        match front {
-            Front::Mark => Offer::Skip(self),
-            Front::Byte(byte) => Offer::Byte(byte),
+        match next_item {
+            NextItem::Mark => Offer::Skip(self),
+            NextItem::Byte(byte) => Offer::Byte(byte),
             _ => Offer::Over,
         }
     }

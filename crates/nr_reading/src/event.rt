@@ -67,7 +67,7 @@ pub enum Event {
     TitlePart,
     /// A title's line has ended.
     TitleEnd,
-    /// A diverted line is in front, at the beginning of a line: it may be read once there is room.
+    /// A diverted line comes next, at the beginning of a line: it may be read once there is room.
     Diverted,
     /// A cell of a diverted line.
     DivertedCell(Cell),

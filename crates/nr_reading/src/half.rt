@@ -1,14 +1,14 @@
-//! What is half read, and what the item in front does to it.
+//! What is half read, and what the next item does to it.
 ghost use Rattle.std.specs.Prelude.{◌≡◌, ◌<◌, length, drop, true, false};
-ghost use Rattle.nr_reading.specs.Half.{nothing_half, meet};
+ghost use Rattle.nr_reading.specs.Half.{nothing_half, take_in};
 
 use super::ask::{Answer, Ask, Kind, Sign};
 use super::asks::Asks;
 use super::delimited::Delimited;
 use super::escape::Offer;
 use super::event::Event;
-use super::front::Front;
-use super::mode::{Due, Escape, Mode, Reading, Signs};
+use super::mode::{Escape, Mode, PendingAct, Reading, Signs};
+use super::next_item::NextItem;
 use super::notes::Notes;
 use super::reader::{direct, read, read_over, unescaped};
 use super::step::Jot;
@@ -62,9 +62,9 @@ impl Half {
     ghost use Rattle.nr_reading.specs.Many.Rereading.{is_rereading};
     ghost use Rattle.nr_reading.specs.Spelled.{name_of};
     ghost use Rattle.nr_reading.specs.Step.{note_of};
-    ghost use Rattle.nr_reading.specs.Half.{asking, too_deep, beginning, settled, replaced, finished, argued, longer, answered, asked_by, noted_in, met_directly, met_copied, hear_by, over_by, escaping, silent, offered, meet_by, met, offer_by, reads_directly, reads_plainly, reads_next};
+    ghost use Rattle.nr_reading.specs.Half.{asking, too_deep, beginning, settled, replaced, finished, argued, longer, answered, asked_by, noted_in, taken_in_directly, taken_in_copied, hear_by, over_by, escaping, silent, offered, take_in_by, taken_in, offer_by, reads_directly, reads_plainly, reads_next};
     ghost use Rattle.nr_reading.specs.Mode.{is_direct};
-    ghost use Rattle.nr_reading.specs.declared.front.Front.TheVariants as fronts;
+    ghost use Rattle.nr_reading.specs.declared.next_item.NextItem.TheVariants as next_items;
     ghost use Rattle.nr_reading.specs.Weights.{PaysFor};
 
     /// Nothing is half read.
@@ -139,7 +139,7 @@ impl Half {
     {
         match kind {
             Kind::Register(_) => {
-                self.reading.due = Due::Register(Sign::None);
+                self.reading.pending_act = PendingAct::Register(Sign::None);
                 self.notes.asked = Name::new();
             }
             _ => {}
@@ -160,14 +160,14 @@ impl Half {
 
     // It is settled whether the element is taken.
     #[inline(always)]
-    fn settle(&mut self, takes: bool, front: bool, event: Event) -> Seen
-        ensures { met self.new result ≡ settled takes front event self.old }
+    fn settle(&mut self, takes: bool, next_item: bool, event: Event) -> Seen
+        ensures { taken_in self.new result ≡ settled takes next_item event self.old }
     {
         if takes {
             self.reading.escape = Escape::Plain;
             return Seen {
                 event,
-                takes: front,
+                takes: next_item,
             };
         }
         if matches!(self.reading.escape, Escape::Comment) {
@@ -186,7 +186,7 @@ impl Half {
         ensures event { result ≡ event_of ask.kind (name_of ask.name) }
     {
         let name = ask.name.name();
-        self.reading.due = ask.due();
+        self.reading.pending_act = ask.pending_act();
         self.asks.pop();
         if ask.kind.has_text() {
             self.delimited.end();
@@ -197,35 +197,35 @@ impl Half {
 
     // The newest escape has answered.
     #[inline(never)]
-    fn answered(&mut self, front: bool, answer: Answer) -> Seen
+    fn answered(&mut self, next_item: bool, answer: Answer) -> Seen
         requires { 0 < length self.old.asks }
-        ensures { met self.new result ≡ answered front answer self.old }
+        ensures { taken_in self.new result ≡ answered next_item answer self.old }
     {
         match answer {
             Answer::Goes(ask) => {
                 self.asks.set_newest(ask);
-                self.settle(true, front, Event::Nothing)
+                self.settle(true, next_item, Event::Nothing)
             }
             Answer::Turns(ask) => {
                 self.asks.set_newest(ask);
-                self.settle(false, front, Event::Nothing)
+                self.settle(false, next_item, Event::Nothing)
             }
             Answer::Keeps(byte) => {
                 self.delimited.keep(byte);
-                self.settle(true, front, Event::Nothing)
+                self.settle(true, next_item, Event::Nothing)
             }
             Answer::Ends(ask) => {
                 let event = self.finish(ask);
-                self.settle(true, front, event)
+                self.settle(true, next_item, event)
             }
             Answer::Stops(ask) => {
                 let event = self.finish(ask);
-                self.settle(false, front, event)
+                self.settle(false, next_item, event)
             }
             Answer::Argument(n) => {
-                self.reading.due = Due::Argument(n);
+                self.reading.pending_act = PendingAct::Argument(n);
                 self.asks.pop();
-                self.settle(true, front, Event::Nothing)
+                self.settle(true, next_item, Event::Nothing)
             }
         }
     }
@@ -243,21 +243,21 @@ impl Half {
     }
 
     // An element comes: to the newest escape, and else to the reader.
-    fn hear(&mut self, front: bool, byte: u8) -> Seen
-        ensures { met self.new result ≡ hear_by self.old.asks front byte self.old }
+    fn hear(&mut self, next_item: bool, byte: u8) -> Seen
+        ensures { taken_in self.new result ≡ hear_by self.old.asks next_item byte self.old }
     {
         let Some(ask) = self.asks.newest() else {
             let said = read(byte, self.signs, &self.notes, &mut self.reading);
             self.note(said.note);
-            return self.settle(said.takes, front, said.event);
+            return self.settle(said.takes, next_item, said.event);
         };
-        self.answered(front, ask.answer(byte, self.signs.long))
+        self.answered(next_item, ask.answer(byte, self.signs.long))
     }
 
     // What is read ends here.
     #[inline(never)]
     fn over(&mut self) -> Seen
-        ensures { met self.new result ≡ over_by self.old.asks self.old }
+        ensures { taken_in self.new result ≡ over_by self.old.asks self.old }
     {
         let Some(ask) = self.asks.newest() else {
             let said = read_over(self.signs, &self.notes, &mut self.reading);
@@ -267,10 +267,10 @@ impl Half {
         self.answered(false, ask.answer(b'\n', self.signs.long))
     }
 
-    // The item in front was offered, in copy mode.
+    // The next item was offered, in copy mode.
     #[inline(always)]
     fn offered(&mut self, offer: Offer) -> Seen
-        ensures { met self.new result ≡ offered offer self.old }
+        ensures { taken_in self.new result ≡ offered offer self.old }
     {
         match offer {
             Offer::Skip(escape) => {
@@ -294,31 +294,31 @@ impl Half {
         }
     }
 
-    // What the item in front is in copy mode.
+    // What the next item is in copy mode.
     #[inline(always)]
-    fn offer(&self, front: Front) -> Offer
-        ensures { result ≡ offer_by self.now.asks front self.now }
+    fn offer(&self, next_item: NextItem) -> Offer
+        ensures { result ≡ offer_by self.now.asks next_item self.now }
     {
         let escape = self.reading.escape;
         let Some(kind) = self.asks.newest_kind() else {
-            return escape.offer(front, self.reading.mode.reads_arguments());
+            return escape.offer(next_item, self.reading.mode.reads_arguments());
         };
         if kind.is_size() {
-            return escape.raw_offer(front);
+            return escape.raw_offer(next_item);
         }
-        escape.offer(front, kind.reads_argument())
+        escape.offer(next_item, kind.reads_argument())
     }
 
-    // The item in front, whatever it is.
+    // The next item, whatever it is.
     #[inline]
-    fn meet_item(&mut self, front: Front) -> Seen
-        ensures { met self.new result ≡ meet front self.old }
+    fn take_in_item(&mut self, next_item: NextItem) -> Seen
+        ensures { taken_in self.new result ≡ take_in next_item self.old }
     {
         if !self.reads_directly() {
-            let offer = self.offer(front);
+            let offer = self.offer(next_item);
             return self.offered(offer);
         }
-        let said = direct(front, self.signs, &mut self.reading);
+        let said = direct(next_item, self.signs, &mut self.reading);
         self.note(said.note);
         Seen {
             event: said.event,
@@ -338,7 +338,7 @@ impl Half {
     pub(crate) fn reads_next(&self) -> bool
         ensures { result ≡ reads_next self.now }
     {
-        matches!(self.reading.due, Due::Look) && self.reads_plainly()
+        matches!(self.reading.pending_act, PendingAct::Look) && self.reads_plainly()
     }
 
     // Whether no part of an escape is half read.
@@ -351,12 +351,12 @@ impl Half {
 
     // An item there, where items are read as they are.
     #[inline(always)]
-    fn meet_unescaped(&mut self, front: Front) -> Seen
+    fn take_in_unescaped(&mut self, next_item: NextItem) -> Seen
         requires plain { reads_plainly self.old ≡ true }
         requires direct { is_direct self.old.reading.mode ≡ true }
-        ensures { met self.new result ≡ meet front self.old }
+        ensures { taken_in self.new result ≡ take_in next_item self.old }
     {
-        let said = unescaped(front, self.signs, &mut self.reading);
+        let said = unescaped(next_item, self.signs, &mut self.reading);
         self.note(said.note);
         Seen {
             event: said.event,
@@ -369,7 +369,7 @@ impl Half {
     fn copy_byte(&mut self, byte: u8) -> Seen
         requires plain { reads_plainly self.old ≡ true }
         requires copied { is_direct self.old.reading.mode ≡ false }
-        ensures { met self.new result ≡ meet (fronts.Byte byte) self.old }
+        ensures { taken_in self.new result ≡ take_in (next_items.Byte byte) self.old }
     {
         if byte == b'\\' {
             self.reading.escape = Escape::Begun;
@@ -383,31 +383,31 @@ impl Half {
         self.settle(said.takes, true, said.event)
     }
 
-    /// What the item in front does.
+    /// What the next item does.
     ///
     /// Proved: What an item of the input does to what is half read is one function of plain values, whatever the item
     /// and the mode.
     /// Proved: What an item brings is paid by it or by what was half read, so no mode leaves an item for ever.
-    /// (`Half::meet`; `Half::meet_run` in many/runs.rt)
+    /// (`Half::take_in`; `Half::take_in_run` in many/runs.rt)
     #[inline(never)]
-    pub fn meet(&mut self, front: Front) -> Seen
-        ensures meets { met self.new result ≡ meet front self.old }
-        ensures pays { self.old.reading.due ≡ Due.Look → PaysFor front self.old self.new result }
+    pub fn take_in(&mut self, next_item: NextItem) -> Seen
+        ensures takes_in { taken_in self.new result ≡ take_in next_item self.old }
+        ensures pays { self.old.reading.pending_act ≡ PendingAct.Look → PaysFor next_item self.old self.new result }
     {
-        self.meet_item(front)
+        self.take_in_item(next_item)
     }
 
-    /// What a byte in front does, as a part of a loop.
+    /// What the next byte does, as a part of a loop.
     #[inline(always)]
-    pub(crate) fn meet_byte(&mut self, byte: u8) -> Seen
-        ensures meets { met self.new result ≡ meet (fronts.Byte byte) self.old }
-        ensures pays { self.old.reading.due ≡ Due.Look → PaysFor (fronts.Byte byte) self.old self.new result }
+    pub(crate) fn take_in_byte(&mut self, byte: u8) -> Seen
+        ensures takes_in { taken_in self.new result ≡ take_in (next_items.Byte byte) self.old }
+        ensures pays { self.old.reading.pending_act ≡ PendingAct.Look → PaysFor (next_items.Byte byte) self.old self.new result }
     {
         if !self.reads_plainly() {
-            return self.meet(Front::Byte(byte)).anew();
+            return self.take_in(NextItem::Byte(byte)).anew();
         }
         if self.reading.mode.is_direct() {
-            return self.meet_unescaped(Front::Byte(byte));
+            return self.take_in_unescaped(NextItem::Byte(byte));
         }
         self.copy_byte(byte)
     }

@@ -94,8 +94,8 @@ pub enum Escape {
 
 /// What the next move does.
 #[derive(Clone, Copy)]
-pub enum Due {
-    /// It looks at the item in front.
+pub enum PendingAct {
+    /// It looks at the next item.
     Look,
     /// It begins a string's text: empty, or as it was.
     Begin,
@@ -182,7 +182,7 @@ pub struct Reading {
     /// What of an escape was read.
     pub escape: Escape,
     /// What the next move does.
-    pub due: Due,
+    pub pending_act: PendingAct,
     /// The next text line continues a word.
     pub continued: bool,
     /// The control line began with the no-break character.
@@ -273,7 +273,7 @@ impl Reading {
         Reading {
             mode: Mode::Start,
             escape: Escape::Plain,
-            due: Due::Look,
+            pending_act: PendingAct::Look,
             continued: false,
             no_break: false,
         }

@@ -9,8 +9,8 @@ use super::control::{
     read_request_blanks, read_request_line, read_word,
 };
 use super::definitions::read_body_end;
-use super::front::Front;
 use super::mode::{Escape, Mode, Reading, Signs};
+use super::next_item::NextItem;
 use super::notes::Notes;
 use super::skipping::{accepted, accepted_escape, diverted, diverting, skip, skip_escape};
 use super::step::{Said, go};
@@ -66,56 +66,56 @@ pub(crate) fn read_over(signs: Signs, notes: &Notes, reading: &mut Reading) -> S
 
 /// An item as it is.
 #[inline(always)]
-pub(crate) fn unescaped(front: Front, signs: Signs, reading: &mut Reading) -> Said
-    ensures { joined reading.new result ≡ unescaped reading.old.mode front signs reading.old }
+pub(crate) fn unescaped(next_item: NextItem, signs: Signs, reading: &mut Reading) -> Said
+    ensures { joined reading.new result ≡ unescaped reading.old.mode next_item signs reading.old }
 {
     match reading.mode {
-        Mode::Diverting => diverting(front, signs, reading),
-        Mode::Leading(count) => leading(front, count, reading),
-        Mode::Continued => continued(front, reading),
-        Mode::Text | Mode::Interrupted => text(front, reading),
-        Mode::TitleBefore => before_title(front, reading),
-        Mode::Title(delimiter, part) => title(front, delimiter, part, reading),
-        Mode::Diverted => diverted(front, reading),
-        Mode::Accepted => accepted(front, reading),
-        Mode::Skip(count) => skip(front, count, reading),
-        _ => start(front, signs, reading),
+        Mode::Diverting => diverting(next_item, signs, reading),
+        Mode::Leading(count) => leading(next_item, count, reading),
+        Mode::Continued => continued(next_item, reading),
+        Mode::Text | Mode::Interrupted => text(next_item, reading),
+        Mode::TitleBefore => before_title(next_item, reading),
+        Mode::Title(delimiter, part) => title(next_item, delimiter, part, reading),
+        Mode::Diverted => diverted(next_item, reading),
+        Mode::Accepted => accepted(next_item, reading),
+        Mode::Skip(count) => skip(next_item, count, reading),
+        _ => start(next_item, signs, reading),
     }
 }
 
 // An item after a `\`.
-fn after_backslash(front: Front, signs: Signs, reading: &mut Reading) -> Said
-    ensures { joined reading.new result ≡ after_backslash reading.old.mode front signs reading.old }
+fn after_backslash(next_item: NextItem, signs: Signs, reading: &mut Reading) -> Said
+    ensures { joined reading.new result ≡ after_backslash reading.old.mode next_item signs reading.old }
 {
     match reading.mode {
-        Mode::Accepted => accepted_escape(front, reading),
-        Mode::Skip(count) => skip_escape(front, count, reading),
-        _ => escaped(front, signs.long, reading),
+        Mode::Accepted => accepted_escape(next_item, reading),
+        Mode::Skip(count) => skip_escape(next_item, count, reading),
+        _ => escaped(next_item, signs.long, reading),
     }
 }
 
 // A comment ends before the item.
-fn ends_comment(front: Front) -> bool
-    ensures { result ≡ ends_comment front }
+fn ends_comment(next_item: NextItem) -> bool
+    ensures { result ≡ ends_comment next_item }
 {
-    match front {
-        Front::Mark | Front::Cell(_) => false,
-        Front::Byte(byte) => byte == b'\n',
+    match next_item {
+        NextItem::Mark | NextItem::Cell(_) => false,
+        NextItem::Byte(byte) => byte == b'\n',
         _ => true,
     }
 }
 
 /// An item where items are read as they are.
-pub(crate) fn direct(front: Front, signs: Signs, reading: &mut Reading) -> Said
-    ensures { joined reading.new result ≡ direct front signs reading.old }
+pub(crate) fn direct(next_item: NextItem, signs: Signs, reading: &mut Reading) -> Said
+    ensures { joined reading.new result ≡ direct next_item signs reading.old }
 {
     match reading.escape {
-        Escape::Plain => unescaped(front, signs, reading),
-        Escape::Begun => after_backslash(front, signs, reading),
+        Escape::Plain => unescaped(next_item, signs, reading),
+        Escape::Begun => after_backslash(next_item, signs, reading),
         Escape::Comment => {
-            if ends_comment(front) {
+            if ends_comment(next_item) {
                 reading.escape = Escape::Plain;
-                return unescaped(front, signs, reading);
+                return unescaped(next_item, signs, reading);
             }
             go()
         }

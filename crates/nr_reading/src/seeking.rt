@@ -7,7 +7,7 @@ use super::half::Half;
 use super::mode::{Calls, Mode};
 
 impl Calls {
-    /// What is told of it.
+    /// What is emitted of it.
     pub fn event(self) -> Event
         ensures { result ≡ sought_event self }
     {

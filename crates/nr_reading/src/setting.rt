@@ -2,7 +2,7 @@
 ghost use Rattle.std.specs.Prelude.{◌≡◌, false};
 
 use super::half::Half;
-use super::mode::{Due, Escape, Mode, Standing};
+use super::mode::{Escape, Mode, PendingAct, Standing};
 use super::notes::Defining;
 use super::spelled::Spelled;
 use nr_units::Name;
@@ -58,7 +58,7 @@ impl Half {
         self.reading.mode = Mode::TitleBefore;
     }
 
-    /// A diverted line is read, if one is in front.
+    /// A diverted line is read, if one comes next.
     pub fn begin_diverted_line(&mut self)
         ensures { self.new ≡ in_mode modes.Diverting self.old }
     {
@@ -71,7 +71,7 @@ impl Half {
     {
         self.reading.mode = Mode::Start;
         self.reading.escape = Escape::Plain;
-        self.reading.due = Due::Look;
+        self.reading.pending_act = PendingAct::Look;
         self.asks.clear();
         self.delimited.clear();
     }

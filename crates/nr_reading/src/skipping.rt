@@ -1,11 +1,11 @@
 //! Accepted and rejected parts of conditionals, and diverted lines.
 ghost use Rattle.std.specs.Prelude.{◌≡◌};
 ghost use Rattle.nr_reading.specs.Step.{joined};
-ghost use Rattle.nr_reading.specs.Skipping.{accepted_byte, accepted, accepted_escape, behind_newline, skip_byte, skip, braces, skip_escape, diverted, diverting};
+ghost use Rattle.nr_reading.specs.Skipping.{accepted_byte, accepted, accepted_escape, past_newline, skip_byte, skip, braces, skip_escape, diverted, diverting};
 
 use super::event::Event;
-use super::front::Front;
 use super::mode::{Escape, Mode, Reading, Signs};
+use super::next_item::NextItem;
 use super::spelled::is_blank;
 use super::step::{Said, go, leave, leave_telling, tell};
 use super::text::{begin_escape, start};
@@ -31,12 +31,12 @@ fn accepted_byte(byte: u8, reading: &mut Reading) -> Said
 
 /// After an accepted condition.
 #[inline(always)]
-pub(crate) fn accepted(front: Front, reading: &mut Reading) -> Said
-    ensures { joined reading.new result ≡ accepted front reading.old }
+pub(crate) fn accepted(next_item: NextItem, reading: &mut Reading) -> Said
+    ensures { joined reading.new result ≡ accepted next_item reading.old }
 {
-    match front {
-        Front::Mark => go(),
-        Front::Byte(byte) => accepted_byte(byte, reading),
+    match next_item {
+        NextItem::Mark => go(),
+        NextItem::Byte(byte) => accepted_byte(byte, reading),
         _ => {
             reading.mode = Mode::Start;
             leave()
@@ -45,12 +45,12 @@ pub(crate) fn accepted(front: Front, reading: &mut Reading) -> Said
 }
 
 /// After an accepted condition and `\`.
-pub(crate) fn accepted_escape(front: Front, reading: &mut Reading) -> Said
-    ensures { joined reading.new result ≡ accepted_escape front reading.old }
+pub(crate) fn accepted_escape(next_item: NextItem, reading: &mut Reading) -> Said
+    ensures { joined reading.new result ≡ accepted_escape next_item reading.old }
 {
-    match front {
-        Front::Mark => go(),
-        Front::Byte(byte) => {
+    match next_item {
+        NextItem::Mark => go(),
+        NextItem::Byte(byte) => {
             if byte == b'{' {
                 reading.escape = Escape::Plain;
                 return go();
@@ -67,8 +67,8 @@ pub(crate) fn accepted_escape(front: Front, reading: &mut Reading) -> Said
 
 // A newline in a rejected part.
 #[inline(always)]
-fn behind_newline(count: u64, reading: &mut Reading) -> Said
-    ensures { joined reading.new result ≡ behind_newline count reading.old }
+fn past_newline(count: u64, reading: &mut Reading) -> Said
+    ensures { joined reading.new result ≡ past_newline count reading.old }
 {
     if count == 0 {
         reading.mode = Mode::Start;
@@ -83,7 +83,7 @@ fn skip_byte(byte: u8, count: u64, reading: &mut Reading) -> Said
     ensures { joined reading.new result ≡ skip_byte byte count reading.old }
 {
     if byte == b'\n' {
-        return behind_newline(count, reading);
+        return past_newline(count, reading);
     }
     if byte == b'\\' {
         return begin_escape(reading);
@@ -93,14 +93,14 @@ fn skip_byte(byte: u8, count: u64, reading: &mut Reading) -> Said
 
 /// In a rejected part.
 #[inline(always)]
-pub(crate) fn skip(front: Front, count: u64, reading: &mut Reading) -> Said
-    ensures { joined reading.new result ≡ skip front count reading.old }
+pub(crate) fn skip(next_item: NextItem, count: u64, reading: &mut Reading) -> Said
+    ensures { joined reading.new result ≡ skip next_item count reading.old }
 {
-    match front {
-        Front::Mark | Front::Cell(_) => go(),
-        Front::Byte(byte) => skip_byte(byte, count, reading),
-        Front::LineEnd(_) => behind_newline(count, reading),
-        Front::Resume | Front::Over => {
+    match next_item {
+        NextItem::Mark | NextItem::Cell(_) => go(),
+        NextItem::Byte(byte) => skip_byte(byte, count, reading),
+        NextItem::LineEnd(_) => past_newline(count, reading),
+        NextItem::Resume | NextItem::Over => {
             reading.mode = Mode::Start;
             leave()
         }
@@ -120,21 +120,21 @@ pub(crate) fn braces(byte: u8, count: u64) -> u64
 }
 
 /// In a rejected part, after `\`.
-pub(crate) fn skip_escape(front: Front, count: u64, reading: &mut Reading) -> Said
-    ensures { joined reading.new result ≡ skip_escape front count reading.old }
+pub(crate) fn skip_escape(next_item: NextItem, count: u64, reading: &mut Reading) -> Said
+    ensures { joined reading.new result ≡ skip_escape next_item count reading.old }
 {
-    match front {
-        Front::Mark => go(),
-        Front::Byte(byte) => {
+    match next_item {
+        NextItem::Mark => go(),
+        NextItem::Byte(byte) => {
             reading.mode = Mode::Skip(braces(byte, count));
             reading.escape = Escape::Plain;
             go()
         }
-        Front::Cell(_) | Front::LineEnd(_) => {
+        NextItem::Cell(_) | NextItem::LineEnd(_) => {
             reading.escape = Escape::Plain;
             go()
         }
-        Front::Resume | Front::Over => {
+        NextItem::Resume | NextItem::Over => {
             reading.mode = Mode::Start;
             reading.escape = Escape::Plain;
             leave()
@@ -144,13 +144,13 @@ pub(crate) fn skip_escape(front: Front, count: u64, reading: &mut Reading) -> Sa
 
 /// In a diverted line.
 #[inline(always)]
-pub(crate) fn diverted(front: Front, reading: &mut Reading) -> Said
-    ensures { joined reading.new result ≡ diverted front reading.old }
+pub(crate) fn diverted(next_item: NextItem, reading: &mut Reading) -> Said
+    ensures { joined reading.new result ≡ diverted next_item reading.old }
 {
-    match front {
-        Front::Mark => go(),
-        Front::Cell(cell) => tell(Event::DivertedCell(cell)),
-        Front::LineEnd(height) => {
+    match next_item {
+        NextItem::Mark => go(),
+        NextItem::Cell(cell) => tell(Event::DivertedCell(cell)),
+        NextItem::LineEnd(height) => {
             reading.mode = Mode::Start;
             tell(Event::DivertedEnd(Some(height)))
         }
@@ -163,18 +163,18 @@ pub(crate) fn diverted(front: Front, reading: &mut Reading) -> Said
 
 /// At the beginning of a line that may be a diverted one.
 #[inline(always)]
-pub(crate) fn diverting(front: Front, signs: Signs, reading: &mut Reading) -> Said
-    ensures { joined reading.new result ≡ diverting front signs reading.old }
+pub(crate) fn diverting(next_item: NextItem, signs: Signs, reading: &mut Reading) -> Said
+    ensures { joined reading.new result ≡ diverting next_item signs reading.old }
 {
-    match front {
-        Front::Cell(cell) => {
+    match next_item {
+        NextItem::Cell(cell) => {
             reading.mode = Mode::Diverted;
             tell(Event::DivertedCell(cell))
         }
-        Front::LineEnd(height) => {
+        NextItem::LineEnd(height) => {
             reading.mode = Mode::Start;
             tell(Event::DivertedEnd(Some(height)))
         }
-        _ => start(front, signs, reading),
+        _ => start(next_item, signs, reading),
     }
 }

@@ -37,7 +37,7 @@ pub(crate) enum Jot {
 pub(crate) struct Said {
     /// What is noted beside.
     pub(crate) note: Jot,
-    /// What is told.
+    /// What is emitted.
     pub(crate) event: Event,
     /// The item is taken.
     pub(crate) takes: bool,
@@ -59,7 +59,7 @@ pub(crate) fn leave() -> Said
     leave_noting(Jot::Nothing)
 }
 
-/// The item is taken, and this is told.
+/// The item is taken, and this is emitted.
 #[inline(always)]
 pub(crate) fn tell(event: Event) -> Said
     ensures { result ≡ record { note = jots.Nothing; event = event; takes = true } }
@@ -83,7 +83,7 @@ pub(crate) fn noting(what: Jot) -> Said
     }
 }
 
-/// The item is left, and this is told.
+/// The item is left, and this is emitted.
 #[inline(always)]
 pub(crate) fn leave_telling(event: Event) -> Said
     ensures { result ≡ record { note = jots.Nothing; event = event; takes = false } }

@@ -4,7 +4,7 @@ ghost use Rattle.nr_reading.specs.Step.{joined};
 ghost use Rattle.nr_reading.specs.Strings.{read_string_before, after_string_name, read_string_name, read_string_blanks, read_string_text, read_transparent};
 
 use super::control::completes;
-use super::mode::{Due, Mode, Reading};
+use super::mode::{Mode, PendingAct, Reading};
 use super::spelled::{Spelled, ends_name, is_blank};
 use super::step::{Jot, Said, go, leave, leave_noting, noting};
 
@@ -56,7 +56,7 @@ pub(crate) fn read_string_blanks(byte: u8, reading: &mut Reading) -> Said
         return go();
     }
     reading.mode = Mode::StringText;
-    reading.due = Due::Begin;
+    reading.pending_act = PendingAct::Begin;
     if byte == b'"' {
         return go();
     }
@@ -70,10 +70,10 @@ pub(crate) fn read_string_text(byte: u8, reading: &mut Reading) -> Said
 {
     if byte == b'\n' {
         reading.mode = Mode::Start;
-        reading.due = Due::Define;
+        reading.pending_act = PendingAct::Define;
         return go();
     }
-    reading.due = Due::Add(byte);
+    reading.pending_act = PendingAct::Add(byte);
     go()
 }
 
@@ -84,9 +84,9 @@ pub(crate) fn read_transparent(byte: u8, reading: &mut Reading) -> Said
 {
     if byte == b'\n' {
         reading.mode = Mode::Start;
-        reading.due = Due::Add(b'\n');
+        reading.pending_act = PendingAct::Add(b'\n');
         return go();
     }
-    reading.due = Due::Add(byte);
+    reading.pending_act = PendingAct::Add(byte);
     go()
 }

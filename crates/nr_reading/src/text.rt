@@ -4,8 +4,8 @@ ghost use Rattle.nr_reading.specs.Step.{joined};
 ghost use Rattle.nr_reading.specs.Text.{begin_escape, in_text, start_blank, start_newline, start_control, start_byte, start, one_blank_more, text_after_blanks, leading_byte, leading, continued_byte, continued, is_interrupted, ended, end_event, text_byte, text};
 
 use super::event::Event;
-use super::front::Front;
-use super::mode::{Due, Escape, Mode, Reading, Signs};
+use super::mode::{Escape, Mode, PendingAct, Reading, Signs};
+use super::next_item::NextItem;
 use super::step::{Jot, Said, go, leave, leave_telling, noting, tell};
 
 impl Reading {
@@ -112,17 +112,17 @@ fn start_byte(byte: u8, signs: Signs, reading: &mut Reading) -> Said
 
 /// At the beginning of a line.
 #[inline(always)]
-pub(crate) fn start(front: Front, signs: Signs, reading: &mut Reading) -> Said
-    ensures { joined reading.new result ≡ start front signs reading.old }
+pub(crate) fn start(next_item: NextItem, signs: Signs, reading: &mut Reading) -> Said
+    ensures { joined reading.new result ≡ start next_item signs reading.old }
 {
-    match front {
-        Front::Mark | Front::Resume => go(),
-        Front::Byte(byte) => start_byte(byte, signs, reading),
-        Front::Cell(_) | Front::LineEnd(_) => {
+    match next_item {
+        NextItem::Mark | NextItem::Resume => go(),
+        NextItem::Byte(byte) => start_byte(byte, signs, reading),
+        NextItem::Cell(_) | NextItem::LineEnd(_) => {
             reading.mode = Mode::Diverting;
             leave_telling(Event::Diverted)
         }
-        Front::Over => leave_telling(Event::Over),
+        NextItem::Over => leave_telling(Event::Over),
     }
 }
 
@@ -139,7 +139,7 @@ pub(crate) fn text_after_blanks(count: u32, reading: &mut Reading) -> Said
     ensures { joined reading.new result ≡ text_after_blanks count reading.old }
 {
     reading.mode = Mode::Text;
-    reading.due = Due::Lead(count);
+    reading.pending_act = PendingAct::Lead(count);
     leave()
 }
 
@@ -164,18 +164,18 @@ fn leading_byte(byte: u8, count: u32, reading: &mut Reading) -> Said
 
 /// After leading blanks.
 #[inline(always)]
-pub(crate) fn leading(front: Front, count: u32, reading: &mut Reading) -> Said
-    ensures { joined reading.new result ≡ leading front count reading.old }
+pub(crate) fn leading(next_item: NextItem, count: u32, reading: &mut Reading) -> Said
+    ensures { joined reading.new result ≡ leading next_item count reading.old }
 {
-    match front {
-        Front::Mark => go(),
-        Front::Byte(byte) => leading_byte(byte, count, reading),
-        Front::Cell(_) => text_after_blanks(count, reading),
-        Front::LineEnd(_) => {
+    match next_item {
+        NextItem::Mark => go(),
+        NextItem::Byte(byte) => leading_byte(byte, count, reading),
+        NextItem::Cell(_) => text_after_blanks(count, reading),
+        NextItem::LineEnd(_) => {
             reading.mode = Mode::Start;
             tell(Event::Empty)
         }
-        Front::Resume | Front::Over => {
+        NextItem::Resume | NextItem::Over => {
             reading.mode = Mode::Start;
             leave_telling(Event::Empty)
         }
@@ -203,19 +203,19 @@ fn continued_byte(byte: u8, reading: &mut Reading) -> Said
 
 /// After the blanks of a line that continues a word.
 #[inline(always)]
-pub(crate) fn continued(front: Front, reading: &mut Reading) -> Said
-    ensures { joined reading.new result ≡ continued front reading.old }
+pub(crate) fn continued(next_item: NextItem, reading: &mut Reading) -> Said
+    ensures { joined reading.new result ≡ continued next_item reading.old }
 {
-    match front {
-        Front::Mark => go(),
-        Front::Byte(byte) => continued_byte(byte, reading),
-        Front::Cell(cell) => in_text(Event::Cell(cell), reading),
-        Front::LineEnd(_) => {
+    match next_item {
+        NextItem::Mark => go(),
+        NextItem::Byte(byte) => continued_byte(byte, reading),
+        NextItem::Cell(cell) => in_text(Event::Cell(cell), reading),
+        NextItem::LineEnd(_) => {
             reading.mode = Mode::Start;
             reading.continued = false;
             tell(Event::EndContinued)
         }
-        Front::Resume | Front::Over => {
+        NextItem::Resume | NextItem::Over => {
             reading.mode = Mode::Start;
             reading.continued = false;
             leave_telling(Event::EndContinued)
@@ -241,21 +241,21 @@ fn text_byte(byte: u8, reading: &mut Reading) -> Said
 
 /// In a text line.
 #[inline(always)]
-pub(crate) fn text(front: Front, reading: &mut Reading) -> Said
-    ensures { joined reading.new result ≡ text front reading.old }
+pub(crate) fn text(next_item: NextItem, reading: &mut Reading) -> Said
+    ensures { joined reading.new result ≡ text next_item reading.old }
 {
-    match front {
-        Front::Mark => go(),
-        Front::Byte(byte) => text_byte(byte, reading),
-        Front::Cell(cell) => {
+    match next_item {
+        NextItem::Mark => go(),
+        NextItem::Byte(byte) => text_byte(byte, reading),
+        NextItem::Cell(cell) => {
             reading.mode = Mode::Text;
             tell(Event::Cell(cell))
         }
-        Front::LineEnd(_) => {
+        NextItem::LineEnd(_) => {
             let event = reading.end_line();
             tell(event)
         }
-        Front::Resume | Front::Over => {
+        NextItem::Resume | NextItem::Over => {
             let event = reading.end_line();
             leave_telling(event)
         }

@@ -6,8 +6,8 @@ ghost use Rattle.nr_reading.specs.TextEscape.{interpolated, asked_in_text, is_no
 
 use super::ask::{Begun, Kind, Sign};
 use super::event::Event;
-use super::front::Front;
 use super::mode::{Escape, Mode, Reading};
+use super::next_item::NextItem;
 use super::step::{Jot, Said, go, leave, noting, tell};
 use super::text::text_after_blanks;
 
@@ -219,12 +219,12 @@ fn lone_escape(reading: &mut Reading) -> Said
 }
 
 /// The item after `\`.
-pub(crate) fn escaped(front: Front, long: bool, reading: &mut Reading) -> Said
-    ensures { joined reading.new result ≡ escaped front long reading.old }
+pub(crate) fn escaped(next_item: NextItem, long: bool, reading: &mut Reading) -> Said
+    ensures { joined reading.new result ≡ escaped next_item long reading.old }
 {
-    match front {
-        Front::Mark => go(),
-        Front::Byte(byte) => escaped_byte(byte, long, reading),
+    match next_item {
+        NextItem::Mark => go(),
+        NextItem::Byte(byte) => escaped_byte(byte, long, reading),
         _ => lone_escape(reading),
     }
 }

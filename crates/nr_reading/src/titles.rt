@@ -4,8 +4,8 @@ ghost use Rattle.nr_reading.specs.Step.{joined};
 ghost use Rattle.nr_reading.specs.Titles.{ended_title, before_title_byte, before_title, next_part, title_byte, title, read_title_rest};
 
 use super::event::Event;
-use super::front::Front;
 use super::mode::{Mode, Reading};
+use super::next_item::NextItem;
 use super::spelled::is_blank;
 use super::step::{Said, go, leave_telling, tell};
 use super::text::begin_escape;
@@ -38,17 +38,17 @@ fn before_title_byte(byte: u8, reading: &mut Reading) -> Said
 
 /// Before the first delimiter.
 #[inline(always)]
-pub(crate) fn before_title(front: Front, reading: &mut Reading) -> Said
-    ensures { joined reading.new result ≡ before_title front reading.old }
+pub(crate) fn before_title(next_item: NextItem, reading: &mut Reading) -> Said
+    ensures { joined reading.new result ≡ before_title next_item reading.old }
 {
-    match front {
-        Front::Mark | Front::Cell(_) => go(),
-        Front::Byte(byte) => before_title_byte(byte, reading),
-        Front::LineEnd(_) => {
+    match next_item {
+        NextItem::Mark | NextItem::Cell(_) => go(),
+        NextItem::Byte(byte) => before_title_byte(byte, reading),
+        NextItem::LineEnd(_) => {
             end_title(reading);
             tell(Event::TitleEnd)
         }
-        Front::Resume | Front::Over => {
+        NextItem::Resume | NextItem::Over => {
             end_title(reading);
             leave_telling(Event::TitleEnd)
         }
@@ -87,18 +87,18 @@ fn title_byte(byte: u8, delimiter: u8, part: u8, reading: &mut Reading) -> Said
 
 /// In a part.
 #[inline(always)]
-pub(crate) fn title(front: Front, delimiter: u8, part: u8, reading: &mut Reading) -> Said
-    ensures { joined reading.new result ≡ title front delimiter part reading.old }
+pub(crate) fn title(next_item: NextItem, delimiter: u8, part: u8, reading: &mut Reading) -> Said
+    ensures { joined reading.new result ≡ title next_item delimiter part reading.old }
 {
-    match front {
-        Front::Mark => go(),
-        Front::Byte(byte) => title_byte(byte, delimiter, part, reading),
-        Front::Cell(cell) => tell(Event::Cell(cell)),
-        Front::LineEnd(_) => {
+    match next_item {
+        NextItem::Mark => go(),
+        NextItem::Byte(byte) => title_byte(byte, delimiter, part, reading),
+        NextItem::Cell(cell) => tell(Event::Cell(cell)),
+        NextItem::LineEnd(_) => {
             end_title(reading);
             tell(Event::TitleEnd)
         }
-        Front::Resume | Front::Over => {
+        NextItem::Resume | NextItem::Over => {
             end_title(reading);
             leave_telling(Event::TitleEnd)
         }

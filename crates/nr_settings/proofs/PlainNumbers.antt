@@ -20,7 +20,7 @@ use Rattle.nr_units.specs.declared.units.Scale.{Scale}
 use Rattle.nr_units.specs.declared.units.Scale.TheVariants.{Inch, Centimetre, Pica, VerticalSpace, Em, En, Point, Unit as OneUnit}
 use Rattle.nr_units.proofs.Values.{in_range-near, prefixed-none}
 use Rattle.nr_settings.specs.Numbers.{context, is_above_zero, is_true_number}
-use Rattle.nr_settings.specs.PlainNumbers.{BeginsOperand, IsWhole, ReadsDigits, behind_digits, whole}
+use Rattle.nr_settings.specs.PlainNumbers.{BeginsOperand, IsWhole, ReadsDigits, after_digits, whole}
 
 pub reads_first : (text : List ℕ) → ReadsDigits text 0 0
 reads_first text = record {
@@ -35,7 +35,7 @@ whole_same : (w d v e : ℕ) → capped (capped (w * 10) + d) ≡ capped (capped
 whole_same w d v e same = rw same refl
 
 digit_on : (c : Ctx) (s : Scan) (k : ℕ) (longest : Read) (i n b : ℕ) (bs : List ℕ) → BeginsOperand s → (i ≡ 0 → n ≡ 0) → n ≤ 999 → code "0" ≤ b → b ≤ code "9"
-    → read_on c (behind_digits s i n) k longest (b ∷ bs) ≡ read_on c (behind_digits s (suc i) (10 * n + (b - code "0"))) (k + 1) longest bs
+    → read_on c (after_digits s i n) k longest (b ∷ bs) ≡ read_on c (after_digits s (suc i) (10 * n + (b - code "0"))) (k + 1) longest bs
 digit_on c s k longest zero n b bs begins first small low high =
     let none : n ≡ 0 = first refl in
     let same : b - code "0" ≡ 10 * n + (b - code "0") = omega (arith, none) in
@@ -56,10 +56,10 @@ digit_more text i n inside low high small reads =
       most = omega (arith, small, high);
       known = λ c s begins k l longest at.
           let place : k + i + 1 ≡ l = omega (arith, at) in
-          subst (λ m. read_on c s k longest text ≡ read_on c (behind_digits s m (10 * n + (b - code "0"))) l longest (drop m text)) next
-          (reads.known c s begins k (k + i) longest refl ∙ ap (read_on c (behind_digits s i n) (k + i) longest) (drop-cons text i 0 inside)
+          subst (λ m. read_on c s k longest text ≡ read_on c (after_digits s m (10 * n + (b - code "0"))) l longest (drop m text)) next
+          (reads.known c s begins k (k + i) longest refl ∙ ap (read_on c (after_digits s i n) (k + i) longest) (drop-cons text i 0 inside)
           ∙ digit_on c s (k + i) longest i n b (drop (suc i) text) begins reads.first small low high
-          ∙ ap (λ m. read_on c (behind_digits s (suc i) (10 * n + (b - code "0"))) m longest (drop (suc i) text)) place);
+          ∙ ap (λ m. read_on c (after_digits s (suc i) (10 * n + (b - code "0"))) m longest (drop (suc i) text)) place);
     }
 
 -- at the beginning of a text
@@ -71,7 +71,7 @@ begins_text = record {
 }
 
 -- of a whole text
-from_start : (c : Ctx) (text : List ℕ) (i n : ℕ) → ReadsDigits text i n → read_of c text ≡ read_on c (behind_digits start i n) i nothing_read (drop i text)
+from_start : (c : Ctx) (text : List ℕ) (i n : ℕ) → ReadsDigits text i n → read_of c text ≡ read_on c (after_digits start i n) i nothing_read (drop i text)
 unfolding read_of
 from_start c text i n reads = reads.known c start begins_text 0 i nothing_read (omega arith)
 
@@ -186,20 +186,20 @@ compared ByGreater n m = nat_lt m n
 compared ByEqual n m = nat_eq n m
 
 -- the scan after a sign, where its left side was read
-abbrev behind_sign : Ctx → ℕ → Sign → Scan
-behind_sign c n sign = unwrap_or (after_byte c (whole start n) (byte_of sign)) start
+abbrev after_sign : Ctx → ℕ → Sign → Scan
+after_sign c n sign = unwrap_or (after_byte c (whole start n) (byte_of sign)) start
 
 -- the value of its left side
 abbrev left_value : Ctx → ℕ → Option ℤ
 left_value c n = number_value c c.default nothing_waits (10000 * capped (capped (0 * 10) + n))
 
 sign_on : (c : Ctx) (sign : Sign) (i n : ℕ) (bs : List ℕ)
-    → read_on c (whole start n) i nothing_read (byte_of sign ∷ bs) ≡ read_on c (behind_sign c n sign) (i + 1) (record { value = left_value c n; used = i }) bs
+    → read_on c (whole start n) i nothing_read (byte_of sign ∷ bs) ≡ read_on c (after_sign c n sign) (i + 1) (record { value = left_value c n; used = i }) bs
 sign_on c ByLess i n bs = refl
 sign_on c ByGreater i n bs = refl
 sign_on c ByEqual i n bs = refl
 
-begins_right : (c : Ctx) (sign : Sign) (n : ℕ) → BeginsOperand (behind_sign c n sign)
+begins_right : (c : Ctx) (sign : Sign) (n : ℕ) → BeginsOperand (after_sign c n sign)
 begins_right c ByLess n = record {
   takes = λ d k longest b bs low high. let same : capped (capped (0 * 10) + (b - code "0")) ≡ b - code "0" = omega (arith, high) in rw (le-leb (code "0") b low, le-leb b (code "9") high, same) refl;
 }
@@ -230,7 +230,7 @@ same_number n m = grind (arith, ints)
 
 -- what they come to
 joined_true : (c : Ctx) (sign : Sign) (n m k : ℕ) (longest : Read) → left_value c n ≡ Some (pos n) → left_value c m ≡ Some (pos m)
-    → is_above_zero (read_on c (whole (behind_sign c n sign) m) k longest []).value ≡ compared sign n m
+    → is_above_zero (read_on c (whole (after_sign c n sign) m) k longest []).value ≡ compared sign n m
 joined_true c ByLess n m k longest left right = rw (left, right) (above_zero_true (nat_lt n m))
 joined_true c ByGreater n m k longest left right = rw (left, right) (above_zero_true (nat_lt m n))
 joined_true c ByEqual n m k longest left right = rw (left, right) (above_zero_true (int_eq (pos n) (pos m)) ∙ same_number n m)
@@ -249,14 +249,14 @@ comparison_on v text sign (suc i) n (suc j) m some inside is more ends left righ
     ∙ ap (read_on c (whole start n) (suc i) nothing_read) (drop-cons text (suc i) 0 inside)
     ∙ ap (λ b. read_on c (whole start n) (suc i) nothing_read (b ∷ rest)) is
     ∙ sign_on c sign (suc i) n rest
-    ∙ right.known c (behind_sign c n sign) (begins_right c sign n) (suc i + 1) (suc i + 1 + suc j) l refl
-    ∙ ap (read_on c (whole (behind_sign c n sign) m) (suc i + 1 + suc j) l) none)
+    ∙ right.known c (after_sign c n sign) (begins_right c sign n) (suc i + 1) (suc i + 1 + suc j) l refl
+    ∙ ap (read_on c (whole (after_sign c n sign) m) (suc i + 1 + suc j) l) none)
     ∙ joined_true c sign n m (suc i + 1 + suc j) l (side_is c n left.most refl) (side_is c m right.most refl)
 
 -- the right side stands after the sign
-pub comparison_is : (v : ℕ) (text behind : List ℕ) (sign : Sign) (i n j m : ℕ) → 0 < i → i < length text → get_or text i 0 ≡ byte_of sign → 0 < j → j ≡ length behind
-    → behind ≡ drop (i + 1) text → ReadsDigits text i n → ReadsDigits behind j m → is_true_number v text ≡ compared sign n m
-comparison_is v text behind sign i n j m some inside is more ends rest_is left right =
+pub comparison_is : (v : ℕ) (text afterwards : List ℕ) (sign : Sign) (i n j m : ℕ) → 0 < i → i < length text → get_or text i 0 ≡ byte_of sign → 0 < j → j ≡ length afterwards
+    → afterwards ≡ drop (i + 1) text → ReadsDigits text i n → ReadsDigits afterwards j m → is_true_number v text ≡ compared sign n m
+comparison_is v text afterwards sign i n j m some inside is more ends rest_is left right =
     let next : i + 1 ≡ suc i = omega arith in
-    let rest : behind ≡ drop (suc i) text = rest_is ∙ ap (λ k. drop k text) next in
+    let rest : afterwards ≡ drop (suc i) text = rest_is ∙ ap (λ k. drop k text) next in
     comparison_on v text sign i n j m some inside is more (ends ∙ ap length rest) left (subst (λ bs. ReadsDigits bs j m) rest right)

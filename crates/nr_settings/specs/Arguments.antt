@@ -6,9 +6,9 @@ use Rattle.std.specs.List.{prefix_len}
 abbrev pub is_blank : ℕ → Bool
 is_blank b = b == code " " || b == code "\t"
 
--- what stands after the blanks in front
-abbrev pub behind_blanks : List ℕ → List ℕ
-behind_blanks text = drop (prefix_len is_blank text) text
+-- what stands after the first blanks
+abbrev pub after_blanks : List ℕ → List ℕ
+after_blanks text = drop (prefix_len is_blank text) text
 
 -- Of a text that begins with an argument, the length of that argument. A word goes to a blank;
 abbrev pub word_len : List ℕ → ℕ
@@ -35,23 +35,23 @@ name_of bytes = if length bytes == 0 || nat_lt 32 (length bytes) then None else 
 
 -- The next argument, and what stands after it. An empty word or number is none.
 abbrev pub word_in : List ℕ → List ℕ
-word_in line = take (word_len (behind_blanks line)) (behind_blanks line)
+word_in line = take (word_len (after_blanks line)) (after_blanks line)
 
 abbrev pub after_word : List ℕ → List ℕ
-after_word line = drop (word_len (behind_blanks line)) (behind_blanks line)
+after_word line = drop (word_len (after_blanks line)) (after_blanks line)
 
 abbrev pub number_in : List ℕ → List ℕ
-number_in line = take (number_len 0 (behind_blanks line)) (behind_blanks line)
+number_in line = take (number_len 0 (after_blanks line)) (after_blanks line)
 
 abbrev pub after_number : List ℕ → List ℕ
-after_number line = drop (number_len 0 (behind_blanks line)) (behind_blanks line)
+after_number line = drop (number_len 0 (after_blanks line)) (after_blanks line)
 
 abbrev pub name_in : Bool → List ℕ → Option (List ℕ)
-name_in long line = name_of (take (name_len long (behind_blanks line)) (behind_blanks line))
+name_in long line = name_of (take (name_len long (after_blanks line)) (after_blanks line))
 
-abbrev pub behind_name : Bool → List ℕ → List ℕ
-behind_name long line = drop (name_len long (behind_blanks line)) (behind_blanks line)
+abbrev pub after_name : Bool → List ℕ → List ℕ
+after_name long line = drop (name_len long (after_blanks line)) (after_blanks line)
 
 -- the first byte that is no blank
 abbrev pub byte_in : List ℕ → Option ℕ
-byte_in line = slice_get (behind_blanks line) 0
+byte_in line = slice_get (after_blanks line) 0

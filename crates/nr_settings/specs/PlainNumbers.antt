@@ -19,9 +19,9 @@ abbrev pub whole : Scan → ℕ → Scan
 whole s n = outermost (in_mode s.level (more_whole 0 n))
 
 -- the same after so many digits
-abbrev pub behind_digits : Scan → ℕ → ℕ → Scan
-behind_digits s zero n = s
-behind_digits s (suc i) n = whole s n
+abbrev pub after_digits : Scan → ℕ → ℕ → Scan
+after_digits s zero n = s
+after_digits s (suc i) n = whole s n
 
 -- an operand may begin at s, with a digit
 pub record BeginsOperand (s : Scan) : Type 0 where
@@ -33,4 +33,4 @@ pub record ReadsDigits (text : List ℕ) (i n : ℕ) : Type 0 where
   pub first : i ≡ 0 → n ≡ 0
   pub most : n ≤ 9999
   pub known : (c : Ctx) (s : Scan) → BeginsOperand s → (k l : ℕ) (longest : Read) → l ≡ k + i
-      → read_on c s k longest text ≡ read_on c (behind_digits s i n) l longest (drop i text)
+      → read_on c s k longest text ≡ read_on c (after_digits s i n) l longest (drop i text)

@@ -6,7 +6,7 @@ use Rattle.std.specs.Option.{option_map}
 use Rattle.nr_units.specs.declared.number_text.Format.{Format}
 use Rattle.nr_units.specs.declared.number_text.Format.TheVariants.{Arabic, LowerRoman, UpperRoman, LowerAlphabetic, UpperAlphabetic}
 use Rattle.nr_units.specs.declared.units.Scale.TheVariants.{Unit as OneUnit}
-use Rattle.nr_settings.specs.Arguments.{word_in, after_number, name_in, behind_name}
+use Rattle.nr_settings.specs.Arguments.{word_in, after_number, name_in, after_name}
 use Rattle.nr_settings.specs.Numbers.{first_value, first_change}
 use Rattle.nr_settings.specs.declared.numbers.Change.{Change}
 use Rattle.nr_settings.specs.declared.registers.RegisterChange.{RegisterChange}
@@ -24,7 +24,7 @@ nr_named v rest (Some name) =
     (first_change OneUnit v (pos 0) rest)
 
 abbrev pub nr : List ℕ → Bool → ℕ → Option RegisterChange
-nr line long v = nr_named v (behind_name long line) (name_in long line)
+nr line long v = nr_named v (after_name long line) (name_in long line)
 
 -- The format that a word names: so many digits, or i I a A, of which what follows is dropped. Any other is none.
 abbrev pub is_digit : ℕ → Bool
@@ -47,4 +47,4 @@ af_named rest (Some name) =
     option_map (λ format. record { name = name; format = format }) (format_of (word_in rest))
 
 abbrev pub af : List ℕ → Bool → Option FormatChange
-af line long = af_named (behind_name long line) (name_in long line)
+af line long = af_named (after_name long line) (name_in long line)

@@ -3,7 +3,7 @@ use Rattle.std.specs.Prelude.{ℕ, zero, suc, Bool, List, Option, Some, None, �
 use Rattle.std.specs.Option.{option_map}
 use Rattle.nr_units.specs.Units.{nearest_multiple}
 use Rattle.nr_units.specs.declared.units.Scale.TheVariants.{VerticalSpace, Unit as OneUnit}
-use Rattle.nr_settings.specs.Arguments.{name_in, behind_name, after_number}
+use Rattle.nr_settings.specs.Arguments.{name_in, after_name, after_number}
 use Rattle.nr_settings.specs.Numbers.{first_value}
 use Rattle.nr_settings.specs.declared.traps.PageTrap.{PageTrap}
 use Rattle.nr_settings.specs.declared.traps.PageTrap.TheVariants.{Plant, Remove, Nothing}
@@ -32,7 +32,7 @@ trap_move place None = None
 trap_move place (Some name) = Some (record { name = name; place = place })
 
 abbrev pub ch : List ℕ → Bool → ℕ → ℤ → Option TrapMove
-ch line long v here = trap_move (place_in v here (behind_name long line)) (name_in long line)
+ch line long v here = trap_move (place_in v here (after_name long line)) (name_in long line)
 
 -- `.dt N xx`: the diversion's trap at N for xx, or without both none. With one of them nothing changes.
 abbrev pub diversion_trap : Option ℤ → Option (List ℕ) → DiversionTrap

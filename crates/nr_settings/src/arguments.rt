@@ -1,7 +1,7 @@
 //! The arguments of a request's line.
 ghost use Rattle.std.specs.Prelude.{◌≡◌, ◌≤◌, length};
 ghost use Rattle.std.specs.List.{prefix_len};
-ghost use Rattle.nr_settings.specs.Arguments.{is_blank, is_name_byte, behind_blanks, word_len, number_len, name_len, word_in, after_word, number_in, after_number, name_in, behind_name, byte_in};
+ghost use Rattle.nr_settings.specs.Arguments.{is_blank, is_name_byte, after_blanks, word_len, number_len, name_len, word_in, after_word, number_in, after_number, name_in, after_name, byte_in};
 
 use nr_units::Name;
 
@@ -27,9 +27,9 @@ fn blanks_len(text: &[u8]) -> usize
     text.iter().take_while(|byte| is_blank(**byte)).count()
 }
 
-/// What stands after the blanks in front.
-fn behind_blanks(text: &[u8]) -> &[u8]
-    ensures { result.now ≡ behind_blanks text.now }
+/// What stands after the first blanks.
+fn after_blanks(text: &[u8]) -> &[u8]
+    ensures { result.now ≡ after_blanks text.now }
 {
     &text[blanks_len(text)..]
 }
@@ -99,9 +99,9 @@ impl<'a> Arguments<'a> {
     /// definition. (`Arguments::{name, number, word, byte}`)
     pub fn name(&mut self, long: bool) -> Option<Name>
         ensures name { result ≡ name_in long self.old.rest.now }
-        ensures rest { self.new.rest.now ≡ behind_name long self.old.rest.now }
+        ensures rest { self.new.rest.now ≡ after_name long self.old.rest.now }
     {
-        let text = behind_blanks(self.rest);
+        let text = after_blanks(self.rest);
         let len = name_len(text, long);
         self.rest = &text[len..];
         if len == 0 || len > 32 {
@@ -115,7 +115,7 @@ impl<'a> Arguments<'a> {
         ensures number { result.now ≡ number_in self.old.rest.now }
         ensures rest { self.new.rest.now ≡ after_number self.old.rest.now }
     {
-        let text = behind_blanks(self.rest);
+        let text = after_blanks(self.rest);
         let len = number_len(text);
         self.rest = &text[len..];
         &text[..len]
@@ -126,7 +126,7 @@ impl<'a> Arguments<'a> {
         ensures word { result.now ≡ word_in self.old.rest.now }
         ensures rest { self.new.rest.now ≡ after_word self.old.rest.now }
     {
-        let text = behind_blanks(self.rest);
+        let text = after_blanks(self.rest);
         let len = word_len(text);
         self.rest = &text[len..];
         &text[..len]
@@ -136,6 +136,6 @@ impl<'a> Arguments<'a> {
     pub fn byte(&self) -> Option<u8>
         ensures { result ≡ byte_in self.now.rest.now }
     {
-        behind_blanks(self.rest).first().copied()
+        after_blanks(self.rest).first().copied()
     }
 }

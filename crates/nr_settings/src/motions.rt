@@ -73,7 +73,7 @@ fn rule_byte(text: &[u8]) -> u8
 }
 
 /// What stands after the first bytes of a text.
-fn behind(text: &[u8], used: usize) -> &[u8]
+fn afterwards(text: &[u8], used: usize) -> &[u8]
     ensures { result.now ≡ drop used text.now }
 {
     &text[used.min(text.len())..]
@@ -90,6 +90,6 @@ pub fn rule(argument: &[u8], v: Height, here: i64) -> Repeated
     };
     Repeated {
         cells,
-        byte: rule_byte(behind(argument, read.used)),
+        byte: rule_byte(afterwards(argument, read.used)),
     }
 }

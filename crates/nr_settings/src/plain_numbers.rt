@@ -96,7 +96,7 @@ struct Digits {
 #[inline(always)]
 fn digits_of(text: &[u8]) -> Digits
     ensures reads { ReadsDigits text.now result.count result.number }
-    ensures front { result.count ≤ length text.now }
+    ensures prefix { result.count ≤ length text.now }
 {
     let mut number = 0u32;
     for (at, byte) in text.iter().enumerate() {
@@ -121,9 +121,9 @@ pub(crate) fn plain_comparison(argument: &[u8]) -> Option<bool>
     if left.count == 0 || left.count == argument.len() {
         return None;
     }
-    let behind = &argument[left.count + 1..];
-    let right = digits_of(behind);
-    if right.count == 0 || right.count < behind.len() {
+    let afterwards = &argument[left.count + 1..];
+    let right = digits_of(afterwards);
+    if right.count == 0 || right.count < afterwards.len() {
         return None;
     }
     match argument[left.count] {

@@ -279,5 +279,5 @@ module _ {K : Type 0} (p : Texts Element) (names : Table Sense) (drafts : Items 
   run_afforded = let charged = run_stands.charged in omega (arith, charged, room)
 
   -- and then one more
-  pub charge_behind_run : (x : Element) → charge_of (added (x ∷ []) (stored_of (with_text p d.id (text p d.id ++ xs)) names.entries drafts.items levels beside limit)) ≡ charge + count + 1
-  charge_behind_run x = charge_of-added (with_text p d.id (text p d.id ++ xs)) names drafts levels beside (charge + count) limit d ds (x ∷ []) run_stands first
+  pub charge_after_run : (x : Element) → charge_of (added (x ∷ []) (stored_of (with_text p d.id (text p d.id ++ xs)) names.entries drafts.items levels beside limit)) ≡ charge + count + 1
+  charge_after_run x = charge_of-added (with_text p d.id (text p d.id ++ xs)) names drafts levels beside (charge + count) limit d ds (x ∷ []) run_stands first

@@ -75,12 +75,12 @@ same_texts p q names (l ∷ ls) h =
 pub same_view : {K : Type 0} (p q : Texts Element) (names : List (Named Sense)) (drafts : List Draft) (levels : Levels K) (beside : Beside) (limit : ℕ)
     → Keeps p q (held_ids names (draft_ids drafts) levels.levels) → stored_of q names drafts levels beside limit ≡ stored_of p names drafts levels beside limit
 same_view p q names drafts levels beside limit h =
-    let behind = keeps_right p q (values names) (draft_ids drafts ++ ids_of levels.levels) h in
+    let afterwards = keeps_right p q (values names) (draft_ids drafts ++ ids_of levels.levels) h in
     ap₂ (λ ns bs. record (stored_of q names drafts levels beside limit) { names = ns; building = bs })
     (same_names p q names (keeps_left p q (values names) (draft_ids drafts ++ ids_of levels.levels) h))
-    (same_building p q drafts (keeps_left p q (draft_ids drafts) (ids_of levels.levels) behind))
-    ∙ ap₂ (λ ls ts. record (stored_of p names drafts levels beside limit) { levels = ls; texts = ts }) (same_levels p q levels.levels (keeps_right p q (draft_ids drafts) (ids_of levels.levels) behind))
-    (same_texts p q names levels.levels (keeps_right p q (draft_ids drafts) (ids_of levels.levels) behind))
+    (same_building p q drafts (keeps_left p q (draft_ids drafts) (ids_of levels.levels) afterwards))
+    ∙ ap₂ (λ ls ts. record (stored_of p names drafts levels beside limit) { levels = ls; texts = ts }) (same_levels p q levels.levels (keeps_right p q (draft_ids drafts) (ids_of levels.levels) afterwards))
+    (same_texts p q names levels.levels (keeps_right p q (draft_ids drafts) (ids_of levels.levels) afterwards))
 
 -- ---- what the pool's texts take is within the charge
 
@@ -200,7 +200,7 @@ module _ {K : Type 0} (p : Texts Element) (names : Table Sense) (drafts : Items 
   many_paid =
       let held = h.held.held id in
       let all = count-append id (values names.entries) (draft_ids drafts.items ++ ids_of levels.levels) in
-      let behind = count-append id (draft_ids drafts.items) (ids_of levels.levels) in
+      let afterwards = count-append id (draft_ids drafts.items) (ids_of levels.levels) in
       let of_names = names_many id p names.entries in
       let of_drafts = drafts_many id p drafts.items in
       let of_levels = levels_many id levels.levels h.pays in

@@ -161,19 +161,19 @@ count-values k [] = refl
 count-values k (n ∷ ns) =
     count-append k (ids_of_sense n.value) (values ns) ∙ ap (λ m. ones k n.value + m) (count-values k ns) ∙ sym (sum_by-cons (λ (m : Named Sense). ones k m.value) n ns)
 
--- ---- what a caller is told of a name
+-- ---- what a caller is emitted of a name
 
-abbrev pub told : Option Sense → Meaning
-told None = meanings.Unknown
-told (Some (senses.Request r)) = meanings.Request r
-told (Some (senses.Text id)) = meanings.Text
+abbrev pub returned : Option Sense → Meaning
+returned None = meanings.Unknown
+returned (Some (senses.Request r)) = meanings.Request r
+returned (Some (senses.Text id)) = meanings.Text
 
-same_told : (p : Texts Element) (o : Option Sense) → meaning_of (option_map (means_of p) o) ≡ told o
-same_told p None = refl
-same_told p (Some (senses.Request r)) = refl
-same_told p (Some (senses.Text id)) = refl
+same_returned : (p : Texts Element) (o : Option Sense) → meaning_of (option_map (means_of p) o) ≡ returned o
+same_returned p None = refl
+same_returned p (Some (senses.Request r)) = refl
+same_returned p (Some (senses.Text id)) = refl
 
-pub named_told : {K : Type 0} (p : Texts Element) (names : List (Named Sense)) (drafts : List Draft) (levels : Levels K) (beside : Beside) (limit : ℕ) (name : List ℕ) (o : Option Sense) (v : Stored K) → stored_of p names drafts levels beside limit ≡ v
-    → o ≡ find name names → told o ≡ meaning_of (find name v.names)
-named_told p names drafts levels beside limit name o v view was =
-    ap told was ∙ sym (same_told p (find name names)) ∙ sym (ap meaning_of (find-map (means_of p) name names)) ∙ ap (λ (w : Stored _). meaning_of (find name w.names)) view
+pub named_returned : {K : Type 0} (p : Texts Element) (names : List (Named Sense)) (drafts : List Draft) (levels : Levels K) (beside : Beside) (limit : ℕ) (name : List ℕ) (o : Option Sense) (v : Stored K) → stored_of p names drafts levels beside limit ≡ v
+    → o ≡ find name names → returned o ≡ meaning_of (find name v.names)
+named_returned p names drafts levels beside limit name o v view was =
+    ap returned was ∙ sym (same_returned p (find name names)) ∙ sym (ap meaning_of (find-map (means_of p) name names)) ∙ ap (λ (w : Stored _). meaning_of (find name w.names)) view

@@ -10,8 +10,8 @@ use Rattle.nr_vectors.specs.Items.{Items}
 use Rattle.nr_pool.specs.Texts.{Texts, text, holders, IsOpen, released}
 use Rattle.nr_symbol_tables.specs.Table.{Named}
 use Rattle.nr_symbol_tables.specs.Rows.{Table}
-use Rattle.nr_levels.specs.Levels.{Source, Text, Own, Mark as Marked, Open, Levels, front, front_of, behind, advanced, marks, closed, charge_of_newest}
-use Rattle.nr_levels.specs.declared.frame.Front.TheVariants as fronts
+use Rattle.nr_levels.specs.Levels.{Source, Text, Own, Mark as Marked, Open, Levels, next_item, next_item_of, afterwards, advanced, marks, closed, charge_of_newest}
+use Rattle.nr_levels.specs.declared.frame.NextItem.TheVariants as next_items
 use Rattle.nr_store.specs.declared.named.Sense.{Sense}
 use Rattle.nr_store.specs.declared.element.Element.{Element}
 use Rattle.nr_store.specs.declared.element.Draft.{Draft}
@@ -28,13 +28,13 @@ pub record Newest {K : Type 0} (levels : List (Open K)) (s : Source K) : Type 0 
   pub first : levels ≡ level ∷ drop 1 levels
   pub reads : level.source ≡ s
 
-source_text : {K : Type 0} (s : Source K) (id place : ℕ) → front s ≡ fronts.Text id place → s ≡ Text id place
+source_text : {K : Type 0} (s : Source K) (id place : ℕ) → next_item s ≡ next_items.Text id place → s ≡ Text id place
 source_text (Text i j) id place is = let same : i ≡ id = cc in let at : j ≡ place = cc in ap₂ Text same at
 source_text (Own []) id place is = cc
 source_text (Own (b ∷ bs)) id place is = cc
 source_text (Marked mode) id place is = cc
 
-pub newest_text : {K : Type 0} (levels : List (Open K)) (id place : ℕ) → front_of levels ≡ Some (fronts.Text id place) → Newest levels (Text id place)
+pub newest_text : {K : Type 0} (levels : List (Open K)) (id place : ℕ) → next_item_of levels ≡ Some (next_items.Text id place) → Newest levels (Text id place)
 newest_text [] id place is = let no : ⊥ = cc in absurd no
 newest_text (l ∷ ls) id place is = record { level = l; first = refl; reads = source_text l.source id place cc }
 
@@ -44,7 +44,7 @@ rest_more xs place x is = drop_more xs place x (slice_get_within xs place x is) 
 
 -- ---- an element is taken
 
-after_text : {K : Type 0} (p : Texts Element) (names : List (Named Sense)) (older : List ℕ) (s : Source K) → text_in p names older (behind s) ≡ text_in p names older s
+after_text : {K : Type 0} (p : Texts Element) (names : List (Named Sense)) (older : List ℕ) (s : Source K) → text_in p names older (afterwards s) ≡ text_in p names older s
 after_text p names older (Text id place) = refl
 after_text p names older (Own bytes) = refl
 after_text p names older (Marked mode) = refl
@@ -59,10 +59,10 @@ module _ {K : Type 0} (p : Texts Element) (names : List (Named Sense)) (drafts :
   pub shown_is : shown (map (level_of p) levels.levels) ≡ shown_in (level_in p s n.level)
   shown_is = ap (λ ls. shown (map (level_of p) ls)) n.first ∙ ap (λ t. shown_in (level_in p t n.level)) n.reads
 
-  pub advanced_is : with (advanced levels.levels) ≡ record (with (n.level ∷ drop 1 levels.levels)) { levels = level_in p (behind s) (record n.level { source = behind s }) ∷ map (level_of p) (drop 1 levels.levels) }
+  pub advanced_is : with (advanced levels.levels) ≡ record (with (n.level ∷ drop 1 levels.levels)) { levels = level_in p (afterwards s) (record n.level { source = afterwards s }) ∷ map (level_of p) (drop 1 levels.levels) }
   advanced_is =
       ap (λ ks. with (advanced ks)) n.first
-      ∙ ap₂ (λ k ts. record (with (n.level ∷ drop 1 levels.levels)) { levels = k ∷ map (level_of p) (drop 1 levels.levels); texts = ts ++ texts_in p names (drop 1 levels.levels) }) (ap (λ t. level_in p (behind t) (record n.level { source = behind t })) n.reads)
+      ∙ ap₂ (λ k ts. record (with (n.level ∷ drop 1 levels.levels)) { levels = k ∷ map (level_of p) (drop 1 levels.levels); texts = ts ++ texts_in p names (drop 1 levels.levels) }) (ap (λ t. level_in p (afterwards t) (record n.level { source = afterwards t })) n.reads)
       (after_text p names (ids_of (drop 1 levels.levels)) n.level.source)
 
   pub after_is : after levels.levels ≡ left_in (level_in p s n.level) (map (level_of p) (drop 1 levels.levels)) (with (n.level ∷ drop 1 levels.levels))
@@ -97,9 +97,9 @@ pub adds_level : {K : Type 0} (id : ℕ) (names : List (Named Sense)) (building 
 adds_level id names building l levels is = record {
   counts = λ k.
       let less = count-append k (values names) (building ++ ids_of levels) in
-      let less_behind = count-append k building (ids_of levels) in
+      let less_after = count-append k building (ids_of levels) in
       let more = count-append k (values names) (building ++ (ids_of_source l.source ++ ids_of levels)) in
-      let more_behind = count-append k building (ids_of_source l.source ++ ids_of levels) in
+      let more_after = count-append k building (ids_of_source l.source ++ ids_of levels) in
       let these : count k (ids_of_source l.source ++ ids_of levels) ≡ count k (id ∷ ids_of levels) = ap (λ ks. count k (ks ++ ids_of levels)) is in
       let this = count-cons k id (ids_of levels) in
       omega arith;
@@ -234,7 +234,7 @@ module _ {K : Type 0} (p : Texts Element) (names : Table Sense) (drafts : Items 
       let old = h.held.held k in
       let counts = adds.counts k in
       let less = count-append k (values names.entries) (draft_ids drafts.items ++ ids_of (drop 1 levels.levels)) in
-      let less_behind = count-append k (draft_ids drafts.items) (ids_of (drop 1 levels.levels)) in
+      let less_after = count-append k (draft_ids drafts.items) (ids_of (drop 1 levels.levels)) in
       omega arith
 
   charged : level_charge (level_of p n.level) ≡ n.level.charge
@@ -249,16 +249,16 @@ module _ {K : Type 0} (p : Texts Element) (names : Table Sense) (drafts : Items 
       let more = adds.counts id in
       let this = one_same id id refl in
       let split = count-append id (values names.entries) (draft_ids drafts.items ++ older) in
-      let split_behind = count-append id (draft_ids drafts.items) older in
+      let split_after = count-append id (draft_ids drafts.items) older in
       let unbuilt : count id (draft_ids drafts.items) ≡ 0 = elim (cases_lt 0 (count id (draft_ids drafts.items))) [
-        | inl some ↦ let one = h.alone id some in absurd (omega (arith, one, here, more, this, split, split_behind, some))
+        | inl some ↦ let one = h.alone id some in absurd (omega (arith, one, here, more, this, split, split_after, some))
         | inr none ↦ omega (arith, none)
       ] in
       ap (source_charge p names.entries older) n.reads ∙ elim (cases_lt 0 (count id (values names.entries))) [
-        | inl some ↦ named_free id once names.entries some ∙ sym (cond-false _ _ _ (ne_eqb (holders p id) 1 (λ one. absurd (omega (arith, one, here, more, this, split, split_behind, some)))))
+        | inl some ↦ named_free id once names.entries some ∙ sym (cond-false _ _ _ (ne_eqb (holders p id) 1 (λ one. absurd (omega (arith, one, here, more, this, split, split_after, some)))))
         | inr unnamed ↦ unnamed_pays id once names.entries (omega (arith, unnamed)) ∙ elim (cases_lt 0 (count id older)) [
-          | inl again ↦ again_free (share (text p id)) id older again ∙ sym (cond-false _ _ _ (ne_eqb (holders p id) 1 (λ one. absurd (omega (arith, one, here, more, this, split, split_behind, again)))))
-          | inr first ↦ first_pays (share (text p id)) id older (omega (arith, first)) ∙ sym (cond-true _ _ _ (eq-eqb (holders p id) 1 (omega (arith, here, more, this, split, split_behind, unbuilt, unnamed, first))))
+          | inl again ↦ again_free (share (text p id)) id older again ∙ sym (cond-false _ _ _ (ne_eqb (holders p id) 1 (λ one. absurd (omega (arith, one, here, more, this, split, split_after, again)))))
+          | inr first ↦ first_pays (share (text p id)) id older (omega (arith, first)) ∙ sym (cond-true _ _ _ (eq-eqb (holders p id) 1 (omega (arith, here, more, this, split, split_after, unbuilt, unnamed, first))))
         ]
       ]
 

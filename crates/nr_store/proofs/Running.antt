@@ -13,20 +13,20 @@ use Rattle.nr_store.specs.declared.element.Element.{Element}
 use Rattle.nr_store.specs.declared.element.Element.TheVariants.{Byte}
 use Rattle.nr_store.specs.declared.element.Draft.{Draft}
 use Rattle.nr_store.specs.Store.{Read, level_charge, text_charge, charge_of}
-use Rattle.nr_store.specs.Windows.{rest_in, rest_of, level_behind, levels_after, run_left}
+use Rattle.nr_store.specs.Windows.{rest_in, rest_of, level_after, levels_after, run_left}
 use Rattle.nr_store.proofs.Keeping.{text_small, charged_once}
 use Rattle.nr_store.specs.Holders.{Beside, level_in, level_of, stored_of, ids_of_source, ids_of, values, draft_ids, text_in, texts_in, IsHeld, Pays, AllPay, IsStore}
 
 -- ---- the level further on
 
-source_behind : {K : Type 0} (p : Texts Element) (n : ℕ) (s : Source K) (l : Open K) → level_in p (further n s) (record l { source = further n s }) ≡ level_behind n (level_in p s l)
-source_behind p n (Text id place) l = ap (λ xs. Read (record { rest = xs; old = l.old; charge = l.charge; resume = l.resume })) (sym (drop-drop n place (text p id)))
-source_behind p n (Own bytes) l = ap (λ xs. Read (record { rest = xs; old = l.old; charge = l.charge; resume = l.resume })) (sym (drop-map Byte n bytes))
-source_behind p n (Marked mode) l = refl
+source_after : {K : Type 0} (p : Texts Element) (n : ℕ) (s : Source K) (l : Open K) → level_in p (further n s) (record l { source = further n s }) ≡ level_after n (level_in p s l)
+source_after p n (Text id place) l = ap (λ xs. Read (record { rest = xs; old = l.old; charge = l.charge; resume = l.resume })) (sym (drop-drop n place (text p id)))
+source_after p n (Own bytes) l = ap (λ xs. Read (record { rest = xs; old = l.old; charge = l.charge; resume = l.resume })) (sym (drop-map Byte n bytes))
+source_after p n (Marked mode) l = refl
 
-newest_behind : {K : Type 0} (p : Texts Element) (n : ℕ) (ls : List (Open K)) → map (level_of p) (further_on n ls) ≡ levels_after n (map (level_of p) ls)
-newest_behind p n [] = refl
-newest_behind p n (l ∷ ls) = ap (λ k. k ∷ map (level_of p) ls) (source_behind p n l.source l)
+newest_after : {K : Type 0} (p : Texts Element) (n : ℕ) (ls : List (Open K)) → map (level_of p) (further_on n ls) ≡ levels_after n (map (level_of p) ls)
+newest_after p n [] = refl
+newest_after p n (l ∷ ls) = ap (λ k. k ∷ map (level_of p) ls) (source_after p n l.source l)
 
 -- ---- it has so many elements
 
@@ -72,7 +72,7 @@ on_ids n (l ∷ ls) = ap (λ ks. ks ++ ids_of ls) (further_ids n l.source)
 pub run_is : {K : Type 0} (p : Texts Element) (names : Table Sense) (drafts : Items Draft) (levels : Levels K) (beside : Beside) (limit n : ℕ)
     → stored_of p names.entries drafts.items (record levels { levels = further_on n levels.levels }) beside limit ≡ run_left n (stored_of p names.entries drafts.items levels beside limit)
 run_is p names drafts levels beside limit n =
-    ap₂ (λ ks ts. record (stored_of p names.entries drafts.items levels beside limit) { levels = ks; texts = ts }) (newest_behind p n levels.levels) (on_texts p names.entries n levels.levels)
+    ap₂ (λ ks ts. record (stored_of p names.entries drafts.items levels beside limit) { levels = ks; texts = ts }) (newest_after p n levels.levels) (on_texts p names.entries n levels.levels)
 
 on_pays : {K : Type 0} (n : ℕ) (ls : List (Open K)) → AllPay ls → AllPay (further_on n ls)
 on_pays n [] pays = pays

@@ -60,8 +60,8 @@ uncounted_by k (senses.Request r) name ns none rest = rest none
 uncounted_by k (senses.Text id) name ns none rest = elim (cases_eq id k) [
   | inl same ↦ let is : Some name ≡ None = sym (cond-true (eqb id k) (Some name) (name_for k ns) (eq-eqb id k same)) ∙ none in let no : ⊥ = cc in absurd no
   | inr apart ↦
-      let behind = rest (sym (cond-false (eqb id k) (Some name) (name_for k ns) (ne_eqb id k apart)) ∙ none) in
-      omega (arith, count-cons k id (values ns), one_other k id apart, behind)
+      let afterwards = rest (sym (cond-false (eqb id k) (Some name) (name_for k ns) (ne_eqb id k apart)) ∙ none) in
+      omega (arith, count-cons k id (values ns), one_other k id apart, afterwards)
 ]
 
 pub uncounted : (k : ℕ) (ns : List (Named Sense)) → name_for k ns ≡ None → count k (values ns) ≡ 0

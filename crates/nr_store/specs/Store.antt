@@ -140,7 +140,7 @@ words None = None
 words (Some (Act request)) = None
 words (Some (Words text)) = Some text
 
--- what a caller is told of a name
+-- what a caller is emitted of a name
 abbrev pub meaning_of : Option Means → Meaning
 meaning_of None = meanings.Unknown
 meaning_of (Some (Act request)) = meanings.Request request

@@ -27,14 +27,14 @@ left_times zero v = v
 left_times (suc n) v = left_times n (left v.levels v)
 
 -- a level after so many elements of its text
-abbrev pub level_behind : {K : Type 0} → ℕ → Level K → Level K
-level_behind n (Read l) = Read (record l { rest = drop n l.rest })
-level_behind n (Mark mode) = Mark mode
+abbrev pub level_after : {K : Type 0} → ℕ → Level K → Level K
+level_after n (Read l) = Read (record l { rest = drop n l.rest })
+level_after n (Mark mode) = Mark mode
 
 -- with the newest level after so many elements of its text
 abbrev pub levels_after : {K : Type 0} → ℕ → List (Level K) → List (Level K)
 levels_after n [] = []
-levels_after n (l ∷ ls) = level_behind n l ∷ ls
+levels_after n (l ∷ ls) = level_after n l ∷ ls
 
 abbrev pub run_left : {K : Type 0} → ℕ → Stored K → Stored K
 run_left n v = record v { levels = levels_after n v.levels }

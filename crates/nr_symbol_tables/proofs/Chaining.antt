@@ -33,8 +33,8 @@ last_at xs y k is =
     get_or-append_right xs (y ∷ []) (length xs) k 0 refl (omega arith) ∙ ap (λ n. get_or (y ∷ []) n 0) none
 
 pub push_at_case : (P : ℕ → Type 0) (xs : List ℕ) (y k : ℕ) → k ≤ length xs → (k < length xs → P (number_at xs k)) → (k ≡ length xs → P y) → P (number_at (xs ++ y ∷ []) k)
-push_at_case P xs y k low front last = elim (cases_lt k (length xs)) [
-  | inl below ↦ subst P (sym (get_or_append_left xs (y ∷ []) 0 k below)) (front below)
+push_at_case P xs y k low prefix last = elim (cases_lt k (length xs)) [
+  | inl below ↦ subst P (sym (get_or_append_left xs (y ∷ []) 0 k below)) (prefix below)
   | inr above ↦ (let is : k ≡ length xs = omega arith in subst P (sym (last_at xs y k is)) (last is))
 ]
 
@@ -67,8 +67,8 @@ module _ (ks es ls : List ℕ) (c : ℕ) (long : length es ≡ length ks) (low :
   longer : length (ks ++ c ∷ []) ≡ length ks + 1
   longer = length-append ks (c ∷ [])
 
-  front : (k : ℕ) → k < length ks → number_at (ks ++ c ∷ []) k ≡ number_at ks k
-  front k below = get_or_append_left ks (c ∷ []) 0 k below
+  prefix : (k : ℕ) → k < length ks → number_at (ks ++ c ∷ []) k ≡ number_at ks k
+  prefix k below = get_or_append_left ks (c ∷ []) 0 k below
 
   pub chained_more : IsChained (ks ++ c ∷ []) (es ++ number_at ls c ∷ []) (set ls c (length ks + 1))
   chained_more = record {
@@ -78,16 +78,16 @@ module _ (ks es ls : List ℕ) (c : ℕ) (long : length es ≡ length ks) (low :
     latest_in = λ d. set_at_case (λ m. m ≤ length (ks ++ c ∷ [])) ls c (length ks + 1) d low (λ same. omega (arith, longer)) (λ other. omega (arith, longer, h.latest_in d));
     latest_of = λ d. set_at_case (λ m. 0 < m → number_at (ks ++ c ∷ []) (m - 1) ≡ d) ls c (length ks + 1) d low
         (λ same some. last_at ks c ((length ks + 1) - 1) (omega arith) ∙ sym same)
-        (λ other some. front (number_at ls d - 1) (omega (arith, h.latest_in d)) ∙ h.latest_of d some);
+        (λ other some. prefix (number_at ls d - 1) (omega (arith, h.latest_in d)) ∙ h.latest_of d some);
     passes = λ k j within below same.
         push_at_case (λ m. j < m) es (number_at ls c) k (omega (arith, longer))
-        (λ in_front. h.passes k j (omega arith) below (sym (front j (omega arith)) ∙ same ∙ front k (omega arith)))
-        (λ is. (let of_kind : number_at ks j ≡ c = sym (front j (omega arith)) ∙ same ∙ last_at ks c k (omega arith) in
+        (λ in_prefix. h.passes k j (omega arith) below (sym (prefix j (omega arith)) ∙ same ∙ prefix k (omega arith)))
+        (λ is. (let of_kind : number_at ks j ≡ c = sym (prefix j (omega arith)) ∙ same ∙ last_at ks c k (omega arith) in
         subst (λ d. j < number_at ls d) of_kind (h.reaches j (omega arith))));
-    earlier_in = λ k within. push_at_case (λ m. m ≤ k) es (number_at ls c) k (omega (arith, longer)) (λ in_front. h.earlier_in k (omega arith)) (λ is. omega (arith, h.latest_in c));
+    earlier_in = λ k within. push_at_case (λ m. m ≤ k) es (number_at ls c) k (omega (arith, longer)) (λ in_prefix. h.earlier_in k (omega arith)) (λ is. omega (arith, h.latest_in c));
     earlier_of = λ k within. push_at_case (λ m. 0 < m → number_at (ks ++ c ∷ []) (m - 1) ≡ number_at (ks ++ c ∷ []) k) es (number_at ls c) k (omega (arith, longer))
-        (λ in_front some. front (number_at es k - 1) (omega (arith, h.earlier_in k (let e : k < length ks = omega arith in e))) ∙ h.earlier_of k (omega arith) some ∙ sym (front k (omega arith)))
-        (λ is some. front (number_at ls c - 1) (omega (arith, h.latest_in c)) ∙ h.latest_of c some ∙ sym (last_at ks c k (omega arith)));
+        (λ in_prefix some. prefix (number_at es k - 1) (omega (arith, h.earlier_in k (let e : k < length ks = omega arith in e))) ∙ h.earlier_of k (omega arith) some ∙ sym (prefix k (omega arith)))
+        (λ is some. prefix (number_at ls c - 1) (omega (arith, h.latest_in c)) ∙ h.latest_of c some ∙ sym (last_at ks c k (omega arith)));
   }
 
 -- ---- the columns of a row
@@ -148,7 +148,7 @@ module _ (row : List Linked) (latest bytes : List ℕ) (h : IsChained (kinds row
             let same_kind : number_at (kinds row) k ≡ number_at (kinds row) (at - 1) = kind_at row k below ∙ ap kind same ∙ sym of_kind in
             let passed = h.passes (at - 1) k low before same_kind in
             omega arith)
-        | inr behind ↦ elim (cases_lt (at - 1) k) [
+        | inr afterwards ↦ elim (cases_lt (at - 1) k) [
           | inl beyond ↦ last k (omega arith) below same
           | inr here ↦ (let is_here : k ≡ at - 1 = omega arith in not_this (subst (λ n. (word_at (words_in row) n).letters ≡ bytes) is_here same))
         ]
@@ -198,10 +198,10 @@ latest_whole bytes ws at some ends h = record {
 }
 
 -- bytes that end with an `s`, and more before it
-pub latest_of_both : (bytes front : List ℕ) (ws : List Word) (at before : ℕ) → bytes ≡ front ++ code "s" ∷ [] → 0 < length front → IsLatest bytes ws at → IsLatest front ws before → IsLatestGiven bytes ws (max at before)
-latest_of_both bytes front ws at before is some h g =
-    let long : length bytes ≡ length front + 1 = ap length is ∙ length-append front (code "s" ∷ []) in
-    let ends : (letters : List ℕ) → letters ++ code "s" ∷ [] ≡ bytes → letters ≡ front = λ letters same. append_cancel_right letters front (code "s" ∷ []) (same ∙ is) in
+pub latest_of_both : (bytes prefix : List ℕ) (ws : List Word) (at before : ℕ) → bytes ≡ prefix ++ code "s" ∷ [] → 0 < length prefix → IsLatest bytes ws at → IsLatest prefix ws before → IsLatestGiven bytes ws (max at before)
+latest_of_both bytes prefix ws at before is some h g =
+    let long : length bytes ≡ length prefix + 1 = ap length is ∙ length-append prefix (code "s" ∷ []) in
+    let ends : (letters : List ℕ) → letters ++ code "s" ∷ [] ≡ bytes → letters ≡ prefix = λ letters same. append_cancel_right letters prefix (code "s" ∷ []) (same ∙ is) in
     record {
       within = (let a = h.within in let b = g.within in omega arith);
       is = λ found. elim (cases_lt at before) [
@@ -209,7 +209,7 @@ latest_of_both bytes front ws at before is some h g =
             let most : max at before ≡ before = omega arith in
             let same = g.is (let e : 0 < before = omega arith in e) in
             subst (λ m. is_given bytes (word_at ws (m - 1)) ≡ true) (sym most)
-            (given_longer bytes (word_at ws (before - 1)) (λ none. (let length_is : length (word_at ws (before - 1)).letters ≡ length front = ap length same in absurd (omega arith))) (ap (λ l. l ++ code "s" ∷ []) same ∙ sym is)))
+            (given_longer bytes (word_at ws (before - 1)) (λ none. (let length_is : length (word_at ws (before - 1)).letters ≡ length prefix = ap length same in absurd (omega arith))) (ap (λ l. l ++ code "s" ∷ []) same ∙ sym is)))
         | inr higher ↦ (
             let most : max at before ≡ at = omega arith in
             let same = h.is (let e : 0 < at = omega arith in e) in
@@ -221,34 +221,34 @@ latest_of_both bytes front ws at before is some h g =
 
 -- ---- the latest word, where the latest come first
 
-find_front : (p : Word → Bool) (xs ys : List Word) (x : Word) → find p xs ≡ Some x → find p (xs ++ ys) ≡ Some x
-find_front p [] ys x is = cc
-find_front p (w ∷ ws) ys x is = elim (cases_Bool (p w)) [
+find_prefix : (p : Word → Bool) (xs ys : List Word) (x : Word) → find p xs ≡ Some x → find p (xs ++ ys) ≡ Some x
+find_prefix p [] ys x is = cc
+find_prefix p (w ∷ ws) ys x is = elim (cases_Bool (p w)) [
   | inl hit ↦ cond-true (p w) _ _ hit ∙ sym (cond-true (p w) _ _ hit) ∙ is
-  | inr miss ↦ cond-false (p w) _ _ miss ∙ find_front p ws ys x (sym (cond-false (p w) _ _ miss) ∙ is)
+  | inr miss ↦ cond-false (p w) _ _ miss ∙ find_prefix p ws ys x (sym (cond-false (p w) _ _ miss) ∙ is)
 ]
 
-find_behind : (p : Word → Bool) (xs ys : List Word) → find p xs ≡ None → find p (xs ++ ys) ≡ find p ys
-find_behind p [] ys none = refl
-find_behind p (w ∷ ws) ys none = elim (cases_Bool (p w)) [
+find_after : (p : Word → Bool) (xs ys : List Word) → find p xs ≡ None → find p (xs ++ ys) ≡ find p ys
+find_after p [] ys none = refl
+find_after p (w ∷ ws) ys none = elim (cases_Bool (p w)) [
   | inl hit ↦ (let wrong : Some w ≡ None = sym (cond-true (p w) _ _ hit) ∙ none in cc)
-  | inr miss ↦ cond-false (p w) _ _ miss ∙ find_behind p ws ys (sym (cond-false (p w) _ _ miss) ∙ none)
+  | inr miss ↦ cond-false (p w) _ _ miss ∙ find_after p ws ys (sym (cond-false (p w) _ _ miss) ∙ none)
 ]
 
 find_none : (p : Word → Bool) (ws : List Word) → ((k : ℕ) → k < length ws → p (word_at ws k) ≡ false) → find p (reverse ws) ≡ None
 find_none p [] none = refl
 find_none p (w ∷ ws) none =
-    ap (find p) (reverse-append (w ∷ []) ws) ∙ find_behind p (reverse ws) (w ∷ []) (find_none p ws (λ k below. none (suc k) (omega arith)))
+    ap (find p) (reverse-append (w ∷ []) ws) ∙ find_after p (reverse ws) (w ∷ []) (find_none p ws (λ k below. none (suc k) (omega arith)))
     ∙ cond-false (p w) _ _ (none 0 (omega arith))
 
 find_last : (p : Word → Bool) (ws : List Word) (n : ℕ) → n < length ws → p (word_at ws n) ≡ true → ((k : ℕ) → n < k → k < length ws → p (word_at ws k) ≡ false) → find p (reverse ws) ≡ Some (word_at ws n)
 find_last p [] n low hit last = absurd (omega arith)
 find_last p (w ∷ ws) zero low hit last =
-    ap (find p) (reverse-append (w ∷ []) ws) ∙ find_behind p (reverse ws) (w ∷ []) (find_none p ws (λ k below. last (suc k) (omega arith) (omega arith)))
+    ap (find p) (reverse-append (w ∷ []) ws) ∙ find_after p (reverse ws) (w ∷ []) (find_none p ws (λ k below. last (suc k) (omega arith) (omega arith)))
     ∙ cond-true (p w) _ _ hit
 find_last p (w ∷ ws) (suc n) low hit last =
     ap (find p) (reverse-append (w ∷ []) ws)
-    ∙ find_front p (reverse ws) (w ∷ []) (word_at ws n) (find_last p ws n (omega arith) hit (λ k above below. last (suc k) (omega arith) (omega arith)))
+    ∙ find_prefix p (reverse ws) (w ∷ []) (word_at ws n) (find_last p ws n (omega arith) hit (λ k above below. last (suc k) (omega arith) (omega arith)))
 
 maps : (ls : List Linked) → map word_in (map (λ (l : Linked). l.word) ls) ≡ words_in ls
 maps [] = refl

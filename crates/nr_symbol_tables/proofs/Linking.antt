@@ -42,8 +42,8 @@ chains_none n = record {
 -- ---- one entry more, or fewer
 
 module _ (ks : List ℕ) (c : ℕ) where
-  front : (j : ℕ) → j < length ks → place_in (ks ++ c ∷ []) j ≡ place_in ks j
-  front j below = get_or_append_left ks (c ∷ []) 0 j below
+  prefix : (j : ℕ) → j < length ks → place_in (ks ++ c ∷ []) j ≡ place_in ks j
+  prefix j below = get_or_append_left ks (c ∷ []) 0 j below
 
   end : place_in (ks ++ c ∷ []) (length ks) ≡ c
   end = last_at ks c (length ks) refl
@@ -56,10 +56,10 @@ module _ (ks : List ℕ) (c : ℕ) where
       let within = l.within in
       record {
         within = omega arith;
-        is = λ some. front (a - 1) (omega arith) ∙ l.is some;
+        is = λ some. prefix (a - 1) (omega arith) ∙ l.is some;
         last = λ j low high is. elim (cases_lt j (length ks)) [
-          | inl before ↦ l.last j low before (sym (front j before) ∙ is)
-          | inr behind ↦ (let here : j ≡ length ks = omega arith in other (sym is ∙ ap (place_in (ks ++ c ∷ [])) here ∙ end))
+          | inl before ↦ l.last j low before (sym (prefix j before) ∙ is)
+          | inr afterwards ↦ (let here : j ≡ length ks = omega arith in other (sym is ∙ ap (place_in (ks ++ c ∷ [])) here ∙ end))
         ];
       }
 
@@ -72,12 +72,12 @@ module _ (ks : List ℕ) (c : ℕ) where
           record { within = omega arith; is = λ some. ap (place_in (ks ++ c ∷ [])) before ∙ end ∙ sym same; last = λ j from below is. absurd (omega arith) }))
           (λ other. further d (place_in ls d) other (h.first d few)));
       next = λ k d below is few. push_at_case (λ a. IsLastOf (ks ++ c ∷ []) d k a) es (place_in ls c) k (omega (arith, longer))
-          (λ inside. last_along ks (ks ++ c ∷ []) d k (place_in es k) (λ j under. front j (omega arith)) (h.next k d (omega arith) (sym (front k (omega arith)) ∙ is) few))
-          (λ behind. (let here : k ≡ length ks = omega arith in
+          (λ inside. last_along ks (ks ++ c ∷ []) d k (place_in es k) (λ j under. prefix j (omega arith)) (h.next k d (omega arith) (sym (prefix k (omega arith)) ∙ is) few))
+          (λ afterwards. (let here : k ≡ length ks = omega arith in
           let same_kind : c ≡ d = sym end ∙ ap (place_in (ks ++ c ∷ [])) (sym here) ∙ is in
           subst (λ n. IsLastOf (ks ++ c ∷ []) d n (place_in ls c)) (sym here)
           (subst (λ e. IsLastOf (ks ++ c ∷ []) d (length ks) (place_in ls e)) (sym same_kind)
-          (last_along ks (ks ++ c ∷ []) d (length ks) (place_in ls d) front (h.first d few)))));
+          (last_along ks (ks ++ c ∷ []) d (length ks) (place_in ls d) prefix (h.first d few)))));
     }
 
     module _ (e : ℕ) (h : AreChains (ks ++ c ∷ []) (es ++ e ∷ []) ls) where
@@ -92,20 +92,20 @@ module _ (ks : List ℕ) (c : ℕ) where
           ] in
           record {
             within = inside;
-            is = λ some. sym (front (a - 1) (omega arith)) ∙ l.is some;
-            last = λ j from high is. l.last j from (omega (arith, longer)) (front j high ∙ is);
+            is = λ some. sym (prefix (a - 1) (omega arith)) ∙ l.is some;
+            last = λ j from high is. l.last j from (omega (arith, longer)) (prefix j high ∙ is);
           }
 
       pub chains_fewer : AreChains ks es (set ls c e)
       chains_fewer = record {
         first = λ d few. set_at_case (λ a. IsLastOf ks d (length ks) a) ls c e d low
             (λ same. (let l : IsLastOf (ks ++ c ∷ []) d (length ks) (place_in (es ++ e ∷ []) (length ks)) = h.next (length ks) d (omega (arith, longer)) (end ∙ sym same) few in
-            last_along (ks ++ c ∷ []) ks d (length ks) e (λ j under. sym (front j under)) (subst (λ a. IsLastOf (ks ++ c ∷ []) d (length ks) a) (last_at es e (length ks) (sym long)) l)))
+            last_along (ks ++ c ∷ []) ks d (length ks) e (λ j under. sym (prefix j under)) (subst (λ a. IsLastOf (ks ++ c ∷ []) d (length ks) a) (last_at es e (length ks) (sym long)) l)))
             (λ other. popped_first d few other);
         next = λ k d below is few.
-            (let l = h.next k d (omega (arith, longer)) (front k below ∙ is) few in
+            (let l = h.next k d (omega (arith, longer)) (prefix k below ∙ is) few in
             let link : place_in (es ++ e ∷ []) k ≡ place_in es k = get_or_append_left es (e ∷ []) 0 k (omega arith) in
-            subst (λ a. IsLastOf ks d k a) link (last_along (ks ++ c ∷ []) ks d k (place_in (es ++ e ∷ []) k) (λ j under. sym (front j (omega arith))) l));
+            subst (λ a. IsLastOf ks d k a) link (last_along (ks ++ c ∷ []) ks d k (place_in (es ++ e ∷ []) k) (λ j under. sym (prefix j (omega arith))) l));
       }
 
 -- ---- an entry that gets another kind
@@ -202,10 +202,10 @@ module _ (ks new es ls : List ℕ) (c p over at to : ℕ)
                 let leads = link.goes some in
                 let low_at = link.below in
                 absurd (l.last k (omega arith) under is))
-            | inr behind ↦ (let l = h.next k c below is few in
+            | inr afterwards ↦ (let l = h.next k c below is few in
                 elim (cases_lt (p + 1) (place_in es k)) [
                   | inl high ↦ high
-                  | inr low_at ↦ absurd (l.last (over - 1) (omega arith) behind (link.of_kind some))
+                  | inr low_at ↦ absurd (l.last (over - 1) (omega arith) afterwards (link.of_kind some))
                 ])
           ]
         ]
@@ -290,7 +290,7 @@ module _ (ks es ls : List ℕ) (c d p over at above under : ℕ)
           | inl here ↦ (let wrong : 512 ≡ c = sym at_hole ∙ ap (place_in hole) (sym here) ∙ is in omega arith)
           | inr off_p ↦ elim off_p [
             | inl before ↦ l.last j from before (sym (away_hole j (λ e. omega arith)) ∙ is)
-            | inr behind ↦ none j behind below (sym (away_hole j (λ e. omega arith)) ∙ is)
+            | inr afterwards ↦ none j afterwards below (sym (away_hole j (λ e. omega arith)) ∙ is)
           ]
         ];
       }

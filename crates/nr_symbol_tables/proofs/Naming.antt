@@ -5,7 +5,7 @@ use Rattle.std.proofs.lemmas.Bool.{cases_Bool, cond-true, cond-false}
 use Rattle.nr_symbol_tables.specs.Table.{Named, is_same, is_before, find, put, replaced, inserted, without}
 use Rattle.nr_symbol_tables.specs.Rows.{in_order, AreApart, names, name_in}
 use Rattle.nr_symbol_tables.specs.Laws.{find-put_same, find-put_other, find-without_other}
-use Rattle.nr_symbol_tables.proofs.Order.{IsBefore, same_itself, same_is, apart_not_same, same_or_not, behind_apart, comes_before, comes_behind, before_trans, before_or_behind}
+use Rattle.nr_symbol_tables.proofs.Order.{IsBefore, same_itself, same_is, apart_not_same, same_or_not, after_apart, comes_before, comes_after, before_trans, before_or_after}
 
 -- ---- what is found, whatever the order
 
@@ -126,52 +126,52 @@ apart_set_new (m ∷ ms) (suc p) n apart inside none =
 -- ---- the order
 
 -- a name comes before each of these
-abbrev AllBehind : {X : Type 0} → List ℕ → List (Named X) → Type 0
-AllBehind name [] = Unit {0}
-AllBehind name (n ∷ ns) = IsBefore name n.name × AllBehind name ns
+abbrev AllAfter : {X : Type 0} → List ℕ → List (Named X) → Type 0
+AllAfter name [] = Unit {0}
+AllAfter name (n ∷ ns) = IsBefore name n.name × AllAfter name ns
 
 -- the names ascend
 abbrev pub Ascends : {X : Type 0} → List (Named X) → Type 0
 Ascends [] = Unit {0}
-Ascends (n ∷ ns) = AllBehind n.name ns × Ascends ns
+Ascends (n ∷ ns) = AllAfter n.name ns × Ascends ns
 
-behind_more : {X : Type 0} (a b : List ℕ) (ns : List (Named X)) → IsBefore a b → AllBehind b ns → AllBehind a ns
-behind_more a b [] lower all = all
-behind_more a b (n ∷ ns) lower all = (before_trans a b n.name lower all.0, behind_more a b ns lower all.1)
+after_more : {X : Type 0} (a b : List ℕ) (ns : List (Named X)) → IsBefore a b → AllAfter b ns → AllAfter a ns
+after_more a b [] lower all = all
+after_more a b (n ∷ ns) lower all = (before_trans a b n.name lower all.0, after_more a b ns lower all.1)
 
 -- none of them is the name that comes before all
-none_behind : {X : Type 0} (name : List ℕ) (ns : List (Named X)) → AllBehind name ns → find name ns ≡ None
-none_behind name [] all = refl
-none_behind name (n ∷ ns) all = cond-false (is_same n.name name) (Some n.value) (find name ns) (behind_apart n.name name all.0) ∙ none_behind name ns all.1
+none_after : {X : Type 0} (name : List ℕ) (ns : List (Named X)) → AllAfter name ns → find name ns ≡ None
+none_after name [] all = refl
+none_after name (n ∷ ns) all = cond-false (is_same n.name name) (Some n.value) (find name ns) (after_apart n.name name all.0) ∙ none_after name ns all.1
 
-inserted_behind : {X : Type 0} (a name : List ℕ) (x : X) (ns : List (Named X)) → IsBefore a name → AllBehind a ns → AllBehind a (inserted name x ns)
-inserted_behind a name x [] lower all = (lower, all)
-inserted_behind a name x (n ∷ ns) lower all = elim (cases_Bool (is_before name n.name)) [
-  | inl here ↦ subst (λ l. AllBehind a l) (sym (cond-true (is_before name n.name) (record { name = name; value = x } ∷ (n ∷ ns)) (n ∷ inserted name x ns) here)) (lower, all)
-  | inr later ↦ subst (λ l. AllBehind a l) (sym (cond-false (is_before name n.name) (record { name = name; value = x } ∷ (n ∷ ns)) (n ∷ inserted name x ns) later)) (all.0, inserted_behind a name x ns lower all.1)
+inserted_after : {X : Type 0} (a name : List ℕ) (x : X) (ns : List (Named X)) → IsBefore a name → AllAfter a ns → AllAfter a (inserted name x ns)
+inserted_after a name x [] lower all = (lower, all)
+inserted_after a name x (n ∷ ns) lower all = elim (cases_Bool (is_before name n.name)) [
+  | inl here ↦ subst (λ l. AllAfter a l) (sym (cond-true (is_before name n.name) (record { name = name; value = x } ∷ (n ∷ ns)) (n ∷ inserted name x ns) here)) (lower, all)
+  | inr later ↦ subst (λ l. AllAfter a l) (sym (cond-false (is_before name n.name) (record { name = name; value = x } ∷ (n ∷ ns)) (n ∷ inserted name x ns) later)) (all.0, inserted_after a name x ns lower all.1)
 ]
 
 -- a name that is replaced among those after one comes after it too
-replaced_up : {X : Type 0} (a name : List ℕ) (x : X) (ns : List (Named X)) → AllBehind a ns → AllBehind a (replaced name x ns)
+replaced_up : {X : Type 0} (a name : List ℕ) (x : X) (ns : List (Named X)) → AllAfter a ns → AllAfter a (replaced name x ns)
 replaced_up a name x [] all = all
 replaced_up a name x (n ∷ ns) all = elim (cases_Bool (is_same n.name name)) [
-  | inl hit ↦ subst (λ l. AllBehind a l) (sym (cond-true (is_same n.name name) (record { name = name; value = x } ∷ ns) (n ∷ replaced name x ns) hit)) (subst (λ m. IsBefore a m) (same_is n.name name hit) all.0, all.1)
-  | inr miss ↦ subst (λ l. AllBehind a l) (sym (cond-false (is_same n.name name) (record { name = name; value = x } ∷ ns) (n ∷ replaced name x ns) miss)) (all.0, replaced_up a name x ns all.1)
+  | inl hit ↦ subst (λ l. AllAfter a l) (sym (cond-true (is_same n.name name) (record { name = name; value = x } ∷ ns) (n ∷ replaced name x ns) hit)) (subst (λ m. IsBefore a m) (same_is n.name name hit) all.0, all.1)
+  | inr miss ↦ subst (λ l. AllAfter a l) (sym (cond-false (is_same n.name name) (record { name = name; value = x } ∷ ns) (n ∷ replaced name x ns) miss)) (all.0, replaced_up a name x ns all.1)
 ]
 
 ascends-replaced : {X : Type 0} (name : List ℕ) (x : X) (ns : List (Named X)) → Ascends ns → Ascends (replaced name x ns)
 ascends-replaced name x [] up = up
 ascends-replaced name x (n ∷ ns) up = elim (cases_Bool (is_same n.name name)) [
-  | inl hit ↦ subst (λ l. Ascends l) (sym (cond-true (is_same n.name name) (record { name = name; value = x } ∷ ns) (n ∷ replaced name x ns) hit)) (subst (λ m. AllBehind m ns) (same_is n.name name hit) up.0, up.1)
+  | inl hit ↦ subst (λ l. Ascends l) (sym (cond-true (is_same n.name name) (record { name = name; value = x } ∷ ns) (n ∷ replaced name x ns) hit)) (subst (λ m. AllAfter m ns) (same_is n.name name hit) up.0, up.1)
   | inr miss ↦ subst (λ l. Ascends l) (sym (cond-false (is_same n.name name) (record { name = name; value = x } ∷ ns) (n ∷ replaced name x ns) miss)) (replaced_up n.name name x ns up.0, ascends-replaced name x ns up.1)
 ]
 
 ascends-inserted : {X : Type 0} (name : List ℕ) (x : X) (ns : List (Named X)) → find name ns ≡ None → Ascends ns → Ascends (inserted name x ns)
 ascends-inserted name x [] none up = (up, up)
-ascends-inserted name x (n ∷ ns) none up = elim (before_or_behind name n.name (λ is. none_first n ns name none (sym is))) [
-  | inl low ↦ subst (λ l. Ascends l) (sym (cond-true (is_before name n.name) (record { name = name; value = x } ∷ (n ∷ ns)) (n ∷ inserted name x ns) (comes_before name n.name low))) ((low, behind_more name n.name ns low up.0), up)
-  | inr high ↦ subst (λ l. Ascends l) (sym (cond-false (is_before name n.name) (record { name = name; value = x } ∷ (n ∷ ns)) (n ∷ inserted name x ns) (comes_behind name n.name high)))
-      (inserted_behind n.name name x ns high up.0, ascends-inserted name x ns (none_later n ns name none) up.1)
+ascends-inserted name x (n ∷ ns) none up = elim (before_or_after name n.name (λ is. none_first n ns name none (sym is))) [
+  | inl low ↦ subst (λ l. Ascends l) (sym (cond-true (is_before name n.name) (record { name = name; value = x } ∷ (n ∷ ns)) (n ∷ inserted name x ns) (comes_before name n.name low))) ((low, after_more name n.name ns low up.0), up)
+  | inr high ↦ subst (λ l. Ascends l) (sym (cond-false (is_before name n.name) (record { name = name; value = x } ∷ (n ∷ ns)) (n ∷ inserted name x ns) (comes_after name n.name high)))
+      (inserted_after n.name name x ns high up.0, ascends-inserted name x ns (none_later n ns name none) up.1)
 ]
 
 nothing_found : {X : Type 0} (o : Option X) → is_some o ≡ false → o ≡ None
@@ -188,24 +188,24 @@ pub ascends-in_order : {X : Type 0} (ns : List (Named X)) → Ascends (in_order 
 ascends-in_order [] = tt
 ascends-in_order (n ∷ ns) = ascends-put n.name n.value (in_order ns) (ascends-in_order ns)
 
-without_behind : {X : Type 0} (a name : List ℕ) (ns : List (Named X)) → AllBehind a ns → AllBehind a (without name ns)
-without_behind a name [] all = all
-without_behind a name (n ∷ ns) all = elim (cases_Bool (is_same n.name name)) [
-  | inl hit ↦ subst (λ l. AllBehind a l) (sym (cond-true (is_same n.name name) ns (n ∷ without name ns) hit)) all.1
-  | inr miss ↦ subst (λ l. AllBehind a l) (sym (cond-false (is_same n.name name) ns (n ∷ without name ns) miss)) (all.0, without_behind a name ns all.1)
+without_after : {X : Type 0} (a name : List ℕ) (ns : List (Named X)) → AllAfter a ns → AllAfter a (without name ns)
+without_after a name [] all = all
+without_after a name (n ∷ ns) all = elim (cases_Bool (is_same n.name name)) [
+  | inl hit ↦ subst (λ l. AllAfter a l) (sym (cond-true (is_same n.name name) ns (n ∷ without name ns) hit)) all.1
+  | inr miss ↦ subst (λ l. AllAfter a l) (sym (cond-false (is_same n.name name) ns (n ∷ without name ns) miss)) (all.0, without_after a name ns all.1)
 ]
 
 pub ascends-without : {X : Type 0} (name : List ℕ) (ns : List (Named X)) → Ascends ns → Ascends (without name ns)
 ascends-without name [] up = up
 ascends-without name (n ∷ ns) up = elim (cases_Bool (is_same n.name name)) [
   | inl hit ↦ subst (λ l. Ascends l) (sym (cond-true (is_same n.name name) ns (n ∷ without name ns) hit)) up.1
-  | inr miss ↦ subst (λ l. Ascends l) (sym (cond-false (is_same n.name name) ns (n ∷ without name ns) miss)) (without_behind n.name name ns up.0, ascends-without name ns up.1)
+  | inr miss ↦ subst (λ l. Ascends l) (sym (cond-false (is_same n.name name) ns (n ∷ without name ns) miss)) (without_after n.name name ns up.0, ascends-without name ns up.1)
 ]
 
 pub find-without_same : {X : Type 0} (name : List ℕ) (ns : List (Named X)) → Ascends ns → find name (without name ns) ≡ None
 find-without_same name [] up = refl
 find-without_same name (n ∷ ns) up = elim (cases_Bool (is_same n.name name)) [
-  | inl hit ↦ ap (find name) (cond-true (is_same n.name name) ns (n ∷ without name ns) hit) ∙ subst (λ m. find m ns ≡ None) (same_is n.name name hit) (none_behind n.name ns up.0)
+  | inl hit ↦ ap (find name) (cond-true (is_same n.name name) ns (n ∷ without name ns) hit) ∙ subst (λ m. find m ns ≡ None) (same_is n.name name hit) (none_after n.name ns up.0)
   | inr miss ↦ ap (find name) (cond-false (is_same n.name name) ns (n ∷ without name ns) miss) ∙ cond-false (is_same n.name name) (Some n.value) (find name (without name ns)) miss ∙ find-without_same name ns up.1
 ]
 
@@ -217,7 +217,7 @@ some_value x y is = cc
 -- the first name of a list comes before no name of the other
 not_first : {X : Type 0} (n : Named X) (ns : List (Named X)) (m : Named X) (ms : List (Named X)) → Ascends (m ∷ ms) → find n.name (n ∷ ns) ≡ find n.name (m ∷ ms) → IsBefore n.name m.name → ⊥
 not_first n ns m ms up same lower =
-    let none : find n.name (m ∷ ms) ≡ None = none_behind n.name (m ∷ ms) (lower, behind_more n.name m.name ms lower up.0) in
+    let none : find n.name (m ∷ ms) ≡ None = none_after n.name (m ∷ ms) (lower, after_more n.name m.name ms lower up.0) in
     let wrong : Some n.value ≡ None = sym (found_first n ns n.name refl) ∙ same ∙ none in
     cc
 
@@ -229,14 +229,14 @@ same_finds [] [] up up' same = refl
 same_finds [] (m ∷ ms) up up' same = absurd (let wrong : None ≡ Some m.value = same m.name ∙ found_first m ms m.name refl in cc)
 same_finds (n ∷ ns) [] up up' same = absurd (let wrong : Some n.value ≡ None = sym (found_first n ns n.name refl) ∙ same n.name in cc)
 same_finds (n ∷ ns) (m ∷ ms) up up' same = elim (same_or_not n.name m.name) [
-  | inr other ↦ elim (before_or_behind n.name m.name other) [
+  | inr other ↦ elim (before_or_after n.name m.name other) [
     | inl low ↦ absurd (not_first n ns m ms up' (same n.name) low)
     | inr high ↦ absurd (not_first m ms n ns up (sym (same m.name)) high)
   ]
   | inl is ↦ (
       let values : n.value ≡ m.value = some_value n.value m.value (sym (found_first n ns m.name is) ∙ same m.name ∙ found_first m ms m.name refl) in
       let rest : (name : List ℕ) → find name ns ≡ find name ms = λ name. elim (same_or_not n.name name) [
-        | inl here ↦ subst (λ x. find x ns ≡ None) here (none_behind n.name ns up.0) ∙ sym (subst (λ x. find x ms ≡ None) (sym is ∙ here) (none_behind m.name ms up'.0))
+        | inl here ↦ subst (λ x. find x ns ≡ None) here (none_after n.name ns up.0) ∙ sym (subst (λ x. find x ms ≡ None) (sym is ∙ here) (none_after m.name ms up'.0))
         | inr away ↦ sym (found_later n ns name away) ∙ same name ∙ found_later m ms name (λ e. away (is ∙ e))
       ] in
       let firsts : n ≡ m = named_is n m is values in

@@ -37,20 +37,20 @@ apart_not_same a b apart = elim (cases_Bool (is_same a b)) [
 ]
 
 -- the other way round
-behind : (a b : List ℕ) → IsBefore b a → name_order a b ≡ Greater
-behind a b before = nat_list_cmp_total.antisymm a b ∙ ap ordering_reverse before
+afterwards : (a b : List ℕ) → IsBefore b a → name_order a b ≡ Greater
+afterwards a b before = nat_list_cmp_total.antisymm a b ∙ ap ordering_reverse before
 
 before : (a b : List ℕ) → name_order b a ≡ Greater → IsBefore a b
-before a b behind = nat_list_cmp_total.antisymm a b ∙ ap ordering_reverse behind
+before a b afterwards = nat_list_cmp_total.antisymm a b ∙ ap ordering_reverse afterwards
 
-pub behind_apart : (a b : List ℕ) → IsBefore b a → is_same a b ≡ false
-behind_apart a b before = ap is_eq (behind a b before)
+pub after_apart : (a b : List ℕ) → IsBefore b a → is_same a b ≡ false
+after_apart a b before = ap is_eq (afterwards a b before)
 
 pub comes_before : (a b : List ℕ) → IsBefore a b → is_before a b ≡ true
 comes_before a b before = ap is_lt before
 
-pub comes_behind : (a b : List ℕ) → IsBefore b a → is_before a b ≡ false
-comes_behind a b before = ap is_lt (behind a b before)
+pub comes_after : (a b : List ℕ) → IsBefore b a → is_before a b ≡ false
+comes_after a b before = ap is_lt (afterwards a b before)
 
 pub before_trans : (a b c : List ℕ) → IsBefore a b → IsBefore b c → IsBefore a c
 before_trans a b c = nat_list_cmp_total.trans a b c
@@ -64,5 +64,5 @@ ordered a b Less is apart = inl is
 ordered a b Equal is apart = absurd (apart (equal_is a b is))
 ordered a b Greater is apart = inr (before b a is)
 
-pub before_or_behind : (a b : List ℕ) → a ≢ b → IsBefore a b ⊎ IsBefore b a
-before_or_behind a b apart = ordered a b (name_order a b) refl apart
+pub before_or_after : (a b : List ℕ) → a ≢ b → IsBefore a b ⊎ IsBefore b a
+before_or_after a b apart = ordered a b (name_order a b) refl apart

@@ -1,4 +1,4 @@
--- The order of lists of bytes, read from the front.
+-- The order of lists of bytes, read from the beginning.
 use Rattle.std.proofs.Common.{◌≡◌, ◌≢◌, ℕ, ◌+◌, ◌<◌, min, List, ◌∷◌, length, drop, get_or, refl, ap, ap₂, sym, ◌∙◌, add-one, arith}
 use Rattle.std.specs.declared.cmp.Ordering.{Ordering}
 use Rattle.std.specs.declared.cmp.Ordering.TheVariants.{Less, Equal, Greater}

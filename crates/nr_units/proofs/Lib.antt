@@ -1,7 +1,7 @@
 pub mod BytesInOrder
 pub mod Digits
-pub mod ExpressionFronts
-pub mod Fronts
+pub mod ExpressionPrefixes
+pub mod Prefixes
 pub mod Letters
 pub mod Longest
 pub mod Offering

@@ -3,7 +3,7 @@ use Rattle.std.proofs.Common.{◌≡◌, ℕ, suc, ◌+◌, ◌<◌, ◌≤◌, 
 use Rattle.std.specs.Prelude.{IfSome}
 use Rattle.std.proofs.Math.Seq.{drop-cons}
 use Rattle.std.proofs.lemmas.Bool.Decides.{nat_tests}
-use Rattle.nr_units.specs.Expression.{IsAnswer, Longest, Nothing as NoFront, TooDeep as Deep}
+use Rattle.nr_units.specs.Expression.{IsAnswer, Longest, Nothing as NoPrefix, TooDeep as Deep}
 use Rattle.nr_units.specs.Scan.{Scan, symbol_of, after_symbol, start, whole_value}
 use Rattle.nr_units.specs.Scanner.{read_at, noted, Steps}
 use Rattle.nr_units.specs.LongestPrefix.{is_one_too_many, read_step, read_symbol, read_on, read_of, nothing_read}
@@ -67,7 +67,7 @@ if_in_range (Some n) h = h
 
 pub answer_in_range : (c : Ctx) (text : List ℕ) (read : Read) → IsAnswer c text read → IfSome read.value (λ n. unsigned_abs n ≤ 2147483647)
 answer_in_range c text read (Longest shallow e l) = if_in_range read.value (subst IsInRange (sym l.value) (expression_in_range c e))
-answer_in_range c text read (NoFront shallow none value used) = if_in_range read.value (subst IsInRange (sym value) tt)
+answer_in_range c text read (NoPrefix shallow none value used) = if_in_range read.value (subst IsInRange (sym value) tt)
 answer_in_range c text read (Deep here first value) = if_in_range read.value (subst IsInRange (sym value) tt)
 
 -- ---- the first byte

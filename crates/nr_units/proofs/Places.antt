@@ -21,16 +21,16 @@ mutual
   pub data Place : Type 0 where
     First : Slot → Place
     Next : Slot → Expression → ℕ → Operator → ℕ → Place
-    BehindPlus : Place → Place
-    BehindMinus : Place → Place
-    BehindBar : Place → ℕ → Place
+    AfterPlus : Place → Place
+    AfterMinus : Place → Place
+    AfterBar : Place → ℕ → Place
 
 abbrev pub slot_of : Place → Slot
 slot_of (First k) = k
 slot_of (Next k e n o m) = k
-slot_of (BehindPlus p) = slot_of p
-slot_of (BehindMinus p) = slot_of p
-slot_of (BehindBar p n) = slot_of p
+slot_of (AfterPlus p) = slot_of p
+slot_of (AfterMinus p) = slot_of p
+slot_of (AfterBar p n) = slot_of p
 
 abbrev pub is_inside : Slot → Bool
 is_inside Outermost = false
@@ -46,17 +46,17 @@ abbrev mutual
   place_text (First k) = slot_text k
   place_text (Next k e n o m) =
       slot_text k ++ (expression_text (is_inside k) e ++ (blanks (is_inside k) n ++ (operator_text o ++ blanks (is_inside k) m)))
-  place_text (BehindPlus p) = place_text p ++ code "+" ∷ []
-  place_text (BehindMinus p) = place_text p ++ code "-" ∷ []
-  place_text (BehindBar p n) = place_text p ++ (code "|" ∷ blanks (is_inside (slot_of p)) n)
+  place_text (AfterPlus p) = place_text p ++ code "+" ∷ []
+  place_text (AfterMinus p) = place_text p ++ code "-" ∷ []
+  place_text (AfterBar p n) = place_text p ++ (code "|" ∷ blanks (is_inside (slot_of p)) n)
 
 -- what waits there, and what waits at each open parenthesis
 abbrev pub waiting : Ctx → Place → Waiting
 waiting c (First k) = nothing_waits
 waiting c (Next k e n o m) = record { left = Some (record { value = expression_value c e; operator = o }); prefix = no_prefix }
-waiting c (BehindPlus p) = waiting c p
-waiting c (BehindMinus p) = record { left = (waiting c p).left; prefix = after_minus (waiting c p).prefix }
-waiting c (BehindBar p n) = record { left = (waiting c p).left; prefix = after_bar c.here (waiting c p).prefix }
+waiting c (AfterPlus p) = waiting c p
+waiting c (AfterMinus p) = record { left = (waiting c p).left; prefix = after_minus (waiting c p).prefix }
+waiting c (AfterBar p n) = record { left = (waiting c p).left; prefix = after_bar c.here (waiting c p).prefix }
 
 abbrev mutual
   pub outer_slot : Ctx → Slot → List Waiting
@@ -66,38 +66,38 @@ abbrev mutual
   pub outer_place : Ctx → Place → List Waiting
   outer_place c (First k) = outer_slot c k
   outer_place c (Next k e n o m) = outer_slot c k
-  outer_place c (BehindPlus p) = outer_place c p
-  outer_place c (BehindMinus p) = outer_place c p
-  outer_place c (BehindBar p n) = outer_place c p
+  outer_place c (AfterPlus p) = outer_place c p
+  outer_place c (AfterMinus p) = outer_place c p
+  outer_place c (AfterBar p n) = outer_place c p
 
 pub outer_place-slot_of : (c : Ctx) (p : Place) → outer_place c p ≡ outer_slot c (slot_of p)
 outer_place-slot_of c (First k) = refl
 outer_place-slot_of c (Next k e n o m) = refl
-outer_place-slot_of c (BehindPlus p) = outer_place-slot_of c p
-outer_place-slot_of c (BehindMinus p) = outer_place-slot_of c p
-outer_place-slot_of c (BehindBar p n) = outer_place-slot_of c p
+outer_place-slot_of c (AfterPlus p) = outer_place-slot_of c p
+outer_place-slot_of c (AfterMinus p) = outer_place-slot_of c p
+outer_place-slot_of c (AfterBar p n) = outer_place-slot_of c p
 
 -- the expression that an operand at a place ends
 abbrev pub ended : Place → Operand → Expression
 ended (First k) o = Single o
 ended (Next k e n p m) o = Joined e n p m o
-ended (BehindPlus q) o = ended q (Plus o)
-ended (BehindMinus q) o = ended q (Minus o)
-ended (BehindBar q n) o = ended q (Past n o)
+ended (AfterPlus q) o = ended q (Plus o)
+ended (AfterMinus q) o = ended q (Minus o)
+ended (AfterBar q n) o = ended q (Past n o)
 
 pub ended_text : (p : Place) (o : Operand) → place_text p ++ operand_text (is_inside (slot_of p)) o ≡ slot_text (slot_of p) ++ expression_text (is_inside (slot_of p)) (ended p o)
 ended_text (First k) o = refl
 ended_text (Next k e n q m) o = simp append_assoc
-ended_text (BehindPlus p) o = append_assoc (place_text p) (code "+" ∷ []) (operand_text (is_inside (slot_of p)) o) ∙ ended_text p (Plus o)
-ended_text (BehindMinus p) o = append_assoc (place_text p) (code "-" ∷ []) (operand_text (is_inside (slot_of p)) o) ∙ ended_text p (Minus o)
-ended_text (BehindBar p n) o = append_assoc (place_text p) (code "|" ∷ blanks (is_inside (slot_of p)) n) (operand_text (is_inside (slot_of p)) o) ∙ ended_text p (Past n o)
+ended_text (AfterPlus p) o = append_assoc (place_text p) (code "+" ∷ []) (operand_text (is_inside (slot_of p)) o) ∙ ended_text p (Plus o)
+ended_text (AfterMinus p) o = append_assoc (place_text p) (code "-" ∷ []) (operand_text (is_inside (slot_of p)) o) ∙ ended_text p (Minus o)
+ended_text (AfterBar p n) o = append_assoc (place_text p) (code "|" ∷ blanks (is_inside (slot_of p)) n) (operand_text (is_inside (slot_of p)) o) ∙ ended_text p (Past n o)
 
 pub ended_value : (c : Ctx) (p : Place) (o : Operand) → finished (waiting c p) (operand_value c o) ≡ expression_value c (ended p o)
 ended_value c (First k) o = finished-nothing (operand_value c o) (operand_in_range c o)
 ended_value c (Next k e n q m) o = finished-left (expression_value c e) q (operand_value c o) (operand_in_range c o)
-ended_value c (BehindPlus p) o = ended_value c p (Plus o)
-ended_value c (BehindMinus p) o = ap (joined_left (waiting c p).left) (prefixed-minus (waiting c p).prefix (operand_value c o)) ∙ ended_value c p (Minus o)
-ended_value c (BehindBar p n) o = ap (joined_left (waiting c p).left) (prefixed-bar c.here (waiting c p).prefix (operand_value c o) (operand_in_range c o)) ∙ ended_value c p (Past n o)
+ended_value c (AfterPlus p) o = ended_value c p (Plus o)
+ended_value c (AfterMinus p) o = ap (joined_left (waiting c p).left) (prefixed-minus (waiting c p).prefix (operand_value c o)) ∙ ended_value c p (Minus o)
+ended_value c (AfterBar p n) o = ap (joined_left (waiting c p).left) (prefixed-bar c.here (waiting c p).prefix (operand_value c o) (operand_in_range c o)) ∙ ended_value c p (Past n o)
 
 -- the outermost expression, with this one in a slot or this operand at a place, its parentheses closed; and what
 -- closes them
@@ -109,9 +109,9 @@ abbrev mutual
   pub closed_place : Place → Operand → Expression
   closed_place (First k) o = closed_slot k (Single o)
   closed_place (Next k e n p m) o = closed_slot k (Joined e n p m o)
-  closed_place (BehindPlus q) o = closed_place q (Plus o)
-  closed_place (BehindMinus q) o = closed_place q (Minus o)
-  closed_place (BehindBar q n) o = closed_place q (Past n o)
+  closed_place (AfterPlus q) o = closed_place q (Plus o)
+  closed_place (AfterMinus q) o = closed_place q (Minus o)
+  closed_place (AfterBar q n) o = closed_place q (Past n o)
 
 abbrev mutual
   pub slot_end : Slot → List ℕ
@@ -121,9 +121,9 @@ abbrev mutual
   pub place_end : Place → List ℕ
   place_end (First k) = slot_end k
   place_end (Next k e n p m) = slot_end k
-  place_end (BehindPlus q) = place_end q
-  place_end (BehindMinus q) = place_end q
-  place_end (BehindBar q n) = place_end q
+  place_end (AfterPlus q) = place_end q
+  place_end (AfterMinus q) = place_end q
+  place_end (AfterBar q n) = place_end q
 
 mutual
   pub closed_slot_text : (k : Slot) (e : Expression) → slot_text k ++ (expression_text (is_inside k) e ++ slot_end k) ≡ expression_text false (closed_slot k e)
@@ -137,9 +137,9 @@ mutual
   closed_place_text (Next k e n q m) o =
       let here : place_text (Next k e n q m) ++ (operand_text (is_inside k) o ++ slot_end k) ≡ slot_text k ++ (expression_text (is_inside k) (Joined e n q m o) ++ slot_end k) = simp append_assoc in
       here ∙ closed_slot_text k (Joined e n q m o)
-  closed_place_text (BehindPlus p) o = append_assoc (place_text p) (code "+" ∷ []) (operand_text (is_inside (slot_of p)) o ++ place_end p) ∙ closed_place_text p (Plus o)
-  closed_place_text (BehindMinus p) o = append_assoc (place_text p) (code "-" ∷ []) (operand_text (is_inside (slot_of p)) o ++ place_end p) ∙ closed_place_text p (Minus o)
-  closed_place_text (BehindBar p n) o =
+  closed_place_text (AfterPlus p) o = append_assoc (place_text p) (code "+" ∷ []) (operand_text (is_inside (slot_of p)) o ++ place_end p) ∙ closed_place_text p (Plus o)
+  closed_place_text (AfterMinus p) o = append_assoc (place_text p) (code "-" ∷ []) (operand_text (is_inside (slot_of p)) o ++ place_end p) ∙ closed_place_text p (Minus o)
+  closed_place_text (AfterBar p n) o =
       let i : Bool = is_inside (slot_of p) in
-      let here : place_text (BehindBar p n) ++ (operand_text i o ++ place_end p) ≡ place_text p ++ (operand_text i (Past n o) ++ place_end p) = simp append_assoc in
+      let here : place_text (AfterBar p n) ++ (operand_text i o ++ place_end p) ≡ place_text p ++ (operand_text i (Past n o) ++ place_end p) = simp append_assoc in
       here ∙ closed_place_text p (Past n o)

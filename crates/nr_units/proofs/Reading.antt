@@ -15,34 +15,34 @@ use Rattle.nr_units.specs.declared.level.Mode.TheVariants.{Before, LonePoint, Wh
 use Rattle.nr_units.specs.declared.level.Level.{Level}
 use Rattle.nr_units.specs.declared.expression.Ctx.{Ctx}
 use Rattle.nr_units.specs.Scan.{whole_value}
-use Rattle.nr_units.specs.Expression.{IsFront, IsTooDeep}
+use Rattle.nr_units.specs.Expression.{IsPrefix, IsTooDeep}
 use Rattle.std.proofs.lemmas.List.{length-take, length-append}
 use Rattle.std.proofs.lemmas.Bool.Decides.{leb_tells}
-use Rattle.nr_units.specs.Expression.{IsAnswer, Longest, Nothing as NoFront, TooDeep as Deep}
+use Rattle.nr_units.specs.Expression.{IsAnswer, Longest, Nothing as NoPrefix, TooDeep as Deep}
 use Rattle.nr_units.specs.Scanner.{read_at, noted, Steps}
 use Rattle.nr_units.specs.declared.expression.Read.{Read}
 use Rattle.nr_units.specs.declared.scanner.Step.TheVariants.{Taken, TooDeep}
 use Rattle.nr_units.proofs.Runs.{run-append, run-then, run-one}
 use Rattle.nr_units.proofs.Texts.{IsByteOf, symbol_tells}
-use Rattle.nr_units.proofs.ExpressionFronts.{IsRead, expression_read, read_spelled, open_ends, run-front, open_fresh, depth, outermost-nil, value_outer}
+use Rattle.nr_units.proofs.ExpressionPrefixes.{IsRead, expression_read, read_spelled, open_ends, run-prefix, open_fresh, depth, outermost-nil, value_outer}
 
 -- ---- prefixes by the scan
 
-pub front_read : (c : Ctx) (text : List ℕ) (m : ℕ) (e : Expression) → IsFront text m e → IsRead c (take m text) (expression_value c e)
-front_read c text m e f = subst (λ u. IsRead c u (expression_value c e)) (sym f.front) (expression_read c e)
+pub prefix_read : (c : Ctx) (text : List ℕ) (m : ℕ) (e : Expression) → IsPrefix text m e → IsRead c (take m text) (expression_value c e)
+prefix_read c text m e f = subst (λ u. IsRead c u (expression_value c e)) (sym f.prefix) (expression_read c e)
 
-not_front : (c : Ctx) (text : List ℕ) (m : ℕ) (s : Scan) (e : Expression) → run c start (take m text) ≡ Some s → whole_value c s ≡ None → IsFront text m e → ⊥
-not_front c text m s e h no_value f =
-    let r = front_read c text m e f in
+not_prefix : (c : Ctx) (text : List ℕ) (m : ℕ) (s : Scan) (e : Expression) → run c start (take m text) ≡ Some s → whole_value c s ≡ None → IsPrefix text m e → ⊥
+not_prefix c text m s e h no_value f =
+    let r = prefix_read c text m e f in
     let same : Some r.to ≡ Some s = sym r.runs ∙ h in
     let to : r.to ≡ s = cc in
     let no : ◌≡◌ {A = Option (Option ℤ)} (Some (expression_value c e)) None = sym r.value ∙ ap (whole_value c) to ∙ no_value in
     cc
 
-is_front : (c : Ctx) (text : List ℕ) (m : ℕ) (s : Scan) (v : Option ℤ) → m ≤ length text → run c start (take m text) ≡ Some s → whole_value c s ≡ Some v → (e : Expression) × IsFront text m e × (v ≡ expression_value c e)
-is_front c text m s v within h value =
+is_prefix : (c : Ctx) (text : List ℕ) (m : ℕ) (s : Scan) (v : Option ℤ) → m ≤ length text → run c start (take m text) ≡ Some s → whole_value c s ≡ Some v → (e : Expression) × IsPrefix text m e × (v ≡ expression_value c e)
+is_prefix c text m s v within h value =
     let e = read_spelled c (take m text) s v h value in
-    (e.expression, record { within = within; front = sym e.text }, sym e.value)
+    (e.expression, record { within = within; prefix = sym e.text }, sym e.value)
 
 -- a longer prefix begins with a shorter one
 take-more : (i m : ℕ) (text : List ℕ) → i ≤ m → (v : List ℕ) × (take m text ≡ take i text ++ v)
@@ -54,8 +54,8 @@ take-more (suc i) (suc m) (x ∷ xs) h = let v = take-more i m xs (omega arith) 
 -- ---- the answer for the prefixes of at most i bytes
 
 pub record Covers (c : Ctx) (text : List ℕ) (i : ℕ) (read : Read) : Type 0 where
-  pub longest : (m : ℕ) (e : Expression) → m ≤ i → IsFront text m e → m ≤ read.used
-  pub found : ((e : Expression) × IsFront text read.used e × (read.value ≡ expression_value c e)) ⊎ ((read.value ≡ None) × (read.used ≡ 0) × ((m : ℕ) (e : Expression) → m ≤ i → IsFront text m e → ⊥))
+  pub longest : (m : ℕ) (e : Expression) → m ≤ i → IsPrefix text m e → m ≤ read.used
+  pub found : ((e : Expression) × IsPrefix text read.used e × (read.value ≡ expression_value c e)) ⊎ ((read.value ≡ None) × (read.used ≡ 0) × ((m : ℕ) (e : Expression) → m ≤ i → IsPrefix text m e → ⊥))
 
 pub record Along (c : Ctx) (text : List ℕ) (i : ℕ) (s : Scan) (read : Read) : Type 0 where
   pub within : i ≤ length text
@@ -68,7 +68,7 @@ covers_at : (c : Ctx) (text : List ℕ) (i : ℕ) (s : Scan) (read : Read) (r : 
 covers_at c text i s read None a h = a.covers h
 covers_at c text i s read (Some v) a h = record {
   longest = λ m e short f. short;
-  found = inl (is_front c text i s v a.within a.reads h);
+  found = inl (is_prefix c text i s v a.within a.reads h);
 }
 
 pub begins : (c : Ctx) (text : List ℕ) → Along c text 0 start (record { value = None; used = 0 })
@@ -78,7 +78,7 @@ begins c text = record {
   shallow = λ k h. absurd (omega arith);
   covers = λ h. record {
     longest = λ m e short f. short;
-    found = inr (refl, refl, λ m e short f. not_front c text 0 start e refl refl (subst (λ n. IsFront text n e) (let z : m ≡ 0 = omega arith in z) f));
+    found = inr (refl, refl, λ m e short f. not_prefix c text 0 start e refl refl (subst (λ n. IsPrefix text n e) (let z : m ≡ 0 = omega arith in z) f));
   };
 }
 
@@ -157,7 +157,7 @@ leaves c s Blank t v no_mark value step none =
 
 covers_more : (c : Ctx) (text : List ℕ) (i : ℕ) (t : Scan) (read : Read) → Covers c text i read → run c start (take (suc i) text) ≡ Some t → whole_value c t ≡ None → Covers c text (suc i) read
 covers_more c text i t read k h none =
-    let last : (m : ℕ) (e : Expression) → m ≡ suc i → IsFront text m e → ⊥ = λ m e is f. not_front c text (suc i) t e h none (subst (λ n. IsFront text n e) is f) in
+    let last : (m : ℕ) (e : Expression) → m ≡ suc i → IsPrefix text m e → ⊥ = λ m e is f. not_prefix c text (suc i) t e h none (subst (λ n. IsPrefix text n e) is f) in
     record {
       longest = λ m e short f. elim (leb_tells m i) [ inl w ↦ k.longest m e w.1 f | inr w ↦ absurd (last m e (let high = w.1 in omega arith) f) ];
       found = elim k.found [
@@ -213,25 +213,25 @@ advances c text i b y s t read h more is a step =
 
 -- ---- where the scan ends
 
-answers : (c : Ctx) (text : List ℕ) (i : ℕ) (s : Scan) (read : Read) (r : Option (Option ℤ)) → Along c text i s read → ((k : ℕ) → IsTooDeep text k → ⊥) → ((m : ℕ) (e : Expression) → IsFront text m e → m ≤ i) → whole_value c s ≡ r → IsAnswer c text (read_at r i read)
+answers : (c : Ctx) (text : List ℕ) (i : ℕ) (s : Scan) (read : Read) (r : Option (Option ℤ)) → Along c text i s read → ((k : ℕ) → IsTooDeep text k → ⊥) → ((m : ℕ) (e : Expression) → IsPrefix text m e → m ≤ i) → whole_value c s ≡ r → IsAnswer c text (read_at r i read)
 answers c text i s read None a shallow last h =
     let k = a.covers h in
     elim k.found [
-      | inl w ↦ Longest shallow w.0 (record { front = w.1; longest = λ m e f. k.longest m e (last m e f) f; value = w.2 })
-      | inr w ↦ NoFront shallow (λ m e f. w.2 m e (last m e f) f) w.0 w.1
+      | inl w ↦ Longest shallow w.0 (record { prefix = w.1; longest = λ m e f. k.longest m e (last m e f) f; value = w.2 })
+      | inr w ↦ NoPrefix shallow (λ m e f. w.2 m e (last m e f) f) w.0 w.1
     ]
 answers c text i s read (Some v) a shallow last h =
-    let e = is_front c text i s v a.within a.reads h in
-    Longest shallow e.0 (record { front = e.1; longest = λ m other f. last m other f; value = e.2 })
+    let e = is_prefix c text i s v a.within a.reads h in
+    Longest shallow e.0 (record { prefix = e.1; longest = λ m other f. last m other f; value = e.2 })
 
 -- no expression goes on past a byte where the scan is stuck
 blocked : (c : Ctx) (text : List ℕ) (i b : ℕ) (s : Scan) (m : ℕ) (rest : List ℕ) (t : Scan) → take (suc i) text ≡ take i text ++ b ∷ [] → run c start (take i text) ≡ Some s → after_byte c s b ≡ None → i < m → run c start (take m text ++ rest) ≡ Some t → ⊥
 blocked c text i b s m rest t more reads step past h =
     let v = take-more (suc i) m text past in
     let whole : run c start (take (suc i) text ++ (v.0 ++ rest)) ≡ Some t = ap (run c start) (sym (append_assoc (take (suc i) text) v.0 rest) ∙ ap (λ u. u ++ rest) (sym v.1)) ∙ h in
-    let front = run-front c start t (take (suc i) text) (v.0 ++ rest) whole in
+    let prefix = run-prefix c start t (take (suc i) text) (v.0 ++ rest) whole in
     let none : run c start (take (suc i) text) ≡ None = ap (run c start) more ∙ run-append c start s (take i text) (b ∷ []) reads ∙ ap (option_and_then (λ x. run c x [])) step in
-    let no : ◌≡◌ {A = Option Scan} None (Some front.0) = sym none ∙ front.1 in
+    let no : ◌≡◌ {A = Option Scan} None (Some prefix.0) = sym none ∙ prefix.1 in
     cc
 
 pub stops : (c : Ctx) (text : List ℕ) (i b : ℕ) (s : Scan) (read : Read) → take (suc i) text ≡ take i text ++ b ∷ [] → after_byte c s b ≡ None → Along c text i s read → IsAnswer c text (read_at (whole_value c s) i read)
@@ -247,7 +247,7 @@ stops c text i b s read more step a =
     (λ m e f. elim (leb_tells m i) [
       | inl w ↦ w.1
       | inr w ↦
-          let r = front_read c text m e f in
+          let r = prefix_read c text m e f in
           absurd (blocked c text i b s m [] r.to more a.reads step w.1 (ap (run c start) (append-nil (take m text)) ∙ r.runs))
     ])
     refl

@@ -15,8 +15,8 @@ use Rattle.nr_units.specs.declared.operators.Operator.{Operator}
 use Rattle.nr_units.specs.declared.operators.Operator.TheVariants.{Add, Subtract, Multiply, Divide, Remainder, Less, LessOrEqual, Greater, GreaterOrEqual, Equal, DoubleEqual, And, Or}
 use Rattle.nr_units.specs.declared.symbols.Symbol.TheVariants.{Digit, Letter, Mark}
 use Rattle.nr_units.specs.declared.level.Waiting.{Waiting}
-use Rattle.nr_units.specs.declared.level.Behind.{Behind}
-use Rattle.nr_units.specs.declared.level.Behind.TheVariants.{Nothing, AnOperator, ASign}
+use Rattle.nr_units.specs.declared.level.Preceding.{Preceding}
+use Rattle.nr_units.specs.declared.level.Preceding.TheVariants.{Nothing, AnOperator, ASign}
 use Rattle.nr_units.specs.declared.level.Mode.{Mode}
 use Rattle.nr_units.specs.declared.level.Mode.TheVariants.{Before, LonePoint, Whole, Fraction, Complete}
 use Rattle.nr_units.specs.declared.expression.Ctx.{Ctx}
@@ -48,7 +48,7 @@ pub record Ends (c : Ctx) (s : Scan) (u : List ℕ) (v : Option ℤ) (ws : List 
   pub value : level_value c to.level ≡ Some v
   pub outer : to.outer ≡ ws
 
-abbrev pub before : Behind → Waiting → List Waiting → Scan
+abbrev pub before : Preceding → Waiting → List Waiting → Scan
 before b w ws = record { level = record { mode = Before b; waiting = w }; outer = ws }
 
 pub ends-then : (c : Ctx) (s t : Scan) (u u' : List ℕ) (v : Option ℤ) (ws : List Waiting) → run c s u ≡ Some t → Ends c t u' v ws → Ends c s (u ++ u') v ws
@@ -111,23 +111,23 @@ marks c t o v ws h k =
     ∙ ap (option_map (λ l. record { level = l; outer = ws })) (mark_in-value c o t.level.waiting t.level.mode v h)
 
 -- what stands after an operator
-abbrev pub behind : Operator → Behind
-behind Add = AnOperator
-behind Subtract = AnOperator
-behind Multiply = AnOperator
-behind Divide = AnOperator
-behind Remainder = AnOperator
-behind Less = AnOperator
-behind LessOrEqual = Nothing
-behind Greater = AnOperator
-behind GreaterOrEqual = Nothing
-behind Equal = AnOperator
-behind DoubleEqual = Nothing
-behind And = AnOperator
-behind Or = AnOperator
+abbrev pub preceding : Operator → Preceding
+preceding Add = AnOperator
+preceding Subtract = AnOperator
+preceding Multiply = AnOperator
+preceding Divide = AnOperator
+preceding Remainder = AnOperator
+preceding Less = AnOperator
+preceding LessOrEqual = Nothing
+preceding Greater = AnOperator
+preceding GreaterOrEqual = Nothing
+preceding Equal = AnOperator
+preceding DoubleEqual = Nothing
+preceding And = AnOperator
+preceding Or = AnOperator
 
 abbrev pub operand_after : Operator → Option ℤ → List Waiting → Scan
-operand_after o v ws = before (behind o) (record { left = Some (record { value = v; operator = o }); prefix = no_prefix }) ws
+operand_after o v ws = before (preceding o) (record { left = Some (record { value = v; operator = o }); prefix = no_prefix }) ws
 
 pub operator_runs : (c : Ctx) (o : Operator) (t : Scan) (v : Option ℤ) (ws : List Waiting) → level_value c t.level ≡ Some v → t.outer ≡ ws → run c t (operator_text o) ≡ Some (operand_after o v ws)
 operator_runs c Add t v ws h k = run-one c t _ (code "+") (marks c t Add v ws h k)
@@ -146,32 +146,32 @@ operator_runs c Or t v ws h k = run-one c t _ 58 (marks c t Or v ws h k)
 
 -- ---- blanks before an operand
 
-abbrev pub MayHaveBlanks : Behind → Type 0
+abbrev pub MayHaveBlanks : Preceding → Type 0
 MayHaveBlanks Nothing = Unit {0}
 MayHaveBlanks AnOperator = Unit {0}
 MayHaveBlanks ASign = ⊥
 
-pub behind_may : (o : Operator) → MayHaveBlanks (behind o)
-behind_may Add = tt
-behind_may Subtract = tt
-behind_may Multiply = tt
-behind_may Divide = tt
-behind_may Remainder = tt
-behind_may Less = tt
-behind_may LessOrEqual = tt
-behind_may Greater = tt
-behind_may GreaterOrEqual = tt
-behind_may Equal = tt
-behind_may DoubleEqual = tt
-behind_may And = tt
-behind_may Or = tt
+pub preceding_may : (o : Operator) → MayHaveBlanks (preceding o)
+preceding_may Add = tt
+preceding_may Subtract = tt
+preceding_may Multiply = tt
+preceding_may Divide = tt
+preceding_may Remainder = tt
+preceding_may Less = tt
+preceding_may LessOrEqual = tt
+preceding_may Greater = tt
+preceding_may GreaterOrEqual = tt
+preceding_may Equal = tt
+preceding_may DoubleEqual = tt
+preceding_may And = tt
+preceding_may Or = tt
 
-blank_before : (c : Ctx) (b : Behind) (w x : Waiting) (ws : List Waiting) → MayHaveBlanks b → after_byte c (before b w (x ∷ ws)) (code " ") ≡ Some (before Nothing w (x ∷ ws))
+blank_before : (c : Ctx) (b : Preceding) (w x : Waiting) (ws : List Waiting) → MayHaveBlanks b → after_byte c (before b w (x ∷ ws)) (code " ") ≡ Some (before Nothing w (x ∷ ws))
 blank_before c Nothing w x ws may = refl
 blank_before c AnOperator w x ws may = refl
 blank_before c ASign w x ws may = absurd may
 
-pub blanks_before : (c : Ctx) (inside : Bool) (n : ℕ) (b : Behind) (w : Waiting) (ws : List Waiting) (u : List ℕ) (v : Option ℤ) → IsOpen inside ws → MayHaveBlanks b → ((b : Behind) → Ends c (before b w ws) u v ws) → Ends c (before b w ws) (blanks inside n ++ u) v ws
+pub blanks_before : (c : Ctx) (inside : Bool) (n : ℕ) (b : Preceding) (w : Waiting) (ws : List Waiting) (u : List ℕ) (v : Option ℤ) → IsOpen inside ws → MayHaveBlanks b → ((b : Preceding) → Ends c (before b w ws) u v ws) → Ends c (before b w ws) (blanks inside n ++ u) v ws
 blanks_before c false n b w ws u v is may ends = ends b
 blanks_before c true zero b w ws u v is may ends = ends b
 blanks_before c true (suc n) b w [] u v is may ends = absurd is
@@ -206,7 +206,7 @@ whole_runs c w ws n (d ∷ ds) h =
     (digit_step c (Whole (capped n)) (Whole (capped (10 * n + d))) w ws d h.0 (ap (λ x. Some (Whole x)) (capped-more n d)))
     (whole_runs c w ws (10 * n + d) ds h.1)
 
-whole_first : (c : Ctx) (b : Behind) (w : Waiting) (ws : List Waiting) (d : ℕ) (ds : List ℕ) → AreDigits (d ∷ ds) → run c (before b w ws) (digits_text (d ∷ ds)) ≡ Some (in_number (Whole (capped (whole_after 0 (d ∷ ds)))) w ws)
+whole_first : (c : Ctx) (b : Preceding) (w : Waiting) (ws : List Waiting) (d : ℕ) (ds : List ℕ) → AreDigits (d ∷ ds) → run c (before b w ws) (digits_text (d ∷ ds)) ≡ Some (in_number (Whole (capped (whole_after 0 (d ∷ ds)))) w ws)
 whole_first c b w ws d ds h =
     let e : d ≡ capped (10 * 0 + d) = omega (arith, h.0) in
     run-cons c (before b w ws) (in_number (Whole (capped (10 * 0 + d))) w ws) (code "0" + d) (digits_text ds) _
@@ -243,7 +243,7 @@ pub record IsInNumber (c : Ctx) (s : Scan) (u : List ℕ) (n : ℕ) (w : Waiting
   pub runs : run c s u ≡ Some (in_number mode w ws)
   pub number : number_of mode ≡ Some n
 
-digits_run : (c : Ctx) (b : Behind) (w : Waiting) (ws : List Waiting) (whole : List ℕ) (fraction : Option (List ℕ)) → AreDigits whole → AreDigits (fraction_digits fraction) → 0 < length whole + length (fraction_digits fraction) → IsInNumber c (before b w ws) (digits_text whole ++ fraction_text fraction) (10000 * capped (whole_after 0 whole) + fraction_by 1000 (fraction_digits fraction)) w ws
+digits_run : (c : Ctx) (b : Preceding) (w : Waiting) (ws : List Waiting) (whole : List ℕ) (fraction : Option (List ℕ)) → AreDigits whole → AreDigits (fraction_digits fraction) → 0 < length whole + length (fraction_digits fraction) → IsInNumber c (before b w ws) (digits_text whole ++ fraction_text fraction) (10000 * capped (whole_after 0 whole) + fraction_by 1000 (fraction_digits fraction)) w ws
 digits_run c b w ws [] None h k some = absurd (omega arith)
 digits_run c b w ws [] (Some []) h k some = absurd (omega arith)
 digits_run c b w ws [] (Some (f ∷ fs)) h k some =
@@ -297,7 +297,7 @@ scale_ends c w ws m n (Some s) h =
       outer = refl;
     }
 
-pub number_runs : (c : Ctx) (n : Number) (is : IsNumber n) (b : Behind) (w : Waiting) (ws : List Waiting) → Ends c (before b w ws) (number_text n) (finished w (operand_value c (Numeral n is))) ws
+pub number_runs : (c : Ctx) (n : Number) (is : IsNumber n) (b : Preceding) (w : Waiting) (ws : List Waiting) → Ends c (before b w ws) (number_text n) (finished w (operand_value c (Numeral n is))) ws
 number_runs c n is b w ws =
     let x : ℕ = 10000 * capped (whole_after 0 n.whole) + fraction_by 1000 (fraction_digits n.fraction) in
     let first = digits_run c b w ws n.whole n.fraction is.whole is.fraction is.not_empty in
@@ -316,7 +316,7 @@ pub finished-left : (x : Option ℤ) (o : Operator) (v : Option ℤ) → IsInRan
 finished-left x o v h = ap (joined o x) (prefixed-none v h)
 
 mutual
-  pub operand_runs : (c : Ctx) (o : Operand) (inside : Bool) (b : Behind) (w : Waiting) (ws : List Waiting) → IsOpen inside ws → Ends c (before b w ws) (operand_text inside o) (finished w (operand_value c o)) ws
+  pub operand_runs : (c : Ctx) (o : Operand) (inside : Bool) (b : Preceding) (w : Waiting) (ws : List Waiting) → IsOpen inside ws → Ends c (before b w ws) (operand_text inside o) (finished w (operand_value c o)) ws
   operand_runs c (Numeral n is) inside b w ws open_is = number_runs c n is b w ws
   operand_runs c (Plus o) inside b w ws open_is =
       ends-cons c (before b w ws) (before ASign w ws) (code "+") (operand_text inside o) _ ws refl (operand_runs c o inside ASign w ws open_is)
@@ -342,7 +342,7 @@ mutual
       (ends-then c first.to second.to (blanks true m) (code ")" ∷ []) (finished w v) ws second.runs
       (record { to = last; runs = run-one c second.to last (code ")") (closes c second.to v w ws second.value second.outer); value = refl; outer = refl }))))
 
-  pub expression_runs : (c : Ctx) (e : Expression) (inside : Bool) (b : Behind) (ws : List Waiting) → IsOpen inside ws → Ends c (before b nothing_waits ws) (expression_text inside e) (expression_value c e) ws
+  pub expression_runs : (c : Ctx) (e : Expression) (inside : Bool) (b : Preceding) (ws : List Waiting) → IsOpen inside ws → Ends c (before b nothing_waits ws) (expression_text inside e) (expression_value c e) ws
   expression_runs c (Single o) inside b ws open_is =
       ends-value c (before b nothing_waits ws) (operand_text inside o) (finished nothing_waits (operand_value c o)) (operand_value c o) ws (finished-nothing (operand_value c o) (operand_in_range c o))
       (operand_runs c o inside b nothing_waits ws open_is)
@@ -352,7 +352,7 @@ mutual
       let first = expression_runs c e inside b ws open_is in
       let second = blanks_after c inside n first.to x ws open_is first.value first.outer in
       let third = operator_runs c p second.to x ws second.value second.outer in
-      let fourth = blanks_before c inside m (behind p) left ws (operand_text inside o) (finished left (operand_value c o)) open_is (behind_may p) (λ b. operand_runs c o inside b left ws open_is) in
+      let fourth = blanks_before c inside m (preceding p) left ws (operand_text inside o) (finished left (operand_value c o)) open_is (preceding_may p) (λ b. operand_runs c o inside b left ws open_is) in
       ends-value c (before b nothing_waits ws) (expression_text inside (Joined e n p m o)) (finished left (operand_value c o)) (joined p x (operand_value c o)) ws (finished-left x p (operand_value c o) (operand_in_range c o))
       (ends-then c (before b nothing_waits ws) first.to (expression_text inside e) _ _ ws first.runs
       (ends-then c first.to second.to (blanks inside n) _ _ ws second.runs

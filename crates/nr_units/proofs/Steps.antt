@@ -10,16 +10,16 @@ use Rattle.nr_units.specs.declared.units.Scale.{Scale}
 use Rattle.nr_units.specs.declared.operators.Operator.{Operator}
 use Rattle.nr_units.specs.declared.symbols.Symbol.TheVariants.{Digit, Point, Letter, Mark, Bar, Open, Close, Blank}
 use Rattle.nr_units.specs.declared.level.Waiting.{Waiting}
-use Rattle.nr_units.specs.declared.level.Behind.{Behind}
-use Rattle.nr_units.specs.declared.level.Behind.TheVariants.{Nothing, AnOperator, ASign}
+use Rattle.nr_units.specs.declared.level.Preceding.{Preceding}
+use Rattle.nr_units.specs.declared.level.Preceding.TheVariants.{Nothing, AnOperator, ASign}
 use Rattle.nr_units.specs.declared.level.Mode.{Mode}
 use Rattle.nr_units.specs.declared.level.Mode.TheVariants.{Before, LonePoint, Whole, Fraction}
 use Rattle.nr_units.specs.declared.level.Level.{Level}
 use Rattle.nr_units.specs.declared.expression.Ctx.{Ctx}
 use Rattle.std.proofs.Math.Nat.{mul-le-mul_left}
 use Rattle.nr_units.proofs.Rounding.{scaled-capped}
-use Rattle.nr_units.proofs.Runs.{behind, blank_in-value, mark_in-value}
-use Rattle.nr_units.proofs.Places.{Slot, Outermost, Inside, Place, First, Next, BehindPlus, BehindMinus, BehindBar, slot_of, is_inside, slot_text, place_text, waiting, outer_slot, outer_place, outer_place-slot_of, ended, ended_text, ended_value}
+use Rattle.nr_units.proofs.Runs.{preceding, blank_in-value, mark_in-value}
+use Rattle.nr_units.proofs.Places.{Slot, Outermost, Inside, Place, First, Next, AfterPlus, AfterMinus, AfterBar, slot_of, is_inside, slot_text, place_text, waiting, outer_slot, outer_place, outer_place-slot_of, ended, ended_text, ended_value}
 
 -- ---- how far an expression is read
 
@@ -37,13 +37,13 @@ state_text (InWhole p ds are some) = place_text p ++ digits_text ds
 state_text (InFraction p ds fs are_ds are_fs some) = place_text p ++ (digits_text ds ++ (code "." ∷ digits_text fs))
 state_text (After k e n) = slot_text k ++ (expression_text (is_inside k) e ++ blanks (is_inside k) n)
 
-abbrev pub behind_place : Place → Behind
-behind_place (First k) = Nothing
-behind_place (Next k e n o zero) = behind o
-behind_place (Next k e n o (suc m)) = Nothing
-behind_place (BehindPlus p) = ASign
-behind_place (BehindMinus p) = ASign
-behind_place (BehindBar p n) = Nothing
+abbrev pub preceding_place : Place → Preceding
+preceding_place (First k) = Nothing
+preceding_place (Next k e n o zero) = preceding o
+preceding_place (Next k e n o (suc m)) = Nothing
+preceding_place (AfterPlus p) = ASign
+preceding_place (AfterMinus p) = ASign
+preceding_place (AfterBar p n) = Nothing
 
 abbrev pub place_after : ℕ → List ℕ → ℕ
 place_after p [] = p
@@ -54,7 +54,7 @@ shown_at c p m = record { level = record { mode = m; waiting = waiting c p }; ou
 
 -- what is kept of it
 abbrev pub shown : Ctx → State → Scan
-shown c (AtPlace p) = shown_at c p (Before (behind_place p))
+shown c (AtPlace p) = shown_at c p (Before (preceding_place p))
 shown c (AtPoint p) = shown_at c p LonePoint
 shown c (InWhole p ds are some) = shown_at c p (Whole (capped (whole_after 0 ds)))
 shown c (InFraction p ds fs are_ds are_fs some) = shown_at c p (Fraction (capped (whole_after 0 ds)) (fraction_by 1000 fs) (place_after 1000 fs))
@@ -166,7 +166,7 @@ blank_ends c z e s h =
     goes_to c z (code " " ∷ []) (with_blank c l ws) s to text
     (opened.1 ∙ ap (on_level ws) (blank_in-value c l.waiting l.mode (expression_value c e.expression) e.value) ∙ ap (λ v. on_level v (Some (completed (expression_value c e.expression)))) e.outer) h
 
-pub mark_ends : (c : Ctx) (z : State) (e : EndsAt c z) (o : Operator) (s : Scan) → behind o ≡ AnOperator → after_symbol c (shown c z) (Mark o) ≡ Some s → Goes c z (operator_text o) s
+pub mark_ends : (c : Ctx) (z : State) (e : EndsAt c z) (o : Operator) (s : Scan) → preceding o ≡ AnOperator → after_symbol c (shown c z) (Mark o) ≡ Some s → Goes c z (operator_text o) s
 mark_ends c z e o s one h =
     let l : Level = (shown c z).level in
     let i : Bool = is_inside e.slot in
@@ -295,7 +295,7 @@ by_letter c (After k e n) scale s h = cc
 
 pub by_bar : (c : Ctx) (z : State) (s : Scan) → after_symbol c (shown c z) Bar ≡ Some s → Goes c z (code "|" ∷ []) s
 by_bar c (AtPlace p) s h =
-    goes_to c (AtPlace p) (code "|" ∷ []) _ s (AtPlace (BehindBar p 0)) (ap (λ v. place_text p ++ (code "|" ∷ v)) (blanks-zero (is_inside (slot_of p)))) refl h
+    goes_to c (AtPlace p) (code "|" ∷ []) _ s (AtPlace (AfterBar p 0)) (ap (λ v. place_text p ++ (code "|" ∷ v)) (blanks-zero (is_inside (slot_of p)))) refl h
 by_bar c (AtPoint p) s h = cc
 by_bar c (InWhole p ds a some) s h = cc
 by_bar c (InFraction p ds fs a b some) s h = cc

@@ -11,16 +11,16 @@ use Rattle.nr_units.specs.declared.operators.Operator.TheVariants.{Add, Subtract
 use Rattle.nr_units.specs.declared.symbols.Symbol.{Symbol}
 use Rattle.nr_units.specs.declared.symbols.Symbol.TheVariants.{Digit, Point, Letter, Mark, Bar, Open, Close, Blank}
 use Rattle.nr_units.specs.declared.level.Waiting.{Waiting}
-use Rattle.nr_units.specs.declared.level.Behind.{Behind}
-use Rattle.nr_units.specs.declared.level.Behind.TheVariants.{Nothing, AnOperator, ASign}
+use Rattle.nr_units.specs.declared.level.Preceding.{Preceding}
+use Rattle.nr_units.specs.declared.level.Preceding.TheVariants.{Nothing, AnOperator, ASign}
 use Rattle.nr_units.specs.declared.level.Mode.TheVariants.{Before}
 use Rattle.nr_units.specs.declared.level.Level.{Level}
 use Rattle.nr_units.specs.declared.expression.Ctx.{Ctx}
 use Rattle.std.proofs.lemmas.Bool.Decides.{leb_tells}
 use Rattle.std.proofs.lemmas.Bool.{eqb-true}
-use Rattle.nr_units.proofs.Runs.{behind, MayHaveBlanks, behind_may}
-use Rattle.nr_units.proofs.Places.{Slot, Outermost, Inside, Place, First, Next, BehindPlus, BehindMinus, BehindBar, slot_of, is_inside, slot_text, place_text, waiting, outer_slot, outer_place, outer_place-slot_of}
-use Rattle.nr_units.proofs.Steps.{State, AtPlace, AtPoint, InWhole, InFraction, After, state_text, shown, behind_place, Goes, blanks-zero, blanks-more, goes_to, stuck, blank_opened, inside_is, blank_ends, mark_ends, ends_whole, ends_fraction, ends_after, by_digit, by_point, by_letter, by_bar, by_open, by_close}
+use Rattle.nr_units.proofs.Runs.{preceding, MayHaveBlanks, preceding_may}
+use Rattle.nr_units.proofs.Places.{Slot, Outermost, Inside, Place, First, Next, AfterPlus, AfterMinus, AfterBar, slot_of, is_inside, slot_text, place_text, waiting, outer_slot, outer_place, outer_place-slot_of}
+use Rattle.nr_units.proofs.Steps.{State, AtPlace, AtPoint, InWhole, InFraction, After, state_text, shown, preceding_place, Goes, blanks-zero, blanks-more, goes_to, stuck, blank_opened, inside_is, blank_ends, mark_ends, ends_whole, ends_fraction, ends_after, by_digit, by_point, by_letter, by_bar, by_open, by_close}
 
 -- ---- a blank
 
@@ -28,7 +28,7 @@ blank_none : (c : Ctx) (l : Level) (ws : List Waiting) → blank_in c l.waiting 
 blank_none c l [] h = refl
 blank_none c l (w ∷ ws) h = ap (on_level (w ∷ ws)) h
 
-blank_before : (c : Ctx) (b : Behind) (w : Waiting) → MayHaveBlanks b → blank_in c w (Before b) ≡ Some (record { mode = Before Nothing; waiting = w })
+blank_before : (c : Ctx) (b : Preceding) (w : Waiting) → MayHaveBlanks b → blank_in c w (Before b) ≡ Some (record { mode = Before Nothing; waiting = w })
 blank_before c Nothing w may = refl
 blank_before c AnOperator w may = refl
 blank_before c ASign w may = absurd may
@@ -42,7 +42,7 @@ blank_first c (Inside p n) s h =
     goes_to c (AtPlace (First (Inside p n))) (code " " ∷ []) _ s (AtPlace (First (Inside p (suc n))))
     (ap (λ v. place_text p ++ (code "(" ∷ v)) (blanks-more true n refl) ∙ simp append_assoc) refl h
 
-blank_next : (c : Ctx) (k : Slot) (e : Expression) (n : ℕ) (o : Operator) (m : ℕ) (s : Scan) → MayHaveBlanks (behind_place (Next k e n o m)) → after_symbol c (shown c (AtPlace (Next k e n o m))) Blank ≡ Some s → Goes c (AtPlace (Next k e n o m)) (code " " ∷ []) s
+blank_next : (c : Ctx) (k : Slot) (e : Expression) (n : ℕ) (o : Operator) (m : ℕ) (s : Scan) → MayHaveBlanks (preceding_place (Next k e n o m)) → after_symbol c (shown c (AtPlace (Next k e n o m))) Blank ≡ Some s → Goes c (AtPlace (Next k e n o m)) (code " " ∷ []) s
 blank_next c k e n o m s may h =
     let p : Place = Next k e n o m in
     let l : Level = (shown c (AtPlace p)).level in
@@ -53,28 +53,28 @@ blank_next c k e n o m s may h =
     let regrouped : state_text (AtPlace p) ++ code " " ∷ [] ≡ slot_text k ++ (expression_text i e ++ (blanks i n ++ (operator_text o ++ (blanks i m ++ code " " ∷ [])))) = simp append_assoc in
     goes_to c (AtPlace p) (code " " ∷ []) (with_blank c l ws) s (AtPlace (Next k e n o (suc m)))
     (ap (λ v. slot_text k ++ (expression_text i e ++ (blanks i n ++ (operator_text o ++ v)))) (blanks-more i m inside) ∙ sym regrouped)
-    (opened.1 ∙ ap (on_level ws) (blank_before c (behind_place p) (waiting c p) may)) h
+    (opened.1 ∙ ap (on_level ws) (blank_before c (preceding_place p) (waiting c p) may)) h
 
-blank_bar : (c : Ctx) (p : Place) (n : ℕ) (s : Scan) → after_symbol c (shown c (AtPlace (BehindBar p n))) Blank ≡ Some s → Goes c (AtPlace (BehindBar p n)) (code " " ∷ []) s
+blank_bar : (c : Ctx) (p : Place) (n : ℕ) (s : Scan) → after_symbol c (shown c (AtPlace (AfterBar p n))) Blank ≡ Some s → Goes c (AtPlace (AfterBar p n)) (code " " ∷ []) s
 blank_bar c p n s h =
-    let l : Level = (shown c (AtPlace (BehindBar p n))).level in
+    let l : Level = (shown c (AtPlace (AfterBar p n))).level in
     let opened = blank_opened c l (outer_place c p) s h in
     let i : Bool = is_inside (slot_of p) in
     let inside : i ≡ true = place_inside c p opened.0.0 opened.0.1 opened.0.2 in
     let regrouped : (place_text p ++ (code "|" ∷ blanks i n)) ++ code " " ∷ [] ≡ place_text p ++ (code "|" ∷ (blanks i n ++ code " " ∷ [])) = simp append_assoc in
-    goes_to c (AtPlace (BehindBar p n)) (code " " ∷ []) (with_blank c l (outer_place c p)) s (AtPlace (BehindBar p (suc n)))
+    goes_to c (AtPlace (AfterBar p n)) (code " " ∷ []) (with_blank c l (outer_place c p)) s (AtPlace (AfterBar p (suc n)))
     (ap (λ v. place_text p ++ (code "|" ∷ v)) (blanks-more i n inside) ∙ sym regrouped)
     opened.1 h
 
 blank_at : (c : Ctx) (p : Place) (s : Scan) → after_symbol c (shown c (AtPlace p)) Blank ≡ Some s → Goes c (AtPlace p) (code " " ∷ []) s
 blank_at c (First k) s h = blank_first c k s h
-blank_at c (Next k e n o zero) s h = blank_next c k e n o zero s (behind_may o) h
+blank_at c (Next k e n o zero) s h = blank_next c k e n o zero s (preceding_may o) h
 blank_at c (Next k e n o (suc m)) s h = blank_next c k e n o (suc m) s tt h
-blank_at c (BehindPlus p) s h =
-    let l : Level = (shown c (AtPlace (BehindPlus p))).level in stuck (with_blank c l (outer_place c p)) s (blank_none c l (outer_place c p) refl) h
-blank_at c (BehindMinus p) s h =
-    let l : Level = (shown c (AtPlace (BehindMinus p))).level in stuck (with_blank c l (outer_place c p)) s (blank_none c l (outer_place c p) refl) h
-blank_at c (BehindBar p n) s h = blank_bar c p n s h
+blank_at c (AfterPlus p) s h =
+    let l : Level = (shown c (AtPlace (AfterPlus p))).level in stuck (with_blank c l (outer_place c p)) s (blank_none c l (outer_place c p) refl) h
+blank_at c (AfterMinus p) s h =
+    let l : Level = (shown c (AtPlace (AfterMinus p))).level in stuck (with_blank c l (outer_place c p)) s (blank_none c l (outer_place c p) refl) h
+blank_at c (AfterBar p n) s h = blank_bar c p n s h
 
 by_blank : (c : Ctx) (z : State) (s : Scan) → after_symbol c (shown c z) Blank ≡ Some s → Goes c z (code " " ∷ []) s
 by_blank c (AtPlace p) s h = blank_at c p s h
@@ -86,7 +86,7 @@ by_blank c (After k e n) s h = blank_ends c (After k e n) (ends_after c k e n) s
 -- ---- an operator's byte
 
 -- `=` after an operator
-wider : (c : Ctx) (k : Slot) (e : Expression) (n : ℕ) (o wide : Operator) (s : Scan) → operator_text wide ≡ operator_text o ++ code "=" ∷ [] → behind wide ≡ Nothing → after_symbol c (shown c (AtPlace (Next k e n o 0))) (Mark Equal) ≡ Some (record { level = record { mode = Before Nothing; waiting = record { left = Some (record { value = expression_value c e; operator = wide }); prefix = no_prefix } }; outer = outer_slot c k }) → after_symbol c (shown c (AtPlace (Next k e n o 0))) (Mark Equal) ≡ Some s → Goes c (AtPlace (Next k e n o 0)) (code "=" ∷ []) s
+wider : (c : Ctx) (k : Slot) (e : Expression) (n : ℕ) (o wide : Operator) (s : Scan) → operator_text wide ≡ operator_text o ++ code "=" ∷ [] → preceding wide ≡ Nothing → after_symbol c (shown c (AtPlace (Next k e n o 0))) (Mark Equal) ≡ Some (record { level = record { mode = Before Nothing; waiting = record { left = Some (record { value = expression_value c e; operator = wide }); prefix = no_prefix } }; outer = outer_slot c k }) → after_symbol c (shown c (AtPlace (Next k e n o 0))) (Mark Equal) ≡ Some s → Goes c (AtPlace (Next k e n o 0)) (code "=" ∷ []) s
 wider c k e n o wide s text is step h =
     let i : Bool = is_inside k in
     let w : Waiting = record { left = Some (record { value = expression_value c e; operator = wide }); prefix = no_prefix } in
@@ -116,13 +116,13 @@ equal_at : (c : Ctx) (p : Place) (s : Scan) → after_symbol c (shown c (AtPlace
 equal_at c (First k) s h = cc
 equal_at c (Next k e n o zero) s h = equal_next c k e n o s h
 equal_at c (Next k e n o (suc m)) s h = cc
-equal_at c (BehindPlus p) s h = cc
-equal_at c (BehindMinus p) s h = cc
-equal_at c (BehindBar p n) s h = cc
+equal_at c (AfterPlus p) s h = cc
+equal_at c (AfterMinus p) s h = cc
+equal_at c (AfterBar p n) s h = cc
 
 mark_at : (c : Ctx) (p : Place) (o : Operator) (s : Scan) → after_symbol c (shown c (AtPlace p)) (Mark o) ≡ Some s → Goes c (AtPlace p) (operator_text o) s
-mark_at c p Add s h = goes_to c (AtPlace p) (code "+" ∷ []) _ s (AtPlace (BehindPlus p)) refl refl h
-mark_at c p Subtract s h = goes_to c (AtPlace p) (code "-" ∷ []) _ s (AtPlace (BehindMinus p)) refl refl h
+mark_at c p Add s h = goes_to c (AtPlace p) (code "+" ∷ []) _ s (AtPlace (AfterPlus p)) refl refl h
+mark_at c p Subtract s h = goes_to c (AtPlace p) (code "-" ∷ []) _ s (AtPlace (AfterMinus p)) refl refl h
 mark_at c p Equal s h = equal_at c p s h
 mark_at c p Multiply s h = cc
 mark_at c p Divide s h = cc
@@ -135,7 +135,7 @@ mark_at c p DoubleEqual s h = cc
 mark_at c p And s h = cc
 mark_at c p Or s h = cc
 
-by_mark : (c : Ctx) (z : State) (o : Operator) (s : Scan) → behind o ≡ AnOperator → after_symbol c (shown c z) (Mark o) ≡ Some s → Goes c z (operator_text o) s
+by_mark : (c : Ctx) (z : State) (o : Operator) (s : Scan) → preceding o ≡ AnOperator → after_symbol c (shown c z) (Mark o) ≡ Some s → Goes c z (operator_text o) s
 by_mark c (AtPlace p) o s one h = mark_at c p o s h
 by_mark c (AtPoint p) o s one h = cc
 by_mark c (InWhole p ds a some) o s one h = mark_ends c (InWhole p ds a some) (ends_whole c p ds a some) o s one h
@@ -149,7 +149,7 @@ abbrev pub IsByteOf : ℕ → Symbol → Type 0
 IsByteOf b (Digit d) = (d < 10) × (b ≡ code "0" + d)
 IsByteOf b Point = b ≡ code "."
 IsByteOf b (Letter scale) = b ≡ letter scale
-IsByteOf b (Mark o) = (operator_text o ≡ b ∷ []) × (behind o ≡ AnOperator)
+IsByteOf b (Mark o) = (operator_text o ≡ b ∷ []) × (preceding o ≡ AnOperator)
 IsByteOf b Bar = b ≡ code "|"
 IsByteOf b Open = b ≡ code "("
 IsByteOf b Close = b ≡ code ")"

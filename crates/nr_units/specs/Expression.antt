@@ -74,9 +74,9 @@ abbrev mutual
   expression_value c (Joined e n operator m o) = joined operator (expression_value c e) (operand_value c o)
 
 -- the first m bytes of the text are this expression
-pub record IsFront (text : List ℕ) (m : ℕ) (e : Expression) : Type 0 where
+pub record IsPrefix (text : List ℕ) (m : ℕ) (e : Expression) : Type 0 where
   pub within : m ≤ length text
-  pub front : take m text ≡ expression_text false e
+  pub prefix : take m text ≡ expression_text false e
 
 -- At place k a parenthesis is opened while 64 are open, and what has come so far can still become an expression.
 pub record IsTooDeep (text : List ℕ) (k : ℕ) : Type 0 where
@@ -86,14 +86,14 @@ pub record IsTooDeep (text : List ℕ) (k : ℕ) : Type 0 where
 
 -- The answer for a text: the longest prefix that is an expression, and its value.
 pub record IsLongest (c : Ctx) (text : List ℕ) (read : Read) (e : Expression) : Type 0 where
-  pub front : IsFront text read.used e
-  pub longest : (m : ℕ) → (other : Expression) → IsFront text m other → m ≤ read.used
+  pub prefix : IsPrefix text read.used e
+  pub longest : (m : ℕ) → (other : Expression) → IsPrefix text m other → m ≤ read.used
   pub value : read.value ≡ expression_value c e
 
 pub data IsAnswer (c : Ctx) (text : List ℕ) (read : Read) : Type 0 where
   Longest : ((k : ℕ) → IsTooDeep text k → ⊥) → (e : Expression) → IsLongest c text read e
       → IsAnswer c text read
-  Nothing : ((k : ℕ) → IsTooDeep text k → ⊥) → ((m : ℕ) → (e : Expression) → IsFront text m e → ⊥)
+  Nothing : ((k : ℕ) → IsTooDeep text k → ⊥) → ((m : ℕ) → (e : Expression) → IsPrefix text m e → ⊥)
       → read.value ≡ None → read.used ≡ 0 → IsAnswer c text read
   TooDeep : IsTooDeep text read.used → ((k : ℕ) → k < read.used → IsTooDeep text k → ⊥) → read.value ≡ None
       → IsAnswer c text read

@@ -10,9 +10,9 @@ abbrev pub counted : {A E : Type 0} → ℕ → Result A E → ℕ
 counted n (Ok x) = n
 counted n (Err e) = next_count n
 
--- the count after calls of which one failed, if it is told that one did
+-- the count after calls of which one failed, if it is emitted that one did
 abbrev pub counted_if : Bool → ℕ → ℕ
-counted_if told n = if told then next_count n else n
+counted_if reported n = if reported then next_count n else n
 
 -- a sink's failed calls: those of put and those of flush apart
 pub record SinkFailures : Type 0 where
@@ -31,10 +31,10 @@ put_counted before result = record before { puts = counted before.puts result }
 abbrev pub flush_counted : {A E : Type 0} → SinkFailures → Result A E → SinkFailures
 flush_counted before result = record before { flushes = counted before.flushes result }
 
--- the counts after puts of which one failed, if it is told that one did
+-- the counts after puts of which one failed, if it is emitted that one did
 abbrev pub put_counted_if : Bool → SinkFailures → SinkFailures
-put_counted_if told before = record before { puts = counted_if told before.puts }
+put_counted_if reported before = record before { puts = counted_if reported before.puts }
 
--- the counts after a flush that failed, if it is told that it did
+-- the counts after a flush that failed, if it is emitted that it did
 abbrev pub flush_counted_if : Bool → SinkFailures → SinkFailures
-flush_counted_if told before = record before { flushes = counted_if told before.flushes }
+flush_counted_if reported before = record before { flushes = counted_if reported before.flushes }

@@ -13,8 +13,8 @@ use Rattle.nr_units.specs.declared.symbols.Symbol.{Symbol}
 use Rattle.nr_units.specs.declared.symbols.Symbol.TheVariants.{Digit, Point, Letter, Mark, Bar, Open, Close, Blank}
 use Rattle.nr_units.specs.declared.level.Left.{Left}
 use Rattle.nr_units.specs.declared.level.Waiting.{Waiting}
-use Rattle.nr_units.specs.declared.level.Behind.{Behind}
-use Rattle.nr_units.specs.declared.level.Behind.TheVariants.{Nothing, AnOperator, ASign}
+use Rattle.nr_units.specs.declared.level.Preceding.{Preceding}
+use Rattle.nr_units.specs.declared.level.Preceding.TheVariants.{Nothing, AnOperator, ASign}
 use Rattle.nr_units.specs.declared.level.Mode.{Mode}
 use Rattle.nr_units.specs.declared.level.Mode.TheVariants.{Before, LonePoint, Whole, Fraction, Complete}
 use Rattle.nr_units.specs.declared.level.Level.{Level}
@@ -128,7 +128,7 @@ abbrev pub widened_left : Option Left → Option Left
 widened_left None = None
 widened_left (Some l) = option_map (λ o. record { value = l.value; operator = o }) (widened l.operator)
 
-abbrev pub with_equal : Behind → Waiting → Option Level
+abbrev pub with_equal : Preceding → Waiting → Option Level
 with_equal AnOperator w =
     option_map (λ l. record { mode = Before Nothing; waiting = record { left = Some l; prefix = w.prefix } })
     (widened_left w.left)
@@ -136,7 +136,7 @@ with_equal Nothing w = None
 with_equal ASign w = None
 
 -- an operator's byte where an operand is wanted: a sign, or `=` after an operator
-abbrev pub with_sign : Behind → Operator → Waiting → Option Level
+abbrev pub with_sign : Preceding → Operator → Waiting → Option Level
 with_sign b Add w = Some (record { mode = Before ASign; waiting = w })
 with_sign b Subtract w =
     Some (record { mode = Before ASign; waiting = record { left = w.left; prefix = after_minus w.prefix } })

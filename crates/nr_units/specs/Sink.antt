@@ -4,8 +4,8 @@ use Rattle.std.specs.Io.KnownBytes.{Appends}
 use Rattle.nr_units.specs.Failures.{SinkFailures}
 
 -- known bytes grow by a prefix of bs
-abbrev pub AppendsFront : Option (List ℕ) → Option (List ℕ) → List ℕ → Type 0
-AppendsFront old new bs = (front : List ℕ) × (rest : List ℕ) × (bs ≡ front ++ rest) × Appends old new front
+abbrev pub AppendsPrefix : Option (List ℕ) → Option (List ℕ) → List ℕ → Type 0
+AppendsPrefix old new bs = (prefix : List ℕ) × (rest : List ℕ) × (bs ≡ prefix ++ rest) × Appends old new prefix
 
 -- whether all was passed on once these bytes came: not where there is one
 abbrev pub passed_on_with : Bool → List ℕ → Bool

@@ -2,7 +2,7 @@
 ghost use Rattle.std.specs.Prelude.{◌≡◌, ◌==◌, ◌↔◌, ◌-◌, ◌≤◌, [], ◌++◌, length, take, OnOk, OnErr, IsOk, IfSome, false, true, not, is_ok};
 ghost use Rattle.std.specs.Io.KnownBytes.{Appends, Keeps};
 ghost use Rattle.nr_units.specs.Failures.{no_failures, put_counted, flush_counted};
-ghost use Rattle.nr_units.specs.Sink.{AppendsFront, passed_on_with, passed_on_by};
+ghost use Rattle.nr_units.specs.Sink.{AppendsPrefix, passed_on_with, passed_on_by};
 ghost use Rattle.nr_units.specs.Source.{Never, After};
 
 use super::sink::Sink;
@@ -217,7 +217,7 @@ impl Sink for Slate<'_> {
     /// Fails exactly where the bytes do not all fit, and then takes those that do.
     fn put(&mut self, bytes: &[u8]) -> Result<(), Fault>
         ensures ok { OnOk result (Appends (Some self.old.bytes) (Some self.new.bytes) bytes.now) }
-        ensures err { OnErr result (AppendsFront (Some self.old.bytes) (Some self.new.bytes) bytes.now) }
+        ensures err { OnErr result (AppendsPrefix (Some self.old.bytes) (Some self.new.bytes) bytes.now) }
         ensures passed_on { OnOk result ((self.new.passed == length self.new.bytes)
             ≡ passed_on_with (self.old.passed == length self.old.bytes) bytes.now) }
         ensures failures { self.new.failures ≡ put_counted self.old.failures result }
@@ -309,7 +309,7 @@ impl Sink for Shut {
         ensures ok { OnOk result (Appends (⟦<Shut as Sink>⟧.held self.old) (⟦<Shut as Sink>⟧.held self.new)
             bytes.now) }
         ensures err { OnErr result
-            (AppendsFront (⟦<Shut as Sink>⟧.held self.old) (⟦<Shut as Sink>⟧.held self.new) bytes.now) }
+            (AppendsPrefix (⟦<Shut as Sink>⟧.held self.old) (⟦<Shut as Sink>⟧.held self.new) bytes.now) }
         ensures passed_on { OnOk result (⟦<Shut as Sink>⟧.passed_on self.new
             ≡ passed_on_with (⟦<Shut as Sink>⟧.passed_on self.old) bytes.now) }
         ensures failures { ⟦<Shut as Sink>⟧.failures self.new

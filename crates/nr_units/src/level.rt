@@ -24,7 +24,7 @@ pub(crate) struct Waiting {
 
 /// What stands right in front of the place where an operand is wanted.
 #[derive(Clone, Copy)]
-pub(crate) enum Behind {
+pub(crate) enum Preceding {
     /// The beginning, a blank, a bar, or an operator that no `=` can make longer.
     Nothing,
     /// An operator of one byte.
@@ -36,7 +36,7 @@ pub(crate) enum Behind {
 /// How far the operand is read.
 #[derive(Clone, Copy)]
 pub(crate) enum Mode {
-    Before(Behind),
+    Before(Preceding),
     /// A point without digits in front.
     LonePoint,
     /// Digits: their value, or the greatest `u32` where that is less.
@@ -73,7 +73,7 @@ impl Waiting {
     }
 
     /// After this value and operator.
-    pub(crate) fn behind(value: Option<i32>, operator: Operator) -> Self
+    pub(crate) fn following(value: Option<i32>, operator: Operator) -> Self
         ensures { result ≡ record {
           left = Some (record { value = value; operator = operator });
           prefix = no_prefix;
@@ -175,7 +175,7 @@ impl Level {
         ensures { result ≡ fresh }
     {
         Level {
-            mode: Mode::Before(Behind::Nothing),
+            mode: Mode::Before(Preceding::Nothing),
             waiting: Waiting::nothing(),
         }
     }
@@ -222,13 +222,13 @@ impl Level {
     fn with_mark(self, operator: Operator, ctx: &Ctx) -> Option<Self>
         ensures { result ≡ with_mark ctx.now operator self }
     {
-        if let Mode::Before(behind) = self.mode {
-            return self.waiting.with_sign(behind, operator);
+        if let Mode::Before(preceding) = self.mode {
+            return self.waiting.with_sign(preceding, operator);
         }
         let value = self.value(ctx)?;
         let left = Some(Left { value, operator });
         Some(Level {
-            mode: Mode::Before(Behind::AnOperator),
+            mode: Mode::Before(Preceding::AnOperator),
             waiting: Waiting {
                 left,
                 prefix: Prefix::none(),
@@ -246,7 +246,7 @@ impl Level {
                 prefix: prefix.after_bar(here),
             };
             return Some(Level {
-                mode: Mode::Before(Behind::Nothing),
+                mode: Mode::Before(Preceding::Nothing),
                 waiting,
             });
         }
@@ -258,9 +258,9 @@ impl Level {
         ensures { result ≡ blank_in ctx.now self.waiting self.mode }
     {
         match self.mode {
-            Mode::Before(Behind::ASign) => None,
+            Mode::Before(Preceding::ASign) => None,
             Mode::Before(_) => Some(Level {
-                mode: Mode::Before(Behind::Nothing),
+                mode: Mode::Before(Preceding::Nothing),
                 waiting: self.waiting,
             }),
             _ => Some(Level::completed(self.value(ctx)?)),
@@ -365,8 +365,8 @@ impl Level {
             return false;
         };
         *longest = Read::of(value, at);
-        self.waiting = Waiting::behind(value, operator);
-        self.mode = Mode::Before(Behind::AnOperator);
+        self.waiting = Waiting::following(value, operator);
+        self.mode = Mode::Before(Preceding::AnOperator);
         true
     }
 
@@ -385,11 +385,11 @@ impl Waiting {
     ghost use Rattle.nr_units.specs.Scan.{with_sign, widened_left};
 
     /// An operator's byte where an operand is wanted: a sign, or the `=` after an operator.
-    fn with_sign(self, behind: Behind, operator: Operator) -> Option<Level>
-        ensures { result ≡ with_sign behind operator self }
+    fn with_sign(self, preceding: Preceding, operator: Operator) -> Option<Level>
+        ensures { result ≡ with_sign preceding operator self }
     {
-        let mode = Mode::Before(Behind::ASign);
-        match (operator, behind) {
+        let mode = Mode::Before(Preceding::ASign);
+        match (operator, preceding) {
             (Operator::Add, _) => Some(Level {
                 mode,
                 waiting: self,
@@ -401,14 +401,14 @@ impl Waiting {
                 };
                 Some(Level { mode, waiting })
             }
-            (Operator::Equal, Behind::AnOperator) => {
+            (Operator::Equal, Preceding::AnOperator) => {
                 let left = self.left?.widened()?;
                 let waiting = Waiting {
                     left: Some(left),
                     prefix: self.prefix,
                 };
                 Some(Level {
-                    mode: Mode::Before(Behind::Nothing),
+                    mode: Mode::Before(Preceding::Nothing),
                     waiting,
                 })
             }

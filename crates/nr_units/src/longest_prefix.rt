@@ -83,7 +83,7 @@ fn read_nested(text: &[u8], ctx: &Ctx) -> Read
 /// no value.
 /// Proved: Two expressions of one text have one value, the answer is one function of the text, and a value is from
 /// -2147483647 to 2147483647.
-#[tactic(auto, using(crate::proofs::ExpressionFronts::one_value))]
+#[tactic(auto, using(crate::proofs::ExpressionPrefixes::one_value))]
 pub fn read_expr(text: &[u8], ctx: &Ctx) -> Read
     ensures answer { IsAnswer ctx.now text.now result }
 

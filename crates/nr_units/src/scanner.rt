@@ -2,7 +2,7 @@
 ghost use Rattle.std.specs.Prelude.{◌≡◌, ℕ};
 
 use crate::expression::{Ctx, Read};
-use crate::level::{Behind, Level, Mode, Waiting};
+use crate::level::{Level, Mode, Preceding, Waiting};
 use crate::operators::Operator;
 use crate::symbols::Symbol;
 use arrayvec::ArrayVec;
@@ -131,8 +131,8 @@ impl Scanner {
         let Some(value) = self.level.value(ctx) else {
             return Step::Stuck;
         };
-        self.level.waiting = Waiting::behind(value, operator);
-        self.level.mode = Mode::Before(Behind::AnOperator);
+        self.level.waiting = Waiting::following(value, operator);
+        self.level.mode = Mode::Before(Preceding::AnOperator);
         Step::Taken
     }
 

@@ -2,7 +2,7 @@
 ghost use Rattle.std.specs.Prelude.{◌≡◌, ℕ, List, Bool, Option, OnOk, OnErr};
 ghost use Rattle.std.specs.Io.KnownBytes.{Appends, Keeps};
 ghost use Rattle.nr_units.specs.Failures.{SinkFailures, put_counted, flush_counted};
-ghost use Rattle.nr_units.specs.Sink.{AppendsFront, passed_on_with, passed_on_by};
+ghost use Rattle.nr_units.specs.Sink.{AppendsPrefix, passed_on_with, passed_on_by};
 
 use super::source::Fault;
 
@@ -22,7 +22,7 @@ pub trait Sink {
     /// Proved: A sink takes all bytes of a call, or a prefix of them and answers an error, and each error is counted.
     fn put(&mut self, bytes: &[u8]) -> Result<(), Fault>
         ensures ok { OnOk result (Appends (held self.old) (held self.new) bytes.now) }
-        ensures err { OnErr result (AppendsFront (held self.old) (held self.new) bytes.now) }
+        ensures err { OnErr result (AppendsPrefix (held self.old) (held self.new) bytes.now) }
         // Bytes that came last are not known to be passed on.
         ensures passed_on { OnOk result (passed_on self.new ≡ passed_on_with (passed_on self.old) bytes.now) }
         ensures failures { failures self.new ≡ put_counted (failures self.old) result };

@@ -1,7 +1,7 @@
--- What stands at the front of a vector where something was written after it.
+-- What stands at the beginning of a vector where something was written after it.
 use Rattle.std.proofs.Common.{◌≡◌, ℕ, ◌+◌, ◌<◌, ◌≤◌, List, [], ◌∷◌, ◌++◌, length, take, drop, replicate, set, get_or, ap, ap₂, sym, ◌∙◌, append_assoc, arith, length-append, length-drop}
 use Rattle.std.proofs.lemmas.List.{take_at, take-append-le, take-take, take-replicate, take_more, set_at, length-take-le, length-replicate}
-use Rattle.nr_vectors.proofs.Copying.{front_put}
+use Rattle.nr_vectors.proofs.Copying.{prefix_put}
 use Rattle.nr_vectors.proofs.Edits.{take_set}
 use borrow.Rule.Slice.PartMut.{put_mid}
 
@@ -20,13 +20,13 @@ pub take_written : {X : Type 0} (xs zs ys : List X) (a k n size : ℕ) → zs �
 take_written xs zs ys a k n size same all within long few = rw same
     (let whole : length (put_mid a k xs ys) ≡ size = omega (arith, length-append (take a xs) (ys ++ drop k (drop a xs)), length-append ys (drop k (drop a xs)), length-take-le a xs (omega arith), length-drop k (drop a xs), length-drop a xs) in
     ap (take (a + n)) (take_at (put_mid a k xs ys) (drop (length (put_mid a k xs ys)) xs) size whole)
-    ∙ front_put a k n xs ys (omega arith) (omega arith))
+    ∙ prefix_put a k n xs ys (omega arith) (omega arith))
 
 -- copies of an item were written over the vector's slots, and then items after the first m of them, `size` of each
-pub take_written_behind : {X : Type 0} (xs zs cs rest ys more : List X) (x : X) (a j k m n size len : ℕ) → zs ≡ xs → len ≡ length xs → a + j ≤ length xs → j ≡ size + size → k ≡ size
+pub take_written_after : {X : Type 0} (xs zs cs rest ys more : List X) (x : X) (a j k m n size len : ℕ) → zs ≡ xs → len ≡ length xs → a + j ≤ length xs → j ≡ size + size → k ≡ size
     → cs ≡ replicate size x → length rest ≡ size → ys ≡ take size more → m ≤ size → n ≤ size → size ≤ length more
     → take (a + m + n) (take len (put_mid a j zs (put_mid m k (cs ++ rest) ys) ++ drop (length (put_mid a j zs (put_mid m k (cs ++ rest) ys))) xs)) ≡ take a xs ++ replicate m x ++ take n more
-take_written_behind xs zs cs rest ys more x a j k m n size len same all within double whole copies tail items few small long =
+take_written_after xs zs cs rest ys more x a j k m n size len same all within double whole copies tail items few small long =
     let part = cs ++ rest in
     let near = put_mid m k part ys in
     let end : a + m + n ≡ a + (m + n) = omega arith in
@@ -34,9 +34,9 @@ take_written_behind xs zs cs rest ys more x a j k m n size len same all within d
     let long_ys : length ys ≡ size = ap length items ∙ length-take-le size more long in
     let long_part : length part ≡ j = omega (arith, length-append cs rest) in
     let long_near : length near ≡ j = omega (arith, length-append (take m part) (ys ++ drop k (drop m part)), length-append ys (drop k (drop m part)), length-take-le m part (omega arith), length-drop k (drop m part), length-drop m part) in
-    let front : take m part ≡ replicate m x = ap (λ ds. take m (ds ++ rest)) copies ∙ take-append-le m (replicate size x) rest (omega (arith, length-replicate size x)) ∙ take-replicate m size x few in
+    let prefix : take m part ≡ replicate m x = ap (λ ds. take m (ds ++ rest)) copies ∙ take-append-le m (replicate size x) rest (omega (arith, length-replicate size x)) ∙ take-replicate m size x few in
     let back : take n ys ≡ take n more = ap (take n) items ∙ take-take n size more small in
     ap (λ i. take i (take len (put_mid a j zs near ++ drop (length (put_mid a j zs near)) xs))) end
     ∙ take_written xs zs near a j (m + n) len same all within long_near (omega arith)
-    ∙ ap (λ bs. take a xs ++ bs) (front_put m k n part ys (omega arith) (omega arith) ∙ ap₂ (λ fs bs. fs ++ bs) front back)
+    ∙ ap (λ bs. take a xs ++ bs) (prefix_put m k n part ys (omega arith) (omega arith) ∙ ap₂ (λ fs bs. fs ++ bs) prefix back)
     ∙ sym (append_assoc (take a xs) (replicate m x) (take n more))

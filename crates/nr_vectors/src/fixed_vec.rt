@@ -18,7 +18,7 @@ const CHUNK: usize = 8;
 ///
 /// Proved: Each call of a vector whose capacity is taken once is one equation of lists, and keeps its capacity.
 pub struct FixedVec<T: Copy> {
-    // The items stand at the front. What lies after them is of no account.
+    // The items stand at the beginning. What lies after them is of no account.
     slots: ReservedVec<T>,
     len: usize,
     capacity: usize,
@@ -152,8 +152,8 @@ impl<T: Copy> FixedVec<T> {
     /// Adds the first n of these items. A few more are copied than are added where there are places for them on both sides,
     /// as a copy of a fixed length is the cheapest.
     #[inline(always)]
-    pub fn extend_front(&mut self, more: &[T], n: usize)
-        requires front { n ≤ length more.now }
+    pub fn extend_prefix(&mut self, more: &[T], n: usize)
+        requires prefix { n ≤ length more.now }
         requires room { length self.old.items + n ≤ self.old.capacity }
         ensures items { self.new.items ≡ self.old.items ++ take n more.now }
         ensures room { self.new.capacity ≡ self.old.capacity }
@@ -168,7 +168,7 @@ impl<T: Copy> FixedVec<T> {
         self.extend(&more[..n]);
     }
 
-    /// Adds n copies of an item. A few more are written than are added where there are places for them, as with `extend_front`.
+    /// Adds n copies of an item. A few more are written than are added where there are places for them, as with `extend_prefix`.
     #[inline(always)]
     pub fn extend_copies(&mut self, item: T, n: usize)
         requires { length self.old.items + n ≤ self.old.capacity }
@@ -189,10 +189,10 @@ impl<T: Copy> FixedVec<T> {
     }
 
     /// Adds copies of an item, and after them the first n of these items. A few more of both are written than are added where
-    /// there are places for them, as with `extend_front`.
+    /// there are places for them, as with `extend_prefix`.
     #[inline(always)]
     pub fn extend_after_copies(&mut self, item: T, copies: usize, more: &[T], n: usize)
-        requires front { n ≤ length more.now }
+        requires prefix { n ≤ length more.now }
         requires room { length self.old.items + copies + n ≤ self.old.capacity }
         ensures items { self.new.items ≡ self.old.items ++ replicate copies item ++ take n more.now }
         ensures room { self.new.capacity ≡ self.old.capacity }
@@ -268,7 +268,7 @@ fn fit<T: Copy>(slots: &mut ReservedVec<T>, len: usize, end: usize, more: &[T])
     requires end { end ≡ len + length more.now }
     requires asked { end ≤ slots.old.capacity }
     requires held { length slots.old.items ≤ slots.old.capacity }
-    ensures front { take len slots.new.items ≡ take len slots.old.items }
+    ensures prefix { take len slots.new.items ≡ take len slots.old.items }
     ensures least { end ≤ length slots.new.items }
     ensures held { length slots.new.items ≤ slots.new.capacity }
     ensures room { slots.new.capacity ≡ slots.old.capacity }

@@ -158,8 +158,8 @@ impl<'a, T: Copy> SliceVec<'a, T> {
     /// Adds the first n of these items. A few more are copied than are added where there is room on
     /// both sides, as a copy of a fixed length is the cheapest.
     #[inline]
-    pub fn extend_front(&mut self, more: &[T], n: usize)
-        requires front { n ≤ length more.now }
+    pub fn extend_prefix(&mut self, more: &[T], n: usize)
+        requires prefix { n ≤ length more.now }
         requires room { length self.old.items + n ≤ self.old.capacity }
         ensures items { self.new.items ≡ self.old.items ++ take n more.now }
         ensures room { self.new.capacity ≡ self.old.capacity }
@@ -173,7 +173,7 @@ impl<'a, T: Copy> SliceVec<'a, T> {
         self.extend(&more[..n]);
     }
 
-    /// Adds n copies of an item. A few more are written than are added where there is room, as with `extend_front`.
+    /// Adds n copies of an item. A few more are written than are added where there is room, as with `extend_prefix`.
     #[inline]
     pub fn extend_copies(&mut self, item: T, n: usize)
         requires { length self.old.items + n ≤ self.old.capacity }
@@ -220,7 +220,7 @@ impl<'a, T: Copy> SliceVec<'a, T> {
 
     /// Takes the first n items away.
     #[inline]
-    pub fn remove_front(&mut self, n: usize)
+    pub fn remove_prefix(&mut self, n: usize)
         requires { n ≤ length self.old.items }
         ensures items { self.new.items ≡ drop n self.old.items }
         ensures room { self.new.capacity ≡ self.old.capacity }

@@ -2,7 +2,7 @@
 use Rattle.std.proofs.Common.{◌≡◌, ℕ, List, [], ◌++◌, Bool, true, false, Option, Some, None, refl, sym, ap, subst, ◌∙◌, append-nil, inl, inr, codes}
 use Rattle.std.specs.Borrow.{Bor}
 use Rattle.std.proofs.KnownBytes.{Appends-trans}
-use Rattle.nr_units.proofs.Fronts.{AppendsFront-after}
+use Rattle.nr_units.proofs.Prefixes.{AppendsPrefix-after}
 use Rattle.nr_units.specs.Failures.{SinkFailures, put_counted_if}
 use Rattle.nr_units.specs.Source.{Supply, reader_supply}
 use Rattle.preconv_coding.specs.UnderCoding as coding
@@ -56,7 +56,7 @@ by_end false says counts wants name left last held between new count outcomes.Do
   first = came says left last ran.bytes ran.came;
   end = codes "\n";
   may_end = inr refl;
-  went_out = inl (AppendsFront-after held between new (says true ran.bytes) (codes "\n") ran.went_out puts);
+  went_out = inl (AppendsPrefix-after held between new (says true ran.bytes) (codes "\n") ran.went_out puts);
 }
 by_end fine says counts wants name left last held between new count (outcomes.ReadFault at) ran puts = (
   refl,

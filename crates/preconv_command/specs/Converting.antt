@@ -2,7 +2,7 @@
 use Rattle.std.specs.Prelude.{◌≡◌, ℕ, List, [], drop, get_or, Bool, true, false, Option, None, Some, Result, Ok, Err, codes}
 use Rattle.std.specs.Borrow.{Bor}
 use Rattle.std.specs.Io.KnownBytes.{Appends}
-use Rattle.nr_units.specs.Sink.{AppendsFront}
+use Rattle.nr_units.specs.Sink.{AppendsPrefix}
 use Rattle.preconv_coding.specs.UnderCoding as coding
 use Rattle.preconv_converter.specs.Reading.{converted, fed, first_reader}
 use Rattle.preconv_converter.specs.declared.target.Target.{Target}
@@ -84,7 +84,7 @@ ending_of fine name outcomes.WriteFault = WriteFault
 -- what went out at the end
 abbrev pub PutsEnd : Bool → Outcome → Option (List ℕ) → Option (List ℕ) → Type 0
 PutsEnd true outcomes.Done held new = EndsLine held new
-PutsEnd false outcomes.Done held new = AppendsFront held new (codes "\n")
+PutsEnd false outcomes.Done held new = AppendsPrefix held new (codes "\n")
 PutsEnd fine (outcomes.ReadFault at) held new = new ≡ held
 PutsEnd fine outcomes.TooLong held new = new ≡ held
 PutsEnd fine outcomes.WriteFault held new = new ≡ held

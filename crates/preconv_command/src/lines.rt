@@ -1,7 +1,7 @@
 // A sink that knows whether a line is open.
 ghost use Rattle.std.specs.Prelude.{◌≡◌, OnOk, OnErr, codes};
 ghost use Rattle.nr_units.specs.Failures.{put_counted};
-ghost use Rattle.nr_units.specs.Sink.{AppendsFront};
+ghost use Rattle.nr_units.specs.Sink.{AppendsPrefix};
 ghost use Rattle.preconv_command.specs.Converting.{EndsLine};
 
 use nr_units::sink::Sink;
@@ -19,7 +19,7 @@ impl<W: Sink> Lines<W> {
     /// A line that is open is ended.
     pub fn end_line(&mut self) -> Result<(), Fault>
         ensures ok { OnOk result (EndsLine (W.held self.old.output) (W.held self.new.output)) }
-        ensures err { OnErr result (AppendsFront (W.held self.old.output) (W.held self.new.output) (codes "\n")) }
+        ensures err { OnErr result (AppendsPrefix (W.held self.old.output) (W.held self.new.output) (codes "\n")) }
         ensures failures { W.failures self.new.output ≡ put_counted (W.failures self.old.output) result }
     {
         if self.open {

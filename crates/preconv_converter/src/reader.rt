@@ -373,7 +373,7 @@ impl Reader {
             return Taken { count: 1, steps: 3 };
         }
         if self.pass_comment(bytes) {
-            out.extend_front(bytes, 3);
+            out.extend_prefix(bytes, 3);
             return Taken { count: 3, steps: 4 };
         }
         let len = self.pass_name(bytes);
@@ -406,7 +406,7 @@ impl Reader {
         }
         let run = self.pass(bytes);
         if run > 0 {
-            out.extend_front(bytes, run);
+            out.extend_prefix(bytes, run);
             return Taken {
                 count: run,
                 steps: run as u64,
@@ -414,7 +414,7 @@ impl Reader {
         }
         let control = self.pass_control(bytes);
         if control > 0 {
-            out.extend_front(bytes, control);
+            out.extend_prefix(bytes, control);
             return Taken {
                 count: control,
                 steps: control as u64 + 1,

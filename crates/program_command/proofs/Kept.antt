@@ -2,7 +2,7 @@
 use Rattle.std.proofs.Common.{◌≡◌, ℕ, List, [], Bool, true, false, Option, None, Some, Result, Ok, Err, IfOk, IfErr, ◌⊎◌, inl, inr, refl, sym, subst}
 use Rattle.std.specs.Io.KnownBytes.{Keeps}
 use Rattle.std.proofs.KnownBytes.{Appends-kept}
-use Rattle.nr_units.specs.Sink.{AppendsFront}
+use Rattle.nr_units.specs.Sink.{AppendsPrefix}
 use Rattle.nr_units.specs.Source.{Supply}
 use Rattle.document_printing.specs.Document.{Setting}
 use Rattle.document_printing.specs.Showing.{IsShown, Shows, document}
@@ -35,8 +35,8 @@ Keeps-trans (Some x) (Some y) (Some z) p q = rw q p
 pub Keeps-same : {S : Type 0} → (held : S → Option (List ℕ)) (a b : S) → b ≡ a → Keeps (held a) (held b)
 Keeps-same {S} held a b same = subst (λ (s : S). Keeps (held a) (held s)) (sym same) (Keeps-refl (held a))
 
-AppendsFront-kept : (a b c : Option (List ℕ)) (bs : List ℕ) → AppendsFront a b bs → Keeps b c → AppendsFront a c bs
-AppendsFront-kept a b c bs (front, rest, is, grown) q = (front, rest, is, Appends-kept a b c front grown q)
+AppendsPrefix-kept : (a b c : Option (List ℕ)) (bs : List ℕ) → AppendsPrefix a b bs → Keeps b c → AppendsPrefix a c bs
+AppendsPrefix-kept a b c bs (front, rest, is, grown) q = (front, rest, is, Appends-kept a b c front grown q)
 
 IsShown-kept : (s : Setting) (spelling : Spelling) (source : Supply) (n : ℕ) (ended : machine.Outcome) (a b c : Option (List ℕ))
     → IsShown s spelling source n ended a b → Keeps b c → IsShown s spelling source n ended a c
@@ -50,12 +50,12 @@ pub Shows-kept : (s : Setting) (spelling : Spelling) (source : Supply) (n : ℕ)
 Shows-kept s spelling source n Done a b c shows q = IsShown-kept s spelling source n _ a b c shows q
 Shows-kept s spelling source n (Limit which at) a b c shows q = IsShown-kept s spelling source n _ a b c shows q
 Shows-kept s spelling source n NoRoom a b c (sets, grown) q = (sets, Appends-kept a b c _ grown q)
-Shows-kept s spelling source n ReadFault a b c shows q = AppendsFront-kept a b c _ shows q
-Shows-kept s spelling source n TooLong a b c shows q = AppendsFront-kept a b c _ shows q
+Shows-kept s spelling source n ReadFault a b c shows q = AppendsPrefix-kept a b c _ shows q
+Shows-kept s spelling source n TooLong a b c shows q = AppendsPrefix-kept a b c _ shows q
 Shows-kept s spelling source n WriteFault a b c shows q = record {
   made = shows.made;
   few = shows.few;
-  front = AppendsFront-kept a b c _ shows.front q;
+  front = AppendsPrefix-kept a b c _ shows.front q;
 }
 
 ShowsBy-kept : (needs : Bool) (plan : Plan) (first : List ℕ) (given : Given) (page : Supply) (report : Report) (a b c : Option (List ℕ))

@@ -2,7 +2,7 @@
 ghost use Rattle.std.specs.Prelude.{◌≡◌, ◌++◌, OnOk, OnErr};
 ghost use Rattle.std.specs.Io.KnownBytes.{Appends};
 ghost use Rattle.nr_units.specs.Failures.{put_counted};
-ghost use Rattle.nr_units.specs.Sink.{AppendsFront};
+ghost use Rattle.nr_units.specs.Sink.{AppendsPrefix};
 ghost use Rattle.program_options.specs.Usage.{end_of, front_of, goes_on, option_text, usage_text, word_text};
 
 use nr_units::sink::Sink;
@@ -41,7 +41,7 @@ pub fn usage_line<W: Sink>(usage: &Usage<'_>, errors: &mut W) -> Result<(), Faul
     ensures ok { OnOk result
         (Appends (W.held errors.old) (W.held errors.new) (usage_text usage.now.case usage.now.word.now)) }
     ensures err { OnErr result
-        (AppendsFront (W.held errors.old) (W.held errors.new)
+        (AppendsPrefix (W.held errors.old) (W.held errors.new)
         (usage_text usage.now.case usage.now.word.now)) }
     ensures failures { W.failures errors.new ≡ put_counted (W.failures errors.old) result }
 {
@@ -87,7 +87,7 @@ fn put_parts<W: Sink>(front: &[u8], middle: &[u8], back: &[u8], errors: &mut W) 
     ensures ok { OnOk result
         (Appends (W.held errors.old) (W.held errors.new) (front.now ++ middle.now ++ back.now)) }
     ensures err { OnErr result
-        (AppendsFront (W.held errors.old) (W.held errors.new) (front.now ++ middle.now ++ back.now)) }
+        (AppendsPrefix (W.held errors.old) (W.held errors.new) (front.now ++ middle.now ++ back.now)) }
     ensures failures { W.failures errors.new ≡ put_counted (W.failures errors.old) result }
 {
     errors.put(front)?;

@@ -3,7 +3,7 @@ use Rattle.std.proofs.Common.{◌≡◌, ℕ, List, [], ◌++◌, Bool, true, fa
 use Rattle.nr_vectors.specs.Items.{Items}
 use Rattle.nr_units.specs.Source.{Supply, reader_supply}
 use Rattle.nr_units.specs.Failures.{SinkFailures, put_counted_if}
-use Rattle.nr_units.specs.Sink.{AppendsFront}
+use Rattle.nr_units.specs.Sink.{AppendsPrefix}
 use Rattle.tbl_reader.specs.Running as reading
 use Rattle.tbl_reader.specs.Telling.{Piece}
 use Rattle.tbl_reader.specs.declared.complaint.Complaint.{Complaint}
@@ -29,7 +29,7 @@ came_all b (Some all) (Some t) bytes comes ends = sym (comes ∙ ap (λ (l : Lis
 
 either : (begun whole : List ℕ) (some all : List Piece) (t : Setting) (held new : Option (List ℕ)) (kept : Items Complaint) (missed uneven : Bool)
     → PutsFront begun some t held new kept missed uneven ⊎ PutsFront whole all t held new kept missed uneven
-    → AppendsFront held new (whole ++ []) ⊎ AppendsFront held new begun
+    → AppendsPrefix held new (whole ++ []) ⊎ AppendsPrefix held new begun
 either begun whole some all t held new kept missed uneven (inl p) = inr p.went_out
 either begun whole some all t held new kept missed uneven (inr p) = inl (rw (append-nil whole) p.went_out)
 

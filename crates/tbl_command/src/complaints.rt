@@ -3,7 +3,7 @@ ghost use Rattle.std.specs.Prelude.{◌≡◌, ◌∷◌, [], OnOk, OnErr, codes
 ghost use Rattle.std.specs.Io.KnownBytes.{Appends};
 ghost use Rattle.std.specs.List.{concat, flat_map};
 ghost use Rattle.nr_units.specs.Failures.{put_counted};
-ghost use Rattle.nr_units.specs.Sink.{AppendsFront};
+ghost use Rattle.nr_units.specs.Sink.{AppendsPrefix};
 ghost use Rattle.filters.specs.Endings.{Tells};
 ghost use Rattle.tbl_command.specs.Complaints as specs;
 
@@ -70,7 +70,7 @@ fn named_by(kind: Kind) -> Name
 fn put_place<E: Sink>(program: &str, name: &str, line: &str, errors: &mut E) -> Result<(), Fault>
     ensures ok { OnOk result (Appends (E.held errors.old) (E.held errors.new)
         (specs.place_text program.now name.now line.now)) }
-    ensures err { OnErr result (AppendsFront (E.held errors.old) (E.held errors.new)
+    ensures err { OnErr result (AppendsPrefix (E.held errors.old) (E.held errors.new)
         (specs.place_text program.now name.now line.now)) }
     ensures failures { E.failures errors.new ≡ put_counted (E.failures errors.old) result }
 {
@@ -89,7 +89,7 @@ fn put_place<E: Sink>(program: &str, name: &str, line: &str, errors: &mut E) -> 
 fn put_rest<E: Sink>(words: &[u8], named: Name, errors: &mut E) -> Result<(), Fault>
     ensures ok { OnOk result (Appends (E.held errors.old) (E.held errors.new)
         (concat (words.now ∷ named ∷ codes "\n" ∷ []))) }
-    ensures err { OnErr result (AppendsFront (E.held errors.old) (E.held errors.new)
+    ensures err { OnErr result (AppendsPrefix (E.held errors.old) (E.held errors.new)
         (concat (words.now ∷ named ∷ codes "\n" ∷ []))) }
     ensures failures { E.failures errors.new ≡ put_counted (E.failures errors.old) result }
 {
@@ -105,7 +105,7 @@ fn put_complaint<E: Sink>(
 ) -> Result<(), Fault>
     ensures ok { OnOk result (Appends (E.held errors.old) (E.held errors.new)
         (specs.complaint_line program.now name.now complaint)) }
-    ensures err { OnErr result (AppendsFront (E.held errors.old) (E.held errors.new)
+    ensures err { OnErr result (AppendsPrefix (E.held errors.old) (E.held errors.new)
         (specs.complaint_line program.now name.now complaint)) }
     ensures failures { E.failures errors.new ≡ put_counted (E.failures errors.old) result }
 {
@@ -124,7 +124,7 @@ fn put_complaints<E: Sink>(
 ) -> Result<(), Fault>
     ensures ok { OnOk result (Appends (E.held errors.old) (E.held errors.new)
         (flat_map (specs.complaint_line program.now name.now) complaints.now)) }
-    ensures err { OnErr result (AppendsFront (E.held errors.old) (E.held errors.new)
+    ensures err { OnErr result (AppendsPrefix (E.held errors.old) (E.held errors.new)
         (flat_map (specs.complaint_line program.now name.now) complaints.now)) }
     ensures failures { E.failures errors.new ≡ put_counted (E.failures errors.old) result }
 {
@@ -144,7 +144,7 @@ fn put_if<E: Sink>(
 ) -> Result<(), Fault>
     ensures ok { OnOk result (Appends (E.held errors.old) (E.held errors.new)
         (specs.line_if said program.now name.now what.now)) }
-    ensures err { OnErr result (AppendsFront (E.held errors.old) (E.held errors.new)
+    ensures err { OnErr result (AppendsPrefix (E.held errors.old) (E.held errors.new)
         (specs.line_if said program.now name.now what.now)) }
     ensures failures { E.failures errors.new ≡ put_counted (E.failures errors.old) result }
 {
@@ -164,7 +164,7 @@ fn put_report<E: Sink>(
 ) -> Result<(), Fault>
     ensures ok { OnOk result (Appends (E.held errors.old) (E.held errors.new)
         (specs.report_lines program.now name.now report.missed report.uneven)) }
-    ensures err { OnErr result (AppendsFront (E.held errors.old) (E.held errors.new)
+    ensures err { OnErr result (AppendsPrefix (E.held errors.old) (E.held errors.new)
         (specs.report_lines program.now name.now report.missed report.uneven)) }
     ensures failures { E.failures errors.new ≡ put_counted (E.failures errors.old) result }
 {
@@ -182,7 +182,7 @@ fn put_told<E: Sink>(
 ) -> Result<(), Fault>
     ensures ok { OnOk result (Appends (E.held errors.old) (E.held errors.new)
         (specs.lines_of program.now name.now complaints.now report.missed report.uneven)) }
-    ensures err { OnErr result (AppendsFront (E.held errors.old) (E.held errors.new)
+    ensures err { OnErr result (AppendsPrefix (E.held errors.old) (E.held errors.new)
         (specs.lines_of program.now name.now complaints.now report.missed report.uneven)) }
     ensures failures { E.failures errors.new ≡ put_counted (E.failures errors.old) result }
 {

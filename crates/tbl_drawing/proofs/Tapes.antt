@@ -3,8 +3,8 @@ use Rattle.std.proofs.Common.{◌≡◌, ℕ, Bool, true, false, ◌==◌, ◌||
 use Prim.Native.Char.{code}
 use Rattle.std.proofs.KnownBytes.{Appends-nil, Appends-trans, Appends-kept, Keeps-refl, Keeps-trans}
 use Rattle.nr_units.specs.Failures.{SinkFailures, put_counted_if}
-use Rattle.nr_units.specs.Sink.{AppendsFront}
-use Rattle.nr_units.proofs.Fronts.{AppendsFront-append}
+use Rattle.nr_units.specs.Sink.{AppendsPrefix}
+use Rattle.nr_units.proofs.Prefixes.{AppendsPrefix-append}
 use Rattle.tbl_drawing.specs.declared.pen.Pen.{Pen}
 use Rattle.tbl_drawing.specs.Pens.{Stroke, Release, Guard, Bytes, after, after_all, bytes, bytes_of, guard, lead, released}
 use Rattle.tbl_drawing.specs.Tapes.{Tape, SendsIn, Sends, Draws, failed_since}
@@ -35,8 +35,8 @@ then_in true true true h i j v w x xs ys p q = Keeps-trans h i j p q
 then_in true true false h i j v w x xs ys p q = absurd q
 then_in true false k h i j v w x xs ys p q = absurd p
 then_in false true true h i j v w x xs ys p q =
-    let e = AppendsFront-append h i (v ++ xs) ys p in
-    subst (λ l. AppendsFront h j l) (append_assoc v xs ys) (e.0, e.1, e.2, Appends-kept h i j e.0 e.3 q)
+    let e = AppendsPrefix-append h i (v ++ xs) ys p in
+    subst (λ l. AppendsPrefix h j l) (append_assoc v xs ys) (e.0, e.1, e.2, Appends-kept h i j e.0 e.3 q)
 then_in false true false h i j v w x xs ys p q = absurd q
 then_in false false true h i j v w x xs ys p q =
     (p.0 ++ q.0, q.1, sym (append_assoc v xs ys) ∙ ap (λ l. l ++ ys) p.2 ∙ append_assoc p.0 w ys ∙ ap (λ l. p.0 ++ l) q.2 ∙ sym (append_assoc p.0 q.0 q.1), Appends-trans h i j p.0 q.0 p.1 q.3)

@@ -2,7 +2,7 @@
 use Rattle.std.specs.Prelude.{◌≡◌, ℕ, Bool, true, false, not, ◌&&◌, List, ◌++◌, Option}
 use Rattle.std.specs.Io.KnownBytes.{Appends, Keeps}
 use Rattle.nr_units.specs.Failures.{SinkFailures, put_counted_if}
-use Rattle.nr_units.specs.Sink.{AppendsFront}
+use Rattle.nr_units.specs.Sink.{AppendsPrefix}
 use Rattle.tbl_drawing.specs.declared.pen.Pen.{Pen}
 use Rattle.tbl_drawing.specs.Pens.{Stroke, after_all, bytes_of}
 
@@ -20,7 +20,7 @@ pub record Tape : Type 0 where
 abbrev pub SendsIn : Bool → Bool → Option (List ℕ) → List ℕ → Option (List ℕ) → List ℕ → List ℕ → Type 0
 SendsIn true true held waits now left bytes = Keeps held now
 SendsIn true false held waits now left bytes = ⊥
-SendsIn false true held waits now left bytes = AppendsFront held now (waits ++ bytes)
+SendsIn false true held waits now left bytes = AppendsPrefix held now (waits ++ bytes)
 SendsIn false false held waits now left bytes =
     (out : List ℕ) × Appends held now out × (waits ++ bytes ≡ out ++ left)
 

@@ -5,7 +5,7 @@ use Rattle.std.specs.Io.KnownBytes.{Appends}
 use Rattle.std.proofs.lemmas.Bool.Decides.{nat_tests}
 use Rattle.nr_units.specs.Failures.{SinkFailures, put_counted_if}
 use Rattle.nr_vectors.specs.Items.{Items}
-use Rattle.nr_units.specs.Sink.{AppendsFront}
+use Rattle.nr_units.specs.Sink.{AppendsPrefix}
 use Rattle.nr_units.specs.Source.{Supply}
 use Rattle.tbl_reader.specs.declared.complaint.Complaint.{Complaint}
 use Rattle.tbl_reader.specs.declared.running.Outcome.{Outcome}
@@ -28,7 +28,7 @@ went_out true h now left out sends live empty = absurd (let no : true ≡ false 
 went_out false h now left out sends live empty =
     subst (Appends h now) (sym (sends.2 ∙ ap (λ l. sends.0 ++ l) empty ∙ append-nil sends.0)) sends.1
 
-pub front_out : (f : Bool) (h now : Option (List ℕ)) (left out : List ℕ) → SendsIn false f h [] now left out → AppendsFront h now out
+pub front_out : (f : Bool) (h now : Option (List ℕ)) (left out : List ℕ) → SendsIn false f h [] now left out → AppendsPrefix h now out
 front_out true h now left out sends = sends
 front_out false h now left out sends = (sends.0, left, sends.2, sends.1)
 

@@ -2,7 +2,7 @@
 use Rattle.std.specs.Prelude.{◌≡◌, ℕ, ◌+◌, List, length, Bool, true, false, Option, ◌⊎◌}
 use Rattle.std.specs.Io.KnownBytes.{Appends}
 use Rattle.nr_vectors.specs.Items.{Items}
-use Rattle.nr_units.specs.Sink.{AppendsFront}
+use Rattle.nr_units.specs.Sink.{AppendsPrefix}
 use Rattle.nr_units.specs.Source.{Supply}
 use Rattle.tbl_reader.specs.declared.complaint.Complaint.{Complaint}
 use Rattle.tbl_reader.specs.declared.reader.Limits.{Limits}
@@ -72,7 +72,7 @@ pub record IsCut (b : Bounds) (first last : Option Supply)
 -- a part of these bytes went out, what is wrong with what was said was told, and so were such parts
 pub record PutsFront (out : List ℕ) (said : List Piece) (s : Setting) (held new : Option (List ℕ)) (kept : Items Complaint)
     (missed uneven : Bool) : Type 0 where
-  pub went_out : AppendsFront held new out
+  pub went_out : AppendsPrefix held new out
   pub keeps : Keeps (wrongs said s) kept missed
   pub parts : uneven ≡ (set said s).layout.uneven
 

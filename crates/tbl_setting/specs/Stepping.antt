@@ -2,7 +2,7 @@
 use Rattle.std.specs.Prelude.{◌≡◌, ℕ, List, Bool, true, Option, ◌⊎◌}
 use Rattle.std.specs.Io.KnownBytes.{Appends}
 use Rattle.nr_units.specs.Failures.{SinkFailures, put_counted_if}
-use Rattle.nr_units.specs.Sink.{AppendsFront}
+use Rattle.nr_units.specs.Sink.{AppendsPrefix}
 use Rattle.nr_vectors.specs.Items.{Items}
 use Rattle.tbl_drawing.specs.Pens.{bytes_of, first}
 use Rattle.tbl_reader.specs.declared.complaint.Complaint.{Complaint}
@@ -27,4 +27,4 @@ AreKept kept missed = (all : List Complaint) × Keeps all kept missed
 -- these bytes went out; or a call of the sink failed, and a part of them did
 abbrev pub Sent : List ℕ → Option (List ℕ) → Option (List ℕ) → SinkFailures → SinkFailures → Type 0
 Sent bytes held new before after =
-    (Appends held new bytes × (after ≡ before)) ⊎ (AppendsFront held new bytes × (after ≡ put_counted_if true before))
+    (Appends held new bytes × (after ≡ before)) ⊎ (AppendsPrefix held new bytes × (after ≡ put_counted_if true before))

@@ -3,7 +3,7 @@ use Rattle.std.proofs.Common.{◌≡◌, ◌≢◌, ℕ, List, [], ◌∷◌, �
 use Rattle.std.specs.Borrow.{Bor}
 use Rattle.std.specs.Io.KnownBytes.{Appends}
 use Rattle.nr_units.specs.Failures.{SinkFailures, next_count, no_failures, put_counted_if}
-use Rattle.nr_units.specs.Sink.{AppendsFront}
+use Rattle.nr_units.specs.Sink.{AppendsPrefix}
 use Rattle.nr_units.specs.Source.{Supply, reader_supply}
 use Rattle.nr_units.specs.declared.source.Fault.{Fault}
 use Rattle.utf8_own_characters.specs.Table.{Characters}
@@ -60,8 +60,8 @@ whole t e held new writes writes' inner puts bytes b f =
 
 -- a prefix did
 cut : (t : Characters) (e : Bool) (held new : Option (List ℕ)) (writes writes' : SinkFailures) (inner : Option (List ℕ)) (puts : ℕ) (text : List ℕ)
-    → Between held new writes writes' inner puts → AppendsFront (Some (told_of held writes.flushes held [])) inner text → puts ≡ next_count writes.puts
-    → AppendsFront held new text × (writes' ≡ put_counted_if true writes)
+    → Between held new writes writes' inner puts → AppendsPrefix (Some (told_of held writes.flushes held [])) inner text → puts ≡ next_count writes.puts
+    → AppendsPrefix held new text × (writes' ≡ put_counted_if true writes)
 cut t e held new writes writes' inner puts text b front one =
     let all = b.tells front.0 (inner_is (told_of held writes.flushes held []) inner front.0 front.3) in
     ((front.0, front.1, front.2, all.0), failures_eq writes' writes (next_count writes.puts) (b.puts_are ∙ one) all.1)
@@ -71,7 +71,7 @@ cut t e held new writes writes' inner puts text b front one =
 -- what the end of the sink of UTF-8 tells
 pub record Ended (m : Making) (value : List ℕ) (inner : Option (List ℕ)) (puts failed : ℕ) (end : Result (Unit {0}) Fault) : Type 0 where
   pub shown : (n : Making) → (came : List ℕ) → value ≡ told n came → Finishes n came inner puts end
-  pub broke : (n : Making) → (came more : List ℕ) → value ≡ told n came → failed ≢ 0 → AppendsFront n.begun inner (converted n.table n.escapes (came ++ more))
+  pub broke : (n : Making) → (came more : List ℕ) → value ≡ told n came → failed ≢ 0 → AppendsPrefix n.begun inner (converted n.table n.escapes (came ++ more))
   pub fails : IsOk end → failed ≡ 0
 
 value_is : (m : Making) (value bytes : List ℕ) → value ≡ told m [] ++ bytes → value ≡ told m bytes
@@ -144,7 +144,7 @@ by_end t e name left last held new writes writes' value inner puts failed outcom
     let came_front = p.went_out.0 in
     let some : failed ≢ 0 = λ none. next-some (sym (broken refl) ∙ none) in
     let value_front = value_is m value came_front p.went_out.3 in
-    let front = subst (λ (l : List ℕ). AppendsFront m.begun inner (converted t e l)) (sym p.went_out.2) (ended.broke m came_front p.went_out.1 value_front some) in
+    let front = subst (λ (l : List ℕ). AppendsPrefix m.begun inner (converted t e l)) (sym p.went_out.2) (ended.broke m came_front p.went_out.1 value_front some) in
     let cut_off = ended.shown m came_front value_front in
     let all = cut t e held new writes writes' inner puts (converted t e p.bytes) between front cut_off.one in (
       record {

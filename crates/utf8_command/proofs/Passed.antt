@@ -4,8 +4,8 @@ use Rattle.std.proofs.lemmas.List.{length-append, length-take, take-append-drop,
 use Rattle.std.specs.Io.KnownBytes.{Appends}
 use Rattle.std.proofs.KnownBytes.{Appends-nil, Appends-trans}
 use Rattle.nr_units.specs.Failures.{SinkFailures, put_counted, put_counted_if}
-use Rattle.nr_units.specs.Sink.{AppendsFront}
-use Rattle.nr_units.proofs.Fronts.{AppendsFront-after}
+use Rattle.nr_units.specs.Sink.{AppendsPrefix}
+use Rattle.nr_units.proofs.Prefixes.{AppendsPrefix-after}
 use Rattle.nr_units.specs.Source.{Gives, Offers, Skips, Supply, skipped}
 use Rattle.nr_units.specs.declared.source.Fault.{Fault}
 use Rattle.utf8_converter.specs.Running.{Comes, Ends}
@@ -36,19 +36,19 @@ took-failures n (Ok u) old new is = is
 took-failures n (Err e) old new is = is
 
 took-put : (a b : Option Supply) (xs : List ℕ) (h i : Option (List ℕ)) (n most : ℕ) (x : Result (Unit {0}) Fault) → Comes a xs b → length xs ≡ n
-    → 0 < n → n ≤ most → OnOk x (Appends h i xs) → OnErr x (AppendsFront h i xs) → Turns a b h i most (took n x)
+    → 0 < n → n ≤ most → OnOk x (Appends h i xs) → OnErr x (AppendsPrefix h i xs) → Turns a b h i most (took n x)
 took-put a b xs h i n most (Ok u) came count some few ok err = record { bytes = xs; came = came; count = count; some = some; few = few; went_out = ok }
 took-put a b xs h i n most (Err e) came count some few ok err = record { bytes = xs; came = came; went_out = err }
 
 -- those at hand came
 pub at-hand : (a b : Option Supply) (window : List ℕ) (h i : Option (List ℕ)) (n most : ℕ) (x : Result (Unit {0}) Fault) → n ≤ length window → n ≤ most
-    → 0 < n → Offers a window → Skips a n b → OnOk x (Appends h i (take n window)) → OnErr x (AppendsFront h i (take n window)) → Turns a b h i most (took n x)
+    → 0 < n → Offers a window → Skips a n b → OnOk x (Appends h i (take n window)) → OnErr x (AppendsPrefix h i (take n window)) → Turns a b h i most (took n x)
 at-hand a b window h i n most x within small some offers skips ok err =
     took-put a b (take n window) h i n most x (Comes-skip a b window n within offers skips) (omega (arith, length-take n window, within)) some small ok err
 
 -- the next byte came
 pub by-byte : (a b : Option Supply) (byte : ℕ) (h i : Option (List ℕ)) (most : ℕ) (x : Result (Unit {0}) Fault) → Gives {E = Fault} a (Ok (Some byte)) b
-    → 0 < most → OnOk x (Appends h i (byte ∷ [])) → OnErr x (AppendsFront h i (byte ∷ [])) → Turns a b h i most (took 1 x)
+    → 0 < most → OnOk x (Appends h i (byte ∷ [])) → OnErr x (AppendsPrefix h i (byte ∷ [])) → Turns a b h i most (took 1 x)
 by-byte a b byte h i most x gives room ok err =
     took-put a b (byte ∷ []) h i 1 most x (Comes-next a b byte gives) refl (omega arith) (omega (arith, room)) ok err
 
@@ -88,7 +88,7 @@ pub is-broken : (first mid last : Option Supply) (h i j : Option (List ℕ)) (ta
 is-broken first mid last h i j taken s b = record {
   bytes = s.bytes ++ b.bytes;
   came = Comes-trans first mid last s.bytes b.bytes s.came b.came;
-  went_out = AppendsFront-after h i j s.bytes b.bytes s.went_out b.went_out;
+  went_out = AppendsPrefix-after h i j s.bytes b.bytes s.went_out b.went_out;
 }
 
 pub is-done : (first mid last : Option Supply) (h i j : Option (List ℕ)) (taken : ℕ) → Stands first mid h i taken → Waits mid last i j × Ends mid last

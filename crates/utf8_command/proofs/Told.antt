@@ -1,7 +1,7 @@
 -- What a sink tells that is not flushed.
 use Rattle.std.proofs.Common.{◌≡◌, ℕ, List, [], ◌∷◌, ◌++◌, Bool, true, false, Option, Some, None, Result, Ok, Err, OnErr, is_some, refl, sym, ap, ◌∙◌, append-nil}
 use Rattle.std.specs.Io.KnownBytes.{Appends}
-use Rattle.nr_units.specs.Sink.{AppendsFront}
+use Rattle.nr_units.specs.Sink.{AppendsPrefix}
 use Rattle.utf8_command.specs.Unflushed.{told_of}
 
 pair_eq : (k a b : ℕ) (xs ys : List ℕ) → a ≡ b → xs ≡ ys → k ∷ a ∷ xs ≡ k ∷ b ∷ ys
@@ -17,7 +17,7 @@ put-told (Some f) (Some x) None n n' came came' bytes same more known appends = 
 put-told (Some f) (Some x) (Some y) n n' came came' bytes same more known appends = pair_eq 1 n' n y (x ++ bytes) same appends
 
 pub put-front : (first held held' : Option (List ℕ)) (n n' : ℕ) (came bytes : List ℕ) → n' ≡ n → (is_some first ≡ true → is_some held ≡ true)
-    → AppendsFront held held' bytes → AppendsFront (Some (told_of first n held came)) (Some (told_of first n' held' came)) bytes
+    → AppendsPrefix held held' bytes → AppendsPrefix (Some (told_of first n held came)) (Some (told_of first n' held' came)) bytes
 put-front None held held' n n' came bytes same known front =
     ([], bytes, refl, pair_eq 0 n' n came (came ++ []) same (sym (append-nil came)))
 put-front (Some f) held held' n n' came bytes same known front =

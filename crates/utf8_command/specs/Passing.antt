@@ -1,7 +1,7 @@
 -- A text goes into a sink as it is.
 use Rattle.std.specs.Prelude.{◌≡◌, ℕ, ◌<◌, ◌≤◌, List, [], length, Bool, true, false, Option, Result, Ok, Err}
 use Rattle.std.specs.Io.KnownBytes.{Appends}
-use Rattle.nr_units.specs.Sink.{AppendsFront}
+use Rattle.nr_units.specs.Sink.{AppendsPrefix}
 use Rattle.nr_units.specs.Source.{Supply}
 use Rattle.utf8_converter.specs.Running.{Comes, Ends}
 use Rattle.utf8_converter.specs.declared.running.Outcome.{Outcome}
@@ -24,7 +24,7 @@ pub record Took (old new : Option Supply) (held held' : Option (List ℕ)) (n mo
 pub record Broke (old new : Option Supply) (held held' : Option (List ℕ)) : Type 0 where
   pub bytes : List ℕ
   pub came : Comes old bytes new
-  pub went_out : AppendsFront held held' bytes
+  pub went_out : AppendsPrefix held held' bytes
 
 -- none came, and none went out
 pub record Waits (old new : Option Supply) (held held' : Option (List ℕ)) : Type 0 where

@@ -4,7 +4,7 @@ use Rattle.std.proofs.Math.Logic.{∥∥₁_elim}
 use Rattle.std.proofs.Props.{props}
 use Rattle.std.specs.Io.KnownBytes.{Appends}
 use Rattle.nr_units.specs.Failures.{SinkFailures, next_count, put_counted}
-use Rattle.nr_units.specs.Sink.{AppendsFront}
+use Rattle.nr_units.specs.Sink.{AppendsPrefix}
 use Rattle.nr_units.specs.declared.source.Fault.{Fault}
 use Rattle.utf8_characters.specs.declared.table.Table.{Table}
 use Rattle.utf8_characters.specs.declared.table.Table.TheVariants.{English, Latin, Cyrillic, Greek, Latin1}
@@ -77,13 +77,13 @@ Shown-whole m came a b f g r p i n st went same count =
       none = same ∙ st.none;
     }
 
-pub Shown-cut : (m : Making) (came : List ℕ) (a b : Option (List ℕ)) (f g : ℕ) (r : Reader) (p : List ℕ) (i : ℕ) → Ready m came a f r p i → AppendsFront a b (p ++ (ended r).bytes) → g ≡ next_count f
+pub Shown-cut : (m : Making) (came : List ℕ) (a b : Option (List ℕ)) (f g : ℕ) (r : Reader) (p : List ℕ) (i : ℕ) → Ready m came a f r p i → AppendsPrefix a b (p ++ (ended r).bytes) → g ≡ next_count f
     → IsCutOff m came b g
 Shown-cut m came a b f g r p i st front one =
     let first = first_reader m.table m.escapes in
     let F = fed first came in
     let whole : F.bytes ++ (ended r).bytes ≡ converted m.table m.escapes came = ap (λ (xs : List ℕ). F.bytes ++ xs) st.rest ∙ sym (converted-fed m.table m.escapes came) in
-    let P : List ℕ → Type 0 = λ xs. AppendsFront m.begun b xs in
+    let P : List ℕ → Type 0 = λ xs. AppendsPrefix m.begun b xs in
     record {
       went_out = subst P whole (Fronts-Appends m.begun b (F.bytes ++ (ended r).bytes) (Fronts-of m.begun a b p F.bytes (ended r).bytes st.out front));
       one = one ∙ ap next_count st.none;
@@ -93,7 +93,7 @@ pub Shown-broke : (m : Making) (came : List ℕ) (a : Option (List ℕ)) (f : �
 Shown-broke m came a f br =
     let first = first_reader m.table m.escapes in
     let F = fed first came in
-    let P : List ℕ → Type 0 = λ xs. AppendsFront m.begun a xs in
+    let P : List ℕ → Type 0 = λ xs. AppendsPrefix m.begun a xs in
     record {
       went_out = subst P (sym (converted-fed m.table m.escapes came)) (Fronts-Appends m.begun a (F.bytes ++ (ended F.reader).bytes) (Fronts-more m.begun a F.bytes (ended F.reader).bytes br.out));
       one = br.one;
@@ -168,7 +168,7 @@ same-making m n xs ys e =
 -- ---- the answers
 
 -- it got a front of what more bytes come to
-pub broke-more : (m : Making) (came more : List ℕ) (a : Option (List ℕ)) (f : ℕ) → Broke m came a f → AppendsFront m.begun a (converted m.table m.escapes (came ++ more))
+pub broke-more : (m : Making) (came more : List ℕ) (a : Option (List ℕ)) (f : ℕ) → Broke m came a f → AppendsPrefix m.begun a (converted m.table m.escapes (came ++ more))
 broke-more m came more a f br = let cut = Shown-broke m (came ++ more) a f (Broke-more m came more a f br) in cut.went_out
 
 pub ends-broken : (z : Bool) (m n : Making) (came more value : List ℕ) (a : Option (List ℕ)) (f : ℕ) (r : Reader) (p : List ℕ) (i : ℕ) → z ≡ true → ∥ StandsOr z m came a f r p i ∥₁
@@ -181,12 +181,12 @@ ends-broken true m n came more value a f r p i broken st is says =
     subst P same.making (subst Q same.rest (Shown-broke m came a f (broke m came a f st)))
 
 pub ends-short : (z : Bool) (m n : Making) (came front more value : List ℕ) (a : Option (List ℕ)) (f : ℕ) (r : Reader) (p : List ℕ) (i : ℕ) → z ≡ true → ∥ StandsOr z m came a f r p i ∥₁
-    → made_of m ++ came ≡ value → value ≡ made_of n ++ front → AppendsFront n.begun a (converted n.table n.escapes (front ++ more))
+    → made_of m ++ came ≡ value → value ≡ made_of n ++ front → AppendsPrefix n.begun a (converted n.table n.escapes (front ++ more))
 ends-short false m n came front more value a f r p i broken st is says = absurd (let never : false ≡ true = broken in cc)
 ends-short true m n came front more value a f r p i broken st is says =
     let same = same-making m n came front (is ∙ says) in
-    let P : Making → Type 0 = λ x. AppendsFront x.begun a (converted x.table x.escapes (front ++ more)) in
-    let Q : List ℕ → Type 0 = λ xs. AppendsFront m.begun a (converted m.table m.escapes (xs ++ more)) in
+    let P : Making → Type 0 = λ x. AppendsPrefix x.begun a (converted x.table x.escapes (front ++ more)) in
+    let Q : List ℕ → Type 0 = λ xs. AppendsPrefix m.begun a (converted m.table m.escapes (xs ++ more)) in
     subst P same.making (subst Q same.rest (broke-more m came more a f (broke m came a f st)))
 
 finishes : (m : Making) (came : List ℕ) (a b : Option (List ℕ)) (f g : SinkFailures) (r : Reader) (p : List ℕ) (i : ℕ) (x : Result ℕ Fault) → Ready m came a f.puts r p i

@@ -8,9 +8,9 @@ use Rattle.std.proofs.KnownBytes.{Appends-trans, Appends-nil}
 use Rattle.std.proofs.lemmas.List.{length-take, take-append-drop, take-append-le, take_all}
 use Rattle.std.proofs.Math.Seq.{take-append-add}
 use Rattle.nr_units.specs.Failures.{SinkFailures, next_count, put_counted}
-use Rattle.nr_units.specs.Sink.{AppendsFront}
+use Rattle.nr_units.specs.Sink.{AppendsPrefix}
 use Rattle.nr_units.specs.declared.source.Fault.{Fault}
-use Rattle.nr_units.proofs.Fronts.{AppendsFront-append, AppendsFront-after}
+use Rattle.nr_units.proofs.Prefixes.{AppendsPrefix-append, AppendsPrefix-after}
 use Rattle.utf8_characters.specs.declared.table.Table.{Table}
 use Rattle.utf8_characters.specs.declared.table.Table.TheVariants.{English, Latin, Cyrillic, Greek, Latin1}
 use Rattle.utf8_converter.specs.declared.reader.Reader.{Reader}
@@ -33,10 +33,10 @@ Flushes-then a b c p left end g f h = record {
   all = ap (λ (xs : List ℕ). xs ++ g) f.all ∙ append_assoc f.out left g ∙ ap (λ (xs : List ℕ). f.out ++ xs) h.all ∙ sym (append_assoc f.out h.out end);
 }
 
-pub Fronts-then : (a b c : Option (List ℕ)) (p left g : List ℕ) → Flushes a b p left → AppendsFront b c (left ++ g) → AppendsFront a c (p ++ g)
+pub Fronts-then : (a b c : Option (List ℕ)) (p left g : List ℕ) → Flushes a b p left → AppendsPrefix b c (left ++ g) → AppendsPrefix a c (p ++ g)
 Fronts-then a b c p left g f front =
-    let P : List ℕ → Type 0 = λ xs. AppendsFront a c xs in
-    subst P (sym (append_assoc f.out left g) ∙ ap (λ (xs : List ℕ). xs ++ g) (sym f.all)) (AppendsFront-after a b c f.out (left ++ g) f.went_out front)
+    let P : List ℕ → Type 0 = λ xs. AppendsPrefix a c xs in
+    subst P (sym (append_assoc f.out left g) ∙ ap (λ (xs : List ℕ). xs ++ g) (sym f.all)) (AppendsPrefix-after a b c f.out (left ++ g) f.went_out front)
 
 -- ---- counts that stop
 
@@ -112,31 +112,31 @@ Reads-byte a c r q s p left i j k bs old room end some same fills out count =
     }
 
 -- a front of what these bytes come to is one of what more come to
-pub Front-more : (a b : Option (List ℕ)) (r : Reader) (p : List ℕ) (n : ℕ) (bytes : List ℕ) → AppendsFront a b (p ++ (fed r (take n bytes)).bytes) → AppendsFront a b (p ++ (fed r bytes).bytes)
+pub Front-more : (a b : Option (List ℕ)) (r : Reader) (p : List ℕ) (n : ℕ) (bytes : List ℕ) → AppendsPrefix a b (p ++ (fed r (take n bytes)).bytes) → AppendsPrefix a b (p ++ (fed r bytes).bytes)
 Front-more a b r p n bytes front =
     let rest = (fed (fed r (take n bytes)).reader (drop n bytes)).bytes in
     let whole : (fed r (take n bytes)).bytes ++ rest ≡ (fed r bytes).bytes =
     sym (fed-append_bytes r (take n bytes) (drop n bytes)) ∙ ap (λ (xs : List ℕ). (fed r xs).bytes) (take-append-drop n bytes) in
-    let P : List ℕ → Type 0 = λ xs. AppendsFront a b xs in
-    subst P (append_assoc p (fed r (take n bytes)).bytes rest ∙ ap (λ (xs : List ℕ). p ++ xs) whole) (AppendsFront-append a b (p ++ (fed r (take n bytes)).bytes) rest front)
+    let P : List ℕ → Type 0 = λ xs. AppendsPrefix a b xs in
+    subst P (append_assoc p (fed r (take n bytes)).bytes rest ∙ ap (λ (xs : List ℕ). p ++ xs) whole) (AppendsPrefix-append a b (p ++ (fed r (take n bytes)).bytes) rest front)
 
 -- and behind bytes that were read
-pub Front-then : (a b c : Option (List ℕ)) (r s : Reader) (p q : List ℕ) (i j : ℕ) (xs ys : List ℕ) → Reads a b r s p q i j xs → AppendsFront b c (q ++ (fed s ys).bytes)
-    → AppendsFront a c (p ++ (fed r (xs ++ ys)).bytes)
+pub Front-then : (a b c : Option (List ℕ)) (r s : Reader) (p q : List ℕ) (i j : ℕ) (xs ys : List ℕ) → Reads a b r s p q i j xs → AppendsPrefix b c (q ++ (fed s ys).bytes)
+    → AppendsPrefix a c (p ++ (fed r (xs ++ ys)).bytes)
 Front-then a b c r s p q i j xs ys f front =
     let F = fed r xs in
     let here : fed F.reader ys ≡ fed s ys = ap (λ (x : Reader). fed x ys) (sym f.reader) in
     let bytes : (fed r (xs ++ ys)).bytes ≡ F.bytes ++ (fed s ys).bytes = fed-append_bytes r xs ys ∙ ap (λ (t : Told). F.bytes ++ t.bytes) here in
-    let P : List ℕ → Type 0 = λ zs. AppendsFront a c zs in
+    let P : List ℕ → Type 0 = λ zs. AppendsPrefix a c zs in
     subst P (append_assoc p F.bytes (fed s ys).bytes ∙ ap (λ (zs : List ℕ). p ++ zs) (sym bytes)) (Fronts-then a b c (p ++ F.bytes) q (fed s ys).bytes f.out front)
 
 -- where the sink failed
-pub Some-err : (x : Result ℕ Fault) (a b : Option (List ℕ)) (r s : Reader) (p left : List ℕ) (i j : ℕ) (bytes : List ℕ) → IsErr x → AppendsFront a b (p ++ (fed r bytes).bytes)
+pub Some-err : (x : Result ℕ Fault) (a b : Option (List ℕ)) (r s : Reader) (p left : List ℕ) (i j : ℕ) (bytes : List ℕ) → IsErr x → AppendsPrefix a b (p ++ (fed r bytes).bytes)
     → TakesSome a b r s p left i j bytes x
 Some-err (Ok n) a b r s p left i j bytes e front = absurd (let never : false ≡ true = e in cc)
 Some-err (Err f) a b r s p left i j bytes e front = front
 
-pub All-err : (x : Result (Unit {0}) Fault) (a b : Option (List ℕ)) (r s : Reader) (p left : List ℕ) (i j : ℕ) (bytes : List ℕ) → IsErr x → AppendsFront a b (p ++ (fed r bytes).bytes)
+pub All-err : (x : Result (Unit {0}) Fault) (a b : Option (List ℕ)) (r s : Reader) (p left : List ℕ) (i j : ℕ) (bytes : List ℕ) → IsErr x → AppendsPrefix a b (p ++ (fed r bytes).bytes)
     → TakesAll a b r s p left i j bytes x
 All-err (Ok n) a b r s p left i j bytes e front = absurd (let never : false ≡ true = e in cc)
 All-err (Err f) a b r s p left i j bytes e front = front
@@ -154,14 +154,14 @@ Waits-out (Ok x) a b r p left i l went front none = record {
   made = at_most-none i l;
 }
 Waits-out (Err e) a b r p left i l went front none =
-    let P : List ℕ → Type 0 = λ xs. AppendsFront a b xs in
+    let P : List ℕ → Type 0 = λ xs. AppendsPrefix a b xs in
     subst P (sym (append-nil p)) front
 
-pub Flushes-front : (x : Result ℕ Fault) (a b c : Option (List ℕ)) (p left : List ℕ) → Flushes a b p left → AppendsFront b c left → FrontAtErr x a c p
+pub Flushes-front : (x : Result ℕ Fault) (a b c : Option (List ℕ)) (p left : List ℕ) → Flushes a b p left → AppendsPrefix b c left → FrontAtErr x a c p
 Flushes-front (Ok n) a b c p left f front = tt
 Flushes-front (Err e) a b c p left f front =
-    let P : List ℕ → Type 0 = λ xs. AppendsFront a c xs in
-    subst P (sym f.all) (AppendsFront-after a b c f.out left f.went_out front)
+    let P : List ℕ → Type 0 = λ xs. AppendsPrefix a c xs in
+    subst P (sym f.all) (AppendsPrefix-after a b c f.out left f.went_out front)
 
 -- ---- what the other sink holds
 
@@ -178,7 +178,7 @@ Sends-on (Some xs) (Some ys) (Some zs) waits left text more s f =
       omega (arith, long, before),
     )
 
-pub Fronts-of : (begun a b : Option (List ℕ)) (waits text more : List ℕ) → Sends begun a waits text → AppendsFront a b (waits ++ more) → Fronts begun b (text ++ more)
+pub Fronts-of : (begun a b : Option (List ℕ)) (waits text more : List ℕ) → Sends begun a waits text → AppendsPrefix a b (waits ++ more) → Fronts begun b (text ++ more)
 Fronts-of None a b waits text more s f = tt
 Fronts-of (Some xs) None b waits text more s f = absurd s
 Fronts-of (Some xs) (Some ys) None waits text more s f = absurd f.3
@@ -218,7 +218,7 @@ Sends-all (Some xs) (Some ys) (Some zs) waits text more s f =
     let grown : zs ≡ ys ++ (waits ++ more) = f in
     grown ∙ sym (append_assoc ys waits more) ∙ ap (λ (ws : List ℕ). ws ++ more) s.0 ∙ append_assoc xs text more
 
-pub Fronts-Appends : (begun a : Option (List ℕ)) (text : List ℕ) → Fronts begun a text → AppendsFront begun a text
+pub Fronts-Appends : (begun a : Option (List ℕ)) (text : List ℕ) → Fronts begun a text → AppendsPrefix begun a text
 Fronts-Appends None a text f = ([], text, refl, tt)
 Fronts-Appends (Some xs) None text f = absurd f
 Fronts-Appends (Some xs) (Some ys) text f =
@@ -261,7 +261,7 @@ Stands-read m came bytes a b f g r s p left i j st reads same =
       none = same ∙ st.none;
     }
 
-pub Stands-broke : (m : Making) (came bytes : List ℕ) (a b : Option (List ℕ)) (f g : ℕ) (r : Reader) (p : List ℕ) (i : ℕ) → Stands m came a f r p i → AppendsFront a b (p ++ (fed r bytes).bytes)
+pub Stands-broke : (m : Making) (came bytes : List ℕ) (a b : Option (List ℕ)) (f g : ℕ) (r : Reader) (p : List ℕ) (i : ℕ) → Stands m came a f r p i → AppendsPrefix a b (p ++ (fed r bytes).bytes)
     → g ≡ next_count f → Broke m (came ++ bytes) b g
 Stands-broke m came bytes a b f g r p i st front one =
     let first = first_reader m.table m.escapes in
@@ -299,7 +299,7 @@ Stands-kept m came a b f g r p i st kept same = record {
 -- ---- one call
 
 pub call-failed : (x : Result (Unit {0}) Fault) (a b : Option (List ℕ)) (r s : Reader) (p left : List ℕ) (i j : ℕ) (bytes : List ℕ) → is_err x ≡ true → TakesAll a b r s p left i j bytes x
-    → AppendsFront a b (p ++ (fed r bytes).bytes)
+    → AppendsPrefix a b (p ++ (fed r bytes).bytes)
 call-failed (Ok n) a b r s p left i j bytes e takes = absurd (let never : false ≡ true = e in cc)
 call-failed (Err f) a b r s p left i j bytes e takes = takes
 
@@ -322,7 +322,7 @@ broken-more false m came new bytes a b f g r p i e st more held failed = absurd 
 broken-more true m came new bytes a b f g r p i e st more held failed = ∥∥₁_map st (λ br. broke_is m (came ++ bytes) new a b f g more held failed (Broke-more m came bytes a f br))
 
 pub breaks : (z : Bool) (m : Making) (came new bytes : List ℕ) (a b : Option (List ℕ)) (f g : ℕ) (r : Reader) (p : List ℕ) (i : ℕ) → z ≡ false → ∥ StandsOr z m came a f r p i ∥₁
-    → new ≡ came ++ bytes → AppendsFront a b (p ++ (fed r bytes).bytes) → g ≡ next_count f → ∥ Broke m new b g ∥₁
+    → new ≡ came ++ bytes → AppendsPrefix a b (p ++ (fed r bytes).bytes) → g ≡ next_count f → ∥ Broke m new b g ∥₁
 breaks false m came new bytes a b f g r p i e st more front failed = ∥∥₁_map st (λ s. broke_is m (came ++ bytes) new b b g g more refl refl (Stands-broke m came bytes a b f g r p i s front failed))
 breaks true m came new bytes a b f g r p i e st more front failed = absurd (let never : true ≡ false = e in cc)
 

@@ -3,7 +3,7 @@ use Rattle.std.proofs.Common.{◌≡◌, ℕ, ◌+◌, ◌-◌, ◌<◌, ◌≤�
 use Rattle.std.proofs.lemmas.List.{get_or-drop, get_or-take, length-take-le, take_all}
 use Rattle.std.proofs.Math.Seq.{take-add}
 use borrow.Rule.Slice.PartMut.{put_mid}
-use Rattle.nr_vectors.proofs.Copying.{front_put}
+use Rattle.nr_vectors.proofs.Copying.{prefix_put}
 use Rattle.utf8_characters.specs.declared.table.Table.{Table}
 use Rattle.utf8_characters.specs.Tables.{character_of, characters, if_any}
 use Rattle.utf8_converter.specs.Cells.{if_spelled, is_shown, text}
@@ -41,7 +41,7 @@ Puts-low t all whole bs room ys end k n s small some low long copied h =
     let here = some j below in
     let count = (s.each b (small j below)).count in
     low_by t b (b == 8) refl (low j (omega (arith, below, long))) (omega (arith, here, count))) in
-    front_put end k n room ys h (omega (arith, same))
+    prefix_put end k n room ys h (omega (arith, same))
     ∙ ap (λ (xs : List ℕ). take end room ++ xs) (take_all n ys (omega (arith, same)) ∙ copied ∙ sym (bytes-as-are t bs shown))
 
 -- something goes out of each byte of a piece

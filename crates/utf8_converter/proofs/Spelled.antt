@@ -4,7 +4,7 @@ use Rattle.std.proofs.Common.{◌≡◌, ℕ, zero, suc, ◌+◌, ◌*◌, ◌-�
 use Rattle.std.proofs.lemmas.List.{get_or-append-add, get_or-drop, get_or-set_other, length-append, length-take-le, take-append-le, take-take, take_all}
 use Rattle.std.proofs.lemmas.Grind.{get_or-set_at}
 use borrow.Rule.Slice.PartMut.{put_mid}
-use Rattle.nr_vectors.proofs.Copying.{front_put}
+use Rattle.nr_vectors.proofs.Copying.{prefix_put}
 use Rattle.std.proofs.Math.Seq.{take-suc}
 use Rattle.std.proofs.lemmas.Bool.Decides.{nat_tests}
 use Rattle.std.proofs.lemmas.Str.{length-encode}
@@ -208,20 +208,20 @@ pub Puts-spelled : (t : Table) (b byte : ℕ) (s : List ℕ) (room ys : List ℕ
 Puts-spelled t b byte s room ys end k one same copied h =
     let four : length ys ≡ 4 = ap length copied ∙ one.four in
     let few : count_of s ≤ 3 = one.few in
-    front_put end k (count_of s) room ys h (omega (arith, four, few))
+    prefix_put end k (count_of s) room ys h (omega (arith, four, few))
     ∙ ap (λ (xs : List ℕ). take end room ++ xs) (ap (λ (xs : List ℕ). take (count_of s) xs) copied ∙ one.front ∙ ap (λ (x : ℕ). byte_of t x) same)
 
 -- all of these
 pub Puts-whole : (room xs ys : List ℕ) (end k : ℕ) → ys ≡ xs → end ≤ length room → Puts room end (put_mid end k room ys) (end + length xs) xs
 Puts-whole room xs ys end k copied h =
     let long : length ys ≡ length xs = ap length copied in
-    front_put end k (length xs) room ys h (omega (arith, long))
+    prefix_put end k (length xs) room ys h (omega (arith, long))
     ∙ ap (λ (zs : List ℕ). take end room ++ zs) (take_all (length xs) ys (omega (arith, long)) ∙ copied)
 
 pub Puts-front : (bs room ys : List ℕ) (end k n : ℕ) → ys ≡ take n bs → n ≤ length bs → end ≤ length room → Puts room end (put_mid end k room ys) (end + n) (take n bs)
 Puts-front bs room ys end k n copied l h =
     let long : length ys ≡ n = ap length copied ∙ length-take-le n bs l in
-    front_put end k n room ys h (omega (arith, long))
+    prefix_put end k n room ys h (omega (arith, long))
     ∙ ap (λ (xs : List ℕ). take end room ++ xs) (ap (λ (xs : List ℕ). take n xs) copied ∙ take-take n n bs (omega arith))
 
 pub Puts-then : (old mid new xs ys : List ℕ) (from to end : ℕ) → Puts old from mid to xs → Puts mid to new end ys → Puts old from new end (xs ++ ys)

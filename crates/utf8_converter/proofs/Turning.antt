@@ -2,10 +2,10 @@
 use Rattle.std.proofs.Common.{◌≡◌, ℕ, ◌+◌, List, [], ◌∷◌, ◌++◌, length, Bool, Option, None, Some, Result, Ok, Err, OnErr, OnOk, refl, sym, ◌∙◌, ap, subst, append_assoc, append-nil, length-append, arith}
 use Rattle.std.specs.Io.KnownBytes.{Appends}
 use Rattle.std.proofs.KnownBytes.{Appends-trans, Appends-nil}
-use Rattle.nr_units.specs.Sink.{AppendsFront}
+use Rattle.nr_units.specs.Sink.{AppendsPrefix}
 use Rattle.nr_units.specs.Source.{Supply, Gives}
 use Rattle.nr_units.specs.declared.source.Fault.{Fault}
-use Rattle.nr_units.proofs.Fronts.{AppendsFront-append, AppendsFront-after}
+use Rattle.nr_units.proofs.Prefixes.{AppendsPrefix-append, AppendsPrefix-after}
 use Rattle.utf8_characters.specs.declared.table.Table.{Table}
 use Rattle.utf8_converter.specs.declared.reader.Reader.{Reader}
 use Rattle.utf8_converter.specs.declared.running.Outcome.{Outcome}
@@ -166,9 +166,9 @@ pub Emits-ok : (x : Result (Unit {0}) Fault) (a b c : Option (List ℕ)) (p q le
 Emits-ok (Ok x) a b c p q left first last none = Flushes-all a c (p ++ q) left (Appends-trans a b c p q first last) none
 Emits-ok (Err e) a b c p q left first last none = tt
 
-pub Emits-err : (x : Result (Unit {0}) Fault) (a b c : Option (List ℕ)) (p q : List ℕ) → Appends a b p → OnErr x (AppendsFront b c q) → FrontAtErr x a c (p ++ q)
+pub Emits-err : (x : Result (Unit {0}) Fault) (a b c : Option (List ℕ)) (p q : List ℕ) → Appends a b p → OnErr x (AppendsPrefix b c q) → FrontAtErr x a c (p ++ q)
 Emits-err (Ok x) a b c p q first last = tt
-Emits-err (Err e) a b c p q first last = AppendsFront-after a b c p q first last
+Emits-err (Err e) a b c p q first last = AppendsPrefix-after a b c p q first last
 
 none_added : (n : ℕ) → n + 0 ≡ n
 none_added n = omega arith
@@ -220,25 +220,25 @@ Ran-done d e a b c h k m p left r t i j st turn TooLong ends = absurd (let no : 
 Ran-done d e a b c h k m p left r t i j st turn WriteFault ends =
     let all = ended-all d e st.sent p left st.bytes r st.all st.reader turn.2 in
     let made = ended-made d e st.bytes r i j st.made st.reader turn.3 in
-    let P : List ℕ → Type 0 = λ xs. AppendsFront h m xs in
+    let P : List ℕ → Type 0 = λ xs. AppendsPrefix h m xs in
     record {
       bytes = st.bytes;
       came = Comes-then_nothing a b c st.bytes st.came turn.0;
-      went_out = subst P all (AppendsFront-after h k m st.sent left st.went_out ends);
+      went_out = subst P all (AppendsPrefix-after h k m st.sent left st.went_out ends);
       text = converted-text d e st.bytes;
     }
 
 -- what went out and what is pending, cut by a write fault
 Stands-broken : (d : Table) (e : Bool) (a b c : Option Supply) (h k m : Option (List ℕ)) (p : List ℕ) (r : Reader) (t i : ℕ)
-    → Stands d e a b h k p r t i → Comes b [] c → AppendsFront k m p → IsBroken d e a c h m i
+    → Stands d e a b h k p r t i → Comes b [] c → AppendsPrefix k m p → IsBroken d e a c h m i
 Stands-broken d e a b c h k m p r t i st came front =
     let after = fed (first_reader d e) st.bytes in
-    let P : List ℕ → Type 0 = λ xs. AppendsFront h m xs in
+    let P : List ℕ → Type 0 = λ xs. AppendsPrefix h m xs in
     record {
       bytes = st.bytes;
       came = Comes-then_nothing a b c st.bytes st.came came;
-      went_out = subst P (sym (converted-fed d e st.bytes)) (AppendsFront-append h m after.bytes (ended after.reader).bytes
-          (subst P st.all (AppendsFront-after h k m st.sent p st.went_out front)));
+      went_out = subst P (sym (converted-fed d e st.bytes)) (AppendsPrefix-append h m after.bytes (ended after.reader).bytes
+          (subst P st.all (AppendsPrefix-after h k m st.sent p st.went_out front)));
       text = converted-text d e st.bytes;
     }
 
@@ -256,7 +256,7 @@ Stands-cut d e a b c h k m p r t i st came went =
     }
 
 pub Ran-broken : (d : Table) (e : Bool) (a b : Option Supply) (h k m : Option (List ℕ)) (p : List ℕ) (r : Reader) (t i : ℕ)
-    → Stands d e a b h k p r t i → AppendsFront k m p → Ran d e a b h m i WriteFault
+    → Stands d e a b h k p r t i → AppendsPrefix k m p → Ran d e a b h m i WriteFault
 Ran-broken d e a b h k m p r t i st front = Stands-broken d e a b b h k m p r t i st (Comes-nil b) front
 
 ran-fault : (d : Table) (e : Bool) (a b c : Option Supply) (h k m : Option (List ℕ)) (p : List ℕ) (r : Reader) (t i : ℕ)

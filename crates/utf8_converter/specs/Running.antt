@@ -2,7 +2,7 @@
 use Rattle.std.specs.Prelude.{◌≡◌, ℕ, ◌*◌, ◌<◌, ◌≤◌, List, [], ◌++◌, length, Bool, true, false, Option, None, Some, Result, Ok, Err, ⊤, ◌⊎◌}
 use Rattle.std.specs.Io.KnownBytes.{Appends}
 use Rattle.nr_units.specs.Failures.{next_count}
-use Rattle.nr_units.specs.Sink.{AppendsFront}
+use Rattle.nr_units.specs.Sink.{AppendsPrefix}
 use Rattle.nr_units.specs.Source.{Supply}
 use Rattle.utf8_characters.specs.declared.table.Table.{Table}
 use Rattle.utf8_converter.specs.Cells.{converted, strays_of}
@@ -30,7 +30,7 @@ Ends (Some q) (Some t) = t.bytes ≡ []
 -- what a sink took of bytes at an error
 abbrev pub FrontAtErr : {T E : Type 0} → Result T E → Option (List ℕ) → Option (List ℕ) → List ℕ → Type 0
 FrontAtErr (Ok x) old new bytes = Unit {0}
-FrontAtErr (Err e) old new bytes = AppendsFront old new bytes
+FrontAtErr (Err e) old new bytes = AppendsPrefix old new bytes
 
 -- a prefix of what is pending went out, and the rest is left
 pub record Flushes (held new : Option (List ℕ)) (pending left : List ℕ) : Type 0 where
@@ -106,7 +106,7 @@ pub record IsBroken (table : Table) (escapes : Bool) (first last : Option Supply
     (strays : ℕ) : Type 0 where
   pub bytes : List ℕ
   pub came : Comes first bytes last
-  pub went_out : AppendsFront held new (converted table escapes bytes)
+  pub went_out : AppendsPrefix held new (converted table escapes bytes)
   pub text : IsText escapes (converted table escapes bytes)
 
 abbrev pub Ran : Table → Bool → Option Supply → Option Supply → Option (List ℕ) → Option (List ℕ)
@@ -128,7 +128,7 @@ is_write_fault outcome = false
 
 -- all that was pending went out, or the sink failed
 abbrev pub EndsAs : Outcome → Outcome → Option (List ℕ) → Option (List ℕ) → List ℕ → Type 0
-EndsAs wanted WriteFault held new pending = AppendsFront held new pending
+EndsAs wanted WriteFault held new pending = AppendsPrefix held new pending
 EndsAs wanted Done held new pending = (wanted ≡ Done) × Appends held new pending
 EndsAs wanted (ReadFault at) held new pending = (wanted ≡ ReadFault at) × Appends held new pending
 EndsAs wanted TooLong held new pending = (wanted ≡ TooLong) × Appends held new pending

@@ -2,7 +2,7 @@
 use Rattle.std.specs.Prelude.{◌≡◌, ℕ, ◌+◌, ◌-◌, ◌^◌, ◌<◌, ◌≤◌, min, List, [], ◌∷◌, ◌++◌, length, take, Bool, true, false, if◌then◌else◌, Option, None, Some, Result, Ok, Err, ⊤}
 use Rattle.std.specs.Io.KnownBytes.{Appends}
 use Rattle.nr_units.specs.Failures.{SinkFailures, next_count}
-use Rattle.nr_units.specs.Sink.{AppendsFront}
+use Rattle.nr_units.specs.Sink.{AppendsPrefix}
 use Rattle.utf8_characters.specs.declared.table.Table.{Table}
 use Rattle.utf8_characters.specs.declared.table.Table.TheVariants.{English, Latin, Cyrillic, Greek, Latin1}
 use Rattle.utf8_converter.specs.Cells.{converted, strays_of}
@@ -73,13 +73,13 @@ abbrev pub TakesSome : {E : Type 0} → Option (List ℕ) → Option (List ℕ) 
     → Result ℕ E → Type 0
 TakesSome held new r s waits left i j bytes (Ok n) =
     (0 < n) × (n ≤ length bytes) × Reads held new r s waits left i j (take n bytes)
-TakesSome held new r s waits left i j bytes (Err e) = AppendsFront held new (waits ++ (fed r bytes).bytes)
+TakesSome held new r s waits left i j bytes (Err e) = AppendsPrefix held new (waits ++ (fed r bytes).bytes)
 
 -- all were, or the sink failed
 abbrev pub TakesAll : {T E : Type 0} → Option (List ℕ) → Option (List ℕ) → Reader → Reader → List ℕ → List ℕ → ℕ → ℕ → List ℕ
     → Result T E → Type 0
 TakesAll held new r s waits left i j bytes (Ok x) = Reads held new r s waits left i j bytes
-TakesAll held new r s waits left i j bytes (Err e) = AppendsFront held new (waits ++ (fed r bytes).bytes)
+TakesAll held new r s waits left i j bytes (Err e) = AppendsPrefix held new (waits ++ (fed r bytes).bytes)
 
 -- ---- how it stands
 
@@ -111,7 +111,7 @@ pub record IsShown (m : Making) (came : List ℕ) (held : Option (List ℕ)) (fa
 
 -- it got a prefix of that, and failed once
 pub record IsCutOff (m : Making) (came : List ℕ) (held : Option (List ℕ)) (failed : ℕ) : Type 0 where
-  pub went_out : AppendsFront m.begun held (converted m.table m.escapes came)
+  pub went_out : AppendsPrefix m.begun held (converted m.table m.escapes came)
   pub one : failed ≡ next_count m.failed
 
 abbrev pub Finishes : {E : Type 0} → Making → List ℕ → Option (List ℕ) → ℕ → Result ℕ E → Type 0

@@ -193,7 +193,7 @@ fn take_at_hand<R: Source>(input: &mut R, page: &mut SliceVec<'_, u8>) -> bool
     if count == 0 {
         return false;
     }
-    page.extend_front(window, count);
+    page.extend_prefix(window, count);
     input.skip(count);
     true
 }

@@ -4,7 +4,7 @@ use Rattle.std.proofs.Math.Logic.{∥∥₁_elim}
 use Rattle.std.proofs.Props.{props}
 use Rattle.std.specs.Io.KnownBytes.{Appends}
 use Rattle.nr_units.specs.Failures.{SinkFailures, next_count, put_counted}
-use Rattle.nr_units.specs.Sink.{AppendsFront}
+use Rattle.nr_units.specs.Sink.{AppendsPrefix}
 use Rattle.nr_units.specs.declared.source.Fault.{Fault}
 use Rattle.utf8_converter.specs.Running.{FrontAtErr}
 use Rattle.utf8_converter.specs.Showing.{Fronts, Sends, counted_bytes}
@@ -66,11 +66,11 @@ Shown-whole m came a b f g r p st went same =
     let P : List ℕ → Type 0 = λ zs. Appends m.begun b zs in
     record { went_out = subst P whole (Sends-all m.begun a b p F.bytes (ended m.table r) st.out went); none = same ∙ st.none }
 
-Shown-cut : (m : Making) (came : List ℕ) (a b : Option (List ℕ)) (f g : ℕ) (r : Reader) (p : List ℕ) → Ready m came a f r p → AppendsFront a b (p ++ ended m.table r) → g ≡ next_count f → IsCutOff m came b g
+Shown-cut : (m : Making) (came : List ℕ) (a b : Option (List ℕ)) (f g : ℕ) (r : Reader) (p : List ℕ) → Ready m came a f r p → AppendsPrefix a b (p ++ ended m.table r) → g ≡ next_count f → IsCutOff m came b g
 Shown-cut m came a b f g r p st front one =
     let F = fed m.table (first m.escapes) came in
     let whole : F.bytes ++ ended m.table r ≡ converted m.table m.escapes came = ap (λ (zs : List ℕ). F.bytes ++ zs) st.rest ∙ sym (converted-fed m.table m.escapes came) in
-    let P : List ℕ → Type 0 = λ zs. AppendsFront m.begun b zs in
+    let P : List ℕ → Type 0 = λ zs. AppendsPrefix m.begun b zs in
     record {
       went_out = subst P whole (Fronts-Appends m.begun b (F.bytes ++ ended m.table r) (Fronts-of m.begun a b p F.bytes (ended m.table r) st.out front));
       one = one ∙ ap next_count st.none;
@@ -79,7 +79,7 @@ Shown-cut m came a b f g r p st front one =
 Shown-broke : (m : Making) (came : List ℕ) (a : Option (List ℕ)) (f : ℕ) → Broke m came a f → IsCutOff m came a f
 Shown-broke m came a f br =
     let F = fed m.table (first m.escapes) came in
-    let P : List ℕ → Type 0 = λ zs. AppendsFront m.begun a zs in
+    let P : List ℕ → Type 0 = λ zs. AppendsPrefix m.begun a zs in
     record {
       went_out = subst P (sym (converted-fed m.table m.escapes came))
           (Fronts-Appends m.begun a (F.bytes ++ ended m.table F.reader) (Fronts-more m.begun a F.bytes (ended m.table F.reader) br.out));
@@ -187,7 +187,7 @@ same-making m n xs ys e =
 -- ---- the answers
 
 -- it got a prefix of what more bytes come to
-broke-more : (m : Making) (came more : List ℕ) (a : Option (List ℕ)) (f : ℕ) → Broke m came a f → AppendsFront m.begun a (converted m.table m.escapes (came ++ more))
+broke-more : (m : Making) (came more : List ℕ) (a : Option (List ℕ)) (f : ℕ) → Broke m came a f → AppendsPrefix m.begun a (converted m.table m.escapes (came ++ more))
 broke-more m came more a f br = let cut = Shown-broke m (came ++ more) a f (Broke-more m came more a f br) in cut.went_out
 
 pub ends-broken : (z : Bool) (m n : Making) (came more value : List ℕ) (a : Option (List ℕ)) (f : ℕ) (r : Reader) (p : List ℕ) → z ≡ true → ∥ StandsOr z m came a f r p ∥₁
@@ -200,12 +200,12 @@ ends-broken true m n came more value a f r p broken st is says =
     subst P same.making_is (subst Q same.rest (Shown-broke m came a f (broke m came a f st)))
 
 pub ends-short : (z : Bool) (m n : Making) (came front more value : List ℕ) (a : Option (List ℕ)) (f : ℕ) (r : Reader) (p : List ℕ) → z ≡ true → ∥ StandsOr z m came a f r p ∥₁
-    → told m came ≡ value → value ≡ told n front → AppendsFront n.begun a (converted n.table n.escapes (front ++ more))
+    → told m came ≡ value → value ≡ told n front → AppendsPrefix n.begun a (converted n.table n.escapes (front ++ more))
 ends-short false m n came front more value a f r p broken st is says = absurd (let never : false ≡ true = broken in cc)
 ends-short true m n came front more value a f r p broken st is says =
     let same = same-making m n came front (is ∙ says) in
-    let P : Making → Type 0 = λ x. AppendsFront x.begun a (converted x.table x.escapes (front ++ more)) in
-    let Q : List ℕ → Type 0 = λ zs. AppendsFront m.begun a (converted m.table m.escapes (zs ++ more)) in
+    let P : Making → Type 0 = λ x. AppendsPrefix x.begun a (converted x.table x.escapes (front ++ more)) in
+    let Q : List ℕ → Type 0 = λ zs. AppendsPrefix m.begun a (converted m.table m.escapes (zs ++ more)) in
     subst P same.making_is (subst Q same.rest (broke-more m came more a f (broke m came a f st)))
 
 finishes : (m : Making) (came : List ℕ) (a b : Option (List ℕ)) (f g : SinkFailures) (r : Reader) (p : List ℕ) (x : Result (Unit {0}) Fault) → Ready m came a f.puts r p

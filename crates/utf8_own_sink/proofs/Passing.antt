@@ -7,9 +7,9 @@ use Rattle.std.specs.Prelude.{slice_index}
 use Rattle.std.proofs.KnownBytes.{Appends-nil, Appends-trans}
 use Rattle.std.proofs.lemmas.List.{take-append-drop, take_more}
 use Rattle.nr_units.specs.Failures.{SinkFailures, next_count, put_counted}
-use Rattle.nr_units.specs.Sink.{AppendsFront}
+use Rattle.nr_units.specs.Sink.{AppendsPrefix}
 use Rattle.nr_units.specs.declared.source.Fault.{Fault}
-use Rattle.nr_units.proofs.Fronts.{AppendsFront-append}
+use Rattle.nr_units.proofs.Prefixes.{AppendsPrefix-append}
 use Rattle.utf8_converter.specs.Running.{Flushes, FrontAtErr}
 use Rattle.utf8_converter.specs.Showing.{Fronts, Sends}
 use Rattle.utf8_converter.proofs.Passing.{Flushes-then, Fronts-more, Fronts-of, Fronts-then, Sends-kept, Sends-on, puts-failed, puts-went}
@@ -39,12 +39,12 @@ Reads-then t a b c r s u p q left xs ys f g =
     }
 
 -- a prefix of what these bytes come to, behind bytes that were read
-pub Front-then : (t : Characters) (a b c : Option (List ℕ)) (r s : Reader) (p q xs ys : List ℕ) → Reads t a b r s p q xs → AppendsFront b c (q ++ (fed t s ys).bytes) → AppendsFront a c (p ++ (fed t r (xs ++ ys)).bytes)
+pub Front-then : (t : Characters) (a b c : Option (List ℕ)) (r s : Reader) (p q xs ys : List ℕ) → Reads t a b r s p q xs → AppendsPrefix b c (q ++ (fed t s ys).bytes) → AppendsPrefix a c (p ++ (fed t r (xs ++ ys)).bytes)
 Front-then t a b c r s p q xs ys f front =
     let F = fed t r xs in
     let here : fed t F.reader ys ≡ fed t s ys = ap (λ (x : Reader). fed t x ys) (sym f.reader) in
     let bytes : (fed t r (xs ++ ys)).bytes ≡ F.bytes ++ (fed t s ys).bytes = fed-append_bytes t r xs ys ∙ ap (λ (x : Told). F.bytes ++ x.bytes) here in
-    let P : List ℕ → Type 0 = λ zs. AppendsFront a c zs in
+    let P : List ℕ → Type 0 = λ zs. AppendsPrefix a c zs in
     subst P (append_assoc p F.bytes (fed t s ys).bytes ∙ ap (λ (zs : List ℕ). p ++ zs) (sym bytes)) (Fronts-then a b c (p ++ F.bytes) q (fed t s ys).bytes f.out front)
 
 -- one byte: room is made, and what it comes to is put behind what waits
@@ -61,13 +61,13 @@ Reads-one t a b r s p q left byte f is put =
       };
     }
 
-pub Takes-err : (t : Characters) (x : Result (Unit {0}) Fault) (a b : Option (List ℕ)) (r s : Reader) (p left bytes : List ℕ) → IsErr x → AppendsFront a b (p ++ (fed t r bytes).bytes) → Takes t a b r s p left bytes x
+pub Takes-err : (t : Characters) (x : Result (Unit {0}) Fault) (a b : Option (List ℕ)) (r s : Reader) (p left bytes : List ℕ) → IsErr x → AppendsPrefix a b (p ++ (fed t r bytes).bytes) → Takes t a b r s p left bytes x
 Takes-err t (Ok n) a b r s p left bytes e front = absurd (let never : false ≡ true = e in cc)
 Takes-err t (Err f) a b r s p left bytes e front = front
 
 pub Takes-room : (t : Characters) (x y : Result (Unit {0}) Fault) (a b : Option (List ℕ)) (r s : Reader) (p left bytes : List ℕ) → IsErr x → IsErr y → FrontAtErr y a b p → Takes t a b r s p left bytes x
 Takes-room t x (Ok n) a b r s p left bytes e is front = absurd (let never : false ≡ true = is in cc)
-Takes-room t x (Err f) a b r s p left bytes e is front = Takes-err t x a b r s p left bytes e (AppendsFront-append a b p (fed t r bytes).bytes front)
+Takes-room t x (Err f) a b r s p left bytes e is front = Takes-err t x a b r s p left bytes e (AppendsPrefix-append a b p (fed t r bytes).bytes front)
 
 -- one more of these bytes
 pub Reads-more : (t : Characters) (a b c : Option (List ℕ)) (r s u : Reader) (p q left bytes : List ℕ) (i byte : ℕ) → i < length bytes → slice_index bytes i ≡ byte
@@ -77,15 +77,15 @@ Reads-more t a b c r s u p q left bytes i byte l is f g =
     subst P (ap (λ (k : ℕ). take i bytes ++ k ∷ []) (sym is) ∙ sym (take_more bytes i 0 l)) (Reads-then t a b c r s u p q left (take i bytes) (byte ∷ []) f g)
 
 pub Front-more : (t : Characters) (a b c : Option (List ℕ)) (r s : Reader) (p q bytes : List ℕ) (i byte : ℕ) → i < length bytes → slice_index bytes i ≡ byte
-    → Reads t a b r s p q (take i bytes) → AppendsFront b c (q ++ (fed t s (byte ∷ [])).bytes) → AppendsFront a c (p ++ (fed t r bytes).bytes)
+    → Reads t a b r s p q (take i bytes) → AppendsPrefix b c (q ++ (fed t s (byte ∷ [])).bytes) → AppendsPrefix a c (p ++ (fed t r bytes).bytes)
 Front-more t a b c r s p q bytes i byte l is f front =
-    let P : List ℕ → Type 0 = λ zs. AppendsFront a c (p ++ (fed t r zs).bytes) in
-    let one : AppendsFront a c (p ++ (fed t r (take (i + 1) bytes)).bytes) =
+    let P : List ℕ → Type 0 = λ zs. AppendsPrefix a c (p ++ (fed t r zs).bytes) in
+    let one : AppendsPrefix a c (p ++ (fed t r (take (i + 1) bytes)).bytes) =
     subst P (ap (λ (k : ℕ). take i bytes ++ k ∷ []) (sym is) ∙ sym (take_more bytes i 0 l)) (Front-then t a b c r s p q (take i bytes) (byte ∷ []) f front) in
     let F = fed t r (take (i + 1) bytes) in
     let rest = (fed t F.reader (drop (i + 1) bytes)).bytes in
     let whole : F.bytes ++ rest ≡ (fed t r bytes).bytes = sym (fed-append_bytes t r (take (i + 1) bytes) (drop (i + 1) bytes)) ∙ ap (λ (zs : List ℕ). (fed t r zs).bytes) (take-append-drop (i + 1) bytes) in
-    subst (λ (zs : List ℕ). AppendsFront a c zs) (append_assoc p F.bytes rest ∙ ap (λ (zs : List ℕ). p ++ zs) whole) (AppendsFront-append a c (p ++ F.bytes) rest one)
+    subst (λ (zs : List ℕ). AppendsPrefix a c zs) (append_assoc p F.bytes rest ∙ ap (λ (zs : List ℕ). p ++ zs) whole) (AppendsPrefix-append a c (p ++ F.bytes) rest one)
 
 -- what waits goes out
 pub Waits-out : (t : Characters) (x : Result (Unit {0}) Fault) (a b : Option (List ℕ)) (r : Reader) (p left : List ℕ) → OnOk x (Appends a b p) → FrontAtErr x a b p → OnOk x (left ≡ []) → Takes t a b r r p left [] x
@@ -94,7 +94,7 @@ Waits-out t (Ok x) a b r p left went front none = record {
   out = record { out = p; went_out = went; all = ap (λ (zs : List ℕ). p ++ zs) (sym none) };
 }
 Waits-out t (Err e) a b r p left went front none =
-    let P : List ℕ → Type 0 = λ zs. AppendsFront a b zs in
+    let P : List ℕ → Type 0 = λ zs. AppendsPrefix a b zs in
     subst P (sym (append-nil p)) front
 
 -- the end, behind what waits
@@ -108,11 +108,11 @@ Closes-ok (Err n) a b c p q e left f is went = tt
 
 pub Closes-err : (x : Result (Unit {0}) Fault) (a b c : Option (List ℕ)) (p q e left : List ℕ) → Flushes a b p q → left ≡ q ++ e → FrontAtErr x b c left → FrontAtErr x a c (p ++ e)
 Closes-err (Ok n) a b c p q e left f is front = tt
-Closes-err (Err n) a b c p q e left f is front = Fronts-then a b c p q e f (subst (λ (zs : List ℕ). AppendsFront b c zs) is front)
+Closes-err (Err n) a b c p q e left f is front = Fronts-then a b c p q e f (subst (λ (zs : List ℕ). AppendsPrefix b c zs) is front)
 
-pub Closes-room : (x : Result (Unit {0}) Fault) (a b : Option (List ℕ)) (p e : List ℕ) → AppendsFront a b p → FrontAtErr x a b (p ++ e)
+pub Closes-room : (x : Result (Unit {0}) Fault) (a b : Option (List ℕ)) (p e : List ℕ) → AppendsPrefix a b p → FrontAtErr x a b (p ++ e)
 Closes-room (Ok n) a b p e front = tt
-Closes-room (Err n) a b p e front = AppendsFront-append a b p e front
+Closes-room (Err n) a b p e front = AppendsPrefix-append a b p e front
 
 -- ---- how it stands
 
@@ -136,7 +136,7 @@ Stands-read m came bytes a b f g r s p left st reads same =
       none = same ∙ st.none;
     }
 
-Stands-broke : (m : Making) (came bytes : List ℕ) (a b : Option (List ℕ)) (f g : ℕ) (r : Reader) (p : List ℕ) → Stands m came a f r p → AppendsFront a b (p ++ (fed m.table r bytes).bytes) → g ≡ next_count f
+Stands-broke : (m : Making) (came bytes : List ℕ) (a b : Option (List ℕ)) (f g : ℕ) (r : Reader) (p : List ℕ) → Stands m came a f r p → AppendsPrefix a b (p ++ (fed m.table r bytes).bytes) → g ≡ next_count f
     → Broke m (came ++ bytes) b g
 Stands-broke m came bytes a b f g r p st front one =
     let t = m.table in
@@ -172,7 +172,7 @@ Stands-kept m came a b f g r p st kept same = record {
 
 -- ---- one call
 
-call-failed : (t : Characters) (x : Result (Unit {0}) Fault) (a b : Option (List ℕ)) (r s : Reader) (p left bytes : List ℕ) → is_err x ≡ true → Takes t a b r s p left bytes x → AppendsFront a b (p ++ (fed t r bytes).bytes)
+call-failed : (t : Characters) (x : Result (Unit {0}) Fault) (a b : Option (List ℕ)) (r s : Reader) (p left bytes : List ℕ) → is_err x ≡ true → Takes t a b r s p left bytes x → AppendsPrefix a b (p ++ (fed t r bytes).bytes)
 call-failed t (Ok n) a b r s p left bytes e takes = absurd (let never : false ≡ true = e in cc)
 call-failed t (Err f) a b r s p left bytes e takes = takes
 
@@ -186,7 +186,7 @@ broken-more false m came new bytes a b f g r p e st more held failed = absurd (l
 broken-more true m came new bytes a b f g r p e st more held failed = ∥∥₁_map st (λ br. broke_is m (came ++ bytes) new a b f g more held failed (Broke-more m came bytes a f br))
 
 breaks : (z : Bool) (m : Making) (came new bytes : List ℕ) (a b : Option (List ℕ)) (f g : ℕ) (r : Reader) (p : List ℕ) → z ≡ false → ∥ StandsOr z m came a f r p ∥₁
-    → new ≡ came ++ bytes → AppendsFront a b (p ++ (fed m.table r bytes).bytes) → g ≡ next_count f → ∥ Broke m new b g ∥₁
+    → new ≡ came ++ bytes → AppendsPrefix a b (p ++ (fed m.table r bytes).bytes) → g ≡ next_count f → ∥ Broke m new b g ∥₁
 breaks false m came new bytes a b f g r p e st more front failed = ∥∥₁_map st (λ s. broke_is m (came ++ bytes) new b b g g more refl refl (Stands-broke m came bytes a b f g r p s front failed))
 breaks true m came new bytes a b f g r p e st more front failed = absurd (let never : true ≡ false = e in cc)
 

@@ -2,7 +2,7 @@
 use Rattle.std.specs.Prelude.{◌≡◌, ℕ, List, [], ◌∷◌, ◌++◌, Bool, true, false, if◌then◌else◌, Option, Result, Ok, Err}
 use Rattle.std.specs.Io.KnownBytes.{Appends}
 use Rattle.nr_units.specs.Failures.{next_count}
-use Rattle.nr_units.specs.Sink.{AppendsFront}
+use Rattle.nr_units.specs.Sink.{AppendsPrefix}
 use Rattle.utf8_converter.specs.Running.{Flushes}
 use Rattle.utf8_converter.specs.Showing.{Fronts, Sends, counted_bytes}
 use Rattle.utf8_own_characters.specs.Table.{Characters}
@@ -42,7 +42,7 @@ pub record Reads (t : Characters) (held new : Option (List ℕ)) (r s : Reader) 
 abbrev pub Takes : {T E : Type 0} → Characters → Option (List ℕ) → Option (List ℕ) → Reader → Reader → List ℕ → List ℕ
     → List ℕ → Result T E → Type 0
 Takes t held new r s waits left bytes (Ok x) = Reads t held new r s waits left bytes
-Takes t held new r s waits left bytes (Err e) = AppendsFront held new (waits ++ (fed t r bytes).bytes)
+Takes t held new r s waits left bytes (Err e) = AppendsPrefix held new (waits ++ (fed t r bytes).bytes)
 
 -- ---- how it stands
 
@@ -70,7 +70,7 @@ pub record IsShown (m : Making) (came : List ℕ) (held : Option (List ℕ)) (fa
 
 -- it got a prefix of that, and failed once
 pub record IsCutOff (m : Making) (came : List ℕ) (held : Option (List ℕ)) (failed : ℕ) : Type 0 where
-  pub went_out : AppendsFront m.begun held (converted m.table m.escapes came)
+  pub went_out : AppendsPrefix m.begun held (converted m.table m.escapes came)
   pub one : failed ≡ next_count m.failed
 
 abbrev pub Finishes : {T E : Type 0} → Making → List ℕ → Option (List ℕ) → ℕ → Result T E → Type 0

@@ -2,7 +2,7 @@
 ghost use Rattle.std.specs.Prelude.{◌≡◌, ◌≢◌, ◌≤◌, ℕ, List, [], ◌++◌, false, length, IsOk};
 ghost use Rattle.std.proofs.Math.Logic.{∥∥₁_prop};
 ghost use Rattle.nr_units.specs.Failures.{no_failures};
-ghost use Rattle.nr_units.specs.Sink.{AppendsFront};
+ghost use Rattle.nr_units.specs.Sink.{AppendsPrefix};
 ghost use Rattle.utf8_own_sink.specs.Cells.{converted};
 ghost use Rattle.utf8_own_sink.specs.Showing.{Making, Finishes, StandsOr, told};
 
@@ -96,7 +96,7 @@ impl<'a, W: Sink> Shown<'a, W> {
         // Once a put failed, it got a prefix of what these bytes come to and any that would have followed.
         ensures broke { (m : Making) (came more : List ℕ) → self.entry.bytes ≡ told m came →
             self.entry.failures.puts ≢ 0 →
-            AppendsFront m.begun (W.held result.0) (converted m.table m.escapes (came ++ more)) }
+            AppendsPrefix m.begun (W.held result.0) (converted m.table m.escapes (came ++ more)) }
         ensures fails { IsOk result.1 → self.entry.failures.puts ≡ 0 }
     {
         let Shown {

@@ -2,7 +2,7 @@
 -- text for a stop is read.
 use Prim.Native.Char.{code}
 use Rattle.std.specs.Prelude.{◌≡◌, ◌≤◌, ℕ, Bool, true, not, ◌==◌, if◌then◌else◌, List, [], ◌∷◌, unwrap_or}
-use Rattle.nr_fill.specs.declared.piece.Behind.TheVariants.{Hyphen}
+use Rattle.nr_fill.specs.declared.piece.CutAfter.TheVariants.{Hyphen}
 use Rattle.nr_fill.specs.Piece.{Collected, add_blank, add_cell, line_cells}
 use Rattle.nr_fill.specs.Tabs.{tabbed}
 use Rattle.nr_formatter.specs.Access.{cell, collected, is_filling, margins, with_collected}

@@ -5,8 +5,8 @@ use Rattle.nr_fill.specs.Piece.{begins_line}
 use Rattle.nr_reading.specs.declared.event.Event.TheVariants as events
 use Rattle.nr_reading.specs.declared.ask.Ask.{Ask}
 use Rattle.nr_reading.specs.declared.half.Half.{Half}
-use Rattle.nr_reading.specs.declared.mode.Due.{Due}
-use Rattle.nr_reading.specs.declared.mode.Due.TheVariants as dues
+use Rattle.nr_reading.specs.declared.mode.PendingAct.{PendingAct}
+use Rattle.nr_reading.specs.declared.mode.PendingAct.TheVariants as pending_acts
 use Rattle.nr_reading.specs.declared.mode.Escape.{Escape}
 use Rattle.nr_reading.specs.declared.mode.Escape.TheVariants as escapes
 use Rattle.nr_reading.specs.declared.mode.Mode.{Mode}
@@ -42,8 +42,8 @@ gone_down n f = record f {
 
 -- ---- what is half read
 
-abbrev pub is_at_line_by : Mode → Escape → Due → List Ask → Bool
-is_at_line_by modes.Start escapes.Plain dues.Look asks = has_none asks
+abbrev pub is_at_line_by : Mode → Escape → PendingAct → List Ask → Bool
+is_at_line_by modes.Start escapes.Plain pending_acts.Look asks = has_none asks
 is_at_line_by m e d asks = false
 
 -- a newline is no control character
@@ -52,13 +52,13 @@ ends_lines s = not (s.control == code "\n") && not (s.no_break == code "\n")
 
 -- the next item is read at the beginning of a line, after no part of an escape
 abbrev pub is_at_line : Half → Bool
-is_at_line h = is_at_line_by h.reading.mode h.reading.escape h.reading.due h.asks && ends_lines h.signs
+is_at_line h = is_at_line_by h.reading.mode h.reading.escape h.reading.pending_act h.asks && ends_lines h.signs
 
 -- the same, part by part
 pub record IsAtLine (h : Half) : Type 0 where
   pub mode : h.reading.mode ≡ modes.Start
   pub escape : h.reading.escape ≡ escapes.Plain
-  pub due : h.reading.due ≡ dues.Look
+  pub pending_act : h.reading.pending_act ≡ pending_acts.Look
   pub asks : h.asks ≡ []
   pub control : (h.signs.control == code "\n") ≡ false
   pub no_break : (h.signs.no_break == code "\n") ≡ false

@@ -77,10 +77,10 @@ AfterGap f gaps.Flows g = IsGap f × (g ≡ gap_flows f)
 AfterGap f gaps.Reads g = IsGap f × (fits_line (gapped (collected f)) ≡ true) × (g ≡ gap_put f)
 
 -- after a word: full lines go out next, or the pieces fit the line
-abbrev pub BehindWord : Formatter → Gap → Formatter → Type 0
-BehindWord f gaps.Left g = ⊥
-BehindWord f gaps.Flows g = g ≡ record f { task = tasks.Flow afters.Text false }
-BehindWord f gaps.Reads g = (fits_line (collected f) ≡ true) × (g ≡ f)
+abbrev pub AfterWord : Formatter → Gap → Formatter → Type 0
+AfterWord f gaps.Left g = ⊥
+AfterWord f gaps.Flows g = g ≡ record f { task = tasks.Flow afters.Text false }
+AfterWord f gaps.Reads g = (fits_line (collected f) ≡ true) × (g ≡ f)
 
 -- ---- words, and the blanks after them
 
@@ -98,7 +98,7 @@ is_read gap = true
 
 -- A prefix of these bytes was put, and a blank after it read: as many bytes as could be, and the blank where it could be.
 pub record PutsWord (bs : List ℕ) (f : Formatter) (word : WordPut) (g : Formatter) : Type 0 where
-  pub front : word.count ≤ length bs
+  pub prefix : word.count ≤ length bs
   pub plain : All IsPlain (take word.count bs)
   pub within : 0 < word.count → line_cells (collected (run_put (take word.count bs) f)) ≤ f.line.limit
   pub gap : AfterGap (run_put (take word.count bs) f) word.gap g

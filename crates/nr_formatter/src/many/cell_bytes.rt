@@ -7,7 +7,7 @@ ghost use Rattle.nr_formatter.specs.Many.Runs.{is_in_line};
 
 use crate::formatter::Formatter;
 use nr_fill::line::LineCells;
-use nr_fill::piece::Behind;
+use nr_fill::piece::CutAfter;
 
 impl Formatter {
     /// A hyphen, a blank where lines are not filled, or a tab where no text for a stop is read.
@@ -48,7 +48,7 @@ impl Formatter {
         }
         let margins = self.settings.indents.margins();
         let cell = self.settings.fonts.cell(byte);
-        self.line.put(margins, cell, Behind::Hyphen)
+        self.line.put(margins, cell, CutAfter::Hyphen)
     }
 
     /// The blanks that these bytes begin with go to the word, as many as pass no limit. Tells how many did.
@@ -56,7 +56,7 @@ impl Formatter {
     fn add_blanks(&mut self, bytes: &[u8]) -> usize
         requires line { is_in_line self.old ≡ true }
         requires goes { goes_to_word (code " ") self.old ≡ true }
-        ensures front { result ≤ length bytes.now }
+        ensures prefix { result ≤ length bytes.now }
         ensures puts { PutsCellBytes (take result bytes.now) self.old self.new }
     {
         let margins = self.settings.indents.margins();
@@ -67,7 +67,7 @@ impl Formatter {
     #[inline(never)]
     fn add_bytes(&mut self, bytes: &[u8]) -> usize
         requires { is_in_line self.old ≡ true }
-        ensures front { result ≤ length bytes.now }
+        ensures prefix { result ≤ length bytes.now }
         ensures puts { PutsCellBytes (take result bytes.now) self.old self.new }
     {
         let mut count = 0;
@@ -88,7 +88,7 @@ impl Formatter {
     #[inline]
     pub fn put_cell_bytes(&mut self, bytes: &[u8]) -> usize
         requires { is_in_line self.old ≡ true }
-        ensures front { result ≤ length bytes.now }
+        ensures prefix { result ≤ length bytes.now }
         ensures puts { PutsCellBytes (take result bytes.now) self.old self.new }
     {
         if bytes.is_empty() || !self.goes_to_word(bytes[0]) {

@@ -7,7 +7,7 @@ use crate::formatter::Formatter;
 use crate::paper::Outlet;
 use crate::tasks::Task;
 use nr_input::Event;
-use nr_reading::{Due, Escape, Mode};
+use nr_reading::{Escape, Mode, PendingAct};
 
 impl Formatter {
     /// Whether an empty line does nothing but go down the open page.
@@ -41,7 +41,7 @@ impl Formatter {
         let half = &self.reader.half;
         matches!(half.reading.mode, Mode::Start)
             && matches!(half.reading.escape, Escape::Plain)
-            && matches!(half.reading.due, Due::Look)
+            && matches!(half.reading.pending_act, PendingAct::Look)
             && half.asks.is_empty()
             && (half.signs.control != b'\n' && half.signs.no_break != b'\n')
     }

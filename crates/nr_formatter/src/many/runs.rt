@@ -6,7 +6,7 @@ ghost use Rattle.nr_formatter.specs.Access.{collected};
 ghost use Rattle.nr_formatter.specs.declared.many.runs.Gap.TheVariants as gaps;
 ghost use Rattle.nr_formatter.specs.Many.LineBeginnings.{is_at_text, AfterBeginning};
 ghost use Rattle.nr_formatter.specs.Many.LineEnds.{IsNewline, AfterNewline};
-ghost use Rattle.nr_formatter.specs.Many.Runs.{reads_next, is_in_line, run_put, gaps_plainly, IsGap, BehindWord, AfterGap, PutsWord, is_rereading_line, manner_of};
+ghost use Rattle.nr_formatter.specs.Many.Runs.{reads_next, is_in_line, run_put, gaps_plainly, IsGap, AfterWord, AfterGap, PutsWord, is_rereading_line, manner_of};
 
 use crate::formatter::Formatter;
 use crate::tasks::{After, Task};
@@ -188,7 +188,7 @@ impl Formatter {
     /// After a word: full lines go out next where the pieces do not fit the line.
     #[inline]
     fn flow_after(&mut self) -> Gap
-        ensures { BehindWord self.old result self.new }
+        ensures { AfterWord self.old result self.new }
     {
         if self.line.fits() {
             return Gap::Reads;

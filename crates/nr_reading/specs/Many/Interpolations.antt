@@ -3,14 +3,14 @@ use Prim.Native.Char.{code}
 use Rattle.std.specs.Prelude.{◌≡◌, ℕ, ◌+◌, ◌==◌, ◌&&◌, ◌||◌, not, Bool, true, false, List, [], ◌∷◌, slice_get, Some}
 use Rattle.nr_reading.specs.declared.ask.Kind.{Kind}
 use Rattle.nr_reading.specs.declared.ask.Kind.TheVariants as kinds
-use Rattle.nr_reading.specs.declared.front.Front.{Front}
-use Rattle.nr_reading.specs.declared.front.Front.TheVariants as fronts
+use Rattle.nr_reading.specs.declared.next_item.NextItem.{NextItem}
+use Rattle.nr_reading.specs.declared.next_item.NextItem.TheVariants as next_items
 use Rattle.nr_reading.specs.declared.half.Half.{Half}
 use Rattle.nr_reading.specs.declared.mode.Mode.{Mode}
 use Rattle.nr_reading.specs.declared.mode.Mode.TheVariants as modes
 use Rattle.nr_reading.specs.declared.mode.Signs.{Signs}
 use Rattle.nr_reading.specs.Ask.{begun_ask}
-use Rattle.nr_reading.specs.Ended.{due_of}
+use Rattle.nr_reading.specs.Ended.{pending_of}
 use Rattle.nr_reading.specs.Half.{reads_plainly}
 use Rattle.nr_reading.specs.Mode.{is_direct}
 use Rattle.nr_reading.specs.Many.Passing.{is_plain}
@@ -44,28 +44,28 @@ begun k h = record h { asks = begun_ask k ∷ [] }
 -- after the name
 abbrev pub named : Kind → List ℕ → Half → Half
 named k name h = record h {
-  reading = record h.reading { due = due_of k name };
+  reading = record h.reading { pending_act = pending_of k name };
   notes = record h.notes { asked = name };
 }
 
--- what is due is another, and the name that was asked for last; nothing else of what is half read
+-- what is pending is another, and the name that was asked for last; nothing else of what is half read
 abbrev pub AsksOnly : Half → Half → Type 0
 AsksOnly h g =
     g ≡ record h {
-      reading = record h.reading { due = g.reading.due };
+      reading = record h.reading { pending_act = g.reading.pending_act };
       notes = record h.notes { asked = g.notes.asked };
     }
 
 -- A name stands there in the row: one byte, or in the midst of a line two after `(`, where an escape begins at neither.
-pub data IsName (in_line : Bool) (fs : List Front) (place : ℕ) : Type 0 where
-  Lone : (byte : ℕ) → slice_get fs place ≡ Some (fronts.Byte byte) → is_lone_name byte ≡ true
+pub data IsName (in_line : Bool) (fs : List NextItem) (place : ℕ) : Type 0 where
+  Lone : (byte : ℕ) → slice_get fs place ≡ Some (next_items.Byte byte) → is_lone_name byte ≡ true
       → IsName in_line fs place
-  Pair : (one two : ℕ) → in_line ≡ true → slice_get fs place ≡ Some (fronts.Byte (code "("))
-      → slice_get fs (place + 1) ≡ Some (fronts.Byte one) → slice_get fs (place + 2) ≡ Some (fronts.Byte two)
+  Pair : (one two : ℕ) → in_line ≡ true → slice_get fs place ≡ Some (next_items.Byte (code "("))
+      → slice_get fs (place + 1) ≡ Some (next_items.Byte one) → slice_get fs (place + 2) ≡ Some (next_items.Byte two)
       → is_plain one ≡ true → is_plain two ≡ true → IsName in_line fs place
 
--- A font escape stands in front of the row, with its name.
-pub record IsFont (in_line : Bool) (fs : List Front) : Type 0 where
-  pub backslash : slice_get fs 0 ≡ Some (fronts.Byte (code "\\"))
-  pub letter : slice_get fs 1 ≡ Some (fronts.Byte (code "f"))
+-- A font escape begins the row, with its name.
+pub record IsFont (in_line : Bool) (fs : List NextItem) : Type 0 where
+  pub backslash : slice_get fs 0 ≡ Some (next_items.Byte (code "\\"))
+  pub letter : slice_get fs 1 ≡ Some (next_items.Byte (code "f"))
   pub name : IsName in_line fs 2

@@ -1,8 +1,8 @@
--- Bytes that are met many at once.
+-- Bytes that are taken in many at once.
 use Prim.Native.Char.{code}
 use Rattle.std.specs.Prelude.{◌≡◌, ℕ, ◌==◌, ◌&&◌, ◌||◌, not, Bool, true, false, List}
 use Rattle.nr_reading.specs.declared.event.Event.TheVariants as events
-use Rattle.nr_reading.specs.declared.front.Front.{Front}
+use Rattle.nr_reading.specs.declared.next_item.NextItem.{NextItem}
 use Rattle.nr_reading.specs.declared.half.Half.{Half}
 use Rattle.nr_reading.specs.declared.mode.Escape.{Escape}
 use Rattle.nr_reading.specs.declared.mode.Escape.TheVariants as escapes
@@ -10,7 +10,7 @@ use Rattle.nr_reading.specs.declared.mode.Mode.{Mode}
 use Rattle.nr_reading.specs.declared.mode.Mode.TheVariants as modes
 use Rattle.nr_reading.specs.declared.notes.Defining.{Defining}
 use Rattle.nr_reading.specs.Nesting.{is_none}
-use Rattle.nr_reading.specs.Many.Runs.{Spot, HasMet}
+use Rattle.nr_reading.specs.Many.Runs.{Spot, HasTakenIn}
 
 -- the byte begins no escape, and ends no line
 abbrev pub is_plain : ℕ → Bool
@@ -35,11 +35,11 @@ passes_by escapes.Comment m d = true
 abbrev pub passes_plain : Half → Bool
 passes_plain h = is_none h.asks && passes_by h.reading.escape h.reading.mode h.notes.defining
 
--- where so many items were taken, and nothing was told
+-- where so many items were taken, and nothing was emitted
 abbrev pub quiet : ℕ → Half → Spot
 quiet taken h = record { taken = taken; half = h; event = events.Nothing }
 
 -- from the first item of a row to a place each move takes an item, and tells nothing
-pub record GoesOn (fs : List Front) (to : ℕ) (old new : Half) : Type 0 where
-  pub due : new.reading.due ≡ old.reading.due
-  pub met : HasMet to fs old (quiet to new)
+pub record GoesOn (fs : List NextItem) (to : ℕ) (old new : Half) : Type 0 where
+  pub pending_act : new.reading.pending_act ≡ old.reading.pending_act
+  pub taken_in : HasTakenIn to fs old (quiet to new)

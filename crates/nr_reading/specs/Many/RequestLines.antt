@@ -1,4 +1,4 @@
--- The line of a request, met at once (CSTR 54, 1.1).
+-- The line of a request, taken in at once (CSTR 54, 1.1).
 use Rattle.std.specs.Prelude.{ℕ, List, take}
 use Rattle.nr_reading.specs.declared.half.Half.{Half}
 use Rattle.nr_reading.specs.declared.mode.Mode.TheVariants as modes

@@ -1,28 +1,28 @@
--- Rows of items, met from a place on in the loops of the modes.
+-- Rows of items, taken in from a place on in the loops of the modes.
 use Rattle.std.specs.Prelude.{◌≡◌, ℕ, ◌<◌, ◌≤◌, not, Bool, true, false, List, slice_get, Some}
 use Rattle.nr_reading.specs.declared.event.Event.TheVariants as events
-use Rattle.nr_reading.specs.declared.front.Front.{Front}
-use Rattle.nr_reading.specs.declared.front.Front.TheVariants as fronts
+use Rattle.nr_reading.specs.declared.next_item.NextItem.{NextItem}
+use Rattle.nr_reading.specs.declared.next_item.NextItem.TheVariants as next_items
 use Rattle.nr_reading.specs.declared.half.Half.{Half}
-use Rattle.nr_reading.specs.declared.mode.Due.TheVariants as dues
+use Rattle.nr_reading.specs.declared.mode.PendingAct.TheVariants as pending_acts
 use Rattle.nr_reading.specs.declared.mode.Mode.{Mode}
 use Rattle.nr_reading.specs.declared.mode.Mode.TheVariants as modes
 use Rattle.nr_reading.specs.declared.notes.Condition.{Condition}
 use Rattle.nr_reading.specs.declared.many.runs.Run.{Run}
 use Rattle.nr_reading.specs.Many.Passing.{quiet}
-use Rattle.nr_reading.specs.Many.Runs.{spot, HasMet}
+use Rattle.nr_reading.specs.Many.Runs.{spot, HasTakenIn}
 
--- where so many moves led to one place of a row, so many lead on to another, and nothing is told on the way
-pub record LeadsOn (fs : List Front) (from made : ℕ) (old : Half) (to moves : ℕ) (new : Half) : Type 0 where
-  pub met : (h : Half) → HasMet made fs h (quiet from old) → HasMet moves fs h (quiet to new)
+-- where so many moves led to one place of a row, so many lead on to another, and nothing is emitted on the way
+pub record LeadsOn (fs : List NextItem) (from made : ℕ) (old : Half) (to moves : ℕ) (new : Half) : Type 0 where
+  pub taken_in : (h : Half) → HasTakenIn made fs h (quiet from old) → HasTakenIn moves fs h (quiet to new)
 
--- Where so many moves led to a place, this run leads on. Bytes are left only where something was told, something is due, or the
+-- Where so many moves led to a place, this run leads on. Bytes are left only where something was emitted, something is pending, or the
 -- most moves of a run were made.
-pub record MeetsRest (fs : List Front) (from made : ℕ) (old : Half) (run : Run) (new : Half) : Type 0 where
-  pub met : (h : Half) → HasMet made fs h (quiet from old) → HasMet run.moves fs h (spot run new)
+pub record TakesInRest (fs : List NextItem) (from made : ℕ) (old : Half) (run : Run) (new : Half) : Type 0 where
+  pub taken_in : (h : Half) → HasTakenIn made fs h (quiet from old) → HasTakenIn run.moves fs h (spot run new)
   pub few : run.moves ≤ 65536
-  pub longest : run.event ≡ events.Nothing → new.reading.due ≡ dues.Look → run.moves < 65536 → (byte : ℕ)
-      → slice_get fs run.taken ≡ Some (fronts.Byte byte) → ⊥
+  pub longest : run.event ≡ events.Nothing → new.reading.pending_act ≡ pending_acts.Look → run.moves < 65536 → (byte : ℕ)
+      → slice_get fs run.taken ≡ Some (next_items.Byte byte) → ⊥
 
 -- In these modes a blank does nothing; before a condition it does nothing where no `!` came.
 abbrev pub drops_blank : Mode → Condition → Bool

@@ -1,15 +1,15 @@
--- Many items met one after another.
+-- Many items taken in one after another.
 use Rattle.std.specs.Prelude.{◌≡◌, ℕ, zero, suc, ◌+◌, ◌-◌, ◌*◌, ◌<◌, ◌≤◌, Bool, true, false, List, length, slice_get, Option, None, Some}
 use Rattle.nr_reading.specs.declared.event.Event.{Event}
 use Rattle.nr_reading.specs.declared.event.Event.TheVariants as events
-use Rattle.nr_reading.specs.declared.front.Front.{Front}
+use Rattle.nr_reading.specs.declared.next_item.NextItem.{NextItem}
 use Rattle.nr_reading.specs.declared.half.Half.{Half}
-use Rattle.nr_reading.specs.declared.mode.Due.TheVariants as dues
+use Rattle.nr_reading.specs.declared.mode.PendingAct.TheVariants as pending_acts
 use Rattle.nr_reading.specs.declared.many.runs.Run.{Run}
-use Rattle.nr_reading.specs.Half.{Met, meet}
+use Rattle.nr_reading.specs.Half.{TakenIn, take_in}
 use Rattle.nr_reading.specs.Weights.{item_worth, cost_of_text, weight_of_half, cost_of_event, blanks_owed, is_lead}
 
--- where many moves have come in a row of items: how many were taken, what is half read after them, and what the last told
+-- where many moves have come in a row of items: how many were taken, what is half read after them, and what the last emitted
 pub record Spot : Type 0 where
   pub taken : ℕ
   pub half : Half
@@ -23,27 +23,27 @@ abbrev pub one_if : Bool → ℕ
 one_if true = 1
 one_if false = 0
 
-abbrev pub after_met : Met → ℕ → Spot
-after_met m taken = record { taken = taken + one_if m.takes; half = m.half; event = m.event }
+abbrev pub after_taken_in : TakenIn → ℕ → Spot
+after_taken_in m taken = record { taken = taken + one_if m.takes; half = m.half; event = m.event }
 
--- the item in front, if there is one, has met what is half read
-abbrev pub behind : Option Front → Spot → Spot
-behind None p = p
-behind (Some f) p = after_met (meet f p.half) p.taken
+-- the next item, if there is one, has taken in what is half read
+abbrev pub afterwards : Option NextItem → Spot → Spot
+afterwards None p = p
+afterwards (Some f) p = after_taken_in (take_in f p.half) p.taken
 
 -- after n moves
-abbrev pub spot_after : ℕ → List Front → Half → Spot
+abbrev pub spot_after : ℕ → List NextItem → Half → Spot
 spot_after zero fs h = record { taken = 0; half = h; event = events.Nothing }
-spot_after (suc n) fs h = behind (slice_get fs (spot_after n fs h).taken) (spot_after n fs h)
+spot_after (suc n) fs h = afterwards (slice_get fs (spot_after n fs h).taken) (spot_after n fs h)
 
--- one more may be made: there is an item, nothing is due, and nothing was told
-pub record MayGoOn (fs : List Front) (p : Spot) : Type 0 where
+-- one more may be made: there is an item, nothing is pending, and nothing was emitted
+pub record MayGoOn (fs : List NextItem) (p : Spot) : Type 0 where
   pub some : p.taken < length fs
-  pub due : p.half.reading.due ≡ dues.Look
+  pub pending_act : p.half.reading.pending_act ≡ pending_acts.Look
   pub event : p.event ≡ events.Nothing
 
--- n moves were made, which only took items of the row, and all but the last told nothing; each is paid
-pub record HasMet (n : ℕ) (fs : List Front) (h : Half) (p : Spot) : Type 0 where
+-- n moves were made, which only took items of the row, and all but the last emitted nothing; each is paid
+pub record HasTakenIn (n : ℕ) (fs : List NextItem) (h : Half) (p : Spot) : Type 0 where
   pub leads : spot_after n fs h ≡ p
   pub goes : (k : ℕ) → k < n → MayGoOn fs (spot_after k fs h)
   pub within : p.taken ≤ length fs

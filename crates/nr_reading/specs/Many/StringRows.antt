@@ -4,8 +4,8 @@ use Rattle.nr_reading.specs.declared.mode.Mode.TheVariants as modes
 use Rattle.nr_reading.specs.declared.spelled.Spelled.{Spelled}
 
 -- after the name of a string that is defined
-abbrev pub behind_name : Spelled → Half → Half
-behind_name name h =
+abbrev pub after_name : Spelled → Half → Half
+after_name name h =
     record h {
       reading = record h.reading { mode = modes.StringBlanks };
       notes = record h.notes { name = name };

@@ -2,69 +2,69 @@
 ghost use Rattle.std.specs.Prelude.{◌≡◌, ◌≤◌, true};
 ghost use Rattle.nr_reading.specs.declared.mode.Mode.TheVariants as modes;
 ghost use Rattle.nr_reading.specs.Half.{reads_next};
-ghost use Rattle.nr_reading.specs.Many.Row.{MeetsRest};
+ghost use Rattle.nr_reading.specs.Many.Row.{TakesInRest};
 
 use crate::event::Event;
 use crate::half::Half;
 use crate::many::passing::is_plain;
 use crate::many::row::byte_of;
 use crate::many::runs::{Items, Run};
-use crate::mode::{Due, Mode};
+use crate::mode::{Mode, PendingAct};
 use crate::spelled::is_blank;
 
 impl Half {
-    /// The blanks before a macro's arguments are met, and the first of these.
+    /// The blanks before a macro's arguments are taken in, and the first of these.
     #[inline(never)]
-    pub(crate) fn meet_call<I: Items>(&mut self, items: &I, run: &mut Run)
+    pub(crate) fn take_in_call<I: Items>(&mut self, items: &I, run: &mut Run)
         requires mode { self.old.reading.mode ≡ modes.MacroBlanks }
         requires next { reads_next self.old ≡ true }
-        ensures { MeetsRest (I.fronts items.now) 0 0 self.old run.new self.new }
+        ensures { TakesInRest (I.next_items items.now) 0 0 self.old run.new self.new }
     {
         let place = self.pass_first_blanks(items);
         let Some(byte) = byte_of(items, place) else {
-            return self.meet_rest(items, place, place, run);
+            return self.take_in_rest(items, place, place, run);
         };
         if byte == b'\\' || is_blank(byte) {
-            return self.meet_escape(items, place, place, run);
+            return self.take_in_escape(items, place, place, run);
         }
         self.reading.mode = Mode::MacroGap;
-        self.meet_argument(items, place, place + 1, run)
+        self.take_in_argument(items, place, place + 1, run)
     }
 
-    /// The space between two arguments is met, and what stands after it.
+    /// The space between two arguments is taken in, and what stands after it.
     #[inline(never)]
-    pub(crate) fn meet_gap<I: Items>(&mut self, items: &I, run: &mut Run)
+    pub(crate) fn take_in_gap<I: Items>(&mut self, items: &I, run: &mut Run)
         requires mode { self.old.reading.mode ≡ modes.MacroGap }
         requires next { reads_next self.old ≡ true }
-        ensures { MeetsRest (I.fronts items.now) 0 0 self.old run.new self.new }
+        ensures { TakesInRest (I.next_items items.now) 0 0 self.old run.new self.new }
     {
         match byte_of(items, 0) {
-            Some(b' ') => self.meet_argument(items, 1, 1, run),
-            _ => self.meet_argument(items, 0, 0, run),
+            Some(b' ') => self.take_in_argument(items, 1, 1, run),
+            _ => self.take_in_argument(items, 0, 0, run),
         }
     }
 
-    // The beginning of an argument is met, or the end of the line.
+    // The beginning of an argument is taken in, or the end of the line.
     #[inline(always)]
-    fn meet_argument<I: Items>(&mut self, items: &I, from: usize, made: usize, run: &mut Run)
+    fn take_in_argument<I: Items>(&mut self, items: &I, from: usize, made: usize, run: &mut Run)
         requires mode { self.old.reading.mode ≡ modes.MacroGap }
         requires next { reads_next self.old ≡ true }
         requires few { made ≤ 16384 }
-        ensures { MeetsRest (I.fronts items.now) from made self.old run.new self.new }
+        ensures { TakesInRest (I.next_items items.now) from made self.old run.new self.new }
     {
         let Some(byte) = byte_of(items, from) else {
-            return self.meet_rest(items, from, made, run);
+            return self.take_in_rest(items, from, made, run);
         };
         if byte == b'\\' || byte == b' ' {
-            return self.meet_escape(items, from, made, run);
+            return self.take_in_escape(items, from, made, run);
         }
         if byte == b'"' {
             self.reading.mode = Mode::Quoted;
-            return self.meet_quoted(items, from + 1, made + 1, run);
+            return self.take_in_quoted(items, from + 1, made + 1, run);
         }
         if byte == b'\n' {
             self.reading.mode = Mode::Start;
-            self.reading.due = Due::Call;
+            self.reading.pending_act = PendingAct::Call;
             *run = Run {
                 taken: from + 1,
                 moves: made + 1,
@@ -73,7 +73,7 @@ impl Half {
             return;
         }
         self.reading.mode = Mode::Word;
-        self.reading.due = Due::Put(byte);
+        self.reading.pending_act = PendingAct::Put(byte);
         *run = Run {
             taken: from + 1,
             moves: made + 1,
@@ -81,17 +81,17 @@ impl Half {
         };
     }
 
-    /// A byte of an argument is met, or what ends it.
+    /// A byte of an argument is taken in, or what ends it.
     #[inline(never)]
-    pub(crate) fn meet_word<I: Items>(&mut self, items: &I, run: &mut Run)
+    pub(crate) fn take_in_word<I: Items>(&mut self, items: &I, run: &mut Run)
         requires mode { self.old.reading.mode ≡ modes.Word }
         requires next { reads_next self.old ≡ true }
-        ensures { MeetsRest (I.fronts items.now) 0 0 self.old run.new self.new }
+        ensures { TakesInRest (I.next_items items.now) 0 0 self.old run.new self.new }
     {
         match byte_of(items, 0) {
             Some(b'\n') => {
                 self.reading.mode = Mode::MacroGap;
-                self.reading.due = Due::EndArgument;
+                self.reading.pending_act = PendingAct::EndArgument;
                 *run = Run {
                     taken: 0,
                     moves: 1,
@@ -100,20 +100,20 @@ impl Half {
             }
             Some(b' ') => {
                 self.reading.mode = Mode::MacroGap;
-                self.reading.due = Due::EndArgument;
+                self.reading.pending_act = PendingAct::EndArgument;
                 *run = Run {
                     taken: 1,
                     moves: 1,
                     event: Event::Nothing,
                 };
             }
-            _ => self.meet_escape(items, 0, 0, run),
+            _ => self.take_in_escape(items, 0, 0, run),
         }
     }
 
-    /// A byte of an argument that began with a quote is met, or the quote that ends it and what stands after that.
+    /// A byte of an argument that began with a quote is taken in, or the quote that ends it and what stands after that.
     #[inline(never)]
-    pub(crate) fn meet_quoted<I: Items>(
+    pub(crate) fn take_in_quoted<I: Items>(
         &mut self,
         items: &I,
         from: usize,
@@ -123,19 +123,19 @@ impl Half {
         requires mode { self.old.reading.mode ≡ modes.Quoted }
         requires next { reads_next self.old ≡ true }
         requires few { made ≤ 32768 }
-        ensures { MeetsRest (I.fronts items.now) from made self.old run.new self.new }
+        ensures { TakesInRest (I.next_items items.now) from made self.old run.new self.new }
     {
         let Some(byte) = byte_of(items, from) else {
-            return self.meet_rest(items, from, made, run);
+            return self.take_in_rest(items, from, made, run);
         };
         if !is_plain(byte) {
-            return self.meet_escape(items, from, made, run);
+            return self.take_in_escape(items, from, made, run);
         }
         if byte == b'"' {
             self.reading.mode = Mode::Quote;
-            return self.meet_quote(items, from + 1, made + 1, run);
+            return self.take_in_quote(items, from + 1, made + 1, run);
         }
-        self.reading.due = Due::Put(byte);
+        self.reading.pending_act = PendingAct::Put(byte);
         *run = Run {
             taken: from + 1,
             moves: made + 1,
@@ -143,22 +143,22 @@ impl Half {
         };
     }
 
-    // What stands after the quote is met.
+    // What stands after the quote is taken in.
     #[inline(always)]
-    fn meet_quote<I: Items>(&mut self, items: &I, from: usize, made: usize, run: &mut Run)
+    fn take_in_quote<I: Items>(&mut self, items: &I, from: usize, made: usize, run: &mut Run)
         requires mode { self.old.reading.mode ≡ modes.Quote }
         requires next { reads_next self.old ≡ true }
         requires few { made ≤ 49152 }
-        ensures { MeetsRest (I.fronts items.now) from made self.old run.new self.new }
+        ensures { TakesInRest (I.next_items items.now) from made self.old run.new self.new }
     {
         let Some(byte) = byte_of(items, from) else {
-            return self.meet_rest(items, from, made, run);
+            return self.take_in_rest(items, from, made, run);
         };
         if byte == b'\\' || byte == b'"' {
-            return self.meet_escape(items, from, made, run);
+            return self.take_in_escape(items, from, made, run);
         }
         self.reading.mode = Mode::MacroGap;
-        self.reading.due = Due::EndArgument;
+        self.reading.pending_act = PendingAct::EndArgument;
         *run = Run {
             taken: from,
             moves: made + 1,

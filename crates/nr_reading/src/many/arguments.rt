@@ -3,7 +3,7 @@ ghost use Rattle.std.specs.Prelude.{◌≡◌, ◌↔◌, ◌≤◌, ◌<◌, Al
 ghost use Rattle.nr_reading.specs.Many.InArgument.{is_in_argument, ending_of, IsPlain};
 
 use crate::half::Half;
-use crate::mode::{Due, Escape, Mode};
+use crate::mode::{Escape, Mode, PendingAct};
 
 // Whether a byte stands for itself in an argument of this ending.
 #[inline(always)]
@@ -16,7 +16,7 @@ fn is_plain(ending: u8, byte: u8) -> bool
 // How many bytes there are before the first that is not plain.
 #[inline]
 pub(crate) fn plain_count(ending: u8, bytes: &[u8]) -> usize
-    ensures front { result ≤ length bytes.now }
+    ensures prefix { result ≤ length bytes.now }
     ensures plain { All (IsPlain ending) (take result bytes.now) }
     ensures stops { result < length bytes.now → ¬ IsPlain ending (slice_index bytes.now result) }
 {
@@ -42,7 +42,7 @@ impl Half {
     /// How many of these bytes stand for themselves there, before the first that does not.
     #[inline]
     pub fn plain_bytes(&self, bytes: &[u8]) -> usize
-        ensures front { result ≤ length bytes.now }
+        ensures prefix { result ≤ length bytes.now }
         ensures plain { All (IsPlain (ending_of self.now.reading.mode)) (take result bytes.now) }
         ensures stops { result < length bytes.now
             → ¬ IsPlain (ending_of self.now.reading.mode) (slice_index bytes.now result) }

@@ -3,7 +3,7 @@ ghost use Rattle.std.specs.Prelude.{◌≡◌, ◌≤◌, length, true};
 ghost use Rattle.nr_reading.specs.Many.Braces.{begins_with_brace};
 ghost use Rattle.nr_reading.specs.Many.InText.{is_in_text};
 ghost use Rattle.nr_reading.specs.Many.Passing.{quiet};
-ghost use Rattle.nr_reading.specs.Many.Runs.{HasMet};
+ghost use Rattle.nr_reading.specs.Many.Runs.{HasTakenIn};
 
 use crate::half::Half;
 use crate::many::runs::Items;
@@ -14,11 +14,11 @@ impl Half {
     /// Proved: `\}` before a row in the middle of a text line is two moves, which take it and leave all else as it
     /// was.
     #[inline(always)]
-    pub fn meets_brace<I: Items>(&self, items: &I) -> bool
+    pub fn takes_in_brace<I: Items>(&self, items: &I) -> bool
         requires text { is_in_text self.now ≡ true }
-        ensures brace { result ≡ begins_with_brace (I.fronts items.now) }
-        ensures met { result ≡ true → HasMet 2 (I.fronts items.now) self.now (quiet 2 self.now) }
-        ensures there { result ≡ true → 2 ≤ length (I.fronts items.now) }
+        ensures brace { result ≡ begins_with_brace (I.next_items items.now) }
+        ensures taken_in { result ≡ true → HasTakenIn 2 (I.next_items items.now) self.now (quiet 2 self.now) }
+        ensures there { result ≡ true → 2 ≤ length (I.next_items items.now) }
     {
         if items.count() < 2 {
             return false;

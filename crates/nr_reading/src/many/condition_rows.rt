@@ -3,7 +3,7 @@ ghost use Rattle.std.specs.Prelude.{◌≡◌, ◌+◌, ◌≤◌, length, true}
 ghost use Rattle.nr_reading.specs.declared.mode.Mode.TheVariants as modes;
 ghost use Rattle.nr_reading.specs.Many.ConditionRows.{delimits, ends_number, is_digit_or_relation};
 ghost use Rattle.nr_reading.specs.Half.{reads_next};
-ghost use Rattle.nr_reading.specs.Many.Row.{MeetsRest};
+ghost use Rattle.nr_reading.specs.Many.Row.{TakesInRest};
 
 use crate::conditions::{begins_number, parentheses};
 use crate::event::{Event, Question};
@@ -11,7 +11,7 @@ use crate::half::Half;
 use crate::many::passing::is_plain;
 use crate::many::row::{byte_of, near};
 use crate::many::runs::{Items, Run};
-use crate::mode::{Due, Mode};
+use crate::mode::{Mode, PendingAct};
 use crate::spelled::is_blank;
 use crate::step::Jot;
 
@@ -46,51 +46,51 @@ fn is_digit_or_relation(byte: u8) -> bool
 }
 
 impl Half {
-    /// A condition is met from its blanks on.
+    /// A condition is taken in from its blanks on.
     #[inline(never)]
-    pub(crate) fn meet_condition<I: Items>(&mut self, items: &I, run: &mut Run)
+    pub(crate) fn take_in_condition<I: Items>(&mut self, items: &I, run: &mut Run)
         requires mode { self.old.reading.mode ≡ modes.Condition }
         requires next { reads_next self.old ≡ true }
-        ensures { MeetsRest (I.fronts items.now) 0 0 self.old run.new self.new }
+        ensures { TakesInRest (I.next_items items.now) 0 0 self.old run.new self.new }
     {
         if self.notes.condition.negated {
-            return self.meet_question(items, 0, 0, run);
+            return self.take_in_question(items, 0, 0, run);
         }
         let place = self.pass_first_blanks(items);
         if let Some(b'!') = byte_of(items, place) {
             self.notes.note(Jot::Negated);
-            return self.meet_question(items, place + 1, place + 1, run);
+            return self.take_in_question(items, place + 1, place + 1, run);
         }
-        self.meet_question(items, place, place, run)
+        self.take_in_question(items, place, place, run)
     }
 
-    // A condition is met from its first byte on.
+    // A condition is taken in from its first byte on.
     #[inline(never)]
-    fn meet_question<I: Items>(&mut self, items: &I, from: usize, made: usize, run: &mut Run)
+    fn take_in_question<I: Items>(&mut self, items: &I, from: usize, made: usize, run: &mut Run)
         requires mode { self.old.reading.mode ≡ modes.Condition }
         requires next { reads_next self.old ≡ true }
         requires few { made ≤ 16384 }
-        ensures { MeetsRest (I.fronts items.now) from made self.old run.new self.new }
+        ensures { TakesInRest (I.next_items items.now) from made self.old run.new self.new }
     {
         let Some(byte) = byte_of(items, from) else {
-            return self.meet_rest(items, from, made, run);
+            return self.take_in_rest(items, from, made, run);
         };
         if begins_number(byte) {
             self.reading.mode = Mode::Number(0);
             self.notes.note(Jot::NewLine);
-            return self.meet_tested(items, from, made + 1, 0, run);
+            return self.take_in_tested(items, from, made + 1, 0, run);
         }
         if !delimits(byte) {
-            return self.meet_escape(items, from, made, run);
+            return self.take_in_escape(items, from, made, run);
         }
         self.reading.mode = Mode::First(byte);
         self.notes.note(Jot::Strings);
-        self.meet_first_string(items, from + 1, made + 1, byte, run)
+        self.take_in_first_string(items, from + 1, made + 1, byte, run)
     }
 
-    /// A condition's number is met.
+    /// A condition's number is taken in.
     #[inline(never)]
-    pub(crate) fn meet_tested<I: Items>(
+    pub(crate) fn take_in_tested<I: Items>(
         &mut self,
         items: &I,
         from: usize,
@@ -100,23 +100,23 @@ impl Half {
     )
         requires mode { self.old.reading.mode ≡ modes.Number depth }
         requires next { reads_next self.old ≡ true }
-        requires within { from ≤ length (I.fronts items.now) }
+        requires within { from ≤ length (I.next_items items.now) }
         requires few { made ≤ 32768 }
-        ensures { MeetsRest (I.fronts items.now) from made self.old run.new self.new }
+        ensures { TakesInRest (I.next_items items.now) from made self.old run.new self.new }
     {
         let end = near(items, from);
         let mut level = depth;
         for place in from..end {
             let moves = made + (place - from);
             let Some(byte) = items.byte(place) else {
-                return self.meet_rest(items, place, moves, run);
+                return self.take_in_rest(items, place, moves, run);
             };
             if is_digit_or_relation(byte) {
                 self.notes.note(Jot::Line(byte));
                 continue;
             }
             if byte == b'\\' {
-                return self.meet_escape(items, place, moves, run);
+                return self.take_in_escape(items, place, moves, run);
             }
             if ends_number(byte, level) {
                 self.reading.mode = Mode::Skip(0);
@@ -131,12 +131,12 @@ impl Half {
             self.reading.mode = Mode::Number(level);
             self.notes.note(Jot::Line(byte));
         }
-        self.meet_rest(items, end, made + (end - from), run)
+        self.take_in_rest(items, end, made + (end - from), run)
     }
 
-    /// A condition's first string is met.
+    /// A condition's first string is taken in.
     #[inline(never)]
-    pub(crate) fn meet_first_string<I: Items>(
+    pub(crate) fn take_in_first_string<I: Items>(
         &mut self,
         items: &I,
         from: usize,
@@ -146,31 +146,31 @@ impl Half {
     )
         requires mode { self.old.reading.mode ≡ modes.First delimiter }
         requires next { reads_next self.old ≡ true }
-        requires within { from ≤ length (I.fronts items.now) }
+        requires within { from ≤ length (I.next_items items.now) }
         requires few { made ≤ 32768 }
-        ensures { MeetsRest (I.fronts items.now) from made self.old run.new self.new }
+        ensures { TakesInRest (I.next_items items.now) from made self.old run.new self.new }
     {
         let end = near(items, from);
         for place in from..end {
             let moves = made + (place - from);
             let Some(byte) = items.byte(place) else {
-                return self.meet_rest(items, place, moves, run);
+                return self.take_in_rest(items, place, moves, run);
             };
             if !is_plain(byte) {
-                return self.meet_escape(items, place, moves, run);
+                return self.take_in_escape(items, place, moves, run);
             }
             if byte == delimiter {
                 self.reading.mode = Mode::Second(delimiter);
-                return self.meet_second_string(items, place + 1, moves + 1, delimiter, run);
+                return self.take_in_second_string(items, place + 1, moves + 1, delimiter, run);
             }
             self.notes.note(Jot::First(byte));
         }
-        self.meet_rest(items, end, made + (end - from), run)
+        self.take_in_rest(items, end, made + (end - from), run)
     }
 
-    /// A condition's second string is met.
+    /// A condition's second string is taken in.
     #[inline(never)]
-    pub(crate) fn meet_second_string<I: Items>(
+    pub(crate) fn take_in_second_string<I: Items>(
         &mut self,
         items: &I,
         from: usize,
@@ -180,21 +180,21 @@ impl Half {
     )
         requires mode { self.old.reading.mode ≡ modes.Second delimiter }
         requires next { reads_next self.old ≡ true }
-        requires within { from ≤ length (I.fronts items.now) }
+        requires within { from ≤ length (I.next_items items.now) }
         requires few { made ≤ 49152 }
-        ensures { MeetsRest (I.fronts items.now) from made self.old run.new self.new }
+        ensures { TakesInRest (I.next_items items.now) from made self.old run.new self.new }
     {
         let end = near(items, from);
         for place in from..end {
             let moves = made + (place - from);
             let Some(byte) = items.byte(place) else {
-                return self.meet_rest(items, place, moves, run);
+                return self.take_in_rest(items, place, moves, run);
             };
             if !is_plain(byte) {
-                return self.meet_escape(items, place, moves, run);
+                return self.take_in_escape(items, place, moves, run);
             }
             if byte == delimiter {
-                self.reading.due = Due::Judge(self.notes.condition.are_equal());
+                self.reading.pending_act = PendingAct::Judge(self.notes.condition.are_equal());
                 *run = Run {
                     taken: place + 1,
                     moves: moves + 1,
@@ -204,6 +204,6 @@ impl Half {
             }
             self.notes.note(Jot::Second(byte));
         }
-        self.meet_rest(items, end, made + (end - from), run)
+        self.take_in_rest(items, end, made + (end - from), run)
     }
 }

@@ -3,7 +3,7 @@ ghost use Rattle.std.specs.Prelude.{◌≡◌, ◌≤◌, true};
 ghost use Rattle.nr_reading.specs.declared.mode.Mode.TheVariants as modes;
 ghost use Rattle.nr_reading.specs.Many.LineBeginnings.{begins_text};
 ghost use Rattle.nr_reading.specs.Half.{reads_next};
-ghost use Rattle.nr_reading.specs.Many.Row.{MeetsRest};
+ghost use Rattle.nr_reading.specs.Many.Row.{TakesInRest};
 
 use crate::event::Event;
 use crate::half::Half;
@@ -19,9 +19,9 @@ impl Half {
         !(byte == b'\\' || byte == b'\n' || byte == b' ' || self.signs.begins_control(byte))
     }
 
-    /// The items after a line's beginning are met: the name of a control line, or the first byte of its text, and else one after another.
+    /// The items after a line's beginning are taken in: the name of a control line, or the first byte of its text, and else one after another.
     #[inline(never)]
-    pub(crate) fn meet_beginning<I: Items>(
+    pub(crate) fn take_in_beginning<I: Items>(
         &mut self,
         items: &I,
         from: usize,
@@ -31,7 +31,7 @@ impl Half {
         requires mode { self.old.reading.mode ≡ modes.Start }
         requires next { reads_next self.old ≡ true }
         requires few { made ≤ 65000 }
-        ensures { MeetsRest (I.fronts items.now) from made self.old run.new self.new }
+        ensures { TakesInRest (I.next_items items.now) from made self.old run.new self.new }
     {
         if from >= items.count() {
             *run = Run {
@@ -41,7 +41,7 @@ impl Half {
             };
             return;
         }
-        if let Some(name) = self.meet_name_at(items, from) {
+        if let Some(name) = self.take_in_name_at(items, from) {
             *run = Run {
                 taken: from + name.taken,
                 moves: made + name.moves,
@@ -50,10 +50,10 @@ impl Half {
             return;
         }
         let Some(byte) = items.byte(from) else {
-            return self.meet_more(items, from, made, run);
+            return self.take_in_more(items, from, made, run);
         };
         if !self.begins_text(byte) {
-            return self.meet_more(items, from, made, run);
+            return self.take_in_more(items, from, made, run);
         }
         self.begin_text();
         *run = Run {

@@ -1,6 +1,6 @@
-//! Bytes that are met many at once.
+//! Bytes that are taken in many at once.
 ghost use Rattle.std.specs.Prelude.{◌≡◌, ◌≤◌, ◌+◌, ◌-◌, ℕ, length, true};
-ghost use Rattle.nr_reading.specs.declared.mode.Due.TheVariants as dues;
+ghost use Rattle.nr_reading.specs.declared.mode.PendingAct.TheVariants as pending_acts;
 ghost use Rattle.nr_reading.specs.Many.Passing.{GoesOn, is_plain, drops_plain, passes_plain};
 ghost use Rattle.nr_reading.specs.Many.Row.{LeadsOn};
 
@@ -50,9 +50,9 @@ impl Half {
     #[inline(never)]
     fn pass_plain<I: Items>(&self, items: &I, most: usize) -> usize
         requires passes { passes_plain self.now ≡ true }
-        requires due { self.now.reading.due ≡ dues.Look }
-        requires within { most ≤ length (I.fronts items.now) }
-        ensures goes { GoesOn (I.fronts items.now) result self.now self.now }
+        requires pending_act { self.now.reading.pending_act ≡ pending_acts.Look }
+        requires within { most ≤ length (I.next_items items.now) }
+        ensures goes { GoesOn (I.next_items items.now) result self.now self.now }
         ensures within { result ≤ most }
     {
         for place in 0..most {
@@ -79,12 +79,12 @@ impl Half {
     #[inline(never)]
     fn pass_between<I: Items>(&self, items: &I, from: usize, to: usize) -> usize
         requires passes { passes_plain self.now ≡ true }
-        requires due { self.now.reading.due ≡ dues.Look }
-        requires front { from ≤ to }
-        requires within { to ≤ length (I.fronts items.now) }
+        requires pending_act { self.now.reading.pending_act ≡ pending_acts.Look }
+        requires prefix { from ≤ to }
+        requires within { to ≤ length (I.next_items items.now) }
         ensures leads { (n : ℕ)
-            → LeadsOn (I.fronts items.now) from n self.now result (n + (result - from)) self.now }
-        ensures front { from ≤ result }
+            → LeadsOn (I.next_items items.now) from n self.now result (n + (result - from)) self.now }
+        ensures prefix { from ≤ result }
         ensures within { result ≤ to }
     {
         for place in from..to {
@@ -100,11 +100,11 @@ impl Half {
     /// no comment is being read.
     #[inline(always)]
     pub(crate) fn pass_comment<I: Items>(&self, items: &I, from: usize, most: usize) -> usize
-        requires due { self.now.reading.due ≡ dues.Look }
-        requires within { from ≤ length (I.fronts items.now) }
+        requires pending_act { self.now.reading.pending_act ≡ pending_acts.Look }
+        requires within { from ≤ length (I.next_items items.now) }
         ensures leads { (n : ℕ)
-            → LeadsOn (I.fronts items.now) from n self.now result (n + (result - from)) self.now }
-        ensures front { from ≤ result }
+            → LeadsOn (I.next_items items.now) from n self.now result (n + (result - from)) self.now }
+        ensures prefix { from ≤ result }
         ensures most { result ≤ from + most }
     {
         if !self.is_in_comment() {
@@ -116,10 +116,10 @@ impl Half {
 
     /// Bytes that do nothing are passed over from the beginning of a row on, so many at most. The result is how many.
     #[inline(always)]
-    pub(crate) fn meet_plain<I: Items>(&self, items: &I, room: usize) -> usize
-        requires due { self.now.reading.due ≡ dues.Look }
-        ensures goes { GoesOn (I.fronts items.now) result self.now self.now }
-        ensures within { result ≤ length (I.fronts items.now) }
+    pub(crate) fn take_in_plain<I: Items>(&self, items: &I, room: usize) -> usize
+        requires pending_act { self.now.reading.pending_act ≡ pending_acts.Look }
+        ensures goes { GoesOn (I.next_items items.now) result self.now self.now }
+        ensures within { result ≤ length (I.next_items items.now) }
         ensures room { result ≤ room }
     {
         if self.passes_plain() {

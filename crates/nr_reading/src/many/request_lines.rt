@@ -1,8 +1,8 @@
-//! The line of a request, met at once.
+//! The line of a request, taken in at once.
 ghost use Rattle.std.specs.Prelude.{◌≡◌, ◌<◌, ◌≤◌, All, length, map, take, slice_index, true, false};
-ghost use Rattle.nr_reading.specs.declared.front.Front.TheVariants as variants;
+ghost use Rattle.nr_reading.specs.declared.next_item.NextItem.TheVariants as variants;
 ghost use Rattle.nr_reading.specs.Many.RequestLines.{after_request_line};
-ghost use Rattle.nr_reading.specs.Many.Runs.{HasMet, spot};
+ghost use Rattle.nr_reading.specs.Many.Runs.{HasTakenIn, spot};
 ghost use Rattle.nr_reading.specs.Spelled.{is_blank};
 
 use crate::event::Event;
@@ -12,13 +12,13 @@ use crate::many::runs::Run;
 use crate::mode::Mode;
 use crate::spelled::is_blank;
 
-/// The most bytes of a line that is met at once, its newline among them.
+/// The most bytes of a line that is taken in at once, its newline among them.
 const LONGEST: usize = 32_768;
 
 // How many blanks there are before the first byte that is none.
 #[inline(always)]
 fn blank_count(bytes: &[u8]) -> usize
-    ensures front { result ≤ length bytes.now }
+    ensures prefix { result ≤ length bytes.now }
     ensures blanks { All (λ byte. is_blank byte ≡ true) (take result bytes.now) }
     ensures stops { result < length bytes.now → is_blank (slice_index bytes.now result) ≡ false }
 {
@@ -42,11 +42,11 @@ impl Half {
         self.reading.mode = Mode::Start;
     }
 
-    /// The line of a request, after its name: its blanks, its arguments and its newline are met, if these bytes begin with all of
+    /// The line of a request, after its name: its blanks, its arguments and its newline are taken in, if these bytes begin with all of
     /// it and no escape stands in it. No move is made where they don't, or where no such line is read.
     #[inline(always)]
-    pub fn meet_request_line(&mut self, bytes: &[u8]) -> Run
-        ensures met { HasMet result.moves (map variants.Byte bytes.now) self.old (spot result self.new) }
+    pub fn take_in_request_line(&mut self, bytes: &[u8]) -> Run
+        ensures taken_in { HasTakenIn result.moves (map variants.Byte bytes.now) self.old (spot result self.new) }
         ensures few { result.moves ≤ 32769 }
         ensures within { result.taken ≤ length bytes.now }
     {

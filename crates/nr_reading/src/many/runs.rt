@@ -1,16 +1,16 @@
-//! Many items met one after another.
+//! Many items taken in one after another.
 ghost use Rattle.std.specs.Prelude.{◌≡◌, ◌<◌, ◌≤◌, ℕ, List, length, map, slice_get, Some, None, IfSome, true};
 ghost use Rattle.nr_reading.specs.declared.event.Event.TheVariants as events;
-ghost use Rattle.nr_reading.specs.declared.front.Front.{Front as FrontItem};
-ghost use Rattle.nr_reading.specs.declared.front.Front.TheVariants as variants;
-ghost use Rattle.nr_reading.specs.declared.mode.Due.TheVariants as dues;
+ghost use Rattle.nr_reading.specs.declared.next_item.NextItem.{NextItem as RowItem};
+ghost use Rattle.nr_reading.specs.declared.next_item.NextItem.TheVariants as variants;
+ghost use Rattle.nr_reading.specs.declared.mode.PendingAct.TheVariants as pending_acts;
 ghost use Rattle.nr_reading.specs.Half.{reads_next};
-ghost use Rattle.nr_reading.specs.Many.Row.{MeetsRest};
-ghost use Rattle.nr_reading.specs.Many.Runs.{HasMet, spot};
+ghost use Rattle.nr_reading.specs.Many.Row.{TakesInRest};
+ghost use Rattle.nr_reading.specs.Many.Runs.{HasTakenIn, spot};
 
 use crate::event::Event;
 use crate::half::Half;
-use crate::mode::{Due, Mode};
+use crate::mode::{Mode, PendingAct};
 
 /// The most moves of one run.
 const LONGEST: usize = 65_536;
@@ -18,17 +18,17 @@ const LONGEST: usize = 65_536;
 /// Items in a row.
 pub trait Items {
     /// The items.
-    ghost fronts: { Self → List FrontItem };
+    ghost next_items: { Self → List RowItem };
 
     /// How many there are.
     fn count(&self) -> usize
-        ensures { result ≡ length (fronts self.now) };
+        ensures { result ≡ length (next_items self.now) };
 
     /// The n-th, counted from 0, where it is a byte.
     fn byte(&self, n: usize) -> Option<u8>
-        requires { n < length (fronts self.now) }
-        ensures value { IfSome result (λ byte. slice_get (fronts self.now) n ≡ Some (variants.Byte byte)) }
-        ensures other { result ≡ None → (byte : ℕ) → slice_get (fronts self.now) n ≡ Some (variants.Byte byte)
+        requires { n < length (next_items self.now) }
+        ensures value { IfSome result (λ byte. slice_get (next_items self.now) n ≡ Some (variants.Byte byte)) }
+        ensures other { result ≡ None → (byte : ℕ) → slice_get (next_items self.now) n ≡ Some (variants.Byte byte)
             → ⊥ };
 }
 
@@ -39,25 +39,25 @@ pub struct Run {
     pub taken: usize,
     /// How many moves that were.
     pub moves: usize,
-    /// What the last of them told.
+    /// What the last of them emitted.
     pub event: Event,
 }
 
 impl Half {
-    /// Bytes are met, up to the first item that is none, the first that tells something, or after which something is due;
+    /// Bytes are taken in, up to the first item that is none, the first that tells something, or after which something is pending;
     /// in 65,536 moves at most.
     ///
-    /// Proved: A row of items is met in one call as one by one, of which only the last may emit an event or leave
+    /// Proved: A row of items is taken in by one call as one by one, of which only the last may emit an event or leave
     /// something pending.
     /// Proved: If a call for a row emits nothing, leaves nothing pending and makes fewer than 65,536 moves, the row
     /// has no next byte.
     #[inline(always)]
-    pub fn meet_run<I: Items>(&mut self, items: &I) -> Run
-        ensures met { HasMet result.moves (I.fronts items.now) self.old (spot result self.new) }
+    pub fn take_in_run<I: Items>(&mut self, items: &I) -> Run
+        ensures taken_in { HasTakenIn result.moves (I.next_items items.now) self.old (spot result self.new) }
         ensures few { result.moves ≤ 65536 }
-        ensures longest { result.event ≡ events.Nothing → self.new.reading.due ≡ dues.Look
+        ensures longest { result.event ≡ events.Nothing → self.new.reading.pending_act ≡ pending_acts.Look
             → result.moves < 65536
-            → (byte : ℕ) → slice_get (I.fronts items.now) result.taken ≡ Some (variants.Byte byte) → ⊥ }
+            → (byte : ℕ) → slice_get (I.next_items items.now) result.taken ≡ Some (variants.Byte byte) → ⊥ }
     {
         let mut run = Run {
             taken: 0,
@@ -65,31 +65,31 @@ impl Half {
             event: Event::Nothing,
         };
         if items.count() > 0 {
-            self.meet_items(items, &mut run);
+            self.take_in_items(items, &mut run);
         }
         run
     }
 
     // After so many items and moves, the interpolation that begins with this byte, if it stands whole in the row.
     #[inline(always)]
-    pub(crate) fn meet_whole<I: Items>(
+    pub(crate) fn take_in_whole<I: Items>(
         &mut self,
         items: &I,
         byte: u8,
         taken: usize,
         moves: usize,
     ) -> Option<Run>
-        requires due { self.old.reading.due ≡ dues.Look }
-        requires within { taken < length (I.fronts items.now) }
-        requires byte { slice_get (I.fronts items.now) taken ≡ Some (variants.Byte byte) }
+        requires pending_act { self.old.reading.pending_act ≡ pending_acts.Look }
+        requires within { taken < length (I.next_items items.now) }
+        requires byte { slice_get (I.next_items items.now) taken ≡ Some (variants.Byte byte) }
         ensures rest { IfSome result
-            (λ run. MeetsRest (I.fronts items.now) taken moves self.old run self.new) }
+            (λ run. TakesInRest (I.next_items items.now) taken moves self.old run self.new) }
         ensures left { result ≡ None → self.new ≡ self.old }
     {
         if byte != b'\\' || items.count() - taken < 3 || moves > LONGEST - 6 {
             return None;
         }
-        let Some(run) = self.meet_interpolation(items, taken) else {
+        let Some(run) = self.take_in_interpolation(items, taken) else {
             return None;
         };
         Some(Run {
@@ -99,12 +99,18 @@ impl Half {
         })
     }
 
-    /// The items after a place of a row, to which so many moves led, are met one after another.
+    /// The items after a place of a row, to which so many moves led, are taken in one after another.
     #[inline(never)]
-    pub(crate) fn meet_more<I: Items>(&mut self, items: &I, from: usize, made: usize, run: &mut Run)
-        requires due { self.old.reading.due ≡ dues.Look }
+    pub(crate) fn take_in_more<I: Items>(
+        &mut self,
+        items: &I,
+        from: usize,
+        made: usize,
+        run: &mut Run,
+    )
+        requires pending_act { self.old.reading.pending_act ≡ pending_acts.Look }
         requires few { made ≤ 65536 }
-        ensures { MeetsRest (I.fronts items.now) from made self.old run.new self.new }
+        ensures { TakesInRest (I.next_items items.now) from made self.old run.new self.new }
     {
         let mut taken = from;
         let mut moves = made;
@@ -112,14 +118,16 @@ impl Half {
             let Some(byte) = items.byte(taken) else {
                 break;
             };
-            if let Some(whole) = self.meet_whole(items, byte, taken, moves) {
+            if let Some(whole) = self.take_in_whole(items, byte, taken, moves) {
                 *run = whole;
                 return;
             }
-            let seen = self.meet_byte(byte);
+            let seen = self.take_in_byte(byte);
             moves += 1;
             taken += usize::from(seen.takes);
-            if !matches!(seen.event, Event::Nothing) || !matches!(self.reading.due, Due::Look) {
+            if !matches!(seen.event, Event::Nothing)
+                || !matches!(self.reading.pending_act, PendingAct::Look)
+            {
                 *run = Run {
                     taken,
                     moves,
@@ -138,54 +146,54 @@ impl Half {
         };
     }
 
-    // The items of a row are met: first those that do little, then one after another.
+    // The items of a row are taken in: first those that do little, then one after another.
     #[inline(never)]
-    fn meet_others<I: Items>(&mut self, items: &I, run: &mut Run)
-        requires due { self.old.reading.due ≡ dues.Look }
-        ensures { MeetsRest (I.fronts items.now) 0 0 self.old run.new self.new }
+    fn take_in_others<I: Items>(&mut self, items: &I, run: &mut Run)
+        requires pending_act { self.old.reading.pending_act ≡ pending_acts.Look }
+        ensures { TakesInRest (I.next_items items.now) 0 0 self.old run.new self.new }
     {
-        let taken = self.meet_plain(items, LONGEST);
-        self.meet_more(items, taken, taken, run)
+        let taken = self.take_in_plain(items, LONGEST);
+        self.take_in_more(items, taken, taken, run)
     }
 
-    // The items of a row are met in the loop of the mode, where it has one.
+    // The items of a row are taken in by the loop of the mode, where it has one.
     #[inline(always)]
-    fn meet_in_mode<I: Items>(&mut self, items: &I, run: &mut Run)
+    fn take_in_by_mode<I: Items>(&mut self, items: &I, run: &mut Run)
         requires next { reads_next self.old ≡ true }
-        ensures { MeetsRest (I.fronts items.now) 0 0 self.old run.new self.new }
+        ensures { TakesInRest (I.next_items items.now) 0 0 self.old run.new self.new }
     {
         match self.reading.mode {
-            Mode::Start => self.meet_beginning(items, 0, 0, run),
-            Mode::Text => self.meet_more(items, 0, 0, run),
-            Mode::Condition => self.meet_condition(items, run),
-            Mode::Number(depth) => self.meet_tested(items, 0, 0, depth, run),
-            Mode::First(delimiter) => self.meet_first_string(items, 0, 0, delimiter, run),
-            Mode::Second(delimiter) => self.meet_second_string(items, 0, 0, delimiter, run),
-            Mode::RequestBlanks => self.meet_request(items, run),
-            Mode::RequestLine => self.meet_arguments(items, 0, 0, run),
-            Mode::Accepted => self.meet_accepted(items, run),
-            Mode::Skip(count) => self.meet_rejected(items, count, run),
-            Mode::MacroBlanks => self.meet_call(items, run),
-            Mode::MacroGap => self.meet_gap(items, run),
-            Mode::Word => self.meet_word(items, run),
-            Mode::Quoted => self.meet_quoted(items, 0, 0, run),
-            Mode::StringBefore => self.meet_string(items, run),
-            Mode::StringBlanks => self.meet_string_blanks(items, 0, 0, run),
-            Mode::StringText => self.meet_string_text(items, run),
-            _ => self.meet_others(items, run),
+            Mode::Start => self.take_in_beginning(items, 0, 0, run),
+            Mode::Text => self.take_in_more(items, 0, 0, run),
+            Mode::Condition => self.take_in_condition(items, run),
+            Mode::Number(depth) => self.take_in_tested(items, 0, 0, depth, run),
+            Mode::First(delimiter) => self.take_in_first_string(items, 0, 0, delimiter, run),
+            Mode::Second(delimiter) => self.take_in_second_string(items, 0, 0, delimiter, run),
+            Mode::RequestBlanks => self.take_in_request(items, run),
+            Mode::RequestLine => self.take_in_arguments(items, 0, 0, run),
+            Mode::Accepted => self.take_in_accepted(items, run),
+            Mode::Skip(count) => self.take_in_rejected(items, count, run),
+            Mode::MacroBlanks => self.take_in_call(items, run),
+            Mode::MacroGap => self.take_in_gap(items, run),
+            Mode::Word => self.take_in_word(items, run),
+            Mode::Quoted => self.take_in_quoted(items, 0, 0, run),
+            Mode::StringBefore => self.take_in_string(items, run),
+            Mode::StringBlanks => self.take_in_string_blanks(items, 0, 0, run),
+            Mode::StringText => self.take_in_string_text(items, run),
+            _ => self.take_in_others(items, run),
         }
     }
 
-    // The items of a row are met, as `meet_run` says; `run` is where that ends.
+    // The items of a row are taken in, as `take_in_run` says; `run` is where that ends.
     #[inline(never)]
-    fn meet_items<I: Items>(&mut self, items: &I, run: &mut Run)
-        ensures met { HasMet run.new.moves (I.fronts items.now) self.old (spot run.new self.new) }
+    fn take_in_items<I: Items>(&mut self, items: &I, run: &mut Run)
+        ensures taken_in { HasTakenIn run.new.moves (I.next_items items.now) self.old (spot run.new self.new) }
         ensures few { run.new.moves ≤ 65536 }
-        ensures longest { run.new.event ≡ events.Nothing → self.new.reading.due ≡ dues.Look
+        ensures longest { run.new.event ≡ events.Nothing → self.new.reading.pending_act ≡ pending_acts.Look
             → run.new.moves < 65536
-            → (byte : ℕ) → slice_get (I.fronts items.now) run.new.taken ≡ Some (variants.Byte byte) → ⊥ }
+            → (byte : ℕ) → slice_get (I.next_items items.now) run.new.taken ≡ Some (variants.Byte byte) → ⊥ }
     {
-        if !matches!(self.reading.due, Due::Look) {
+        if !matches!(self.reading.pending_act, PendingAct::Look) {
             *run = Run {
                 taken: 0,
                 moves: 0,
@@ -194,8 +202,8 @@ impl Half {
             return;
         }
         if self.reads_plainly() {
-            return self.meet_in_mode(items, run);
+            return self.take_in_by_mode(items, run);
         }
-        self.meet_others(items, run)
+        self.take_in_others(items, run)
     }
 }

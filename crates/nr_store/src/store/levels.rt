@@ -139,7 +139,7 @@ impl<K: Copy> Store<K> {
     pub fn look(&self) -> Sight
         ensures { Shows result (shown self.now.levels) }
     {
-        match self.levels.front() {
+        match self.levels.next_item() {
             Next::Nothing => Sight::Nothing,
             Next::Byte(byte) => Sight::Item(Element::Byte(byte)),
             Next::End => Sight::End,
@@ -162,7 +162,7 @@ impl<K: Copy> Store<K> {
         ensures was { shown_with result mode.new ≡ shown self.old.levels }
         ensures is { self.new ≡ left self.old.levels self.old }
     {
-        match self.levels.front() {
+        match self.levels.next_item() {
             Next::Nothing => Sight::Nothing,
             Next::Byte(byte) => {
                 self.levels.advance();
@@ -198,7 +198,7 @@ impl<K: Copy> Store<K> {
         ensures is { result ≡ true → self.new ≡ left self.old.levels self.old }
         ensures stays { result ≡ false → self.new ≡ self.old }
     {
-        match self.levels.front() {
+        match self.levels.next_item() {
             Next::End => {
                 self.charge -= self.levels.close();
                 true
@@ -254,7 +254,7 @@ impl<K: Copy> Store<K> {
     fn drop_level(&mut self)
         ensures { self.new ≡ dropped self.old.levels self.old }
     {
-        match self.levels.front() {
+        match self.levels.next_item() {
             Next::Nothing => {}
             Next::Byte(_) => self.charge -= self.levels.close(),
             Next::End => self.charge -= self.levels.close(),

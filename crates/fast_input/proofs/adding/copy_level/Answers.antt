@@ -32,5 +32,5 @@ returns-in-Bytes-clause-longest g c = λ fewer byte is.
     let same : get_or bs n 0 ≡ byte = cc in
     λ plain. c.copy_plain_bytes.ensures.longest fewer less (subst (λ e. IsPlain e (get_or bs n 0)) (sym c.ending_of-ending.ensures) (subst (IsPlain (ending_of c.args.half.now.reading.mode)) (sym same) plain))
 
-pub returns-in-Bytes-clause-front : goal.returns-in-Bytes-clause-front
-returns-in-Bytes-clause-front g c = grind (arith, common_steps)
+pub returns-in-Bytes-clause-prefix : goal.returns-in-Bytes-clause-prefix
+returns-in-Bytes-clause-prefix g c = grind (arith, common_steps)

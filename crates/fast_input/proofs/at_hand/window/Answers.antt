@@ -14,5 +14,5 @@ returns-then-window-room-clause-levels g c = grind (arith, common_steps)
 pub returns-clause-all : goal.returns-clause-all
 returns-clause-all g c = grind (arith, common_steps)
 
-pub returns-clause-front : goal.returns-clause-front
-returns-clause-front g c = grind (arith, common_steps)
+pub returns-clause-prefix : goal.returns-clause-prefix
+returns-clause-prefix g c = grind (arith, common_steps)

@@ -12,7 +12,7 @@ returns-clause-read g c = λ k holds.
     let v = c.args.store.now in
     let r = c.args.reader.now in
     let still : r.burst ≡ 0 = omega (arith, c.if-reader-gt0.false) in
-    let less : count < length (take near bs) = omega (arith, c.text_bytes-count.ensures.front, c.if-count-near.false) in
+    let less : count < length (take near bs) = omega (arith, c.text_bytes-count.ensures.prefix, c.if-count-near.false) in
     let reads = dropped_reads count (take near bs) v r (sym c.is_dropping.ensures ∙ c.if-not-is_dropping.false) less c.text_bytes-count.ensures.plain c.if-near-count-ne10.false in
     let within = taken_within (count + 1) (count + 1) near bs v v r _ still reads in
     let some : 0 < length bs = omega (arith, within) in
@@ -28,6 +28,6 @@ returns-clause-pays g c =
     let v = c.args.store.now in
     let r = c.args.reader.now in
     let still : r.burst ≡ 0 = omega (arith, c.if-reader-gt0.false) in
-    let less : count < length (take near bs) = omega (arith, c.text_bytes-count.ensures.front, c.if-count-near.false) in
+    let less : count < length (take near bs) = omega (arith, c.text_bytes-count.ensures.prefix, c.if-count-near.false) in
     let reads = dropped_reads count (take near bs) v r (sym c.is_dropping.ensures ∙ c.if-not-is_dropping.false) less c.text_bytes-count.ensures.plain c.if-near-count-ne10.false in
     line_paid (count + 1) (count + 1) near bs v v r _ still reads (omega arith) c.args.place.now c.pass_run.new.self c.pass_run.ensures

@@ -1,7 +1,7 @@
 use Rattle.std.specs.Prelude.{map}
 use Rattle.std.proofs.Common.{◌≡◌, ◌+◌, drop, refl, ap, ◌∙◌, arith}
 use Rattle.nr_store.specs.Windows.{rest_of}
-use Rattle.nr_input.specs.Place.{element_front}
+use Rattle.nr_input.specs.Place.{element_item}
 use Rattle.fast_input.specs.declared.gathering.Gathered.{Gathered}
 use Rattle.fast_input.proofs.TextGathered.{row_on, run_copied, run_stops}
 use Rattle.fast_input.proofs.gathering.gather_more.Goals as goal
@@ -15,8 +15,8 @@ loop-preserved g c =
     let run = c.gather_run-count in
     let there = escape.new.gathered in
     let n = run.result in
-    let fs = g.I.Items.fronts c.behind-rest.result in
-    let row : fs ≡ drop there.items (map element_front rest) = row_on c.loop.gathered.items escape.result there.items (g.I.Items.fronts c.loop.rest) fs rest c.loop.invariant.row c.behind-rest.ensures escape.ensures.items in
+    let fs = g.I.Items.next_items c.afterwards-rest.result in
+    let row : fs ≡ drop there.items (map element_item rest) = row_on c.loop.gathered.items escape.result there.items (g.I.Items.next_items c.loop.rest) fs rest c.loop.invariant.row c.afterwards-rest.ensures escape.ensures.items in
     let before = escape.ensures.gathered r c.loop.invariant.gathered in
     let passed = ap (λ (z : Gathered). z.count) run.ensures.passed in
     let within = run.ensures.count in
@@ -27,7 +27,7 @@ loop-preserved g c =
     rw run.ensures.passed
     (record {
       text = escape.ensures.text;
-      row = row_on there.items n (there.items + n) fs (g.I.Items.fronts c.behind-rest-in-loop.result) rest row c.behind-rest-in-loop.ensures refl;
+      row = row_on there.items n (there.items + n) fs (g.I.Items.next_items c.afterwards-rest-in-loop.result) rest row c.afterwards-rest-in-loop.ensures refl;
       count = omega (arith, passed, within);
       holds = holds;
       ends = escape.ensures.ends ∙ c.loop.invariant.ends;

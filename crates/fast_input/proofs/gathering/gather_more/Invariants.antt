@@ -2,14 +2,14 @@ use Rattle.std.specs.Prelude.{map}
 use Rattle.std.proofs.Common.{◌≡◌, ◌≤◌, true, drop, length, take}
 use Rattle.nr_store.specs.Windows.{rest_of}
 use Rattle.nr_reading.specs.Many.InText.{is_in_text}
-use Rattle.nr_input.specs.Place.{element_front}
+use Rattle.nr_input.specs.Place.{element_item}
 use Rattle.fast_input.specs.Gathering.{IsGathering, StopsGathering}
 use Rattle.fast_input.proofs.gathering.gather_more.Given as goal
 
 abbrev pub invariant-loop : goal.invariant-loop
 invariant-loop g l = record {
   text : is_in_text l.reader.half ≡ true;
-  row : g.I.Items.fronts l.rest ≡ drop l.gathered.items (map element_front (rest_of l.store.levels));
+  row : g.I.Items.next_items l.rest ≡ drop l.gathered.items (map element_item (rest_of l.store.levels));
   count : l.gathered.count ≤ length l.chunk;
   holds : length l.chunk ≡ length l.fn.chunk;
   ends : l.gathered.ends ≡ l.fn.gathered.ends;

@@ -5,7 +5,7 @@ use Rattle.nr_store.specs.Laws.{left_times-run}
 use Rattle.fast_input.specs.declared.splices.Splice.{Splice}
 use Rattle.fast_input.specs.Gathering.{Leaves, bytes_before, own_bytes, spliced}
 use Rattle.fast_input.specs.Interpolations.{opened}
-use Rattle.fast_input.proofs.TextLeft.{first_left, first_within, up_to, begun_last, one_before, behind_left, behind_within, within_left}
+use Rattle.fast_input.proofs.TextLeft.{first_left, first_within, up_to, begun_last, one_before, after_left, after_within, within_left}
 use Rattle.fast_input.proofs.gathering.leave_part.Goals as goal
 
 first_few : (n taken : ℕ) (splices : List Splice) (bytes : List ℕ) → n ≡ 0 → IfSome (slice_get splices n) (λ (s : Splice). taken ≤ s.before) → taken ≤ length bytes → taken ≤ bytes_before (slice_get splices 0) (length bytes)
@@ -63,7 +63,7 @@ skip-requires-then-end-taken g c =
     let next = slice_get c.args.gathered.now.splices n in
     let is = begun_last n s c.args.bytes.now c.args.gathered.now.items c.args.gathered.now.moves c.args.gathered.now.splices c.args.store.now c.args.reader.now c.if-begun-eq0.false c.at-splice.ensures c.requires.gathered.gathered in
     rw c.skip-2.ensures
-    (behind_within c.args.bytes.now c.args.gathered.now.items c.args.taken c.args.store.now c.args.reader.now c.requires.within (n - 1) s next is c.if-end-taken.true (up_to c.args.taken next c.args.bytes.now c.begun-begun.ensures.next c.requires.within))
+    (after_within c.args.bytes.now c.args.gathered.now.items c.args.taken c.args.store.now c.args.reader.now c.requires.within (n - 1) s next is c.if-end-taken.true (up_to c.args.taken next c.args.bytes.now c.begun-begun.ensures.next c.requires.within))
 
 pub overflow_add-result : goal.overflow_add-result
 overflow_add-result g c =
@@ -84,8 +84,8 @@ returns-then-end-taken-clause-leaves g c =
     let is = begun_last n s bytes c.args.gathered.now.items c.args.gathered.now.moves c.args.gathered.now.splices v r c.if-begun-eq0.false c.at-splice.ensures c.requires.gathered.gathered in
     let same : (n - 1) + 1 ≡ n = omega (arith, one_before n c.if-begun-eq0.false) in
     rw (c.skip-then-end-taken.ensures, c.skip-2.ensures, c.pass_splices.ensures)
-    (subst (λ j. Leaves false (s.moves + 1) (take taken bytes) v r (left_times (taken - (s.before + s.count)) (left_times s.behind v)) (spliced j s.asked r)) same
-    (behind_left bytes c.args.gathered.now.items taken v r c.requires.within (n - 1) s next is c.if-end-taken.true (up_to taken next bytes c.begun-begun.ensures.next c.requires.within)))
+    (subst (λ j. Leaves false (s.moves + 1) (take taken bytes) v r (left_times (taken - (s.before + s.count)) (left_times s.afterwards v)) (spliced j s.asked r)) same
+    (after_left bytes c.args.gathered.now.items taken v r c.requires.within (n - 1) s next is c.if-end-taken.true (up_to taken next bytes c.begun-begun.ensures.next c.requires.within)))
 
 pub returns-then-end-taken-clause-few : goal.returns-then-end-taken-clause-few
 returns-then-end-taken-clause-few g c =
@@ -113,7 +113,7 @@ enter_splice-requires g c =
       part = omega (arith, past);
       charge = rw c.skip-2.ensures is.charge;
       depth = rw c.skip-2.ensures is.depth;
-      text = λ named. rw (c.skip-2.ensures, left_times-run s.behind c.args.store.now is.there) (is.text named);
+      text = λ named. rw (c.skip-2.ensures, left_times-run s.afterwards c.args.store.now is.there) (is.text named);
     }
 
 pub returns-clause-leaves : goal.returns-clause-leaves
@@ -131,7 +131,7 @@ returns-clause-leaves g c =
     let begun = begun_before n taken s splices c.if-begun-eq0.false c.at-splice.ensures c.begun-begun.ensures.begun in
     let past = c.if-end-taken.false in
     rw (c.enter_splice.ensures, c.skip-2.ensures, c.pass_splices.ensures)
-    (subst (λ j. Leaves false s.moves (take taken bytes) v r (left_times (taken - s.before) (opened s.named (own_bytes s bytes) s.asked (left_times s.behind v))) (spliced j s.asked r)) same
+    (subst (λ j. Leaves false s.moves (take taken bytes) v r (left_times (taken - s.before) (opened s.named (own_bytes s bytes) s.asked (left_times s.afterwards v))) (spliced j s.asked r)) same
     (within_left bytes c.args.gathered.now.items taken v r c.requires.within (n - 1) s next is begun (omega (arith, past))))
 
 pub returns-clause-few : goal.returns-clause-few

@@ -16,4 +16,4 @@ returns-clause-may g c = λ n few.
     let may = c.may_splice.ensures in
     let copied : take (length bytes) (c.copy_from_slice.new.self ++ rest) ≡ bytes = ap (λ xs. take (length bytes) (xs ++ rest)) c.copy_from_slice.ensures.after ∙ take-append_seam bytes rest in
     subst (λ bs. MaySplice bs (left_times n v) r) (sym copied)
-    (argument_may n bytes v r few (may.charge yes) (may.depth yes) (may.burst yes) c.args.n c.requires.due (c.argument-bytes.ensures ∙ ap (argument v.arguments) c.from.ensures))
+    (argument_may n bytes v r few (may.charge yes) (may.depth yes) (may.burst yes) c.args.n c.requires.pending_act (c.argument-bytes.ensures ∙ ap (argument v.arguments) c.from.ensures))

@@ -5,11 +5,11 @@ use Rattle.nr_store.specs.Store.{Stored, stepped}
 use Rattle.nr_reading.specs.declared.ask.Sign.TheVariants as signs
 use Rattle.nr_reading.specs.declared.event.Event.{Event}
 use Rattle.nr_reading.specs.declared.event.Event.TheVariants as events
-use Rattle.nr_reading.specs.declared.mode.Due.{Due}
-use Rattle.nr_reading.specs.declared.mode.Due.TheVariants as dues
+use Rattle.nr_reading.specs.declared.mode.PendingAct.{PendingAct}
+use Rattle.nr_reading.specs.declared.mode.PendingAct.TheVariants as pending_acts
 use Rattle.nr_input.specs.declared.reader.Reader.{Reader}
 use Rattle.nr_input.specs.declared.refusal.Refusal.{Refusal}
-use Rattle.nr_input.specs.Acting.{is_look, then_due}
+use Rattle.nr_input.specs.Acting.{is_look, then_pending}
 use Rattle.nr_input.specs.Place.{Coming, Reached, HoldsComing}
 use Rattle.fast_input.specs.Interpolations.{stepping}
 use Rattle.nr_input.specs.Moving.{situation}
@@ -21,25 +21,25 @@ use Rattle.nr_input.proofs.Spending.{act_pays}
 use Rattle.nr_input.proofs.Staying.{act_begins_none}
 use Rattle.fast_input.proofs.interpolations.read_stepped.Goals as goal
 
--- a step is what such a sign has due
-steps : {K : Type 0} (up : Bool) (v : Stored K) (r : Reader) → called (stepped r.half.notes.asked up v) (then_due (dues.Register signs.None) r) (Ok events.Nothing) ≡ acted (dues.Register (stepping up)) v r
+-- a step is what such a sign has pending
+steps : {K : Type 0} (up : Bool) (v : Stored K) (r : Reader) → called (stepped r.half.notes.asked up v) (then_pending (pending_acts.Register signs.None) r) (Ok events.Nothing) ≡ acted (pending_acts.Register (stepping up)) v r
 steps true v r = refl
 steps false v r = refl
 
-waits_so : (up : Bool) → is_look (dues.Register (stepping up)) ≡ false
+waits_so : (up : Bool) → is_look (pending_acts.Register (stepping up)) ≡ false
 waits_so true = refl
 waits_so false = refl
 
-module _ {K : Type 0} (up : Bool) (v w : Stored K) (r s : Reader) (x : Result Event Refusal) (due : r.half.reading.due ≡ dues.Register (stepping up))
-    (is : called w s x ≡ called (stepped r.half.notes.asked up v) (then_due (dues.Register signs.None) r) (Ok events.Nothing)) where
-  acts : called w s (Ok events.Nothing) ≡ acted r.half.reading.due v r
+module _ {K : Type 0} (up : Bool) (v w : Stored K) (r s : Reader) (x : Result Event Refusal) (pending_act : r.half.reading.pending_act ≡ pending_acts.Register (stepping up))
+    (is : called w s x ≡ called (stepped r.half.notes.asked up v) (then_pending (pending_acts.Register signs.None) r) (Ok events.Nothing)) where
+  acts : called w s (Ok events.Nothing) ≡ acted r.half.reading.pending_act v r
   acts =
       ap₂ (λ (y : Stored K) (z : Reader). called y z (Ok events.Nothing)) (ap (λ (a : Called K (Result Event Refusal)). a.stored) is) (ap (λ (a : Called K (Result Event Refusal)). a.reader) is)
       ∙ steps up v r
-      ∙ ap (λ (d : Due). acted d v r) (sym due)
+      ∙ ap (λ (d : PendingAct). acted d v r) (sym pending_act)
 
-  waits : is_look r.half.reading.due ≡ false
-  waits = ap is_look due ∙ waits_so up
+  waits : is_look r.half.reading.pending_act ≡ false
+  waits = ap is_look pending_act ∙ waits_so up
 
   pub step_read : (c : Coming) (p : Reached) (supply : Option Supply) → HoldsComing c p supply → HasRead 1 (situation v c r) events.Nothing w s p supply
   step_read c p supply holds = done_read v w c r s events.Nothing waits acts p supply holds
@@ -59,7 +59,7 @@ returns-clause-read g c = λ k p supply holds.
     let count : 1 + spliced.moves ≡ spliced.moves + 1 = omega arith in
     subst (λ n. HasRead n (situation v k r) spliced.event c.read_register-spliced.new.store c.read_register-spliced.new.reader p supply) count
     (read_on 1 spliced.moves v w c.read_register-spliced.new.store r s c.read_register-spliced.new.reader k p supply spliced.event
-    (step_read c.args.up v w r s c.step.result c.requires.due c.step.ensures k p supply holds)
+    (step_read c.args.up v w r s c.step.result c.requires.pending_act c.step.ensures k p supply holds)
     (λ d there. c.read_register-spliced.ensures.read d p supply there))
 
 pub returns-clause-pays : goal.returns-clause-pays
@@ -72,5 +72,5 @@ returns-clause-pays g c = λ p.
     let count : 1 + spliced.moves ≡ spliced.moves + 1 = omega arith in
     subst (λ n. PaysMany n v p r spliced.event c.read_register-spliced.new.store p c.read_register-spliced.new.reader) count
     (many_then spliced.moves 1 v w c.read_register-spliced.new.store p p p r s c.read_register-spliced.new.reader spliced.event
-    (step_paid c.args.up v w r s c.step.result c.requires.due c.step.ensures p)
+    (step_paid c.args.up v w r s c.step.result c.requires.pending_act c.step.ensures p)
     (c.read_register-spliced.ensures.pays p))

@@ -3,8 +3,8 @@ use Rattle.std.proofs.Common.{map, subst, ap, ◌∙◌, arith}
 use Rattle.nr_store.specs.Store.{Stored}
 use Rattle.nr_store.specs.Windows.{rest_of}
 use Rattle.nr_reading.specs.Many.Passing.{quiet}
-use Rattle.nr_reading.specs.Many.Runs.{HasMet}
-use Rattle.nr_input.specs.Place.{element_front}
+use Rattle.nr_reading.specs.Many.Runs.{HasTakenIn}
+use Rattle.nr_input.specs.Place.{element_item}
 use Rattle.nr_input.specs.Limits.{limits_of}
 use Rattle.fast_input.proofs.LimitsStay.{left_times-limits}
 use Rattle.fast_input.proofs.RowsRead.{level_read, level_pays}
@@ -15,18 +15,18 @@ returns-clause-read g c = λ k p supply holds.
     let v = c.args.store.now in
     let r = c.args.reader.now in
     let name = c.in-Some.name in
-    let named = quiet name.taken c.meet_name.new.half in
-    let met : HasMet name.moves (map element_front (rest_of v.levels)) r.half named = subst (λ fs. HasMet name.moves fs r.half named) (ap (map element_front) c.rest.ensures) c.in-Some.ensures.met in
-    rw c.skip.ensures (level_read v k r p supply name.moves named met holds)
+    let named = quiet name.taken c.take_in_name.new.half in
+    let taken_in : HasTakenIn name.moves (map element_item (rest_of v.levels)) r.half named = subst (λ fs. HasTakenIn name.moves fs r.half named) (ap (map element_item) c.rest.ensures) c.in-Some.ensures.taken_in in
+    rw c.skip.ensures (level_read v k r p supply name.moves named taken_in holds)
 
 pub returns-clause-pays : goal.returns-clause-pays
 returns-clause-pays g c = λ p.
     let v = c.args.store.now in
     let r = c.args.reader.now in
     let name = c.in-Some.name in
-    let named = quiet name.taken c.meet_name.new.half in
-    let met : HasMet name.moves (map element_front (rest_of v.levels)) r.half named = subst (λ fs. HasMet name.moves fs r.half named) (ap (map element_front) c.rest.ensures) c.in-Some.ensures.met in
-    level_pays name.moves v c.skip.new.self p r named met c.skip.ensures
+    let named = quiet name.taken c.take_in_name.new.half in
+    let taken_in : HasTakenIn name.moves (map element_item (rest_of v.levels)) r.half named = subst (λ fs. HasTakenIn name.moves fs r.half named) (ap (map element_item) c.rest.ensures) c.in-Some.ensures.taken_in in
+    level_pays name.moves v c.skip.new.self p r named taken_in c.skip.ensures
 
 pub returns-clause-limits : goal.returns-clause-limits
 returns-clause-limits g c =

@@ -9,12 +9,12 @@ use Rattle.fast_input.proofs.level_rows.read_rows.Goals as goal
 
 pub returns-clause-pays : goal.returns-clause-pays
 returns-clause-pays g c = λ p.
-    let met = c.in-Some.met in
-    subst (λ (w : Stored _). PaysAll met.run.moves c.args.store.now p c.args.reader.now met.run.event w p c.meet_front.new.reader) (sym c.leave_row.ensures) (c.in-Some.ensures.pays p)
+    let taken_in = c.in-Some.taken_in in
+    subst (λ (w : Stored _). PaysAll taken_in.run.moves c.args.store.now p c.args.reader.now taken_in.run.event w p c.take_in_next.new.reader) (sym c.leave_row.ensures) (c.in-Some.ensures.pays p)
 
 pub returns-clause-limits : goal.returns-clause-limits
 returns-clause-limits g c =
-    let met = c.in-Some.met in
+    let taken_in = c.in-Some.taken_in in
     let v = c.args.store.now in
-    let s = c.meet_front.new.reader in
-    ap (λ (w : Stored _). limits_of w s) c.leave_row.ensures ∙ begun-limits met.calls (left_times met.run.taken v) s ∙ left_times-limits met.run.taken v s ∙ c.in-Some.ensures.limits
+    let s = c.take_in_next.new.reader in
+    ap (λ (w : Stored _). limits_of w s) c.leave_row.ensures ∙ begun-limits taken_in.calls (left_times taken_in.run.taken v) s ∙ left_times-limits taken_in.run.taken v s ∙ c.in-Some.ensures.limits

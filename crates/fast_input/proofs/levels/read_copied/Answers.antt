@@ -20,7 +20,7 @@ returns-then-end_level-clause-read g c = λ k p supply holds.
     let first = subst (λ (e : Event). HasRead run.moves (situation v k r) e w s p supply) (c.made_none.ensures.event c.if-made_none.true) (c.read_added-run.ensures.read k p supply holds) in
     subst (λ (n : ℕ). HasRead n (situation v k r) events.Nothing c.end_level.new.store s p supply) count
     (read_on run.moves 1 v w c.end_level.new.store r s s k p supply events.Nothing first
-    (λ d there. c.end_level.ensures.read c.if-end_level.true d p s supply (c.made_none.ensures.due c.if-made_none.true) there))
+    (λ d there. c.end_level.ensures.read c.if-end_level.true d p s supply (c.made_none.ensures.pending_act c.if-made_none.true) there))
 
 pub returns-then-end_level-clause-pays : goal.returns-then-end_level-clause-pays
 returns-then-end_level-clause-pays g c = λ p.
@@ -33,7 +33,7 @@ returns-then-end_level-clause-pays g c = λ p.
     let count : run.moves + 1 ≡ 1 = omega (arith, none) in
     let first = subst (λ (e : Event). PaysMany run.moves v p r e w p s) (c.made_none.ensures.event c.if-made_none.true) (c.read_added-run.ensures.pays p) in
     subst (λ (n : ℕ). PaysMany n v p r events.Nothing c.end_level.new.store p s) count
-    (many_then 1 run.moves v w c.end_level.new.store p p p r s s events.Nothing first (c.end_level.ensures.pays c.if-end_level.true p s (c.made_none.ensures.due c.if-made_none.true)))
+    (many_then 1 run.moves v w c.end_level.new.store p p p r s s events.Nothing first (c.end_level.ensures.pays c.if-end_level.true p s (c.made_none.ensures.pending_act c.if-made_none.true)))
 
 pub returns-then-end_level-clause-limits : goal.returns-then-end_level-clause-limits
 returns-then-end_level-clause-limits g c = c.end_level.ensures.limits c.read_added-run.new.reader ∙ c.read_added-run.ensures.limits

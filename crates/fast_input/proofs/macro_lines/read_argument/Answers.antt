@@ -1,8 +1,8 @@
 use Rattle.std.proofs.lemmas.Grind.{common_steps}
 use Rattle.std.proofs.Common.{◌+◌, ◌-◌, ◌≤◌, length, length-drop, drop, arith}
 use Rattle.std.proofs.lemmas.List.{length-map, length-take}
-use Rattle.nr_reading.specs.declared.front.Front.TheVariants as fronts
-use Rattle.fast_input.proofs.MacroLines.{reads_then, reads_still, reads_rest, reads_met}
+use Rattle.nr_reading.specs.declared.next_item.NextItem.TheVariants as next_items
+use Rattle.fast_input.proofs.MacroLines.{reads_then, reads_still, reads_rest, reads_taken_in}
 use Rattle.fast_input.proofs.macro_lines.read_argument.Goals as goal
 
 pub returns-then-not-is_in_argument-clause-reads : goal.returns-then-not-is_in_argument-clause-reads
@@ -13,7 +13,7 @@ returns-then-not-is_in_argument-clause-reads g c =
     let r = c.args.reader.now in
     let k = c.begin_argument-begun.new.half in
     reads_still begun.moves c.do_argument-first.result begun.taken bs v v c.do_argument-first.new.store r (record r { half = k }) c.do_argument-first.new.reader
-    (reads_met begun.moves begun.taken bs v r k c.begin_argument-begun.ensures.met) (c.do_argument-first.ensures.reads (drop begun.taken bs))
+    (reads_taken_in begun.moves begun.taken bs v r k c.begin_argument-begun.ensures.taken_in) (c.do_argument-first.ensures.reads (drop begun.taken bs))
 
 pub returns-clause-reads : goal.returns-clause-reads
 returns-clause-reads g c =
@@ -25,9 +25,9 @@ returns-clause-reads g c =
     let v = c.args.store.now in
     let r = c.args.reader.now in
     let k = c.begin_argument-begun.new.half in
-    let met = c.begin_argument-begun.ensures.met in
-    let few : begun.taken ≤ length bs = let inside = met.within in omega (arith, inside, length-map bs fronts.Byte) in
-    let one = reads_still begun.moves first.result begun.taken bs v v first.new.store r (record r { half = k }) first.new.reader (reads_met begun.moves begun.taken bs v r k met) (first.ensures.reads (drop begun.taken bs)) in
+    let taken_in = c.begin_argument-begun.ensures.taken_in in
+    let few : begun.taken ≤ length bs = let inside = taken_in.within in omega (arith, inside, length-map bs next_items.Byte) in
+    let one = reads_still begun.moves first.result begun.taken bs v v first.new.store r (record r { half = k }) first.new.reader (reads_taken_in begun.moves begun.taken bs v r k taken_in) (first.ensures.reads (drop begun.taken bs)) in
     let two = reads_then (begun.moves + first.result) put.result.moves begun.taken put.result.taken bs v first.new.store put.new.store r first.new.reader put.new.reader one
     (reads_rest put.result.moves begun.taken put.result.taken bs first.new.store put.new.store first.new.reader put.new.reader few put.ensures.reads) in
     reads_still (begun.moves + first.result + put.result.moves) end.result (begun.taken + put.result.taken) bs v put.new.store end.new.store r put.new.reader end.new.reader two
@@ -37,25 +37,25 @@ pub overflow_add-result-4 : goal.overflow_add-result-4
 overflow_add-result-4 g c =
     let bs = c.args.bytes.now in
     let t = c.begin_argument-begun.result.taken in
-    let met = c.begin_argument-begun.ensures.met in
+    let taken_in = c.begin_argument-begun.ensures.taken_in in
     let put = c.put_argument-put.ensures in
-    let inside = met.within in
+    let inside = taken_in.within in
     let more = put.reads.within in
-    omega (arith, inside, more, length-map bs fronts.Byte, length-drop t bs, length-take (length bs - t) (drop t bs), c.begin_argument-begun.ensures.few, c.do_argument-first.ensures.few, put.few, c.requires.short)
+    omega (arith, inside, more, length-map bs next_items.Byte, length-drop t bs, length-take (length bs - t) (drop t bs), c.begin_argument-begun.ensures.few, c.do_argument-first.ensures.few, put.few, c.requires.short)
 
 pub overflow_add-result-5 : goal.overflow_add-result-5
 overflow_add-result-5 g c =
     let bs = c.args.bytes.now in
     let t = c.begin_argument-begun.result.taken in
-    let met = c.begin_argument-begun.ensures.met in
+    let taken_in = c.begin_argument-begun.ensures.taken_in in
     let put = c.put_argument-put.ensures in
-    let inside = met.within in
+    let inside = taken_in.within in
     let more = put.reads.within in
     omega (
       arith,
       inside,
       more,
-      length-map bs fronts.Byte,
+      length-map bs next_items.Byte,
       length-drop t bs,
       length-take (length bs - t) (drop t bs),
       c.begin_argument-begun.ensures.few,

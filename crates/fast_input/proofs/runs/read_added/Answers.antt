@@ -30,11 +30,11 @@ returns g c =
       few = omega (arith, add.few, more.few);
       limits = more.limits ∙ add.limits;
       longest = record {
-        some = λ b first due. elim (cases_lt 0 added) [
+        some = λ b first pending_act. elim (cases_lt 0 added) [
           | inl some ↦ omega (arith, some)
           | inr none ↦
               let same = add.none (omega (arith, none)) in
-              let moved = more.longest.some b (ap (λ (y : Stored _). slice_get (rest_of y.levels) 0) same ∙ first) due in
+              let moved = more.longest.some b (ap (λ (y : Stored _). slice_get (rest_of y.levels) 0) same ∙ first) pending_act in
               omega (arith, moved)
         ];
         all = λ few. more.longest.all (omega (arith, few));

@@ -13,37 +13,37 @@ pub returns-in-Some-clause-in_line : goal.returns-in-Some-clause-in_line
 returns-in-Some-clause-in_line c = λ line.
     let f = c.args.formatter.now in
     let bs = c.args.bytes.now in
-    let h = c.meet_font.new.reader.half in
+    let h = c.take_in_font.new.reader.half in
     let run = c.in-Some.run' in
-    let met = c.in-Some.ensures in
-    let moves = met.in_line (in_text f.reader.half (in_line f line).half).mode in
-    let is : c.set_font.new.self ≡ font_put h f = c.set_font.ensures ∙ ap (λ (r : Reader). font_set (record f { reader = r })) met.reader in
+    let taken_in = c.in-Some.ensures in
+    let moves = taken_in.in_line (in_text f.reader.half (in_line f line).half).mode in
+    let is : c.set_font.new.self ≡ font_put h f = c.set_font.ensures ∙ ap (λ (r : Reader). font_set (record f { reader = r })) taken_in.reader in
     record {
       puts = λ some.
           subst (λ (x : Formatter). PutsText bs run.taken (run.taken + 1) f x) (sym is)
           (subst (λ m. PutsText bs run.taken (m + 1) f (font_put h f)) moves
-          (puts_font bs f run h (text_reads f c.requires.text) met.met met.font met.least (omega (arith, moves)) (omega (arith, moves))));
-      line = λ some. ap is_in_line is ∙ line_font h f c.requires.text met.behind;
-      left = λ none. absurd (omega (arith, none, met.least));
+          (puts_font bs f run h (text_reads f c.requires.text) taken_in.taken_in taken_in.font taken_in.least (omega (arith, moves)) (omega (arith, moves))));
+      line = λ some. ap is_in_line is ∙ line_font h f c.requires.text taken_in.afterwards;
+      left = λ none. absurd (omega (arith, none, taken_in.least));
     }
 
 pub returns-in-Some-clause-at_start : goal.returns-in-Some-clause-at_start
 returns-in-Some-clause-at_start c = λ start.
     let f = c.args.formatter.now in
     let bs = c.args.bytes.now in
-    let h = c.meet_font.new.reader.half in
+    let h = c.take_in_font.new.reader.half in
     let run = c.in-Some.run' in
-    let met = c.in-Some.ensures in
-    let moves = met.at_start start.mode in
+    let taken_in = c.in-Some.ensures in
+    let moves = taken_in.at_start start.mode in
     let count : run.moves + 1 ≡ run.taken + 2 = omega (arith, moves) in
-    let is : c.set_font.new.self ≡ font_put h f = c.set_font.ensures ∙ ap (λ (r : Reader). font_set (record f { reader = r })) met.reader in
+    let is : c.set_font.new.self ≡ font_put h f = c.set_font.ensures ∙ ap (λ (r : Reader). font_set (record f { reader = r })) taken_in.reader in
     record {
       puts = λ some.
           subst (λ (x : Formatter). PutsText bs run.taken (run.taken + 2) f x) (sym is)
           (subst (λ m. PutsText bs run.taken m f (font_put h f)) count
-          (puts_font bs f run h (text_reads f c.requires.text) met.met met.font met.least (omega (arith, moves)) (omega (arith, moves))));
-      line = λ some. ap is_in_line is ∙ line_font h f c.requires.text met.behind;
-      left = λ none. absurd (omega (arith, none, met.least));
+          (puts_font bs f run h (text_reads f c.requires.text) taken_in.taken_in taken_in.font taken_in.least (omega (arith, moves)) (omega (arith, moves))));
+      line = λ some. ap is_in_line is ∙ line_font h f c.requires.text taken_in.afterwards;
+      left = λ none. absurd (omega (arith, none, taken_in.least));
     }
 
 pub returns-in-None-clause-longest : goal.returns-in-None-clause-longest

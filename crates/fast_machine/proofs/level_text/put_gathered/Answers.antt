@@ -11,10 +11,10 @@ use Rattle.fast_machine.proofs.level_text.put_gathered.Goals.{After-leave-beside
 use Rattle.fast_machine.proofs.level_text.put_gathered.Goals as goal
 
 -- after the words, with those that were put taken
-abbrev behind : (c : After-leave-besides) → Formatter
-behind c = with_read c.leave-besides.new.store c.leave-besides.new.reader c.put_line_words-words.new.formatter
+abbrev afterwards : (c : After-leave-besides) → Formatter
+afterwards c = with_read c.leave-besides.new.store c.leave-besides.new.reader c.put_line_words-words.new.formatter
 
-puts : (c : After-leave-besides) → MakesInText (c.put_line_words-words.result.moves + c.leave-besides.result) c.args.formatter.now (behind c)
+puts : (c : After-leave-besides) → MakesInText (c.put_line_words-words.result.moves + c.leave-besides.result) c.args.formatter.now (afterwards c)
 puts c =
     let words = c.put_line_words-words in
     left_text c.args.bytes.now words.result.taken words.result.moves c.leave-besides.result c.is_in_line-goes.result c.args.formatter.now words.new.formatter c.leave-besides.new.store
@@ -28,7 +28,7 @@ leave-besides-requires c =
     record {
       text = subst (λ (x : Reader). is_in_text x.half ≡ true) (sym flow.reader) (in_line f c.requires.line).half;
       gathered = gathered_still c.args.bytes.now f words.new.formatter c.args.gathered.now flow.store flow.reader c.requires.gathered;
-      within = flow.front;
+      within = flow.prefix;
     }
 
 pub returns-then-not-gathered-clause-puts : goal.returns-then-not-gathered-clause-puts
@@ -42,7 +42,7 @@ returns-then-not-gathered-clause-longest c =
 pub returns-then-words-bytes-clause-puts : goal.returns-then-words-bytes-clause-puts
 returns-then-words-bytes-clause-puts c =
     let h = (goal.at.returns-then-words-bytes-clause-puts c).After-leave-besides in
-    text-add (c.put_line_words-words.result.moves + c.leave-besides.result) c.put_level_newline.result c.args.formatter.now (behind h) c.put_level_newline.new.formatter (puts h)
+    text-add (c.put_line_words-words.result.moves + c.leave-besides.result) c.put_level_newline.result c.args.formatter.now (afterwards h) c.put_level_newline.new.formatter (puts h)
     c.put_level_newline.ensures.puts
 
 pub returns-then-words-bytes-clause-longest : goal.returns-then-words-bytes-clause-longest

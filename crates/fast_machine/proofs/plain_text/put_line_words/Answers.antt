@@ -25,7 +25,7 @@ run c =
     let now = c.loop-formatter.invariant in
     let put = c.put_word-word.ensures in
     turn_run c.loop-formatter.taken c.loop-formatter.moves c.put_word-word.result.count c.args.bytes.now c.args.formatter.now c.loop-formatter.formatter (word_put c)
-    now.puts now.line put.front put.plain refl put.within
+    now.puts now.line put.prefix put.plain refl put.within
 
 run_of_flow : (c : After-put_word-word)
     → PutsOfFlow c.args.bytes.now (c.loop-formatter.taken + c.put_word-word.result.count) (c.loop-formatter.moves + 2 * c.put_word-word.result.count) c.args.formatter.now (word_put c)
@@ -33,7 +33,7 @@ run_of_flow c =
     let now = c.loop-formatter.invariant in
     let put = c.put_word-word.ensures in
     flow_run c.loop-formatter.taken c.loop-formatter.moves c.put_word-word.result.count c.args.bytes.now c.args.formatter.now c.loop-formatter.formatter (word_put c)
-    now.flow now.line put.front put.plain refl put.within
+    now.flow now.line put.prefix put.plain refl put.within
 
 -- in a line that has begun
 line : (c : After-put_word-word) → is_in_line (word_put c) ≡ true
@@ -53,7 +53,7 @@ loop-formatter-init c = record {
   line = c.requires.line;
   manner = c.manner-manner.ensures;
   puts = record {
-    front = omega arith;
+    prefix = omega arith;
     least = omega arith;
     most = omega arith;
     none = λ none. refl;
@@ -157,7 +157,7 @@ loop-formatter-preserved-in-Left c =
     let here : PutsText bs t m f g = subst (λ (x : Formatter). PutsText bs t m f x) (sym put.gap) (run h) in
     let flow : PutsOfFlow bs t m f g = subst (λ (x : Formatter). PutsOfFlow bs t m f x) (sym put.gap) (run_of_flow h) in
     let cells : PutsCellBytes (take k (drop t bs)) g new = subst (λ xs. PutsCellBytes (take k xs) g new) (take_rest bs t) c.put_cell_bytes-count.ensures.puts in
-    let within : t + k ≤ length bs = omega (arith, here.front, c.put_cell_bytes-count.ensures.front, length_rest t bs) in
+    let within : t + k ≤ length bs = omega (arith, here.prefix, c.put_cell_bytes-count.ensures.prefix, length_rest t bs) in
     record {
       line = line_bytes (take k (drop t bs)) g new (ap is_in_line put.gap ∙ line h) cells;
       manner = c.loop-formatter.invariant.manner ∙ ap manner_of (sym put.gap) ∙ sym (manner_bytes (take k (drop t bs)) g new cells);

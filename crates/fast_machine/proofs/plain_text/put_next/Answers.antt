@@ -18,20 +18,20 @@ no_text g c =
 pub returns-then-cells-gt0-clause-reads : goal.returns-then-cells-gt0-clause-reads
 returns-then-cells-gt0-clause-reads g c =
     let next : Shape = shape c.if-is_at_text.engine in
-    let behind : Shape = shape c.put_row-cells.new.engine in
-    reading_later c.put_row-cells.result (shape c.args.engine.now) next behind _ _ _ _ _ _ (no_text g (goal.at.returns-then-cells-gt0-clause-reads g c).Joined-is_at_text)
-    (reading_in_place c.put_row-cells.result next behind (g.R.Source.supply c.if-is_at_text.input) (g.R.Source.failures c.if-is_at_text.input) c.put_row-cells.ensures.puts)
+    let afterwards : Shape = shape c.put_row-cells.new.engine in
+    reading_later c.put_row-cells.result (shape c.args.engine.now) next afterwards _ _ _ _ _ _ (no_text g (goal.at.returns-then-cells-gt0-clause-reads g c).Joined-is_at_text)
+    (reading_in_place c.put_row-cells.result next afterwards (g.R.Source.supply c.if-is_at_text.input) (g.R.Source.failures c.if-is_at_text.input) c.put_row-cells.ensures.puts)
 
 pub returns-clause-reads : goal.returns-clause-reads
 returns-clause-reads g c =
     let next : Shape = shape c.if-is_at_text.engine in
-    let behind : Shape = shape c.put_row-cells.new.engine in
+    let afterwards : Shape = shape c.put_row-cells.new.engine in
     let last : Shape = shape c.read_lines.new.engine in
     let none : c.put_row-cells.result ≡ 0 = omega (arith, c.if-cells-gt0.false) in
-    let no_cells = reading_in_place 0 next behind (g.R.Source.supply c.if-is_at_text.input) (g.R.Source.failures c.if-is_at_text.input)
-    (subst (λ (n : ℕ). MakesInPlace n next behind) none c.put_row-cells.ensures.puts) in
+    let no_cells = reading_in_place 0 next afterwards (g.R.Source.supply c.if-is_at_text.input) (g.R.Source.failures c.if-is_at_text.input)
+    (subst (λ (n : ℕ). MakesInPlace n next afterwards) none c.put_row-cells.ensures.puts) in
     reading_later c.read_lines.result (shape c.args.engine.now) next last _ _ _ _ _ _ (no_text g (goal.at.returns-clause-reads g c).Joined-is_at_text)
-    (reading_later c.read_lines.result next behind last _ _ _ _ _ _ no_cells c.read_lines.ensures.reads)
+    (reading_later c.read_lines.result next afterwards last _ _ _ _ _ _ no_cells c.read_lines.ensures.reads)
 
 pub returns-then-text-gt0-clause-reads : goal.returns-then-text-gt0-clause-reads
 returns-then-text-gt0-clause-reads g c =

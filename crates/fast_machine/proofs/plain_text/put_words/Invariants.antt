@@ -6,7 +6,7 @@ use Rattle.fast_machine.proofs.plain_text.put_words.Given as goal
 abbrev pub invariant-loop-taken : goal.invariant-loop-taken
 invariant-loop-taken l = record {
   line : is_in_line l.formatter ≡ true;
-  front : l.taken ≤ length l.bytes;
+  prefix : l.taken ≤ length l.bytes;
   few : l.moves ≤ 5 * l.taken;
   goes_on : GoesOn l.bytes l.taken l.moves l.fn.formatter l.formatter;
 }

@@ -5,7 +5,7 @@ use Rattle.nr_store.specs.declared.element.Element.{Element}
 use Rattle.nr_formatter.specs.Many.Runs.{is_rereading_line}
 use Rattle.nr_machine.specs.Holding.{Shape, shape}
 use Rattle.fast_machine.specs.Running.{Makes}
-use Rattle.fast_machine.proofs.RereadCells.{front-behind, makes_cells, reread_shape}
+use Rattle.fast_machine.proofs.RereadCells.{prefix-afterwards, makes_cells, reread_shape}
 use Rattle.fast_machine.proofs.rereading.put_row.Goals as goal
 
 pub returns-clause-puts : goal.returns-clause-puts
@@ -18,8 +18,8 @@ returns-clause-puts c = record {
       let ys = take n (take m bs) in
       let rest = rest_of e.formatter.store.levels in
       let line : is_rereading_line e.formatter ≡ true = sym c.is_rereading.ensures ∙ c.if-not-is_rereading.false in
-      let count : length ys ≡ n = length-take-le n (take m bs) c.put_cells-count.ensures.front in
-      let whole : ys ++ (drop n (take m bs) ++ drop m bs) ≡ rest = front-behind n m bs ∙ c.in-Text.ensures in
+      let count : length ys ≡ n = length-take-le n (take m bs) c.put_cells-count.ensures.prefix in
+      let whole : ys ++ (drop n (take m bs) ++ drop m bs) ≡ rest = prefix-afterwards n m bs ∙ c.in-Text.ensures in
       let cells = makes_cells ys (drop n (take m bs) ++ drop m bs) c.put_cells-count.new.row e supply line c.put_cells-count.ensures.cells
       (λ row is. sym (c.is_empty.ensures row is) ∙ c.if-is_empty.false) c.put_cells-count.ensures.adds whole in
       let few : n ≤ length rest = (let all = ap length whole in omega (arith, count, all, length-append ys (drop n (take m bs) ++ drop m bs))) in

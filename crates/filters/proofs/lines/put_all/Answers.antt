@@ -1,8 +1,8 @@
 use Rattle.std.proofs.Common.{rules, ◌+◌, drop, sym, subst, ◌∙◌}
 use Rattle.std.proofs.KnownBytes.{Appends-trans}
 use Rattle.std.specs.Io.KnownBytes.{Appends}
-use Rattle.nr_units.proofs.Fronts.{AppendsFront-append, AppendsFront-after}
-use Rattle.nr_units.specs.Sink.{AppendsFront}
+use Rattle.nr_units.proofs.Prefixes.{AppendsPrefix-append, AppendsPrefix-after}
+use Rattle.nr_units.specs.Sink.{AppendsPrefix}
 use Rattle.filters.specs.Lines.{joined}
 use Rattle.filters.proofs.Joining.{joined-at, joined-more}
 use Rattle.filters.proofs.lines.put_all.Goals as goal
@@ -11,9 +11,9 @@ pub returns-in_err-put-clause-err : goal.returns-in_err-put-clause-err
 returns-in_err-put-clause-err g c =
     let parts = c.args.parts.now in
     let at = c.loop-part.part-index in
-    let front = AppendsFront-after _ _ _ _ _ c.loop-part.invariant.put c.in_err-put.ensures.err in
-    let begun = AppendsFront-append _ _ _ (joined (drop (at + 1) parts)) front in
-    let told = subst (AppendsFront _ _) (sym (joined-at parts at _ c.loop-part-test.true)) begun in
+    let front = AppendsPrefix-after _ _ _ _ _ c.loop-part.invariant.put c.in_err-put.ensures.err in
+    let begun = AppendsPrefix-append _ _ _ (joined (drop (at + 1) parts)) front in
+    let told = subst (AppendsPrefix _ _) (sym (joined-at parts at _ c.loop-part-test.true)) begun in
     search rules
 
 pub loop-part-preserved : goal.loop-part-preserved

@@ -2,8 +2,8 @@ use Rattle.std.proofs.Common.{rules, ◌+◌, drop, sym, subst, ◌∙◌}
 use Rattle.std.proofs.KnownBytes.{Appends-trans}
 use Rattle.std.specs.Io.KnownBytes.{Appends}
 use Rattle.std.specs.List.{flat_map}
-use Rattle.nr_units.proofs.Fronts.{AppendsFront-append, AppendsFront-after}
-use Rattle.nr_units.specs.Sink.{AppendsFront}
+use Rattle.nr_units.proofs.Prefixes.{AppendsPrefix-append, AppendsPrefix-after}
+use Rattle.nr_units.specs.Sink.{AppendsPrefix}
 use Rattle.mdoc_command.specs.Complaints.{complaint_line}
 use Rattle.mdoc_command.proofs.Written.{lines-at, lines-more}
 use Rattle.mdoc_command.proofs.complaints.put_complaints.Goals as goal
@@ -14,9 +14,9 @@ returns-in_err-put_complaint-clause-err g c =
     let all = c.args.complaints.now in
     let at = c.loop-complaint.complaint-index in
     let item = c.complaint-item in
-    let front = AppendsFront-after _ _ _ _ _ c.loop-complaint.invariant.put c.in_err-put_complaint.ensures.err in
-    let begun = AppendsFront-append _ _ _ (flat_map line (drop (at + 1) all)) front in
-    let told = subst (AppendsFront _ _) (sym (lines-at line all at item.result c.loop-complaint-test.true item.is)) begun in
+    let front = AppendsPrefix-after _ _ _ _ _ c.loop-complaint.invariant.put c.in_err-put_complaint.ensures.err in
+    let begun = AppendsPrefix-append _ _ _ (flat_map line (drop (at + 1) all)) front in
+    let told = subst (AppendsPrefix _ _) (sym (lines-at line all at item.result c.loop-complaint-test.true item.is)) begun in
     search rules
 
 pub loop-complaint-preserved : goal.loop-complaint-preserved

@@ -1,5 +1,5 @@
 use Rattle.std.proofs.Common.{rules}
-use Rattle.nr_units.proofs.Fronts.{AppendsFront-append}
+use Rattle.nr_units.proofs.Prefixes.{AppendsPrefix-append}
 use Rattle.mdoc_command.specs.Complaints.{more_lines}
 use Rattle.mdoc_command.proofs.Written.{err_after, ok_after}
 use Rattle.mdoc_command.proofs.complaints.put_told.Goals as goal
@@ -7,7 +7,7 @@ use Rattle.mdoc_command.proofs.complaints.put_told.Goals as goal
 pub returns-in_err-put_complaints-clause-err : goal.returns-in_err-put_complaints-clause-err
 returns-in_err-put_complaints-clause-err g c =
     let begun = rw c.complaints.ensures at c.in_err-put_complaints.ensures.err in
-    let told = AppendsFront-append _ _ _ (more_lines c.args.program.now c.args.name.now c.args.told.now.missed) begun in
+    let told = AppendsPrefix-append _ _ _ (more_lines c.args.program.now c.args.name.now c.args.told.now.missed) begun in
     search rules
 
 pub returns-clause-ok : goal.returns-clause-ok

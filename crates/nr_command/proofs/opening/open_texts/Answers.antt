@@ -52,16 +52,16 @@ pub returns-clause-all : goal.returns-clause-all
 returns-clause-all g c =
     let all = readings (asked_of c.args.job.now) in
     let n = vec_len c.loop-input.texts in
-    let told : slice_get all c.len.result ≡ None = sym c.input.ensures ∙ ap (option_map reading_of) c.in_default.is in
-    let none : slice_get all n ≡ None = rw c.len.ensures at told in
+    let reported : slice_get all c.len.result ≡ None = sym c.input.ensures ∙ ap (option_map reading_of) c.in_default.is in
+    let none : slice_get all n ≡ None = rw c.len.ensures at reported in
     rw (take-none all n none) at c.loop-input.invariant.opened
 
 pub returns-clause-asked : goal.returns-clause-asked
 returns-clause-asked g c =
     let all = readings (asked_of c.args.job.now) in
     let n = vec_len c.loop-input.texts in
-    let told : slice_get all c.len.result ≡ None = sym c.input.ensures ∙ ap (option_map reading_of) c.in_default.is in
-    let none : slice_get all n ≡ None = rw c.len.ensures at told in
+    let reported : slice_get all c.len.result ≡ None = sym c.input.ensures ∙ ap (option_map reading_of) c.in_default.is in
+    let none : slice_get all n ≡ None = rw c.len.ensures at reported in
     rw (take-none all n none) at c.loop-input.invariant.asked
 
 pub returns-in-Err-clause-unopened : goal.returns-in-Err-clause-unopened

@@ -1,27 +1,27 @@
 use Rattle.std.proofs.lemmas.Grind.{common_steps}
 use Rattle.std.proofs.Common.{◌++◌, codes, arith}
 use Rattle.std.proofs.KnownBytes.{Appends-trans}
-use Rattle.nr_units.proofs.Fronts.{AppendsFront-append, AppendsFront-after}
-use Rattle.nr_command.proofs.Telling.{on_err_always, AppendsFront-last}
+use Rattle.nr_units.proofs.Prefixes.{AppendsPrefix-append, AppendsPrefix-after}
+use Rattle.nr_command.proofs.Telling.{on_err_always, AppendsPrefix-last}
 use Rattle.nr_command.proofs.opening.put_path.Goals as goal
 
 pub returns-in_err-put-clause-err : goal.returns-in_err-put-clause-err
 returns-in_err-put-clause-err g c =
     let folder = c.args.folder.now in
-    let begun = AppendsFront-append _ _ folder (codes "/tmac.") c.in_err-put.ensures.err in
-    on_err_always c.from_residual.result (AppendsFront-append _ _ (folder ++ codes "/tmac.") c.args.name.now begun)
+    let begun = AppendsPrefix-append _ _ folder (codes "/tmac.") c.in_err-put.ensures.err in
+    on_err_always c.from_residual.result (AppendsPrefix-append _ _ (folder ++ codes "/tmac.") c.args.name.now begun)
 
 pub returns-in_err-put-2-clause-err : goal.returns-in_err-put-2-clause-err
 returns-in_err-put-2-clause-err g c =
     let folder = c.args.folder.now in
-    let begun = AppendsFront-after _ _ _ folder (codes "/tmac.") c.in_ok-put.ensures.ok c.in_err-put-2.ensures.err in
-    on_err_always c.from_residual-in_err-put-2.result (AppendsFront-append _ _ (folder ++ codes "/tmac.") c.args.name.now begun)
+    let begun = AppendsPrefix-after _ _ _ folder (codes "/tmac.") c.in_ok-put.ensures.ok c.in_err-put-2.ensures.err in
+    on_err_always c.from_residual-in_err-put-2.result (AppendsPrefix-append _ _ (folder ++ codes "/tmac.") c.args.name.now begun)
 
 pub returns-clause-err : goal.returns-clause-err
 returns-clause-err g c =
     let folder = c.args.folder.now in
     let begun = Appends-trans _ _ _ folder (codes "/tmac.") c.in_ok-put.ensures.ok c.in_ok-put-2.ensures.ok in
-    AppendsFront-last c.put-3.result _ _ _ (folder ++ codes "/tmac.") c.args.name.now begun c.put-3.ensures.err
+    AppendsPrefix-last c.put-3.result _ _ _ (folder ++ codes "/tmac.") c.args.name.now begun c.put-3.ensures.err
 
 pub returns-clause-ok : goal.returns-clause-ok
 returns-clause-ok g c = grind (arith, common_steps)

@@ -19,7 +19,7 @@ returns-in-Ok-clause-ran g c = λ good. (c.in-Ok.job, c.in-Ok.ensures.answer, c.
 pub returns-in-Err-clause-bad_word : goal.returns-in-Err-clause-bad_word
 returns-in-Err-clause-bad_word g c = λ complaint bad.
     let is : complaint ≡ complaint_of c.in-Err.usage = same complaint (complaint_of c.in-Err.usage) (Err complaint) refl (c.in-Err.ensures.only (Err complaint) bad) in
-    rw is (c.refuse_word.ensures.status, c.refuse_word.ensures.told)
+    rw is (c.refuse_word.ensures.status, c.refuse_word.ensures.reported)
 
 pub returns-in-Err-clause-unopened : goal.returns-in-Err-clause-unopened
 returns-in-Err-clause-unopened g c = search rules

@@ -5,7 +5,7 @@ use Rattle.nr_fill.specs.declared.piece.PieceSlot.{PieceSlot}
 use Rattle.nr_fill.specs.Cutting.{join_width, hyphen_width, fits, most_that_fit, cut}
 use Rattle.nr_fill.specs.Slots.{blank_slot, pieces_of}
 use Rattle.nr_fill.proofs.PiecesOf.{length-pieces_of}
-use Rattle.nr_fill.proofs.LongestPrefix.{most_that_fit_yes, most_that_fit_no, most_that_fit_stays, hyphen_at, hyphen_at_end, too_wide, fits_front}
+use Rattle.nr_fill.proofs.LongestPrefix.{most_that_fit_yes, most_that_fit_no, most_that_fit_stays, hyphen_at, hyphen_at_end, too_wide, fits_prefix}
 use Rattle.nr_fill.proofs.cutting.longest_prefix.Goals as goal
 use Rattle.nr_fill.proofs.cutting.longest_prefix.Goals.{then-width-from, else-width-from, then-loop-count-test+else-width-line, else-loop-count-test}
 
@@ -30,7 +30,7 @@ loop-count-preserved c =
       best_within = elim c.if-width-from.branch [ then-width-from w ↦ omega (arith, w.best-is) | else-width-from w ↦ omega (arith, w.best-is, loop.invariant.best_within) ];
       wide = omega arith;
       most = λ cells h.
-          let is = fits_front c.args.line slots cells n loop.width c.from.result blank_slot some (omega arith) h wide (hyphen_at slots cells n blank_slot below ∙ sym hyphen_is) in
+          let is = fits_prefix c.args.line slots cells n loop.width c.from.result blank_slot some (omega arith) h wide (hyphen_at slots cells n blank_slot below ∙ sym hyphen_is) in
           rw back (elim c.if-width-from.branch [
             | then-width-from w ↦
                 let most = most_that_fit_yes c.args.line (pieces_of slots cells) n (n - 1) (omega arith) (is ∙ le-leb _ _ w.if-width-from.true) in
@@ -53,7 +53,7 @@ returns-then-width-line-2-clause-pieces c =
       | then-loop-count-test+else-width-line w ↦ absurd (omega (arith, w.if-width-line.false, c.if-width-line-2.true))
       | else-loop-count-test w ↦ omega (arith, w.loop-count-test.false, loop.invariant.within)
     ] in
-    let is = fits_front c.args.line slots cells loop.count loop.width 0 blank_slot some loop.invariant.within h loop.invariant.wide (hyphen_at_end ps loop.count (omega arith)) in
+    let is = fits_prefix c.args.line slots cells loop.count loop.width 0 blank_slot some loop.invariant.within h loop.invariant.wide (hyphen_at_end ps loop.count (omega arith)) in
     let yes : fits c.args.line loop.count ps ≡ true = is ∙ le-leb _ _ (omega (arith, c.if-width-line-2.true)) in
     let most = most_that_fit_yes c.args.line ps loop.count (loop.count - 1) (omega arith) yes in
     let end : length ps ≡ loop.count = omega arith in

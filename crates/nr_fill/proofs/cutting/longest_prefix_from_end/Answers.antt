@@ -6,7 +6,7 @@ use Rattle.nr_fill.specs.declared.piece.PieceSlot.{PieceSlot}
 use Rattle.nr_fill.specs.Cutting.{join_width, fits, most_that_fit, cut}
 use Rattle.nr_fill.specs.Slots.{blank_slot, pieces_of, slots_width}
 use Rattle.nr_fill.proofs.PiecesOf.{length-pieces_of}
-use Rattle.nr_fill.proofs.LongestPrefix.{most_that_fit_yes, most_that_fit_no, most_that_fit-le, hyphen_at, hyphen_at_end, fits_front}
+use Rattle.nr_fill.proofs.LongestPrefix.{most_that_fit_yes, most_that_fit_no, most_that_fit-le, hyphen_at, hyphen_at_end, fits_prefix}
 use Rattle.nr_fill.proofs.cutting.longest_prefix_from_end.Goals as goal
 
 pub loop-count-init : goal.loop-count-init
@@ -47,7 +47,7 @@ loop-count-preserved c =
       narrow = omega (arith, loop.invariant.narrow);
       hyphen_is = λ cells. hyphen_at slots cells n blank_slot below ∙ sym c.hyphen.ensures.value ∙ sym c.from-hyphen.ensures;
       most = λ cells h.
-          let is = fits_front c.args.line slots cells loop.count loop.width loop.hyphen blank_slot loop.invariant.some within h wide (loop.invariant.hyphen_is cells) in
+          let is = fits_prefix c.args.line slots cells loop.count loop.width loop.hyphen blank_slot loop.invariant.some within h wide (loop.invariant.hyphen_is cells) in
           loop.invariant.most cells h ∙ most_that_fit_no c.args.line (pieces_of slots cells) loop.count n (omega arith) (is ∙ lt-leb _ _ c.if-width-hyphen.true);
     }
 
@@ -59,7 +59,7 @@ returns-else-width-hyphen-clause-pieces c =
     let ps = pieces_of slots cells in
     let long = length-pieces_of slots cells in
     let some = loop.invariant.some in
-    let is = fits_front c.args.line slots cells loop.count loop.width loop.hyphen blank_slot some loop.invariant.within h loop.invariant.wide (loop.invariant.hyphen_is cells) in
+    let is = fits_prefix c.args.line slots cells loop.count loop.width loop.hyphen blank_slot some loop.invariant.within h loop.invariant.wide (loop.invariant.hyphen_is cells) in
     let yes : fits c.args.line loop.count ps ≡ true = is ∙ le-leb _ _ c.if-width-hyphen.false in
     let most = most_that_fit_yes c.args.line ps loop.count (loop.count - 1) (omega arith) yes in
     let cut_is : cut c.args.line ps ≡ max 1 loop.count = ap (λ n. max 1 (most_that_fit c.args.line ps n)) long ∙ ap (max 1) (loop.invariant.most cells h ∙ most) in

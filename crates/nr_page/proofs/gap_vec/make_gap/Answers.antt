@@ -15,4 +15,4 @@ returns-clause-items g c =
     let longer : length slots.items ≤ length long.items = omega (arith, c.lengthen.ensures.longer) in
     gap_opened slots.items _ long.items news.items c.args.place c.args.gap gap nothing (omega (arith, c.requires.here)) c.lengthen.ensures.items (omega arith) (omega (arith, c.copy_within.ensures.len))
     (λ k d before. h.1 k d (omega arith))
-    (λ k d behind below. h.0 (gap + k) d (omega arith) (omega arith) ∙ ap (λ i. get_or long.items i d) (omega arith))
+    (λ k d afterwards below. h.0 (gap + k) d (omega arith) (omega arith) ∙ ap (λ i. get_or long.items i d) (omega arith))

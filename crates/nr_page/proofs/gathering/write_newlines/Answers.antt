@@ -1,13 +1,13 @@
 use Prim.Native.Char.{code}
 use Rattle.std.proofs.Common.{arith, ◌∙◌, [], ◌∷◌}
 use Rattle.std.proofs.lemmas.Result.{err_from_is_err_and}
-use Rattle.nr_page.proofs.Fronts.{Gathers-both, Gathers-front, replicate-more, replicate-front}
+use Rattle.nr_page.proofs.Prefixes.{Gathers-both, Gathers-prefix, replicate-more, replicate-prefix}
 use Rattle.nr_page.proofs.gathering.write_newlines.Goals as goal
 
 pub returns-in_err-make_room-clause-gathers : goal.returns-in_err-make_room-clause-gathers
 returns-in_err-make_room-clause-gathers g c =
     let z = err_from_is_err_and c.from_residual.result c.from_residual.ensures.1 in
-    rw z.1 (Gathers-front _ _ _ _ _ _ [] _ _ c.loop-line.invariant.gathers c.in_err-make_room.ensures.gathers (replicate-front c.loop-line._line c.args.count (code "\n") (omega arith)))
+    rw z.1 (Gathers-prefix _ _ _ _ _ _ [] _ _ c.loop-line.invariant.gathers c.in_err-make_room.ensures.gathers (replicate-prefix c.loop-line._line c.args.count (code "\n") (omega arith)))
 
 pub loop-line-preserved : goal.loop-line-preserved
 loop-line-preserved g c = record {

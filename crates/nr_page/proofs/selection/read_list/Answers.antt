@@ -9,13 +9,13 @@ pub returns-in_err-item-clause-read : goal.returns-in_err-item-clause-read
 returns-in_err-item-clause-read c items is_list =
     let left = c.loop-item.invariant.goes_on items is_list.spelled in
     let first = first_item left.0 c.loop-item.rest.now left.2 in
-    absurd (c.in_err-item.ensures.read first.item first.front first.after first.spelled first.ends first.text_is)
+    absurd (c.in_err-item.ensures.read first.item first.prefix first.after first.spelled first.ends first.text_is)
 
 pub returns-then-is_empty-clause-read : goal.returns-then-is_empty-clause-read
 returns-then-is_empty-clause-read c items is_list =
     let left = c.loop-item.invariant.goes_on items is_list.spelled in
     let first = first_item left.0 c.loop-item.rest.now left.2 in
-    let same = c.in_ok-item.ensures.read first.item first.front first.after first.spelled first.ends first.text_is in
+    let same = c.in_ok-item.ensures.read first.item first.prefix first.after first.spelled first.ends first.text_is in
     let pushed : c.try_push.new.self.items ≡ c.loop-item.list.items ++ c.in_ok-item.item ∷ [] = search rules in
     let at_end : c.in_ok-item.after.now ≡ [] = search rules in
     let alone = Continues-nil first.others first.after first.continues (sym same.1 ∙ at_end) in
@@ -25,7 +25,7 @@ pub returns-in_err-rest-clause-read : goal.returns-in_err-rest-clause-read
 returns-in_err-rest-clause-read c items is_list =
     let left = c.loop-item.invariant.goes_on items is_list.spelled in
     let first = first_item left.0 c.loop-item.rest.now left.2 in
-    let same = c.in_ok-item.ensures.read first.item first.front first.after first.spelled first.ends first.text_is in
+    let same = c.in_ok-item.ensures.read first.item first.prefix first.after first.spelled first.ends first.text_is in
     let ends = Continues-other first.others first.after first.continues (λ rest begins. c.in_err-rest.ensures.none rest (same.1 ∙ begins)) in
     let none : length c.in_ok-item.after.now ≡ 0 = ap length (same.1 ∙ ends) in
     absurd (grind (arith, none, c.if-is_empty.false, c.is_empty.ensures))
@@ -47,7 +47,7 @@ loop-item-preserved c =
       goes_on = λ items spelled.
           let left = c.loop-item.invariant.goes_on items spelled in
           let first = first_item left.0 c.loop-item.rest.now left.2 in
-          let same = c.in_ok-item.ensures.read first.item first.front first.after first.spelled first.ends first.text_is in (
+          let same = c.in_ok-item.ensures.read first.item first.prefix first.after first.spelled first.ends first.text_is in (
             first.others,
             cc (pushed, left.1, first.items_are, same.0, append_assoc list (item ∷ []) first.others),
             Continues-comma first.others first.after rest first.continues (sym same.1 ∙ c.in_ok-rest.ensures.found),

@@ -1,7 +1,7 @@
 use Rattle.std.proofs.Common.{arith}
 use Rattle.std.proofs.lemmas.Grind.{common_steps}
 use Rattle.std.proofs.lemmas.Result.{err_from_is_err_and}
-use Rattle.nr_page.proofs.Fronts.{OnErr-GathersOrFails}
+use Rattle.nr_page.proofs.Prefixes.{OnErr-GathersOrFails}
 use Rattle.nr_page.proofs.writing.write_all.Goals as goal
 
 pub returns-in_err-write_rows-clause-err : goal.returns-in_err-write_rows-clause-err

@@ -2,8 +2,8 @@ use Rattle.std.proofs.Common.{◌+◌, ◌-◌, ◌≤◌, ◌++◌, ap, ◌∙�
 use Rattle.std.proofs.lemmas.Result.{err_from_is_err_and}
 use Rattle.nr_page.specs.Overlay.{rows_bytes}
 use Rattle.nr_page.specs.Rows.{rows_of}
-use Rattle.nr_page.proofs.Fronts.{Gathers-append, Gathers-front, GathersOrFails-last}
-use Rattle.nr_page.proofs.PageText.{rows_bytes-front}
+use Rattle.nr_page.proofs.Prefixes.{Gathers-append, Gathers-prefix, GathersOrFails-last}
+use Rattle.nr_page.proofs.PageText.{rows_bytes-prefix}
 use Rattle.nr_page.proofs.Keeping.{number_at, before_number, rows_bytes-kept, rows_bytes-rest}
 use Rattle.nr_page.proofs.writing.write_rows.Goals as goal
 
@@ -16,8 +16,8 @@ returns-in_err-write_row-clause-gathers g c =
     let found = number_at rows c.loop-place.place row c.get-row.ensures in
     let reached : row.number + 1 ≤ c.args.count = omega (arith, found.1, c.requires.above c.loop-place.place found.0) in
     let kept = rows_bytes-kept c.args.faces texts rows c.loop-place.place c.loop-place.done row c.requires.kept.order c.get-row.ensures c.loop-place.invariant.above c.loop-place.invariant.below in
-    rw z.1 (Gathers-front _ _ _ _ _ _ _ _ _ c.loop-place.invariant.gathers (rw c.text.ensures at c.in_err-write_row.ensures.gathers)
-    (rows_bytes-front c.args.faces (rows_of texts rows) (row.number + 1) c.args.count reached ∙ ap (λ front. front ++ rows_bytes c.args.faces (rows_of texts rows) (row.number + 1) (c.args.count - (row.number + 1))) kept))
+    rw z.1 (Gathers-prefix _ _ _ _ _ _ _ _ _ c.loop-place.invariant.gathers (rw c.text.ensures at c.in_err-write_row.ensures.gathers)
+    (rows_bytes-prefix c.args.faces (rows_of texts rows) (row.number + 1) c.args.count reached ∙ ap (λ prefix. prefix ++ rows_bytes c.args.faces (rows_of texts rows) (row.number + 1) (c.args.count - (row.number + 1))) kept))
 
 pub loop-place-preserved : goal.loop-place-preserved
 loop-place-preserved g c =
@@ -28,7 +28,7 @@ loop-place-preserved g c =
     let kept = rows_bytes-kept c.args.faces texts rows c.loop-place.place c.loop-place.done row c.requires.kept.order c.get-row.ensures c.loop-place.invariant.above c.loop-place.invariant.below in
     record {
       above = λ k before within. before_number rows c.loop-place.place k (row.number + 1) c.requires.kept.order found.0 (omega arith) (omega (arith, found.1));
-      below = λ k behind within. omega (arith, found.1, c.requires.kept.order c.loop-place.place k (omega arith) within);
+      below = λ k afterwards within. omega (arith, found.1, c.requires.kept.order c.loop-place.place k (omega arith) within);
       within = omega (arith, found.1, c.requires.above c.loop-place.place found.0);
       gathers = rw kept (Gathers-append c.loop-place.invariant.gathers (rw c.text.ensures at c.in_ok-write_row.ensures.gathers));
       failures = c.in_ok-write_row.ensures.failures ∙ c.loop-place.invariant.failures;

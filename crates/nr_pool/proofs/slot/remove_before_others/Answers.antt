@@ -11,5 +11,5 @@ returns g c =
     let slots = c.args.slots.now in
     let s = slot_at slots c.args.index in
     gap_removed _ slots _ _ _ c.requires.packed c.requires.within c.requires.held _ _ c.requires.before.0
-    (record { same_length = c.copy_within.ensures.len; before = c.copy_within.ensures.by_index.1; behind = c.copy_within.ensures.by_index.0 })
+    (record { same_length = c.copy_within.ensures.len; before = c.copy_within.ensures.by_index.1; afterwards = c.copy_within.ensures.by_index.0 })
     (c.shift_after.ensures ∙ ap (λ t. map (shifted (s.start + s.len) s.len) (set slots c.args.index t)) c.spare-2.ensures)

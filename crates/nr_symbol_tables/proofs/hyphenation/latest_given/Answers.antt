@@ -42,9 +42,9 @@ returns c =
     let n = length cells - 1 in
     let some = c.if-len-eq0.false in
     let two = c.if-len-eq1.false in
-    let front = bytes_of (take n cells) in
-    let front_long : length front ≡ n = length-map (take n cells) byte ∙ length-take-le n cells (omega arith) in
+    let prefix = bytes_of (take n cells) in
+    let prefix_long : length prefix ≡ n = length-map (take n cells) byte ∙ length-take-le n cells (omega arith) in
     let last : get_or bytes n 0 ≡ code "s" = get_or-map byte cells n nothing 0 (omega arith) ∙ c.if-cells-len-ne115.false in
-    let is : bytes ≡ front ++ code "s" ∷ [] =
-    sym (take_all (n + 1) bytes (omega arith)) ∙ take_more bytes n 0 (omega arith) ∙ ap (λ l. l ++ get_or bytes n 0 ∷ []) (take-map byte n cells) ∙ ap (λ b. front ++ b ∷ []) last in
-    rw c.max.ensures (latest_of_both bytes front ws c.latest_with-whole.result c.latest_with.result is (omega arith) c.latest_with-whole.ensures c.latest_with.ensures)
+    let is : bytes ≡ prefix ++ code "s" ∷ [] =
+    sym (take_all (n + 1) bytes (omega arith)) ∙ take_more bytes n 0 (omega arith) ∙ ap (λ l. l ++ get_or bytes n 0 ∷ []) (take-map byte n cells) ∙ ap (λ b. prefix ++ b ∷ []) last in
+    rw c.max.ensures (latest_of_both bytes prefix ws c.latest_with-whole.result c.latest_with.result is (omega arith) c.latest_with-whole.ensures c.latest_with.ensures)

@@ -11,7 +11,7 @@ use Rattle.nr_symbol_tables.proofs.word.stem.Goals.{then-loop-len-test+else-clos
 pub returns : goal.returns
 returns c =
     let cells = c.args.cells.now in
-    let behind = c.loop-len.invariant.behind in
+    let afterwards = c.loop-len.invariant.afterwards in
     let within = c.loop-len.invariant.within in
     let is : c.loop-len.len ≡ length cells - suffix_len (λ (x : Cell). closes x.byte) cells =
     elim c.loop-len-test.branch [

@@ -7,7 +7,7 @@ use Rattle.nr_symbol_tables.proofs.word.stem.Given as goal
 abbrev pub invariant-loop-len : goal.invariant-loop-len
 invariant-loop-len l = record {
   within : l.len ≤ length l.cells;
-  behind : l.len - suffix_len (λ (x : Cell). closes x.byte) (take l.len l.cells) ≡ length l.cells - suffix_len (λ (x : Cell). closes x.byte) l.cells;
+  afterwards : l.len - suffix_len (λ (x : Cell). closes x.byte) (take l.len l.cells) ≡ length l.cells - suffix_len (λ (x : Cell). closes x.byte) l.cells;
 }
 
 abbrev pub decreases-loop-len : goal.decreases-loop-len

@@ -8,6 +8,6 @@ returns-clause-value c =
     let n = c.args.n in
     let old = c.args.text.now.items in
     c.push_pair.ensures
-    ∙ ap (λ (front : List ℕ). front ++ pair (n % 100)) c.push_short-2.ensures.value
+    ∙ ap (λ (prefix : List ℕ). prefix ++ pair (n % 100)) c.push_short-2.ensures.value
     ∙ append_assoc old (decimal (n / 100)) (pair (n % 100))
     ∙ ap (λ (ds : List ℕ). old ++ ds) (sym (decimal_pair n (omega arith) c.ranges.n.fits))

@@ -1,6 +1,6 @@
 use Rattle.std.proofs.Common.{rules, ◌∷◌, [], codes, ap, ◌∙◌}
 use Rattle.std.specs.List.{concat}
-use Rattle.nr_units.proofs.Fronts.{AppendsFront-append}
+use Rattle.nr_units.proofs.Prefixes.{AppendsPrefix-append}
 use Rattle.tbl_command.specs.Complaints.{named_by, words_of}
 use Rattle.tbl_command.proofs.Written.{err_after, err_is, ok_after, ok_is}
 use Rattle.tbl_command.proofs.complaints.put_complaint.Goals as goal
@@ -8,7 +8,7 @@ use Rattle.tbl_command.proofs.complaints.put_complaint.Goals as goal
 pub returns-in_err-put_place-clause-err : goal.returns-in_err-put_place-clause-err
 returns-in_err-put_place-clause-err g c =
     let begun = rw c.format.ensures.text at c.in_err-put_place.ensures.err in
-    let told = AppendsFront-append _ _ _ (concat (words_of c.args.complaint.kind ∷ named_by c.args.complaint.kind ∷ codes "\n" ∷ [])) begun in
+    let told = AppendsPrefix-append _ _ _ (concat (words_of c.args.complaint.kind ∷ named_by c.args.complaint.kind ∷ codes "\n" ∷ [])) begun in
     search rules
 
 pub returns-clause-ok : goal.returns-clause-ok

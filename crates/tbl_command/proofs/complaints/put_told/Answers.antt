@@ -1,12 +1,12 @@
 use Rattle.std.proofs.Common.{rules}
-use Rattle.nr_units.proofs.Fronts.{AppendsFront-append}
+use Rattle.nr_units.proofs.Prefixes.{AppendsPrefix-append}
 use Rattle.tbl_command.specs.Complaints.{report_lines}
 use Rattle.tbl_command.proofs.Written.{err_after, ok_after}
 use Rattle.tbl_command.proofs.complaints.put_told.Goals as goal
 
 pub returns-in_err-put_complaints-clause-err : goal.returns-in_err-put_complaints-clause-err
 returns-in_err-put_complaints-clause-err g c =
-    let told = AppendsFront-append _ _ _ (report_lines c.args.program.now c.args.name.now c.args.report.missed c.args.report.uneven) c.in_err-put_complaints.ensures.err in
+    let told = AppendsPrefix-append _ _ _ (report_lines c.args.program.now c.args.name.now c.args.report.missed c.args.report.uneven) c.in_err-put_complaints.ensures.err in
     search rules
 
 pub returns-clause-ok : goal.returns-clause-ok

@@ -1,5 +1,5 @@
 use Rattle.std.proofs.Common.{ap, arith, length, ◌-◌}
-use Rattle.nr_command_options.proofs.InOrder.{macro_at, file_at, standard_at, none_unread, none_behind}
+use Rattle.nr_command_options.proofs.InOrder.{macro_at, file_at, standard_at, none_unread, none_after}
 use Rattle.nr_command_options.proofs.job.Job.input.Goals as goal
 use Rattle.nr_command_options.proofs.job.Job.input.Goals.{else-place-files-2-via-then-place-files-2+else-self, else-place-files-2-via-else-place-files-2}
 
@@ -26,5 +26,5 @@ returns-else-place-files-2 c =
     let size = ap length c.as_slice-macros.ensures.value in
     elim c.else-place-files-2.branch [
       | else-place-files-2-via-then-place-files-2+else-self w ↦ none_unread job.macro_folder.now job.macros.items job.files.now job.reads_input c.args.place (omega (arith, size)) w.if-self.false
-      | else-place-files-2-via-else-place-files-2 w ↦ none_behind job.macro_folder.now job.macros.items job.files.now job.reads_input c.args.place (omega (arith, size))
+      | else-place-files-2-via-else-place-files-2 w ↦ none_after job.macro_folder.now job.macros.items job.files.now job.reads_input c.args.place (omega (arith, size))
     ]

@@ -3,10 +3,10 @@ use Rattle.std.proofs.lemmas.Bool.{le-leb}
 use Rattle.std.proofs.lemmas.List.{length-take-le}
 use Rattle.std.proofs.Common.{get_or}
 use Rattle.std.proofs.lemmas.List.{get_or-take}
-use Rattle.nr_fill.specs.Cutting.{join_width, front_width}
+use Rattle.nr_fill.specs.Cutting.{join_width, prefix_width}
 use Rattle.nr_fill.specs.Piece.{Piece}
 use Rattle.nr_fill.specs.declared.piece.Join.TheVariants.{Soft}
-use Rattle.nr_fill.proofs.PiecesOf.{width-first, width-le, front_width-all}
+use Rattle.nr_fill.proofs.PiecesOf.{width-first, width-le, prefix_width-all}
 use Rattle.nr_fill.proofs.Lines.{first_is, has_pieces}
 use Rattle.nr_fill.proofs.line.Line.fits.Goals as goal
 
@@ -15,7 +15,7 @@ returns-then-self-length c =
     let s = c.self.inside in
     let h = c.self.invariant in
     let ps = take s.pieces s.row.pieces in
-    let front = front_width-all ps in
+    let prefix = prefix_width-all ps in
     let narrow = width-le ps in
     rw (← c.self.view_is) (sym (le-leb _ _ (omega (arith, h.wide_is, c.if-self-length.true))))
 
@@ -33,6 +33,6 @@ returns c =
     let all = width-first ps d (omega arith) in
     let first = first_is s.row.pieces c.first_join.result d (omega (arith, h.pieces_within)) c.first_join.ensures in
     let join : c.from-first.result ≡ join_width (get_or ps 0 d).join = c.from-first.ensures ∙ c.width.ensures ∙ ap join_width first ∙ ap (λ (p : Piece). join_width p.join) (sym (get_or-take s.pieces s.row.pieces 0 d some)) in
-    let front = front_width-all ps in
-    let is : s.wide - c.from-first.result ≡ front_width (length ps) ps = omega (arith, h.wide_is) in
+    let prefix = prefix_width-all ps in
+    let is : s.wide - c.from-first.result ≡ prefix_width (length ps) ps = omega (arith, h.wide_is) in
     rw (← c.self.view_is, is) refl

@@ -8,7 +8,7 @@ use Rattle.nr_fill.specs.declared.piece.Join.TheVariants.{Soft}
 use Rattle.nr_fill.specs.declared.stops.Pending.{Pending}
 use Rattle.nr_fill.specs.Piece.{Piece, is_for_stop, is_inside}
 use Rattle.std.proofs.lemmas.List.{take-append-le, drop-append-le}
-use Rattle.nr_fill.proofs.Pendings.{inside_at, needed_behind_point}
+use Rattle.nr_fill.proofs.Pendings.{inside_at, needed_after_point}
 use Rattle.nr_fill.proofs.line.Line.hyphenate.Goals as goal
 
 -- what is known of a place inside the piece that is being read
@@ -56,7 +56,7 @@ invariant_of-self-2 c =
     let inside = inside_row c.self.inside.row c.saturating_sub-at.result c.in-Some.word.blanks c.in-Some.word.pending c.last_len.ensures c.clear_title.ensures c.is_inside.ensures c.if-not-is_inside.false in
     let width = c.from.ensures ∙ c.width.ensures in
     let v : WordState = record { join = Soft; pending = w.pending; blanks = w.blanks; parted = w.parted + at; wide = w.wide + (c.from.result + at) } in
-    let needed = needed_behind_point w.pending w.blanks v.parted (length s.row.last - at) inside.2 (omega arith) in
+    let needed = needed_after_point w.pending w.blanks v.parted (length s.row.last - at) inside.2 (omega arith) in
     rw (c.close.ensures, c.clear_title.ensures) (is_line_closed v at h (omega arith) inside.0 refl (omega arith) (omega arith) needed)
 
 pub returns : goal.returns
@@ -70,6 +70,6 @@ returns c =
     let is : is_inside (c.args.place - cells_in (drop s.pieces s.row.pieces)) w.blanks (length s.row.last) w.pending ≡ true =
     ap₂ (λ a b. is_inside a w.blanks b w.pending) (sym at_is) (sym len) ∙ sym c.is_inside.ensures ∙ c.if-not-is_inside.false in
     let p : Piece = record { join = w.join; cells = take at s.row.last } in
-    let front = take-append-le s.pieces s.row.pieces (p ∷ []) (are_small h).low in
+    let prefix = take-append-le s.pieces s.row.pieces (p ∷ []) (are_small h).low in
     let back = drop-append-le s.pieces s.row.pieces (p ∷ []) (are_small h).low in
-    rw (c.close.ensures, c.clear_title.ensures, front, back, ← c.self.view_is, c.in-Some.is, is, ← at_is) refl
+    rw (c.close.ensures, c.clear_title.ensures, prefix, back, ← c.self.view_is, c.in-Some.is, is, ← at_is) refl

@@ -9,7 +9,7 @@ use Rattle.nr_fill.specs.Cutting.{join_width}
 use Rattle.nr_fill.specs.Laid.{Laid}
 use Rattle.nr_fill.specs.PieceRow.{IsWord}
 use Rattle.nr_fill.specs.Piece.{Piece, join_before}
-use Rattle.nr_fill.proofs.Lines.{the_word, is_line_untitled, is_line_opened_behind, join_before-within}
+use Rattle.nr_fill.proofs.Lines.{the_word, is_line_untitled, is_line_opened_after, join_before-within}
 use Rattle.nr_fill.proofs.PiecesOf.{length-flat_map}
 use Rattle.nr_fill.proofs.Pendings.{needed_blanks}
 use Rattle.nr_fill.proofs.line.Line.join_word.Goals as goal
@@ -45,7 +45,7 @@ invariant_of-self-2 c =
       join_within = rw join_is within;
       needed = omega (arith, length-append (flat_map (λ (p : Piece). p.cells) (drop s.pieces ps)) s.row.last);
     } in
-    rw (c.open_after.ensures, c.clear_title.ensures) (is_line_opened_behind v s.pieces h (omega arith) h.pieces_within hw)
+    rw (c.open_after.ensures, c.clear_title.ensures) (is_line_opened_after v s.pieces h (omega arith) h.pieces_within hw)
 
 pub returns : goal.returns
 returns c = grind (arith, common_steps)

@@ -13,14 +13,14 @@ overflow_add-result-4 c =
     let h = c.self.invariant in
     let count = ap (λ (v : Lined). length v.collected.pieces) c.self.view_is in
     let few = gaps-le (take c.args.n c.args.self.now.collected.pieces) in
-    let f = c.front-hyphens.ensures in
+    let f = c.prefix-hyphens.ensures in
     omega (arith, f.small, f.short, f.gaps, length-take c.args.n c.args.self.now.collected.pieces, length-take s.pieces s.row.pieces, h.within, h.is_small)
 
 pub returns-clause-most : goal.returns-clause-most
 returns-clause-most c =
     let ps = take c.args.n c.args.self.now.collected.pieces in
-    let r = c.front-hyphens.result in
-    let f = c.front-hyphens.ensures in
+    let r = c.prefix-hyphens.result in
+    let f = c.prefix-hyphens.ensures in
     let spread : c.if-spread.result.each * gaps ps ≤ r.left_over = elim c.if-spread.branch [
       | then-spread w ↦
           let turn = c.self.inside.turn in
@@ -42,14 +42,14 @@ returns-clause-most_small c =
     let h = c.self.invariant in
     let count = ap (λ (v : Lined). length v.collected.pieces) c.self.view_is in
     let few = gaps-le (take c.args.n c.args.self.now.collected.pieces) in
-    let f = c.front-hyphens.ensures in
+    let f = c.prefix-hyphens.ensures in
     omega (arith, f.small, f.short, f.gaps, length-take c.args.n c.args.self.now.collected.pieces, length-take s.pieces s.row.pieces, h.within, h.is_small)
 
 pub returns-clause-extra : goal.returns-clause-extra
 returns-clause-extra c =
     let now = c.args.self.now.collected in
     let align = c.args.setting.align in
-    let f = c.front-hyphens.ensures in
+    let f = c.prefix-hyphens.ensures in
     let turn = ap (λ (v : Lined). v.collected.turn) c.self.view_is in
     let spread : c.spreads_gaps-spread.result ≡ spreads align now c.args.n = c.spreads_gaps-spread.ensures ∙ ap₂ (is_spread align) f.left_over f.gaps in
     elim c.if-spread.branch [

@@ -5,7 +5,7 @@ use Rattle.nr_fill.specs.Line.{Lined}
 use Rattle.nr_fill.specs.declared.line.WordState.{WordState}
 use Rattle.nr_fill.specs.Piece.{cells_in, text_cells}
 use Rattle.nr_fill.proofs.Lines.{the_word, is_line_last, text_cells-collected_of, no_title_cells}
-use Rattle.nr_fill.proofs.Pendings.{are_small, needed_behind}
+use Rattle.nr_fill.proofs.Pendings.{are_small, needed_after}
 use Rattle.nr_fill.specs.Piece.{pending_after}
 use Rattle.nr_fill.specs.Titling.{title_of}
 use Rattle.nr_fill.proofs.line.Line.push_cell.Goals as goal
@@ -34,7 +34,7 @@ invariant_of-self c =
       wide_is = iw.wide_is;
       pieces_have_cells = iw.pieces_have_cells;
       join_within = iw.join_within;
-      needed = rw (c.step_after.ensures, longer) (needed_behind c.args.behind (w.parted + c.last_len.result) w.pending w.blanks w.parted (length s.row.last) iw.needed);
+      needed = rw (c.step_after.ensures, longer) (needed_after c.args.afterwards (w.parted + c.last_len.result) w.pending w.blanks w.parted (length s.row.last) iw.needed);
     }) (omega (arith, c.requires.room)))
 
 pub returns-in-Some : goal.returns-in-Some
@@ -45,8 +45,8 @@ returns-in-Some c =
     let w = c.in-Some.word in
     let none : title_of s.title s.row.title ≡ None = ap (λ (v : Lined). v.collected.title) c.self.view_is ∙ c.requires.no_title in
     let len = c.last_len.ensures ∙ ap (λ (l : Laid). length l.last) c.push.ensures in
-    let pending_is : c.step_after.new.self ≡ pending_after c.args.behind (cells_in (drop s.pieces s.row.pieces) + length (s.row.last ++ c.args.cell ∷ [])) w.pending =
-    c.step_after.ensures ∙ ap₂ (λ a b. pending_after c.args.behind (a + b) w.pending) (sym iw.parted_is) len in
+    let pending_is : c.step_after.new.self ≡ pending_after c.args.afterwards (cells_in (drop s.pieces s.row.pieces) + length (s.row.last ++ c.args.cell ∷ [])) w.pending =
+    c.step_after.ensures ∙ ap₂ (λ a b. pending_after c.args.afterwards (a + b) w.pending) (sym iw.parted_is) len in
     rw (c.push.ensures, pending_is, c.ends_sentence-self-inside.ensures, ← c.self.view_is, c.in-Some.is, none) refl
 
 pub push-requires-clause-no_title : goal.push-requires-clause-no_title

@@ -24,13 +24,13 @@ invariant_of-self-in-Some c =
     let iw = the_word h in
     let w = c.in-Some.word in
     let count = c.push_plain-count.result in
-    let front = take count c.args.bytes.now in
-    let run = map (run_cell c.args.look) front in
+    let prefix = take count c.args.bytes.now in
+    let run = map (run_cell c.args.look) prefix in
     let text = text_cells-collected_of s.barred s.sentence s.margins s.turn c.self.invariant in
     let same = ap (λ (v : Lined). text_cells v.collected) c.self.view_is in
     let limit = ap (λ (v : Lined). v.limit) c.self.view_is in
     let title = no_title_cells c.self.invariant (ap (λ (v : Lined). v.collected.title) c.self.view_is ∙ c.requires.no_title) in
-    let many : length run ≡ count = length-map front (run_cell c.args.look) ∙ length-take-le count c.args.bytes.now c.push_plain-count.ensures.front in
+    let many : length run ≡ count = length-map prefix (run_cell c.args.look) ∙ length-take-le count c.args.bytes.now c.push_plain-count.ensures.prefix in
     let longer = length-append s.row.last run in
     let v : WordState = record w { pending = c.drop_point.new.self; blanks = 0 } in
     let needed = needed_without_point w.pending 0 w.parted (length s.row.last) (needed_none w.pending w.blanks w.parted (length s.row.last) iw.needed) in
@@ -40,7 +40,7 @@ invariant_of-self-in-Some c =
       pieces_have_cells = iw.pieces_have_cells;
       join_within = iw.join_within;
       needed = rw c.drop_point.ensures (omega arith);
-    }) (omega (arith, c.requires.room, c.push_plain-count.ensures.front)))
+    }) (omega (arith, c.requires.room, c.push_plain-count.ensures.prefix)))
 
 pub push_plain-count-requires-clause-no_title : goal.push_plain-count-requires-clause-no_title
 push_plain-count-requires-clause-no_title c = grind (arith, common_steps)

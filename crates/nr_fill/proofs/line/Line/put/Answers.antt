@@ -18,7 +18,7 @@ push_cell-requires-clause-room c =
 
 pub returns-clause-result : goal.returns-clause-result
 returns-clause-result c =
-    let one = line_cells-add_cell c.args.margins c.args.behind c.args.cell c.args.self.now.collected in
+    let one = line_cells-add_cell c.args.margins c.args.afterwards c.args.cell c.args.self.now.collected in
     let own = ap (λ (v : Lined). v.limit) c.self.view_is in
-    let v : Lined = record { collected = add_cell c.args.margins c.args.behind c.args.cell c.args.self.now.collected; limit = c.args.self.now.limit } in
+    let v : Lined = record { collected = add_cell c.args.margins c.args.afterwards c.args.cell c.args.self.now.collected; limit = c.args.self.now.limit } in
     afforded_ok v (omega (arith, c.text_measure.ensures.value, c.text_measure.ensures.within))

@@ -18,11 +18,11 @@ returns-clause-cells c =
     let now = c.args.self.now in
     let m = c.min.result in
     let count = c.push_plain.result in
-    let front = c.push_plain.ensures.front in
-    let short : count ≤ m = omega (arith, front, length-take m bytes) in
+    let prefix = c.push_plain.ensures.prefix in
+    let short : count ≤ m = omega (arith, prefix, length-take m bytes) in
     let run : List ℕ = take count bytes in
     let run_is : take count (take m bytes) ≡ run = take-take count m bytes short in
-    let long : length run ≡ count = length-take-le count bytes (omega (arith, front, length-take m bytes)) in
+    let long : length run ≡ count = length-take-le count bytes (omega (arith, prefix, length-take m bytes)) in
     let some = c.push_plain.ensures.some in
     let size : count - 1 ≡ length run - 1 = ap (λ k. k - 1) (sym long) in
     let last_is : get_or (take m bytes) (count - 1) 0 ≡ get_or run (length run - 1) 0 =
@@ -37,29 +37,29 @@ pub returns-clause-within : goal.returns-clause-within
 returns-clause-within c =
     let bytes = c.args.bytes.now in
     let count = c.push_plain.result in
-    let front = c.push_plain.ensures.front in
-    let long : length (take count bytes) ≡ count = length-take-le count bytes (omega (arith, front, length-take c.min.result bytes)) in
+    let prefix = c.push_plain.ensures.prefix in
+    let long : length (take count bytes) ≡ count = length-take-le count bytes (omega (arith, prefix, length-take c.min.result bytes)) in
     let measured = measured_run c.args.margins c.args.look (take count bytes) c.args.self.now.collected (omega (arith, c.push_plain.ensures.some)) in
     let cells = ap (λ (v : Lined). line_cells v.collected) (returns-clause-cells c) in
     let limit = ap (λ (v : Lined). v.limit) (returns-clause-cells c) in
     let own = ap (λ (v : Lined). v.limit) c.self.view_is in
-    λ some. omega (arith, front, length-take c.min.result bytes, c.text_measure.ensures.value, c.text_measure.ensures.within)
+    λ some. omega (arith, prefix, length-take c.min.result bytes, c.text_measure.ensures.value, c.text_measure.ensures.within)
 
 pub returns-clause-stops : goal.returns-clause-stops
 returns-clause-stops c =
     let bytes = c.args.bytes.now in
     let m = c.min.result in
     let count = c.push_plain.result in
-    let front = c.push_plain.ensures.front in
+    let prefix = c.push_plain.ensures.prefix in
     let taken = length-take m bytes in
-    let long : length (take count bytes) ≡ count = length-take-le count bytes (omega (arith, front, taken)) in
+    let long : length (take count bytes) ≡ count = length-take-le count bytes (omega (arith, prefix, taken)) in
     let measured = measured_run c.args.margins c.args.look (take count bytes) c.args.self.now.collected (omega (arith, c.push_plain.ensures.some)) in
     let cells = ap (λ (v : Lined). text_cells v.collected) (returns-clause-cells c) in
     let limit = ap (λ (v : Lined). v.limit) (returns-clause-cells c) in
     let own = ap (λ (v : Lined). v.limit) c.self.view_is in
     λ more plain. elim (cases_lt count m) [
       | inl below ↦ absurd (c.push_plain.ensures.stops (omega (arith, taken)) (rw (get_or-take m bytes count 0 below) plain))
-      | inr all ↦ omega (arith, front, taken, c.text_measure.ensures.value, c.text_measure.ensures.within)
+      | inr all ↦ omega (arith, prefix, taken, c.text_measure.ensures.value, c.text_measure.ensures.within)
     ]
 
 pub push_plain-requires-clause-room : goal.push_plain-requires-clause-room

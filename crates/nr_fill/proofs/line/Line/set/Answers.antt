@@ -23,11 +23,11 @@ returns-then-plan-gt0-clause-out g c =
     let long = length-take-le s.pieces s.row.pieces c.self.invariant.pieces_within in
     let count = ap (λ (v : Lined). length v.collected.pieces) c.self.view_is in
     let within : n ≤ s.pieces = omega (arith, c.requires.within) in
-    let front = sym (take-take n s.pieces s.row.pieces within) ∙ ap (λ (v : Lined). take n v.collected.pieces) c.self.view_is in
+    let prefix = sym (take-take n s.pieces s.row.pieces within) ∙ ap (λ (v : Lined). take n v.collected.pieces) c.self.view_is in
     let line = cells_in_line x (take n c.args.self.now.collected.pieces) in
-    let set = subst (λ (ps : List Piece). g.S.CellSink.Adds c.blanks.new.self (cells_in_line x ps) c.set-extent.new.out) front c.set-extent.ensures.set in
-    let behind = both c.blanks.new.self c.set-extent.new.out c.push_hyphens.new.out line (hyphens c.args.plan.hyphens) set c.push_hyphens.ensures in
-    both c.args.out.now c.blanks.new.self c.push_hyphens.new.out (replicate c.args.plan.start blank) (line ++ hyphens c.args.plan.hyphens) c.blanks.ensures behind
+    let set = subst (λ (ps : List Piece). g.S.CellSink.Adds c.blanks.new.self (cells_in_line x ps) c.set-extent.new.out) prefix c.set-extent.ensures.set in
+    let afterwards = both c.blanks.new.self c.set-extent.new.out c.push_hyphens.new.out line (hyphens c.args.plan.hyphens) set c.push_hyphens.ensures in
+    both c.args.out.now c.blanks.new.self c.push_hyphens.new.out (replicate c.args.plan.start blank) (line ++ hyphens c.args.plan.hyphens) c.blanks.ensures afterwards
 
 pub returns-then-plan-gt0-clause-width : goal.returns-then-plan-gt0-clause-width
 returns-then-plan-gt0-clause-width g c = grind (arith, common_steps)
@@ -44,11 +44,11 @@ returns-else-plan-gt0-clause-out g c =
     let long = length-take-le s.pieces s.row.pieces c.self.invariant.pieces_within in
     let count = ap (λ (v : Lined). length v.collected.pieces) c.self.view_is in
     let within : n ≤ s.pieces = omega (arith, c.requires.within) in
-    let front = sym (take-take n s.pieces s.row.pieces within) ∙ ap (λ (v : Lined). take n v.collected.pieces) c.self.view_is in
+    let prefix = sym (take-take n s.pieces s.row.pieces within) ∙ ap (λ (v : Lined). take n v.collected.pieces) c.self.view_is in
     let line = cells_in_line x (take n c.args.self.now.collected.pieces) in
-    let set = subst (λ (ps : List Piece). g.S.CellSink.Adds c.blanks.new.self (cells_in_line x ps) c.set-extent.new.out) front c.set-extent.ensures.set in
-    let behind = both c.blanks.new.self c.set-extent.new.out c.push_hyphens.new.out line (hyphens c.args.plan.hyphens) set c.push_hyphens.ensures in
-    both c.args.out.now c.blanks.new.self c.push_hyphens.new.out (replicate c.args.plan.start blank) (line ++ hyphens c.args.plan.hyphens) c.blanks.ensures behind
+    let set = subst (λ (ps : List Piece). g.S.CellSink.Adds c.blanks.new.self (cells_in_line x ps) c.set-extent.new.out) prefix c.set-extent.ensures.set in
+    let afterwards = both c.blanks.new.self c.set-extent.new.out c.push_hyphens.new.out line (hyphens c.args.plan.hyphens) set c.push_hyphens.ensures in
+    both c.args.out.now c.blanks.new.self c.push_hyphens.new.out (replicate c.args.plan.start blank) (line ++ hyphens c.args.plan.hyphens) c.blanks.ensures afterwards
 
 pub returns-else-plan-gt0-clause-width : goal.returns-else-plan-gt0-clause-width
 returns-else-plan-gt0-clause-width g c = grind (arith, common_steps)

@@ -18,9 +18,9 @@ returns c = (
       let n_is : n ≡ min (length more) (room - length (take room cells)) = c.min-n.ensures
       ∙ ap₂ (λ a b. min (length more) (a - b)) (c.capacity.ensures.value ∙ ap (λ (r : Row). r.capacity) e) (c.len.ensures.value ∙ ap length kept_is) in
       let count_is = c.saturating_add-self-inside.ensures ∙ ap (λ k. min (k + length more) (2 ^ 64 - 1)) (ap (λ (r : Row). r.count) e) in
-      let behind = c.written_after-self-inside.ensures
+      let afterwards = c.written_after-self-inside.ensures
       ∙ ap₂ (λ a b. written_after a b c.written_len.result) (ap (λ (r : Row). r.written) e) (ap (λ (r : Row). r.count) e)
       ∙ ap (written_after (counted (length (trimmed cells))) (counted (length cells))) c.written_len.ensures.value in
-      same_row (c.extend.ensures.items ∙ ap (λ k. k ++ take n more) kept_is) count_is behind room_is
+      same_row (c.extend.ensures.items ∙ ap (λ k. k ++ take n more) kept_is) count_is afterwards room_is
       ∙ row_extended room cells more n n_is ∙ ap (λ r. row_of r (cells ++ more)) (sym room_is),
 )

@@ -23,9 +23,9 @@ returns c = (
       ∙ ap₂ (λ a b. min 1 (a - b)) (c.capacity.ensures.value ∙ ap (λ (r : Row). r.capacity) e) (c.len.ensures.value ∙ ap length kept_is) in
       let few : n ≤ 1 = subst (λ k. k ≤ 1) (sym n_is) (min-le_left 1 (room - length (take room cells))) in
       let count_is = c.saturating_add-self-inside.ensures ∙ ap (λ k. min (k + 1) (2 ^ 64 - 1)) (ap (λ (r : Row). r.count) e) in
-      let behind = c.written_after-self-inside.ensures
+      let afterwards = c.written_after-self-inside.ensures
       ∙ ap₂ (λ a b. written_after a b c.written_len.result) (ap (λ (r : Row). r.written) e) (ap (λ (r : Row). r.count) e)
       ∙ ap (written_after (counted (length (trimmed cells))) (counted (length cells))) c.written_len.ensures.value in
-      same_row (c.extend_copies.ensures.items ∙ ap (λ k. c.self.inside.cells.items ++ k) (sym (take-replicate n 1 c.args.cell few)) ∙ ap (λ k. k ++ take n more) kept_is) count_is behind room_is
+      same_row (c.extend_copies.ensures.items ∙ ap (λ k. c.self.inside.cells.items ++ k) (sym (take-replicate n 1 c.args.cell few)) ∙ ap (λ k. k ++ take n more) kept_is) count_is afterwards room_is
       ∙ row_extended room cells more n n_is ∙ ap (λ r. row_of r (cells ++ more)) (sym room_is),
 )

@@ -4,7 +4,7 @@ use Rattle.nr_fill.specs.declared.piece.PieceSlot.{PieceSlot}
 use Rattle.nr_fill.specs.Cutting.{hyphen_before, hyphen_width}
 use Rattle.nr_fill.specs.Slots.{blank_slot}
 use Rattle.nr_fill.proofs.LongestPrefix.{hyphen_at}
-use Rattle.nr_fill.proofs.Laying.{slots_are, front_is}
+use Rattle.nr_fill.proofs.Laying.{slots_are, prefix_is}
 use Rattle.nr_fill.proofs.piece_row.PieceRow.hyphen.Goals as goal
 
 pub offset_bounds-as_slice-n : goal.offset_bounds-as_slice-n
@@ -33,4 +33,4 @@ returns-clause-value c =
     c.hyphen.ensures.value ∙ ap (λ (xs : List PieceSlot). hyphen_width (get_or xs n blank_slot).join) c.as_slice.ensures.value
     ∙ ap (λ (t : PieceSlot). hyphen_width t.join) (sym (get_or-take all s.slots.items n blank_slot (omega arith)))
     ∙ sym (hyphen_at (take all s.slots.items) s.cells.items n blank_slot below)
-    ∙ ap (λ ps. hyphen_before (drop n ps)) (front_is c.args.self.now room all c.self.invariant c.self.view_is)
+    ∙ ap (λ ps. hyphen_before (drop n ps)) (prefix_is c.args.self.now room all c.self.invariant c.self.view_is)

@@ -4,7 +4,7 @@ use Rattle.nr_fill.specs.Cutting.{pieces_width}
 use Rattle.nr_fill.specs.Piece.{cells_in}
 use Rattle.nr_fill.specs.Spreading.{gaps}
 use Rattle.nr_fill.proofs.PiecesOf.{pieces_width-pieces_of, cells_in-pieces_of, gaps-pieces_of}
-use Rattle.nr_fill.proofs.Laying.{slots_are, front_is, front_within}
+use Rattle.nr_fill.proofs.Laying.{slots_are, prefix_is, prefix_within}
 use Rattle.nr_fill.proofs.piece_row.PieceRow.sums.Goals as goal
 
 pub slice_bounds-sums_of-end : goal.slice_bounds-sums_of-end
@@ -17,25 +17,25 @@ slice_bounds-sums_of-end c =
 pub sums_of-requires-clause-wide : goal.sums_of-requires-clause-wide
 sums_of-requires-clause-wide c =
     let s = c.self.inside in
-    let is = front_is c.args.self.now (min s.slots.capacity s.cells.capacity) c.args.n c.self.invariant c.self.view_is in
-    let wide = pieces_width-pieces_of (take c.args.n s.slots.items) s.cells.items (front_within c.args.n c.self.invariant).0 in
+    let is = prefix_is c.args.self.now (min s.slots.capacity s.cells.capacity) c.args.n c.self.invariant c.self.view_is in
+    let wide = pieces_width-pieces_of (take c.args.n s.slots.items) s.cells.items (prefix_within c.args.n c.self.invariant).0 in
     let same = ap pieces_width is in
     rw c.as_slice.ensures.value (omega (arith, c.requires.wide))
 
 pub returns-clause-cells : goal.returns-clause-cells
 returns-clause-cells c =
     let s = c.self.inside in
-    (rw c.as_slice.ensures.value at c.sums_of.ensures.cells) ∙ sym (cells_in-pieces_of (take c.args.n s.slots.items) s.cells.items (front_within c.args.n c.self.invariant).0)
-    ∙ ap cells_in (front_is c.args.self.now (min s.slots.capacity s.cells.capacity) c.args.n c.self.invariant c.self.view_is)
+    (rw c.as_slice.ensures.value at c.sums_of.ensures.cells) ∙ sym (cells_in-pieces_of (take c.args.n s.slots.items) s.cells.items (prefix_within c.args.n c.self.invariant).0)
+    ∙ ap cells_in (prefix_is c.args.self.now (min s.slots.capacity s.cells.capacity) c.args.n c.self.invariant c.self.view_is)
 
 pub returns-clause-wide : goal.returns-clause-wide
 returns-clause-wide c =
     let s = c.self.inside in
-    (rw c.as_slice.ensures.value at c.sums_of.ensures.wide) ∙ sym (pieces_width-pieces_of (take c.args.n s.slots.items) s.cells.items (front_within c.args.n c.self.invariant).0)
-    ∙ ap pieces_width (front_is c.args.self.now (min s.slots.capacity s.cells.capacity) c.args.n c.self.invariant c.self.view_is)
+    (rw c.as_slice.ensures.value at c.sums_of.ensures.wide) ∙ sym (pieces_width-pieces_of (take c.args.n s.slots.items) s.cells.items (prefix_within c.args.n c.self.invariant).0)
+    ∙ ap pieces_width (prefix_is c.args.self.now (min s.slots.capacity s.cells.capacity) c.args.n c.self.invariant c.self.view_is)
 
 pub returns-clause-gaps : goal.returns-clause-gaps
 returns-clause-gaps c =
     let s = c.self.inside in
     (rw c.as_slice.ensures.value at c.sums_of.ensures.gaps) ∙ sym (gaps-pieces_of (take c.args.n s.slots.items) s.cells.items)
-    ∙ ap gaps (front_is c.args.self.now (min s.slots.capacity s.cells.capacity) c.args.n c.self.invariant c.self.view_is)
+    ∙ ap gaps (prefix_is c.args.self.now (min s.slots.capacity s.cells.capacity) c.args.n c.self.invariant c.self.view_is)

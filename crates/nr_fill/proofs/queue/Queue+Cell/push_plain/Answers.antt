@@ -3,7 +3,7 @@ use Rattle.std.proofs.lemmas.Grind.{common_steps}
 use borrow.Rule.Slice.PartMut.{put_mid}
 use Rattle.nr_vectors.specs.Items.{Items}
 use Rattle.nr_vectors.specs.declared.cell.Cell.{Cell}
-use Rattle.nr_fill.proofs.Queues.{extended_front, length_between, written_back}
+use Rattle.nr_fill.proofs.Queues.{extended_prefix, length_between, written_back}
 use Rattle.nr_fill.proofs.queue.Queue+Cell.push_plain.Goals as goal
 
 pub make_room-span-requires-clause-room : goal.make_room-span-requires-clause-room
@@ -27,7 +27,7 @@ returns-clause-items c =
     let long : length zs ≡ n = omega (arith, c.set_plain-count.ensures.length) in
     ap (λ ws. drop s.start (take (s.end + count) ws)) (written_back slots c.as_mut_slice-slots.result.now zs s.end (s.end + n - s.end) (length v.items) c.as_mut_slice-slots.ensures.value refl (omega arith) (omega (arith, long)))
     ∙ ap (λ k. drop s.start (take (s.end + count) (put_mid s.end k slots zs))) span
-    ∙ extended_front slots zs s.start s.end n count c.make_room-span.ensures.ordered free long c.set_plain-count.ensures.front
+    ∙ extended_prefix slots zs s.start s.end n count c.make_room-span.ensures.ordered free long c.set_plain-count.ensures.prefix
     ∙ ap₂ (λ (xs ys : List Cell). xs ++ ys) (c.make_room-span.ensures.items ∙ ap (λ (v : Items Cell). v.items) c.self.view_is) c.set_plain-count.ensures.cells
 
 pub invariant_of-self : goal.invariant_of-self

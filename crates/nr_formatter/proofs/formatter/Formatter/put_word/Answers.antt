@@ -13,5 +13,5 @@ returns-then-run c =
     let within = run.ensures.within ends.some in
     let cells = ap (λ (v : Lined). line_cells v.collected) word in
     let limit = ap (λ (v : Lined). v.limit) word in
-    puts_word run.result.count c.args.bytes.now f run.ensures.front run.ensures.plain ends (omega (arith, within)) (record f { line = run.new.self }) c.flow_after.new.self c.flow_after.result
+    puts_word run.result.count c.args.bytes.now f run.ensures.prefix run.ensures.plain ends (omega (arith, within)) (record f { line = run.new.self }) c.flow_after.new.self c.flow_after.result
     (ap (λ (v : Lined). record f { line = v }) word) c.flow_after.ensures

@@ -15,7 +15,7 @@ returns-in-Some-clause-moves g c =
     (λ s h. (kind-spring (at e s) name h.chosen_is c.in-Some.is, step-spring (at e s) name h.chosen_is c.in-Some.is))
 
 pub returns-in-Read-clause-moves : goal.returns-in-Read-clause-moves
-returns-in-Read-clause-moves g c = rw (c.refused.ensures, c.place_told-told.ensures, c.taken-at.ensures.value) (c.read.ensures.moves _)
+returns-in-Read-clause-moves g c = rw (c.refused.ensures, c.place_reported-emitted.ensures, c.taken-at.ensures.value) (c.read.ensures.moves _)
 
 pub returns-in_default-task : goal.returns-in_default-task
 returns-in_default-task g c =

@@ -8,7 +8,7 @@ use Rattle.nr_formatter.specs.declared.tasks.Room.TheVariants as rooms
 use Rattle.nr_formatter.specs.declared.tasks.Task.{Task}
 use Rattle.nr_formatter.specs.declared.tasks.Task.TheVariants as tasks
 use Rattle.nr_formatter.specs.declared.formatter.Formatter.{Formatter}
-use Rattle.nr_formatter.proofs.WorkFalls.{falls-behind, falls-work}
+use Rattle.nr_formatter.proofs.WorkFalls.{falls-afterwards, falls-work}
 use Rattle.nr_machine.specs.State.{State, plainly}
 use Rattle.nr_machine.specs.Machine.{break_part, continues_none}
 use Rattle.nr_machine.specs.Holding.{Shape, at, shape, IsLighter, AfterWork, Works}
@@ -36,11 +36,11 @@ after-continues_none supply s t e f old new (Ok x) w =
     (w.0, record { wrote = (w.1.wrote.0, record { grows = w.1.wrote.1.grows }, w.1.wrote.2) })
 after-continues_none supply s t e f old new (Err (stops.Limit which)) w = w
 after-continues_none supply s t e f old new (Err stops.WriteFault) w =
-    (w.0, record { page = w.1.page; ends = w.1.ends; front = w.1.front })
+    (w.0, record { page = w.1.page; ends = w.1.ends; prefix = w.1.prefix })
 
 lightens-continues_none : (e f : Shape) (r : Result (Unit {0}) Stop) → OnOk r (IsLighter (uncontinued e) f) → OnOk r (IsLighter e f)
 lightens-continues_none e f (Ok x) light =
-    (falls-behind 1 0 e.formatter (continues_none e.formatter) f.formatter (falls-continues_none e.formatter) light.0, light.1)
+    (falls-afterwards 1 0 e.formatter (continues_none e.formatter) f.formatter (falls-continues_none e.formatter) light.0, light.1)
 lightens-continues_none e f (Err stop) light = tt
 
 -- a part of a break after that

@@ -15,7 +15,7 @@ returns-in-Err-clause-comes g c = λ supply s h.
     let within : IsWithin (end_page t) =
     record { formatter = record { stored = h.within.formatter.stored; depth = h.within.formatter.depth; line = h.within.formatter.line; burst = h.within.formatter.burst }; page = omega arith }
     in
-    (within, record { page = page_of t; ends = refl; front = c.in-Err.ensures.err t h.page (sym h.select) (sym h.faces) refl })
+    (within, record { page = page_of t; ends = refl; prefix = c.in-Err.ensures.err t h.page (sym h.select) (sym h.faces) refl })
 
 pub returns-in-Ok-clause-comes : goal.returns-in-Ok-clause-comes
 returns-in-Ok-clause-comes g c = λ supply s h.

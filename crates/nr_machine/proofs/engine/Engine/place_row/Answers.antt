@@ -4,7 +4,7 @@ use Rattle.nr_vectors.specs.Cell.{trimmed}
 use Rattle.nr_fill.specs.CellRow.{row_of}
 use Rattle.nr_page.specs.Grid.{Placed, page_charge}
 use Rattle.nr_page.specs.Page.{Holds as HoldsPage}
-use Rattle.nr_formatter.specs.Pages.{place_behind}
+use Rattle.nr_formatter.specs.Pages.{place_after}
 use Rattle.nr_machine.specs.Machine.{placed, row_at}
 use Rattle.nr_machine.proofs.Working.{page_charge-push}
 use Rattle.nr_formatter.specs.Limits as formatter
@@ -17,7 +17,7 @@ returns-in-Ok-clause-places c = λ cells is.
     let f = c.args.self.now.formatter in
     let limit = c.args.self.now.page.limit in
     let cells_is : c.in-Some.cells.now ≡ trimmed cells = c.in-Some.ensures cells is in
-    let row_is : c.row_at-row.result ≡ row_at (place_behind c.args.height f) = c.row_at-row.ensures ∙ ap row_at c.place_behind.ensures in
+    let row_is : c.row_at-row.result ≡ row_at (place_after c.args.height f) = c.row_at-row.ensures ∙ ap row_at c.place_after.ensures in
     let x : Placed = placed cells c.args.height f in
     let clear : c.clear.new.self ≡ row_of c.clear.new.self.capacity [] = c.clear.ensures ∙ ap (λ r. row_of r []) (sym (ap (λ r. r.capacity) c.clear.ensures)) in (
       c.line_placed.ensures.is,

@@ -61,7 +61,7 @@ invariant_of-self g c =
     let size : length (take c.args.len (text c.args.self.now c.args.from)) ≡ c.args.len = length-take-le c.args.len (text c.args.self.now c.args.from) first in
     let copied = c.copy_within.ensures.by_index in
     let long : length c.copy_within.new.self.items ≡ length E = omega (arith, c.copy_within.ensures.len) in
-    let extends = copy_more E c.copy_within.new.self.items c.index.result.now.start c.args.len s.used (take c.args.len (text c.args.self.now c.args.from)) text_is size long copied.1 (λ k d behind below. copied.0 k d behind (omega arith)) in
+    let extends = copy_more E c.copy_within.new.self.items c.index.result.now.start c.args.len s.used (take c.args.len (text c.args.self.now c.args.from)) text_is size long copied.1 (λ k d afterwards below. copied.0 k d afterwards (omega arith)) in
     let here = found _ _ _ _ _ _ last.packed last.same c.to.view_is is_open in
     let at = slot_is c.bring_last.new.slots.items c.to.inside.index _ c.index_mut.ensures.value here.within in
     rw at (
@@ -90,7 +90,7 @@ returns-clause-ok g c =
     let size : length (take c.args.len (text c.args.self.now c.args.from)) ≡ c.args.len = length-take-le c.args.len (text c.args.self.now c.args.from) first in
     let copied = c.copy_within.ensures.by_index in
     let long : length c.copy_within.new.self.items ≡ length E = omega (arith, c.copy_within.ensures.len) in
-    let extends = copy_more E c.copy_within.new.self.items c.index.result.now.start c.args.len s.used (take c.args.len (text c.args.self.now c.args.from)) text_is size long copied.1 (λ k d behind below. copied.0 k d behind (omega arith)) in
+    let extends = copy_more E c.copy_within.new.self.items c.index.result.now.start c.args.len s.used (take c.args.len (text c.args.self.now c.args.from)) text_is size long copied.1 (λ k d afterwards below. copied.0 k d afterwards (omega arith)) in
     let here = found _ _ _ _ _ _ last.packed last.same c.to.view_is is_open in
     let at = slot_is c.bring_last.new.slots.items c.to.inside.index _ c.index_mut.ensures.value here.within in
     rw at (lifted_text s.capacity s.most _ (texts_of c.lengthen.new.self.items s.slots.items) more.view _ _ (λ ys. ys ++ take c.args.len (text c.args.self.now c.args.from)) (within_of_open (texts_of c.lengthen.new.self.items s.slots.items) _ is_open)

@@ -16,5 +16,5 @@ returns g c =
     let within = c.self.invariant.0.slots_within in
     let room = c.self.invariant.1.1 in
     let seen = ap (λ (p : Texts g.row.T.Denot). length p.texts) c.self.view_is in
-    let told = c.capacity.ensures in
+    let stated = c.capacity.ensures in
     omega arith

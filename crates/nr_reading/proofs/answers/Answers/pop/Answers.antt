@@ -1,6 +1,6 @@
 use Rattle.std.proofs.lemmas.Grind.{common_steps}
 use Rattle.std.proofs.Common.{◌-◌, Bool, List, take, drop, ap, ◌∙◌, arith}
-use Rattle.nr_reading.proofs.Fronts.{forgotten}
+use Rattle.nr_reading.proofs.NextItems.{forgotten}
 use Rattle.nr_reading.proofs.answers.Answers.pop.Goals as goal
 
 pub returns-clause-rest : goal.returns-clause-rest

@@ -1,6 +1,6 @@
 use Rattle.std.proofs.Common.{◌+◌, Bool, List, take, set, ap, ◌∙◌, arith}
 use Rattle.nr_reading.specs.Noting.{remembered}
-use Rattle.nr_reading.proofs.Fronts.{remembered_more, remembered_full}
+use Rattle.nr_reading.proofs.NextItems.{remembered_more, remembered_full}
 use Rattle.nr_reading.proofs.answers.Answers.remember.Goals as goal
 
 pub returns-then-self-lt-MOST : goal.returns-then-self-lt-MOST

@@ -4,6 +4,6 @@ use Rattle.nr_reading.proofs.half.Half.pass_blanks.Given as goal
 
 abbrev pub invariant-loop-place : goal.invariant-loop-place
 invariant-loop-place g l = record {
-  leads : (n : ℕ) → LeadsOn (g.I.Items.fronts l.items) l.from n l.self l.place (n + (l.place - l.from)) l.self;
-  front : l.from ≤ l.place;
+  leads : (n : ℕ) → LeadsOn (g.I.Items.next_items l.items) l.from n l.self l.place (n + (l.place - l.from)) l.self;
+  prefix : l.from ≤ l.place;
 }

@@ -1,4 +1,4 @@
-use Rattle.nr_reading.proofs.Fronts.{take_copied}
+use Rattle.nr_reading.proofs.NextItems.{take_copied}
 use Rattle.nr_reading.proofs.kept.Kept.set.Goals as goal
 
 pub returns : goal.returns

@@ -6,7 +6,7 @@ use Rattle.nr_store.specs.Store.{charge_of, added}
 use Rattle.nr_store.specs.declared.element.Element.{Element}
 use Rattle.nr_store.specs.declared.element.Element.TheVariants as elements
 use Rattle.nr_store.proofs.Keeping.{room_for_elements}
-use Rattle.nr_store.proofs.Building.{cons_of, one_holder, added_is, run_stands, run_afforded, charge_behind_run}
+use Rattle.nr_store.proofs.Building.{cons_of, one_holder, added_is, run_stands, run_afforded, charge_after_run}
 use Rattle.nr_store.proofs.store.Store.add_bytes.Goals as goal
 
 as_many : (n : ℕ) (bytes : List ℕ) → n ≤ length bytes → length (map elements.Byte (take n bytes)) ≡ n
@@ -66,7 +66,7 @@ returns-clause-most g c = λ fewer.
     let within = c.self.invariant.within in
     let counted = c.min-count.ensures in
     let long = as_many count c.args.bytes.now (omega (arith, counted)) in
-    let charged = charge_behind_run s.pool s.names s.drafts s.levels (beside_of s.gathering s.registers s.traps s.words) s.charge s.stored c.in-Some.draft (drop 1 s.drafts.items) (map elements.Byte bytes) count c.self.invariant
+    let charged = charge_after_run s.pool s.names s.drafts s.levels (beside_of s.gathering s.registers s.traps s.words) s.charge s.stored c.in-Some.draft (drop 1 s.drafts.items) (map elements.Byte bytes) count c.self.invariant
     (cons_of _ _ (sym c.top.ensures ∙ c.in-Some.is)) long (omega (arith, within, counted)) (elements.Byte b) in
     let above : s.stored < s.charge + count + 1 = omega (arith, within, counted, fewer) in
     subst (λ (p : Texts Element). s.stored < charge_of (added (elements.Byte b ∷ []) (stored_of p s.names.entries s.drafts.items s.levels (beside_of s.gathering s.registers s.traps s.words) s.stored))) (sym c.append_all.ensures)

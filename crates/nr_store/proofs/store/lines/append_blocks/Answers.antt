@@ -24,11 +24,11 @@ loop-done-preserved g c =
     let more = take count (drop done items) in
     let rest = length-drop done items in
     let few = lists.length-take-le count (drop done items) (omega arith) in
-    let front = lists.length-take-le done items (omega arith) in
+    let prefix = lists.length-take-le done items (omega arith) in
     let as_many : (done + count) - done ≡ count = omega arith in
     let filled = c.fill.ensures ∙ ap (λ n. map single (take n (drop done items))) as_many in
     let long = length-map more single in
-    let long_front = length-map (take done items) single in
+    let long_prefix = length-map (take done items) single in
     let block_is = take_at c.fill.new.block (drop count c.loop-done.block) count (ap length filled ∙ long ∙ few) ∙ filled in
     let long_block = ap length block_is in
     record {

@@ -14,7 +14,7 @@ returns-clause-items g c =
     let copied : ys ≡ more = c.copy_from_slice.ensures.after in
     let long : length ys ≡ length more = ap length copied in
     take_written slots.items _ ys s.len _ (length more) (length slots.items) c.as_mut_slice-slots.ensures.value refl (omega (arith, c.fit.ensures.least)) (omega (arith, long)) (omega arith)
-    ∙ ap₂ (λ (xs zs : _). xs ++ zs) (c.fit.ensures.front ∙ ap (λ (v : Items _). v.items) c.self.view_is) (ap (take (length more)) copied ∙ take_all (length more) more (omega arith))
+    ∙ ap₂ (λ (xs zs : _). xs ++ zs) (c.fit.ensures.prefix ∙ ap (λ (v : Items _). v.items) c.self.view_is) (ap (take (length more)) copied ∙ take_all (length more) more (omega arith))
 
 pub invariant_of-self : goal.invariant_of-self
 invariant_of-self g c = grind (arith, common_steps)

@@ -2,7 +2,7 @@ use Rattle.std.proofs.Common.{◌≡◌, ◌++◌, length, take, replicate, ap, 
 use Rattle.std.proofs.lemmas.Grind.{common_steps}
 use Rattle.std.proofs.lemmas.List.{length-replicate, take-replicate}
 use Rattle.nr_vectors.specs.Items.{Items}
-use Rattle.nr_vectors.proofs.Copying.{front_put}
+use Rattle.nr_vectors.proofs.Copying.{prefix_put}
 use Rattle.nr_vectors.proofs.slice_vec.SliceVec.extend_copies.Goals as goal
 
 pub returns-then-self-len-ge-CHUNK-clause-items : goal.returns-then-self-len-ge-CHUNK-clause-items
@@ -13,7 +13,7 @@ returns-then-self-len-ge-CHUNK-clause-items g c =
     let n = c.args.n in
     let copied : ys ≡ replicate 8 item = c.copy_from_slice.ensures.after in
     let long : length ys ≡ 8 = ap length copied ∙ length-replicate 8 item in
-    front_put c.self.inside.len _ n xs ys c.self.invariant (omega (arith, long, c.if-n-le-CHUNK.true))
+    prefix_put c.self.inside.len _ n xs ys c.self.invariant (omega (arith, long, c.if-n-le-CHUNK.true))
     ∙ ap (λ zs. take c.self.inside.len xs ++ zs) (ap (take n) copied ∙ take-replicate n 8 item (omega (arith, c.if-n-le-CHUNK.true)))
     ∙ ap (λ (v : Items _). v.items ++ replicate n item) c.self.view_is
 

@@ -15,10 +15,10 @@ returns-then-pass_word-clause-taken c =
 pub returns-then-pass_comment-clause-taken : goal.returns-then-pass_comment-clause-taken
 returns-then-pass_comment-clause-taken c =
     let same : c.pass_word.new.self ≡ c.args.self.now = c.pass_word.ensures.left c.if-pass_word.false in
-    let P : Reader → Type 0 = λ r. Takes 3 c.args.bytes.now r c.pass_comment.new.self c.args.out.now.items c.extend_front.new.self.items 4 in
+    let P : Reader → Type 0 = λ r. Takes 3 c.args.bytes.now r c.pass_comment.new.self c.args.out.now.items c.extend_prefix.new.self.items 4 in
     subst P same
-    (Takes-fed 3 c.args.bytes.now c.pass_word.new.self c.pass_comment.new.self c.args.out.now.items c.extend_front.new.self.items 4
-    (c.pass_comment.ensures.taken c.if-pass_comment.true) c.extend_front.ensures.items)
+    (Takes-fed 3 c.args.bytes.now c.pass_word.new.self c.pass_comment.new.self c.args.out.now.items c.extend_prefix.new.self.items 4
+    (c.pass_comment.ensures.taken c.if-pass_comment.true) c.extend_prefix.ensures.items)
 
 pub returns-then-len-gt0-clause-taken : goal.returns-then-len-gt0-clause-taken
 returns-then-len-gt0-clause-taken c =

@@ -7,18 +7,18 @@ use Rattle.preconv_converter.proofs.reader.Reader.take_front.Goals as goal
 
 pub returns-then-run-gt0-clause-taken : goal.returns-then-run-gt0-clause-taken
 returns-then-run-gt0-clause-taken c =
-    Takes-run c.pass-run.result c.args.bytes.now c.args.self.now c.pass-run.new.self c.args.out.now.items c.extend_front.new.self.items
-    c.pass-run.ensures.plain c.extend_front.ensures.items
+    Takes-run c.pass-run.result c.args.bytes.now c.args.self.now c.pass-run.new.self c.args.out.now.items c.extend_prefix.new.self.items
+    c.pass-run.ensures.plain c.extend_prefix.ensures.items
 
 pub returns-then-control-gt0-clause-taken : goal.returns-then-control-gt0-clause-taken
 returns-then-control-gt0-clause-taken c =
     let n = c.pass_control-control.result in
     let same : c.pass-run.new.self ≡ c.args.self.now =
     none-passed c.pass-run.result c.args.bytes.now c.args.self.now c.pass-run.new.self c.pass-run.ensures.plain (omega arith) in
-    let P : Reader → Type 0 = λ r. Takes n c.args.bytes.now r c.pass_control-control.new.self c.args.out.now.items c.extend_front-then-control-gt0.new.self.items (n + 1) in
+    let P : Reader → Type 0 = λ r. Takes n c.args.bytes.now r c.pass_control-control.new.self c.args.out.now.items c.extend_prefix-then-control-gt0.new.self.items (n + 1) in
     subst P same
-    (Takes-fed n c.args.bytes.now c.pass-run.new.self c.pass_control-control.new.self c.args.out.now.items c.extend_front-then-control-gt0.new.self.items (n + 1)
-    (c.pass_control-control.ensures.taken (omega arith)) c.extend_front-then-control-gt0.ensures.items)
+    (Takes-fed n c.args.bytes.now c.pass-run.new.self c.pass_control-control.new.self c.args.out.now.items c.extend_prefix-then-control-gt0.new.self.items (n + 1)
+    (c.pass_control-control.ensures.taken (omega arith)) c.extend_prefix-then-control-gt0.ensures.items)
 
 pub returns-clause-taken : goal.returns-clause-taken
 returns-clause-taken c =

@@ -1,7 +1,7 @@
 use Rattle.std.proofs.Common.{◌≡◌, ℕ, List, ◌++◌, ◌-◌, ◌≤◌, ap, drop, length, length-drop, refl, subst, sym, take, ◌∙◌, arith}
 use Rattle.std.proofs.lemmas.List.{take-append-drop, take_all}
 use Rattle.std.proofs.Math.Seq.{take-add}
-use Rattle.nr_units.specs.Sink.{AppendsFront}
+use Rattle.nr_units.specs.Sink.{AppendsPrefix}
 use Rattle.utf8_converter.specs.Reading.{fed}
 use Rattle.utf8_converter.specs.Showing.{Reads}
 use Rattle.utf8_converter.proofs.Goes.{rest-of}
@@ -23,8 +23,8 @@ returns-in_err-at-clause-takes g c =
     let held = g.W.Sink.held c.args.output.now in
     let new = g.W.Sink.held c.take_some.new.output in
     let waits = c.args.self.now.out.items in
-    let P : List ℕ → Type 0 = λ xs. AppendsFront (g.W.Sink.held c.loop-at.output) new (c.loop-at.self.out.items ++ (fed c.loop-at.self.reader xs).bytes) in
-    let Q : List ℕ → Type 0 = λ xs. AppendsFront held new (waits ++ (fed c.args.self.now.reader xs).bytes) in
+    let P : List ℕ → Type 0 = λ xs. AppendsPrefix (g.W.Sink.held c.loop-at.output) new (c.loop-at.self.out.items ++ (fed c.loop-at.self.reader xs).bytes) in
+    let Q : List ℕ → Type 0 = λ xs. AppendsPrefix held new (waits ++ (fed c.args.self.now.reader xs).bytes) in
     let front = subst P (rest-of bytes at) c.in_err-at.ensures.takes in
     All-err c.from_residual.result held new c.args.self.now.reader c.take_some.new.self.reader waits c.take_some.new.self.out.items c.args.self.now.strays c.take_some.new.self.strays bytes c.from_residual.ensures.0
     (subst Q (take-append-drop at bytes)

@@ -1,5 +1,5 @@
 use Rattle.std.proofs.Common.{ℕ, List, ◌++◌, get_or, subst, ◌∙◌, arith}
-use Rattle.nr_units.specs.Sink.{AppendsFront}
+use Rattle.nr_units.specs.Sink.{AppendsPrefix}
 use Rattle.utf8_converter.proofs.Held.{Reads-table, read-table, serves-as}
 use Rattle.utf8_converter.proofs.Passing.{Front-more, Reads-byte, Reads-cells, Some-err, byte-bytes, cells-bytes, none-read}
 use Rattle.utf8_converter.proofs.turner.Turner.take_some.Goals as goal
@@ -30,7 +30,7 @@ returns-in_err-emit-clause-takes g c =
     let held = g.W.Sink.held c.args.output.now in
     let new = g.W.Sink.held c.emit.new.output in
     let waits = c.args.self.now.out.items in
-    let P : List ℕ → Type 0 = λ xs. AppendsFront held new (waits ++ xs) in
+    let P : List ℕ → Type 0 = λ xs. AppendsPrefix held new (waits ++ xs) in
     let front = subst P (cells-bytes r c.read_cells-cells.new.reader c.args.bytes.now c.read_cells-cells.result.taken c.read_cells-cells.new.room c.read_cells-cells.result.end c.read_cells-cells.ensures.reads) c.in_err-emit.ensures.err in
     Some-err c.from_residual.result held new r c.read_cells-cells.new.reader waits c.emit.new.out.items c.args.self.now.strays c.args.self.now.strays c.args.bytes.now c.from_residual.ensures.0
     (Front-more held new r waits c.read_cells-cells.result.taken c.args.bytes.now front)
@@ -50,7 +50,7 @@ returns-in_err-emit-2-clause-takes g c =
     let new = g.W.Sink.held c.emit-2.new.output in
     let waits = c.args.self.now.out.items in
     let same = none-read r c.read_cells-cells.new.reader c.args.bytes.now c.read_cells-cells.result.taken c.read_cells-cells.new.room c.read_cells-cells.result.end (omega arith) c.read_cells-cells.ensures.reads in
-    let P : List ℕ → Type 0 = λ xs. AppendsFront held new (waits ++ xs) in
+    let P : List ℕ → Type 0 = λ xs. AppendsPrefix held new (waits ++ xs) in
     let front = subst P (byte-bytes r c.read_cells-cells.new.reader c.read-filled.new.reader c.args.bytes.now c.read_cells-cells.new.room c.read-filled.new.room c.read-filled.result.end c.read-filled.result.strays
     c.requires.some same c.read-filled.ensures.fills) c.in_err-emit-2.ensures.err in
     Some-err c.from_residual-in_err-emit-2.result held new r c.read-filled.new.reader waits c.emit-2.new.out.items c.args.self.now.strays c.saturating_add-self.result c.args.bytes.now c.from_residual-in_err-emit-2.ensures.0

@@ -1,6 +1,6 @@
 -- Room is made, and what the byte comes to is put behind what waits.
 use Rattle.std.proofs.Common.{[], ◌∷◌, ◌++◌, sym, ◌∙◌, ap, append-nil}
-use Rattle.nr_units.proofs.Fronts.{AppendsFront-append}
+use Rattle.nr_units.proofs.Prefixes.{AppendsPrefix-append}
 use Rattle.utf8_own_sink.specs.Reading.{fed, said}
 use Rattle.utf8_own_sink.proofs.Passing.{Reads-one, Takes-err}
 use Rattle.utf8_own_sink.proofs.turner.Turner.take.Goals as goal
@@ -13,7 +13,7 @@ returns-in_err-make_room-clause-takes g c =
     let b = g.W.Sink.held c.make_room.new.output in
     let p = c.args.self.now.out.items in
     Takes-err t c.from_residual.result a b r r p c.make_room.new.out.items (c.args.byte ∷ []) c.from_residual.ensures.0
-    (AppendsFront-append a b p (fed t r (c.args.byte ∷ [])).bytes c.in_err-make_room.ensures.err)
+    (AppendsPrefix-append a b p (fed t r (c.args.byte ∷ [])).bytes c.in_err-make_room.ensures.err)
 
 pub returns-clause-takes : goal.returns-clause-takes
 returns-clause-takes g c =

@@ -1,0 +1,17 @@
+use Rattle.std.proofs.Common.{◌+◌, sym, ◌∙◌}
+use Rattle.nr_reading.specs.declared.half.Half.{Half}
+use Rattle.nr_reading.specs.declared.mode.Mode.TheVariants as modes
+use Rattle.nr_reading.proofs.PartRows.{take_in-part_begins}
+use Rattle.nr_reading.proofs.Rows.{left_more, rest_after, looks}
+use Rattle.nr_reading.proofs.half.Half.take_in_accepted.Goals as goal
+
+pub returns : goal.returns
+returns g c =
+    let fs = g.I.Items.next_items c.args.items.now in
+    let h = c.args.self.now in
+    let place = c.pass_first_blanks-place.result in
+    let new : Half = record h { reading = record h.reading { mode = modes.Start } } in
+    rest_after fs 0 0 place (place + 1) h new c.take_in_beginning.new.self c.take_in_beginning.new.run
+    (left_more fs 0 0 place place c.in-Some.byte h h new c.pass_first_blanks-place.ensures.leads c.in-Some.ensures.within (looks h c.requires.next) c.in-Some.ensures.value
+    (take_in-part_begins c.in-Some.byte h c.requires.mode c.requires.next (sym c.is_plain.ensures ∙ c.if-not-is_plain.false) (sym c.is_blank.ensures ∙ c.if-is_blank.false)))
+    c.take_in_beginning.ensures
