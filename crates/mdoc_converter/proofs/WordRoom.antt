@@ -12,7 +12,7 @@ use Rattle.mdoc_converter.specs.declared.page.Scan.{Scan}
 use Rattle.mdoc_converter.specs.declared.page.Scan.TheVariants as scans
 use Rattle.mdoc_converter.specs.Calls.{with_scan}
 use Rattle.mdoc_converter.specs.Escaping.{escape_then}
-use Rattle.mdoc_converter.specs.Keeping.{after_name, ends_escape, ends_word, in_named, in_word_of, is_whole, keep, keep_begun, keep_escape, keeping, turns, whole_for, widens, wider, within, within_escape}
+use Rattle.mdoc_converter.specs.Keeping.{after_name, ends_escape, ends_word, in_named, in_word_of, is_whole, keep, keep_begun, keep_escape, keep_unshown, keeping, turns, whole_for, widens, wider, within, within_escape}
 use Rattle.mdoc_converter.specs.LayingOut.{lay_out}
 use Rattle.mdoc_converter.specs.Options.{is_heading, is_shown, reads_for}
 use Rattle.mdoc_converter.specs.Reading.{State, said}
@@ -104,8 +104,8 @@ pub record Kept (going : Bool) (head : Manner) (b : ℕ) (s : State) (scan : Sca
   pub at : In going head next scan word marks
   pub whole : is_whole next.page ≡ is_whole s.page
 
-keep_rest : Bool → Page → Met
-keep_rest quoted p = if is_shown p then turns (scans.Long (within quoted)) (left acts.Nothing) p else met (widens p) (taken acts.Nothing)
+keep_rest : ℕ → Bool → Page → Met
+keep_rest c quoted p = if is_shown p then turns (scans.Long (within quoted)) (left acts.Nothing) p else keep_unshown c p
 
 pub kept_plain : (going quoted : Bool) (head : Manner) (b c : ℕ) (s : State) (scan : Scan) (word marks : List ℕ) → In going head s scan word marks → length word < 30
     → meet b s.page ≡ keep c quoted (with_scan (in_word_of quoted) s.page) → Kept going head b s (in_word_of quoted) (word ++ c ∷ []) marks
@@ -119,7 +119,7 @@ kept_plain going quoted head b c s scan word marks at l e =
       takes =
           takes_by b s (widened wide q) (widened wide q) acts.Nothing acts.Nothing acts.Nothing []
           (e
-          ∙ ap (λ (t : Bool). if t then met (widens q) (taken acts.Nothing) else keep_rest quoted p)
+          ∙ ap (λ (t : Bool). if t then met (widens q) (taken acts.Nothing) else keep_rest c quoted p)
           (ap (λ (w : List ℕ). nat_lt (length w) 30) at.word_is ∙ room word l))
           refl refl;
       at =
@@ -235,9 +235,9 @@ unfolding keep_rest
 full_plain going quoted head b c s scan word marks at l e =
     let p = with_scan (in_word_of quoted) s.page in
     e
-    ∙ ap (λ (t : Bool). if t then met (widens (keeping (c ∷ []) p)) (taken acts.Nothing) else keep_rest quoted p)
+    ∙ ap (λ (t : Bool). if t then met (widens (keeping (c ∷ []) p)) (taken acts.Nothing) else keep_rest c quoted p)
     (ap (λ (w : List ℕ). nat_lt (length w) 30) at.word_is ∙ no_room word l)
-    ∙ ap (λ (t : Bool). if t then turns (scans.Long (within quoted)) (left acts.Nothing) p else met (widens p) (taken acts.Nothing))
+    ∙ ap (λ (t : Bool). if t then turns (scans.Long (within quoted)) (left acts.Nothing) p else keep_unshown c p)
     (shown going head s scan word marks at)
 
 pub full_escape : (going quoted : Bool) (head : Manner) (b c : ℕ) (s : State) (scan : Scan) (word marks : List ℕ) → In going head s scan word marks → 30 ≤ length word

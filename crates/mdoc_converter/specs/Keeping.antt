@@ -1,5 +1,5 @@
 -- The bytes of a word are kept (mdoc(7), MACRO SYNTAX; groff(7), comments).
-use Rattle.std.specs.Prelude.{ℕ, ◌+◌, ◌-◌, List, [], ◌∷◌, ◌++◌, length, Bool, true, false, not, ◌==◌, ◌&&◌, ◌||◌, nat_lt, if◌then◌else◌, slice_index, Option, None, Some}
+use Rattle.std.specs.Prelude.{ℕ, ◌+◌, ◌-◌, List, [], ◌∷◌, ◌++◌, length, Bool, true, false, not, ◌==◌, ◌&&◌, ◌||◌, nat_lt, if◌then◌else◌, slice_index, codes, Option, None, Some}
 use Prim.Native.Char.{code}
 use Rattle.mdoc_converter.specs.declared.acts.Act.TheVariants as acts
 use Rattle.mdoc_converter.specs.declared.escaping.Escape.{Escape}
@@ -43,12 +43,28 @@ within quoted = if quoted then insides.Quoted else insides.Word
 abbrev pub within_escape : Bool → Inside
 within_escape quoted = if quoted then insides.QuotedEscape else insides.Escape
 
--- thirty bytes of a word are kept; more go out in parts, or are only counted where the word isn't printed
+abbrev pub names_page : Macro → Bool
+names_page macros.Title = true
+names_page m = false
+
+-- the front of a title becomes a string, after which the title goes on
+abbrev pub is_titling : Page → Bool
+is_titling p = names_page p.call.taker && not p.call.some
+
+abbrev pub behind_front : Page → Page
+behind_front p = record p { title = p.word; word = codes "\\*(%T" }
+
+-- of another word that isn't printed a byte is only counted
+unfoldable pub keep_unshown : ℕ → Page → Met
+keep_unshown b p =
+    if is_titling p then met (widens (keeping (b ∷ []) (behind_front p))) (taken acts.TitleFront)
+    else met (widens p) (taken acts.Nothing)
+
+-- thirty bytes of a word are kept; more go out in parts
 abbrev pub keep : ℕ → Bool → Page → Met
 keep b quoted p =
     if nat_lt (length p.word) 30 then met (widens (keeping (b ∷ []) p)) (taken acts.Nothing) else
-    if is_shown p then turns (scans.Long (within quoted)) (left acts.Nothing) p
-    else met (widens p) (taken acts.Nothing)
+    if is_shown p then turns (scans.Long (within quoted)) (left acts.Nothing) p else keep_unshown b p
 
 abbrev pub in_word_of : Bool → Scan
 in_word_of quoted = if quoted then scans.Quoted else scans.Word

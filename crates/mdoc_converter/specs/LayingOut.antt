@@ -5,9 +5,17 @@ use Rattle.mdoc_converter.specs.declared.acts.Act.TheVariants as acts
 use Rattle.mdoc_converter.specs.declared.page.Page.{Page}
 use Rattle.mdoc_converter.specs.Columns.{begins_row, put_cell, put_column, put_row, put_stops, put_text_row}
 use Rattle.mdoc_converter.specs.Laying.{Laid, laid, then_laid, with_lay, put, is_joined, end_line, lay_word}
-use Rattle.mdoc_converter.specs.OwnLines.{freshen, end_tag, end_hang, quiet_down, put_space, put_request, put_sized, put_hanging, put_tag, put_numbered, put_title, end_title, put_head, put_control, put_naming}
+use Rattle.mdoc_converter.specs.OwnLines.{freshen, end_tag, end_hang, quiet_down, put_space, put_request, put_sized, put_hanging, put_tag, put_numbered, put_title, put_title_front, end_title, put_head, put_control, put_naming}
 use Rattle.mdoc_converter.specs.References.{put_part_begin, put_reference}
 use Rattle.mdoc_converter.specs.Texts.{text_of, front_of}
+
+abbrev pub lay_column : Act → Page → Laid
+lay_column acts.Columns p = put_head (codes ".ds %c") p
+lay_column (acts.Column width) p = put_column width p
+lay_column (acts.Stops gap) p = put_stops gap p
+lay_column acts.Cell p = put_cell p
+lay_column acts.Row p = put_row p
+lay_column act p = lay_word act p
 
 abbrev pub lay_request : Act → Page → Laid
 lay_request acts.Fresh p = freshen p
@@ -21,19 +29,15 @@ lay_request (acts.Sized sized n) p = put_sized sized n p
 lay_request (acts.Hanging n) p = put_hanging n p
 lay_request (acts.Numbered n width) p = put_numbered n width p
 lay_request acts.Title p = put_title p
+lay_request acts.TitleFront p = put_title_front p
 lay_request acts.TitleEnds p = end_title p
 lay_request acts.Section p = put_head (codes ".SH") p
 lay_request acts.Subsection p = put_head (codes ".SS") p
-lay_request acts.Columns p = put_head (codes ".ds %c") p
-lay_request (acts.Column width) p = put_column width p
-lay_request (acts.Stops gap) p = put_stops gap p
-lay_request acts.Cell p = put_cell p
-lay_request acts.Row p = put_row p
 lay_request (acts.Part letter) p = put_part_begin letter p
 lay_request acts.Reference p = put_reference p
 lay_request acts.Control p = put_control p
 lay_request acts.Naming p = put_naming p
-lay_request act p = lay_word act p
+lay_request act p = lay_column act p
 
 -- a text line begins: in a list of columns without items as a row
 abbrev pub put_begin : ℕ → Page → Laid

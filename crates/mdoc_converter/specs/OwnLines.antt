@@ -126,6 +126,10 @@ put_title p =
     (line_end p ++ codes ".TH " ++ p.title ++ codes " " ++ p.chapter ++ codes " \"" ++ (put_date p).bytes
     ++ codes "\" \"")
 
+-- a string keeps the front of a title
+abbrev pub put_title_front : Page → Laid
+put_title_front p = laid (fresh p) (line_end p ++ codes ".ds %T \"" ++ p.title ++ codes "\n")
+
 abbrev pub names_system : Macro → Bool
 names_system macros.System = true
 names_system m = false

@@ -47,17 +47,42 @@ impl Page {
         }
     }
 
+    /// Whether the word is the first of a title.
+    fn is_titling(&self) -> bool
+        ensures { result ≡ specs.is_titling self.now }
+    {
+        matches!(self.call.taker, Macro::Title) && !self.call.some
+    }
+
+    /// A byte that has no room in a word that isn't printed is counted; the front of a title becomes a string.
+    #[tactic(auto, unfolding(crate::specs::Keeping::keep_unshown))]
+    fn keep_unshown(&mut self, byte: u8) -> Seen
+        ensures { met self.new result ≡ specs.keep_unshown byte self.old }
+    {
+        if self.is_titling() {
+            self.title = self.word;
+            self.word = Name::of(b"\\*(%T");
+            self.word.push(byte);
+            self.widens();
+            return Seen::taken(Act::TitleFront);
+        }
+        self.widens();
+        Seen::taken(Act::Nothing)
+    }
+
     /// A byte of a word is kept, or what was kept goes out first.
     fn keep(&mut self, byte: u8, quoted: bool) -> Seen
         ensures { met self.new result ≡ specs.keep byte quoted self.old }
     {
         if self.word.len() < MOST_KEPT {
             self.word.push(byte);
-        } else if self.is_shown() {
+            self.widens();
+            return Seen::taken(Act::Nothing);
+        }
+        if self.is_shown() {
             return self.turns(Scan::Long(within(quoted)), Seen::left(Act::Nothing));
         }
-        self.widens();
-        Seen::taken(Act::Nothing)
+        self.keep_unshown(byte)
     }
 
     /// Whether hyphens in the word stay as they are: it may be one that a table has, or a title.

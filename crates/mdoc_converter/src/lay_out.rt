@@ -28,18 +28,32 @@ impl Page {
             Act::Hanging(n) => self.put_hanging(n, out),
             Act::Numbered(n, width) => self.put_numbered(n, width, out),
             Act::Title => self.put_title(out),
+            Act::TitleFront => self.put_title_front(out),
             Act::TitleEnds => self.end_title(out),
             Act::Section => self.put_head(b".SH", out),
             Act::Subsection => self.put_head(b".SS", out),
+            Act::Part(letter) => self.put_part_begin(letter, out),
+            Act::Reference => self.put_reference(out),
+            Act::Control => self.put_control(out),
+            Act::Naming => self.put_naming(out),
+            _ => self.lay_column(act, out),
+        }
+    }
+
+    /// Columns, their rows and cells.
+    fn lay_column(&mut self, act: Act, out: &mut SliceVec<'_, u8>)
+        requires { length out.old.items + 256 ≤ out.old.capacity }
+        ensures page { self.new ≡ (specs.lay_column act self.old).page }
+        ensures items { out.new.items ≡ out.old.items ++ (specs.lay_column act self.old).bytes }
+        ensures few { length out.new.items ≤ length out.old.items + 256 }
+        ensures room { out.new.capacity ≡ out.old.capacity }
+    {
+        match act {
             Act::Columns => self.put_head(b".ds %c", out),
             Act::Column(width) => self.put_column(width, out),
             Act::Stops(gap) => self.put_stops(gap, out),
             Act::Cell => self.put_cell(out),
             Act::Row => self.put_row(out),
-            Act::Part(letter) => self.put_part_begin(letter, out),
-            Act::Reference => self.put_reference(out),
-            Act::Control => self.put_control(out),
-            Act::Naming => self.put_naming(out),
             _ => self.lay_word(act, out),
         }
     }

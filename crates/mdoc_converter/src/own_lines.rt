@@ -256,6 +256,20 @@ impl Page {
         self.place.titled = true;
     }
 
+    /// The string that keeps the front of a title.
+    pub(crate) fn put_title_front(&mut self, out: &mut SliceVec<'_, u8>)
+        requires { length out.old.items + 48 ≤ out.old.capacity }
+        ensures page { self.new ≡ (specs.put_title_front self.old).page }
+        ensures items { out.new.items ≡ out.old.items ++ (specs.put_title_front self.old).bytes }
+        ensures few { length out.new.items ≤ length out.old.items + 48 }
+        ensures room { out.new.capacity ≡ out.old.capacity }
+    {
+        self.freshen(out);
+        out.extend(b".ds %T \"");
+        out.extend(self.title.as_bytes());
+        out.push(b'\n');
+    }
+
     /// What stands in the title's line for a system without a name.
     fn other_system(&self) -> &'static [u8]
         ensures value { result.now ≡ specs.other_system self.now }
