@@ -2,6 +2,7 @@ pub mod AtHand
 pub mod Blocks
 pub mod Calls
 pub mod Columns
+pub mod Dates
 pub mod Definitions
 pub mod Escaping
 pub mod Keeping

@@ -1,5 +1,5 @@
 -- Lines of their own: requests, the title and headings.
-use Rattle.std.specs.Prelude.{ℕ, ◌+◌, ◌-◌, ◌/◌, ◌%◌, List, [], ◌∷◌, ◌++◌, length, Bool, true, false, not, ◌==◌, ◌&&◌, ◌||◌, nat_lt, if◌then◌else◌, slice_index, codes}
+use Rattle.std.specs.Prelude.{ℕ, ◌+◌, ◌/◌, ◌%◌, List, [], ◌∷◌, ◌++◌, Bool, true, false, not, ◌&&◌, ◌||◌, nat_lt, if◌then◌else◌, codes}
 use Rattle.std.specs.Str.{bytes_eq}
 use Prim.Native.Char.{code}
 use Rattle.mdoc_converter.specs.declared.acts.Request.{Request}
@@ -11,6 +11,7 @@ use Rattle.mdoc_converter.specs.declared.macros.Macro.TheVariants as macros
 use Rattle.mdoc_converter.specs.declared.page.At.{At}
 use Rattle.mdoc_converter.specs.declared.page.At.TheVariants.{Start, Middle, Ended}
 use Rattle.mdoc_converter.specs.declared.page.Page.{Page}
+use Rattle.mdoc_converter.specs.Dates.{date}
 use Rattle.mdoc_converter.specs.Laying.{Laid, laid, with_end, with_lay}
 use Rattle.mdoc_converter.specs.Texts.{request_of, sized_of}
 
@@ -106,16 +107,6 @@ put_numbered n width p =
 
 -- ---- the page's title
 
-abbrev pub is_comma_last : List ℕ → Bool
-is_comma_last day = slice_index day (length day - 1) == code ","
-
--- a comma stands after the day
-abbrev pub after_day : List ℕ → List ℕ
-after_day day = if nat_lt 0 (length day) && not (is_comma_last day) then codes ", " else codes " "
-
-abbrev pub put_date : Page → Laid
-put_date p = laid p (p.month ++ codes " " ++ p.day ++ after_day p.day ++ p.year)
-
 abbrev pub titled : Page → Page
 titled p =
     record p { lay = record p.lay { at = Middle; joined = true }; place = record p.place { titled = true } }
@@ -123,7 +114,7 @@ titled p =
 abbrev pub put_title : Page → Laid
 put_title p =
     laid (titled (fresh p))
-    (line_end p ++ codes ".TH " ++ p.title ++ codes " " ++ p.chapter ++ codes " \"" ++ (put_date p).bytes
+    (line_end p ++ codes ".TH " ++ p.title ++ codes " " ++ p.chapter ++ codes " \"" ++ date p
     ++ codes "\" \"")
 
 -- a string keeps the front of a title

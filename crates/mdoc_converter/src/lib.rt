@@ -1,7 +1,7 @@
 //! Pages of mdoc(7) become pages of man(7).
 //!
 //! It stands on nr_units, nr_vectors and document_stages. To read: `macros`, `page`, `acts`, `seen`; `texts`, `names`, `libraries`, `lookup`, `lay`,
-//! `own_lines`, `references`, `lay_out`; `options`, `calls`, `taking`, `words`, `blocks`, `lines`, `keeping`, `rows`,
+//! `dates`, `own_lines`, `references`, `lay_out`; `options`, `calls`, `taking`, `words`, `blocks`, `lines`, `keeping`, `rows`,
 //! `definitions`, `escaping`, `scan`, which puts them together; `pending`, `reader`, `strings`, `at_hand`; `staged`, `running`; `passing`,
 //! `word_laws`.
 #![tactic(auto)]
@@ -11,6 +11,7 @@ mod at_hand;
 mod blocks;
 mod calls;
 mod columns;
+mod dates;
 mod definitions;
 mod escaping;
 mod keeping;

@@ -8,19 +8,6 @@ use super::page::{At, Page};
 use super::texts::{request_of, sized_of};
 use nr_vectors::slice_vec::SliceVec;
 
-/// What stands between the day of a date and its year.
-fn after_day(day: &[u8]) -> &'static [u8]
-    ensures value { result.now ≡ specs.after_day day.now }
-    ensures few { length result.now ≤ 2 }
-{
-    let len = day.len();
-    if len > 0 && day[len - 1] != b',' {
-        b", "
-    } else {
-        b" "
-    }
-}
-
 /// Whether the macro file has no manual of a section.
 fn is_other(chapter: &[u8]) -> bool
     ensures { result ≡ specs.is_other chapter.now }
@@ -218,21 +205,6 @@ impl Page {
         put_number(width, out);
         out.extend(b"n\n");
         self.lay.quiet = false;
-    }
-
-    /// The page's date.
-    fn put_date(&mut self, out: &mut SliceVec<'_, u8>)
-        requires { length out.old.items + 100 ≤ out.old.capacity }
-        ensures page { self.new ≡ (specs.put_date self.old).page }
-        ensures items { out.new.items ≡ out.old.items ++ (specs.put_date self.old).bytes }
-        ensures few { length out.new.items ≤ length out.old.items + 100 }
-        ensures room { out.new.capacity ≡ out.old.capacity }
-    {
-        out.extend(self.month.as_bytes());
-        out.push(b' ');
-        out.extend(self.day.as_bytes());
-        out.extend(after_day(self.day.as_bytes()));
-        out.extend(self.year.as_bytes());
     }
 
     /// The page's title, up to its source.
