@@ -17,7 +17,7 @@ use Rattle.mdoc_converter.specs.declared.page.Wanted.{Wanted}
 use Rattle.mdoc_converter.specs.declared.page.Wanted.TheVariants as wanteds
 use Rattle.mdoc_converter.specs.Calls.{called_by, is_none, with_scan}
 use Rattle.mdoc_converter.specs.Escaping.{escape_then}
-use Rattle.mdoc_converter.specs.Keeping.{behind_front, ends_in_hyphen, has_dashes, in_named, is_titling, keep, keep_begun, keep_byte, keep_escape, keep_unshown, keeping, looks_up, whole_for, widens, wider, within, within_escape}
+use Rattle.mdoc_converter.specs.Keeping.{after_prefix, ends_in_hyphen, has_dashes, in_named, is_titling, keep, keep_begun, keep_byte, keep_escape, keep_unshown, keeping, looks_up, whole_for, widens, wider, within, within_escape}
 use Rattle.mdoc_converter.specs.Laying.{with_lay}
 use Rattle.mdoc_converter.specs.LayingOut.{lay_out}
 use Rattle.mdoc_converter.specs.Options.{added_column, asked, block_asked, block_wanted, column, column_width, dated, date_word, font_named, font_or, is_column, is_heading, is_shown, is_version, none, option, option_for, option_word, reads_for, title_word, wants_column}
@@ -43,7 +43,7 @@ is_hushed (acts.Sized sized n) = true
 is_hushed acts.Cell = true
 is_hushed acts.Columns = true
 is_hushed (acts.Column width) = true
-is_hushed acts.TitleFront = true
+is_hushed acts.TitlePrefix = true
 is_hushed act = false
 
 hushed_page : (act : Act) (p : Page) → is_hushed act ≡ true → Lays p (lay_out act p).page
@@ -56,7 +56,7 @@ hushed_page (acts.Sized sized n) p h = quiet-page (acts.Sized sized n) p refl
 hushed_page acts.Cell p h = (_, refl)
 hushed_page acts.Columns p h = (_, refl)
 hushed_page (acts.Column width) p h = (_, refl)
-hushed_page acts.TitleFront p h = (_, refl)
+hushed_page acts.TitlePrefix p h = (_, refl)
 hushed_page act p h = never h
 
 pub hushed_word : (act : Act) (p : Page) → is_hushed act ≡ true → (part_of act p).word ≡ []
@@ -69,7 +69,7 @@ hushed_word (acts.Sized sized n) p h = refl
 hushed_word acts.Cell p h = refl
 hushed_word acts.Columns p h = refl
 hushed_word (acts.Column width) p h = refl
-hushed_word acts.TitleFront p h = refl
+hushed_word acts.TitlePrefix p h = refl
 hushed_word act p h = never h
 
 pub three_page : (x y z : Act) (p : Page) → is_hushed x ≡ true → is_hushed y ≡ true → is_hushed z ≡ true → Lays p (said (three x y z) p).page
@@ -213,7 +213,7 @@ column_asked : (q : Page) (m : Macro) → Asking m q scans.Between → Asked m (
 unfolding is_hushed
 column_asked q m at =
     let n = column_width q in
-    let p = added_column n q in
+    let p = added_column q in
     let added = asking_as m scans.Between q p at.scan_is refl refl refl refl refl refl at in
     asked_if (not (is_column q.block.kind)) m _ _ (asked_none m q at)
     (asked_if (wants_column q.call.wanted) m _ _ (asked_act m p (acts.Column n) acts.Nothing refl refl added)
@@ -324,16 +324,16 @@ wide_takes : (t : Bool) (m : Macro) (b : ℕ) (s : State) (p : Page) (scan : Sca
     → Taking m b s 1 scan
 wide_takes t m b s p scan e at = taken_takes m b s (widened t p) scan e (asking_wide t m scan p at)
 
-title_takes : (m : Macro) (b : ℕ) (s : State) (p : Page) (scan : Scan) → meet b s.page ≡ met p (taken acts.TitleFront) → Asking m p scan → Taking m b s 1 scan
+title_takes : (m : Macro) (b : ℕ) (s : State) (p : Page) (scan : Scan) → meet b s.page ≡ met p (taken acts.TitlePrefix) → Asking m p scan → Taking m b s 1 scan
 unfolding is_hushed
-title_takes m b s p scan e at = hush_takes m b s p acts.TitleFront acts.Nothing acts.Nothing scan e refl refl refl at
+title_takes m b s p scan e at = hush_takes m b s p acts.TitlePrefix acts.Nothing acts.Nothing scan e refl refl refl at
 
 unshown_by : (t : Bool) (m : Macro) (b c : ℕ) (s : State) (p : Page) (scan : Scan)
-    → meet b s.page ≡ (if t then met (widens (keeping (c ∷ []) (behind_front p))) (taken acts.TitleFront) else met (widens p) (taken acts.Nothing))
+    → meet b s.page ≡ (if t then met (widens (keeping (c ∷ []) (after_prefix p))) (taken acts.TitlePrefix) else met (widens p) (taken acts.Nothing))
     → Asking m p scan → Taking m b s 1 scan
 unfolding widened
 unshown_by true m b c s p scan e at =
-    let q = keeping (c ∷ []) (behind_front p) in
+    let q = keeping (c ∷ []) (after_prefix p) in
     let wide = nat_lt p.call.width 9999 in
     title_takes m b s (widened wide q) scan e
     (asking_wide wide m scan q (asking_as m scan p q at.scan_is refl refl refl refl refl refl at))

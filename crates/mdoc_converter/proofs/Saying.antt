@@ -4,8 +4,7 @@ use Rattle.mdoc_converter.specs.declared.acts.Act.{Act}
 use Rattle.mdoc_converter.specs.declared.acts.Act.TheVariants as acts
 use Rattle.mdoc_converter.specs.declared.page.Page.{Page}
 use Rattle.mdoc_converter.specs.declared.seen.Seen.{Seen}
-use Rattle.mdoc_converter.specs.Columns.{begins_row, put_text_row}
-use Rattle.mdoc_converter.specs.Laying.{Laid, laid, before_hyphen, first_of, gap, word_end}
+use Rattle.mdoc_converter.specs.Laying.{before_hyphen, first_of, gap, word_end}
 use Rattle.mdoc_converter.specs.LayingOut.{lay_out}
 use Rattle.mdoc_converter.specs.Reading.{State, Told, told, said, once, heard_in, heard}
 use Rattle.mdoc_converter.specs.Scanning.{meet}
@@ -31,16 +30,11 @@ words_of-append (x ∷ xs) ys =
 only_before : (xs : List ℕ) → xs ≡ xs ++ [] ++ []
 only_before xs = sym (append-nil (xs ++ []) ∙ append-nil xs)
 
-begun : Bool → Page → Laid
-begun row p = if row then put_text_row p else laid p []
-
 pub part-text : (act : Act) (p : Page) → (lay_out act p).bytes ≡ (part_of act p).before ++ (part_of act p).word ++ (part_of act p).behind
-unfolding lay_out begun
+unfolding lay_out
 part-text (acts.Byte b) p = refl
 part-text acts.Hyphen p = refl
-part-text (acts.Begin b) p =
-    let l = begun (begins_row p) p in
-    sym (append-nil ((l.bytes ++ gap l.page.lay.joined b l.page) ++ b ∷ []) ∙ append_assoc l.bytes (gap l.page.lay.joined b l.page) (b ∷ []))
+part-text (acts.Begin b) p = sym (append-nil (gap p.lay.joined b p ++ b ∷ []))
 part-text (acts.Word font) p = refl
 part-text (acts.Joined font) p = refl
 part-text acts.Flag p = refl

@@ -25,8 +25,6 @@ fresh_block kind offset =
     record {
       kind = kind;
       width = None;
-      hang = 0;
-      last = 0;
       columns = 0;
       offset = offset;
       items = 0;

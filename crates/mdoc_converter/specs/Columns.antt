@@ -1,6 +1,6 @@
 -- Rows of columns: a cell begins where its column does, on the line of the cell before it if that has room in its own
 -- (mdoc(7), Bl -column and Ta).
-use Rattle.std.specs.Prelude.{ℕ, ◌+◌, ◌-◌, ◌*◌, List, [], ◌++◌, Bool, true, not, ◌==◌, ◌&&◌, nat_lt, nat_le, if◌then◌else◌, codes}
+use Rattle.std.specs.Prelude.{ℕ, ◌+◌, List, [], ◌++◌, Bool, true, not, ◌==◌, ◌&&◌, nat_lt, nat_le, if◌then◌else◌, codes}
 use Rattle.mdoc_converter.specs.declared.page.Block.{Block}
 use Rattle.mdoc_converter.specs.declared.page.Page.{Page}
 use Rattle.mdoc_converter.specs.Laying.{Laid, laid, with_lay, was_put}
@@ -20,22 +20,11 @@ gap columns = if nat_lt columns 5 then 4 else if columns == 5 then 3 else 1
 abbrev pub put_stops : ℕ → Page → Laid
 put_stops gap p = laid (fresh p) (line_end p ++ codes ".nr %g " ++ digits gap ++ codes "n\n.ta \\*(%c\n")
 
--- ---- a text line is a row
+-- in a list of columns without items a text line is a row
+abbrev pub has_rows : Block → Bool
+has_rows b = is_column b.kind && not b.begun
 
-abbrev pub begins_row : Page → Bool
-begins_row p = is_column p.block.kind && not p.block.begun
-
--- how far the last column stands from the first
-abbrev pub hang_of : Block → ℕ
-hang_of b = at_most 999 (at_most 999 b.hang + gap b.columns * (at_most 100 b.columns - 1))
-
--- tabs divide its cells, and the text of the last hangs
-abbrev pub put_text_row : Page → Laid
-put_text_row p =
-    laid (fresh p) (line_end p ++ codes ".in \\n_u+" ++ digits (hang_of p.block) ++ codes "n\n.)T -"
-    ++ digits (hang_of p.block) ++ codes "n\n")
-
--- ---- rows of items, each where two lines have room: the first cell has the number 0, and the place before each is kept
+-- ---- rows, each where two lines have room: the first cell has the number 0, and the place before each is kept
 
 abbrev pub put_row : Page → Laid
 put_row p =

@@ -47,17 +47,17 @@ abbrev pub names_page : Macro → Bool
 names_page macros.Title = true
 names_page m = false
 
--- the front of a title becomes a string, after which the title goes on
+-- what was read of a title becomes a string, after which the title goes on
 abbrev pub is_titling : Page → Bool
 is_titling p = names_page p.call.taker && not p.call.some
 
-abbrev pub behind_front : Page → Page
-behind_front p = record p { title = p.word; word = codes "\\*(%T" }
+abbrev pub after_prefix : Page → Page
+after_prefix p = record p { title = p.word; word = codes "\\*(%T" }
 
 -- of another word that isn't printed a byte is only counted
 unfoldable pub keep_unshown : ℕ → Page → Met
 keep_unshown b p =
-    if is_titling p then met (widens (keeping (b ∷ []) (behind_front p))) (taken acts.TitleFront)
+    if is_titling p then met (widens (keeping (b ∷ []) (after_prefix p))) (taken acts.TitlePrefix)
     else met (widens p) (taken acts.Nothing)
 
 -- thirty bytes of a word are kept; more go out in parts

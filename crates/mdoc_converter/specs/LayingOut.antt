@@ -1,11 +1,11 @@
 -- What is said is laid out.
-use Rattle.std.specs.Prelude.{ℕ, [], ◌∷◌, true, false, if◌then◌else◌, codes}
+use Rattle.std.specs.Prelude.{[], ◌∷◌, true, false, codes}
 use Rattle.mdoc_converter.specs.declared.acts.Act.{Act}
 use Rattle.mdoc_converter.specs.declared.acts.Act.TheVariants as acts
 use Rattle.mdoc_converter.specs.declared.page.Page.{Page}
-use Rattle.mdoc_converter.specs.Columns.{begins_row, put_cell, put_column, put_row, put_stops, put_text_row}
-use Rattle.mdoc_converter.specs.Laying.{Laid, laid, then_laid, with_lay, put, is_joined, end_line, lay_word}
-use Rattle.mdoc_converter.specs.OwnLines.{freshen, end_tag, end_hang, quiet_down, put_space, put_request, put_sized, put_hanging, put_tag, put_numbered, put_title, put_title_front, end_title, put_head, put_control, put_naming}
+use Rattle.mdoc_converter.specs.Columns.{put_cell, put_column, put_row, put_stops}
+use Rattle.mdoc_converter.specs.Laying.{Laid, laid, with_lay, put, is_joined, end_line, lay_word}
+use Rattle.mdoc_converter.specs.OwnLines.{freshen, end_tag, end_hang, quiet_down, put_space, put_request, put_sized, put_hanging, put_tag, put_numbered, put_title, put_title_prefix, end_title, put_head, put_control, put_naming}
 use Rattle.mdoc_converter.specs.References.{put_part_begin, put_reference}
 use Rattle.mdoc_converter.specs.Texts.{text_of, front_of}
 
@@ -29,7 +29,7 @@ lay_request (acts.Sized sized n) p = put_sized sized n p
 lay_request (acts.Hanging n) p = put_hanging n p
 lay_request (acts.Numbered n width) p = put_numbered n width p
 lay_request acts.Title p = put_title p
-lay_request acts.TitleFront p = put_title_front p
+lay_request acts.TitlePrefix p = put_title_prefix p
 lay_request acts.TitleEnds p = end_title p
 lay_request acts.Section p = put_head (codes ".SH") p
 lay_request acts.Subsection p = put_head (codes ".SS") p
@@ -39,17 +39,12 @@ lay_request acts.Control p = put_control p
 lay_request acts.Naming p = put_naming p
 lay_request act p = lay_column act p
 
--- a text line begins: in a list of columns without items as a row
-abbrev pub put_begin : ℕ → Page → Laid
-put_begin b p =
-    then_laid (if begins_row p then put_text_row p else laid p []) (λ q. put q.lay.joined (b ∷ []) q)
-
 unfoldable pub lay_out : Act → Page → Laid
 lay_out acts.Nothing p = laid p []
 lay_out (acts.Byte b) p = laid p (b ∷ [])
 lay_out acts.Hyphen p = laid p (codes "\\-")
 lay_out (acts.Front front) p = laid p (front_of front)
-lay_out (acts.Begin b) p = put_begin b p
+lay_out (acts.Begin b) p = put p.lay.joined (b ∷ []) p
 lay_out (acts.Text text) p = put (is_joined p) (text_of text) p
 lay_out (acts.Close text) p = put true (text_of text) p
 lay_out acts.Join p = laid (with_lay (record p.lay { joined = true }) p) []

@@ -220,18 +220,13 @@ abbrev pub wants_column : Wanted → Bool
 wants_column wanteds.Column = true
 wants_column w = false
 
--- one more column: the one before it is not the last
-abbrev pub with_column : ℕ → Block → Block
-with_column width b =
-    record b {
-      hang = at_most 999 b.hang + at_most 999 b.last;
-      last = width;
-      columns = at_most 99 b.columns + 1;
+-- one more column
+abbrev pub added_column : Page → Page
+added_column p =
+    record p {
+      block = record p.block { columns = at_most 99 p.block.columns + 1 };
+      lay = record p.lay { cell = 0 };
     }
-
-abbrev pub added_column : ℕ → Page → Page
-added_column width p =
-    record p { block = with_column width p.block; lay = record p.lay { cell = 0 } }
 
 -- widths, one after the other
 abbrev pub tab_stop : ℕ → Page → Met
@@ -245,7 +240,7 @@ column_width p = at_most 900 p.call.width
 abbrev pub column : Page → Met
 column p =
     if not (is_column p.block.kind) then none p else
-    tab_stop (column_width p) (added_column (column_width p) p)
+    tab_stop (column_width p) (added_column p)
 
 abbrev pub block_asked : Option Asks → Page → Met
 block_asked None p = column p

@@ -117,9 +117,9 @@ put_title p =
     (line_end p ++ codes ".TH " ++ p.title ++ codes " " ++ p.chapter ++ codes " \"" ++ date p
     ++ codes "\" \"")
 
--- a string keeps the front of a title
-abbrev pub put_title_front : Page → Laid
-put_title_front p = laid (fresh p) (line_end p ++ codes ".ds %T \"" ++ p.title ++ codes "\n")
+-- a string keeps what was read of a title
+abbrev pub put_title_prefix : Page → Laid
+put_title_prefix p = laid (fresh p) (line_end p ++ codes ".ds %T \"" ++ p.title ++ codes "\n")
 
 abbrev pub names_system : Macro → Bool
 names_system macros.System = true

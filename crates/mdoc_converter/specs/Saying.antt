@@ -7,8 +7,7 @@ use Rattle.mdoc_converter.specs.declared.macros.Font.{Font}
 use Rattle.mdoc_converter.specs.declared.macros.Font.TheVariants.{Roman, Bold}
 use Rattle.mdoc_converter.specs.declared.page.Page.{Page}
 use Rattle.mdoc_converter.specs.declared.seen.Seen.{Seen}
-use Rattle.mdoc_converter.specs.Columns.{begins_row, put_text_row}
-use Rattle.mdoc_converter.specs.Laying.{laid, gap, first_in, first_of, before_hyphen, is_joined, was_put, end_word, word_end}
+use Rattle.mdoc_converter.specs.Laying.{gap, first_in, first_of, before_hyphen, is_joined, was_put, end_word, word_end}
 use Rattle.mdoc_converter.specs.LayingOut.{lay_out}
 use Rattle.mdoc_converter.specs.Reading.{State, once, heard}
 use Rattle.mdoc_converter.specs.Scanning.{meet}
@@ -29,9 +28,7 @@ part_word joined font p =
     (end_word font (was_put p)).bytes
 
 abbrev pub part_begin : ℕ → Page → Part
-part_begin b p =
-    let l = if begins_row p then put_text_row p else laid p [] in
-    part (l.bytes ++ gap l.page.lay.joined b l.page) (b ∷ []) []
+part_begin b p = part (gap p.lay.joined b p) (b ∷ []) []
 
 abbrev pub part_flag : Page → Part
 part_flag p =

@@ -18,6 +18,7 @@ use Rattle.mdoc_converter.specs.declared.page.Dots.TheVariants as dots
 use Rattle.mdoc_converter.specs.declared.page.Front.{Front}
 use Rattle.mdoc_converter.specs.declared.page.Front.TheVariants as fronts
 use Rattle.mdoc_converter.specs.declared.seen.Seen.{Seen}
+use Rattle.mdoc_converter.specs.Columns.{has_rows}
 use Rattle.mdoc_converter.specs.Definitions.{in_definition}
 use Rattle.mdoc_converter.specs.Escaping.{escape_then}
 use Rattle.mdoc_converter.specs.Keeping.{ends_word, turns, word_begins, in_word, in_quotes, closing, in_escape, in_name_of}
@@ -55,13 +56,25 @@ empty_line p =
 abbrev pub after_text : Page → Page
 after_text p = record p { place = record p.place { last = lasts.Heading } }
 
--- blanks that begin a line stay where lines do
+abbrev pub text_begins : ℕ → Page → Met
+text_begins b p = turns (scans.Text (first_before b)) (taken (acts.Begin b)) (after_text p)
+
+-- Blanks that begin a line stay where lines do. In a list of columns without items a line is a row.
 abbrev pub at_start : ℕ → Page → Met
 at_start b p =
     if is_control b then turns scans.Control (taken acts.Nothing) p else
     if b == code "\n" then met p (empty_line p) else
+    if has_rows p.block then turns scans.Cell (left acts.Row) p else
     if ((b == code " ") || (b == code "\t")) && not p.lay.literal then met p (taken acts.Nothing) else
-    turns (scans.Text (first_before b)) (taken (acts.Begin b)) (after_text p)
+    text_begins b p
+
+-- a tab ends a cell of a row, and blanks after it are dropped
+abbrev pub in_cell : ℕ → Page → Met
+in_cell b p =
+    if b == code "\n" then turns scans.Start (taken acts.Ends) p else
+    if b == code "\t" then met p (taken acts.Cell) else
+    if b == code " " then met p (taken acts.Nothing) else
+    text_begins b p
 
 -- a line may be broken after a hyphen between letters: one after a letter is held back; one of an escape stays
 abbrev pub hyphen_in_text : Before → Page → Met
@@ -78,6 +91,7 @@ abbrev pub in_text : Before → ℕ → Page → Met
 in_text before b p =
     if b == code "\n" then turns scans.Start (taken acts.Ends) p else
     if b == code "-" then hyphen_in_text before p else
+    if (b == code "\t") && has_rows p.block then turns scans.Cell (taken acts.Cell) p else
     turns (scans.Text (before_next before b)) (taken (acts.Byte b)) p
 
 -- ---- control lines and their names
@@ -215,6 +229,7 @@ meet_at (scans.Asleep front lines) b p = asleep front lines b p
 meet_at scans.Start b p = at_start b p
 meet_at (scans.Text before) b p = in_text before b p
 meet_at scans.Hyphen b p = after_hyphen b p
+meet_at scans.Cell b p = in_cell b p
 meet_at scans.Control b p = after_control b p
 meet_at scans.ControlEscape b p = after_escape b p
 meet_at scans.Comment b p = in_comment b p

@@ -8,13 +8,14 @@ use Rattle.mdoc_converter.specs.declared.page.Scan.{Scan}
 use Rattle.mdoc_converter.specs.declared.page.Scan.TheVariants as scans
 use Rattle.mdoc_converter.specs.declared.pending.Pending.TheVariants.{Nothing}
 use Rattle.mdoc_converter.specs.Calls.{is_due, with_scan}
+use Rattle.mdoc_converter.specs.Columns.{has_rows}
 use Rattle.mdoc_converter.specs.Laying.{Laid, laid, then_laid}
 use Rattle.mdoc_converter.specs.LayingOut.{lay_out}
 use Rattle.mdoc_converter.specs.Lines.{ends_joined}
 use Rattle.mdoc_converter.specs.Macros.{macro_of}
 use Rattle.mdoc_converter.specs.Reading.{State, behind, fed, heard_in}
 use Rattle.mdoc_converter.specs.Saying.{parts_of, state_behind, text_of, words_of}
-use Rattle.mdoc_converter.specs.WrittenLines.{each, names_no_string, is_text, begins_text, is_plain, heads_words, is_mute, way_of, Word, are_written, is_first, headed, way_headed, line_of, printed_as, opens_block, Line, AskingLine, are_lines, written_line, written_lines, printed_line}
+use Rattle.mdoc_converter.specs.WrittenLines.{each, names_no_string, is_text, begins_text, is_plain, heads_words, is_mute, way_of, Word, are_written, is_first, headed, way_headed, line_of, printed_as, opens_block, row_said, Line, AskingLine, are_lines, written_line, written_lines, printed_line}
 
 -- ---- words
 
@@ -27,12 +28,12 @@ pub record Says (s : State) (line said : List ℕ) : Type 0 where
   pub text : (fed s line).bytes ≡ text_of (parts_of s line)
   pub words : words_of (parts_of s line) ≡ said
 
--- in any state a text line says its bytes
+-- in any state a text line says its bytes, where it is a row but for what ends its cells
 abbrev pub TextIsSaid : Type 0
 TextIsSaid =
     (s : State) (b : ℕ) (bs : List ℕ) → begins_text b ≡ true → each is_text bs ≡ true
     → names_no_string (b ∷ bs) ≡ true →
-    Says (reads_at scans.Start s) (b ∷ bs ++ codes "\n") (b ∷ bs)
+    Says (reads_at scans.Start s) (b ∷ bs ++ codes "\n") (row_said (has_rows s.page.block) false (b ∷ bs))
 
 -- In any state where no marks are held back, a line of a macro says those of its words that call no macro and are no options,
 -- each once and in order, with words between quotes, whose blanks stay together or not. Where the words call none, it says all.

@@ -9,6 +9,7 @@ use Rattle.mdoc_converter.specs.declared.macros.Macro.TheVariants as macros
 use Rattle.mdoc_converter.specs.declared.page.Block.{Block}
 use Rattle.mdoc_converter.specs.Blocks.{is_diagnosis}
 use Rattle.mdoc_converter.specs.Calls.{called_by}
+use Rattle.mdoc_converter.specs.Columns.{has_rows}
 use Rattle.mdoc_converter.specs.Escaping.{escape_then}
 use Rattle.mdoc_converter.specs.Keeping.{ends_escape, ends_word, is_title}
 use Rattle.mdoc_converter.specs.Laying.{is_control}
@@ -38,6 +39,13 @@ is_text b = not (b == code "\n")
 -- what begins no other line, and isn't dropped at its beginning
 abbrev pub begins_text : ℕ → Bool
 begins_text b = not (is_control b) && not (ends_word b)
+
+-- what a text line says; where it is a row, but for the tabs that end its cells, and blanks after them
+abbrev pub row_said : Bool → Bool → List ℕ → List ℕ
+row_said row after_tab [] = []
+row_said row after_tab (b ∷ bs) =
+    if (b == code "\t") && row then row_said row true bs else
+    if (b == code " ") && after_tab then row_said row true bs else b ∷ row_said row false bs
 
 -- ---- how a macro takes its words
 
@@ -360,7 +368,7 @@ written_lines (l ∷ ls) = written_line l ++ written_lines ls
 abbrev pub printed_line : List Bool → Block → Line → List ℕ
 printed_line wholes block EmptyLine = []
 printed_line wholes block (CommentLine bs) = []
-printed_line wholes block (TextLine b bs) = b ∷ bs
+printed_line wholes block (TextLine b bs) = row_said (has_rows block) false (b ∷ bs)
 printed_line wholes block (HeadingLine first words) =
     headed first ++ printed_as false (way_headed first) wholes words
 printed_line wholes block (MacroLine name words) =

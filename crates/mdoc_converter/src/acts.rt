@@ -187,8 +187,8 @@ pub(crate) enum Act {
     Numbered(u16, u16),
     /// The page's title begins a line of its own, up to its source.
     Title,
-    /// The front of a long title becomes a string.
-    TitleFront,
+    /// What was read of a long title becomes a string.
+    TitlePrefix,
     /// The title's line ends.
     TitleEnds,
     /// A section's heading begins.

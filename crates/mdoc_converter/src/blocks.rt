@@ -15,8 +15,6 @@ impl Block {
     pub const NONE: Block = Block {
         kind: Kind::Page,
         width: None,
-        hang: 0,
-        last: 0,
         columns: 0,
         offset: 0,
         items: 0,
@@ -32,8 +30,6 @@ fn fresh_block(kind: Kind, offset: u16) -> Block
     Block {
         kind,
         width: None,
-        hang: 0,
-        last: 0,
         columns: 0,
         offset,
         items: 0,

@@ -19,13 +19,13 @@ pub(crate) fn gap(columns: u16) -> u16
     }
 }
 
-/// How far the last column stands from the first.
-fn hang_of(block: Block) -> u16
-    ensures value { result ≡ specs.hang_of block }
-    ensures few { result ≤ 999 }
-{
-    let between = gap(block.columns) * at_most(100, block.columns).saturating_sub(1);
-    at_most(999, at_most(999, block.hang) + between)
+impl Block {
+    /// Whether a text line is a row: the block has columns, and no item.
+    pub(crate) fn has_rows(&self) -> bool
+        ensures { result ≡ specs.has_rows self.now }
+    {
+        matches!(self.kind, Kind::Column) && !self.begun
+    }
 }
 
 /// The width of the column before a cell, and the space after it.
@@ -73,30 +73,6 @@ impl Page {
         out.extend(b".nr %g ");
         put_number(gap, out);
         out.extend(b"n\n.ta \\*(%c\n");
-    }
-
-    /// Whether a text line is a row: the innermost block has columns, and no item.
-    pub(crate) fn begins_row(&self) -> bool
-        ensures { result ≡ specs.begins_row self.now }
-    {
-        matches!(self.block.kind, Kind::Column) && !self.block.begun
-    }
-
-    /// A text line begins as a row.
-    pub(crate) fn put_text_row(&mut self, out: &mut SliceVec<'_, u8>)
-        requires { length out.old.items + 64 ≤ out.old.capacity }
-        ensures page { self.new ≡ (specs.put_text_row self.old).page }
-        ensures items { out.new.items ≡ out.old.items ++ (specs.put_text_row self.old).bytes }
-        ensures few { length out.new.items ≤ length out.old.items + 64 }
-        ensures room { out.new.capacity ≡ out.old.capacity }
-    {
-        let hang = hang_of(self.block);
-        self.freshen(out);
-        out.extend(b".in \\n_u+");
-        put_number(hang, out);
-        out.extend(b"n\n.)T -");
-        put_number(hang, out);
-        out.extend(b"n\n");
     }
 
     /// A row begins, where two lines have room.

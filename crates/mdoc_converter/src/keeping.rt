@@ -54,7 +54,7 @@ impl Page {
         matches!(self.call.taker, Macro::Title) && !self.call.some
     }
 
-    /// A byte that has no room in a word that isn't printed is counted; the front of a title becomes a string.
+    /// A byte that has no room in a word that isn't printed is counted; what was read of a title becomes a string.
     #[tactic(auto, unfolding(crate::specs::Keeping::keep_unshown))]
     fn keep_unshown(&mut self, byte: u8) -> Seen
         ensures { met self.new result ≡ specs.keep_unshown byte self.old }
@@ -64,7 +64,7 @@ impl Page {
             self.word = Name::of(b"\\*(%T");
             self.word.push(byte);
             self.widens();
-            return Seen::taken(Act::TitleFront);
+            return Seen::taken(Act::TitlePrefix);
         }
         self.widens();
         Seen::taken(Act::Nothing)

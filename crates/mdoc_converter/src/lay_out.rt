@@ -28,7 +28,7 @@ impl Page {
             Act::Hanging(n) => self.put_hanging(n, out),
             Act::Numbered(n, width) => self.put_numbered(n, width, out),
             Act::Title => self.put_title(out),
-            Act::TitleFront => self.put_title_front(out),
+            Act::TitlePrefix => self.put_title_prefix(out),
             Act::TitleEnds => self.end_title(out),
             Act::Section => self.put_head(b".SH", out),
             Act::Subsection => self.put_head(b".SS", out),
@@ -56,22 +56,6 @@ impl Page {
             Act::Row => self.put_row(out),
             _ => self.lay_word(act, out),
         }
-    }
-
-    /// A text line begins: in a list of columns without items as a row.
-    fn put_begin(&mut self, byte: u8, out: &mut SliceVec<'_, u8>)
-        requires { length out.old.items + 256 ≤ out.old.capacity }
-        ensures page { self.new ≡ (specs.put_begin byte self.old).page }
-        ensures items { out.new.items ≡ out.old.items ++ (specs.put_begin byte self.old).bytes }
-        ensures few { length out.new.items ≤ length out.old.items + 256 }
-        ensures room { out.new.capacity ≡ out.old.capacity }
-    {
-        if !self.begins_row() {
-            self.put(self.lay.joined, &[byte], out);
-            return;
-        }
-        self.put_text_row(out);
-        self.put(self.lay.joined, &[byte], out);
     }
 
     /// What is said is laid out: most often nothing, or a byte.
@@ -105,7 +89,7 @@ impl Page {
             Act::Byte(byte) => out.push(byte),
             Act::Hyphen => out.extend(b"\\-"),
             Act::Front(front) => out.extend(front_of(front)),
-            Act::Begin(byte) => self.put_begin(byte, out),
+            Act::Begin(byte) => self.put(self.lay.joined, &[byte], out),
             Act::Text(text) => self.put(self.is_joined(), text_of(text), out),
             Act::Close(text) => self.put(true, text_of(text), out),
             Act::Join => self.lay.joined = true,

@@ -436,13 +436,10 @@ impl Page {
         }
     }
 
-    /// One more column: the one before it is not the last.
-    fn adds_column(&mut self, width: u16)
-        ensures { self.new ≡ specs.added_column width self.old }
+    /// One more column.
+    fn adds_column(&mut self)
+        ensures { self.new ≡ specs.added_column self.old }
     {
-        let before = at_most(999, self.block.last);
-        self.block.hang = at_most(999, self.block.hang) + before;
-        self.block.last = width;
         self.block.columns = at_most(99, self.block.columns) + 1;
         self.lay.cell = 0;
     }
@@ -455,7 +452,7 @@ impl Page {
             return Seen::left(Act::Nothing);
         }
         let width = at_most(900, self.call.width);
-        self.adds_column(width);
+        self.adds_column();
         let act = Act::Column(width);
         if matches!(self.call.wanted, Wanted::Column) {
             return Seen::left(act);

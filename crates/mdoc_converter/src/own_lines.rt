@@ -228,11 +228,11 @@ impl Page {
         self.place.titled = true;
     }
 
-    /// The string that keeps the front of a title.
-    pub(crate) fn put_title_front(&mut self, out: &mut SliceVec<'_, u8>)
+    /// The string that keeps what was read of a title.
+    pub(crate) fn put_title_prefix(&mut self, out: &mut SliceVec<'_, u8>)
         requires { length out.old.items + 48 ≤ out.old.capacity }
-        ensures page { self.new ≡ (specs.put_title_front self.old).page }
-        ensures items { out.new.items ≡ out.old.items ++ (specs.put_title_front self.old).bytes }
+        ensures page { self.new ≡ (specs.put_title_prefix self.old).page }
+        ensures items { out.new.items ≡ out.old.items ++ (specs.put_title_prefix self.old).bytes }
         ensures few { length out.new.items ≤ length out.old.items + 48 }
         ensures room { out.new.capacity ≡ out.old.capacity }
     {

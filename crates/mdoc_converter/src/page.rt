@@ -100,6 +100,8 @@ pub(crate) enum Scan {
     Text(Before),
     /// In a text line, after a hyphen after a letter.
     Hyphen,
+    /// In a text line that is a row, where a cell may begin.
+    Cell,
     /// After the control character.
     Control,
     /// After the control character and a backslash.
@@ -281,10 +283,6 @@ pub struct Block {
     pub(crate) kind: Kind,
     /// The width of its tags, where it is said.
     pub(crate) width: Option<u16>,
-    /// Where the last of its columns begins.
-    pub(crate) hang: u16,
-    /// The width of that column.
-    pub(crate) last: u16,
     /// How many columns it has.
     pub(crate) columns: u16,
     /// Its indent.

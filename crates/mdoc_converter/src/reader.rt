@@ -96,7 +96,7 @@ impl Reader {
         ensures takes { result ≡ (specs.once byte (state self.old blocks.old.items)).takes }
     {
         if let Scan::Text(before) = self.page.scan {
-            if byte != b'\n' && byte != b'-' {
+            if byte != b'\n' && byte != b'-' && byte != b'\t' {
                 self.page.scan = Scan::Text(before_next(before, byte));
                 out.push(byte);
                 return true;

@@ -124,14 +124,36 @@ impl Page {
         if byte == b'\n' {
             return self.empty_line();
         }
+        if self.block.has_rows() {
+            return self.turns(Scan::Cell, Seen::left(Act::Row));
+        }
         if (byte == b' ' || byte == b'\t') && !self.lay.literal {
             return Seen::taken(Act::Nothing);
         }
+        self.text_begins(byte)
+    }
+
+    /// Text begins.
+    fn text_begins(&mut self, byte: u8) -> Seen
+        ensures { met self.new result ≡ specs.text_begins byte self.old }
+    {
         self.place.last = Last::Heading;
         self.turns(
             Scan::Text(first_before(byte)),
             Seen::taken(Act::Begin(byte)),
         )
+    }
+
+    /// Where a cell of a row of text may begin.
+    fn in_cell(&mut self, byte: u8) -> Seen
+        ensures { met self.new result ≡ specs.in_cell byte self.old }
+    {
+        match byte {
+            b'\n' => self.turns(Scan::Start, Seen::taken(Act::Ends)),
+            b'\t' => Seen::taken(Act::Cell),
+            b' ' => Seen::taken(Act::Nothing),
+            _ => self.text_begins(byte),
+        }
     }
 
     /// An empty line.
@@ -153,6 +175,9 @@ impl Page {
         }
         if byte == b'-' {
             return self.hyphen_in_text(before);
+        }
+        if byte == b'\t' && self.block.has_rows() {
+            return self.turns(Scan::Cell, Seen::taken(Act::Cell));
         }
         self.turns(
             Scan::Text(before_next(before, byte)),
@@ -334,6 +359,7 @@ impl Page {
             Scan::Start => self.at_start(byte),
             Scan::Text(before) => self.in_text(before, byte),
             Scan::Hyphen => self.after_hyphen(byte),
+            Scan::Cell => self.in_cell(byte),
             Scan::Control => self.after_control(byte),
             Scan::ControlEscape => self.after_escape(byte),
             Scan::Comment => self.in_comment(byte),

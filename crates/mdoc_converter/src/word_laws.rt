@@ -4,9 +4,9 @@ ghost use Rattle.mdoc_converter.specs.WordLaws.{HeadingsAreSaid, LastIsClosedFir
 /// Does nothing: its contract is the laws.
 ///
 /// Proved: A text line puts out, whatever the state of the page at its beginning, parts whose words are its bytes,
-/// each once and in order. What stands before and after them is a joint, or the backslash of a hyphen after which no
-/// line is broken. It begins with no blank and no control character, and no star stands after a backslash in it.
-/// (`text` of `words_are_said`)
+/// each once and in order, but for the tabs that end cells where it is a row, and blanks after them. What stands
+/// before and after them is a joint, or the backslash of a hyphen after which no line is broken. It begins with no
+/// blank and no control character, and no star stands after a backslash in it. (`text` of `words_are_said`)
 /// Proved: A line of a macro puts out, whatever the state of the page at its beginning if no closing marks are held
 /// back, parts whose words are those of its words that call no macro, once and in order, however long they are,
 /// hyphens in them as `\-`, but for those of the name or the argument of an escape. In a description (`.Nd`), after `.Ss` and `.Sx` and in `%B`, `%N`, `%O`, `%R` and `%T`
